@@ -1,0 +1,4 @@
+pub mod Counted
+pub mod Limits
+pub mod Names
+pub mod Tallies

@@ -1,0 +1,104 @@
+//! Events and replies, and the entries of the log.
+use crate::keys::{Key, Value};
+use crate::lists::Items;
+use crate::numbers::{FileNo, Lsn, Point, SessionNo, TxnNo};
+use crate::refusal::Refusal;
+
+/// The five phases of a checkpoint's cycle, in their order; rest stands between two cycles.
+#[derive(Clone, Copy, Debug, PartialEq, Eq)]
+pub enum Phase {
+    Rest,
+    Prepare,
+    Resolve,
+    Capture,
+    Complete,
+}
+
+/// A write of one key: a value, or absence.
+#[derive(Drop)]
+pub struct Write {
+    pub key: Key,
+    pub value: Option<Value>,
+}
+
+/// An entry of the log.
+#[derive(Drop)]
+pub enum Entry {
+    /// A commit of the session: the final write of each key, in the order of first writes.
+    Commit(SessionNo, Items<Write>),
+    /// The phase changed, in the cycle of this point.
+    Token(Phase, Point),
+}
+
+/// What a client or the checkpointer asks of the store.
+#[derive(Drop)]
+pub enum Event {
+    /// The session begins a transaction.
+    Begin(SessionNo),
+    /// The session's transaction reads the key.
+    Get(SessionNo, Key),
+    /// The session's transaction sets the key to the value.
+    Put(SessionNo, Key, Value),
+    /// The session's transaction removes the key.
+    Del(SessionNo, Key),
+    /// The session's transaction commits.
+    Commit(SessionNo),
+    /// The session's transaction ends without effect.
+    Abort(SessionNo),
+    /// A cycle begins: from rest to prepare of the next point.
+    StartPoint,
+    /// The point of consistency: from prepare to resolve.
+    Seal,
+    /// From resolve to capture.
+    OpenCapture,
+    /// One key of the point is taken, in capture.
+    Take,
+    /// The point's part is complete and goes on the shelf: from capture to complete.
+    Done,
+    /// The cycle ends: from complete to rest.
+    Rest,
+    /// The join of two shelved files goes on the shelf.
+    Join(FileNo, FileNo),
+}
+
+/// What the store answers.
+#[derive(Drop)]
+pub enum Reply {
+    /// Begin: the transaction's number.
+    Begun(TxnNo),
+    /// Get: the key has this value.
+    Found(Value),
+    /// Get: the key has no value.
+    Absent,
+    /// Put and Del, also of a key that has no value.
+    Ok,
+    /// The lock request waits; the same event is asked again later.
+    Wait,
+    /// The lock request died; the transaction accepts only Abort.
+    Died,
+    /// Commit: the number of its log entry.
+    Committed(Lsn),
+    /// Abort.
+    Aborted,
+    /// The phase is now this one, in the cycle of this point.
+    Phase(Phase, Point),
+    /// The phase can't change yet: so many transactions are active, or, at Done, so many keys left to take.
+    NotYet(u32),
+    /// Take: the key and what it had at the point, a value or nothing.
+    Took(Key, Option<Value>),
+    /// Take: no key is left.
+    NoneLeft,
+    /// Done: the point, its file's number on the shelf, and how many entries it has.
+    PartDone(Point, FileNo, u32),
+    /// Join: the file's number on the shelf, its points in rising order, and how many entries it has.
+    File(FileNo, Items<Point>, u32),
+    /// The event was refused and changed nothing.
+    Refused(Refusal),
+}
+
+/// A step of a run: an event with its reply.
+#[derive(Drop)]
+pub struct Step {
+    pub event: Event,
+    pub reply: Reply,
+}

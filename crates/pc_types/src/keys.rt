@@ -1,0 +1,137 @@
+//! Keys and values: texts of bytes, of which up to 16 lie inline and take no memory.
+ghost use Rattle.std.specs.Prelude.{◌≡◌, ◌≤◌, ◌↔◌, length, IsOk, IfErr, IfOk, OnOk};
+ghost use Rattle.std.specs.Ordering.{nat_cmp, eq_by_cmp};
+ghost use Rattle.std.specs.Cmp.Lexicographic.{slice_cmp};
+ghost use Rattle.pc_types.specs.Limits.{IsKey, IsValue};
+
+use crate::refusal::Refusal;
+use smallvec::SmallVec;
+use std::alloc::{AllocError, Global};
+use std::cmp::Ordering;
+use std::marker::Model;
+
+/// A key: 1 to 255 bytes, of which up to 16 lie inline. Keys are ordered byte by byte, a proper beginning before what
+/// it begins.
+#[derive(Drop)]
+pub struct Key {
+    bytes: SmallVec<u8, 16>,
+}
+
+impl Model for Key {
+    ghost use Rattle.std.specs.Prelude.{ℕ, List};
+    ghost use Rattle.pc_types.specs.Limits.{IsKey};
+
+    ghost Value = { List ℕ };
+
+    ghost view = { λ k. k.bytes.items };
+
+    ghost invariant = { λ k. IsKey k.bytes.items };
+}
+
+impl Key {
+    /// The key of these bytes. Refuses with `KeyLength` exactly where there are none or more than 255, and else only
+    /// with `OutOfMemory`, never for 1 to 16 bytes.
+    pub fn new(alloc: Global, bytes: &[u8]) -> Result<Key, Refusal>
+        ensures key { IfOk result (λ key. key ≡ bytes.now) }
+        ensures in_limits { OnOk result (IsKey bytes.now) }
+        ensures length { (result ≡ Err Refusal.KeyLength) ↔ (¬ IsKey bytes.now) }
+        ensures memory { IsKey bytes.now → IfErr result (λ e. e ≡ Refusal.OutOfMemory) }
+        ensures inline { IsKey bytes.now → length bytes.now ≤ 16 → IsOk result }
+    {
+        if bytes.is_empty() || bytes.len() > 255 {
+            return Err(Refusal::KeyLength);
+        }
+        match SmallVec::from_slice(alloc, bytes) {
+            Ok(bytes) => Ok(Key { bytes }),
+            Err(_) => Err(Refusal::OutOfMemory),
+        }
+    }
+
+    /// Its bytes, 1 to 255.
+    pub fn as_bytes(&self) -> &[u8]
+        ensures bytes { result.now ≡ self.now }
+        ensures in_limits { IsKey self.now }
+    {
+        self.bytes.as_slice()
+    }
+
+    /// How the keys are ordered.
+    pub fn compare(&self, other: &Key) -> Ordering
+        ensures { result ≡ slice_cmp nat_cmp self.now other.now }
+    {
+        self.as_bytes().cmp(&other.as_bytes())
+    }
+
+    /// Whether the keys are the same.
+    pub fn is(&self, other: &Key) -> bool
+        ensures { result ≡ eq_by_cmp (slice_cmp nat_cmp) self.now other.now }
+    {
+        match self.compare(other) {
+            Ordering::Equal => true,
+            _ => false,
+        }
+    }
+
+    /// The same key once more. It takes memory only for more than 16 bytes.
+    pub fn copy(&self, alloc: Global) -> Result<Key, AllocError>
+        ensures copy { IfOk result (λ key. key ≡ self.now) }
+        ensures inline { length self.now ≤ 16 → IsOk result }
+    {
+        let bytes = SmallVec::from_slice(alloc, self.bytes.as_slice())?;
+        Ok(Key { bytes })
+    }
+}
+
+/// A value: at most 65,535 bytes, of which up to 16 lie inline.
+#[derive(Drop)]
+pub struct Value {
+    bytes: SmallVec<u8, 16>,
+}
+
+impl Model for Value {
+    ghost use Rattle.std.specs.Prelude.{ℕ, List};
+    ghost use Rattle.pc_types.specs.Limits.{IsValue};
+
+    ghost Value = { List ℕ };
+
+    ghost view = { λ v. v.bytes.items };
+
+    ghost invariant = { λ v. IsValue v.bytes.items };
+}
+
+impl Value {
+    /// The value of these bytes. Refuses with `ValueLength` exactly where there are more than 65,535, and else only
+    /// with `OutOfMemory`, never for up to 16 bytes.
+    pub fn new(alloc: Global, bytes: &[u8]) -> Result<Value, Refusal>
+        ensures value { IfOk result (λ value. value ≡ bytes.now) }
+        ensures in_limits { OnOk result (IsValue bytes.now) }
+        ensures length { (result ≡ Err Refusal.ValueLength) ↔ (¬ IsValue bytes.now) }
+        ensures memory { IsValue bytes.now → IfErr result (λ e. e ≡ Refusal.OutOfMemory) }
+        ensures inline { length bytes.now ≤ 16 → IsOk result }
+    {
+        if bytes.len() > 65535 {
+            return Err(Refusal::ValueLength);
+        }
+        match SmallVec::from_slice(alloc, bytes) {
+            Ok(bytes) => Ok(Value { bytes }),
+            Err(_) => Err(Refusal::OutOfMemory),
+        }
+    }
+
+    /// Its bytes, at most 65,535.
+    pub fn as_bytes(&self) -> &[u8]
+        ensures bytes { result.now ≡ self.now }
+        ensures in_limits { IsValue self.now }
+    {
+        self.bytes.as_slice()
+    }
+
+    /// The same value once more. It takes memory only for more than 16 bytes.
+    pub fn copy(&self, alloc: Global) -> Result<Value, AllocError>
+        ensures copy { IfOk result (λ value. value ≡ self.now) }
+        ensures inline { length self.now ≤ 16 → IsOk result }
+    {
+        let bytes = SmallVec::from_slice(alloc, self.bytes.as_slice())?;
+        Ok(Value { bytes })
+    }
+}

@@ -1,0 +1,17 @@
+//! The words that every crate of the store speaks in: numbers, keys and values, events and replies, refusals, and
+//! readers and writers whose failures are counted.
+#![tactic(auto)]
+
+mod events;
+mod keys;
+mod lists;
+mod numbers;
+mod refusal;
+mod tally;
+
+pub use events::{Entry, Event, Phase, Reply, Step, Write};
+pub use keys::{Key, Value};
+pub use lists::Items;
+pub use numbers::{FileNo, Lsn, Point, ReqId, SessionNo, SlotId, TxnNo};
+pub use refusal::Refusal;
+pub use tally::{read_all, Tally};
