@@ -14,4 +14,4 @@ pub use keys::{Key, Value};
 pub use lists::Items;
 pub use numbers::{FileNo, Lsn, Point, ReqId, SessionNo, SlotId, TxnNo};
 pub use refusal::Refusal;
-pub use tally::{read_all, Tally};
+pub use tally::{Tally, read_all};

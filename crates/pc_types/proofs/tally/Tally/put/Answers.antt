@@ -1,4 +1,4 @@
-use Rattle.std.proofs.Common.{rules, arith}
+use Rattle.std.proofs.Common.{rules}
 use Rattle.pc_types.proofs.Known.{appends_more}
 use Rattle.pc_types.proofs.tally.Tally.put.Goals as goal
 

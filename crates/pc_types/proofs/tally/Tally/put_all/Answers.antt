@@ -1,6 +1,5 @@
-use Rattle.std.proofs.Common.{arith, ◌≡◌}
+use Rattle.std.proofs.Common.{◌≡◌}
 use Rattle.std.proofs.lemmas.Result.{err_from_is_err_and}
-use Rattle.pc_types.specs.Counted.{HasRisen, one_more}
 use Rattle.pc_types.proofs.Pieces.{stops_within}
 use Rattle.pc_types.proofs.tally.Tally.put_all.Goals as goal
 

@@ -1,0 +1,9 @@
+pub mod MapLaws
+pub mod SetLaws
+pub mod PairMaps
+pub mod PairPlaces
+pub mod Joins
+pub mod Counts
+pub mod Queues
+pub mod Ample
+pub mod Causes

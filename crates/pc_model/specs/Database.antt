@@ -1,0 +1,57 @@
+-- Databases, and what writes do to them.
+use Rattle.std.specs.Prelude.{ℕ, Bool, not, filter, List, [], ◌∷◌, Option, Some, None, if◌then◌else◌}
+use Rattle.std.specs.declared.cmp.Ordering.{Ordering}
+use Rattle.std.specs.Ordering.{nat_cmp, eq_by_cmp}
+use Rattle.std.specs.Cmp.Lexicographic.{slice_cmp, nat_list_cmp_total}
+use Rattle.std.specs.FinMap.{slice_cmp-IsAntisymmetric, nat_cmp-IsAntisymmetric}
+use Rattle.pc_model.specs.Maps.{Order, Map, insert, remove, code}
+use Rattle.std.specs.Coded.{Coded, coded_list, coded_ℕ}
+use Rattle.pc_types.specs.declared.Write.{Write}
+
+-- the order of keys, byte by byte
+abbrev pub key_cmp : List ℕ → List ℕ → Ordering
+key_cmp = slice_cmp nat_cmp
+
+-- the same with its laws
+abbrev pub key_order : Order (List ℕ)
+key_order = record { cmp = key_cmp; total = nat_list_cmp_total; exact = slice_cmp-IsAntisymmetric nat_cmp-IsAntisymmetric }
+
+-- two texts have the same bytes
+abbrev pub same_bytes : List ℕ → List ℕ → Bool
+same_bytes k l = eq_by_cmp key_cmp k l
+
+-- a database: a finite map from keys to values
+abbrev pub Database : Type 0
+Database = Map key_order (List ℕ)
+
+-- the database with the key set to the value, or removed
+abbrev pub put : Database → List ℕ → Option (List ℕ) → Database
+put db key None = remove db key
+put db key (Some value) = insert db key value
+
+-- the database after one write
+abbrev pub applied : Database → Write → Database
+applied db write = put db write.key write.value
+
+-- after the writes, in order
+abbrev pub applied_all : Database → List Write → Database
+applied_all db [] = db
+applied_all db (write ∷ writes) = applied_all (applied db write) writes
+
+-- the writes with one more: in the place of the earlier write of its key, or else at the end
+abbrev pub with_write : List Write → Write → List Write
+with_write [] write = write ∷ []
+with_write (w ∷ ws) write = if same_bytes w.key write.key then write ∷ ws else w ∷ with_write ws write
+
+-- what the writes leave at the key: nothing said, or a value or absence
+abbrev pub written : List Write → List ℕ → Option (Option (List ℕ))
+written [] key = None
+written (w ∷ ws) key = if same_bytes w.key key then Some w.value else written ws key
+
+-- the pairs of the other keys
+abbrev pub without_key : List ℕ → List (List ℕ × List ℕ) → List (List ℕ × List ℕ)
+without_key key pairs = filter (λ pair. not (same_bytes key pair.0)) pairs
+
+-- a database is stored as its pairs
+abbrev pub database_code : Coded Database
+database_code = code (coded_list coded_ℕ) (coded_list coded_ℕ)

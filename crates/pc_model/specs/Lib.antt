@@ -1,0 +1,11 @@
+pub mod Maps
+pub mod Sets
+pub mod Database
+pub mod Places
+pub mod Log
+pub mod History
+pub mod Locks
+pub mod Points
+pub mod Files
+pub mod Replies
+pub mod Reads
