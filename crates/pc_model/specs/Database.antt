@@ -1,10 +1,11 @@
 -- Databases, and what writes do to them.
-use Rattle.std.specs.Prelude.{ℕ, Bool, not, filter, List, [], ◌∷◌, Option, Some, None, if◌then◌else◌}
+use Rattle.std.specs.Prelude.{ℕ, Bool, not, filter, IsTrue, List, [], ◌∷◌, Option, Some, None, if◌then◌else◌}
 use Rattle.std.specs.declared.cmp.Ordering.{Ordering}
 use Rattle.std.specs.Ordering.{nat_cmp, eq_by_cmp}
 use Rattle.std.specs.Cmp.Lexicographic.{slice_cmp, nat_list_cmp_total}
 use Rattle.std.specs.FinMap.{slice_cmp-IsAntisymmetric, nat_cmp-IsAntisymmetric}
-use Rattle.pc_model.specs.Maps.{Order, Map, insert, remove, code}
+use Rattle.std.specs.FinMap.{is_sorted}
+use Rattle.pc_model.specs.Maps.{Order, Map, insert, remove, code, from_list}
 use Rattle.std.specs.Coded.{Coded, coded_list, coded_ℕ}
 use Rattle.pc_types.specs.declared.Write.{Write}
 
@@ -23,6 +24,14 @@ same_bytes k l = eq_by_cmp key_cmp k l
 -- a database: a finite map from keys to values
 abbrev pub Database : Type 0
 Database = Map key_order (List ℕ)
+
+-- the keys of the entries strictly rise
+abbrev pub KeysRise : {X : Type 0} → List (List ℕ × X) → Type 0
+KeysRise entries = IsTrue (is_sorted key_cmp entries)
+
+-- the database of these pairs
+abbrev pub database_of : List (List ℕ × List ℕ) → Database
+database_of pairs = from_list pairs
 
 -- the database with the key set to the value, or removed
 abbrev pub put : Database → List ℕ → Option (List ℕ) → Database
