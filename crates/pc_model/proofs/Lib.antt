@@ -7,3 +7,6 @@ pub mod Counts
 pub mod Queues
 pub mod Ample
 pub mod Causes
+pub mod Effects
+pub mod Logs
+pub mod RightReads
