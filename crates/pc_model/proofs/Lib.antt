@@ -10,3 +10,4 @@ pub mod Causes
 pub mod Effects
 pub mod Logs
 pub mod RightReads
+pub mod States

@@ -9,3 +9,4 @@ pub mod Points
 pub mod Files
 pub mod Replies
 pub mod Reads
+pub mod Laws
