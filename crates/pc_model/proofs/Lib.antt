@@ -11,3 +11,4 @@ pub mod Effects
 pub mod Logs
 pub mod RightReads
 pub mod States
+pub mod LaidInTurn

@@ -10,3 +10,4 @@ pub mod Files
 pub mod Replies
 pub mod Reads
 pub mod Laws
+pub mod Laying
