@@ -7,3 +7,8 @@ pub mod Counts
 pub mod Queues
 pub mod Ample
 pub mod Causes
+pub mod Effects
+pub mod Logs
+pub mod RightReads
+pub mod States
+pub mod LaidInTurn

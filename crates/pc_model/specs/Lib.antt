@@ -9,3 +9,5 @@ pub mod Points
 pub mod Files
 pub mod Replies
 pub mod Reads
+pub mod Laws
+pub mod Laying

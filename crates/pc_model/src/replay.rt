@@ -1,28 +1,41 @@
 //! Replay of a log, as the definition says it.
 ghost use Rattle.std.specs.Prelude.{◌≡◌, ◌≤◌, length, take, IfOk, OnOk, OnErr};
-ghost use Rattle.pc_model.specs.Database.{applied, applied_all};
+ghost use Rattle.pc_model.specs.Database.{put, applied, applied_all};
 ghost use Rattle.pc_model.specs.Log.{after, front, state_at};
 
 use crate::pairs::Pairs;
-use pc_types::{Entry, Phase, Point, Write};
+use pc_types::{Entry, Key, Phase, Point, Value, Write};
 use std::alloc::{AllocError, Global};
+
+/// Sets the key to the value, or removes it.
+pub(crate) fn put(
+    alloc: Global,
+    pairs: &mut Pairs,
+    key: &Key,
+    content: &Option<Value>,
+) -> Result<(), AllocError>
+    ensures ok { OnOk result (pairs.new ≡ put pairs.old key.now content.now) }
+    ensures err { OnErr result (pairs.new ≡ pairs.old) }
+{
+    match content {
+        Some(value) => {
+            let key = key.copy(alloc)?;
+            let value = value.copy(alloc)?;
+            pairs.insert(key, value)
+        }
+        None => {
+            pairs.remove(key);
+            Ok(())
+        }
+    }
+}
 
 /// Applies one write.
 pub fn apply(alloc: Global, pairs: &mut Pairs, write: &Write) -> Result<(), AllocError>
     ensures ok { OnOk result (pairs.new ≡ applied pairs.old write.now) }
     ensures err { OnErr result (pairs.new ≡ pairs.old) }
 {
-    match &write.value {
-        Some(value) => {
-            let key = write.key.copy(alloc)?;
-            let value = value.copy(alloc)?;
-            pairs.insert(key, value)
-        }
-        None => {
-            pairs.remove(&write.key);
-            Ok(())
-        }
-    }
+    put(alloc, pairs, &write.key, &write.value)
 }
 
 /// Applies the writes, in order.

@@ -1,0 +1,39 @@
+-- What refusals are, and that they do nothing.
+use Rattle.std.proofs.Common.{◌≡◌, List, [], ◌∷◌, Bool, true, false, Some, None, refl, cond}
+use Rattle.std.specs.Prelude.{IfSome}
+use Rattle.pc_types.specs.declared.Event.{Event}
+use Rattle.pc_types.specs.declared.Event.TheVariants as asked
+use Rattle.pc_types.specs.declared.Reply.TheVariants as told
+use Rattle.pc_types.specs.declared.Refusal.{Refusal}
+use Rattle.pc_model.specs.History.{effect_of}
+use Rattle.pc_model.specs.History.Effect.{Nothing}
+use Rattle.pc_model.specs.Replies.{first_refusal}
+
+-- a refusal does nothing
+pub refused_does_nothing : (event : Event) (w : Refusal) → effect_of event (told.Refused w) ≡ Nothing
+refused_does_nothing (asked.Begin s) w = refl
+refused_does_nothing (asked.Get s key) w = refl
+refused_does_nothing (asked.Put s key value) w = refl
+refused_does_nothing (asked.Del s key) w = refl
+refused_does_nothing (asked.Commit s) w = refl
+refused_does_nothing (asked.Abort s) w = refl
+refused_does_nothing asked.StartPoint w = refl
+refused_does_nothing asked.Seal w = refl
+refused_does_nothing asked.OpenCapture w = refl
+refused_does_nothing asked.Take w = refl
+refused_does_nothing asked.Done w = refl
+refused_does_nothing asked.Rest w = refl
+refused_does_nothing (asked.Join a b) w = refl
+
+-- what the first cause gives is a refusal
+pub first_refusal_refuses : (causes : List (Bool × Refusal)) → IfSome (first_refusal causes) (λ due. (r : Refusal) × (due ≡ told.Refused r))
+first_refusal_refuses [] = tt
+first_refusal_refuses (c ∷ causes) = elim c.0 as (λ b. IfSome (cond b (Some (told.Refused c.1)) (first_refusal causes)) (λ due. (r : Refusal) × (due ≡ told.Refused r))) [ true ↦ (c.1, refl) | false ↦ first_refusal_refuses causes ]
+
+-- where no cause stands, the first doesn't
+pub no_first : (c : Bool × Refusal) (causes : List (Bool × Refusal)) → first_refusal (c ∷ causes) ≡ None → c.0 ≡ false
+no_first c causes = elim c.0 as (λ b. cond b (Some (told.Refused c.1)) (first_refusal causes) ≡ None → b ≡ false) [ true ↦ λ e. cc | false ↦ λ e. refl ]
+
+-- and neither do the others
+pub no_other : (c : Bool × Refusal) (causes : List (Bool × Refusal)) → first_refusal (c ∷ causes) ≡ None → first_refusal causes ≡ None
+no_other c causes = elim c.0 as (λ b. cond b (Some (told.Refused c.1)) (first_refusal causes) ≡ None → first_refusal causes ≡ None) [ true ↦ λ e. cc | false ↦ λ e. e ]

@@ -1,0 +1,41 @@
+-- Laws of the definitions: of replay, of points, of replies and of reads.
+use Rattle.std.specs.Prelude.{◌≡◌, ℕ, ◌+◌, List, ◌++◌, ◌⊎◌, IsTrue, IsFalse}
+use Rattle.pc_types.specs.declared.Entry.{Entry}
+use Rattle.pc_types.specs.declared.Event.{Event}
+use Rattle.pc_types.specs.declared.Reply.{Reply}
+use Rattle.pc_model.specs.Maps.{get}
+use Rattle.pc_model.specs.Database.{Database}
+use Rattle.pc_model.specs.Log.{after, front, has_token, state_at}
+use Rattle.pc_model.specs.History.{History}
+use Rattle.pc_model.specs.Points.{is_among, cycle, touched, part_of, laid}
+use Rattle.pc_model.specs.Replies.{Setting, IsLegal, IsLegalHistory}
+use Rattle.pc_model.specs.Reads.{HasRightReads}
+
+-- the point is 0, or its token stands before that of the next point in the log
+abbrev pub PrecedesNext : ℕ → List Entry → Type 0
+PrecedesNext point log = (point ≡ 0) ⊎ IsTrue (has_token point (front (point + 1) log))
+
+-- Replay of a log in two pieces is replay of the second on the replay of the first.
+abbrev pub ReplaysInPieces : Type 0
+ReplaysInPieces = (base : Database) (log more : List Entry) → after base (log ++ more) ≡ after (after base log) more
+
+-- The state of the next point is the replay of its cycle on the state of this point.
+abbrev pub CyclesMakeStates : Type 0
+CyclesMakeStates = (base : Database) (log : List Entry) (point : ℕ) → PrecedesNext point log → after (state_at base log point) (cycle (point + 1) log) ≡ state_at base log (point + 1)
+
+-- A key that no commit of the next point's cycle wrote has the same content at both points.
+abbrev pub UntouchedKeysStay : Type 0
+UntouchedKeysStay = (base : Database) (log : List Entry) (point : ℕ) (key : List ℕ) → PrecedesNext point log → IsFalse (is_among (touched (point + 1) log) key) →
+    get (state_at base log (point + 1)) key ≡ get (state_at base log point) key
+
+-- The state of the next point is the state of this point with the next point's part laid on it.
+abbrev pub PartsMakeStates : Type 0
+PartsMakeStates = (base : Database) (log : List Entry) (point : ℕ) → PrecedesNext point log → laid (state_at base log point) point (part_of base log (point + 1)) ≡ state_at base log (point + 1)
+
+-- After every history every event has a legal reply.
+abbrev pub EveryEventHasALegalReply : Type 0
+EveryEventHasALegalReply = (st : Setting) (history : History) (event : Event) → (reply : Reply) × IsLegal st history event reply
+
+-- In a legal history of one session the reads of each committed transaction are right.
+abbrev pub OneSessionReadsRight : Type 0
+OneSessionReadsRight = (st : Setting) (history : History) → st.sessions ≡ 1 → IsLegalHistory st history → HasRightReads st.base history

@@ -1,0 +1,32 @@
+//! Laws of the definitions. Each function does nothing, and its contract is a law.
+ghost use Rattle.pc_model.specs.Laws.{ReplaysInPieces, CyclesMakeStates, UntouchedKeysStay, PartsMakeStates, EveryEventHasALegalReply, OneSessionReadsRight};
+
+/// Replay of a log in two pieces is replay of the second on the replay of the first.
+pub fn replay_in_pieces()
+    ensures { ReplaysInPieces }
+{}
+
+/// The state of a point is the replay of its cycle on the state of the point before.
+pub fn cycles_make_states()
+    ensures { CyclesMakeStates }
+{}
+
+/// A key that no commit of a cycle wrote has the same content at both points.
+pub fn untouched_keys_stay()
+    ensures { UntouchedKeysStay }
+{}
+
+/// The state of a point is the state of the point before with its part laid on it.
+pub fn parts_make_states()
+    ensures { PartsMakeStates }
+{}
+
+/// After every history every event has a legal reply.
+pub fn every_event_has_a_legal_reply()
+    ensures { EveryEventHasALegalReply }
+{}
+
+/// In a legal history of one session the reads of each committed transaction are right.
+pub fn one_session_reads_right()
+    ensures { OneSessionReadsRight }
+{}
