@@ -5,4 +5,5 @@ pub mod Occupied
 pub mod Settling
 pub mod Standing
 pub mod Rising
+pub mod SlotLemmas
 pub mod Runs

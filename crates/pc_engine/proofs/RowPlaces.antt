@@ -2,11 +2,11 @@
 use Rattle.std.proofs.Common.{◌≡◌, ℕ, zero, suc, ◌+◌, ◌<◌, ◌≤◌, List, [], ◌∷◌, ◌++◌, length, take, drop, get_or, refl, sym, ap, ◌∙◌, arith, add-one, cond, Bool, true, false, is_some, Option, Some, None}
 use Rattle.std.specs.Prelude.{IsTrue, insert}
 use Rattle.std.specs.declared.cmp.Ordering.{Ordering}
-use Rattle.std.specs.declared.cmp.Ordering.TheVariants.{Less, Equal}
+use Rattle.std.specs.declared.cmp.Ordering.TheVariants.{Less, Equal, Greater}
 use Rattle.std.specs.FinMap.{put, is_sorted}
 use Rattle.std.specs.FinMap.Entries.{by_order, length-put, is_sorted-put}
 use Rattle.std.specs.Ordering.{is_eq}
-use Rattle.std.proofs.lemmas.List.{get_or_default, set_split}
+use Rattle.std.proofs.lemmas.List.{get_or_default, set_split, take_more}
 use Rattle.std.proofs.lemmas.Grind.{common_steps}
 use Rattle.pc_model.specs.Database.{key_cmp, key_order}
 use Rattle.pc_model.proofs.PairMaps.{computes, tested}
@@ -71,3 +71,14 @@ gap_at_end rows key i ge le behind =
       finds = behind.finds ∙ ap (λ j. record_of (drop j rows) key) at_end ∙ ap (λ rest. record_of rest key) nothing;
       puts = λ r. behind.puts r ∙ ap (λ j. take j rows ++ put key_cmp key r (drop j rows)) at_end ∙ rw nothing refl;
     }
+
+-- the key is behind one more row that it is greater than
+pub behind_more : (rows : List Row) (key : List ℕ) (i : ℕ) (e : Row) → i < length rows → e ≡ get_or rows i e → IsBehind rows key i → key_cmp key e.0 ≡ Greater → IsBehind rows key (i + 1)
+behind_more rows key i e lt is behind greater =
+    record {
+      puts = λ r. at_put rows key i e lt is behind r Greater greater ∙ grown (put key_cmp key r (drop (i + 1) rows));
+      finds = behind.finds ∙ ap (λ rest. record_of rest key) (rest_at rows i e lt is) ∙ ap (λ o. cond (is_eq o) (Some e.1) (record_of (drop (i + 1) rows) key)) greater;
+    }
+  where
+    grown : (rest : List Row) → take i rows ++ e ∷ rest ≡ take (i + 1) rows ++ rest
+    grown rest = grind (arith, common_steps, take_more rows i e lt, is)

@@ -14,7 +14,7 @@ use Rattle.pc_model.specs.Files.{BaseFile}
 use Rattle.pc_model.specs.Replies.{Setting, first_refusal, no_session, read_reply, value_read}
 use Rattle.pc_engine.specs.declared.records.Record.{Record}
 
--- a key with what is kept of it
+-- a row: a key with what is kept of it
 abbrev pub Row : Type 0
 Row = List ℕ × Record
 

@@ -1,12 +1,13 @@
-//! The records: what is kept of each key, in rows that rise by key.
-ghost use Rattle.std.specs.Prelude.{◌≡◌, ◌<◌, ◌≤◌, ◌==◌, ◌&&◌, false, map, length, IfOk, IfErr, OnOk, OnErr, is_none, insert, slice_set, slice_index_or, option_copied};
-ghost use Rattle.std.specs.FinMap.{put as put_entry};
-ghost use Rattle.pc_model.specs.Database.{key_cmp, KeysRise};
-ghost use Rattle.pc_engine.specs.Store.{Kept, record_of, requested, requested_rows, settled_rows, stored, committed_row, is_full_for};
+//! The records: what is kept of each key, in slots that rise by key.
+ghost use Rattle.std.specs.Prelude.{◌≡◌, ◌<◌, ◌≤◌, ◌==◌, ◌&&◌, ◌+◌, None, true, false, insert, map, length, IfOk, IfErr, OnOk, OnErr, is_none, option_copied};
+ghost use Rattle.std.specs.Prelude.{slice_index_or};
+ghost use Rattle.pc_model.specs.Database.{KeysRise, written};
+ghost use Rattle.pc_engine.specs.Store.{record_of, requested, requested_rows, settled, settled_rows, stored, committed_row, is_full_for};
+ghost use Rattle.pc_engine.specs.Slots.{rows_of, numbers_from, slots_from, settled_slots, freed, AreStillShared, IsMarked};
 ghost use Rattle.pc_engine.specs.Places.{IsAt, IsGap};
 
 use crate::writes::written_at;
-use pc_types::{Key, Value, Write};
+use pc_types::{Key, SlotId, Value, Write};
 use std::alloc::{AllocError, Global};
 use std::cmp::Ordering;
 use std::marker::Model;
@@ -22,23 +23,34 @@ pub struct Record {
     pub is_requested: bool,
 }
 
-/// The records, rising by key; at most as many as the capacity.
+/// A slot that is taken.
+#[derive(Drop)]
+pub(crate) struct Slot {
+    pub(crate) number: SlotId,
+    pub(crate) key: Key,
+    pub(crate) kept: Record,
+}
+
+/// The records, in slots that rise by key; at most as many as the capacity. Each slot has a number below the capacity
+/// that no other has.
 #[derive(Drop)]
 pub(crate) struct Records {
     capacity: u32,
-    rows: Vec<(Key, Record)>,
+    slots: Vec<Slot>,
+    free: Vec<SlotId>,
 }
 
 impl Model for Records {
     ghost use Rattle.std.specs.Prelude.{◌≤◌, length};
     ghost use Rattle.pc_model.specs.Database.{KeysRise};
     ghost use Rattle.pc_engine.specs.Store.{Kept};
+    ghost use Rattle.pc_engine.specs.Slots.{rows_of, AreShared};
 
     ghost Value = { Kept };
 
-    ghost view = { λ a. record { capacity = a.capacity; rows = a.rows.items } };
+    ghost view = { λ a. record { capacity = a.capacity; rows = rows_of a.slots.items } };
 
-    ghost invariant = { λ a. KeysRise a.rows.items × (length a.rows.items ≤ a.capacity) };
+    ghost invariant = { λ a. KeysRise (rows_of a.slots.items) × AreShared a.capacity a.slots.items a.free.items };
 }
 
 impl Records {
@@ -52,22 +64,27 @@ impl Records {
         requires fit { length pairs.now ≤ capacity }
         ensures { IfOk result (λ r. r ≡ record { capacity = capacity; rows = map committed_row pairs.now }) }
     {
-        let rows = rows_of(alloc, pairs)?;
-        Ok(Records { capacity, rows })
+        let slots = slots_of(alloc, pairs)?;
+        let free = numbers_between(alloc, pairs.len() as u32, capacity)?;
+        Ok(Records {
+            capacity,
+            slots,
+            free,
+        })
     }
 
     /// Whether the key has no record and there are as many as there may be.
     pub(crate) fn is_full_for(&self, key: &Key) -> bool
         ensures { result ≡ is_full_for self.now key.now }
     {
-        is_new(&self.rows, key) && self.rows.len() == self.capacity as usize
+        is_new(&self.slots, key) && self.slots.len() == self.capacity as usize
     }
 
     /// The committed value of the key.
     pub(crate) fn value(&self, key: &Key) -> Option<&Value>
         ensures { option_copied result ≡ stored (record_of self.now.rows key.now) }
     {
-        value_at(&self.rows, key)
+        value_at(&self.slots, key)
     }
 
     /// A request of the open transaction stands on the key from now on.
@@ -76,7 +93,7 @@ impl Records {
         ensures ok { OnOk result (self.new ≡ record self.old { rows = requested_rows self.old.rows key.now }) }
         ensures err { OnErr result (self.new ≡ self.old) }
     {
-        request(alloc, &mut self.rows, key)
+        request(alloc, &mut self.slots, &mut self.free, key)
     }
 
     /// The transaction with these writes commits: they are the keys' values, and no request is left.
@@ -84,92 +101,141 @@ impl Records {
         ensures ok { OnOk result (self.new ≡ record self.old { rows = settled_rows writes.now self.old.rows }) }
         ensures err { OnErr result (self.new ≡ self.old) }
     {
-        let rows = settled(alloc, &self.rows, writes)?;
-        self.rows = rows;
+        let (slots, freed) = settled(alloc, &self.slots, writes)?;
+        self.free.extend_from_slice(&freed)?;
+        self.slots = slots;
         Ok(())
     }
 }
 
-// A row for each pair.
-fn rows_of(alloc: Global, pairs: &[(Key, Value)]) -> Result<Vec<(Key, Record)>, AllocError>
-    ensures { IfOk result (λ rows. rows.items ≡ map committed_row pairs.now) }
+// A slot for each pair, numbered from 0.
+fn slots_of(alloc: Global, pairs: &[(Key, Value)]) -> Result<Vec<Slot>, AllocError>
+    requires { length pairs.now ≤ 4294967295 }
+    ensures { IfOk result (λ slots. slots.items ≡ slots_from 0 pairs.now) }
 {
-    let mut rows = Vec::new(alloc);
-    rows.reserve(pairs.len())?;
-    for pair in pairs {
+    let mut slots = Vec::new(alloc);
+    slots.reserve(pairs.len())?;
+    for (i, pair) in pairs.iter().enumerate() {
         let key = pair.0.copy(alloc)?;
         let value = pair.1.copy(alloc)?;
-        rows.push((
+        slots.push(Slot {
+            number: SlotId(i as u32),
             key,
-            Record {
+            kept: Record {
                 value: Some(value),
                 is_recent: false,
                 is_requested: false,
             },
-        ))?;
+        })?;
     }
-    Ok(rows)
+    Ok(slots)
+}
+
+// The numbers from the first one to below the last one.
+fn numbers_between(alloc: Global, first: u32, last: u32) -> Result<Vec<SlotId>, AllocError>
+    requires { first ≤ last }
+    ensures numbers { IfOk result (λ numbers. numbers.items ≡ numbers_from first (length numbers.items)) }
+    ensures count { IfOk result (λ numbers. first + length numbers.items ≡ last) }
+{
+    let mut numbers = Vec::new(alloc);
+    for n in first..last {
+        numbers.push(SlotId(n))?;
+    }
+    Ok(numbers)
 }
 
 // Where the key is, or where it would go.
-fn place(rows: &[(Key, Record)], key: &Key) -> Result<usize, usize>
-    requires { KeysRise rows.now }
-    ensures at { IfOk result (IsAt rows.now key.now) }
-    ensures gap { IfErr result (IsGap rows.now key.now) }
+fn place(slots: &[Slot], key: &Key) -> Result<usize, usize>
+    requires { KeysRise (rows_of slots.now) }
+    ensures at { IfOk result (IsAt (rows_of slots.now) key.now) }
+    ensures gap { IfErr result (IsGap (rows_of slots.now) key.now) }
 {
-    for (i, row) in rows.iter().enumerate() {
-        match key.compare(&row.0) {
+    for (i, slot) in slots.iter().enumerate() {
+        match key.compare(&slot.key) {
             Ordering::Greater => {}
             Ordering::Equal => return Ok(i),
             Ordering::Less => return Err(i),
         }
     }
-    Err(rows.len())
+    Err(slots.len())
 }
 
 // Whether the key has no record.
-fn is_new(rows: &[(Key, Record)], key: &Key) -> bool
-    requires { KeysRise rows.now }
-    ensures { result ≡ is_none (record_of rows.now key.now) }
+fn is_new(slots: &[Slot], key: &Key) -> bool
+    requires { KeysRise (rows_of slots.now) }
+    ensures { result ≡ is_none (record_of (rows_of slots.now) key.now) }
 {
-    match place(rows, key) {
+    match place(slots, key) {
         Ok(_) => false,
         Err(_) => true,
     }
 }
 
 // The committed value of the key.
-fn value_at<'a>(rows: &'a [(Key, Record)], key: &Key) -> Option<&'a Value>
-    requires { KeysRise rows.now }
-    ensures { option_copied result ≡ stored (record_of rows.now key.now) }
+fn value_at<'a>(slots: &'a [Slot], key: &Key) -> Option<&'a Value>
+    requires { KeysRise (rows_of slots.now) }
+    ensures { option_copied result ≡ stored (record_of (rows_of slots.now) key.now) }
 {
-    match place(rows, key) {
-        Ok(i) => rows[i].1.value.as_ref(),
+    match place(slots, key) {
+        Ok(i) => slots[i].kept.value.as_ref(),
         Err(_) => None,
     }
 }
 
-// The key is requested.
-#[tactic(auto, using(crate::proofs::RowPlaces::still_rise))]
-fn request(alloc: Global, rows: &mut Vec<(Key, Record)>, key: &Key) -> Result<(), AllocError>
-    requires { KeysRise rows.old.items }
-    ensures ok { OnOk result (rows.new.items ≡ requested_rows rows.old.items key.now) }
-    ensures err { OnErr result (rows.new.items ≡ rows.old.items) }
+// The key of the slot is requested.
+fn mark_requested(slots: &mut Vec<Slot>, i: usize)
+    requires { i < length slots.old.items }
+    ensures { (d : Slot) → IsMarked slots.old.items i (slice_index_or slots.old.items i d) slots.new.items }
 {
-    match place(rows, key) {
+    slots[i].kept.is_requested = true;
+}
+
+// A slot with a free number goes in at the place, or memory ran out and nothing changed.
+fn insert_slot(
+    slots: &mut Vec<Slot>,
+    free: &mut Vec<SlotId>,
+    i: usize,
+    key: Key,
+) -> Result<(), AllocError>
+    requires place { i ≤ length slots.old.items }
+    requires room { 0 < length free.old.items }
+    ensures rows { OnOk result (rows_of slots.new.items ≡ insert (rows_of slots.old.items) i (key, requested None)) }
+    ensures err { OnErr result (slots.new.items ≡ slots.old.items) }
+    ensures shared { AreStillShared slots.old.items free.old.items slots.new.items free.new.items }
+{
+    let last = free.len() - 1;
+    let number = free[last];
+    let kept = Record {
+        value: None,
+        is_recent: false,
+        is_requested: true,
+    };
+    slots.insert(i, Slot { number, key, kept })?;
+    free.truncate(last);
+    Ok(())
+}
+
+// The key is requested, or memory ran out and nothing changed.
+fn request(
+    alloc: Global,
+    slots: &mut Vec<Slot>,
+    free: &mut Vec<SlotId>,
+    key: &Key,
+) -> Result<(), AllocError>
+    requires rise { KeysRise (rows_of slots.old.items) }
+    requires room { is_none (record_of (rows_of slots.old.items) key.now) ≡ true → 0 < length free.old.items }
+    ensures rows { OnOk result (rows_of slots.new.items ≡ requested_rows (rows_of slots.old.items) key.now) }
+    ensures err { OnErr result (rows_of slots.new.items ≡ rows_of slots.old.items) }
+    ensures shared { AreStillShared slots.old.items free.old.items slots.new.items free.new.items }
+{
+    match place(slots, key) {
         Ok(i) => {
-            rows[i].1.is_requested = true;
+            mark_requested(slots, i);
             Ok(())
         }
         Err(i) => {
             let key = key.copy(alloc)?;
-            let record = Record {
-                value: None,
-                is_recent: false,
-                is_requested: true,
-            };
-            rows.insert(i, (key, record))?;
-            Ok(())
+            insert_slot(slots, free, i, key)
         }
     }
 }
@@ -184,45 +250,56 @@ fn copied(alloc: Global, value: &Option<Value>) -> Result<Option<Value>, AllocEr
     }
 }
 
-// The rows once the transaction with these writes has committed.
+// What is kept of the slot's key once the transaction with these writes has committed, or none.
+fn settled_record(
+    alloc: Global,
+    slot: &Slot,
+    writes: &[Write],
+) -> Result<Option<Record>, AllocError>
+    ensures { IfOk result (λ kept. kept ≡ settled (written writes.now slot.now.key) slot.now.kept) }
+{
+    if let Some(i) = written_at(writes, &slot.key) {
+        let value = copied(alloc, &writes[i].value)?;
+        return Ok(Some(Record {
+            value,
+            is_recent: true,
+            is_requested: false,
+        }));
+    }
+    if !slot.kept.is_recent && slot.kept.value.is_none() {
+        return Ok(None);
+    }
+    let value = copied(alloc, &slot.kept.value)?;
+    Ok(Some(Record {
+        value,
+        is_recent: slot.kept.is_recent,
+        is_requested: false,
+    }))
+}
+
+// The slots that stay once the transaction with these writes has committed, and the numbers of the others.
 fn settled(
     alloc: Global,
-    rows: &[(Key, Record)],
+    slots: &[Slot],
     writes: &[Write],
-) -> Result<Vec<(Key, Record)>, AllocError>
-    ensures { IfOk result (λ kept. kept.items ≡ settled_rows writes.now rows.now) }
+) -> Result<(Vec<Slot>, Vec<SlotId>), AllocError>
+    ensures stay { IfOk result (λ r. r.0.items ≡ settled_slots writes.now slots.now) }
+    ensures freed { IfOk result (λ r. r.1.items ≡ freed writes.now slots.now) }
 {
-    let mut kept = Vec::new(alloc);
-    for row in rows {
-        match written_at(writes, &row.0) {
-            Some(i) => {
-                let key = row.0.copy(alloc)?;
-                let value = copied(alloc, &writes[i].value)?;
-                kept.push((
+    let mut stay = Vec::new(alloc);
+    let mut freed = Vec::new(alloc);
+    for slot in slots {
+        match settled_record(alloc, slot, writes)? {
+            Some(kept) => {
+                let key = slot.key.copy(alloc)?;
+                stay.push(Slot {
+                    number: slot.number,
                     key,
-                    Record {
-                        value,
-                        is_recent: true,
-                        is_requested: false,
-                    },
-                ))?;
+                    kept,
+                })?;
             }
-            None => {
-                if row.1.is_recent || row.1.value.is_some() {
-                    let key = row.0.copy(alloc)?;
-                    let value = copied(alloc, &row.1.value)?;
-                    let is_recent = row.1.is_recent;
-                    kept.push((
-                        key,
-                        Record {
-                            value,
-                            is_recent,
-                            is_requested: false,
-                        },
-                    ))?;
-                }
-            }
+            None => freed.push(slot.number)?,
         }
     }
-    Ok(kept)
+    Ok((stay, freed))
 }

@@ -1,6 +1,7 @@
+use Rattle.pc_engine.specs.Slots.{rows_of}
 use Rattle.pc_engine.proofs.RowPlaces.{IsBehind}
 use Rattle.pc_engine.proofs.records.place.Given as goal
 
--- the key is not in the rows so far
+-- the key is greater than those of the slots so far
 abbrev pub invariant-loop-i : goal.invariant-loop-i
-invariant-loop-i l = IsBehind l.rows l.key l.i
+invariant-loop-i l = IsBehind (rows_of l.slots) l.key l.i

@@ -1,7 +1,19 @@
-use Rattle.std.proofs.Common.{◌∙◌, ap}
-use Rattle.pc_engine.specs.Store.{settled_rows}
-use Rattle.pc_engine.proofs.Rising.{keeps_settled}
+use Rattle.std.proofs.Common.{◌≡◌, ◌∙◌, ap}
+use Rattle.pc_engine.specs.Slots.{rows_of, settled_slots, freed}
+use Rattle.pc_engine.proofs.Settling.{rises_settled}
+use Rattle.pc_engine.proofs.SlotLemmas.{rows-settled, settled_shared, keeps_shared}
 use Rattle.pc_engine.proofs.records.Records.settle.Goals as goal
 
-pub invariant_of-self : goal.invariant_of-self
-invariant_of-self c = keeps_settled c.self.inside.capacity c.args.writes.now c.self.inside.rows.items c.in_ok-rows.rows.items c.self.invariant (c.in_ok-rows.ensures ∙ ap (settled_rows c.args.writes.now) c.deref.ensures.value)
+pub invariant_of-self-2 : goal.invariant_of-self-2
+invariant_of-self-2 c =
+    let stay : c.in_ok-slots.slots.items ≡ settled_slots c.args.writes.now c.self.inside.slots.items = c.in_ok-slots.ensures.stay ∙ ap (settled_slots c.args.writes.now) c.deref.ensures.value in
+    let gone : c.in_ok-slots.freed.items ≡ freed c.args.writes.now c.self.inside.slots.items = c.in_ok-slots.ensures.freed ∙ ap (freed c.args.writes.now) c.deref.ensures.value in (
+      rises_settled c.args.writes.now (rows_of c.self.inside.slots.items) (rows_of c.in_ok-slots.slots.items) c.self.invariant.0 (ap rows_of stay ∙ rows-settled c.args.writes.now c.self.inside.slots.items),
+      keeps_shared c.self.inside.capacity c.self.inside.slots.items c.self.inside.free.items c.in_ok-slots.slots.items c.extend_from_slice.new.self.items c.self.invariant.1
+          (rw (stay, c.in_ok-extend_from_slice.ensures.items, c.deref-2.ensures.value, gone) (settled_shared c.args.writes.now c.self.inside.slots.items c.self.inside.free.items)),
+    )
+
+pub returns-clause-ok : goal.returns-clause-ok
+returns-clause-ok c =
+    let stay : c.in_ok-slots.slots.items ≡ settled_slots c.args.writes.now c.self.inside.slots.items = c.in_ok-slots.ensures.stay ∙ ap (settled_slots c.args.writes.now) c.deref.ensures.value in
+    rw (← c.self.view_is, stay, rows-settled c.args.writes.now c.self.inside.slots.items)

@@ -1,0 +1,195 @@
+-- Slots by their rows and by their numbers.
+use Rattle.std.proofs.Common.{◌≡◌, ℕ, zero, suc, ◌+◌, ◌<◌, ◌≤◌, List, [], ◌∷◌, ◌++◌, length, map, take, get_or, set, Option, Some, None, is_none, refl, sym, ap, ◌∙◌, arith, cond, Bool, true, false, eqb, ltb, leb, ◌&&◌}
+use Rattle.std.specs.Prelude.{insert}
+use Rattle.std.specs.declared.cmp.Ordering.TheVariants.{Less, Equal, Greater}
+use Rattle.std.proofs.Math.ListN.{get_or-map}
+use Rattle.std.proofs.lemmas.List.{map-set, get_or_default, take_more, take_all}
+use Rattle.std.proofs.Math.Seq.{map-set_same}
+use Rattle.std.proofs.lemmas.Grind.{common_steps}
+use Rattle.std.proofs.lemmas.Bool.Decides.{nat_tests}
+use Rattle.pc_types.specs.declared.Write.{Write}
+use Rattle.pc_model.specs.Database.{key_cmp, KeysRise, written}
+use Rattle.pc_engine.specs.declared.records.Record.{Record}
+use Rattle.pc_engine.specs.declared.records.Slot.{Slot}
+use Rattle.pc_engine.specs.Store.{Row, record_of, stored, requested, requested_rows, settled, settled_rows, committed_row, is_full_for}
+use Rattle.pc_engine.specs.Slots.{row_of, rows_of, numbers_of, times, AreShared, AreStillShared, IsMarked, numbers_from, slots_from, settled_slots, freed, with_slot, with_freed}
+use Rattle.pc_engine.specs.Places.{IsAt, IsGap}
+use Rattle.pc_engine.proofs.RowPlaces.{IsBehind, at_hit, gap_before, behind_more}
+
+pub length-rows : (slots : List Slot) → length (rows_of slots) ≡ length slots
+length-rows [] = refl
+length-rows (x ∷ xs) = grind (arith, length-rows xs)
+
+module _ (slots : List Slot) (key : List ℕ) (i : ℕ) (e : Slot) (lt : i < length slots) (is : e ≡ get_or slots i e) where
+  in_rows : i < length (rows_of slots)
+  in_rows = omega (arith, length-rows slots)
+
+  is_row : row_of e ≡ get_or (rows_of slots) i (row_of e)
+  is_row = ap row_of is ∙ sym (get_or-map row_of slots i e)
+
+  pub slot_hit : IsBehind (rows_of slots) key i → key_cmp key e.key ≡ Equal → IsAt (rows_of slots) key i
+  slot_hit behind eq = at_hit (rows_of slots) key i (row_of e) in_rows is_row behind eq
+
+  pub slot_gap : KeysRise (rows_of slots) → IsBehind (rows_of slots) key i → key_cmp key e.key ≡ Less → IsGap (rows_of slots) key i
+  slot_gap rise behind less = gap_before (rows_of slots) key i (row_of e) in_rows is_row behind rise less
+
+  pub slot_passed : IsBehind (rows_of slots) key i → key_cmp key e.key ≡ Greater → IsBehind (rows_of slots) key (i + 1)
+  slot_passed behind greater = behind_more (rows_of slots) key i (row_of e) in_rows is_row behind greater
+
+  -- the slot at its place has the key's record
+  pub slot_found : IsAt (rows_of slots) key i → record_of (rows_of slots) key ≡ Some e.kept
+  slot_found at = at.finds (row_of e) ∙ ap (λ (row : Row). Some row.1) (sym is_row)
+
+-- how often a number stands in two lists together
+times-append : (n : ℕ) (xs ys : List ℕ) → times n (xs ++ ys) ≡ times n xs + times n ys
+times-append n [] ys = omega arith
+times-append n (x ∷ xs) ys = elim (eqb x n) as (λ b. cond b (times n (xs ++ ys) + 1) (times n (xs ++ ys)) ≡ cond b (times n xs + 1) (times n xs) + times n ys) [ true ↦ omega (arith, times-append n xs ys) | false ↦ times-append n xs ys ]
+
+-- a slot that goes in
+pub rows-insert : (slots : List Slot) (i : ℕ) (x : Slot) → rows_of (insert slots i x) ≡ insert (rows_of slots) i (row_of x)
+rows-insert [] zero x = refl
+rows-insert [] (suc i) x = refl
+rows-insert (y ∷ ys) zero x = refl
+rows-insert (y ∷ ys) (suc i) x = ap (λ (rows : List Row). row_of y ∷ rows) (rows-insert ys i x)
+
+times-insert : (n : ℕ) (slots : List Slot) (i : ℕ) (x : Slot) → times n (numbers_of (insert slots i x)) ≡ times n (numbers_of slots) + cond (eqb x.number n) 1 0
+times-insert n [] zero x = elim (eqb x.number n) as (λ b. cond b (0 + 1) 0 ≡ 0 + cond b 1 0) [ true ↦ refl | false ↦ refl ]
+times-insert n [] (suc i) x = elim (eqb x.number n) as (λ b. cond b (0 + 1) 0 ≡ 0 + cond b 1 0) [ true ↦ refl | false ↦ refl ]
+times-insert n (y ∷ ys) zero x = one_more (eqb x.number n) (times n (numbers_of (y ∷ ys)))
+  where
+    one_more : (b : Bool) (m : ℕ) → cond b (m + 1) m ≡ m + cond b 1 0
+    one_more true m = refl
+    one_more false m = omega arith
+times-insert n (y ∷ ys) (suc i) x = by_test (eqb y.number n) (eqb x.number n) (times-insert n ys i x)
+  where
+    by_test : (a b : Bool) → times n (numbers_of (insert ys i x)) ≡ times n (numbers_of ys) + cond b 1 0 → cond a (times n (numbers_of (insert ys i x)) + 1) (times n (numbers_of (insert ys i x))) ≡ cond a (times n (numbers_of ys) + 1) (times n (numbers_of ys)) + cond b 1 0
+    by_test true b e = omega (arith, e)
+    by_test false b e = e
+
+times-one : (n m : ℕ) → times n (m ∷ []) ≡ cond (eqb m n) 1 0
+times-one n m = elim (eqb m n) as (λ b. cond b (0 + 1) 0 ≡ cond b 1 0) [ true ↦ refl | false ↦ refl ]
+
+-- a slot with the last free number goes in
+pub inserted : (slots : List Slot) (free new_free : List ℕ) (new : List Slot) (i last : ℕ) (x : Slot) → last + 1 ≡ length free → x.number ≡ get_or free last x.number → new_free ≡ take last free → new ≡ insert slots i x → i ≤ length slots →
+    AreStillShared slots free new new_free
+inserted slots free new_free new i last x count is free_is slots_is within =
+    let apart : free ≡ take last free ++ x.number ∷ [] = sym (take_all (last + 1) free (omega arith)) ∙ take_more free last x.number (omega arith) ∙ ap (λ m. take last free ++ m ∷ []) (sym is) in
+    record {
+      each = λ n.
+          let before : times n free ≡ times n (take last free) + cond (eqb x.number n) 1 0 = ap (times n) apart ∙ times-append n (take last free) (x.number ∷ []) ∙ ap (λ m. times n (take last free) + m) (times-one n x.number) in
+          rw (slots_is, free_is) (omega (arith, times-insert n slots i x, before));
+      count = rw (slots_is, free_is) (grind (arith, common_steps, count, within));
+    }
+
+-- a slot whose key is requested
+pub marked : (slots : List Slot) (i : ℕ) (e d : Slot) → i < length slots → e ≡ get_or slots i e → IsMarked slots i (get_or slots i d) (set slots i (record e { kept = record e.kept { is_requested = true } }))
+marked slots i e d lt is =
+    let there : get_or slots i d ≡ e = get_or_default slots i d e lt ∙ sym is in
+    record {
+      rows = map-set row_of slots i (record e { kept = record e.kept { is_requested = true } }) ∙ rw there refl;
+      numbers = map-set_same (λ (slot : Slot). slot.number) slots i (record e { kept = record e.kept { is_requested = true } }) e (ap (λ (slot : Slot). slot.number) is);
+    }
+
+-- and the key at its place is then requested
+pub marked_rows : (slots new : List Slot) (key : List ℕ) (i : ℕ) (d : Slot) → IsAt (rows_of slots) key i → IsMarked slots i (get_or slots i d) new → rows_of new ≡ requested_rows (rows_of slots) key
+marked_rows slots new key i d at marked =
+    let row : get_or (rows_of slots) i (row_of d) ≡ row_of (get_or slots i d) = get_or-map row_of slots i d in
+    marked.rows ∙ ap (λ (row : Row). set (rows_of slots) i (row.0, requested (Some row.1))) (sym row)
+    ∙ ap (λ r. set (rows_of slots) i ((get_or (rows_of slots) i (row_of d)).0, requested r)) (sym (at.finds (row_of d)))
+    ∙ sym (at.puts (row_of d) (requested (record_of (rows_of slots) key)))
+
+length-marked : (slots new : List Slot) → numbers_of new ≡ numbers_of slots → length new ≡ length slots
+length-marked slots new same = sym (length-numbers new) ∙ ap length same ∙ length-numbers slots
+  where
+    length-numbers : (xs : List Slot) → length (numbers_of xs) ≡ length xs
+    length-numbers [] = refl
+    length-numbers (x ∷ xs) = grind (arith, length-numbers xs)
+
+pub marked_shared : (slots new : List Slot) (free : List ℕ) → numbers_of new ≡ numbers_of slots → AreStillShared slots free new free
+marked_shared slots new free same = record {
+  each = λ n. ap (λ ms. times n ms + times n free) same;
+  count = ap (λ n. n + length free) (length-marked slots new same);
+}
+
+-- a new key goes in at its place
+pub gap_rows : (slots new : List Slot) (key : List ℕ) (i : ℕ) → IsGap (rows_of slots) key i → rows_of new ≡ insert (rows_of slots) i (key, requested None) → rows_of new ≡ requested_rows (rows_of slots) key
+gap_rows slots new key i gap is = is ∙ sym (gap.puts (requested None)) ∙ ap (λ r. Rattle.std.specs.FinMap.put key_cmp key (requested r) (rows_of slots)) (sym gap.finds)
+
+-- there is a free number for a new key
+pub free_left : (capacity : ℕ) (slots : List Slot) (free : List ℕ) (key : List ℕ) → AreShared capacity slots free → is_full_for (record { capacity = capacity; rows = rows_of slots }) key ≡ false → is_none (record_of (rows_of slots) key) ≡ true → 0 < length free
+free_left capacity slots free key shared room none =
+    let other : eqb (length (rows_of slots)) capacity ≡ false = rw none at room in
+    let count : length slots + length free ≡ capacity = shared.count in
+    grind (arith, nat_tests, other, length-rows slots, count)
+
+pub keeps_shared : (capacity : ℕ) (slots : List Slot) (free : List ℕ) (new : List Slot) (new_free : List ℕ) → AreShared capacity slots free → AreStillShared slots free new new_free → AreShared capacity new new_free
+keeps_shared capacity slots free new new_free was still = record { each = λ n. still.each n ∙ was.each n; count = still.count ∙ was.count }
+
+-- what a commit leaves of the slots
+pub rows-settled : (ws : List Write) (slots : List Slot) → rows_of (settled_slots ws slots) ≡ settled_rows ws (rows_of slots)
+rows-settled ws [] = refl
+rows-settled ws (x ∷ xs) = by_record (settled (written ws x.key) x.kept) (rows-settled ws xs)
+  where
+    by_record : (o : Option Record) → rows_of (settled_slots ws xs) ≡ settled_rows ws (rows_of xs) → rows_of (with_slot o x (settled_slots ws xs)) ≡ Rattle.pc_engine.specs.Store.with_settled o x.key (settled_rows ws (rows_of xs))
+    by_record None e = e
+    by_record (Some r) e = ap (λ (rows : List Row). (x.key, r) ∷ rows) e
+
+times-settled : (n : ℕ) (ws : List Write) (slots : List Slot) → times n (numbers_of (settled_slots ws slots)) + times n (freed ws slots) ≡ times n (numbers_of slots)
+times-settled n ws [] = refl
+times-settled n ws (x ∷ xs) = by_record (settled (written ws x.key) x.kept) (eqb x.number n) refl (times-settled n ws xs)
+  where
+    by_record : (o : Option Record) (b : Bool) → eqb x.number n ≡ b → times n (numbers_of (settled_slots ws xs)) + times n (freed ws xs) ≡ times n (numbers_of xs) →
+        times n (numbers_of (with_slot o x (settled_slots ws xs))) + times n (with_freed o x.number (freed ws xs)) ≡ cond b (times n (numbers_of xs) + 1) (times n (numbers_of xs))
+    by_record None true is e = rw is (omega (arith, e))
+    by_record None false is e = rw is e
+    by_record (Some r) true is e = rw is (omega (arith, e))
+    by_record (Some r) false is e = rw is e
+
+length-settled : (ws : List Write) (slots : List Slot) → length (settled_slots ws slots) + length (freed ws slots) ≡ length slots
+length-settled ws [] = refl
+length-settled ws (x ∷ xs) = by_record (settled (written ws x.key) x.kept) (length-settled ws xs)
+  where
+    by_record : (o : Option Record) → length (settled_slots ws xs) + length (freed ws xs) ≡ length xs → length (with_slot o x (settled_slots ws xs)) + length (with_freed o x.number (freed ws xs)) ≡ length (x ∷ xs)
+    by_record None e = omega (arith, e)
+    by_record (Some r) e = omega (arith, e)
+
+pub settled_shared : (ws : List Write) (slots : List Slot) (free : List ℕ) → AreStillShared slots free (settled_slots ws slots) (free ++ freed ws slots)
+settled_shared ws slots free = record {
+  each = λ n. omega (arith, times-append n free (freed ws slots), times-settled n ws slots);
+  count = grind (arith, common_steps, length-settled ws slots);
+}
+
+-- the first slots and the numbers that are free then
+pub numbers_more : (n k : ℕ) → numbers_from n (k + 1) ≡ numbers_from n k ++ (n + k) ∷ []
+numbers_more n zero = grind arith
+numbers_more n (suc k) = grind (arith, numbers_more (n + 1) k)
+
+pub numbers_pushed : (first n : ℕ) (numbers new : List ℕ) → numbers ≡ numbers_from first (length numbers) → first + length numbers ≡ n → new ≡ numbers ++ n ∷ [] → (new ≡ numbers_from first (length new)) × (first + length new ≡ n + 1)
+numbers_pushed first n numbers new is count pushed =
+    let longer : length new ≡ length numbers + 1 = grind (arith, common_steps, pushed) in
+    (pushed ∙ ap (λ (ms : List ℕ). ms ++ n ∷ []) is ∙ ap (λ m. numbers_from first (length numbers) ++ m ∷ []) (sym count) ∙ sym (numbers_more first (length numbers)) ∙ ap (numbers_from first) (sym longer), omega (arith, longer, count))
+
+times-from : (m n k : ℕ) → times m (numbers_from n k) ≡ cond (leb n m && ltb m (n + k)) 1 0
+times-from m n zero = grind (arith, nat_tests)
+times-from m n (suc k) = grind (arith, nat_tests, times-from m (n + 1) k)
+
+numbers-first : (n : ℕ) (pairs : List (List ℕ × List ℕ)) → numbers_of (slots_from n pairs) ≡ numbers_from n (length pairs)
+numbers-first n [] = refl
+numbers-first n (p ∷ pairs) = ap (λ ms. n ∷ ms) (numbers-first (n + 1) pairs)
+
+pub rows-first : (n : ℕ) (pairs : List (List ℕ × List ℕ)) → rows_of (slots_from n pairs) ≡ map committed_row pairs
+rows-first n [] = refl
+rows-first n (p ∷ pairs) = ap (λ (rows : List Row). committed_row p ∷ rows) (rows-first (n + 1) pairs)
+
+length-first : (n : ℕ) (pairs : List (List ℕ × List ℕ)) → length (slots_from n pairs) ≡ length pairs
+length-first n [] = refl
+length-first n (p ∷ pairs) = grind (arith, length-first (n + 1) pairs)
+
+pub first_shared : (capacity : ℕ) (pairs : List (List ℕ × List ℕ)) (slots : List Slot) (free : List ℕ) → slots ≡ slots_from 0 pairs → free ≡ numbers_from (length pairs) (length free) → length pairs + length free ≡ capacity → AreShared capacity slots free
+first_shared capacity pairs slots free slots_are free_are count = record {
+  each = λ n.
+      let used : times n (numbers_of slots) ≡ cond (leb 0 n && ltb n (0 + length pairs)) 1 0 = ap (λ s. times n (numbers_of s)) slots_are ∙ ap (times n) (numbers-first 0 pairs) ∙ times-from n 0 (length pairs) in
+      let left : times n free ≡ cond (leb (length pairs) n && ltb n (length pairs + length free)) 1 0 = ap (times n) free_are ∙ times-from n (length pairs) (length free) in
+      grind (arith, nat_tests, used, left, count);
+  count = rw slots_are (omega (arith, length-first 0 pairs, count));
+}

@@ -1,0 +1,70 @@
+-- Slots: the places of records. Each has a number of its own below the capacity.
+use Rattle.std.specs.Prelude.{◌≡◌, ℕ, zero, suc, ◌+◌, ◌==◌, nat_lt, List, [], ◌∷◌, map, length, Option, Some, None, slice_set, if◌then◌else◌}
+use Rattle.pc_types.specs.declared.Write.{Write}
+use Rattle.pc_model.specs.Database.{written}
+use Rattle.pc_engine.specs.declared.records.Record.{Record}
+use Rattle.pc_engine.specs.declared.records.Slot.{Slot}
+use Rattle.pc_engine.specs.Store.{Row, committed_row, requested, settled}
+
+abbrev pub row_of : Slot → Row
+row_of slot = (slot.key, slot.kept)
+
+-- the rows in the slots
+abbrev pub rows_of : List Slot → List Row
+rows_of slots = map row_of slots
+
+-- the numbers of the slots
+abbrev pub numbers_of : List Slot → List ℕ
+numbers_of slots = map (λ slot. slot.number) slots
+
+-- how often the number stands in the list
+abbrev pub times : ℕ → List ℕ → ℕ
+times n [] = 0
+times n (m ∷ ms) = if m == n then times n ms + 1 else times n ms
+
+-- how often a number stands among the slots and the free numbers together
+abbrev pub uses : ℕ → List Slot → List ℕ → ℕ
+uses n slots free = times n (numbers_of slots) + times n free
+
+-- each number below the capacity is free or is that of just one slot, and there are no others
+pub record AreShared (capacity : ℕ) (slots : List Slot) (free : List ℕ) : Type 0 where
+  pub each : (n : ℕ) → uses n slots free ≡ (if nat_lt n capacity then 1 else 0)
+  pub count : length slots + length free ≡ capacity
+
+-- the slots and the free numbers together have the same numbers as before
+pub record AreStillShared (slots : List Slot) (free : List ℕ) (new_slots : List Slot) (new_free : List ℕ) : Type 0 where
+  pub each : (n : ℕ) → uses n new_slots new_free ≡ uses n slots free
+  pub count : length new_slots + length new_free ≡ length slots + length free
+
+-- the slots once the key of this one, at place i, is requested
+pub record IsMarked (slots : List Slot) (i : ℕ) (slot : Slot) (new : List Slot) : Type 0 where
+  pub rows : rows_of new ≡ slice_set (rows_of slots) i (slot.key, requested (Some slot.kept))
+  pub numbers : numbers_of new ≡ numbers_of slots
+
+-- so many numbers, from n on
+abbrev pub numbers_from : ℕ → ℕ → List ℕ
+numbers_from n zero = []
+numbers_from n (suc count) = n ∷ numbers_from (n + 1) count
+
+-- slots of committed pairs, numbered from n on
+abbrev pub slots_from : ℕ → List (List ℕ × List ℕ) → List Slot
+slots_from n [] = []
+slots_from n (pair ∷ pairs) = record { number = n; key = pair.0; kept = (committed_row pair).1 } ∷ slots_from (n + 1) pairs
+
+abbrev pub with_slot : Option Record → Slot → List Slot → List Slot
+with_slot None slot slots = slots
+with_slot (Some r) slot slots = record slot { kept = r } ∷ slots
+
+abbrev pub with_freed : Option Record → ℕ → List ℕ → List ℕ
+with_freed None n free = n ∷ free
+with_freed (Some r) n free = free
+
+-- the slots that stay once the transaction with these writes has committed
+abbrev pub settled_slots : List Write → List Slot → List Slot
+settled_slots writes [] = []
+settled_slots writes (slot ∷ slots) = with_slot (settled (written writes slot.key) slot.kept) slot (settled_slots writes slots)
+
+-- the numbers of the others
+abbrev pub freed : List Write → List Slot → List ℕ
+freed writes [] = []
+freed writes (slot ∷ slots) = with_freed (settled (written writes slot.key) slot.kept) slot.number (freed writes slots)
