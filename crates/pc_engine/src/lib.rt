@@ -1,0 +1,10 @@
+//! The store's world: it answers events, one after the other, each by a legal reply.
+#![tactic(auto)]
+
+mod records;
+mod world;
+mod writes;
+
+pub use pc_types::{Event, Reply};
+pub use records::Record;
+pub use world::{World, run};

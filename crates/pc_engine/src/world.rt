@@ -1,0 +1,264 @@
+//! The world, and its run over a list of events.
+ghost use Rattle.std.specs.Prelude.{◌≡◌, ◌≤◌, ◌<◌, ◌==◌, ◌||◌, nat_lt, ◌⊎◌, ◌++◌, [], ◌∷◌, false, length, IfOk, IfErr, OnOk, OnErr, Some, option_copied, vec_len, vec_capacity};
+ghost use Rattle.pc_model.specs.Maps.{len};
+ghost use Rattle.pc_model.specs.Database.{with_write, written};
+ghost use Rattle.pc_model.specs.History.{History};
+ghost use Rattle.pc_model.specs.Replies.{read_reply, value_read};
+ghost use Rattle.pc_engine.specs.Alone.{IsBuilt, AreBuilt};
+ghost use Rattle.pc_engine.specs.Runs.{IsRun};
+ghost use Rattle.pc_engine.specs.Stands.{Stands, Follows, IfRefused};
+ghost use Rattle.pc_engine.specs.Store.{starting, Begins, Gets, Puts, Commits, setting_of, record_of, requested_rows, stored, is_full_for};
+
+use crate::records::Records;
+use crate::writes::{is_one_too_many, note_write, write_of, written_at};
+use pc_part::Base;
+use pc_types::{Entry, Event, Items, Key, Lsn, Refusal, Reply, SessionNo, TxnNo, Value, Write};
+use std::alloc::{AllocError, Global};
+use std::marker::Model;
+use std::mem;
+
+/// A store in memory. It answers events, one after the other.
+#[derive(Drop)]
+pub struct World {
+    alloc: Global,
+    base: Base,
+    sessions: u8,
+    records: Records,
+    log: Vec<Entry>,
+    begun: u64,
+    is_open: bool,
+    writes: Vec<Write>,
+}
+
+impl Model for World {
+    ghost use Rattle.std.specs.Prelude.{◌≤◌, length};
+    ghost use Rattle.std.specs.Coded.{codes};
+    ghost use Rattle.pc_model.specs.Database.{database_code};
+    ghost use Rattle.pc_engine.specs.Store.{Store};
+
+    ghost Value = { Store };
+
+    ghost coded = { Prim.hlevel (codes, database_code) };
+
+    ghost view = { λ w. record {
+      base = w.base;
+      sessions = w.sessions;
+      kept = w.records;
+      log = w.log.items;
+      begun = w.begun;
+      is_open = w.is_open;
+      writes = w.writes.items;
+    } };
+
+    ghost invariant = { λ w. (w.begun ≤ 1099511627776) × (length w.log.items ≤ 16777216) };
+}
+
+impl World {
+    /// A store that starts from the base: it stands after no step. Refuses with `Full` exactly where the base has more
+    /// pairs than the capacity, and else only with `OutOfMemory`. The base stands at point 0. Until locks are built
+    /// there is one session.
+    pub fn new(alloc: Global, base: Base, sessions: u8, capacity: u32) -> Result<World, Refusal>
+        requires start { base.point ≡ 0 }
+        requires single { sessions ≡ 1 }
+        requires capacity { (1 ≤ capacity) × (capacity ≤ 1048576) }
+        ensures setting { IfOk result (λ w. setting_of w ≡ starting base sessions capacity) }
+        ensures stands { IfOk result (λ w. Stands w []) }
+        ensures full { capacity < len base.pairs → result ≡ Err Refusal.Full }
+        ensures refusals { IfErr result (λ e. ((e ≡ Refusal.Full) × (capacity < len base.pairs)) ⊎ (e ≡ Refusal.OutOfMemory)) }
+    {
+        let pairs = base.pairs();
+        if pairs.len() > capacity as usize {
+            return Err(Refusal::Full);
+        }
+        match Records::of_pairs(alloc, capacity, pairs) {
+            Ok(records) => Ok(World {
+                alloc,
+                base,
+                sessions,
+                records,
+                log: Vec::new(alloc),
+                begun: 0,
+                is_open: false,
+                writes: Vec::new(alloc),
+            }),
+            Err(_) => Err(Refusal::OutOfMemory),
+        }
+    }
+
+    /// Answers one event. For every history that the world stands after, the reply is legal, and the world then stands
+    /// after the history with this event and reply. A refused event changes nothing.
+    pub fn step(&mut self, event: &Event) -> Reply
+        requires built { IsBuilt event.now }
+        ensures follows { (history : History) → Stands self.old history → Follows (setting_of self.old) history event.now result self.new }
+        ensures setting { setting_of self.new ≡ setting_of self.old }
+        ensures refused { IfRefused result (self.new ≡ self.old) }
+    {
+        match event {
+            Event::Begin(session) => self.begin(*session),
+            Event::Get(session, key) => self.get(*session, key),
+            Event::Put(session, key, value) => self.put(*session, key, value),
+            Event::Commit(session) => self.commit(*session),
+            _ => Reply::Refused(Refusal::WrongPhase),
+        }
+    }
+
+    fn begin(&mut self, session: SessionNo) -> Reply
+        ensures { Begins self.old session result self.new }
+    {
+        if is_no_session(self.sessions, session) {
+            return Reply::Refused(Refusal::NoSession);
+        }
+        if self.is_open {
+            return Reply::Refused(Refusal::AlreadyBegun);
+        }
+        if self.begun == 1099511627776 {
+            return Reply::Refused(Refusal::LogFull);
+        }
+        self.begun += 1;
+        self.is_open = true;
+        self.writes.clear();
+        Reply::Begun(TxnNo(self.begun))
+    }
+
+    fn get(&mut self, session: SessionNo, key: &Key) -> Reply
+        ensures { Gets self.old session key.now result self.new }
+    {
+        if is_no_session(self.sessions, session) {
+            return Reply::Refused(Refusal::NoSession);
+        }
+        if !self.is_open {
+            return Reply::Refused(Refusal::NoTransaction);
+        }
+        if self.records.is_full_for(key) {
+            return Reply::Refused(Refusal::Full);
+        }
+        let Ok(reply) = read(self.alloc, &self.records, &self.writes, key) else {
+            return Reply::Refused(Refusal::OutOfMemory);
+        };
+        match self.records.request(self.alloc, key) {
+            Ok(()) => reply,
+            Err(_) => Reply::Refused(Refusal::OutOfMemory),
+        }
+    }
+
+    fn put(&mut self, session: SessionNo, key: &Key, value: &Value) -> Reply
+        ensures { Puts self.old session key.now value.now result self.new }
+    {
+        if is_no_session(self.sessions, session) {
+            return Reply::Refused(Refusal::NoSession);
+        }
+        if !self.is_open {
+            return Reply::Refused(Refusal::NoTransaction);
+        }
+        if is_one_too_many(&self.writes, key) {
+            return Reply::Refused(Refusal::TooManyWrites);
+        }
+        if self.records.is_full_for(key) {
+            return Reply::Refused(Refusal::Full);
+        }
+        match take_write(self.alloc, &mut self.records, &mut self.writes, key, value) {
+            Ok(()) => Reply::Ok,
+            Err(_) => Reply::Refused(Refusal::OutOfMemory),
+        }
+    }
+
+    fn commit(&mut self, session: SessionNo) -> Reply
+        ensures { Commits self.old session result self.new }
+    {
+        if is_no_session(self.sessions, session) {
+            return Reply::Refused(Refusal::NoSession);
+        }
+        if !self.is_open {
+            return Reply::Refused(Refusal::NoTransaction);
+        }
+        if self.log.len() == 16777216 {
+            return Reply::Refused(Refusal::LogFull);
+        }
+        if self.log.reserve(1).is_err() {
+            return Reply::Refused(Refusal::OutOfMemory);
+        }
+        if self.records.settle(self.alloc, &self.writes).is_err() {
+            return Reply::Refused(Refusal::OutOfMemory);
+        }
+        let writes = mem::replace(&mut self.writes, Vec::new(self.alloc));
+        self.log
+            .push_reserved(Entry::Commit(session, Items::from_vec(writes)));
+        self.is_open = false;
+        Reply::Committed(Lsn(self.log.len() as u32))
+    }
+}
+
+// Whether a store of so many sessions has none of this number.
+fn is_no_session(sessions: u8, session: SessionNo) -> bool
+    ensures { result ≡ ((session == 0) || nat_lt sessions session) }
+{
+    session.0 == 0 || u32::from(sessions) < session.0
+}
+
+// The key is requested and written, or memory ran out and nothing changed.
+fn take_write(
+    alloc: Global,
+    records: &mut Records,
+    writes: &mut Vec<Write>,
+    key: &Key,
+    value: &Value,
+) -> Result<(), AllocError>
+    requires { is_full_for records.old key.now ≡ false }
+    ensures records { OnOk result (records.new ≡ record records.old { rows = requested_rows records.old.rows key.now }) }
+    ensures writes { OnOk result (writes.new.items ≡ with_write writes.old.items (record { key = key.now; value = Some value.now })) }
+    ensures same_records { OnErr result (records.new ≡ records.old) }
+    ensures same_writes { OnErr result (writes.new.items ≡ writes.old.items) }
+{
+    let write = write_of(alloc, key, value)?;
+    writes.reserve(1)?;
+    records.request(alloc, key)?;
+    note_write(writes, write);
+    Ok(())
+}
+
+// The reply to a read of the key.
+fn read(alloc: Global, records: &Records, writes: &[Write], key: &Key) -> Result<Reply, AllocError>
+    ensures { IfOk result (λ r. r ≡ read_reply (value_read (written writes.now key.now) (stored (record_of records.now.rows key.now)))) }
+{
+    match written_at(writes, key) {
+        Some(i) => answer(alloc, writes[i].value.as_ref()),
+        None => answer(alloc, records.value(key)),
+    }
+}
+
+// The reply to a read that gives this.
+fn answer(alloc: Global, found: Option<&Value>) -> Result<Reply, AllocError>
+    ensures { IfOk result (λ r. r ≡ read_reply (option_copied found.entry)) }
+{
+    match found {
+        None => Ok(Reply::Absent),
+        Some(value) => Ok(Reply::Found(value.copy(alloc)?)),
+    }
+}
+
+/// Runs the events, in order, on a new store that starts from the base, and gives the store and the replies. The whole
+/// history is legal, and the committed contents are those of the replayed log. Refuses with `Full` exactly where the
+/// base has more pairs than the capacity, and else only with `OutOfMemory`.
+pub fn run(
+    alloc: Global,
+    base: Base,
+    sessions: u8,
+    capacity: u32,
+    events: &[Event],
+) -> Result<(World, Vec<Reply>), Refusal>
+    requires start { base.point ≡ 0 }
+    requires single { sessions ≡ 1 }
+    requires capacity { (1 ≤ capacity) × (capacity ≤ 1048576) }
+    requires built { AreBuilt events.now }
+    ensures run { IfOk result (λ r. IsRun (starting base sessions capacity) events.now r.1.items r.0) }
+    ensures full { capacity < len base.pairs → result ≡ Err Refusal.Full }
+    ensures refusals { IfErr result (λ e. ((e ≡ Refusal.Full) × (capacity < len base.pairs)) ⊎ (e ≡ Refusal.OutOfMemory)) }
+{
+    let mut world = World::new(alloc, base, sessions, capacity)?;
+    let mut replies = Vec::new(alloc);
+    for event in events {
+        let reply = world.step(event);
+        replies.push(reply)?;
+    }
+    Ok((world, replies))
+}

@@ -1,0 +1,60 @@
+//! The writes of the open transaction: the final one per key, in the order of first writes.
+ghost use Rattle.std.specs.Prelude.{◌≡◌, ◌<◌, ◌==◌, ◌&&◌, IfOk, MatchOption, Some, is_none, vec_len, vec_capacity};
+ghost use Rattle.pc_model.specs.Database.{with_write, written};
+ghost use Rattle.pc_engine.specs.Store.{is_one_too_many};
+ghost use Rattle.pc_engine.specs.Writes.{IsWrittenAt, IsUnwritten};
+
+use pc_types::{Key, Value, Write};
+use std::alloc::{AllocError, Global};
+
+// Where the key is written.
+pub(crate) fn written_at(writes: &[Write], key: &Key) -> Option<usize>
+    ensures { MatchOption result (IsUnwritten writes.now key.now) (IsWrittenAt writes.now key.now) }
+{
+    for (i, write) in writes.iter().enumerate() {
+        if write.key.is(key) {
+            return Some(i);
+        }
+    }
+    None
+}
+
+// Whether the key is not written.
+fn is_unwritten(writes: &[Write], key: &Key) -> bool
+    ensures { result ≡ is_none (written writes.now key.now) }
+{
+    match written_at(writes, key) {
+        Some(_) => false,
+        None => true,
+    }
+}
+
+// Whether the key would be a 257th one.
+pub(crate) fn is_one_too_many(writes: &[Write], key: &Key) -> bool
+    ensures { result ≡ is_one_too_many writes.now key.now }
+{
+    writes.len() == 256 && is_unwritten(writes, key)
+}
+
+// Adds a write, in the place of the earlier one of its key.
+pub(crate) fn note_write(writes: &mut Vec<Write>, write: Write)
+    requires { vec_len writes.old < vec_capacity writes.old }
+    ensures { writes.new.items ≡ with_write writes.old.items write }
+{
+    match written_at(writes, &write.key) {
+        Some(i) => writes[i] = write,
+        None => writes.push_reserved(write),
+    }
+}
+
+// A write of copies.
+pub(crate) fn write_of(alloc: Global, key: &Key, value: &Value) -> Result<Write, AllocError>
+    ensures { IfOk result (λ write. write ≡ record { key = key.now; value = Some value.now }) }
+{
+    let key = key.copy(alloc)?;
+    let value = value.copy(alloc)?;
+    Ok(Write {
+        key,
+        value: Some(value),
+    })
+}

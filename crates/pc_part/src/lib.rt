@@ -1,0 +1,6 @@
+//! The files of the store. Today there is the base, the database that a store starts from.
+#![tactic(auto)]
+
+mod base;
+
+pub use base::Base;
