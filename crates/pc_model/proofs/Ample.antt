@@ -1,5 +1,5 @@
 -- After every history every event has a legal reply: the one that is given with ample memory.
-use Rattle.std.proofs.Common.{◌≡◌, ℕ, ◌+◌, List, [], ◌∷◌, length, Option, Some, None, refl, subst, ◌⊎◌, inl, reverse, map, true, false}
+use Rattle.std.proofs.Common.{◌≡◌, ℕ, ◌+◌, List, [], ◌∷◌, length, Option, Some, None, refl, subst, ◌⊎◌, inl, inr, Bool, reverse, map, true, false}
 use Rattle.std.specs.Prelude.{MatchOption, if◌then◌else◌}
 use Rattle.pc_types.specs.declared.Phase.TheVariants as phase
 use Rattle.pc_types.specs.declared.Event.{Event}
@@ -102,3 +102,35 @@ played_is_legal st history (event ∷ events) legal = played_is_legal st (record
 -- steps, the first one first, are a legal history where their events give just these replies
 pub legal_run : (st : Setting) (steps : List Step) → play st [] (map (λ step. step.event) steps) ≡ reverse steps → IsLegalHistory st (reverse steps)
 legal_run st steps same = subst (IsLegalHistory st) same (played_is_legal st [] (map (λ step. step.event) steps) tt)
+
+-- whether the reply is that memory ran out
+abbrev is_memory : Reply → Bool
+is_memory (told.Refused why.OutOfMemory) = true
+is_memory other = false
+
+-- the reply where memory ran out, or else the one with ample memory
+abbrev pub lean_reply : Setting → History → Event → Bool → Reply
+lean_reply st history event true = or_answer (certain st history event) (told.Refused why.OutOfMemory)
+lean_reply st history event false = ample_reply st history event
+
+lean_is_legal : (st : Setting) (history : History) (event : Event) (refused : Bool) → IsLegal st history event (lean_reply st history event refused)
+lean_is_legal st history event false = ample_is_legal st history event
+lean_is_legal st history event true =
+    elim (certain st history event) as (λ c. MatchOption c (Answers st history event (or_answer c (told.Refused why.OutOfMemory)) ⊎ (or_answer c (told.Refused why.OutOfMemory) ≡ told.Refused why.OutOfMemory)) (λ due. or_answer c (told.Refused why.OutOfMemory) ≡ due)) [
+      | None ↦ inr refl
+      | Some due ↦ refl
+    ]
+
+-- the history after the steps' events, from this history on, where memory runs out just where the steps say so
+abbrev pub play_lean : Setting → History → List Step → History
+play_lean st history [] = history
+play_lean st history (step ∷ steps) = play_lean st (record { event = step.event; reply = lean_reply st history step.event (is_memory step.reply) } ∷ history) steps
+
+played_lean_is_legal : (st : Setting) (history : History) (steps : List Step) → IsLegalHistory st history → IsLegalHistory st (play_lean st history steps)
+played_lean_is_legal st history [] legal = legal
+played_lean_is_legal st history (step ∷ steps) legal =
+    played_lean_is_legal st (record { event = step.event; reply = lean_reply st history step.event (is_memory step.reply) } ∷ history) steps (lean_is_legal st history step.event (is_memory step.reply), legal)
+
+-- the same where memory may run out
+pub legal_lean_run : (st : Setting) (steps : List Step) → play_lean st [] steps ≡ reverse steps → IsLegalHistory st (reverse steps)
+legal_lean_run st steps same = subst (IsLegalHistory st) same (played_lean_is_legal st [] steps tt)

@@ -12,3 +12,12 @@ pub mod Logs
 pub mod RightReads
 pub mod States
 pub mod LaidInTurn
+pub mod Taken
+pub mod ExamplesOfTransactions
+pub mod ExamplesOfPoints
+pub mod ExamplesOfFiles
+pub mod ExamplesOfLocks
+pub mod ExamplesOfCapacity
+pub mod ExamplesOfRefusals
+pub mod ExamplesOfIllegalReplies
+pub mod ExamplesOfRules

@@ -11,3 +11,12 @@ pub mod Replies
 pub mod Reads
 pub mod Laws
 pub mod Laying
+pub mod Examples
+pub mod ExamplesOfTransactions
+pub mod ExamplesOfPoints
+pub mod ExamplesOfFiles
+pub mod ExamplesOfLocks
+pub mod ExamplesOfCapacity
+pub mod ExamplesOfRefusals
+pub mod ExamplesOfIllegalReplies
+pub mod ExamplesOfRules
