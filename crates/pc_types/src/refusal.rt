@@ -193,6 +193,17 @@ mod tests {
         }
     }
 
+    // As `?` converts it.
+    fn refused<E: Into<Refusal>>(error: E) -> Refusal {
+        error.into()
+    }
+
+    #[test]
+    fn want_of_memory(rt: HostRuntime) {
+        assert_eq!(rt; refused(AllocError), Refusal::OutOfMemory);
+        assert_eq!(rt; refused(AllocFailed { value: 1u8 }), Refusal::OutOfMemory);
+    }
+
     #[test]
     fn said_in_words(rt: HostRuntime) -> Result<(), Fail> {
         let alloc = rt.alloc();
