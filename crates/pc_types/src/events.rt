@@ -1,8 +1,9 @@
 //! Events and replies, and the entries of the log.
-use crate::keys::{Key, Value};
+use crate::keys::Key;
 use crate::lists::Items;
 use crate::numbers::{FileNo, Lsn, Point, SessionNo, TxnNo};
 use crate::refusal::Refusal;
+use crate::values::Value;
 
 /// The five phases of a checkpoint's cycle, in their order; rest stands between two cycles.
 #[derive(Clone, Copy, Debug, PartialEq, Eq)]

@@ -1,8 +1,8 @@
-//! Keys and values: texts of bytes, of which up to 16 lie inline and take no memory.
+//! Keys: texts of bytes, of which up to 16 lie inline and take no memory.
 ghost use Rattle.std.specs.Prelude.{◌≡◌, ◌≤◌, ◌↔◌, length, IsOk, IfErr, IfOk, OnOk};
 ghost use Rattle.std.specs.Ordering.{nat_cmp, eq_by_cmp};
 ghost use Rattle.std.specs.Cmp.Lexicographic.{slice_cmp};
-ghost use Rattle.pc_types.specs.Limits.{IsKey, IsValue};
+ghost use Rattle.pc_types.specs.Limits.{IsKey};
 
 use crate::refusal::Refusal;
 use smallvec::SmallVec;
@@ -77,61 +77,46 @@ impl Key {
         ensures copy { IfOk result (λ key. key ≡ self.now) }
         ensures inline { length self.now ≤ 16 → IsOk result }
     {
-        let bytes = SmallVec::from_slice(alloc, self.bytes.as_slice())?;
+        let bytes = SmallVec::from_slice(alloc, self.as_bytes())?;
         Ok(Key { bytes })
     }
 }
 
-/// A value: at most 65,535 bytes, of which up to 16 lie inline.
-#[derive(Drop)]
-pub struct Value {
-    bytes: SmallVec<u8, 16>,
-}
+#[cfg(test)]
+mod tests {
+    use super::*;
+    use std::test::Fail;
 
-impl Model for Value {
-    ghost use Rattle.std.specs.Prelude.{ℕ, List};
-    ghost use Rattle.pc_types.specs.Limits.{IsValue};
-
-    ghost Value = { List ℕ };
-
-    ghost view = { λ v. v.bytes.items };
-
-    ghost invariant = { λ v. IsValue v.bytes.items };
-}
-
-impl Value {
-    /// The value of these bytes. Refuses with `ValueLength` exactly where there are more than 65,535, and else only
-    /// with `OutOfMemory`, never for up to 16 bytes.
-    pub fn new(alloc: Global, bytes: &[u8]) -> Result<Value, Refusal>
-        ensures value { IfOk result (λ value. value ≡ bytes.now) }
-        ensures in_limits { OnOk result (IsValue bytes.now) }
-        ensures length { (result ≡ Err Refusal.ValueLength) ↔ (¬ IsValue bytes.now) }
-        ensures memory { IsValue bytes.now → IfErr result (λ e. e ≡ Refusal.OutOfMemory) }
-        ensures inline { length bytes.now ≤ 16 → IsOk result }
-    {
-        if bytes.len() > 65535 {
-            return Err(Refusal::ValueLength);
+    // 1 to 255 bytes make a key; none and 256 are refused.
+    #[test]
+    fn lengths(rt: HostRuntime) -> Result<(), Fail> {
+        let alloc = rt.alloc();
+        let bytes = [7u8; 256];
+        for length in [0usize, 256] {
+            let refused = Key::new(alloc, &bytes[..length]).err().ok_or("a key")?;
+            assert_eq!(rt; refused, Refusal::KeyLength, "of {length} bytes");
         }
-        match SmallVec::from_slice(alloc, bytes) {
-            Ok(bytes) => Ok(Value { bytes }),
-            Err(_) => Err(Refusal::OutOfMemory),
+        for length in [1usize, 16, 17, 255] {
+            let key = Key::new(alloc, &bytes[..length])?;
+            assert_eq!(rt; key.as_bytes(), &bytes[..length], "of {length} bytes");
+            assert!(rt; key.copy(alloc)?.is(&key), "of {length} bytes");
         }
+        Ok(())
     }
 
-    /// Its bytes, at most 65,535.
-    pub fn as_bytes(&self) -> &[u8]
-        ensures bytes { result.now ≡ self.now }
-        ensures in_limits { IsValue self.now }
-    {
-        self.bytes.as_slice()
-    }
-
-    /// The same value once more. It takes memory only for more than 16 bytes.
-    pub fn copy(&self, alloc: Global) -> Result<Value, AllocError>
-        ensures copy { IfOk result (λ value. value ≡ self.now) }
-        ensures inline { length self.now ≤ 16 → IsOk result }
-    {
-        let bytes = SmallVec::from_slice(alloc, self.bytes.as_slice())?;
-        Ok(Value { bytes })
+    // Bytes count as unsigned, and a beginning comes first.
+    #[test]
+    fn order(rt: HostRuntime) -> Result<(), Fail> {
+        let alloc = rt.alloc();
+        let rising: [&[u8]; 5] = [b"\x00", b"a", b"a\x00", b"b", b"\xff"];
+        for (i, left) in rising.iter().enumerate() {
+            for (j, right) in rising.iter().enumerate() {
+                let left = Key::new(alloc, *left)?;
+                let right = Key::new(alloc, *right)?;
+                assert_eq!(rt; left.compare(&right), i.cmp(&j), "{i} and {j}");
+                assert_eq!(rt; left.is(&right), i == j, "{i} and {j}");
+            }
+        }
+        Ok(())
     }
 }

@@ -8,10 +8,12 @@ mod lists;
 mod numbers;
 mod refusal;
 mod tally;
+mod values;
 
 pub use events::{Entry, Event, Phase, Reply, Step, Write};
-pub use keys::{Key, Value};
+pub use keys::Key;
 pub use lists::Items;
 pub use numbers::{FileNo, Lsn, Point, ReqId, SessionNo, SlotId, TxnNo};
 pub use refusal::Refusal;
 pub use tally::{Tally, read_all};
+pub use values::Value;

@@ -149,3 +149,68 @@ impl<T: Drop> From<AllocFailed<T>> for Refusal {
         Refusal::OutOfMemory
     }
 }
+
+#[cfg(test)]
+mod tests {
+    use super::*;
+    use std::test::Fail;
+
+    const NAMES: [(Refusal, &str); 28] = [
+        (Refusal::OutOfMemory, "OutOfMemory"),
+        (Refusal::Full, "Full"),
+        (Refusal::KeyLength, "KeyLength"),
+        (Refusal::ValueLength, "ValueLength"),
+        (Refusal::NoTransaction, "NoTransaction"),
+        (Refusal::AlreadyBegun, "AlreadyBegun"),
+        (Refusal::MustAbort, "MustAbort"),
+        (Refusal::WrongPhase, "WrongPhase"),
+        (Refusal::TooManyWrites, "TooManyWrites"),
+        (Refusal::LogFull, "LogFull"),
+        (Refusal::PointsFull, "PointsFull"),
+        (Refusal::NoSession, "NoSession"),
+        (Refusal::NoFile, "NoFile"),
+        (Refusal::OtherRun, "OtherRun"),
+        (Refusal::Conflict, "Conflict"),
+        (Refusal::Gap(Point(2)), "Gap"),
+        (Refusal::ShelfFull, "ShelfFull"),
+        (Refusal::StillWaiting, "StillWaiting"),
+        (Refusal::Short, "Short"),
+        (Refusal::BadMagic, "BadMagic"),
+        (Refusal::BadRanges, "BadRanges"),
+        (Refusal::KeyOrder, "KeyOrder"),
+        (Refusal::BadKind, "BadKind"),
+        (Refusal::BadLength, "BadLength"),
+        (Refusal::Trailing, "Trailing"),
+        (Refusal::NotCovered, "NotCovered"),
+        (Refusal::TokenOrder, "TokenOrder"),
+        (Refusal::Device, "Device"),
+    ];
+
+    #[test]
+    fn names(rt: HostRuntime) {
+        for (refusal, name) in NAMES {
+            assert_eq!(rt; refusal.name(), name);
+        }
+    }
+
+    // As `?` converts it.
+    fn refused<E: Into<Refusal>>(error: E) -> Refusal {
+        error.into()
+    }
+
+    #[test]
+    fn want_of_memory(rt: HostRuntime) {
+        assert_eq!(rt; refused(AllocError), Refusal::OutOfMemory);
+        assert_eq!(rt; refused(AllocFailed { value: 1u8 }), Refusal::OutOfMemory);
+    }
+
+    #[test]
+    fn said_in_words(rt: HostRuntime) -> Result<(), Fail> {
+        let alloc = rt.alloc();
+        let told = Refusal::Gap(Point(2)).to_string(alloc)?;
+        assert_eq!(rt; told.as_str(), "point 2 is not covered");
+        let told = Refusal::OutOfMemory.to_string(alloc)?;
+        assert_eq!(rt; told.as_str(), "memory ran out");
+        Ok(())
+    }
+}

@@ -33,7 +33,8 @@ impl<T> Tally<T> {
     pub fn failures(&self) -> u64
         ensures { result ≡ failures_of self.now }
     {
-        self.failures
+        let Tally { inner: _, failures } = self;
+        *failures
     }
 
     /// What was counted.
@@ -140,5 +141,149 @@ pub fn read_all<R: Read>(alloc: Global, reader: &mut Tally<R>) -> Result<Vec<u8>
             Ok(n) => bytes.extend_from_slice(&piece[..n])?,
             Err(_) => return Err(Refusal::Device),
         }
+    }
+}
+
+#[cfg(test)]
+mod tests {
+    use super::*;
+    use std::io::{Error, ErrorKind};
+    use std::test::Fail;
+
+    // Gives so many bytes at each read, so often, and then this answer.
+    #[derive(Drop)]
+    struct Source {
+        pieces: u8,
+        size: usize,
+        then: Option<ErrorKind>,
+    }
+
+    impl Read for Source {
+        fn read(&mut self, buf: &mut [u8]) -> io::Result<usize> {
+            if self.pieces == 0 {
+                return match self.then {
+                    None => Ok(0),
+                    Some(kind) => Err(Error::from(kind)),
+                };
+            }
+            self.pieces -= 1;
+            let count = self.size.min(buf.len());
+            for byte in &mut buf[..count] {
+                *byte = self.pieces;
+            }
+            Ok(count)
+        }
+    }
+
+    // Takes so many bytes, one or two at each write, and then answers this.
+    #[derive(Drop)]
+    struct Sink {
+        taken: Vec<u8>,
+        room: usize,
+        then: Option<ErrorKind>,
+    }
+
+    impl Write for Sink {
+        fn write(&mut self, buf: &[u8]) -> io::Result<usize> {
+            let count = self.room.min(buf.len()).min(2);
+            if count == 0 && !buf.is_empty() {
+                return match self.then {
+                    None => Ok(0),
+                    Some(kind) => Err(Error::from(kind)),
+                };
+            }
+            self.taken.extend_from_slice(&buf[..count])?;
+            self.room -= count;
+            Ok(count)
+        }
+
+        fn flush(&mut self) -> io::Result<()> {
+            match self.then {
+                None => Ok(()),
+                Some(kind) => Err(Error::from(kind)),
+            }
+        }
+    }
+
+    const FAULTS: [ErrorKind; 2] = [ErrorKind::Other, ErrorKind::Interrupted];
+
+    #[test]
+    fn reads_to_the_end(rt: HostRuntime) -> Result<(), Fail> {
+        let mut tally = Tally::new(Source {
+            pieces: 3,
+            size: 4000,
+            then: None,
+        });
+        let bytes = read_all(rt.alloc(), &mut tally)?;
+        assert_eq!(rt; bytes.len(), 12000);
+        let places = bytes.get(0).zip(bytes.get(4000)).zip(bytes.get(11999));
+        assert_eq!(rt; places, Some(((&2u8, &1u8), &0u8)));
+        assert_eq!(rt; tally.failures(), 0);
+        Ok(())
+    }
+
+    // A reader that fails at each place in turn.
+    #[test]
+    fn stops_at_a_failed_read(rt: HostRuntime) -> Result<(), Fail> {
+        for pieces in [0u8, 1, 2] {
+            for fault in FAULTS {
+                let mut tally = Tally::new(Source {
+                    pieces,
+                    size: 5,
+                    then: Some(fault),
+                });
+                let refused = read_all(rt.alloc(), &mut tally).err().ok_or("read")?;
+                assert_eq!(rt; refused, Refusal::Device, "after {pieces}");
+                assert_eq!(rt; tally.failures(), 1, "after {pieces}");
+            }
+        }
+        Ok(())
+    }
+
+    // Five bytes in three pieces.
+    fn put_into<W: Write>(tally: &mut Tally<W>) -> Result<(), Refusal> {
+        let pieces: [&[u8]; 3] = [b"abc", b"", b"de"];
+        tally.put_all(pieces.as_slice())
+    }
+
+    // A writer takes each number of bytes in turn, and then fails, or takes nothing.
+    #[test]
+    fn puts_what_the_writer_takes(rt: HostRuntime) -> Result<(), Fail> {
+        let text = b"abcde";
+        for then in [None, Some(ErrorKind::Other), Some(ErrorKind::Interrupted)] {
+            for room in 0..7usize {
+                let mut tally = Tally::new(Sink {
+                    taken: Vec::new(rt.alloc()),
+                    room,
+                    then,
+                });
+                let answer = put_into(&mut tally);
+                let failed = u64::from(room < 5);
+                assert_eq!(rt;
+                    answer.err(),
+                    if room < 5 {
+                        Some(Refusal::Device)
+                    } else {
+                        None
+                    },
+                    "{room}"
+                );
+                assert_eq!(rt; tally.failures(), failed, "{room}");
+                let sink = tally.into_inner();
+                assert_eq!(rt; sink.taken.as_slice(), &text[..room.min(5)], "{room}");
+            }
+        }
+        Ok(())
+    }
+
+    #[test]
+    fn counts_a_failed_flush(rt: HostRuntime) {
+        let mut tally = Tally::new(Sink {
+            taken: Vec::new(rt.alloc()),
+            room: 0,
+            then: Some(ErrorKind::Other),
+        });
+        assert!(rt; tally.flush().is_err());
+        assert_eq!(rt; tally.failures(), 1);
     }
 }

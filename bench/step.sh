@@ -1,0 +1,15 @@
+#!/bin/sh
+# Runs `pcalc step` on a script of N lines (1,000,000 where none is given) and on one of twice as many, and tells for
+# each its lines a second and its peak memory. Fails where twice the lines take more than 2.3 times the time.
+# Build the program first: `rt run -- step ../../examples/first.pcs` in the folder crates/pcalc.
+set -u
+cd "$(dirname "$0")/.." || exit 1
+lines=${1:-1000000}
+program=crates/pcalc/out/pcalc
+if [ ! -x "$program" ]; then
+    echo "$program is not there: build it first" >&2
+    exit 1
+fi
+folder=$(mktemp -d) || exit 1
+trap 'rm -rf "$folder"' EXIT
+python3 bench/step.py "$program" "$lines" "$folder"

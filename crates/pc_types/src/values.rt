@@ -1,0 +1,97 @@
+//! Values: texts of bytes, of which up to 16 lie inline and take no memory.
+ghost use Rattle.std.specs.Prelude.{◌≡◌, ◌≤◌, ◌↔◌, length, IsOk, IfErr, IfOk, OnOk};
+ghost use Rattle.std.specs.Ordering.{nat_cmp, eq_by_cmp};
+ghost use Rattle.std.specs.Cmp.Lexicographic.{slice_cmp};
+ghost use Rattle.pc_types.specs.Limits.{IsValue};
+
+use crate::refusal::Refusal;
+use smallvec::SmallVec;
+use std::alloc::{AllocError, Global};
+use std::cmp::Ordering;
+use std::marker::Model;
+
+/// A value: at most 65,535 bytes, of which up to 16 lie inline.
+#[derive(Drop)]
+pub struct Value {
+    bytes: SmallVec<u8, 16>,
+}
+
+impl Model for Value {
+    ghost use Rattle.std.specs.Prelude.{ℕ, List};
+    ghost use Rattle.pc_types.specs.Limits.{IsValue};
+
+    ghost Value = { List ℕ };
+
+    ghost view = { λ v. v.bytes.items };
+
+    ghost invariant = { λ v. IsValue v.bytes.items };
+}
+
+impl Value {
+    /// The value of these bytes. Refuses with `ValueLength` exactly where there are more than 65,535, and else only
+    /// with `OutOfMemory`, never for up to 16 bytes.
+    pub fn new(alloc: Global, bytes: &[u8]) -> Result<Value, Refusal>
+        ensures value { IfOk result (λ value. value ≡ bytes.now) }
+        ensures in_limits { OnOk result (IsValue bytes.now) }
+        ensures length { (result ≡ Err Refusal.ValueLength) ↔ (¬ IsValue bytes.now) }
+        ensures memory { IsValue bytes.now → IfErr result (λ e. e ≡ Refusal.OutOfMemory) }
+        ensures inline { length bytes.now ≤ 16 → IsOk result }
+    {
+        if bytes.len() > 65535 {
+            return Err(Refusal::ValueLength);
+        }
+        match SmallVec::from_slice(alloc, bytes) {
+            Ok(bytes) => Ok(Value { bytes }),
+            Err(_) => Err(Refusal::OutOfMemory),
+        }
+    }
+
+    /// Its bytes, at most 65,535.
+    pub fn as_bytes(&self) -> &[u8]
+        ensures bytes { result.now ≡ self.now }
+        ensures in_limits { IsValue self.now }
+    {
+        self.bytes.as_slice()
+    }
+
+    /// Whether the values are the same.
+    pub fn is(&self, other: &Value) -> bool
+        ensures { result ≡ eq_by_cmp (slice_cmp nat_cmp) self.now other.now }
+    {
+        match self.as_bytes().cmp(&other.as_bytes()) {
+            Ordering::Equal => true,
+            _ => false,
+        }
+    }
+
+    /// The same value once more. It takes memory only for more than 16 bytes.
+    pub fn copy(&self, alloc: Global) -> Result<Value, AllocError>
+        ensures copy { IfOk result (λ value. value ≡ self.now) }
+        ensures inline { length self.now ≤ 16 → IsOk result }
+    {
+        let bytes = SmallVec::from_slice(alloc, self.as_bytes())?;
+        Ok(Value { bytes })
+    }
+}
+
+#[cfg(test)]
+mod tests {
+    use super::*;
+    use std::test::Fail;
+
+    // Up to 65,535 bytes make a value; 65,536 are refused.
+    #[test]
+    fn lengths(rt: HostRuntime) -> Result<(), Fail> {
+        let alloc = rt.alloc();
+        let bytes = vec![in alloc; 7u8; 65536]?;
+        let refused = Value::new(alloc, bytes.as_slice()).err().ok_or("a value")?;
+        assert_eq!(rt; refused, Refusal::ValueLength);
+        let least = Value::new(alloc, b"")?;
+        assert_eq!(rt; least.as_bytes().len(), 0);
+        let most = Value::new(alloc, &bytes.as_slice()[..65535])?;
+        assert_eq!(rt; most.as_bytes().len(), 65535);
+        assert!(rt; most.copy(alloc)?.is(&most));
+        assert!(rt; !most.is(&least));
+        Ok(())
+    }
+}
