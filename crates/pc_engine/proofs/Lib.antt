@@ -1,4 +1,3 @@
-pub mod RowPlaces
 pub mod WritePlaces
 pub mod Alone
 pub mod Occupied

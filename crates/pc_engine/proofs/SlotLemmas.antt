@@ -13,8 +13,8 @@ use Rattle.pc_engine.specs.declared.records.Record.{Record}
 use Rattle.pc_engine.specs.declared.records.Slot.{Slot}
 use Rattle.pc_engine.specs.Store.{Row, record_of, stored, requested, requested_rows, settled, settled_rows, committed_row, is_full_for}
 use Rattle.pc_engine.specs.Slots.{row_of, rows_of, numbers_of, times, AreShared, AreStillShared, IsMarked, numbers_from, slots_from, settled_slots, freed, with_slot, with_freed}
-use Rattle.pc_engine.specs.Places.{IsAt, IsGap}
-use Rattle.pc_engine.proofs.RowPlaces.{IsBehind, at_hit, gap_before, behind_more}
+use Rattle.pc_model.specs.Places.{IsAt, IsGap}
+use Rattle.pc_model.proofs.EntryPlaces.{IsBehind, at_hit, gap_before, behind_more}
 
 pub length-rows : (slots : List Slot) → length (rows_of slots) ≡ length slots
 length-rows [] = refl

@@ -1,15 +1,10 @@
 -- Where a list of writes has a key.
-use Rattle.std.proofs.Common.{◌≡◌, ℕ, zero, suc, ◌+◌, ◌<◌, List, [], ◌∷◌, ◌++◌, length, take, drop, get_or, Option, Some, refl, sym, ap, ◌∙◌, arith, add-one, cond, true}
+use Rattle.std.proofs.Common.{◌≡◌, ℕ, ◌+◌, ◌<◌, List, ◌∷◌, ◌++◌, length, take, drop, get_or, Option, Some, refl, sym, ap, ◌∙◌, add-one, cond, true}
 use Rattle.std.proofs.lemmas.List.{get_or_default, set_split}
 use Rattle.pc_types.specs.declared.Write.{Write}
 use Rattle.pc_model.specs.Database.{with_write, written, same_bytes}
+use Rattle.pc_model.proofs.EntryPlaces.{rest_at}
 use Rattle.pc_engine.specs.Writes.{IsWrittenAt}
-
--- from place i on: the item there and what follows it
-rest_at : {A : Type 0} (xs : List A) (i : ℕ) (x : A) → i < length xs → x ≡ get_or xs i x → drop i xs ≡ x ∷ drop (i + 1) xs
-rest_at [] i x lt is = absurd (omega arith)
-rest_at (y ∷ xs) zero x lt is = grind arith
-rest_at (y ∷ xs) (suc i) x lt is = grind (arith, rest_at xs i x (omega arith) is)
 
 pub written_here : (writes : List Write) (key : List ℕ) (i : ℕ) (w : Write) → i < length writes → w ≡ get_or writes i w → same_bytes w.key key ≡ true →
     written (drop i writes) key ≡ written writes key →

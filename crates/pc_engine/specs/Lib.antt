@@ -1,6 +1,5 @@
 pub mod Store
 pub mod Slots
-pub mod Places
 pub mod Writes
 pub mod Alone
 pub mod Stands

@@ -4,7 +4,7 @@ ghost use Rattle.std.specs.Prelude.{slice_index_or};
 ghost use Rattle.pc_model.specs.Database.{KeysRise, written};
 ghost use Rattle.pc_engine.specs.Store.{record_of, requested, requested_rows, settled, settled_rows, stored, committed_row, is_full_for};
 ghost use Rattle.pc_engine.specs.Slots.{rows_of, numbers_from, slots_from, settled_slots, freed, AreStillShared, IsMarked};
-ghost use Rattle.pc_engine.specs.Places.{IsAt, IsGap};
+ghost use Rattle.pc_model.specs.Places.{IsAt, IsGap};
 
 use crate::writes::written_at;
 use pc_types::{Key, SlotId, Value, Write};

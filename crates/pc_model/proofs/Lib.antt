@@ -1,7 +1,7 @@
 pub mod MapLaws
 pub mod SetLaws
 pub mod PairMaps
-pub mod PairPlaces
+pub mod EntryPlaces
 pub mod Joins
 pub mod Counts
 pub mod Queues

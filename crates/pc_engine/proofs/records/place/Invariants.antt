@@ -1,5 +1,5 @@
 use Rattle.pc_engine.specs.Slots.{rows_of}
-use Rattle.pc_engine.proofs.RowPlaces.{IsBehind}
+use Rattle.pc_model.proofs.EntryPlaces.{IsBehind}
 use Rattle.pc_engine.proofs.records.place.Given as goal
 
 -- the key is greater than those of the slots so far
