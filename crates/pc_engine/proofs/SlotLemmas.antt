@@ -1,5 +1,5 @@
 -- Slots by their rows and by their numbers.
-use Rattle.std.proofs.Common.{◌≡◌, ℕ, zero, suc, ◌+◌, ◌<◌, ◌≤◌, List, [], ◌∷◌, ◌++◌, length, map, take, get_or, set, Option, Some, None, is_none, refl, sym, ap, ◌∙◌, arith, cond, Bool, true, false, eqb, ltb, leb, ◌&&◌}
+use Rattle.std.proofs.Common.{◌≡◌, ℕ, zero, suc, ◌+◌, ◌<◌, ◌≤◌, List, [], ◌∷◌, ◌++◌, length, map, take, drop, get_or, set, Option, Some, None, is_none, filter, refl, sym, ap, ◌∙◌, arith, cond, Bool, true, false, eqb, ltb, leb, ◌&&◌}
 use Rattle.std.specs.Prelude.{insert}
 use Rattle.std.specs.declared.cmp.Ordering.TheVariants.{Less, Equal, Greater}
 use Rattle.std.proofs.Math.ListN.{get_or-map}
@@ -11,8 +11,8 @@ use Rattle.pc_types.specs.declared.Write.{Write}
 use Rattle.pc_model.specs.Database.{key_cmp, KeysRise, written}
 use Rattle.pc_engine.specs.declared.records.Record.{Record}
 use Rattle.pc_engine.specs.declared.records.Slot.{Slot}
-use Rattle.pc_engine.specs.Store.{Row, record_of, stored, requested, requested_rows, settled, settled_rows, committed_row, is_full_for}
-use Rattle.pc_engine.specs.Slots.{row_of, rows_of, numbers_of, times, AreShared, AreStillShared, IsMarked, numbers_from, slots_from, settled_slots, freed, with_slot, with_freed}
+use Rattle.pc_engine.specs.Store.{Row, record_of, stored, requested, requested_rows, committed, outlasts, settled, settled_rows, committed_row, is_full_for}
+use Rattle.pc_engine.specs.Slots.{row_of, rows_of, numbers_of, times, AreShared, AreStillShared, IsMarked, numbers_from, slots_from, settled_slots, values_given, with_given, committed_slot, with_writes, freed, with_slot, with_freed}
 use Rattle.pc_model.specs.Places.{IsAt, IsGap}
 use Rattle.pc_model.proofs.EntryPlaces.{IsBehind, at_hit, gap_before, behind_more}
 
@@ -193,3 +193,51 @@ first_shared capacity pairs slots free slots_are free_are count = record {
       grind (arith, nat_tests, used, left, count);
   count = rw slots_are (omega (arith, length-first 0 pairs, count));
 }
+
+-- the slots that stay are those that outlast the commit
+pub filtered_settled : (ws : List Write) (slots : List Slot) → filter (λ slot. outlasts slot.kept) (map (with_writes ws) slots) ≡ settled_slots ws slots
+filtered_settled ws [] = refl
+filtered_settled ws (x ∷ xs) = by_test (outlasts (committed (written ws x.key) x.kept)) (filtered_settled ws xs)
+  where
+    by_test : (b : Bool) → filter (λ slot. outlasts slot.kept) (map (with_writes ws) xs) ≡ settled_slots ws xs →
+        cond b (with_writes ws x ∷ filter (λ slot. outlasts slot.kept) (map (with_writes ws) xs)) (filter (λ slot. outlasts slot.kept) (map (with_writes ws) xs)) ≡ with_slot (cond b (Some (committed (written ws x.key) x.kept)) None) x (settled_slots ws xs)
+    by_test true e = ap (λ (slots : List Slot). with_writes ws x ∷ slots) e
+    by_test false e = e
+
+-- the slots before place i are committed
+abbrev pub committed_to : List Write → ℕ → List Slot → List Slot
+committed_to ws i slots = map (with_writes ws) (take i slots) ++ drop i slots
+
+-- the slot at place i is as it was
+slot_left : (ws : List Write) (slots : List Slot) (i : ℕ) (d : Slot) → i < length slots → get_or (committed_to ws i slots) i d ≡ get_or slots i d
+slot_left ws [] i d lt = absurd (omega (arith, lt))
+slot_left ws (x ∷ xs) zero d lt = refl
+slot_left ws (x ∷ xs) (suc i) d lt = slot_left ws xs i d (omega (arith, lt))
+
+-- and then it is committed too
+commits_one : (ws : List Write) (slots : List Slot) (i : ℕ) (d : Slot) → i < length slots → set (committed_to ws i slots) i (with_writes ws (get_or slots i d)) ≡ committed_to ws (i + 1) slots
+commits_one ws [] i d lt = absurd (omega (arith, lt))
+commits_one ws (x ∷ xs) zero d lt = refl
+commits_one ws (x ∷ xs) (suc i) d lt = ap (λ (ys : List Slot). with_writes ws x ∷ ys) (commits_one ws xs i d (omega (arith, lt))) ∙ grind (arith, common_steps)
+
+values_left : (ws : List Write) (slots : List Slot) (i : ℕ) (d : Slot) → i < length slots → values_given ws (drop i slots) ≡ with_given (written ws (get_or slots i d).key) (values_given ws (drop (i + 1) slots))
+values_left ws [] i d lt = absurd (omega (arith, lt))
+values_left ws (x ∷ xs) zero d lt = refl
+values_left ws (x ∷ xs) (suc i) d lt = values_left ws xs i d (omega (arith, lt)) ∙ grind (arith, common_steps)
+
+pub commits_next : (ws : List Write) (slots now new : List Slot) (i : ℕ) (e : Slot) (given : Option (Option (List ℕ))) (values left : List (Option (List ℕ))) → i < length slots → now ≡ committed_to ws i slots → values ≡ values_given ws (drop i slots) →
+    e ≡ get_or now i e → ((rest : List (Option (List ℕ))) → values ≡ with_given (written ws e.key) rest → (given ≡ written ws e.key) × (left ≡ rest)) → ((d : Slot) → new ≡ set now i (committed_slot given (get_or now i d))) →
+    (new ≡ committed_to ws (i + 1) slots) × (left ≡ values_given ws (drop (i + 1) slots))
+commits_next ws slots now new i e given values left lt now_is values_are e_is next new_is =
+    let there : e ≡ get_or slots i e = e_is ∙ ap (λ (ys : List Slot). get_or ys i e) now_is ∙ slot_left ws slots i e lt in
+    let given_is = next (values_given ws (drop (i + 1) slots)) (values_are ∙ values_left ws slots i e lt ∙ ap (λ (s : Slot). with_given (written ws s.key) (values_given ws (drop (i + 1) slots))) (sym there)) in (
+      new_is e ∙ ap (λ (s : Slot). set now i (committed_slot given s)) (sym e_is) ∙ ap (λ g. set now i (committed_slot g e)) given_is.0 ∙ ap (λ (ys : List Slot). set ys i (with_writes ws e)) now_is
+          ∙ ap (λ (s : Slot). set (committed_to ws i slots) i (with_writes ws s)) there ∙ commits_one ws slots i e lt,
+      given_is.1,
+    )
+
+-- the next value is the first of those that are left
+pub next_of : (given popped : Option (Option (List ℕ))) (v : Option (List ℕ)) (values new rest : List (Option (List ℕ))) → given ≡ Some v → values ≡ with_given given rest → (0 < length values → popped ≡ Some (get_or values 0 v)) → new ≡ drop 1 values → (popped ≡ given) × (new ≡ rest)
+next_of given popped v values new rest is values_are popped_is new_is =
+    let first : values ≡ v ∷ rest = values_are ∙ ap (λ g. with_given g rest) is in
+    (popped_is (rw first (omega arith)) ∙ ap (λ (vs : List (Option (List ℕ))). Some (get_or vs 0 v)) first ∙ sym is, new_is ∙ ap (drop 1) first)

@@ -4,7 +4,7 @@ use Rattle.pc_types.specs.declared.Write.{Write}
 use Rattle.pc_model.specs.Database.{written}
 use Rattle.pc_engine.specs.declared.records.Record.{Record}
 use Rattle.pc_engine.specs.declared.records.Slot.{Slot}
-use Rattle.pc_engine.specs.Store.{Row, committed_row, requested, settled}
+use Rattle.pc_engine.specs.Store.{Row, committed_row, requested, committed, settled}
 
 abbrev pub row_of : Slot → Row
 row_of slot = (slot.key, slot.kept)
@@ -58,6 +58,22 @@ with_slot (Some r) slot slots = record slot { kept = r } ∷ slots
 abbrev pub with_freed : Option Record → ℕ → List ℕ → List ℕ
 with_freed None n free = n ∷ free
 with_freed (Some r) n free = free
+
+-- the slot once the transaction has committed, given what it wrote at the key
+abbrev pub committed_slot : Option (Option (List ℕ)) → Slot → Slot
+committed_slot given slot = record slot { kept = committed given slot.kept }
+
+abbrev pub with_writes : List Write → Slot → Slot
+with_writes writes slot = committed_slot (written writes slot.key) slot
+
+abbrev pub with_given : Option (Option (List ℕ)) → List (Option (List ℕ)) → List (Option (List ℕ))
+with_given None values = values
+with_given (Some value) values = value ∷ values
+
+-- the values that the writes give to the slots, in the slots' order
+abbrev pub values_given : List Write → List Slot → List (Option (List ℕ))
+values_given writes [] = []
+values_given writes (slot ∷ slots) = with_given (written writes slot.key) (values_given writes slots)
 
 -- the slots that stay once the transaction with these writes has committed
 abbrev pub settled_slots : List Write → List Slot → List Slot

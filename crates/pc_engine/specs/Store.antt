@@ -71,10 +71,18 @@ requested (Some r) = record r { is_requested = true }
 abbrev pub requested_rows : List Row → List ℕ → List Row
 requested_rows rows key = put_entry key_cmp key (requested (record_of rows key)) rows
 
--- a record once the transaction has committed, given what it wrote at the key: none where nothing keeps it
+-- a record once the transaction has committed, given what it wrote at the key
+abbrev pub committed : Option (Option (List ℕ)) → Record → Record
+committed (Some value) r = record { value = value; is_recent = true; is_requested = false }
+committed None r = record r { is_requested = false }
+
+-- something keeps the record where no request does
+abbrev pub outlasts : Record → Bool
+outlasts r = r.is_recent || is_some r.value
+
+-- the same record, or none where nothing keeps it
 abbrev pub settled : Option (Option (List ℕ)) → Record → Option Record
-settled (Some value) r = Some (record { value = value; is_recent = true; is_requested = false })
-settled None r = if r.is_recent || is_some r.value then Some (record { value = r.value; is_recent = r.is_recent; is_requested = false }) else None
+settled given r = if outlasts (committed given r) then Some (committed given r) else None
 
 abbrev pub with_settled : Option Record → List ℕ → List Row → List Row
 with_settled None key rows = rows

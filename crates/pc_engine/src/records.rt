@@ -1,15 +1,16 @@
 //! The records: what is kept of each key, in slots that rise by key.
 ghost use Rattle.std.specs.Prelude.{◌≡◌, ◌<◌, ◌≤◌, ◌==◌, ◌&&◌, ◌+◌, None, true, false, insert, map, length, IfOk, IfErr, OnOk, OnErr, is_none, option_copied};
-ghost use Rattle.std.specs.Prelude.{slice_index_or};
+ghost use Rattle.std.specs.Prelude.{slice_index_or, slice_set, filter, List, Option, ℕ};
 ghost use Rattle.pc_model.specs.Database.{KeysRise, written};
-ghost use Rattle.pc_engine.specs.Store.{record_of, requested, requested_rows, settled, settled_rows, stored, committed_row, is_full_for};
-ghost use Rattle.pc_engine.specs.Slots.{rows_of, numbers_from, slots_from, settled_slots, freed, AreStillShared, IsMarked};
+ghost use Rattle.pc_engine.specs.Store.{record_of, requested, requested_rows, outlasts, settled, settled_rows, stored, committed_row, is_full_for};
+ghost use Rattle.pc_engine.specs.Slots.{rows_of, numbers_from, slots_from, values_given, with_given, committed_slot, with_writes, freed, AreStillShared, IsMarked};
 ghost use Rattle.pc_model.specs.Places.{IsAt, IsGap};
 
 use crate::writes::written_at;
 use pc_types::{Key, SlotId, Value, Write};
 use std::alloc::{AllocError, Global};
 use std::cmp::Ordering;
+use std::collections::VecDeque;
 use std::marker::Model;
 
 /// What is kept of a key.
@@ -101,9 +102,11 @@ impl Records {
         ensures ok { OnOk result (self.new ≡ record self.old { rows = settled_rows writes.now self.old.rows }) }
         ensures err { OnErr result (self.new ≡ self.old) }
     {
-        let (slots, freed) = settled(alloc, &self.slots, writes)?;
+        let mut values = values_given(alloc, &self.slots, writes)?;
+        let freed = freed(alloc, &self.slots, writes)?;
         self.free.extend_from_slice(&freed)?;
-        self.slots = slots;
+        commit_slots(&mut self.slots, writes, &mut values);
+        drop_spent(&mut self.slots);
         Ok(())
     }
 }
@@ -250,56 +253,113 @@ fn copied(alloc: Global, value: &Option<Value>) -> Result<Option<Value>, AllocEr
     }
 }
 
-// What is kept of the slot's key once the transaction with these writes has committed, or none.
-fn settled_record(
-    alloc: Global,
-    slot: &Slot,
-    writes: &[Write],
-) -> Result<Option<Record>, AllocError>
-    ensures { IfOk result (λ kept. kept ≡ settled (written writes.now slot.now.key) slot.now.kept) }
+// Whether something keeps the record once no request stands on it: a value, or a commit since the last resolve token.
+fn outlasts(kept: &Record) -> bool
+    ensures { result ≡ outlasts kept.now }
 {
-    if let Some(i) = written_at(writes, &slot.key) {
-        let value = copied(alloc, &writes[i].value)?;
-        return Ok(Some(Record {
-            value,
-            is_recent: true,
-            is_requested: false,
-        }));
-    }
-    if !slot.kept.is_recent && slot.kept.value.is_none() {
-        return Ok(None);
-    }
-    let value = copied(alloc, &slot.kept.value)?;
-    Ok(Some(Record {
-        value,
-        is_recent: slot.kept.is_recent,
-        is_requested: false,
-    }))
+    kept.is_recent || kept.value.is_some()
 }
 
-// The slots that stay once the transaction with these writes has committed, and the numbers of the others.
-fn settled(
+// What the writes give to the key.
+fn value_given(
+    alloc: Global,
+    key: &Key,
+    writes: &[Write],
+) -> Result<Option<Option<Value>>, AllocError>
+    ensures { IfOk result (λ given. given ≡ written writes.now key.now) }
+{
+    match written_at(writes, key) {
+        Some(i) => Ok(Some(copied(alloc, &writes[i].value)?)),
+        None => Ok(None),
+    }
+}
+
+// The values that the writes give to the slots, in the slots' order.
+fn values_given(
     alloc: Global,
     slots: &[Slot],
     writes: &[Write],
-) -> Result<(Vec<Slot>, Vec<SlotId>), AllocError>
-    ensures stay { IfOk result (λ r. r.0.items ≡ settled_slots writes.now slots.now) }
-    ensures freed { IfOk result (λ r. r.1.items ≡ freed writes.now slots.now) }
+) -> Result<VecDeque<Option<Value>>, AllocError>
+    ensures { IfOk result (λ values. values.items ≡ values_given writes.now slots.now) }
 {
-    let mut stay = Vec::new(alloc);
-    let mut freed = Vec::new(alloc);
+    let mut values = VecDeque::new(alloc);
     for slot in slots {
-        match settled_record(alloc, slot, writes)? {
-            Some(kept) => {
-                let key = slot.key.copy(alloc)?;
-                stay.push(Slot {
-                    number: slot.number,
-                    key,
-                    kept,
-                })?;
-            }
-            None => freed.push(slot.number)?,
+        if let Some(value) = value_given(alloc, &slot.key, writes)? {
+            values.push_back(value)?;
         }
     }
-    Ok((stay, freed))
+    Ok(values)
+}
+
+// Whether nothing keeps the slot once the transaction with these writes has committed.
+fn is_spent(slot: &Slot, writes: &[Write]) -> bool
+    ensures { result ≡ is_none (settled (written writes.now slot.now.key) slot.now.kept) }
+{
+    match written_at(writes, &slot.key) {
+        Some(_) => false,
+        None => !outlasts(&slot.kept),
+    }
+}
+
+// The numbers of the slots that are spent then.
+fn freed(alloc: Global, slots: &[Slot], writes: &[Write]) -> Result<Vec<SlotId>, AllocError>
+    ensures { IfOk result (λ numbers. numbers.items ≡ freed writes.now slots.now) }
+{
+    let mut numbers = Vec::new(alloc);
+    for slot in slots {
+        if is_spent(slot, writes) {
+            numbers.push(slot.number)?;
+        }
+    }
+    Ok(numbers)
+}
+
+// What the writes give to the key: the next of the values, where it is written.
+fn next_value(
+    key: &Key,
+    writes: &[Write],
+    values: &mut VecDeque<Option<Value>>,
+) -> Option<Option<Value>>
+    ensures { (rest : List (Option (List ℕ))) → values.old.items ≡ with_given (written writes.now key.now) rest
+        → (result ≡ written writes.now key.now) × (values.new.items ≡ rest) }
+{
+    match written_at(writes, key) {
+        Some(_) => values.pop_front(),
+        None => None,
+    }
+}
+
+// No request is left on the slot, and it has the value that it is given.
+fn commit_slot(slots: &mut Vec<Slot>, i: usize, given: Option<Option<Value>>)
+    requires { i < length slots.old.items }
+    ensures { (d : Slot) → slots.new.items ≡ slice_set slots.old.items i (committed_slot given (slice_index_or slots.old.items i d)) }
+{
+    match given {
+        Some(value) => {
+            slots[i].kept = Record {
+                value,
+                is_recent: true,
+                is_requested: false,
+            };
+        }
+        None => slots[i].kept.is_requested = false,
+    }
+}
+
+// The transaction with these writes, which give these values, has committed.
+fn commit_slots(slots: &mut Vec<Slot>, writes: &[Write], values: &mut VecDeque<Option<Value>>)
+    requires { values.old.items ≡ values_given writes.now slots.old.items }
+    ensures { slots.new.items ≡ map (with_writes writes.now) slots.old.items }
+{
+    for i in 0..slots.len() {
+        let given = next_value(&slots[i].key, writes, values);
+        commit_slot(slots, i, given);
+    }
+}
+
+// The slots whose records outlast a commit stay.
+fn drop_spent(slots: &mut Vec<Slot>)
+    ensures { slots.new.items ≡ filter (λ slot. outlasts slot.kept) slots.old.items }
+{
+    slots.retain(|slot| outlasts(&slot.kept));
 }
