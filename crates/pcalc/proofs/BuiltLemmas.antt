@@ -1,0 +1,52 @@
+-- What a line asks is what the engine serves.
+use Rattle.std.specs.Prelude.{◌≡◌, IfOk, Result, Ok, Err, ℕ, Bool, true, false, List, [], ◌∷◌, Option, Some, None, if◌then◌else◌, codes}
+use Rattle.std.specs.Str.{bytes_eq}
+use Rattle.pc_types.specs.declared.Event.{Event}
+use Rattle.pc_types.specs.declared.Event.TheVariants as asked
+use Rattle.pc_types.specs.declared.Refusal.{Refusal}
+use Rattle.pc_engine.specs.Alone.{IsBuilt}
+use Rattle.pcalc.specs.declared.lines.Line.{Line}
+use Rattle.pcalc.specs.declared.lines.Line.TheVariants as line
+use Rattle.pcalc.specs.Words.{number_of, text_of}
+use Rattle.pcalc.specs.Lines.{is_key, is_value, base_line, session_line, get_line, put_line, spelled_by}
+use Rattle.pcalc.specs.Built.{AsksBuilt}
+
+built_if : (b : Bool) (x y : Line) → AsksBuilt x → AsksBuilt y → AsksBuilt (if b then x else y)
+built_if true x y p q = p
+built_if false x y p q = q
+
+built_session : (event : ℕ → Event) (s : Option ℕ) → ((n : ℕ) → IsBuilt (event n)) → AsksBuilt (session_line event s)
+built_session event None h = tt
+built_session event (Some s) h = h s
+
+built_base : (key value : Option (List ℕ)) → AsksBuilt (base_line key value)
+built_base None value = tt
+built_base (Some key) None = tt
+built_base (Some key) (Some value) = built_if (is_key key) _ _ (built_if (is_value value) (line.Sets key value) _ tt tt) tt
+
+built_get : (s : Option ℕ) (key : Option (List ℕ)) → AsksBuilt (get_line s key)
+built_get None key = tt
+built_get (Some s) None = tt
+built_get (Some s) (Some key) = built_if (is_key key) (line.Asks (asked.Get s key)) _ tt tt
+
+built_put : (s : Option ℕ) (key value : Option (List ℕ)) → AsksBuilt (put_line s key value)
+built_put None key value = tt
+built_put (Some s) None value = tt
+built_put (Some s) (Some key) None = tt
+built_put (Some s) (Some key) (Some value) = built_if (is_key key) _ _ (built_if (is_value value) (line.Asks (asked.Put s key value)) _ tt tt) tt
+
+built_words : (words : List (List ℕ)) → AsksBuilt (spelled_by words)
+built_words [] = tt
+built_words (a ∷ []) = tt
+built_words (verb ∷ a ∷ []) =
+    built_if (bytes_eq verb (codes "begin")) _ _ (built_session asked.Begin (number_of a) (λ n. tt))
+    (built_if (bytes_eq verb (codes "commit")) _ line.Malformed (built_session asked.Commit (number_of a) (λ n. tt)) tt)
+built_words (verb ∷ a ∷ b ∷ []) =
+    built_if (bytes_eq verb (codes "get")) _ _ (built_get (number_of a) (text_of b))
+    (built_if (bytes_eq verb (codes "base")) _ line.Malformed (built_base (text_of a) (text_of b)) tt)
+built_words (verb ∷ a ∷ b ∷ c ∷ []) = built_if (bytes_eq verb (codes "put")) _ line.Malformed (built_put (number_of a) (text_of b) (text_of c)) tt
+built_words (a ∷ b ∷ c ∷ d ∷ e ∷ words) = tt
+
+pub built_ok : (r : Result Line Refusal) (words : List (List ℕ)) → IfOk r (λ l. l ≡ spelled_by words) → IfOk r AsksBuilt
+built_ok (Ok l) words is = rw is (built_words words)
+built_ok (Err e) words is = tt

@@ -1,0 +1,7 @@
+pub mod Words
+pub mod Texts
+pub mod Lines
+pub mod Built
+pub mod Scripts
+pub mod Holding
+pub mod Runs

@@ -1,0 +1,78 @@
+-- The lines of a script, their words, and what a line spells.
+use Rattle.std.specs.Prelude.{ℕ, ◌==◌, ◌&&◌, nat_lt, Bool, false, List, [], ◌∷◌, Option, Some, None, if◌then◌else◌, length, map, filter, codes}
+use Rattle.std.specs.List.{slice_split}
+use Rattle.std.specs.Str.{bytes_eq}
+use Rattle.bstr.specs.Text.{lines_of, without_terminator}
+use Rattle.pc_types.specs.declared.Event.{Event}
+use Rattle.pc_types.specs.declared.Event.TheVariants as asked
+use Rattle.pc_types.specs.declared.Refusal.TheVariants as why
+use Rattle.pcalc.specs.declared.lines.Line.{Line}
+use Rattle.pcalc.specs.declared.lines.Line.TheVariants as line
+use Rattle.pcalc.specs.Words.{number_of, text_of}
+
+-- the lines: each ends with a line feed, before which one carriage return is dropped; the last one may lack its line feed
+abbrev pub lines_in : List ℕ → List (List ℕ)
+lines_in script = map without_terminator (lines_of script)
+
+-- the words of a line: the longest runs of bytes other than space
+abbrev pub words_of : List ℕ → List (List ℕ)
+words_of text = filter (λ word. nat_lt 0 (length word)) (slice_split (λ b. b == 32) text)
+
+-- a key has 1 to 255 bytes
+abbrev pub is_key : List ℕ → Bool
+is_key bytes = nat_lt 0 (length bytes) && nat_lt (length bytes) 256
+
+-- a value has at most 65,535 bytes
+abbrev pub is_value : List ℕ → Bool
+is_value bytes = nat_lt (length bytes) 65536
+
+-- a pair of the base, whose key is tested before its value
+abbrev pub base_line : Option (List ℕ) → Option (List ℕ) → Line
+base_line (Some key) (Some value) = if is_key key then (if is_value value then line.Sets key value else line.SetsRefused why.ValueLength) else line.SetsRefused why.KeyLength
+base_line key value = line.Malformed
+
+-- an event of a session alone
+abbrev pub session_line : (ℕ → Event) → Option ℕ → Line
+session_line event (Some session) = line.Asks (event session)
+session_line event None = line.Malformed
+
+abbrev pub get_line : Option ℕ → Option (List ℕ) → Line
+get_line (Some session) (Some key) = if is_key key then line.Asks (asked.Get session key) else line.AsksRefused why.KeyLength
+get_line session key = line.Malformed
+
+-- a put, whose key is tested before its value
+abbrev pub put_line : Option ℕ → Option (List ℕ) → Option (List ℕ) → Line
+put_line (Some session) (Some key) (Some value) =
+    if is_key key then (if is_value value then line.Asks (asked.Put session key value) else line.AsksRefused why.ValueLength) else line.AsksRefused why.KeyLength
+put_line session key value = line.Malformed
+
+abbrev pub two_words : List ℕ → List ℕ → Line
+two_words verb session =
+    if bytes_eq verb (codes "begin") then session_line asked.Begin (number_of session)
+    else (if bytes_eq verb (codes "commit") then session_line asked.Commit (number_of session) else line.Malformed)
+
+abbrev pub three_words : List ℕ → List ℕ → List ℕ → Line
+three_words verb first second =
+    if bytes_eq verb (codes "get") then get_line (number_of first) (text_of second)
+    else (if bytes_eq verb (codes "base") then base_line (text_of first) (text_of second) else line.Malformed)
+
+abbrev pub four_words : List ℕ → List ℕ → List ℕ → List ℕ → Line
+four_words verb first second third =
+    if bytes_eq verb (codes "put") then put_line (number_of first) (text_of second) (text_of third) else line.Malformed
+
+-- what the words of a line spell
+abbrev pub spelled_by : List (List ℕ) → Line
+spelled_by [] = line.Silent
+spelled_by (verb ∷ a ∷ []) = two_words verb a
+spelled_by (verb ∷ a ∷ b ∷ []) = three_words verb a b
+spelled_by (verb ∷ a ∷ b ∷ c ∷ []) = four_words verb a b c
+spelled_by words = line.Malformed
+
+-- a comment: the first byte is a number sign
+abbrev pub is_comment : List ℕ → Bool
+is_comment [] = false
+is_comment (b ∷ text) = b == 35
+
+-- what a line spells
+abbrev pub spelled : List ℕ → Line
+spelled text = if is_comment text then line.Silent else spelled_by (words_of text)

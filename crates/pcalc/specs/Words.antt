@@ -1,0 +1,58 @@
+-- The words of a script: numbers, and the texts of keys and values.
+use Rattle.std.specs.Prelude.{ℕ, ◌+◌, ◌*◌, ◌-◌, ◌==◌, ◌&&◌, not, nat_lt, Bool, List, [], ◌∷◌, Option, Some, None, if◌then◌else◌, length}
+use Rattle.std.specs.List.{list_all}
+use Rattle.std.specs.Str.{bytes_eq}
+use Rattle.std.specs.Str.Parse.{digits_value}
+
+-- a decimal digit, 0 to 9
+abbrev pub is_digit : ℕ → Bool
+is_digit b = nat_lt 47 b && nat_lt b 58
+
+-- 1 to 9 decimal digits
+abbrev pub is_numeral : List ℕ → Bool
+is_numeral word = nat_lt 0 (length word) && nat_lt (length word) 10 && list_all is_digit word
+
+-- the number that a word writes; none where it isn't 1 to 9 decimal digits
+abbrev pub number_of : List ℕ → Option ℕ
+number_of word = if is_numeral word then Some (digits_value 10 word) else None
+
+-- a byte that stands for itself: 0x21 to 0x7E, but not the backslash
+abbrev pub is_plain : ℕ → Bool
+is_plain b = nat_lt 32 b && nat_lt b 127 && not (b == 92)
+
+-- the value of a hexadecimal digit, 0 to 9 or a to f in lower case
+abbrev pub hex_value : ℕ → Option ℕ
+hex_value b = if is_digit b then Some (b - 48) else (if nat_lt 96 b && nat_lt b 103 then Some (b - 87) else None)
+
+-- the byte of two hexadecimal digits
+abbrev pub hex_byte : Option ℕ → Option ℕ → Option ℕ
+hex_byte (Some high) (Some low) = Some (high * 16 + low)
+hex_byte high low = None
+
+-- the byte that an escape stands for: a backslash, an x and two hexadecimal digits
+abbrev pub escaped : ℕ → ℕ → ℕ → ℕ → Option ℕ
+escaped b x high low = if b == 92 && x == 120 then hex_byte (hex_value high) (hex_value low) else None
+
+-- the text with the byte in front
+abbrev pub with_byte : ℕ → Option (List ℕ) → Option (List ℕ)
+with_byte b None = None
+with_byte b (Some text) = Some (b ∷ text)
+
+-- the text with a plain byte in front
+abbrev pub with_plain : ℕ → Option (List ℕ) → Option (List ℕ)
+with_plain b text = if is_plain b then with_byte b text else None
+
+-- the text with the escape's byte in front, or the other one where there is no escape
+abbrev pub with_escape : Option ℕ → Option (List ℕ) → Option (List ℕ) → Option (List ℕ)
+with_escape (Some b) text other = with_byte b text
+with_escape None text other = other
+
+-- the bytes that a word of plain bytes and escapes stands for
+abbrev pub unescaped : List ℕ → Option (List ℕ)
+unescaped [] = Some []
+unescaped (b ∷ x ∷ high ∷ low ∷ word) = with_escape (escaped b x high low) (unescaped word) (with_plain b (unescaped (x ∷ high ∷ low ∷ word)))
+unescaped (b ∷ word) = with_plain b (unescaped word)
+
+-- the text of a key or value word: a hyphen alone stands for no bytes
+abbrev pub text_of : List ℕ → Option (List ℕ)
+text_of word = if bytes_eq word (45 ∷ []) then Some [] else unescaped word
