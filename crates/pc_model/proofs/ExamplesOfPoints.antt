@@ -26,6 +26,7 @@ examples_of_points = record {
   removal_of_a_missing_key_runs = record { legal = legal_run plain removal_of_a_missing_key refl; by_replies = refl; by_log = refl; leaves = refl };
   removal_of_a_missing_key_state_1 = record { covers = refl; gives = refl; replayed = refl };
   commits_before_and_after_the_seal_runs = record { legal = legal_run plain commits_before_and_after_the_seal refl; by_replies = refl; by_log = refl; leaves = refl };
+  commits_before_and_after_the_seal_state_1 = record { covers = refl; gives = refl; replayed = refl };
   abort_in_prepare_runs = record { legal = legal_run (holding a v1 plain) abort_in_prepare refl; by_replies = refl; by_log = refl; leaves = refl };
   abort_in_prepare_state_1 = record { covers = refl; gives = refl; replayed = refl };
   abort_in_prepare_is_not_quiet = λ e. cc;

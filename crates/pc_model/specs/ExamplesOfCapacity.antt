@@ -73,14 +73,14 @@ abbrev pub keys_of_the_base_are_occupied : List Step
 keys_of_the_base_are_occupied = step (asked.Begin 1) (told.Begun 1)
     ∷ step (asked.Begin 2) (told.Begun 2)
     ∷ step (asked.Put 1 a v1) told.Ok
+    ∷ step (asked.Get 2 x) (told.Refused why.Full)
     ∷ step (asked.Put 2 a v2) told.Died
     ∷ step (asked.Abort 2) told.Aborted
     ∷ step (asked.Begin 2) (told.Begun 3)
-    ∷ step (asked.Get 2 k) (told.Found v5)
-    ∷ step (asked.Get 2 x) (told.Refused why.Full)
     ∷ step (asked.Abort 1) told.Aborted
     ∷ step (asked.Get 2 x) told.Absent
     ∷ step (asked.Get 2 a) (told.Refused why.Full)
+    ∷ step (asked.Get 2 k) (told.Found v5)
     ∷ step (asked.Commit 2) (told.Committed 1)
     ∷ []
 

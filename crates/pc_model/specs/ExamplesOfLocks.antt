@@ -137,9 +137,22 @@ age_goes_by_begin = step (asked.Begin 2) (told.Begun 1)
     ∷ step (asked.Put 2 k v7) told.Ok
     ∷ step (asked.Get 2 k) (told.Found v7)
     ∷ step (asked.Begin 1) (told.Begun 3)
-    ∷ step (asked.Put 1 k v8) told.Died
+    ∷ step (asked.Get 1 k) told.Died
     ∷ step (asked.Abort 1) told.Aborted
     ∷ step (asked.Commit 2) (told.Committed 1)
+    ∷ []
+
+-- A request that died stands in no queue: once the lock is free, a younger transaction may have it.
+abbrev pub death_leaves_no_request : List Step
+death_leaves_no_request = step (asked.Begin 1) (told.Begun 1)
+    ∷ step (asked.Begin 2) (told.Begun 2)
+    ∷ step (asked.Put 1 k v6) told.Ok
+    ∷ step (asked.Get 2 k) told.Died
+    ∷ step (asked.Commit 1) (told.Committed 1)
+    ∷ step (asked.Begin 1) (told.Begun 3)
+    ∷ step (asked.Put 1 k v7) told.Ok
+    ∷ step (asked.Abort 2) told.Aborted
+    ∷ step (asked.Commit 1) (told.Committed 2)
     ∷ []
 
 -- Locks: who waits, who dies, and what is granted when a transaction ends.
@@ -152,3 +165,4 @@ pub record ExamplesOfLocks : Type 0 where
   pub several_wait_runs : RunsTo (holding k v5 plain) several_wait ([]) ((k, v7) ∷ [])
   pub locks_stand_until_the_end_runs : RunsTo plain locks_stand_until_the_end ([]) ((a, v1) ∷ (b, v2) ∷ [])
   pub age_goes_by_begin_runs : RunsTo (holding k v5 plain) age_goes_by_begin ([]) ((k, v7) ∷ [])
+  pub death_leaves_no_request_runs : RunsTo (holding k v5 plain) death_leaves_no_request ([]) ((k, v7) ∷ [])

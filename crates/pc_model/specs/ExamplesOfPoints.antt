@@ -154,7 +154,9 @@ commits_before_and_after_the_seal = step (asked.Begin 1) (told.Begun 1)
     ∷ step asked.Seal (told.Phase Resolve 1)
     ∷ step (asked.Commit 1) (told.Committed 5)
     ∷ step asked.OpenCapture (told.Phase Capture 1)
+    ∷ step asked.Done (told.NotYet 1)
     ∷ step asked.Take (told.Took a (Some v2))
+    ∷ step asked.Done (told.PartDone 1 1 1)
     ∷ []
 
 -- A write aborted in prepare hides no later commit of the key before the seal.
@@ -265,7 +267,8 @@ pub record ExamplesOfPoints : Type 0 where
   pub abort_in_capture_state_1 : LaysTo plain abort_in_capture 1 1 ((a, v1) ∷ [])
   pub removal_of_a_missing_key_runs : RunsTo plain removal_of_a_missing_key ((1 ∷ [], lacks z 1 ∷ []) ∷ []) ([])
   pub removal_of_a_missing_key_state_1 : LaysTo plain removal_of_a_missing_key 1 1 ([])
-  pub commits_before_and_after_the_seal_runs : RunsTo plain commits_before_and_after_the_seal ([]) ((a, v3) ∷ [])
+  pub commits_before_and_after_the_seal_runs : RunsTo plain commits_before_and_after_the_seal ((1 ∷ [], has a 1 v2 ∷ []) ∷ []) ((a, v3) ∷ [])
+  pub commits_before_and_after_the_seal_state_1 : LaysTo plain commits_before_and_after_the_seal 1 1 ((a, v2) ∷ [])
   pub abort_in_prepare_runs : RunsTo (holding a v1 plain) abort_in_prepare ((1 ∷ [], has a 1 v7 ∷ []) ∷ []) ((a, v7) ∷ [])
   pub abort_in_prepare_state_1 : LaysTo (holding a v1 plain) abort_in_prepare 1 1 ((a, v7) ∷ [])
   pub abort_in_prepare_is_not_quiet : IsNoQuietRun (holding a v1 plain) abort_in_prepare

@@ -60,3 +60,40 @@ fn lay_one(
     }
     put(alloc, pairs, &triple.key, &triple.content)
 }
+
+#[cfg(test)]
+mod tests {
+    use super::*;
+    use pc_types::Refusal;
+    use std::test::Fail;
+
+    fn triple(
+        alloc: Global,
+        key: &[u8],
+        point: u16,
+        content: Option<&[u8]>,
+    ) -> Result<Triple, Refusal> {
+        let key = Key::new(alloc, key)?;
+        let content = match content {
+            Some(bytes) => Some(Value::new(alloc, bytes)?),
+            None => None,
+        };
+        Ok(Triple {
+            key,
+            point: Point(point),
+            content,
+        })
+    }
+
+    // On a base at point 1 a triple of point 1 is not laid, one of point 2 is.
+    #[test]
+    fn lays_what_is_above_the_base(rt: HostRuntime) -> Result<(), Fail> {
+        let mut triples = Vec::new(rt.alloc());
+        triples.push(triple(rt.alloc(), b"a", 1, Some(b"1".as_slice()))?)?;
+        triples.push(triple(rt.alloc(), b"b", 2, Some(b"2".as_slice()))?)?;
+        let base = Pairs::new(rt.alloc());
+        let laid = lay_plain(rt.alloc(), &base, Point(1), triples.as_slice())?;
+        assert_eq!(rt; laid.len(), 1);
+        Ok(())
+    }
+}

@@ -91,3 +91,79 @@ pub fn state_at(
     let n = front_len(log, point);
     after(alloc, base, &log[..n])
 }
+
+#[cfg(test)]
+mod tests {
+    use super::*;
+    use pc_types::{Items, Refusal, SessionNo};
+    use std::test::Fail;
+
+    fn write(alloc: Global, key: &[u8], value: Option<&[u8]>) -> Result<Write, Refusal> {
+        let key = Key::new(alloc, key)?;
+        let value = match value {
+            Some(bytes) => Some(Value::new(alloc, bytes)?),
+            None => None,
+        };
+        Ok(Write { key, value })
+    }
+
+    // Adds a commit of one write.
+    fn push_commit(
+        alloc: Global,
+        log: &mut Vec<Entry>,
+        key: &[u8],
+        value: Option<&[u8]>,
+    ) -> Result<(), Refusal> {
+        let mut writes = Items::new(alloc);
+        writes.push(write(alloc, key, value)?)?;
+        log.push(Entry::Commit(SessionNo(1), writes))?;
+        Ok(())
+    }
+
+    // Two commits, the second one behind the point's token.
+    fn log_over_a_point(alloc: Global) -> Result<Vec<Entry>, Refusal> {
+        let mut log = Vec::new(alloc);
+        push_commit(alloc, &mut log, b"b", Some(b"1".as_slice()))?;
+        log.push(Entry::Token(Phase::Prepare, Point(1)))?;
+        log.push(Entry::Token(Phase::Resolve, Point(1)))?;
+        push_commit(alloc, &mut log, b"b", None)?;
+        Ok(log)
+    }
+
+    #[test]
+    fn front_ends_at_the_token(rt: HostRuntime) -> Result<(), Fail> {
+        let log = log_over_a_point(rt.alloc())?;
+        assert_eq!(rt; front_len(log.as_slice(), Point(1)), 2);
+        assert_eq!(rt; front_len(log.as_slice(), Point(2)), 4);
+        Ok(())
+    }
+
+    #[test]
+    fn replays_to_the_point(rt: HostRuntime) -> Result<(), Fail> {
+        let log = log_over_a_point(rt.alloc())?;
+        let base = Pairs::new(rt.alloc());
+        let state = state_at(rt.alloc(), &base, log.as_slice(), Point(1))?;
+        assert_eq!(rt; state.len(), 1);
+        Ok(())
+    }
+
+    #[test]
+    fn replays_to_the_end(rt: HostRuntime) -> Result<(), Fail> {
+        let log = log_over_a_point(rt.alloc())?;
+        let base = Pairs::new(rt.alloc());
+        let left = after(rt.alloc(), &base, log.as_slice())?;
+        assert_eq!(rt; left.len(), 0);
+        Ok(())
+    }
+
+    #[test]
+    fn applies_a_write(rt: HostRuntime) -> Result<(), Fail> {
+        let set = write(rt.alloc(), b"a", Some(b"1".as_slice()))?;
+        let mut pairs = Pairs::new(rt.alloc());
+        apply(rt.alloc(), &mut pairs, &set)?;
+        assert_eq!(rt; pairs.len(), 1);
+        apply_all(rt.alloc(), &mut pairs, &[])?;
+        assert_eq!(rt; pairs.len(), 1);
+        Ok(())
+    }
+}
