@@ -6,6 +6,8 @@ mod options;
 mod run;
 mod script;
 mod setup;
+#[cfg(test)]
+mod tests;
 mod texts;
 mod words;
 

@@ -4,7 +4,7 @@ ghost use Rattle.std.specs.declared.result.Result.{Result};
 ghost use Rattle.std.specs.Io.KnownBytes.{Appends, Keeps};
 ghost use Rattle.pc_types.specs.declared.refusal.Refusal.{Refusal};
 ghost use Rattle.pc_types.specs.Names.{name_of};
-ghost use Rattle.pc_types.specs.Tallies.{inner_of, Puts};
+ghost use Rattle.pc_types.specs.Tallies.{inner_of, failures_of, Puts};
 ghost use Rattle.pcalc.specs.declared.script.Status.{Status};
 ghost use Rattle.pcalc.specs.Scripts.{IsAnswered};
 ghost use Rattle.pcalc.specs.Runs.{exit_of, report_text};
@@ -39,6 +39,7 @@ pub fn run_script<R: Read + Drop, W: Write, E: Write>(
     ensures answered { ¬ (result ≡ 1) → IfOk opened (λ reader. IfSome (R.remaining reader) (λ script.
         (status : Status) × (text : List ℕ) × (result ≡ exit_of status)
         × Appends (W.contents (inner_of out.old)) (W.contents (inner_of out.new)) text × IsAnswered setup script status text)) }
+    ensures sound { ¬ (result ≡ 1) → failures_of out.new ≡ failures_of out.old }
     ensures quiet { ¬ (result ≡ 1) → Keeps (E.contents (inner_of errors.old)) (E.contents (inner_of errors.new)) }
     ensures told { IfErr opened (λ why. (result ≡ 1)
         × ((told : Result (Unit {0}) Refusal) × Puts E.contents errors.old errors.new told (report_text name.now why))) }
@@ -72,6 +73,7 @@ fn answer_opened<R: Read + Drop, W: Write>(
     ensures opened { OnOk result (IsOk opened) }
     ensures answered { IfOk result (λ status. IfOk opened (λ reader. IfSome (R.remaining reader) (λ script. (text : List ℕ)
         × Appends (W.contents (inner_of out.old)) (W.contents (inner_of out.new)) text × IsAnswered setup script status text))) }
+    ensures sound { OnOk result (failures_of out.new ≡ failures_of out.old) }
     ensures unopened { IfErr opened (λ why. result ≡ Err (Fault.Script why)) }
 {
     let script = match read_opened(alloc, opened) {

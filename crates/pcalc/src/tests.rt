@@ -1,0 +1,277 @@
+//! Whole scripts, over readers and writers in memory.
+ghost use Rattle.std.specs.Prelude.{◌≤◌, length, IfOk};
+
+use crate::run::run_script;
+use crate::setup::Setup;
+use pc_types::{Refusal, Tally};
+use std::alloc::{AllocError, Global};
+use std::io;
+use std::io::{ErrorKind, Read, Write};
+use std::test::Fail;
+
+// The status of a script, what it prints, and what it tells of a fault.
+fn ran(alloc: Global, capacity: u32, script: &[u8]) -> (u8, Vec<u8>, Vec<u8>)
+    requires { (1 ≤ capacity) × (capacity ≤ 1048576) }
+{
+    let mut out = Tally::new(Vec::new(alloc));
+    let mut errors = Tally::new(Vec::new(alloc));
+    let setup = Setup { run: 1, capacity };
+    let status = run_script(alloc, setup, "s", Ok(script), &mut out, &mut errors);
+    (status, out.into_inner(), errors.into_inner())
+}
+
+// The front, so many times the byte, and the back.
+fn stretched(
+    alloc: Global,
+    front: &[u8],
+    byte: u8,
+    count: usize,
+    back: &[u8],
+) -> Result<Vec<u8>, AllocError> {
+    let mut text = Vec::from_slice(alloc, front)?;
+    for _ in 0..count {
+        text.push(byte)?;
+    }
+    text.extend_from_slice(back)?;
+    Ok(text)
+}
+
+#[test]
+fn answers_a_session(rt: HostRuntime) {
+    let script =
+        "begin 1\nget 1 a\nput 1 a 1\nget 1 a\ncommit 1\nbase b 2\nbegin 1\nget 1 a\nput 1 - x\nfrob\ncommit 1\n";
+    let want =
+        "begun 1\nabsent\nok\n= 1\ncommitted 1\nrefused WrongPhase\nbegun 2\n= 1\nrefused KeyLength\nbad line\ncommitted 2\n";
+    let (status, out, errors) = ran(rt.alloc(), 1024, script.as_bytes());
+    assert_eq!(rt; out.as_slice(), want.as_bytes());
+    assert_eq!(rt; status, 3);
+    assert_eq!(rt; errors.len(), 0);
+}
+
+#[test]
+fn answers_scripts(rt: HostRuntime) {
+    let cases = [
+        ("", "", 0),
+        ("\n  \n# frob\n#\n", "", 0),
+        (" # frob\n", "bad line\n", 3),
+        (
+            "get 9 k\nget 1 k\n",
+            "refused NoSession\nrefused NoTransaction\n",
+            0,
+        ),
+        (
+            "begin 1\nbegin 1\ncommit 1\ncommit 1\n",
+            "begun 1\nrefused AlreadyBegun\ncommitted 1\nrefused NoTransaction\n",
+            0,
+        ),
+        (
+            "begin 0\nbegin 256\nbegin 257\nbegin 65536\n",
+            "refused NoSession\nrefused NoSession\nrefused NoSession\nrefused NoSession\n",
+            0,
+        ),
+        ("begin 000000001\n", "begun 1\n", 0),
+        (
+            "begin 0000000001\nbegin +1\nbegin 1a\nbegin\nbegin 1 1\n",
+            "bad line\nbad line\nbad line\nbad line\nbad line\n",
+            3,
+        ),
+        ("begin 1\r\ncommit 1\r\n", "begun 1\ncommitted 1\n", 0),
+        ("begin 1\ncommit 1", "begun 1\ncommitted 1\n", 0),
+        ("begin 1\ncommit 1\r", "begun 1\nbad line\n", 3),
+        ("begin 1\r\r\nbegin\t1\n", "bad line\nbad line\n", 3),
+        ("  begin   1  \n", "begun 1\n", 0),
+        (
+            "begin 1\nput 1 \\x41 \\x5cB\\x00\nget 1 A\n",
+            "begun 1\nok\n= \\x5cB\\x00\n",
+            0,
+        ),
+        (
+            "begin 1\nput 1 a -\nget 1 a\nput 1 a \\x2d\nget 1 a\n",
+            "begun 1\nok\n= -\nok\n= \\x2d\n",
+            0,
+        ),
+        (
+            "begin 1\nget 1 \\x4A\nget 1 \\q\nget 1 \\x4\nget 1 \\\n",
+            "begun 1\nbad line\nbad line\nbad line\nbad line\n",
+            3,
+        ),
+        (
+            "put x - y\nput 1 - \\q\nput 1 - y\n",
+            "bad line\nbad line\nrefused KeyLength\n",
+            3,
+        ),
+        (
+            "base a 1\nbase a 2\n\nbase - x\nbase b 3\nbegin 1\nget 1 a\nget 1 b\nget 1 c\n",
+            "ok\nok\nrefused KeyLength\nok\nbegun 1\n= 2\n= 3\nabsent\n",
+            0,
+        ),
+        ("base a\nbase b 1\n", "bad line\nrefused WrongPhase\n", 3),
+        (
+            "put 1 - x\nbase b 1\n",
+            "refused KeyLength\nrefused WrongPhase\n",
+            0,
+        ),
+        ("del 1 a\nbegin 1\n", "bad line\nbegun 1\n", 3),
+    ];
+    for (script, want, wanted) in cases {
+        let (status, out, errors) = ran(rt.alloc(), 1024, script.as_bytes());
+        assert_eq!(rt; out.as_slice(), want.as_bytes(), "{script:?}");
+        assert_eq!(rt; status, wanted, "{script:?}");
+        assert_eq!(rt; errors.len(), 0);
+    }
+}
+
+#[test]
+fn fills_up(rt: HostRuntime) {
+    let (status, out, _) = ran(
+        rt.alloc(),
+        1,
+        b"base a 1\nbase b 2\nbase a 3\nbegin 1\nget 1 b\nput 1 b 2\nget 1 a\n",
+    );
+    assert_eq!(rt;
+        out.as_slice(),
+        b"ok\nrefused Full\nok\nbegun 1\nrefused Full\nrefused Full\n= 3\n".as_slice()
+    );
+    assert_eq!(rt; status, 0);
+}
+
+#[test]
+fn tests_lengths(rt: HostRuntime) -> Result<(), Fail> {
+    let alloc = rt.alloc();
+    for (front, count, back, want) in [
+        ("begin 1\nget 1 ", 255, "\n", "begun 1\nabsent\n"),
+        ("begin 1\nget 1 ", 256, "\n", "begun 1\nrefused KeyLength\n"),
+        ("begin 1\nput 1 k ", 65535, "\n", "begun 1\nok\n"),
+        (
+            "begin 1\nput 1 k ",
+            65536,
+            "\n",
+            "begun 1\nrefused ValueLength\n",
+        ),
+        (
+            "begin 1\nput 1 - ",
+            65536,
+            "\n",
+            "begun 1\nrefused KeyLength\n",
+        ),
+        (
+            "base k ",
+            65536,
+            "\nbase k 1\n",
+            "refused ValueLength\nok\n",
+        ),
+    ] {
+        let script = stretched(alloc, front.as_bytes(), b'a', count, back.as_bytes())?;
+        let (status, out, _) = ran(alloc, 1024, &script);
+        assert_eq!(rt; out.as_slice(), want.as_bytes(), "{front:?} {count}");
+        assert_eq!(rt; status, 0);
+    }
+    Ok(())
+}
+
+// Gives so many bytes of a line, and then fails.
+#[derive(Drop)]
+struct Torn {
+    left: usize,
+}
+
+impl Read for Torn {
+    fn read(&mut self, buf: &mut [u8]) -> io::Result<usize> {
+        if self.left == 0 || buf.is_empty() {
+            return Err(ErrorKind::Other.into());
+        }
+        self.left -= 1;
+        buf[0] = b'b';
+        Ok(1)
+    }
+}
+
+#[test]
+fn tells_of_a_script_that_cannot_be_read(rt: HostRuntime) {
+    let alloc = rt.alloc();
+    let setup = Setup {
+        run: 1,
+        capacity: 1024,
+    };
+    let mut out = Tally::new(Vec::new(alloc));
+    let mut errors = Tally::new(Vec::new(alloc));
+    assert_eq!(rt;
+        run_script(
+            alloc,
+            setup,
+            "a b",
+            Ok(Torn { left: 3 }),
+            &mut out,
+            &mut errors
+        ),
+        1
+    );
+    let missing: Result<Torn, Refusal> = Err(Refusal::NoFile);
+    assert_eq!(rt;
+        run_script(alloc, setup, "c", missing, &mut out, &mut errors),
+        1
+    );
+    assert_eq!(rt; out.into_inner().len(), 0);
+    assert_eq!(rt;
+        errors.into_inner().as_slice(),
+        b"pcalc: a b: Device\npcalc: c: NoFile\n".as_slice()
+    );
+}
+
+// Takes so many bytes, and then fails.
+#[derive(Drop)]
+struct Narrow {
+    left: usize,
+}
+
+impl Write for Narrow {
+    fn write(&mut self, buf: &[u8]) -> io::Result<usize> {
+        let taken = self.left.min(buf.len());
+        if taken == 0 && !buf.is_empty() {
+            return Err(ErrorKind::Other.into());
+        }
+        self.left -= taken;
+        Ok(taken)
+    }
+
+    fn flush(&mut self) -> io::Result<()> {
+        Ok(())
+    }
+}
+
+#[test]
+fn stops_where_the_output_fails(rt: HostRuntime) {
+    let alloc = rt.alloc();
+    let setup = Setup {
+        run: 1,
+        capacity: 1024,
+    };
+    let script = b"begin 1\nfrob\ncommit 1\n".as_slice();
+    for left in 0..29 {
+        let mut out = Tally::new(Narrow { left });
+        let mut errors = Tally::new(Vec::new(alloc));
+        assert_eq!(rt;
+            run_script(alloc, setup, "s", Ok(script), &mut out, &mut errors),
+            1
+        );
+        assert_eq!(rt; errors.into_inner().len(), 0);
+        assert_eq!(rt; out.failures(), 1);
+    }
+    let mut out = Tally::new(Narrow { left: 29 });
+    let mut errors = Tally::new(Vec::new(alloc));
+    assert_eq!(rt;
+        run_script(alloc, setup, "s", Ok(script), &mut out, &mut errors),
+        3
+    );
+}
+
+// Where memory runs out, each line is answered by its answer or by that refusal, and asking again is allowed.
+#[test]
+fn asks_again_after_want_of_memory(rt: HostRuntime) {
+    let script =
+        "base a 1\nbase a 1\nbegin 1\nput 1 b 2\nput 1 b 2\nget 1 b\nget 1 b\ncommit 1\ncommit 1\n";
+    let (status, out, errors) = ran(rt.alloc(), 16, script.as_bytes());
+    assert!(rt; status == 0 || status == 1);
+    assert!(rt; status == 1 || out.len() > 40);
+    assert!(rt; errors.len() <= 22);
+}
