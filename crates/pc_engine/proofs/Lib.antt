@@ -2,6 +2,7 @@ pub mod WritePlaces
 pub mod Alone
 pub mod Occupied
 pub mod Settling
+pub mod Serial
 pub mod Standing
 pub mod Rising
 pub mod SlotLemmas

@@ -4,14 +4,12 @@ use Rattle.std.proofs.lemmas.List.{take_more, take_all}
 use Rattle.std.proofs.lemmas.Grind.{common_steps}
 use Rattle.pc_types.specs.declared.Event.{Event}
 use Rattle.pc_types.specs.declared.Reply.{Reply}
-use Rattle.pc_model.specs.Maps as map_of
 use Rattle.pc_model.specs.History.{History}
-use Rattle.pc_model.specs.Log.{after}
 use Rattle.pc_model.specs.Replies.{Setting, IsLegalHistory}
-use Rattle.pc_model.proofs.RightReads.{reads_right}
+use Rattle.pc_engine.proofs.Serial.{is_serial}
 use Rattle.pc_engine.specs.Alone.{IsBuilt, AreBuilt}
 use Rattle.pc_engine.specs.Store.{Store, setting_of}
-use Rattle.pc_engine.specs.Stands.{Stands, Follows, IsSerial}
+use Rattle.pc_engine.specs.Stands.{Stands, Follows}
 use Rattle.pc_engine.specs.Runs.{IsRun, history_after}
 
 -- each event of the list is built
@@ -41,13 +39,6 @@ goes_on w new events i replies more e r lt is pushed even stands follows =
     let next : history_after [] (take (i + 1) events) more ≡ record { event = e; reply = r } ∷ history_after [] (take i events) replies =
     ap (λ es. history_after [] es more) longer ∙ ap (history_after [] (take i events ++ e ∷ [])) pushed ∙ history_after-push [] (take i events) replies e r even in
     (rw (longer, pushed) (grind (arith, common_steps, even)), rw next (follows (history_after [] (take i events) replies) stands).stands)
-
--- serial truth holds of a world that stands after a history
-pub is_serial : (w : Store) (history : History) → Stands w history → IsSerial w history
-is_serial w history stands = record {
-  contents = λ key. stands.parts.records.stored key ∙ ap (λ log. map_of.get (after w.base.pairs log) key) (sym stands.parts.log);
-  reads = reads_right (setting_of w) history stands.single stands.legal;
-}
 
 -- and ends after the last
 pub ended : (st : Setting) (w : Store) (events : List Event) (i : ℕ) (replies : List Reply) → length events ≤ i → setting_of w ≡ st → length replies ≡ length (take i events) →

@@ -19,6 +19,7 @@ use Rattle.pc_model.proofs.Effects.{refused_does_nothing, first_refusal_refuses}
 use Rattle.pc_model.proofs.Logs.{after-append}
 use Rattle.std.specs.FinMap.{find}
 use Rattle.pc_engine.proofs.Rising.{rows_rise}
+use Rattle.pc_engine.proofs.Serial.{is_serial}
 use Rattle.pc_model.specs.History.{History, effect, contents, log_of, begun, is_open, writes_of, number_of, has_died, entries_by, begun_by, open_by, writes_by}
 use Rattle.pc_model.specs.History.Effect.{Nothing}
 use Rattle.pc_model.specs.Locks.{outcome, queue_of, queue_by, is_waiting}
@@ -110,10 +111,13 @@ owes_follows : (old new : Store) (h : History) (event : Event) (reply : Reply) (
 owes_follows old new h event reply Done cs stands same step done = by_cause (first_refusal cs) refl (first_refusal_refuses cs) step
   where
     goes_on : IsLegal (setting_of old) h event reply → setting_of new ≡ setting_of old → IsReadOff new (record { event = event; reply = reply } ∷ h) → Follows (setting_of old) h event reply new
-    goes_on legal setting parts = record {
-      legal = legal;
-      stands = record { legal = subst (λ st. IsLegalHistory st (record { event = event; reply = reply } ∷ h)) (sym setting) (legal, stands.legal); single = ap (λ (st : Setting). st.sessions) setting ∙ stands.single; parts = parts };
-    }
+    goes_on legal setting parts =
+        let then : Stands new (record { event = event; reply = reply } ∷ h) = record {
+          legal = subst (λ st. IsLegalHistory st (record { event = event; reply = reply } ∷ h)) (sym setting) (legal, stands.legal);
+          single = ap (λ (st : Setting). st.sessions) setting ∙ stands.single;
+          parts = parts;
+        } in
+        record { legal = legal; stands = then; serial = is_serial new (record { event = event; reply = reply } ∷ h) then }
 
     refused : (r : Refusal) → reply ≡ told.Refused r → new ≡ old → IsReadOff new (record { event = event; reply = reply } ∷ h)
     refused r is unchanged = rw (is, unchanged) (still old h (record { event = event; reply = told.Refused r }) (refused_does_nothing event r) stands.parts)

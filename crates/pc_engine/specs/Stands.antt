@@ -43,16 +43,17 @@ pub record Stands (w : Store) (history : History) : Type 0 where
   pub single : w.sessions ≡ 1
   pub parts : IsReadOff w history
 
--- Legal steps: the reply is legal, and the world stands after the history with this event and reply.
-pub record Follows (st : Setting) (history : History) (event : Event) (reply : Reply) (new : Store) : Type 0 where
-  pub legal : IsLegal st history event reply
-  pub stands : Stands new (record { event = event; reply = reply } ∷ history)
-
 -- Serial truth: each key's committed value is that of the log replayed on the base, and the reads of each committed
 -- transaction are right.
 pub record IsSerial (w : Store) (history : History) : Type 0 where
   pub contents : (key : List ℕ) → stored (record_of w.kept.rows key) ≡ map_of.get (after w.base.pairs w.log) key
   pub reads : HasRightReads w.base.pairs history
+
+-- Legal steps: the reply is legal, the world stands after the history with this event and reply, and serial truth holds of it.
+pub record Follows (st : Setting) (history : History) (event : Event) (reply : Reply) (new : Store) : Type 0 where
+  pub legal : IsLegal st history event reply
+  pub stands : Stands new (record { event = event; reply = reply } ∷ history)
+  pub serial : IsSerial new (record { event = event; reply = reply } ∷ history)
 
 -- a fact for refusals alone
 abbrev pub IfRefused : Reply → Type 0 → Type 0

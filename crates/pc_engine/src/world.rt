@@ -17,6 +17,12 @@ use std::alloc::{AllocError, Global};
 use std::marker::Model;
 use std::mem;
 
+// How many transactions a run may begin.
+const MOST_TRANSACTIONS: u64 = 1_099_511_627_776;
+
+// How many entries the log may have.
+const MOST_ENTRIES: usize = 16_777_216;
+
 /// A store in memory. It answers events, one after the other.
 #[derive(Drop)]
 pub struct World {
@@ -85,8 +91,9 @@ impl World {
         }
     }
 
-    /// Answers one event. For every history that the world stands after, the reply is legal, and the world then stands
-    /// after the history with this event and reply. A refused event changes nothing.
+    /// Answers one event. For every history that the world stands after, the reply is legal, the world then stands after
+    /// the history with this event and reply, and each key's committed value is that of the log replayed on the base.
+    /// A refused event changes nothing.
     pub fn step(&mut self, event: &Event) -> Reply
         requires built { IsBuilt event.now }
         ensures follows { (history : History) → Stands self.old history → Follows (setting_of self.old) history event.now result self.new }
@@ -98,6 +105,7 @@ impl World {
             Event::Get(session, key) => self.get(*session, key),
             Event::Put(session, key, value) => self.put(*session, key, value),
             Event::Commit(session) => self.commit(*session),
+            // The condition leaves no other event.
             _ => Reply::Refused(Refusal::WrongPhase),
         }
     }
@@ -111,7 +119,7 @@ impl World {
         if self.is_open {
             return Reply::Refused(Refusal::AlreadyBegun);
         }
-        if self.begun == 1099511627776 {
+        if self.begun == MOST_TRANSACTIONS {
             return Reply::Refused(Refusal::LogFull);
         }
         self.begun += 1;
@@ -171,7 +179,7 @@ impl World {
         if !self.is_open {
             return Reply::Refused(Refusal::NoTransaction);
         }
-        if self.log.len() == 16777216 {
+        if self.log.len() == MOST_ENTRIES {
             return Reply::Refused(Refusal::LogFull);
         }
         if self.log.reserve(1).is_err() {

@@ -7,6 +7,9 @@ ghost use Rattle.pc_engine.specs.Writes.{IsWrittenAt, IsUnwritten};
 use pc_types::{Key, Value, Write};
 use std::alloc::{AllocError, Global};
 
+// How many keys a transaction may write.
+const MOST_WRITES: usize = 256;
+
 // Where the key is written.
 pub(crate) fn written_at(writes: &[Write], key: &Key) -> Option<usize>
     ensures { MatchOption result (IsUnwritten writes.now key.now) (IsWrittenAt writes.now key.now) }
@@ -33,7 +36,7 @@ fn is_unwritten(writes: &[Write], key: &Key) -> bool
 pub(crate) fn is_one_too_many(writes: &[Write], key: &Key) -> bool
     ensures { result ≡ is_one_too_many writes.now key.now }
 {
-    writes.len() == 256 && is_unwritten(writes, key)
+    writes.len() == MOST_WRITES && is_unwritten(writes, key)
 }
 
 // Adds a write, in the place of the earlier one of its key.
