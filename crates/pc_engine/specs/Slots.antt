@@ -6,6 +6,7 @@ use Rattle.pc_engine.specs.declared.records.Record.{Record}
 use Rattle.pc_engine.specs.declared.records.Slot.{Slot}
 use Rattle.pc_engine.specs.Store.{Row, committed_row, requested, committed, settled}
 
+-- the row in a slot
 abbrev pub row_of : Slot → Row
 row_of slot = (slot.key, slot.kept)
 
@@ -51,10 +52,12 @@ abbrev pub slots_from : ℕ → List (List ℕ × List ℕ) → List Slot
 slots_from n [] = []
 slots_from n (pair ∷ pairs) = record { number = n; key = pair.0; kept = (committed_row pair).1 } ∷ slots_from (n + 1) pairs
 
+-- the slots with this one before them, where a record is left in it
 abbrev pub with_slot : Option Record → Slot → List Slot → List Slot
 with_slot None slot slots = slots
 with_slot (Some r) slot slots = record slot { kept = r } ∷ slots
 
+-- the free numbers with this one before them, where no record is left
 abbrev pub with_freed : Option Record → ℕ → List ℕ → List ℕ
 with_freed None n free = n ∷ free
 with_freed (Some r) n free = free
@@ -63,9 +66,11 @@ with_freed (Some r) n free = free
 abbrev pub committed_slot : Option (Option (List ℕ)) → Slot → Slot
 committed_slot given slot = record slot { kept = committed given slot.kept }
 
+-- the slot once the transaction with these writes has committed
 abbrev pub with_writes : List Write → Slot → Slot
 with_writes writes slot = committed_slot (written writes slot.key) slot
 
+-- the values with this one before them, where the key is written
 abbrev pub with_given : Option (Option (List ℕ)) → List (Option (List ℕ)) → List (Option (List ℕ))
 with_given None values = values
 with_given (Some value) values = value ∷ values

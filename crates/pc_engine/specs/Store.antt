@@ -50,10 +50,12 @@ abbrev pub stored : Option Record → Option (List ℕ)
 stored None = None
 stored (Some r) = r.value
 
+-- a commit since the last resolve token, or since the start, wrote the key
 abbrev pub is_recent : Option Record → Bool
 is_recent None = false
 is_recent (Some r) = r.is_recent
 
+-- a request stands on the key
 abbrev pub is_requested : Option Record → Bool
 is_requested None = false
 is_requested (Some r) = r.is_requested
@@ -84,6 +86,7 @@ outlasts r = r.is_recent || is_some r.value
 abbrev pub settled : Option (Option (List ℕ)) → Record → Option Record
 settled given r = if outlasts (committed given r) then Some (committed given r) else None
 
+-- the rows with this one before them, where a record is left
 abbrev pub with_settled : Option Record → List ℕ → List Row → List Row
 with_settled None key rows = rows
 with_settled (Some r) key rows = (key, r) ∷ rows
@@ -110,6 +113,7 @@ Owes (Some due) old reply new Done = (reply ≡ due) × (new ≡ old)
 abbrev pub open_causes : Store → ℕ → List (Bool × Refusal) → List (Bool × Refusal)
 open_causes w s causes = (no_session (setting_of w) s, why.NoSession) ∷ (not w.is_open, why.NoTransaction) ∷ causes
 
+-- the causes of a begin's refusals
 abbrev pub begin_causes : Store → ℕ → List (Bool × Refusal)
 begin_causes w s = (no_session (setting_of w) s, why.NoSession) ∷ (w.is_open, why.AlreadyBegun) ∷ (w.begun == 1099511627776, why.LogFull) ∷ []
 

@@ -308,7 +308,18 @@ mod tests {
         Some(Event::Put(session, key, value))
     }
 
-    // What the world answers to these words; where memory is wanting it is asked again.
+    // What the world answers to the event; where memory is wanting it is asked again.
+    fn ask_again(world: &mut World, event: &Event) -> (&'static str, u64)
+        requires { IsBuilt event.now }
+    {
+        let first = told(&world.step(event));
+        if first.0 == "OutOfMemory" {
+            return told(&world.step(event));
+        }
+        first
+    }
+
+    // What the world answers to these words; the event is made again where memory was wanting for it.
     fn ask(
         alloc: Global,
         world: &mut World,
@@ -317,15 +328,12 @@ mod tests {
         key: &[u8],
         value: &[u8],
     ) -> (&'static str, u64) {
+        if let Some(event) = event(alloc, word, session, key, value) {
+            return ask_again(world, &event);
+        }
         match event(alloc, word, session, key, value) {
+            Some(event) => ask_again(world, &event),
             None => ("unasked", 0),
-            Some(event) => {
-                let first = told(&world.step(&event));
-                if first.0 == "OutOfMemory" {
-                    return told(&world.step(&event));
-                }
-                first
-            }
         }
     }
 

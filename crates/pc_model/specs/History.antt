@@ -42,10 +42,12 @@ pub data Effect : Type 0 where
   Joins : ℕ → ℕ → Effect
   Nothing : Effect
 
+-- the effect of a begin, by its reply
 abbrev pub effect_of_begin : ℕ → Reply → Effect
 effect_of_begin s (told.Begun t) = Begins s
 effect_of_begin s other = Nothing
 
+-- that of a read
 abbrev pub effect_of_get : ℕ → List ℕ → Reply → Effect
 effect_of_get s key (told.Found value) = Reads s key (Some value)
 effect_of_get s key told.Absent = Reads s key None
@@ -53,32 +55,39 @@ effect_of_get s key told.Wait = Waits s key false
 effect_of_get s key told.Died = Dies s key false
 effect_of_get s key other = Nothing
 
+-- that of a put or a removal
 abbrev pub effect_of_write : ℕ → List ℕ → Option (List ℕ) → Reply → Effect
 effect_of_write s key value told.Ok = Writes s key value
 effect_of_write s key value told.Wait = Waits s key true
 effect_of_write s key value told.Died = Dies s key true
 effect_of_write s key value other = Nothing
 
+-- that of a commit
 abbrev pub effect_of_commit : ℕ → Reply → Effect
 effect_of_commit s (told.Committed lsn) = Commits s
 effect_of_commit s other = Nothing
 
+-- that of an abort
 abbrev pub effect_of_abort : ℕ → Reply → Effect
 effect_of_abort s told.Aborted = Aborts s
 effect_of_abort s other = Nothing
 
+-- that of a change of the phase
 abbrev pub effect_of_move : Reply → Effect
 effect_of_move (told.Phase phase point) = Moves phase point
 effect_of_move other = Nothing
 
+-- that of a take
 abbrev pub effect_of_take : Reply → Effect
 effect_of_take (told.Took key value) = Takes key value
 effect_of_take other = Nothing
 
+-- that of the end of a capture
 abbrev pub effect_of_done : Reply → Effect
 effect_of_done (told.PartDone point file entries) = Shelves point
 effect_of_done other = Nothing
 
+-- that of a join
 abbrev pub effect_of_join : ℕ → ℕ → Reply → Effect
 effect_of_join a b (told.File file points entries) = Joins a b
 effect_of_join a b other = Nothing
@@ -99,6 +108,7 @@ effect_of asked.Done reply = effect_of_done reply
 effect_of asked.Rest reply = effect_of_move reply
 effect_of (asked.Join a b) reply = effect_of_join a b reply
 
+-- the effect of a step
 abbrev pub effect : Step → Effect
 effect step = effect_of step.event step.reply
 
@@ -114,6 +124,7 @@ abbrev pub is_open : ℕ → History → Bool
 is_open s [] = false
 is_open s (step ∷ history) = open_by s (effect step) (is_open s history)
 
+-- the session's writes after this effect, given those before
 abbrev pub writes_by : ℕ → Effect → List Write → List Write
 writes_by s (Begins t) ws = if t == s then [] else ws
 writes_by s (Writes t key value) ws = if t == s then with_write ws (record { key = key; value = value }) else ws
@@ -140,6 +151,7 @@ log_of (step ∷ history) = log_of history ++ entries_by (effect step) history
 abbrev pub contents : Database → History → Database
 contents base history = after base (log_of history)
 
+-- the count of begins after this effect
 abbrev pub begun_by : Effect → ℕ → ℕ
 begun_by (Begins s) n = n + 1
 begun_by other n = n
@@ -149,6 +161,7 @@ abbrev pub begun : History → ℕ
 begun [] = 0
 begun (step ∷ history) = begun_by (effect step) (begun history)
 
+-- the number of the session's last transaction after this effect, given how many were begun before
 abbrev pub number_by : ℕ → Effect → ℕ → ℕ → ℕ
 number_by s (Begins t) so_far n = if t == s then so_far + 1 else n
 number_by s other so_far n = n
@@ -158,6 +171,7 @@ abbrev pub number_of : ℕ → History → ℕ
 number_of s [] = 0
 number_of s (step ∷ history) = number_by s (effect step) (begun history) (number_of s history)
 
+-- the phase after this effect
 abbrev pub phase_by : Effect → Phase → Phase
 phase_by (Moves phase point) was = phase
 phase_by (Shelves point) was = Complete
@@ -168,6 +182,7 @@ abbrev pub phase_of : History → Phase
 phase_of [] = Rest
 phase_of (step ∷ history) = phase_by (effect step) (phase_of history)
 
+-- the point after this effect
 abbrev pub point_by : Effect → ℕ → ℕ
 point_by (Moves phase point) was = point
 point_by (Shelves point) was = point
@@ -192,6 +207,7 @@ class_in Resolve = After
 class_in Capture = After
 class_in Complete = Before
 
+-- the class of the session's last transaction after this effect, given the phase before
 abbrev pub class_by : ℕ → Effect → Phase → Class → Class
 class_by s (Begins t) phase was = if t == s then class_in phase else was
 class_by s other phase was = was
@@ -201,6 +217,7 @@ abbrev pub class_of : ℕ → History → Class
 class_of s [] = Before
 class_of s (step ∷ history) = class_by s (effect step) (phase_of history) (class_of s history)
 
+-- whether a request of the session's last transaction has died, after this effect
 abbrev pub died_by : ℕ → Effect → Bool → Bool
 died_by s (Begins t) was = if t == s then false else was
 died_by s (Dies t key exclusive) was = if t == s then true else was

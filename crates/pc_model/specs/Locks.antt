@@ -112,13 +112,16 @@ abbrev pub waited_for : ℕ → History → Option (List ℕ)
 waited_for s [] = None
 waited_for s (step ∷ history) = waits_by s (effect step) history (waited_for s history)
 
+-- there is a request, and it waits
 abbrev pub is_ungranted : Option Request → Bool
 is_ungranted None = false
 is_ungranted (Some r) = not r.granted
 
+-- the session's transaction has a request of this key that waits
 abbrev pub waits_on : ℕ → History → Option (List ℕ) → Bool
 waits_on s history None = false
 waits_on s history (Some key) = is_ungranted (request_in (queue_of key history) (number_of s history))
 
+-- a request of the session's transaction waits
 abbrev pub is_waiting : ℕ → History → Bool
 is_waiting s history = waits_on s history (waited_for s history)

@@ -65,6 +65,7 @@ abbrev pub later : Option AtPoint → Option AtPoint → Option AtPoint
 later a None = a
 later a (Some b) = Some (newer a b)
 
+-- the triples with these entries joined to them
 abbrev pub joined_entries : Triples → List (List ℕ × AtPoint) → Triples
 joined_entries m [] = m
 joined_entries m (e ∷ es) = insert (joined_entries m es) e.0 (newer (get m e.0) e.1)
@@ -83,6 +84,7 @@ abbrev pub laid_at : Option (List ℕ) → ℕ → Option AtPoint → Option (Li
 laid_at there point None = there
 laid_at there point (Some t) = if nat_lt point t.point then t.content else there
 
+-- the database with these entries laid on it
 abbrev pub laid_entries : Database → ℕ → List (List ℕ × AtPoint) → Database
 laid_entries db point [] = db
 laid_entries db point (e ∷ es) = put (laid_entries db point es) e.0 (laid_at (get db e.0) point (Some e.1))
@@ -91,6 +93,7 @@ laid_entries db point (e ∷ es) = put (laid_entries db point es) e.0 (laid_at (
 abbrev pub laid : Database → ℕ → Triples → Database
 laid db point m = laid_entries db point m.entries
 
+-- the Takes after this effect, given those before
 abbrev pub taken_by : Effect → List (List ℕ × Option (List ℕ)) → List (List ℕ × Option (List ℕ))
 taken_by (Moves phase point) taken = if is_resolve phase then [] else taken
 taken_by (Takes key content) taken = taken ++ (key, content) ∷ []

@@ -28,6 +28,7 @@ pub record Setting : Type 0 where
   pub sessions : ℕ
   pub capacity : ℕ
 
+-- the phases are the same
 abbrev pub same_phase : Phase → Phase → Bool
 same_phase phase.Rest phase.Rest = true
 same_phase phase.Prepare phase.Prepare = true
@@ -36,9 +37,11 @@ same_phase phase.Capture phase.Capture = true
 same_phase phase.Complete phase.Complete = true
 same_phase a b = false
 
+-- the phase is this one
 abbrev pub is_in : Phase → History → Bool
 is_in phase history = same_phase (phase_of history) phase
 
+-- the classes are the same
 abbrev pub same_class : Class → Class → Bool
 same_class Before Before = true
 same_class During During = true
@@ -63,6 +66,7 @@ closed_set history =
     let point = point_of history in
     if has_token point (log_of history) then without (touched point (log_of history)) (map (λ t. t.0) (taken history)) else []
 
+-- the keys written since the last token after this effect, given those before
 abbrev pub written_by : Effect → History → List (List ℕ) → List (List ℕ)
 written_by (Moves phase point) history keys = if is_resolve phase then [] else keys
 written_by (Commits s) history keys = with_keys keys (writes_of s history)
@@ -73,6 +77,7 @@ abbrev pub written_since_token : History → List (List ℕ)
 written_since_token [] = []
 written_since_token (step ∷ history) = written_by (effect step) history (written_since_token history)
 
+-- the keys with the one that the event asks for
 abbrev pub asked_by : Event → List (List ℕ) → List (List ℕ)
 asked_by (asked.Get s key) keys = with_key keys key
 asked_by (asked.Put s key value) keys = with_key keys key
@@ -84,6 +89,7 @@ abbrev pub asked_for : History → List (List ℕ)
 asked_for [] = []
 asked_for (step ∷ history) = asked_by step.event (asked_for history)
 
+-- the list has nothing
 abbrev pub is_empty : {X : Type 0} → List X → Bool
 is_empty [] = true
 is_empty (x ∷ xs) = false
@@ -105,6 +111,7 @@ abbrev pub first_refusal : List (Bool × Refusal) → Option Reply
 first_refusal [] = None
 first_refusal (c ∷ causes) = if c.0 then Some (told.Refused c.1) else first_refusal causes
 
+-- the first reply if there is one, else the second
 abbrev pub or_else : Option Reply → Option Reply → Option Reply
 or_else (Some reply) other = Some reply
 or_else None other = other
@@ -117,6 +124,7 @@ no_session st s = (s == 0) || nat_lt st.sessions s
 abbrev pub too_many : ℕ → List ℕ → History → Bool
 too_many s key history = (length (writes_of s history) == 256) && not (is_some (written (writes_of s history) key))
 
+-- LogFull: the log has as many entries as it may
 abbrev pub log_is_full : History → Bool
 log_is_full history = length (log_of history) == 16777216
 
@@ -134,6 +142,7 @@ write_causes st s key history =
 abbrev pub not_yet : ℕ → Option Reply
 not_yet count = if count == 0 then None else Some (told.NotYet count)
 
+-- WrongPhase: the phase is another
 abbrev pub wrong_phase : Phase → History → Option Reply
 wrong_phase phase history = first_refusal ((not (is_in phase history), why.WrongPhase) ∷ [])
 
@@ -148,6 +157,7 @@ join_causes (Some a) (Some b) =
     (not (a.run == b.run), why.OtherRun) ∷ (conflict a.triples b.triples, why.Conflict) ∷ (nat_lt 4294967295 (map_of.len (joined_file a b).triples), why.Full) ∷ []
 join_causes a b = []
 
+-- the refusal of a join: NoFile and ShelfFull first
 abbrev pub join_refusal : List File → Option File → Option File → Option Reply
 join_refusal shelf a b =
     first_refusal ((is_none a || is_none b, why.NoFile) ∷ (length shelf == 65536, why.ShelfFull) ∷ join_causes a b)
@@ -178,6 +188,7 @@ abbrev pub value_read : Option (Option (List ℕ)) → Option (List ℕ) → Opt
 value_read (Some own) there = own
 value_read None there = there
 
+-- the reply to a read that gives this
 abbrev pub read_reply : Option (List ℕ) → Reply
 read_reply None = told.Absent
 read_reply (Some value) = told.Found value

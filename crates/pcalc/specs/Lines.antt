@@ -36,6 +36,7 @@ abbrev pub session_line : (ℕ → Event) → Option ℕ → Line
 session_line event (Some session) = line.Asks (event session)
 session_line event None = line.Malformed
 
+-- a read
 abbrev pub get_line : Option ℕ → Option (List ℕ) → Line
 get_line (Some session) (Some key) = if is_key key then line.Asks (asked.Get session key) else line.AsksRefused why.KeyLength
 get_line session key = line.Malformed
@@ -46,16 +47,19 @@ put_line (Some session) (Some key) (Some value) =
     if is_key key then (if is_value value then line.Asks (asked.Put session key value) else line.AsksRefused why.ValueLength) else line.AsksRefused why.KeyLength
 put_line session key value = line.Malformed
 
+-- what two words spell
 abbrev pub two_words : List ℕ → List ℕ → Line
 two_words verb session =
     if bytes_eq verb (codes "begin") then session_line asked.Begin (number_of session)
     else (if bytes_eq verb (codes "commit") then session_line asked.Commit (number_of session) else line.Malformed)
 
+-- what three words spell
 abbrev pub three_words : List ℕ → List ℕ → List ℕ → Line
 three_words verb first second =
     if bytes_eq verb (codes "get") then get_line (number_of first) (text_of second)
     else (if bytes_eq verb (codes "base") then base_line (text_of first) (text_of second) else line.Malformed)
 
+-- what four words spell
 abbrev pub four_words : List ℕ → List ℕ → List ℕ → List ℕ → Line
 four_words verb first second third =
     if bytes_eq verb (codes "put") then put_line (number_of first) (text_of second) (text_of third) else line.Malformed

@@ -89,6 +89,7 @@ Prints setup stage (l ∷ lines) text last =
 abbrev pub PrintsFrom : Setup → List (List ℕ) → List ℕ → Stage → Type 0
 PrintsFrom setup lines text last = Prints setup (Reading map_of.empty) lines text last
 
+-- the line is a bad one
 abbrev pub is_malformed : Line → Bool
 is_malformed line.Malformed = true
 is_malformed l = false
