@@ -1,5 +1,5 @@
 //! A script's lines are answered one after the other.
-ghost use Rattle.std.specs.Prelude.{◌≡◌, ◌≤◌, ℕ, List, [], IfOk, IfErr, IfSome, OnErr, MatchResult, if◌then◌else◌};
+ghost use Rattle.std.specs.Prelude.{◌≡◌, ◌≤◌, ◌⊎◌, ℕ, List, [], IfOk, IfErr, IfSome, OnErr, MatchResult, if◌then◌else◌};
 ghost use Rattle.std.specs.Io.KnownBytes.{Appends};
 ghost use Rattle.pc_types.specs.Counted.{HasRisen, AppendsBeginning};
 ghost use Rattle.pc_types.specs.Tallies.{inner_of, failures_of, Puts};
@@ -67,6 +67,7 @@ pub fn answer_script<W: Write>(
         × Appends (W.contents (inner_of out.old)) (W.contents (inner_of out.new)) text × IsAnswered setup script.now status text) }
     ensures in_part { IfErr result (λ e. (text : List ℕ)
         × AppendsBeginning (W.contents (inner_of out.old)) (W.contents (inner_of out.new)) text × IsAnsweredInPart setup script.now text) }
+    ensures refusals { IfErr result (λ e. (e ≡ Refusal.OutOfMemory) ⊎ (e ≡ Refusal.Device)) }
     ensures device { result ≡ Err Refusal.Device → HasRisen (failures_of out.old) (failures_of out.new) }
     ensures sound { ¬ (result ≡ Err Refusal.Device) → failures_of out.new ≡ failures_of out.old }
 {
