@@ -7,7 +7,9 @@ pub mod History
 pub mod Locks
 pub mod Points
 pub mod Files
+pub mod Ranges
 pub mod Replies
+pub mod QuietPoints
 pub mod Reads
 pub mod Laws
 pub mod Laying

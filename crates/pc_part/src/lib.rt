@@ -2,5 +2,7 @@
 #![tactic(auto)]
 
 mod base;
+mod ranges;
 
 pub use base::Base;
+pub use ranges::Range;

@@ -2,7 +2,8 @@
 use Rattle.std.proofs.Common.{◌≡◌, ◌≢◌, ℕ, ◌+◌, ◌<◌, ◌≤◌, ◌==◌, if◌then◌else◌, true, false, List, [], ◌∷◌, ◌++◌, length, get_or, drop, drop-cons, add-one, codes, refl, arith, append_assoc}
 use Rattle.std.proofs.lemmas.Bool.Decides.{nat_tests}
 use Rattle.std.proofs.lemmas.List.{drop_all, append-nil}
-use Rattle.pcalc.specs.Texts.{with_range, range_text, ranges_of, ranges_text}
+use Rattle.pc_model.specs.Ranges.{with_range, ranges_of}
+use Rattle.pcalc.specs.Texts.{range_text, ranges_text}
 
 -- a point that follows on the range joins it
 joins : (low high p : ℕ) (ranges : List (ℕ × ℕ)) → p ≡ high + 1 → with_range low high (with_range p p ranges) ≡ with_range low p ranges

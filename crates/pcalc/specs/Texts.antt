@@ -10,6 +10,7 @@ use Rattle.pc_types.specs.declared.Reply.{Reply}
 use Rattle.pc_types.specs.declared.Reply.TheVariants as told
 use Rattle.pc_types.specs.declared.Refusal.{Refusal}
 use Rattle.pc_types.specs.declared.Refusal.TheVariants as why
+use Rattle.pc_model.specs.Ranges.{ranges_of}
 use Rattle.pcalc.specs.Words.{is_plain}
 
 -- a byte as printed: a plain one as it is, any other one as an escape
@@ -33,16 +34,6 @@ phase_name phase.Prepare = codes "prepare"
 phase_name phase.Resolve = codes "resolve"
 phase_name phase.Capture = codes "capture"
 phase_name phase.Complete = codes "complete"
-
--- the ranges with one more before them, which is joined to the first where that follows on it
-abbrev pub with_range : ℕ → ℕ → List (ℕ × ℕ) → List (ℕ × ℕ)
-with_range low high [] = (low, high) ∷ []
-with_range low high (r ∷ ranges) = if r.0 == high + 1 then (low, r.1) ∷ ranges else (low, high) ∷ r ∷ ranges
-
--- the ranges of points that rise: each from its least to its greatest point
-abbrev pub ranges_of : List ℕ → List (ℕ × ℕ)
-ranges_of [] = []
-ranges_of (p ∷ points) = with_range p p (ranges_of points)
 
 -- a range of one point, or of more
 abbrev pub range_text : ℕ × ℕ → List ℕ

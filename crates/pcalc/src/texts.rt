@@ -3,7 +3,8 @@ ghost use Rattle.std.specs.Prelude.{◌≡◌, ◌<◌, ◌++◌, List, ℕ, cod
 ghost use Rattle.std.specs.List.{flat_map};
 ghost use Rattle.std.specs.Char.{digit_char};
 ghost use Rattle.pc_types.specs.Tallies.{Puts};
-ghost use Rattle.pcalc.specs.Texts.{printed_byte, printed, printed_value, phase_name, range_text, ranges_of, ranges_text, refusal_text, reply_text};
+ghost use Rattle.pc_model.specs.Ranges.{ranges_of};
+ghost use Rattle.pcalc.specs.Texts.{printed_byte, printed, printed_value, phase_name, range_text, ranges_text, refusal_text, reply_text};
 
 use crate::words::is_plain;
 use itoa::Buffer;

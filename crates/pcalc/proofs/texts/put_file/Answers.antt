@@ -1,7 +1,8 @@
 use Rattle.std.proofs.Common.{◌++◌, codes, decimal, Err}
 use Rattle.std.proofs.lemmas.Result.{err_from_is_err_and}
 use Rattle.pc_types.proofs.PutsLemmas.{puts_then, puts_stop}
-use Rattle.pcalc.specs.Texts.{ranges_text, ranges_of}
+use Rattle.pc_model.specs.Ranges.{ranges_of}
+use Rattle.pcalc.specs.Texts.{ranges_text}
 use Rattle.pcalc.proofs.texts.put_file.Goals as goal
 
 pub returns-in_err-put_number : goal.returns-in_err-put_number

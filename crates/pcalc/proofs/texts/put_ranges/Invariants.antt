@@ -1,6 +1,7 @@
 use Rattle.std.proofs.Common.{◌≡◌, ◌<◌, ◌++◌, List, ℕ, drop}
 use Rattle.std.specs.Io.KnownBytes.{Appends}
-use Rattle.pcalc.specs.Texts.{with_range, ranges_of, ranges_text}
+use Rattle.pc_model.specs.Ranges.{with_range, ranges_of}
+use Rattle.pcalc.specs.Texts.{ranges_text}
 use Rattle.pcalc.proofs.texts.put_ranges.Given as goal
 
 abbrev pub invariant-loop-point : goal.invariant-loop-point
