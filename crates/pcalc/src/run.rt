@@ -1,13 +1,15 @@
 //! A run of a script, from its reader to the status.
-ghost use Rattle.std.specs.Prelude.{◌≡◌, ◌++◌, ℕ, List, codes, IsOk, IfOk, IfErr, IfSome, OnOk};
+ghost use Rattle.std.specs.Prelude.{◌≡◌, ◌⊎◌, ◌++◌, ℕ, List, codes, IsOk, IfOk, IfErr, IfSome, OnOk};
 ghost use Rattle.std.specs.declared.result.Result.{Result};
 ghost use Rattle.std.specs.Io.KnownBytes.{Appends, Keeps};
 ghost use Rattle.pc_types.specs.declared.refusal.Refusal.{Refusal};
 ghost use Rattle.pc_types.specs.Names.{name_of};
 ghost use Rattle.pc_types.specs.Tallies.{inner_of, failures_of, Puts};
+ghost use Rattle.pc_types.specs.Counted.{HasRisen};
 ghost use Rattle.pcalc.specs.declared.script.Status.{Status};
+ghost use Rattle.pcalc.specs.declared.script.Status.TheVariants.{NoStore};
 ghost use Rattle.pcalc.specs.Scripts.{IsAnswered};
-ghost use Rattle.pcalc.specs.Runs.{exit_of, report_text};
+ghost use Rattle.pcalc.specs.Runs.{exit_of, report_text, IsScriptFault, IsFault};
 
 use crate::script::{Status, answer_script};
 use crate::setup::Setup;
@@ -26,7 +28,9 @@ enum Fault {
 
 /// Reads a script, answers its lines and gives the exit status: 0 where each line was answered, 3 where some line is a
 /// bad line, and else 1. Where the script isn't there, can't be read or is too large for memory, a line on the error
-/// writer tells; where the output fails, or the store can't be made for want of memory, nothing is told there.
+/// writer tells; where the output fails, or the store can't be made for want of memory, nothing is told there. It gives 1
+/// for no other cause: the script's fault is told, the output's failures have risen, or the lines end with the store not
+/// made.
 pub fn run_script<R: Read + Drop, W: Write, E: Write>(
     alloc: Global,
     setup: Setup,
@@ -43,6 +47,10 @@ pub fn run_script<R: Read + Drop, W: Write, E: Write>(
     ensures quiet { ¬ (result ≡ 1) → Keeps (E.contents (inner_of errors.old)) (E.contents (inner_of errors.new)) }
     ensures told { IfErr opened (λ why. (result ≡ 1)
         × ((told : Result (Unit {0}) Refusal) × Puts E.contents errors.old errors.new told (report_text name.now why))) }
+    ensures cause { result ≡ 1 → HasRisen (failures_of out.old) (failures_of out.new)
+        ⊎ (((why : Refusal) × IsScriptFault opened why × ((told : Result (Unit {0}) Refusal) × Puts E.contents errors.old errors.new told (report_text name.now why)))
+        ⊎ IfOk opened (λ reader. IfSome (R.remaining reader) (λ script. (text : List ℕ)
+        × Appends (W.contents (inner_of out.old)) (W.contents (inner_of out.new)) text × IsAnswered setup script NoStore text))) }
 {
     match answer_opened(alloc, setup, opened, out) {
         Ok(status) => exit_code(status),
@@ -75,6 +83,7 @@ fn answer_opened<R: Read + Drop, W: Write>(
         × Appends (W.contents (inner_of out.old)) (W.contents (inner_of out.new)) text × IsAnswered setup script status text))) }
     ensures sound { OnOk result (failures_of out.new ≡ failures_of out.old) }
     ensures unopened { IfErr opened (λ why. result ≡ Err (Fault.Script why)) }
+    ensures cause { IfErr result (λ fault. IsFault opened (failures_of out.old) (failures_of out.new) fault) }
 {
     let script = match read_opened(alloc, opened) {
         Ok(script) => script,
@@ -97,6 +106,7 @@ fn read_opened<R: Read + Drop>(
     ensures opened { OnOk result (IsOk opened) }
     ensures script { IfOk result (λ bytes. IfOk opened (λ reader. IfSome (R.remaining reader) (λ script. bytes.items ≡ script))) }
     ensures unopened { IfErr opened (λ why. result ≡ Err why) }
+    ensures cause { IfErr result (IsScriptFault opened) }
 {
     match opened {
         Ok(reader) => {
