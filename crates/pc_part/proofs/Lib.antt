@@ -1,0 +1,2 @@
+pub mod RangePoints
+pub mod TakenTriples
