@@ -1,0 +1,102 @@
+//! The text of a part file goes out.
+ghost use Rattle.std.specs.List.{flat_map};
+ghost use Rattle.pc_types.specs.Tallies.{Puts};
+ghost use Rattle.pc_part.specs.Texts.{head_text, bounds_text, triple_text, end_text, part_text};
+
+use crate::part::Part;
+use crate::ranges::Range;
+use byteorder::{BigEndian, ByteOrder};
+use pc_model::Triple;
+use pc_types::{Refusal, Tally};
+use std::io::Write;
+
+const MAGIC: [u8; 8] = *b"PCALCP01";
+
+// The kinds of an entry: a tombstone, and a value.
+const TOMBSTONE: u8 = 0;
+
+const VALUE: u8 = 1;
+
+impl Part {
+    /// Writes the one text of the part. It takes no memory, and refuses with `Device` exactly where the device failed;
+    /// then a beginning of the text went out.
+    pub fn encode<W: Write>(&self, out: &mut Tally<W>) -> Result<(), Refusal>
+        ensures { Puts W.contents out.old out.new result (part_text self.now) }
+    {
+        let run = self.run();
+        let ranges = self.ranges();
+        let entries = self.entries();
+        put_head(out, run, ranges.len() as u32)?;
+        put_ranges(out, ranges)?;
+        put_entries(out, entries)?;
+        put_end(out, entries.len() as u32)
+    }
+}
+
+// What stands before the ranges.
+fn put_head<W: Write>(out: &mut Tally<W>, run: u64, count: u32) -> Result<(), Refusal>
+    ensures { Puts W.contents out.old out.new result (head_text run count) }
+{
+    let mut run_bytes = [0u8; 8];
+    BigEndian::write_u64(&mut run_bytes, run);
+    let mut count_bytes = [0u8; 4];
+    BigEndian::write_u32(&mut count_bytes, count);
+    out.put_all(&[&MAGIC, &run_bytes, &count_bytes])
+}
+
+// One range after the other.
+fn put_ranges<W: Write>(out: &mut Tally<W>, ranges: &[Range]) -> Result<(), Refusal>
+    ensures { Puts W.contents out.old out.new result (flat_map bounds_text ranges.now) }
+{
+    for range in ranges {
+        put_range(out, range)?;
+    }
+    Ok(())
+}
+
+fn put_range<W: Write>(out: &mut Tally<W>, range: &Range) -> Result<(), Refusal>
+    ensures { Puts W.contents out.old out.new result (bounds_text range.now) }
+{
+    let mut numbers = [0u8; 8];
+    BigEndian::write_u32(&mut numbers[..4], u32::from(range.low.0));
+    BigEndian::write_u32(&mut numbers[4..], u32::from(range.high.0));
+    out.put(&numbers)
+}
+
+// One entry after the other.
+fn put_entries<W: Write>(out: &mut Tally<W>, entries: &[Triple]) -> Result<(), Refusal>
+    ensures { Puts W.contents out.old out.new result (flat_map triple_text entries.now) }
+{
+    for entry in entries {
+        put_entry(out, entry)?;
+    }
+    Ok(())
+}
+
+fn put_entry<W: Write>(out: &mut Tally<W>, entry: &Triple) -> Result<(), Refusal>
+    ensures { Puts W.contents out.old out.new result (triple_text entry.now) }
+{
+    let key = entry.key.as_bytes();
+    let mut key_len = [0u8; 2];
+    BigEndian::write_u16(&mut key_len, key.len() as u16);
+    let mut point = [0u8; 4];
+    BigEndian::write_u32(&mut point, u32::from(entry.point.0));
+    match &entry.content {
+        None => out.put_all(&[&key_len, key, &point, &[TOMBSTONE]]),
+        Some(value) => {
+            let value = value.as_bytes();
+            let mut value_len = [0u8; 4];
+            BigEndian::write_u32(&mut value_len, value.len() as u32);
+            out.put_all(&[&key_len, key, &point, &[VALUE], &value_len, value])
+        }
+    }
+}
+
+// The end mark, and how many entries there are.
+fn put_end<W: Write>(out: &mut Tally<W>, count: u32) -> Result<(), Refusal>
+    ensures { Puts W.contents out.old out.new result (end_text count) }
+{
+    let mut numbers = [0u8; 6];
+    BigEndian::write_u32(&mut numbers[2..], count);
+    out.put(&numbers)
+}
