@@ -1,2 +1,3 @@
 pub mod RangePoints
 pub mod TakenTriples
+pub mod PartTexts

@@ -1,2 +1,3 @@
 pub mod Bases
 pub mod Parts
+pub mod Texts

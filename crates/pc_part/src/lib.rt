@@ -3,6 +3,7 @@
 #![tactic(auto)]
 
 mod base;
+mod encoding;
 mod part;
 mod ranges;
 
