@@ -1,2 +1,4 @@
 pub mod Bases
+pub mod Joins
+pub mod Merges
 pub mod Parts

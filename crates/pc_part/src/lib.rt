@@ -2,6 +2,7 @@
 #![tactic(auto)]
 
 mod base;
+mod joining;
 mod ranges;
 
 pub use base::Base;

@@ -1,0 +1,2 @@
+pub mod JoinedLists
+pub mod Merging
