@@ -1,2 +1,4 @@
 pub mod JoinedLists
 pub mod Merging
+pub mod RangePoints
+pub mod TakenTriples

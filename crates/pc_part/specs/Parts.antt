@@ -1,9 +1,14 @@
 -- Part files: the points and the triples that a part stands for, and how both are stored.
-use Rattle.std.specs.Prelude.{ℕ, zero, suc, ◌+◌, ◌-◌, ◌≤◌, List, [], ◌∷◌, ◌++◌, length, map, IsTrue}
+use Rattle.std.specs.Prelude.{ℕ, zero, suc, ◌+◌, ◌-◌, ◌≤◌, List, [], ◌∷◌, ◌++◌, Option, length, map, IsTrue}
+use Rattle.std.specs.List.{All}
+use Rattle.std.specs.Coded.{Coded, code_by, coded×, coded_ℕ, coded_list, coded_option}
+use base.Stored.{coded_unit}
+use mathlib.Core.Path.{refl}
 use Rattle.pc_model.specs.Maps as map_of
 use Rattle.pc_model.specs.Sets as set
 use Rattle.pc_model.specs.Sets.{Set, number_order}
-use Rattle.pc_model.specs.Points.{Triples}
+use Rattle.pc_model.specs.Points.{AtPoint, Triples}
+use Rattle.pc_model.specs.Files.{File}
 use Rattle.pc_model.specs.Laying.{entries_of}
 use Rattle.pc_model.specs.declared.laying.Triple.{Triple}
 use Rattle.pc_part.specs.declared.ranges.Range.{Range}
@@ -31,15 +36,26 @@ RangesFrom least (r ∷ ranges) = (least ≤ r.low) × (r.low ≤ r.high) × (r.
 abbrev pub AreRanges : List Range → Type 0
 AreRanges ranges = (1 ≤ length ranges) × RangesFrom 1 ranges
 
--- each triple is of one of the ranges' points
-abbrev pub AreCovered : List Range → List Triple → Type 0
-AreCovered ranges [] = Unit {0}
-AreCovered ranges (t ∷ triples) = IsTrue (set.contains (points_of ranges) t.point) × AreCovered ranges triples
+-- a range as its first and its last point
+abbrev pub bounds_of : List Range → List (ℕ × ℕ)
+bounds_of ranges = map (λ r. (r.low, r.high)) ranges
+
+-- each triple is of one of the points
+abbrev pub AreCovered : Set number_order → List Triple → Type 0
+AreCovered points triples = All (λ triple. IsTrue (set.contains points triple.point)) triples
 
 -- the triples of a list, by key
 abbrev pub triples_of : List Triple → Triples
 triples_of triples = map_of.from_list (entries_of triples)
 
--- a range as its first and its last point
-abbrev pub bounds_of : List Range → List (ℕ × ℕ)
-bounds_of ranges = map (λ r. (r.low, r.high)) ranges
+-- what was taken for a key, as a triple of the point
+abbrev pub triple_at : ℕ → List ℕ × Option (List ℕ) → Triple
+triple_at point entry = record { key = entry.0; point = point; content = entry.1 }
+
+-- what a key has at a point is stored as the point and the content
+abbrev pub at_point_code : Coded AtPoint
+at_point_code = code_by (ℕ × Option (List ℕ)) (coded× coded_ℕ (coded_option (coded_list coded_ℕ))) (λ a. (a.point, a.content)) (λ t. record { point = t.0; content = t.1 }) (λ _. refl)
+
+-- a file is stored as its run, its points and its triples
+abbrev pub file_code : Coded File
+file_code = code_by (ℕ × (Set number_order × Triples)) (coded× coded_ℕ (coded× (map_of.code coded_ℕ coded_unit) (map_of.code (coded_list coded_ℕ) at_point_code))) (λ f. (f.run, (f.points, f.triples))) (λ t. record { run = t.0; points = t.1.0; triples = t.1.1 }) (λ _. refl)

@@ -1,9 +1,12 @@
-//! The files of the store. Today there is the base, the database that a store starts from.
+//! The files of the store: the base, which is the database that a store starts from, and the parts, which the
+//! checkpoints make.
 #![tactic(auto)]
 
 mod base;
 mod joining;
+mod part;
 mod ranges;
 
 pub use base::Base;
+pub use part::Part;
 pub use ranges::Range;

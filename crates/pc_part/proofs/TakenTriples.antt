@@ -1,0 +1,55 @@
+-- What was taken for a point, as triples of the point.
+use Rattle.std.proofs.Common.{◌≡◌, ℕ, ◌+◌, ◌-◌, ◌&&◌, List, [], ◌∷◌, Option, map, refl, sym, ap, ◌∙◌, arith}
+use Rattle.std.specs.Prelude.{IsTrue}
+use Rattle.std.specs.Ordering.{is_lt}
+use Rattle.std.specs.FinMap.{is_sorted}
+use Rattle.std.specs.FinMap.Entries.{below_all}
+use Rattle.std.proofs.lemmas.Bool.Decides.{nat_tests}
+use Rattle.std.proofs.lemmas.List.Elements.{All-map}
+use Rattle.pc_model.specs.Maps as map_of
+use Rattle.pc_model.specs.Sets as set
+use Rattle.pc_model.specs.Sets.{Set, number_order}
+use Rattle.pc_model.specs.Database.{key_cmp, KeysRise}
+use Rattle.pc_model.specs.Files.{triples_taken}
+use Rattle.pc_model.specs.Laying.{entries_of}
+use Rattle.pc_model.specs.Points.{Triples}
+use Rattle.pc_model.specs.declared.laying.Triple.{Triple}
+use Rattle.pc_model.proofs.PairMaps as pairs
+use Rattle.pc_part.specs.declared.ranges.Range.{Range}
+use Rattle.pc_part.specs.Parts.{points_of, triple_at, triples_of, AreCovered}
+use Rattle.pc_part.proofs.RangePoints.{contains-points_of}
+
+abbrev Taken : Type 0
+Taken = List (List ℕ × Option (List ℕ))
+
+below_same : (point : ℕ) (key : List ℕ) (taken : Taken) → below_all key_cmp key (entries_of (map (triple_at point) taken)) ≡ below_all key_cmp key taken
+below_same point key [] = refl
+below_same point key (t ∷ taken) = ap (λ b. is_lt (key_cmp key t.0) && b) (below_same point key taken)
+
+rise_same : (point : ℕ) (taken : Taken) → is_sorted key_cmp (entries_of (map (triple_at point) taken)) ≡ is_sorted key_cmp taken
+rise_same point [] = refl
+rise_same point (t ∷ taken) = ap (λ b. b && is_sorted key_cmp (entries_of (map (triple_at point) taken))) (below_same point t.0 taken) ∙ ap (λ b. below_all key_cmp t.0 taken && b) (rise_same point taken)
+
+-- the keys rise as they rose
+pub taken_rise : (point : ℕ) (taken : Taken) (triples : List Triple) → triples ≡ map (triple_at point) taken → KeysRise taken → KeysRise (entries_of triples)
+taken_rise point taken triples is rise = rw is (rise_same point taken ∙ rise)
+
+-- the points of one range of one point
+pub one_point : (point : ℕ) (ranges : List Range) → ranges ≡ record { low = point; high = point } ∷ [] → points_of ranges ≡ set.insert set.empty point
+one_point point ranges is = let one : point + 1 - point ≡ 1 = omega arith in rw (is, one) refl
+
+-- all triples are of that point
+pub taken_covered : (point : ℕ) (taken : Taken) (triples : List Triple) (ranges : List Range) → triples ≡ map (triple_at point) taken → ranges ≡ record { low = point; high = point } ∷ [] → AreCovered (points_of ranges) triples
+taken_covered point taken triples ranges is one = rw (is, one) (All-map (λ triple. IsTrue (set.contains (points_of (record { low = point; high = point } ∷ [])) triple.point)) (triple_at point) taken (λ k d lt. contains-points_of (record { low = point; high = point } ∷ []) point ∙ grind (arith, nat_tests)))
+
+triples_same : (point : ℕ) (taken : Taken) → triples_of (map (triple_at point) taken) ≡ triples_taken point taken
+triples_same point [] = refl
+triples_same point (t ∷ taken) = ap (λ m. map_of.insert m t.0 (record { point = point; content = t.1 })) (triples_same point taken)
+
+-- the triples are those of what was taken
+pub taken_triples : (point : ℕ) (taken : Taken) (triples : List Triple) → triples ≡ map (triple_at point) taken → triples_of triples ≡ triples_taken point taken
+taken_triples point taken triples is = rw is (triples_same point taken)
+
+-- rising triples are the entries of their map
+pub entries_known : (inside given : List Triple) (triples : Triples) → KeysRise (entries_of inside) → triples_of inside ≡ triples → given ≡ inside → entries_of given ≡ triples.entries
+entries_known inside given triples rise is same = ap entries_of same ∙ sym (pairs.entries_of (entries_of inside) rise) ∙ ap (λ m. m.entries) is

@@ -1,0 +1,124 @@
+//! Part files: what the keys that a run wrote in some of its points had there.
+ghost use Rattle.std.specs.Prelude.{◌≡◌, ◌≤◌, map, IfOk, IfErr};
+ghost use Rattle.pc_model.specs.Database.{KeysRise};
+ghost use Rattle.pc_model.specs.Files.{triples_taken};
+ghost use Rattle.pc_model.specs.Laying.{entries_of};
+ghost use Rattle.pc_model.specs.Ranges.{ranges_of};
+ghost use Rattle.pc_model.specs.Sets as set;
+ghost use Rattle.pc_part.specs.Bases.{IsWithinLimit};
+ghost use Rattle.pc_part.specs.Parts.{AreCovered, AreRanges, bounds_of, points_of, triple_at, triples_of};
+
+use crate::ranges::Range;
+use pc_model::Triple;
+use pc_types::{Key, Point, Refusal, Value};
+use std::alloc::{AllocError, Global};
+use std::marker::Model;
+
+/// A part file: a run, the points of consistency that it stands for, and for each key that was written in their cycles
+/// the last such point, with what the key had there, a value or nothing. It has at most 4,294,967,295 entries. A
+/// contract sees it as its run, its set of points and its set of triples.
+#[derive(Drop)]
+pub struct Part {
+    run: u64,
+    ranges: Vec<Range>,
+    entries: Vec<Triple>,
+}
+
+impl Model for Part {
+    ghost use Rattle.pc_model.specs.Database.{KeysRise};
+    ghost use Rattle.pc_model.specs.Files.{File};
+    ghost use Rattle.pc_model.specs.Laying.{entries_of};
+    ghost use Rattle.pc_part.specs.Bases.{IsWithinLimit};
+    ghost use Rattle.pc_part.specs.Parts.{AreCovered, AreRanges, file_code, points_of, triples_of};
+
+    ghost Value = { File };
+
+    ghost coded = { file_code };
+
+    ghost view = { λ p. record { run = p.run; points = points_of p.ranges.items; triples = triples_of p.entries.items } };
+
+    ghost invariant = { λ p. AreRanges p.ranges.items × KeysRise (entries_of p.entries.items) × AreCovered (points_of p.ranges.items) p.entries.items × IsWithinLimit p.entries.items };
+}
+
+impl Part {
+    /// The part of one point: each key that was taken for it, with what the key had there, a value or nothing. The
+    /// keys rise strictly, and there are at most 4,294,967,295. Refuses with `OutOfMemory` alone.
+    pub fn of_point(
+        alloc: Global,
+        run: u64,
+        point: Point,
+        entries: Vec<(Key, Option<Value>)>,
+    ) -> Result<Part, Refusal>
+        requires point { 1 ≤ point }
+        requires rise { KeysRise entries.items }
+        requires limit { IsWithinLimit entries.items }
+        ensures part { IfOk result (λ part. part ≡ record { run = run; points = set.insert set.empty point; triples = triples_taken point entries.items }) }
+        ensures memory { IfErr result (λ e. e ≡ Refusal.OutOfMemory) }
+    {
+        let (low, high) = (point, point);
+        let ranges = vec![in alloc; Range { low, high }]?;
+        let entries = triples_at(alloc, point, entries)?;
+        Ok(Part::from_lists(run, ranges, entries))
+    }
+
+    /// The part of these points with these entries.
+    pub(crate) fn from_lists(run: u64, ranges: Vec<Range>, entries: Vec<Triple>) -> Part
+        requires ranges { AreRanges ranges.items }
+        requires rise { KeysRise (entries_of entries.items) }
+        requires covered { AreCovered (points_of ranges.items) entries.items }
+        requires limit { IsWithinLimit entries.items }
+        ensures { result ≡ record { run = run; points = points_of ranges.items; triples = triples_of entries.items } }
+    {
+        Part {
+            run,
+            ranges,
+            entries,
+        }
+    }
+
+    /// The number of the run, by which files of one run know each other.
+    pub fn run(&self) -> u64
+        ensures { result ≡ self.now.run }
+    {
+        self.run
+    }
+
+    /// The points that it stands for, as ranges: at least one, rising, with at least one point left out between two.
+    /// Points are 1 to 65,535.
+    pub fn ranges(&self) -> &[Range]
+        ensures apart { AreRanges result.now }
+        ensures points { points_of result.now ≡ self.now.points }
+        ensures bounds { bounds_of result.now ≡ ranges_of (set.items self.now.points) }
+    {
+        self.ranges.as_slice()
+    }
+
+    /// The entries, rising strictly by key, each of one of its points; at most 4,294,967,295.
+    pub fn entries(&self) -> &[Triple]
+        ensures rise { KeysRise (entries_of result.now) }
+        ensures covered { AreCovered self.now.points result.now }
+        ensures limit { IsWithinLimit result.now }
+        ensures entries { entries_of result.now ≡ self.now.triples.entries }
+        ensures triples { triples_of result.now ≡ self.now.triples }
+    {
+        self.entries.as_slice()
+    }
+}
+
+// The entries as triples of the point.
+fn triples_at(
+    alloc: Global,
+    point: Point,
+    entries: Vec<(Key, Option<Value>)>,
+) -> Result<Vec<Triple>, AllocError>
+    ensures { IfOk result (λ triples. triples.items ≡ map (triple_at point) entries.items) }
+{
+    entries
+        .into_iter()
+        .map(|(key, content)| Triple {
+            key,
+            point,
+            content,
+        })
+        .collect(alloc)
+}
