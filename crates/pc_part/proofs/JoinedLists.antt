@@ -64,10 +64,10 @@ no_second_clash : (b : List Triple) → from_second clash_at (entries_of b) ≡ 
 no_second_clash [] = refl
 no_second_clash (t ∷ b) = no_second_clash b
 
-join_only_second : (b : List Triple) → joins [] b ≡ entries_of b
+pub join_only_second : (b : List Triple) → joins [] b ≡ entries_of b
 join_only_second b = merged_only_second later (entries_of b) ∙ second_stays b
 
-join_only_first : (a : List Triple) → joins a [] ≡ entries_of a
+pub join_only_first : (a : List Triple) → joins a [] ≡ entries_of a
 join_only_first [] = join_only_second []
 join_only_first (t ∷ a) = merged_only_first later (entry_of t) (entries_of a) ∙ ap (λ es. entry_of t ∷ es) (join_only_first a)
 

@@ -1,4 +1,6 @@
+pub mod JoinedFiles
 pub mod JoinedLists
 pub mod Merging
 pub mod RangePoints
+pub mod Refused
 pub mod TakenTriples

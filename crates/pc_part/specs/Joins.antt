@@ -1,8 +1,9 @@
 -- The join of two files: when it is refused, and its laws.
-use Rattle.std.specs.Prelude.{◌≡◌, Bool, false, List, [], ◌∷◌, Option, Some, None, Result, Err, IfErr, if◌then◌else◌, MatchOption, ⊤}
+use Rattle.std.specs.Prelude.{◌≡◌, Bool, false, List, [], ◌∷◌, Option, Some, None, Result, Err, IfErr, if◌then◌else◌, MatchOption, ⊤, nat_lt}
 use Rattle.pc_types.specs.declared.Refusal.{Refusal}
-use Rattle.pc_types.specs.declared.Refusal.TheVariants.{OutOfMemory}
-use Rattle.pc_model.specs.Points.{AtPoint}
+use Rattle.pc_types.specs.declared.Refusal.TheVariants.{OutOfMemory, Conflict, Full}
+use Rattle.pc_model.specs.Maps as map_of
+use Rattle.pc_model.specs.Points.{AtPoint, Triples, joined}
 use Rattle.pc_model.specs.Files.{File, joined_file, conflict, differs}
 
 -- the first refusal whose cause stands
@@ -18,3 +19,7 @@ IsRefusedBy due result = MatchOption due (IfErr result (λ e. e ≡ OutOfMemory)
 abbrev pub clash_at : Option AtPoint → Option AtPoint → Option ⊤
 clash_at None b = None
 clash_at (Some a) b = if differs a b then Some tt else None
+
+-- why two files' triples can't be joined: they conflict, or the join passes the entry limit
+abbrev pub triples_causes : Triples → Triples → List (Bool × Refusal)
+triples_causes m n = (conflict m n, Conflict) ∷ (nat_lt 4294967295 (map_of.len (joined m n)), Full) ∷ []

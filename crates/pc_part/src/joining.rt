@@ -2,15 +2,44 @@
 ghost use Rattle.std.specs.Prelude.{◌≡◌, ◌+◌, ◌++◌, [], ◌∷◌, length, nat_lt, IfOk, OnOk, if◌then◌else◌};
 ghost use Rattle.pc_model.specs.Files.{differs, same_content};
 ghost use Rattle.pc_model.specs.Laying.{entry_of, entries_of};
-ghost use Rattle.pc_model.specs.Points.{later};
+ghost use Rattle.pc_model.specs.Database.{KeysRise};
+ghost use Rattle.pc_model.specs.Points.{later, joined};
+ghost use Rattle.pc_model.specs.Sets.{Set, number_order};
+ghost use Rattle.pc_part.specs.Bases.{IsWithinLimit};
+ghost use Rattle.pc_part.specs.Parts.{AreCovered, triples_of};
 ghost use Rattle.pc_model.specs.Replies.{is_empty};
-ghost use Rattle.pc_part.specs.Joins.{clash_at};
+ghost use Rattle.pc_part.specs.Joins.{clash_at, first_cause, triples_causes, IsRefusedBy};
 ghost use Rattle.pc_part.specs.Merges.{merged};
 
 use pc_model::Triple;
 use pc_types::{Refusal, Value};
 use std::alloc::{AllocError, Global};
 use std::cmp::Ordering;
+
+// A file has at most so many entries.
+pub(crate) const ENTRY_LIMIT: usize = 4_294_967_295;
+
+/// The triples of both, of each key that of the greater point, where no two conflict and they are not too many.
+pub(crate) fn merge_entries(
+    alloc: Global,
+    a: &[Triple],
+    b: &[Triple],
+) -> Result<Vec<Triple>, Refusal>
+    requires left { KeysRise (entries_of a.now) }
+    requires right { KeysRise (entries_of b.now) }
+    ensures rise { IfOk result (λ out. KeysRise (entries_of out.items)) }
+    ensures limit { IfOk result (λ out. IsWithinLimit out.items) }
+    ensures covered { (points : Set number_order) → AreCovered points a.now → AreCovered points b.now → IfOk result (λ out. AreCovered points out.items) }
+    ensures joined { IfOk result (λ out. triples_of out.items ≡ joined (triples_of a.now) (triples_of b.now)) }
+    ensures refused { IsRefusedBy (first_cause (triples_causes (triples_of a.now) (triples_of b.now))) result }
+{
+    let len = joined_len(a, b)?;
+    if len > ENTRY_LIMIT {
+        return Err(Refusal::Full);
+    }
+    let out = merge(alloc, a, b)?;
+    Ok(out)
+}
 
 // The same triple once more.
 fn copy_of(alloc: Global, triple: &Triple) -> Result<Triple, AllocError>
