@@ -4,3 +4,4 @@ pub mod Merging
 pub mod RangePoints
 pub mod Refused
 pub mod TakenTriples
+pub mod RangeUnions

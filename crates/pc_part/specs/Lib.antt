@@ -2,3 +2,4 @@ pub mod Bases
 pub mod Joins
 pub mod Merges
 pub mod Parts
+pub mod Unions

@@ -6,6 +6,7 @@ mod base;
 mod joining;
 mod part;
 mod ranges;
+mod uniting;
 
 pub use base::Base;
 pub use part::Part;
