@@ -4,8 +4,10 @@
 
 mod base;
 mod encoding;
+mod joining;
 mod part;
 mod ranges;
+mod uniting;
 
 pub use base::Base;
 pub use part::Part;

@@ -1,0 +1,25 @@
+-- The join of two files: when it is refused, and its laws.
+use Rattle.std.specs.Prelude.{◌≡◌, Bool, false, List, [], ◌∷◌, Option, Some, None, Result, Err, IfErr, if◌then◌else◌, MatchOption, ⊤, nat_lt}
+use Rattle.pc_types.specs.declared.Refusal.{Refusal}
+use Rattle.pc_types.specs.declared.Refusal.TheVariants.{OutOfMemory, Conflict, Full}
+use Rattle.pc_model.specs.Maps as map_of
+use Rattle.pc_model.specs.Points.{AtPoint, Triples, joined}
+use Rattle.pc_model.specs.Files.{File, joined_file, conflict, differs}
+
+-- the first refusal whose cause stands
+abbrev pub first_cause : List (Bool × Refusal) → Option Refusal
+first_cause [] = None
+first_cause (c ∷ causes) = if c.0 then Some c.1 else first_cause causes
+
+-- the result is the refusal that is due; where none is due, it can only fail for want of memory
+abbrev pub IsRefusedBy : {X : Type 0} → Option Refusal → Result X Refusal → Type 0
+IsRefusedBy due result = MatchOption due (IfErr result (λ e. e ≡ OutOfMemory)) (λ refusal. result ≡ Err refusal)
+
+-- whether two contents clash that a key has in both files
+abbrev pub clash_at : Option AtPoint → Option AtPoint → Option ⊤
+clash_at None b = None
+clash_at (Some a) b = if differs a b then Some tt else None
+
+-- why two files' triples can't be joined: they conflict, or the join passes the entry limit
+abbrev pub triples_causes : Triples → Triples → List (Bool × Refusal)
+triples_causes m n = (conflict m n, Conflict) ∷ (nat_lt 4294967295 (map_of.len (joined m n)), Full) ∷ []
