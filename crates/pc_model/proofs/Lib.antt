@@ -11,6 +11,12 @@ pub mod Effects
 pub mod Logs
 pub mod RightReads
 pub mod States
+pub mod LogPieces
+pub mod TouchedKeys
+pub mod LegalEffects
+pub mod Tokens
+pub mod Standing
+pub mod QuietContents
 pub mod LaidInTurn
 pub mod Taken
 pub mod ExamplesOfTransactions

@@ -6,9 +6,8 @@ use Rattle.pc_types.specs.declared.Entry.{Entry}
 use Rattle.pc_types.specs.declared.Entry.TheVariants.{Commit, Token}
 use Rattle.pc_model.specs.Maps.{get}
 use Rattle.pc_model.specs.Database.{Database, applied_all}
-use Rattle.pc_model.specs.Log.{after, front, behind, has_token, is_token_of, state_at}
+use Rattle.pc_model.specs.Log.{after, front, behind, has_token, is_token_of, state_at, PrecedesNext}
 use Rattle.pc_model.specs.Points.{is_among, cycle, touched, part_of, laid, triples_of}
-use Rattle.pc_model.specs.Laws.{PrecedesNext}
 use Rattle.pc_model.proofs.Joins.{one_piece, after_other, is_among-with_written}
 
 -- where m's token stands before n's, replay up to n's is replay up to m's and on from there
@@ -28,7 +27,7 @@ positive : (n : ℕ) → eqb (n + 1) 0 ≡ false
 positive n = grind (arith, nat_tests)
 
 -- the state of a point that isn't 0
-state_next : (base : Database) (log : List Entry) (point : ℕ) → state_at base log (point + 1) ≡ after base (front (point + 1) log)
+pub state_next : (base : Database) (log : List Entry) (point : ℕ) → state_at base log (point + 1) ≡ after base (front (point + 1) log)
 state_next base log point = rw (positive point) refl
 
 above : (n : ℕ) → eqb (suc n) 0 ≡ false
@@ -44,7 +43,7 @@ before : (n : ℕ) → suc n + 1 - 1 ≡ suc n
 before n = omega arith
 
 -- the cycle of a point above 1 begins at the token before
-cycle_next : (log : List Entry) (n : ℕ) → cycle (suc n + 1) log ≡ front (suc n + 1) (behind (suc n) log)
+pub cycle_next : (log : List Entry) (n : ℕ) → cycle (suc n + 1) log ≡ front (suc n + 1) (behind (suc n) log)
 cycle_next log n = rw (second n, before n) refl
 
 -- the state of the next point is the replay of its cycle on the state of this point

@@ -1,19 +1,17 @@
 -- Laws of the definitions: of replay, of points, of replies and of reads.
-use Rattle.std.specs.Prelude.{◌≡◌, ℕ, ◌+◌, List, ◌++◌, ◌⊎◌, IsTrue, IsFalse}
+use Rattle.std.specs.Prelude.{◌≡◌, ℕ, ◌+◌, List, ◌++◌, IsTrue, IsFalse}
 use Rattle.pc_types.specs.declared.Entry.{Entry}
 use Rattle.pc_types.specs.declared.Event.{Event}
 use Rattle.pc_types.specs.declared.Reply.{Reply}
 use Rattle.pc_model.specs.Maps.{get}
 use Rattle.pc_model.specs.Database.{Database}
-use Rattle.pc_model.specs.Log.{after, front, has_token, state_at}
-use Rattle.pc_model.specs.History.{History}
+use Rattle.pc_model.specs.Log.{after, state_at, PrecedesNext}
+use Rattle.pc_model.specs.History.{History, log_of, phase_of, point_of, contents}
 use Rattle.pc_model.specs.Points.{is_among, cycle, touched, part_of, laid}
 use Rattle.pc_model.specs.Replies.{Setting, IsLegal, IsLegalHistory}
-use Rattle.pc_model.specs.Reads.{HasRightReads}
-
--- the point is 0, or its token stands before that of the next point in the log
-abbrev pub PrecedesNext : ℕ → List Entry → Type 0
-PrecedesNext point log = (point ≡ 0) ⊎ IsTrue (has_token point (front (point + 1) log))
+use Rattle.pc_model.specs.QuietPoints.{IsLegalHistoryForNow}
+use Rattle.pc_model.specs.Reads.{HasRightReads, IsQuiet}
+use Rattle.pc_model.specs.Headline.{HasLegalEffects, HasTokensInOrder, TakesEachKeyOnce, is_past_token}
 
 -- Replay of a log in two pieces is replay of the second on the replay of the first.
 abbrev pub ReplaysInPieces : Type 0
@@ -39,3 +37,24 @@ EveryEventHasALegalReply = (st : Setting) (history : History) (event : Event) �
 -- In a legal history of one session the reads of each committed transaction are right.
 abbrev pub OneSessionReadsRight : Type 0
 OneSessionReadsRight = (st : Setting) (history : History) → st.sessions ≡ 1 → IsLegalHistory st history → HasRightReads st.base history
+
+-- Each step of a legal history has a legal effect.
+abbrev pub LegalHistoriesHaveLegalEffects : Type 0
+LegalHistoriesHaveLegalEffects = (st : Setting) (history : History) → IsLegalHistory st history → HasLegalEffects st history
+
+-- And so has each step of a history that is legal until points are taken beside open transactions.
+abbrev pub HistoriesForNowHaveLegalEffects : Type 0
+HistoriesForNowHaveLegalEffects = (st : Setting) (history : History) → IsLegalHistoryForNow st history → HasLegalEffects st history
+
+-- The tokens of points stand in the log in order, and none is left out.
+abbrev pub TokensStandInOrder : Type 0
+TokensStandInOrder = (st : Setting) (history : History) → HasLegalEffects st history → HasTokensInOrder history
+
+-- Each touched key is taken once.
+abbrev pub EachKeyIsTakenOnce : Type 0
+EachKeyIsTakenOnce = (st : Setting) (history : History) → HasLegalEffects st history → TakesEachKeyOnce history
+
+-- In a quiet run the committed contents are those of the point, from its token to the end of its cycle.
+abbrev pub QuietContentsStay : Type 0
+QuietContentsStay = (st : Setting) (history : History) → HasLegalEffects st history → IsQuiet st history → IsTrue (is_past_token (phase_of history)) →
+    contents st.base history ≡ state_at st.base (log_of history) (point_of history)

@@ -11,6 +11,7 @@ pub mod Ranges
 pub mod Replies
 pub mod QuietPoints
 pub mod Reads
+pub mod Headline
 pub mod Laws
 pub mod Laying
 pub mod Examples

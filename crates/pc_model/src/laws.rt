@@ -1,5 +1,6 @@
 //! Laws of the definitions. Each function does nothing, and its contract is a law.
 ghost use Rattle.pc_model.specs.Laws.{ReplaysInPieces, CyclesMakeStates, UntouchedKeysStay, PartsMakeStates, EveryEventHasALegalReply, OneSessionReadsRight};
+ghost use Rattle.pc_model.specs.Laws.{LegalHistoriesHaveLegalEffects, HistoriesForNowHaveLegalEffects, TokensStandInOrder, EachKeyIsTakenOnce, QuietContentsStay};
 
 /// Replay of a log in two pieces is replay of the second on the replay of the first.
 pub fn replay_in_pieces()
@@ -29,4 +30,29 @@ pub fn every_event_has_a_legal_reply()
 /// In a legal history of one session the reads of each committed transaction are right.
 pub fn one_session_reads_right()
     ensures { OneSessionReadsRight }
+{}
+
+/// Each step of a legal history has a legal effect.
+pub fn legal_histories_have_legal_effects()
+    ensures { LegalHistoriesHaveLegalEffects }
+{}
+
+/// And so has each step of a history that is legal until points are taken beside open transactions.
+pub fn histories_for_now_have_legal_effects()
+    ensures { HistoriesForNowHaveLegalEffects }
+{}
+
+/// The tokens of points stand in the log in order, and none is left out.
+pub fn tokens_stand_in_order()
+    ensures { TokensStandInOrder }
+{}
+
+/// Each key that was touched in a point's cycle is taken once.
+pub fn each_key_is_taken_once()
+    ensures { EachKeyIsTakenOnce }
+{}
+
+/// In a quiet run the committed contents are those of the point, from its token to the end of its cycle.
+pub fn quiet_contents_stay()
+    ensures { QuietContentsStay }
 {}
