@@ -15,12 +15,15 @@ use Rattle.pc_types.specs.declared.Refusal.TheVariants as why
 use Rattle.pc_model.specs.Maps.{get}
 use Rattle.pc_model.specs.Database.{Database, written}
 use Rattle.pc_model.specs.Log.{after}
-use Rattle.pc_model.specs.History.{History, Effect, contents, log_of, is_open, number_of, writes_of, effect_of, effect_of_get, entries_by, open_by}
-use Rattle.pc_model.specs.History.Effect.{Begins, Reads, Commits, Aborts, Moves, Shelves}
+use Rattle.pc_model.specs.History.{History, Effect, effect, contents, log_of, is_open, number_of, writes_of, effect_of, effect_of_get, entries_by, open_by}
+use Rattle.pc_model.specs.History.Effect.{Begins, Reads, Commits, Aborts, Moves, Shelves, Nothing}
 use Rattle.pc_model.specs.Locks.{Outcome, outcome, queue_of, is_waiting}
 use Rattle.pc_model.specs.Locks.Outcome.{Granted, Queued, Died}
 use Rattle.pc_model.specs.History.{has_died}
 use Rattle.pc_model.specs.Reads.{HasRightReads, HasReadFrom, ReadBy, RightBy}
+use Rattle.pc_types.specs.declared.Step.{Step}
+use Rattle.pc_model.specs.Headline.{HasLegalEffects}
+use Rattle.pc_model.proofs.LegalEffects.{legal_has_legal_effects}
 use Rattle.pc_model.specs.Replies.{Setting, first_refusal, transaction_causes, is_full, log_is_full, no_session, read_reply, value_read, by_outcome, certain, Answers, IsLegal, IsLegalHistory}
 use Rattle.pc_model.proofs.Effects.{refused_does_nothing, first_refusal_refuses, no_first, no_other}
 use Rattle.pc_model.proofs.Logs.{after-append}
@@ -156,15 +159,23 @@ still_right base history (Shelves point) sound before is = same_reads base histo
 still_right base history other sound before is = rw append-nil (before is)
 
 module _ (st : Setting) (one : st.sessions ≡ 1) where
-  has_read : (history : History) → IsLegalHistory st history → is_open 1 history ≡ true → HasReadFrom (contents st.base history) 1 history
-  has_read [] legal is = tt
-  has_read (step ∷ history) legal is = still_right st.base history (effect_of step.event step.reply) (legal_sound st history one step.event step.reply legal.0) (has_read history legal.1) is
+  effect_sound : (history : History) (step : Step) → (IsLegal st history step.event step.reply ⊎ (effect step ≡ Nothing)) → IsSound st.base history (effect step)
+  effect_sound history step (inl legal) = legal_sound st history one step.event step.reply legal
+  effect_sound history step (inr none) = rw none tt
 
-  right_by : (history : History) (e : Effect) → IsSound st.base history e → IsLegalHistory st history → RightBy st.base e history
+  has_read : (history : History) → HasLegalEffects st history → is_open 1 history ≡ true → HasReadFrom (contents st.base history) 1 history
+  has_read [] legal is = tt
+  has_read (step ∷ history) legal is = still_right st.base history (effect step) (effect_sound history step legal.0) (has_read history legal.1) is
+
+  right_by : (history : History) (e : Effect) → IsSound st.base history e → HasLegalEffects st history → RightBy st.base e history
   right_by history (Commits s) sound legal = rw sound.0 (has_read history legal sound.1)
   right_by history other sound legal = tt
 
--- in a legal history of one session the reads of each committed transaction are right
+-- in a history of one session with legal effects the reads of each committed transaction are right
+pub effects_read_right : (st : Setting) (history : History) → st.sessions ≡ 1 → HasLegalEffects st history → HasRightReads st.base history
+effects_read_right st [] one legal = tt
+effects_read_right st (step ∷ history) one legal = (right_by st one history (effect step) (effect_sound st one history step legal.0) legal.1, effects_read_right st history one legal.1)
+
+-- and so they are in a legal one
 pub reads_right : (st : Setting) (history : History) → st.sessions ≡ 1 → IsLegalHistory st history → HasRightReads st.base history
-reads_right st [] one legal = tt
-reads_right st (step ∷ history) one legal = (right_by st one history (effect_of step.event step.reply) (legal_sound st history one step.event step.reply legal.0) legal.1, reads_right st history one legal.1)
+reads_right st history one legal = effects_read_right st history one (legal_has_legal_effects st history legal)
