@@ -16,7 +16,7 @@ use Rattle.pc_model.proofs.PairMaps.{same_database, tested}
 use Rattle.pc_model.proofs.Joins.{get_put, get-laid, one_key}
 
 -- a test that holds: both of its parts hold
-both : (a b : Bool) → (a && b) ≡ true → (a ≡ true) × (b ≡ true)
+pub both : (a b : Bool) → (a && b) ≡ true → (a ≡ true) × (b ≡ true)
 both true b e = (refl, e)
 both false b e = cc
 
@@ -26,7 +26,7 @@ apart Equal e = cc
 apart Greater e = cc
 
 -- no entry has a key that is below all
-none_below : {X : Type 0} (key : List ℕ) (es : List (List ℕ × X)) → below_all key_cmp key es ≡ true → find key_cmp key es ≡ None
+pub none_below : {X : Type 0} (key : List ℕ) (es : List (List ℕ × X)) → below_all key_cmp key es ≡ true → find key_cmp key es ≡ None
 none_below key [] below = refl
 none_below key (e ∷ es) below =
     let parts = both (is_lt (key_cmp key e.0)) (below_all key_cmp key es) below in

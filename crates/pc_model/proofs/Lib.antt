@@ -17,6 +17,10 @@ pub mod LegalEffects
 pub mod Tokens
 pub mod Standing
 pub mod QuietContents
+pub mod Latest
+pub mod Contents
+pub mod TakenValues
+pub mod ShelfFiles
 pub mod LaidInTurn
 pub mod Taken
 pub mod ExamplesOfTransactions

@@ -1,15 +1,18 @@
 -- What a whole history promises: the tokens of points in order, each touched key taken once, and files that are worth
 -- the states of their points.
-use Rattle.std.specs.Prelude.{◌≡◌, ℕ, ◌+◌, ◌-◌, nat_lt, nat_le, Bool, true, false, ◌&&◌, ◌⊎◌, [], ◌∷◌, ◌++◌, map, ⊤, IsTrue, IsFalse}
-use Rattle.std.specs.List.{IsDistinct}
+use Rattle.std.specs.Prelude.{◌≡◌, ℕ, ◌+◌, ◌-◌, nat_lt, nat_le, Bool, true, false, ◌&&◌, ◌⊎◌, List, [], ◌∷◌, ◌++◌, map, ⊤, IsTrue, IsFalse}
+use Rattle.std.specs.List.{IsDistinct, Contains}
 use Rattle.pc_types.specs.declared.Phase.{Phase}
 use Rattle.pc_types.specs.declared.Phase.TheVariants.{Prepare, Resolve, Capture, Complete}
+use Rattle.pc_types.specs.declared.Entry.{Entry}
 use Rattle.pc_model.specs.Maps.{get}
 use Rattle.pc_model.specs.Database.{Database, same_bytes}
 use Rattle.pc_model.specs.Log.{state_at, has_token, PrecedesNext}
 use Rattle.pc_model.specs.History.{History, Effect, effect, log_of, phase_of, point_of}
 use Rattle.pc_model.specs.History.Effect.{Takes, Nothing}
-use Rattle.pc_model.specs.Points.{touched, taken}
+use Rattle.pc_model.specs.Sets as set
+use Rattle.pc_model.specs.Points.{touched, taken, laid}
+use Rattle.pc_model.specs.Files.{File, file_of, joined_file, shelf, conflict, numbers_to}
 use Rattle.pc_model.specs.Replies.{Setting, closed_set, IsLegal}
 
 -- each step of the history was legal, or has no effect
@@ -61,3 +64,27 @@ ValueBy base other history = ⊤
 abbrev pub TakesPointValue : Database → History → Type 0
 TakesPointValue base [] = ⊤
 TakesPointValue base (step ∷ history) = ValueBy base (effect step) history × TakesPointValue base history
+
+-- a file is that of its points by the log, of which there is one at least, and each has its token there
+pub record IsOfItsPoints (run : ℕ) (base : Database) (log : List Entry) (file : File) : Type 0 where
+  pub is : file ≡ file_of run base log file.points
+  pub covers_some : ¬ (set.items file.points ≡ [])
+  pub has_tokens : (point : ℕ) → IsTrue (set.contains file.points point) → IsTrue (has_token point log)
+
+-- the files made of a shelf: its own, and the joins of two such
+pub data IsMade (shelf : List File) : File → Type 0 where
+  Shelved : (file : File) → Contains shelf file → IsMade shelf file
+  Joined : (a b : File) → IsMade shelf a → IsMade shelf b → IsMade shelf (joined_file a b)
+
+-- Two files join well: they are of one run and don't conflict, and their join is the file of the points of both.
+pub record JoinsWell (run : ℕ) (base : Database) (log : List Entry) (a b : File) : Type 0 where
+  pub one_run : a.run ≡ b.run
+  pub no_conflict : IsFalse (conflict a.triples b.triples)
+  pub is_of_both : joined_file a b ≡ file_of run base log (set.union a.points b.points)
+
+-- The headline, of the files made of the shelf: any two are of one run and don't conflict; those of the same points are one
+-- file, in whatever order and however often they were joined; and one of the points 1 to n, laid on the base, is the state of n.
+pub record HasHeadline (st : Setting) (history : History) : Type 0 where
+  pub any_two_join : (a b : File) → IsMade (shelf st.run history) a → IsMade (shelf st.run history) b → (a.run ≡ b.run) × IsFalse (conflict a.triples b.triples)
+  pub one_file : (a b : File) → IsMade (shelf st.run history) a → IsMade (shelf st.run history) b → a.points ≡ b.points → a ≡ b
+  pub is_the_state : (file : File) (n : ℕ) → IsMade (shelf st.run history) file → set.items file.points ≡ numbers_to n → laid st.base 0 file.triples ≡ state_at st.base (log_of history) n

@@ -1,5 +1,5 @@
 -- Laws of the definitions: of replay, of points, of replies and of reads.
-use Rattle.std.specs.Prelude.{◌≡◌, ℕ, ◌+◌, List, ◌++◌, IsTrue, IsFalse}
+use Rattle.std.specs.Prelude.{◌≡◌, ℕ, ◌+◌, List, ◌++◌, IsTrue, IsFalse, Contains}
 use Rattle.pc_types.specs.declared.Entry.{Entry}
 use Rattle.pc_types.specs.declared.Event.{Event}
 use Rattle.pc_types.specs.declared.Reply.{Reply}
@@ -7,11 +7,14 @@ use Rattle.pc_model.specs.Maps.{get}
 use Rattle.pc_model.specs.Database.{Database}
 use Rattle.pc_model.specs.Log.{after, state_at, PrecedesNext}
 use Rattle.pc_model.specs.History.{History, log_of, phase_of, point_of, contents}
-use Rattle.pc_model.specs.Points.{is_among, cycle, touched, part_of, laid}
+use Rattle.pc_model.specs.Points.{is_among, cycle, touched, part_of, joined, content, laid}
+use Rattle.pc_model.specs.Sets as set
+use Rattle.pc_model.specs.Sets.{Set, number_order}
+use Rattle.pc_model.specs.Files.{File, shelf}
 use Rattle.pc_model.specs.Replies.{Setting, IsLegal, IsLegalHistory}
 use Rattle.pc_model.specs.QuietPoints.{IsLegalHistoryForNow}
 use Rattle.pc_model.specs.Reads.{HasRightReads, IsQuiet}
-use Rattle.pc_model.specs.Headline.{HasLegalEffects, HasTokensInOrder, TakesEachKeyOnce, is_past_token}
+use Rattle.pc_model.specs.Headline.{HasLegalEffects, HasTokensInOrder, TakesEachKeyOnce, TakesPointValue, IsOfItsPoints, IsMade, JoinsWell, HasHeadline, is_past_token}
 
 -- Replay of a log in two pieces is replay of the second on the replay of the first.
 abbrev pub ReplaysInPieces : Type 0
@@ -58,3 +61,22 @@ EachKeyIsTakenOnce = (st : Setting) (history : History) → HasLegalEffects st h
 abbrev pub QuietContentsStay : Type 0
 QuietContentsStay = (st : Setting) (history : History) → HasLegalEffects st history → IsQuiet st history → IsTrue (is_past_token (phase_of history)) →
     contents st.base history ≡ state_at st.base (log_of history) (point_of history)
+
+-- The join of the contents of two sets of points is the content of their union.
+abbrev pub JoinsAreContents : Type 0
+JoinsAreContents = (base : Database) (log : List Entry) (points others : Set number_order) →
+    joined (content base log (set.items points)) (content base log (set.items others)) ≡ content base log (set.items (set.union points others))
+
+-- Where each Take carried its key's content at the point, each file of the shelf is that of its points.
+abbrev pub FilesAreOfTheirPoints : Type 0
+FilesAreOfTheirPoints = (st : Setting) (history : History) → HasLegalEffects st history → TakesPointValue st.base history →
+    (file : File) → Contains (shelf st.run history) file → IsOfItsPoints st.run st.base (log_of history) file
+
+-- Any two files made of the shelf join, and give the file of the points of both.
+abbrev pub FilesJoinWell : Type 0
+FilesJoinWell = (st : Setting) (history : History) → HasLegalEffects st history → TakesPointValue st.base history →
+    (a b : File) → IsMade (shelf st.run history) a → IsMade (shelf st.run history) b → JoinsWell st.run st.base (log_of history) a b
+
+-- The headline: files made of the shelf by joins are worth the states of their points.
+abbrev pub FilesAreStates : Type 0
+FilesAreStates = (st : Setting) (history : History) → HasLegalEffects st history → TakesPointValue st.base history → HasHeadline st history

@@ -1,6 +1,7 @@
 //! Laws of the definitions. Each function does nothing, and its contract is a law.
 ghost use Rattle.pc_model.specs.Laws.{ReplaysInPieces, CyclesMakeStates, UntouchedKeysStay, PartsMakeStates, EveryEventHasALegalReply, OneSessionReadsRight};
 ghost use Rattle.pc_model.specs.Laws.{LegalHistoriesHaveLegalEffects, HistoriesForNowHaveLegalEffects, TokensStandInOrder, EachKeyIsTakenOnce, QuietContentsStay};
+ghost use Rattle.pc_model.specs.Laws.{JoinsAreContents, FilesAreOfTheirPoints, FilesJoinWell, FilesAreStates};
 
 /// Replay of a log in two pieces is replay of the second on the replay of the first.
 pub fn replay_in_pieces()
@@ -55,4 +56,25 @@ pub fn each_key_is_taken_once()
 /// In a quiet run the committed contents are those of the point, from its token to the end of its cycle.
 pub fn quiet_contents_stay()
     ensures { QuietContentsStay }
+{}
+
+/// The join of the contents of two sets of points is the content of their union.
+pub fn joins_are_contents()
+    ensures { JoinsAreContents }
+{}
+
+/// Where each Take carried its key's content at the point, each file of the shelf is that of its points.
+pub fn files_are_of_their_points()
+    ensures { FilesAreOfTheirPoints }
+{}
+
+/// Any two files made of the shelf join, and give the file of the points of both.
+pub fn files_join_well()
+    ensures { FilesJoinWell }
+{}
+
+/// The headline: files of the same points are one, in whatever order they were joined, and one of the points 1 to n, laid
+/// on the base, is the state of n.
+pub fn files_are_states()
+    ensures { FilesAreStates }
 {}

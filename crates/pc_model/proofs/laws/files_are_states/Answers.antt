@@ -1,0 +1,5 @@
+use Rattle.pc_model.proofs.ShelfFiles.{headline}
+use Rattle.pc_model.proofs.laws.files_are_states.Goals as goal
+
+pub returns : goal.returns
+returns c st history legal values = headline st history legal values
