@@ -1,7 +1,9 @@
+pub mod Gaps
 pub mod JoinedFiles
 pub mod JoinedLists
+pub mod LaidLists
 pub mod Merging
 pub mod RangePoints
+pub mod RangeUnions
 pub mod Refused
 pub mod TakenTriples
-pub mod RangeUnions

@@ -4,6 +4,7 @@
 
 mod base;
 mod joining;
+mod laying;
 mod part;
 mod ranges;
 mod uniting;
