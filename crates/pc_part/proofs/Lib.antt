@@ -3,6 +3,7 @@ pub mod JoinedFiles
 pub mod JoinedLists
 pub mod LaidLists
 pub mod Merging
+pub mod PartTexts
 pub mod RangePoints
 pub mod RangeUnions
 pub mod Refused

@@ -37,8 +37,12 @@ abbrev pub AreRanges : List Range → Type 0
 AreRanges ranges = (1 ≤ length ranges) × RangesFrom 1 ranges
 
 -- a range as its first and its last point
+abbrev pub bounds : Range → ℕ × ℕ
+bounds range = (range.low, range.high)
+
+-- the same of each range
 abbrev pub bounds_of : List Range → List (ℕ × ℕ)
-bounds_of ranges = map (λ r. (r.low, r.high)) ranges
+bounds_of ranges = map bounds ranges
 
 -- each triple is of one of the points
 abbrev pub AreCovered : Set number_order → List Triple → Type 0

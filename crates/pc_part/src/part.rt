@@ -122,3 +122,32 @@ fn triples_at(
         })
         .collect(alloc)
 }
+
+#[cfg(test)]
+mod tests {
+    use super::*;
+    use std::test::Fail;
+
+    // A part of one point gives back what it was made of.
+    #[test]
+    fn of_one_point(rt: HostRuntime) -> Result<(), Fail> {
+        let alloc = rt.alloc();
+        let mut entries = Vec::new(alloc);
+        entries.push((Key::new(alloc, b"a")?, Some(Value::new(alloc, b"1")?)))?;
+        entries.push((Key::new(alloc, b"b")?, None))?;
+        let part = Part::of_point(alloc, 7, Point(3), entries)?;
+        assert_eq!(rt; part.run(), 7);
+        let points = [Range {
+            low: Point(3),
+            high: Point(3),
+        }];
+        assert_eq!(rt; part.ranges(), points.as_slice());
+        let entries = part.entries();
+        assert_eq!(rt; entries.len(), 2);
+        assert_eq!(rt; entries[1].key.as_bytes(), b"b".as_slice());
+        assert_eq!(rt; entries[1].point, Point(3));
+        assert!(rt; entries[0].content.is_some());
+        assert!(rt; entries[1].content.is_none());
+        Ok(())
+    }
+}

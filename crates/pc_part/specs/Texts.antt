@@ -1,0 +1,54 @@
+-- The text of a part file: the bytes that stand for it. Numbers stand with their highest byte first.
+use Rattle.std.specs.Prelude.{ℕ, List, [], ◌∷◌, ◌++◌, length, Option, Some, None, codes}
+use Rattle.std.specs.List.{flat_map}
+use Rattle.std.specs.Int.{w16, w32, w64, to_be_bytes}
+use Rattle.pc_model.specs.Maps as map
+use Rattle.pc_model.specs.Sets as set
+use Rattle.pc_model.specs.Files.{File}
+use Rattle.pc_model.specs.Points.{AtPoint, Triples}
+use Rattle.pc_model.specs.Ranges.{ranges_of}
+use Rattle.pc_model.specs.Laying.{entry_of}
+use Rattle.pc_model.specs.declared.laying.Triple.{Triple}
+use Rattle.pc_part.specs.declared.ranges.Range.{Range}
+use Rattle.pc_part.specs.Parts.{bounds}
+
+-- the bytes that tell a part file
+abbrev pub part_magic : List ℕ
+part_magic = codes "PCALCP01"
+
+-- what stands first: the magic, the run, and how many ranges there are
+abbrev pub head_text : ℕ → ℕ → List ℕ
+head_text run count = part_magic ++ (to_be_bytes w64 run ++ to_be_bytes w32 count)
+
+-- a range: its first and its last point
+abbrev pub range_text : ℕ × ℕ → List ℕ
+range_text bounds = to_be_bytes w32 bounds.0 ++ to_be_bytes w32 bounds.1
+
+-- the same of a range of a part
+abbrev pub bounds_text : Range → List ℕ
+bounds_text range = range_text (bounds range)
+
+-- a tombstone, or a value with its length before it
+abbrev pub content_text : Option (List ℕ) → List ℕ
+content_text None = 0 ∷ []
+content_text (Some value) = 1 ∷ (to_be_bytes w32 (length value) ++ value)
+
+-- an entry: its key with its length before it, its point, and what the key had there
+abbrev pub entry_text : List ℕ × AtPoint → List ℕ
+entry_text entry = to_be_bytes w16 (length entry.0) ++ (entry.0 ++ (to_be_bytes w32 entry.1.point ++ content_text entry.1.content))
+
+-- the same of a triple of a part
+abbrev pub triple_text : Triple → List ℕ
+triple_text triple = entry_text (entry_of triple)
+
+-- what stands last: an end mark, which is the length of no key, and how many entries there are
+abbrev pub end_text : ℕ → List ℕ
+end_text count = to_be_bytes w16 0 ++ to_be_bytes w32 count
+
+-- the text of some ranges and some triples
+abbrev pub text_of : ℕ → List (ℕ × ℕ) → Triples → List ℕ
+text_of run ranges triples = head_text run (length ranges) ++ (flat_map range_text ranges ++ (flat_map entry_text triples.entries ++ end_text (map.len triples)))
+
+-- the one text of a file
+unfoldable pub part_text : File → List ℕ
+part_text file = text_of file.run (ranges_of (set.items file.points)) file.triples
