@@ -1,8 +1,10 @@
+pub mod Gaps
 pub mod JoinedFiles
 pub mod JoinedLists
+pub mod LaidLists
 pub mod Merging
+pub mod PartTexts
 pub mod RangePoints
+pub mod RangeUnions
 pub mod Refused
 pub mod TakenTriples
-pub mod PartTexts
-pub mod RangeUnions

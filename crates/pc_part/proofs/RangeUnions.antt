@@ -140,7 +140,7 @@ contains-insert_all s (k ∷ ks) q = ap is_some (get-insert (set.insert_all s ks
     put_or true x = refl
     put_or false x = refl
 
-contains-items : (s : Set number_order) (q : ℕ) → list_any (eq_by_cmp nat_cmp q) (set.items s) ≡ set.contains s q
+pub contains-items : (s : Set number_order) (q : ℕ) → list_any (eq_by_cmp nat_cmp q) (set.items s) ≡ set.contains s q
 contains-items s q = sym (ap is_some (get-entries s q) ∙ is_some-find nat_cmp q s.entries)
 
 pub contains-union : (s t : Set number_order) (q : ℕ) → set.contains (set.union s t) q ≡ (set.contains s q || set.contains t q)

@@ -1,5 +1,6 @@
 pub mod Bases
 pub mod Joins
+pub mod Layings
 pub mod Merges
 pub mod Parts
 pub mod Texts

@@ -1,10 +1,11 @@
 //! The files of the store: the base, which is the database that a store starts from, and the parts, which the
-//! checkpoints make.
+//! checkpoints make. Parts of one run are joined, and laid on a base.
 #![tactic(auto)]
 
 mod base;
 mod encoding;
 mod joining;
+mod laying;
 mod part;
 mod ranges;
 mod uniting;

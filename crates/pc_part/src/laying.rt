@@ -1,0 +1,165 @@
+//! Laying a part on a base.
+ghost use Rattle.std.specs.Prelude.{◌≡◌, ◌+◌, ◌≤◌, ◌++◌, [], ◌∷◌, length, option_copied, IfOk, OnOk, MatchOption, Some};
+ghost use Rattle.pc_model.specs.Database.{KeysRise, database_of};
+ghost use Rattle.pc_model.specs.Files.{gap_above, greatest};
+ghost use Rattle.pc_model.specs.Laying.{entry_of, entries_of};
+ghost use Rattle.pc_model.specs.Points.{laid, laid_at};
+ghost use Rattle.pc_part.specs.Bases.{IsWithinLimit};
+ghost use Rattle.pc_part.specs.Joins.{first_cause, IsRefusedBy};
+ghost use Rattle.pc_part.specs.Layings.{IsLaidFirst, laid_there, limit_causes};
+ghost use Rattle.pc_part.specs.Merges.{merged, with_content};
+ghost use Rattle.pc_part.specs.Parts.{AreRanges, points_of, triples_of};
+
+use crate::joining::ENTRY_LIMIT;
+use crate::ranges::Range;
+use pc_model::Triple;
+use pc_types::{Key, Point, Refusal, Value};
+use std::alloc::{AllocError, Global};
+use std::cmp::Ordering;
+
+// The pairs of the database once the triples are laid on it at the point, where they are not too many.
+fn lay_entries<'a>(
+    alloc: Global,
+    point: Point,
+    pairs: &'a [(Key, Value)],
+    triples: &'a [Triple],
+) -> Result<Vec<(Key, Value)>, Refusal>
+    requires pairs { KeysRise pairs.now }
+    requires triples { KeysRise (entries_of triples.now) }
+    ensures rise { IfOk result (λ out. KeysRise out.items) }
+    ensures limit { IfOk result (λ out. IsWithinLimit out.items) }
+    ensures laid { IfOk result (λ out. database_of out.items ≡ laid (database_of pairs.now) point (triples_of triples.now)) }
+    ensures refused { IsRefusedBy (first_cause (limit_causes (database_of pairs.now) point (triples_of triples.now))) result }
+{
+    if laid_len(point, pairs, triples) > ENTRY_LIMIT {
+        return Err(Refusal::Full);
+    }
+    let out = lay_in_order(alloc, point, pairs, triples)?;
+    Ok(out)
+}
+
+// How many pairs are left once the triples are laid on the pairs.
+fn laid_len<'a>(point: Point, pairs: &'a [(Key, Value)], triples: &'a [Triple]) -> usize
+    ensures { result ≡ length (merged (laid_there point) pairs.now (entries_of triples.now)) }
+{
+    let mut left = pairs;
+    let mut right = triples;
+    let mut len = 0usize;
+    while let Some((_key, content, later, rest)) = first_of(point, left, right) {
+        left = later;
+        right = rest;
+        if content.is_some() {
+            len += 1;
+        }
+    }
+    len
+}
+
+// The pairs that are left once the triples are laid on the pairs.
+fn lay_in_order<'a>(
+    alloc: Global,
+    point: Point,
+    pairs: &'a [(Key, Value)],
+    triples: &'a [Triple],
+) -> Result<Vec<(Key, Value)>, AllocError>
+    ensures { IfOk result (λ out. out.items ≡ merged (laid_there point) pairs.now (entries_of triples.now)) }
+{
+    let mut out = Vec::new(alloc);
+    let mut left = pairs;
+    let mut right = triples;
+    while let Some((key, content, later, rest)) = first_of(point, left, right) {
+        left = later;
+        right = rest;
+        push_copy(alloc, &mut out, key, content)?;
+    }
+    Ok(out)
+}
+
+// Adds a copy of the key and what it has, if anything.
+fn push_copy(
+    alloc: Global,
+    out: &mut Vec<(Key, Value)>,
+    key: &Key,
+    content: Option<&Value>,
+) -> Result<(), AllocError>
+    ensures { OnOk result (out.new.items ≡ out.old.items ++ with_content key.now (option_copied content.entry) []) }
+{
+    if let Some(value) = content {
+        out.push((key.copy(alloc)?, value.copy(alloc)?))?;
+    }
+    Ok(())
+}
+
+// The least key that has a pair or a triple, what it has once the triple is laid, and what is then left of both.
+fn first_of<'a>(
+    point: Point,
+    pairs: &'a [(Key, Value)],
+    triples: &'a [Triple],
+) -> Option<(&'a Key, Option<&'a Value>, &'a [(Key, Value)], &'a [Triple])>
+    ensures {
+        MatchOption result
+            (merged (laid_there point) pairs.now (entries_of triples.now) ≡ [])
+            (λ t. IsLaidFirst point pairs.now triples.now t.0.now (option_copied t.1) t.2.now t.3.now)
+    }
+{
+    match (pairs.split_first(), triples.split_first()) {
+        (Some((pair, later)), Some((triple, rest))) => match pair.0.compare(&triple.key) {
+            Ordering::Less => Some((&pair.0, Some(&pair.1), later, triples)),
+            Ordering::Equal => {
+                let content = content_of(point, Some(&pair.1), triple);
+                Some((&pair.0, content, later, rest))
+            }
+            Ordering::Greater => {
+                let content = content_of(point, None, triple);
+                Some((&triple.key, content, pairs, rest))
+            }
+        },
+        (Some((pair, later)), None) => Some((&pair.0, Some(&pair.1), later, triples)),
+        (None, Some((triple, rest))) => {
+            let content = content_of(point, None, triple);
+            Some((&triple.key, content, pairs, rest))
+        }
+        (None, None) => None,
+    }
+}
+
+// What a triple's key has once the triple is laid at the point on what it had.
+fn content_of<'a>(
+    point: Point,
+    there: Option<&'a Value>,
+    triple: &'a Triple,
+) -> Option<&'a Value>
+    ensures { option_copied result ≡ laid_there point (option_copied there.entry) (Some (entry_of triple.now).1) }
+{
+    if point.0 < triple.point.0 {
+        triple.content.as_ref()
+    } else {
+        there
+    }
+}
+
+// The least point above this one, and up to the greatest of the ranges, that is in none of them.
+fn first_gap(point: Point, ranges: &[Range]) -> Option<Point>
+    requires { AreRanges ranges.now }
+    ensures { result ≡ gap_above point (points_of ranges.now) }
+{
+    let mut next = u32::from(point.0) + 1;
+    for range in ranges {
+        if next < u32::from(range.low.0) {
+            return Some(Point(next as u16));
+        }
+        next = next.max(u32::from(range.high.0) + 1);
+    }
+    None
+}
+
+// The greatest point of the ranges.
+fn last_point(ranges: &[Range]) -> Point
+    requires { AreRanges ranges.now }
+    ensures { result ≡ greatest (points_of ranges.now) }
+{
+    match ranges.last() {
+        Some(range) => range.high,
+        None => Point(0),
+    }
+}
