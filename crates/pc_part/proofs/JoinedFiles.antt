@@ -76,7 +76,7 @@ some_clash x y there = by (differs x y) there
     by false e = cc
 
 module _ (there : List ℕ → Option AtPoint) where
-  none_differs : (es : List (List ℕ × AtPoint)) → Rise es → ((q : List ℕ) → clash_at (find key_cmp q es) (there q) ≡ None) → list_any (λ e. differs e.1 (there e.0)) es ≡ false
+  pub none_differs : (es : List (List ℕ × AtPoint)) → Rise es → ((q : List ℕ) → clash_at (find key_cmp q es) (there q) ≡ None) → list_any (λ e. differs e.1 (there e.0)) es ≡ false
   none_differs [] rise none = refl
   none_differs (e ∷ es) rise none =
       let parts = both_of (below_all key_cmp e.0 es) (is_sorted key_cmp es) rise in
@@ -87,7 +87,7 @@ module _ (there : List ℕ → Option AtPoint) where
       by q true same below h = ap (λ x. clash_at x (there q)) (ap (λ k. find key_cmp k es) (one_key q e.0 same) ∙ find_below e.0 es below)
       by q false same below h = h
 
-  some_differs : (es : List (List ℕ × AtPoint)) (q : List ℕ) → clash_at (find key_cmp q es) (there q) ≡ Some tt → list_any (λ e. differs e.1 (there e.0)) es ≡ true
+  pub some_differs : (es : List (List ℕ × AtPoint)) (q : List ℕ) → clash_at (find key_cmp q es) (there q) ≡ Some tt → list_any (λ e. differs e.1 (there e.0)) es ≡ true
   some_differs [] q found = cc
   some_differs (e ∷ es) q found = by (same_bytes q e.0) refl found (λ h. some_differs es q h)
     where

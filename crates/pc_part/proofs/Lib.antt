@@ -1,4 +1,5 @@
 pub mod Gaps
+pub mod JoinLaws
 pub mod JoinedFiles
 pub mod JoinedLists
 pub mod LaidLists

@@ -1,5 +1,5 @@
 -- The union of ranges, gone through by their first points.
-use Rattle.std.proofs.Common.{◌≡◌, ℕ, ◌+◌, ◌≤◌, ◌<◌, ◌&&◌, ◌||◌, nat_le, max, Bool, true, false, List, [], ◌∷◌, ◌++◌, length, map, is_some, Option, Some, None, cond, ◌⊎◌, inl, inr, refl, sym, ap, ◌∙◌, arith}
+use Rattle.std.proofs.Common.{◌≡◌, ℕ, ◌+◌, ◌≤◌, ◌<◌, ◌&&◌, ◌||◌, nat_le, max, get_or, Bool, true, false, List, [], ◌∷◌, ◌++◌, length, map, is_some, Option, Some, None, cond, ◌⊎◌, inl, inr, refl, sym, ap, ◌∙◌, arith}
 use Rattle.std.specs.Prelude.{⊤}
 use Rattle.std.specs.List.{list_any}
 use Rattle.std.specs.Ordering.{nat_cmp, eq_by_cmp}
@@ -13,7 +13,8 @@ use Rattle.pc_model.specs.Sets.{Set, number_order}
 use Rattle.pc_model.proofs.MapLaws.{get-insert, get-entries}
 use Rattle.pc_model.proofs.SetLaws.{same_set}
 use Rattle.pc_part.specs.declared.ranges.Range.{Range}
-use Rattle.pc_part.specs.Parts.{points_of, RangesFrom, AreRanges}
+use Rattle.pc_model.specs.declared.laying.Triple.{Triple}
+use Rattle.pc_part.specs.Parts.{points_of, AreCovered, RangesFrom, AreRanges}
 use Rattle.pc_part.specs.Unions.{BeginFrom, IsFirst}
 use Rattle.pc_part.proofs.RangePoints.{contains-points_of}
 
@@ -174,3 +175,18 @@ pub begins : (a b left right : List Range) (range : Range) → AreRanges a → A
 begins a b left right range in_a in_b first =
     let n = next_is a b range left right 1 first in_a.1 in_b.1 in
     record { rise = (n.from, n.ends, n.limit, tt); left_from = n.left_from; right_from = n.right_from; same = λ q. sym (n.same q) }
+
+-- triples of points of a set are of points of each union with it
+contains_more : (a b t : Bool) → a ≡ (b || t) → b ≡ true → a ≡ true
+contains_more a true t e h = e
+contains_more a false t e h = cc
+
+contains_more_right : (a b t : Bool) → a ≡ (b || t) → t ≡ true → a ≡ true
+contains_more_right a true t e h = e
+contains_more_right a false t e h = e ∙ h
+
+pub covered_left : (s t u : Set number_order) (triples : List Triple) → u ≡ set.union s t → AreCovered s triples → AreCovered u triples
+covered_left s t u triples is covered = rw is (λ k d lt. contains_more _ _ _ (contains-union s t (get_or triples k d).point) (covered k d lt))
+
+pub covered_right : (s t u : Set number_order) (triples : List Triple) → u ≡ set.union s t → AreCovered t triples → AreCovered u triples
+covered_right s t u triples is covered = rw is (λ k d lt. contains_more_right _ _ _ (contains-union s t (get_or triples k d).point) (covered k d lt))

@@ -41,6 +41,19 @@ impl Base {
         Base { run, point, pairs }
     }
 
+    // The base of a run at this point with these pairs.
+    pub(crate) fn at_point(run: u64, point: Point, pairs: Vec<(Key, Value)>) -> Base
+        requires rise { KeysRise pairs.items }
+        requires limit { IsWithinLimit pairs.items }
+        ensures { result ≡ record { run = run; point = point; pairs = database_of pairs.items } }
+    {
+        Base {
+            run,
+            point,
+            pairs,
+        }
+    }
+
     /// The number of the run, by which files of one run know each other.
     pub fn run(&self) -> u64
         ensures { result ≡ self.now.run }

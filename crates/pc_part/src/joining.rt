@@ -1,26 +1,47 @@
 //! The join of two files: of each key the triple of the greatest point.
 ghost use Rattle.std.specs.Prelude.{◌≡◌, ◌+◌, ◌++◌, [], ◌∷◌, length, nat_lt, IfOk, OnOk, if◌then◌else◌};
-ghost use Rattle.pc_model.specs.Files.{differs, same_content};
+ghost use Rattle.pc_model.specs.Files.{differs, joined_file, same_content};
 ghost use Rattle.pc_model.specs.Laying.{entry_of, entries_of};
 ghost use Rattle.pc_model.specs.Database.{KeysRise};
 ghost use Rattle.pc_model.specs.Points.{later, joined};
 ghost use Rattle.pc_model.specs.Sets.{Set, number_order};
 ghost use Rattle.pc_part.specs.Bases.{IsWithinLimit};
 ghost use Rattle.pc_part.specs.Parts.{AreCovered, triples_of};
-ghost use Rattle.pc_model.specs.Replies.{is_empty};
+ghost use Rattle.pc_model.specs.Replies.{is_empty, join_causes};
 ghost use Rattle.pc_part.specs.Joins.{clash_at, first_cause, triples_causes, IsRefusedBy};
 ghost use Rattle.pc_part.specs.Merges.{merged};
 
+use crate::part::Part;
+use crate::uniting::union_ranges;
 use pc_model::Triple;
 use pc_types::{Refusal, Value};
 use std::alloc::{AllocError, Global};
 use std::cmp::Ordering;
 
+/// The join of two parts of one run: it stands for the points of both, and has of each key the entry of the greatest
+/// point, whether a value or a tombstone. Both parts stay as they are. Of several refusals the first counts:
+///
+/// - `OtherRun` exactly where the parts are of two runs;
+/// - `Conflict` exactly where some key has in both the same point and different contents;
+/// - `Full` exactly where the join would have more than 4,294,967,295 entries;
+/// - `OutOfMemory` only where memory ran out.
+pub fn join(alloc: Global, a: &Part, b: &Part) -> Result<Part, Refusal>
+    ensures joined { IfOk result (λ part. part ≡ joined_file a.now b.now) }
+    ensures refused { IsRefusedBy (first_cause (join_causes (Some a.now) (Some b.now))) result }
+{
+    if a.run() != b.run() {
+        return Err(Refusal::OtherRun);
+    }
+    let entries = merge_entries(alloc, a.entries(), b.entries())?;
+    let ranges = union_ranges(alloc, a.ranges(), b.ranges())?;
+    Ok(Part::from_lists(a.run(), ranges, entries))
+}
+
 // A file has at most so many entries.
 pub(crate) const ENTRY_LIMIT: usize = 4_294_967_295;
 
-/// The triples of both, of each key that of the greater point, where no two conflict and they are not too many.
-pub(crate) fn merge_entries(
+// The triples of both, of each key that of the greater point, where no two conflict and they are not too many.
+fn merge_entries(
     alloc: Global,
     a: &[Triple],
     b: &[Triple],

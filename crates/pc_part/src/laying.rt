@@ -1,21 +1,54 @@
 //! Laying a part on a base.
-ghost use Rattle.std.specs.Prelude.{◌≡◌, ◌+◌, ◌≤◌, ◌++◌, [], ◌∷◌, length, option_copied, IfOk, OnOk, MatchOption, Some};
+ghost use Rattle.std.specs.Prelude.{◌≡◌, ◌+◌, ◌≤◌, ◌++◌, [], ◌∷◌, length, max, option_copied, IfOk, OnOk, MatchOption, Some};
 ghost use Rattle.pc_model.specs.Database.{KeysRise, database_of};
-ghost use Rattle.pc_model.specs.Files.{gap_above, greatest};
+ghost use Rattle.pc_model.specs.Files.{gap_above, greatest, laid_file};
 ghost use Rattle.pc_model.specs.Laying.{entry_of, entries_of};
 ghost use Rattle.pc_model.specs.Points.{laid, laid_at};
 ghost use Rattle.pc_part.specs.Bases.{IsWithinLimit};
 ghost use Rattle.pc_part.specs.Joins.{first_cause, IsRefusedBy};
-ghost use Rattle.pc_part.specs.Layings.{IsLaidFirst, laid_there, limit_causes};
+ghost use Rattle.pc_part.specs.Layings.{IsLaidFirst, laid_there, lay_causes, limit_causes};
 ghost use Rattle.pc_part.specs.Merges.{merged, with_content};
 ghost use Rattle.pc_part.specs.Parts.{AreRanges, points_of, triples_of};
 
+use crate::base::Base;
 use crate::joining::ENTRY_LIMIT;
+use crate::part::Part;
 use crate::ranges::Range;
 use pc_model::Triple;
 use pc_types::{Key, Point, Refusal, Value};
 use std::alloc::{AllocError, Global};
 use std::cmp::Ordering;
+
+/// The base with a part of its run laid on it: each key whose entry has a point above the base's is set to the entry's
+/// value or, at a tombstone, removed; the others stay. It then stands at the part's greatest point, or stays at its own
+/// where that is greater. Both stay as they are. Of several refusals the first counts:
+///
+/// - `OtherRun` exactly where both are of two runs;
+/// - `Gap(p)` exactly where p is the least point above the base's, and up to the part's greatest, for which the part
+///   doesn't stand;
+/// - `Full` exactly where more than 4,294,967,295 pairs would be left;
+/// - `OutOfMemory` only where memory ran out.
+pub fn lay(alloc: Global, base: &Base, part: &Part) -> Result<Base, Refusal>
+    ensures laid { IfOk result (λ laid. laid ≡ laid_file base.now part.now) }
+    ensures refused { IsRefusedBy (first_cause (lay_causes base.now part.now)) result }
+{
+    if base.run() != part.run() {
+        return Err(Refusal::OtherRun);
+    }
+    if let Some(gap) = first_gap(base.point(), part.ranges()) {
+        return Err(Refusal::Gap(gap));
+    }
+    let pairs = lay_entries(alloc, base.point(), base.pairs(), part.entries())?;
+    let point = greater(base.point(), last_point(part.ranges()));
+    Ok(Base::at_point(base.run(), point, pairs))
+}
+
+// The greater of two points.
+fn greater(a: Point, b: Point) -> Point
+    ensures { result ≡ max a b }
+{
+    if a.0 < b.0 { b } else { a }
+}
 
 // The pairs of the database once the triples are laid on it at the point, where they are not too many.
 fn lay_entries<'a>(

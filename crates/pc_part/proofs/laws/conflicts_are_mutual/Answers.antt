@@ -1,0 +1,5 @@
+use Rattle.pc_part.proofs.JoinLaws.{conflicts_are_mutual}
+use Rattle.pc_part.proofs.laws.conflicts_are_mutual.Goals as goal
+
+pub returns : goal.returns
+returns c = conflicts_are_mutual
