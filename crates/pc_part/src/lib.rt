@@ -5,11 +5,18 @@
 mod base;
 mod encoding;
 mod joining;
+mod laws;
 mod laying;
 mod part;
 mod ranges;
 mod uniting;
 
 pub use base::Base;
+pub use joining::join;
+pub use laws::{
+    conflicts_are_mutual, joins_are_idempotent, joins_associate, joins_commute,
+    joins_make_no_conflict,
+};
+pub use laying::lay;
 pub use part::Part;
 pub use ranges::Range;
