@@ -50,11 +50,6 @@ pub none_left : (n : ℕ) (queue : List Request) → IsOwn n queue → queue_wit
 none_left n [] own = refl
 none_left n (r ∷ rs) own = rw (own.0, eqb-same r.transaction n own.1) refl
 
-has_token-commit : (point : ℕ) (log : List Entry) (s : ℕ) (ws : List Write) → has_token point (log ++ Commit s ws ∷ []) ≡ has_token point log
-has_token-commit point [] s ws = refl
-has_token-commit point (Commit t vs ∷ log) s ws = has_token-commit point log s ws
-has_token-commit point (Token phase m ∷ log) s ws = ap (cond (is_token_of point phase m) true) (has_token-commit point log s ws)
-
 pub true_not_false : (b : Bool) → b ≡ true → b ≡ false → ⊥
 true_not_false true t f = cc
 true_not_false false t f = cc
@@ -118,7 +113,6 @@ alone_still h step e a =
       died = rw e a.died;
       held = λ o key w. rw e (a.held (rw e at o) key (rw e at w));
       asked = λ key o. asked_more step.event (asked_for h) key (a.asked key (rw e at o));
-      tokenless = λ p. rw (e, append-nil (log_of h)) (a.tokenless p);
     }
 
 pub alone_begin : (h : History) (t : ℕ) → is_open 1 h ≡ false → IsAlone h → IsAlone (record { event = asked.Begin 1; reply = told.Begun t } ∷ h)
@@ -130,7 +124,6 @@ alone_begin h t shut a =
       died = refl;
       held = λ o key w. cc;
       asked = λ key o. a.asked key o;
-      tokenless = λ p. rw (append-nil (log_of h)) (a.tokenless p);
     }
 
 -- one more granted request
@@ -151,7 +144,6 @@ alone_read h k None is a =
       died = a.died;
       held = λ o key w. stays_by (number_of 1 h) (queue_of key h) false (same_bytes k key) (a.held o key w);
       asked = λ key o. among_with_key (asked_for h) k key ∙ asked_now (number_of 1 h) (queue_of key h) false (same_bytes k key) (is_among (asked_for h) key) o (a.asked key);
-      tokenless = λ p. rw (append-nil (log_of h)) (a.tokenless p);
     }
 alone_read h k (Some v) is a =
     record {
@@ -161,7 +153,6 @@ alone_read h k (Some v) is a =
       died = a.died;
       held = λ o key w. stays_by (number_of 1 h) (queue_of key h) false (same_bytes k key) (a.held o key w);
       asked = λ key o. among_with_key (asked_for h) k key ∙ asked_now (number_of 1 h) (queue_of key h) false (same_bytes k key) (is_among (asked_for h) key) o (a.asked key);
-      tokenless = λ p. rw (append-nil (log_of h)) (a.tokenless p);
     }
 
 or_none_of : (v : Option (List ℕ)) (b : Bool) → is_some (cond b (Some v) None) ≡ (b || false)
@@ -195,7 +186,6 @@ alone_write h k v is a =
       died = a.died;
       held = λ o key w. held_write (same_bytes k key) (is_some (written (writes_of 1 h) key)) (queue_of key h) (sym (held_by (writes_of 1 h) k key (Some v)) ∙ w) (a.held o key);
       asked = λ key o. among_with_key (asked_for h) k key ∙ asked_now (number_of 1 h) (queue_of key h) true (same_bytes k key) (is_among (asked_for h) key) o (a.asked key);
-      tokenless = λ p. rw (append-nil (log_of h)) (a.tokenless p);
     }
   where
     held_write : (b c : Bool) (queue : List Request) → (b || c) ≡ true → (c ≡ true → is_empty queue ≡ false) → is_empty (cond b (queue_after queue (number_of 1 h) true Granted) queue) ≡ false
@@ -211,11 +201,20 @@ alone_commit h n a =
       died = a.died;
       held = λ o. cc;
       asked = λ key o. absurd (true_not_false true refl (ap is_empty (sym (none_left (number_of 1 h) (queue_of key h) (a.own key))) ∙ o));
-      tokenless = λ p. has_token-commit p (log_of h) 1 (writes_of 1 h) ∙ a.tokenless p;
     }
 
 pub not_waiting : (h : History) → IsAlone h → is_waiting 1 h ≡ false
 not_waiting h a = rw a.waited refl
 
-pub none_closed : (h : History) → IsAlone h → closed_set h ≡ []
-none_closed h a = rw (a.tokenless (Rattle.pc_model.specs.History.point_of h)) refl
+-- a step of the checkpointer
+pub alone_other : (h : History) (step : Step) → ((key : List ℕ) → queue_of key (step ∷ h) ≡ queue_of key h) → is_open 1 (step ∷ h) ≡ is_open 1 h → number_of 1 (step ∷ h) ≡ number_of 1 h → waited_for 1 (step ∷ h) ≡ waited_for 1 h → has_died 1 (step ∷ h) ≡ has_died 1 h →
+    writes_of 1 (step ∷ h) ≡ writes_of 1 h → IsAlone h → IsAlone (step ∷ h)
+alone_other h step queues opened number waited died writes a =
+    record {
+      own = λ key. rw (queues key, number) (a.own key);
+      idle = λ o key. queues key ∙ a.idle (sym opened ∙ o) key;
+      waited = waited ∙ a.waited;
+      died = died ∙ a.died;
+      held = λ o key w. ap is_empty (queues key) ∙ a.held (sym opened ∙ o) key (ap (λ ws. is_some (written ws key)) (sym writes) ∙ w);
+      asked = λ key o. asked_more step.event (asked_for h) key (a.asked key (ap is_empty (sym (queues key)) ∙ o));
+    }

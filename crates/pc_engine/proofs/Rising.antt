@@ -1,13 +1,14 @@
 -- The rows still rise.
-use Rattle.std.proofs.Common.{◌≡◌, ℕ, List, [], ◌∷◌, map, refl, ap, ◌∙◌, ◌&&◌, Result, Ok, Err}
+use Rattle.std.proofs.Common.{◌≡◌, ℕ, List, [], ◌∷◌, map, refl, ap, ◌∙◌, ◌&&◌, not, Option, Some, None, Result, Ok, Err}
 use Rattle.std.specs.Prelude.{OnOk, OnErr}
 use Rattle.std.specs.declared.alloc.AllocError.{AllocError}
 use Rattle.std.specs.FinMap.{is_sorted}
-use Rattle.std.specs.FinMap.Entries.{is_sorted-put, below_all}
+use Rattle.std.specs.FinMap.Entries.{is_sorted-put, is_sorted-where_key, below_all}
 use Rattle.std.specs.Ordering.{is_lt}
-use Rattle.pc_model.specs.Database.{key_cmp, key_order, KeysRise}
+use Rattle.pc_model.specs.Database.{key_cmp, key_order, same_bytes, KeysRise}
 use Rattle.pc_model.proofs.PairMaps.{computes, tested}
-use Rattle.pc_engine.specs.Store.{Row, record_of, requested, requested_rows, committed_row}
+use Rattle.pc_engine.specs.declared.records.Record.{Record}
+use Rattle.pc_engine.specs.Store.{Row, record_of, requested, requested_rows, committed_row, closed_row, left_of, with_left, left_rows}
 
 pub rise_requested : (rows new : List Row) (key : List ℕ) (r : Result (Unit {0}) AllocError) → KeysRise rows → OnOk r (new ≡ requested_rows rows key) → OnErr r (new ≡ rows) → KeysRise new
 rise_requested rows new key (Ok u) rise ok err = rw ok (tested (is_sorted-put key_cmp key_order.total key (requested (record_of rows key)) rows (computes rise)))
@@ -24,3 +25,22 @@ sorted_rows (p ∷ pairs) = rw (below_rows p.0 pairs, sorted_rows pairs) refl
 
 pub rows_rise : (pairs : List (List ℕ × List ℕ)) → KeysRise pairs → KeysRise (map committed_row pairs)
 rows_rise pairs rise = sorted_rows pairs ∙ rise
+
+-- and so do rows whose keys are the same
+below_closed : (key : List ℕ) (rows : List Row) → below_all key_cmp key (map closed_row rows) ≡ below_all key_cmp key rows
+below_closed key [] = refl
+below_closed key (row ∷ rows) = ap (λ b. is_lt (key_cmp key row.0) && b) (below_closed key rows)
+
+sorted_closed : (rows : List Row) → is_sorted key_cmp (map closed_row rows) ≡ is_sorted key_cmp rows
+sorted_closed [] = refl
+sorted_closed (row ∷ rows) = rw (below_closed row.0 rows, sorted_closed rows) refl
+
+pub rise_closed : (rows new : List Row) → KeysRise rows → new ≡ map closed_row rows → KeysRise new
+rise_closed rows new rise is = rw is (sorted_closed rows ∙ rise)
+
+pub rise_left : (rows new : List Row) (key : List ℕ) → KeysRise rows → new ≡ left_rows rows key → KeysRise new
+rise_left rows new key rise is = rw is (by_record (left_of (record_of rows key)))
+  where
+    by_record : (o : Option Record) → KeysRise (with_left o key rows)
+    by_record None = tested (is_sorted-where_key key_cmp (λ k. not (same_bytes key k)) rows (computes rise))
+    by_record (Some r) = tested (is_sorted-put key_cmp key_order.total key r rows (computes rise))

@@ -1,19 +1,26 @@
 -- Slots by their rows and by their numbers.
-use Rattle.std.proofs.Common.{◌≡◌, ℕ, zero, suc, ◌+◌, ◌<◌, ◌≤◌, List, [], ◌∷◌, ◌++◌, length, map, take, drop, get_or, set, Option, Some, None, is_none, filter, refl, sym, ap, ◌∙◌, arith, cond, Bool, true, false, eqb, ltb, leb, ◌&&◌}
+use Rattle.std.proofs.Common.{◌≡◌, ℕ, zero, suc, ◌+◌, ◌<◌, ◌≤◌, List, [], ◌∷◌, ◌++◌, length, map, take, drop, get_or, set, Option, Some, None, is_none, is_some, not, filter, refl, sym, ap, ◌∙◌, arith, cond, Bool, true, false, eqb, ltb, leb, ◌&&◌, ◌||◌}
 use Rattle.std.specs.Prelude.{insert}
+use Rattle.std.specs.declared.cmp.Ordering.{Ordering}
 use Rattle.std.specs.declared.cmp.Ordering.TheVariants.{Less, Equal, Greater}
+use Rattle.std.specs.Ordering.{is_lt, is_eq}
+use Rattle.std.specs.FinMap.{is_sorted}
+use Rattle.std.specs.FinMap.Entries.{below_all}
+use Rattle.std.proofs.lemmas.Cmp.{eq_by_cmp_equiv}
+use Rattle.pc_model.proofs.Counts.{and_both}
 use Rattle.std.proofs.Math.ListN.{get_or-map}
 use Rattle.std.proofs.lemmas.List.{map-set, get_or_default, take_more, take_all}
 use Rattle.std.proofs.Math.Seq.{map-set_same}
 use Rattle.std.proofs.lemmas.Grind.{common_steps}
 use Rattle.std.proofs.lemmas.Bool.Decides.{nat_tests}
 use Rattle.pc_types.specs.declared.Write.{Write}
-use Rattle.pc_model.specs.Database.{key_cmp, KeysRise, written}
+use Rattle.pc_model.specs.Database.{key_cmp, key_order, same_bytes, KeysRise, written}
 use Rattle.pc_engine.specs.declared.records.Record.{Record}
 use Rattle.pc_engine.specs.declared.records.Slot.{Slot}
-use Rattle.pc_engine.specs.Store.{Row, record_of, stored, requested, requested_rows, committed, outlasts, settled, settled_rows, committed_row, is_full_for}
-use Rattle.pc_engine.specs.Slots.{row_of, rows_of, numbers_of, times, AreShared, AreStillShared, IsMarked, numbers_from, slots_from, settled_slots, values_given, with_given, committed_slot, with_writes, freed, with_slot, with_freed}
+use Rattle.pc_engine.specs.Store.{Row, record_of, stored, requested, requested_rows, committed, closed_row, left, left_of, with_left, left_rows, outlasts, settled, settled_rows, committed_row, is_full_for}
+use Rattle.pc_engine.specs.Slots.{row_of, rows_of, numbers_of, times, AreShared, AreStillShared, IsMarked, numbers_from, slots_from, settled_slots, values_given, with_given, committed_slot, closed_slot, taken_slot, with_writes, freed, with_slot, with_freed}
 use Rattle.pc_model.specs.Places.{IsAt, IsGap}
+use Rattle.pc_engine.proofs.Alone.{same_key}
 use Rattle.pc_model.proofs.EntryPlaces.{IsBehind, at_hit, gap_before, behind_more}
 
 pub length-rows : (slots : List Slot) → length (rows_of slots) ≡ length slots
@@ -39,6 +46,10 @@ module _ (slots : List Slot) (key : List ℕ) (i : ℕ) (e : Slot) (lt : i < len
   -- the slot at its place has the key's record
   pub slot_found : IsAt (rows_of slots) key i → record_of (rows_of slots) key ≡ Some e.kept
   slot_found at = at.finds (row_of e) ∙ ap (λ (row : Row). Some row.1) (sym is_row)
+
+-- the place is one of the slots'
+pub within : (slots : List Slot) (key : List ℕ) (i : ℕ) → IsAt (rows_of slots) key i → i < length slots
+within slots key i at = omega (arith, at.in_range, length-rows slots)
 
 -- how often a number stands in two lists together
 times-append : (n : ℕ) (xs ys : List ℕ) → times n (xs ++ ys) ≡ times n xs + times n ys
@@ -204,35 +215,45 @@ filtered_settled ws (x ∷ xs) = by_test (outlasts (committed (written ws x.key)
     by_test true e = ap (λ (slots : List Slot). with_writes ws x ∷ slots) e
     by_test false e = e
 
--- the slots before place i are committed
-abbrev pub committed_to : List Write → ℕ → List Slot → List Slot
-committed_to ws i slots = map (with_writes ws) (take i slots) ++ drop i slots
+-- the slots before place i are changed
+abbrev pub turned_to : (Slot → Slot) → ℕ → List Slot → List Slot
+turned_to f i slots = map f (take i slots) ++ drop i slots
 
 -- the slot at place i is as it was
-slot_left : (ws : List Write) (slots : List Slot) (i : ℕ) (d : Slot) → i < length slots → get_or (committed_to ws i slots) i d ≡ get_or slots i d
-slot_left ws [] i d lt = absurd (omega (arith, lt))
-slot_left ws (x ∷ xs) zero d lt = refl
-slot_left ws (x ∷ xs) (suc i) d lt = slot_left ws xs i d (omega (arith, lt))
+slot_left : (f : Slot → Slot) (slots : List Slot) (i : ℕ) (d : Slot) → i < length slots → get_or (turned_to f i slots) i d ≡ get_or slots i d
+slot_left f [] i d lt = absurd (omega (arith, lt))
+slot_left f (x ∷ xs) zero d lt = refl
+slot_left f (x ∷ xs) (suc i) d lt = slot_left f xs i d (omega (arith, lt))
 
--- and then it is committed too
-commits_one : (ws : List Write) (slots : List Slot) (i : ℕ) (d : Slot) → i < length slots → set (committed_to ws i slots) i (with_writes ws (get_or slots i d)) ≡ committed_to ws (i + 1) slots
-commits_one ws [] i d lt = absurd (omega (arith, lt))
-commits_one ws (x ∷ xs) zero d lt = refl
-commits_one ws (x ∷ xs) (suc i) d lt = ap (λ (ys : List Slot). with_writes ws x ∷ ys) (commits_one ws xs i d (omega (arith, lt))) ∙ grind (arith, common_steps)
+-- and then it is changed too
+turned_one : (f : Slot → Slot) (slots : List Slot) (i : ℕ) (d : Slot) → i < length slots → set (turned_to f i slots) i (f (get_or slots i d)) ≡ turned_to f (i + 1) slots
+turned_one f [] i d lt = absurd (omega (arith, lt))
+turned_one f (x ∷ xs) zero d lt = refl
+turned_one f (x ∷ xs) (suc i) d lt = ap (λ (ys : List Slot). f x ∷ ys) (turned_one f xs i d (omega (arith, lt))) ∙ grind (arith, common_steps)
+
+-- one slot after the other is changed
+pub turns_next : (f : Slot → Slot) (slots now new : List Slot) (i : ℕ) (d : Slot) → i < length slots → now ≡ turned_to f i slots → ((d : Slot) → new ≡ set now i (f (get_or now i d))) → new ≡ turned_to f (i + 1) slots
+turns_next f slots now new i d lt now_is new_is =
+    new_is d ∙ ap (λ (ys : List Slot). set ys i (f (get_or ys i d))) now_is ∙ ap (λ (s : Slot). set (turned_to f i slots) i (f s)) (slot_left f slots i d lt) ∙ turned_one f slots i d lt
+
+pub length-turned : (f : Slot → Slot) (slots : List Slot) (i : ℕ) → length (turned_to f i slots) ≡ length slots
+length-turned f [] i = grind (arith, common_steps)
+length-turned f (x ∷ xs) zero = refl
+length-turned f (x ∷ xs) (suc i) = grind (arith, length-turned f xs i)
 
 values_left : (ws : List Write) (slots : List Slot) (i : ℕ) (d : Slot) → i < length slots → values_given ws (drop i slots) ≡ with_given (written ws (get_or slots i d).key) (values_given ws (drop (i + 1) slots))
 values_left ws [] i d lt = absurd (omega (arith, lt))
 values_left ws (x ∷ xs) zero d lt = refl
 values_left ws (x ∷ xs) (suc i) d lt = values_left ws xs i d (omega (arith, lt)) ∙ grind (arith, common_steps)
 
-pub commits_next : (ws : List Write) (slots now new : List Slot) (i : ℕ) (e : Slot) (given : Option (Option (List ℕ))) (values left : List (Option (List ℕ))) → i < length slots → now ≡ committed_to ws i slots → values ≡ values_given ws (drop i slots) →
+pub commits_next : (ws : List Write) (slots now new : List Slot) (i : ℕ) (e : Slot) (given : Option (Option (List ℕ))) (values left : List (Option (List ℕ))) → i < length slots → now ≡ turned_to (with_writes ws) i slots → values ≡ values_given ws (drop i slots) →
     e ≡ get_or now i e → ((rest : List (Option (List ℕ))) → values ≡ with_given (written ws e.key) rest → (given ≡ written ws e.key) × (left ≡ rest)) → ((d : Slot) → new ≡ set now i (committed_slot given (get_or now i d))) →
-    (new ≡ committed_to ws (i + 1) slots) × (left ≡ values_given ws (drop (i + 1) slots))
+    (new ≡ turned_to (with_writes ws) (i + 1) slots) × (left ≡ values_given ws (drop (i + 1) slots))
 commits_next ws slots now new i e given values left lt now_is values_are e_is next new_is =
-    let there : e ≡ get_or slots i e = e_is ∙ ap (λ (ys : List Slot). get_or ys i e) now_is ∙ slot_left ws slots i e lt in
+    let there : e ≡ get_or slots i e = e_is ∙ ap (λ (ys : List Slot). get_or ys i e) now_is ∙ slot_left (with_writes ws) slots i e lt in
     let given_is = next (values_given ws (drop (i + 1) slots)) (values_are ∙ values_left ws slots i e lt ∙ ap (λ (s : Slot). with_given (written ws s.key) (values_given ws (drop (i + 1) slots))) (sym there)) in (
       new_is e ∙ ap (λ (s : Slot). set now i (committed_slot given s)) (sym e_is) ∙ ap (λ g. set now i (committed_slot g e)) given_is.0 ∙ ap (λ (ys : List Slot). set ys i (with_writes ws e)) now_is
-          ∙ ap (λ (s : Slot). set (committed_to ws i slots) i (with_writes ws s)) there ∙ commits_one ws slots i e lt,
+          ∙ ap (λ (s : Slot). set (turned_to (with_writes ws) i slots) i (with_writes ws s)) there ∙ turned_one (with_writes ws) slots i e lt,
       given_is.1,
     )
 
@@ -241,3 +262,151 @@ pub next_of : (given popped : Option (Option (List ℕ))) (v : Option (List ℕ)
 next_of given popped v values new rest is values_are popped_is new_is =
     let first : values ≡ v ∷ rest = values_are ∙ ap (λ g. with_given g rest) is in
     (popped_is (rw first (omega arith)) ∙ ap (λ (vs : List (Option (List ℕ))). Some (get_or vs 0 v)) first ∙ sym is, new_is ∙ ap (drop 1) first)
+
+-- a change of the slot at its place, whatever stands for no slot
+pub changed : (f : Slot → Slot) (slots : List Slot) (i : ℕ) (e d : Slot) → i < length slots → e ≡ get_or slots i e → set slots i (f e) ≡ set slots i (f (get_or slots i d))
+changed f slots i e d lt is = ap (λ (s : Slot). set slots i (f s)) (is ∙ sym (get_or_default slots i d e lt))
+
+-- what all slots keep
+pub rows-closed : (slots : List Slot) → rows_of (map closed_slot slots) ≡ map closed_row (rows_of slots)
+rows-closed [] = refl
+rows-closed (x ∷ xs) = ap (λ (rows : List Row). closed_row (row_of x) ∷ rows) (rows-closed xs)
+
+numbers-closed : (slots : List Slot) → numbers_of (map closed_slot slots) ≡ numbers_of slots
+numbers-closed [] = refl
+numbers-closed (x ∷ xs) = ap (λ (ns : List ℕ). x.number ∷ ns) (numbers-closed xs)
+
+pub closed_shared : (capacity : ℕ) (slots : List Slot) (free : List ℕ) → AreShared capacity slots free → AreShared capacity (map closed_slot slots) free
+closed_shared capacity slots free shared = keeps_shared capacity slots free (map closed_slot slots) free shared (marked_shared slots (map closed_slot slots) free (numbers-closed slots))
+
+-- a slot that goes
+times-removed : (n : ℕ) (slots : List Slot) (i : ℕ) (d : Slot) → i < length slots → times n (numbers_of (take i slots ++ drop (suc i) slots)) + cond (eqb (get_or slots i d).number n) 1 0 ≡ times n (numbers_of slots)
+times-removed n [] i d lt = absurd (omega (arith, lt))
+times-removed n (x ∷ xs) zero d lt = elim (eqb x.number n) as (λ b. times n (numbers_of xs) + cond b 1 0 ≡ cond b (times n (numbers_of xs) + 1) (times n (numbers_of xs))) [ true ↦ refl | false ↦ omega arith ]
+times-removed n (x ∷ xs) (suc i) d lt = by_test (eqb x.number n) (times-removed n xs i d (omega (arith, lt)))
+  where
+    by_test : (b : Bool) → times n (numbers_of (take i xs ++ drop (suc i) xs)) + cond (eqb (get_or xs i d).number n) 1 0 ≡ times n (numbers_of xs) →
+        cond b (times n (numbers_of (take i xs ++ drop (suc i) xs)) + 1) (times n (numbers_of (take i xs ++ drop (suc i) xs))) + cond (eqb (get_or xs i d).number n) 1 0 ≡ cond b (times n (numbers_of xs) + 1) (times n (numbers_of xs))
+    by_test true e = omega (arith, e)
+    by_test false e = e
+
+pub removed_shared : (slots new : List Slot) (free new_free : List ℕ) (i : ℕ) (e : Slot) → i < length slots → e ≡ get_or slots i e → new ≡ take i slots ++ drop (suc i) slots → new_free ≡ free ++ e.number ∷ [] → AreStillShared slots free new new_free
+removed_shared slots new free new_free i e lt is new_is free_is =
+    record {
+      each = λ n.
+          let gone : times n (numbers_of (take i slots ++ drop (suc i) slots)) + cond (eqb e.number n) 1 0 ≡ times n (numbers_of slots) = ap (λ (s : Slot). times n (numbers_of (take i slots ++ drop (suc i) slots)) + cond (eqb s.number n) 1 0) is ∙ times-removed n slots i e lt in
+          rw (new_is, free_is) (omega (arith, gone, times-append n free (e.number ∷ []), times-one n e.number));
+      count = rw (new_is, free_is) (grind (arith, common_steps, lt));
+    }
+
+-- the rows of the other keys
+others_below : (key : List ℕ) (rows : List Row) → below_all key_cmp key rows ≡ true → filter (λ row. not (same_bytes key row.0)) rows ≡ rows
+others_below key [] h = refl
+others_below key (row ∷ rows) h = by_order (key_cmp key row.0) refl (others_below key rows)
+  where
+    by_order : (o : Ordering) → key_cmp key row.0 ≡ o → (below_all key_cmp key rows ≡ true → filter (λ row. not (same_bytes key row.0)) rows ≡ rows) → filter (λ row. not (same_bytes key row.0)) (row ∷ rows) ≡ row ∷ rows
+    by_order Less is rest = rw is (ap (λ (rows : List Row). row ∷ rows) (rest (rw is at h)))
+    by_order Equal is rest = absurd (no (rw is at h))
+      where
+        no : false ≡ true → ⊥
+        no e = cc
+    by_order Greater is rest = absurd (no (rw is at h))
+      where
+        no : false ≡ true → ⊥
+        no e = cc
+
+pub others_all : (key : List ℕ) (rows : List Row) → record_of rows key ≡ None → filter (λ row. not (same_bytes key row.0)) rows ≡ rows
+others_all key [] h = refl
+others_all key (row ∷ rows) h = by_test (same_bytes key row.0) refl (others_all key rows)
+  where
+    by_test : (b : Bool) → same_bytes key row.0 ≡ b → (record_of rows key ≡ None → filter (λ row. not (same_bytes key row.0)) rows ≡ rows) → filter (λ row. not (same_bytes key row.0)) (row ∷ rows) ≡ row ∷ rows
+    by_test true is rest = absurd (some_not_none row.1 (rw is at h))
+      where
+        some_not_none : (r : Record) → Some r ≡ None → ⊥
+        some_not_none r e = cc
+    by_test false is rest = rw is (ap (λ (rows : List Row). row ∷ rows) (rest (rw is at h)))
+
+below_at : (key : List ℕ) (rows : List Row) (i : ℕ) (d : Row) → i < length rows → below_all key_cmp key rows ≡ true → is_lt (key_cmp key (get_or rows i d).0) ≡ true
+below_at key [] i d lt h = absurd (omega (arith, lt))
+below_at key (row ∷ rows) zero d lt h = (and_both (is_lt (key_cmp key row.0)) (below_all key_cmp key rows) h).0
+below_at key (row ∷ rows) (suc i) d lt h = below_at key rows i d (omega (arith, lt)) (and_both (is_lt (key_cmp key row.0)) (below_all key_cmp key rows) h).1
+
+-- without the row at the key's place they are those of the other keys
+pub others_but : (key : List ℕ) (rows : List Row) (i : ℕ) (d : Row) → is_sorted key_cmp rows ≡ true → i < length rows → same_bytes key (get_or rows i d).0 ≡ true → take i rows ++ drop (suc i) rows ≡ filter (λ row. not (same_bytes key row.0)) rows
+others_but key [] i d rise lt here = absurd (omega (arith, lt))
+others_but key (row ∷ rows) zero d rise lt here =
+    rw here (sym (others_below key rows (ap (λ (k : List ℕ). below_all key_cmp k rows) (same_key key row.0 here) ∙ (and_both (below_all key_cmp row.0 rows) (is_sorted key_cmp rows) rise).0)))
+others_but key (row ∷ rows) (suc i) d rise lt here =
+    let below = (and_both (below_all key_cmp row.0 rows) (is_sorted key_cmp rows) rise).0 in
+    let less : is_lt (key_cmp row.0 key) ≡ true = ap (λ (k : List ℕ). is_lt (key_cmp row.0 k)) (same_key key (get_or rows i d).0 here) ∙ below_at row.0 rows i d (omega (arith, lt)) below in
+    rw (symm key row.0 ∙ less_apart (key_cmp row.0 key) less) (ap (λ (rs : List Row). row ∷ rs) (others_but key rows i d (and_both (below_all key_cmp row.0 rows) (is_sorted key_cmp rows) rise).1 (omega (arith, lt)) here))
+  where
+    less_apart : (o : Ordering) → is_lt o ≡ true → is_eq o ≡ false
+    less_apart Less e = refl
+    less_apart Equal e = cc
+    less_apart Greater e = cc
+
+    symm : (a b : List ℕ) → same_bytes a b ≡ same_bytes b a
+    symm a b = (eq_by_cmp_equiv key_order.total).symm a b
+
+-- what a taken key leaves of the rows
+pub left_away : (slots : List Slot) (key : List ℕ) → record_of (rows_of slots) key ≡ None → rows_of slots ≡ left_rows (rows_of slots) key
+left_away slots key none = rw none (sym (others_all key (rows_of slots) none))
+
+pub left_there : (slots new : List Slot) (key : List ℕ) (i : ℕ) (d : Slot) (r : Record) → IsAt (rows_of slots) key i → left (get_or slots i d).kept ≡ Some r → rows_of new ≡ set (rows_of slots) i ((get_or slots i d).key, r) → rows_of new ≡ left_rows (rows_of slots) key
+left_there slots new key i d r at is new_is =
+    let row : get_or (rows_of slots) i (row_of d) ≡ row_of (get_or slots i d) = get_or-map row_of slots i d in
+    let found : record_of (rows_of slots) key ≡ Some (get_or slots i d).kept = at.finds (row_of d) ∙ ap (λ (row : Row). Some row.1) row in
+    new_is ∙ ap (λ (row : Row). set (rows_of slots) i (row.0, r)) (sym row) ∙ sym (at.puts (row_of d) r) ∙ sym (ap (λ o. with_left (left_of o) key (rows_of slots)) found ∙ ap (λ o. with_left o key (rows_of slots)) is)
+
+pub left_gone : (slots new : List Slot) (key : List ℕ) (i : ℕ) (d : Slot) → KeysRise (rows_of slots) → IsAt (rows_of slots) key i → same_bytes key (get_or slots i d).key ≡ true → left (get_or slots i d).kept ≡ None → new ≡ take i slots ++ drop (suc i) slots →
+    rows_of new ≡ left_rows (rows_of slots) key
+left_gone slots new key i d rise at here none new_is =
+    let row : get_or (rows_of slots) i (row_of d) ≡ row_of (get_or slots i d) = get_or-map row_of slots i d in
+    let found : record_of (rows_of slots) key ≡ Some (get_or slots i d).kept = at.finds (row_of d) ∙ ap (λ (row : Row). Some row.1) row in
+    ap rows_of new_is ∙ rows-without slots i ∙ others_but key (rows_of slots) i (row_of d) rise at.in_range (ap (λ (row : Row). same_bytes key row.0) row ∙ here)
+    ∙ sym (ap (λ o. with_left (left_of o) key (rows_of slots)) found ∙ ap (λ o. with_left o key (rows_of slots)) none)
+  where
+    rows-without : (xs : List Slot) (j : ℕ) → rows_of (take j xs ++ drop (suc j) xs) ≡ take j (rows_of xs) ++ drop (suc j) (rows_of xs)
+    rows-without [] j = grind (arith, common_steps)
+    rows-without (x ∷ xs) zero = refl
+    rows-without (x ∷ xs) (suc j) = ap (λ (rows : List Row). row_of x ∷ rows) (rows-without xs j)
+
+-- a record that stays
+left_stays : (r : Record) → true ≡ is_some (left r) → left r ≡ Some (record r { is_closed = false })
+left_stays r e = by_test ((r.is_requested || r.is_recent) || is_some r.value) e
+  where
+    by_test : (b : Bool) → true ≡ is_some {T = Record} (cond b (Some (record r { is_closed = false })) None) → cond b (Some (record r { is_closed = false })) None ≡ Some (record r { is_closed = false })
+    by_test true e = refl
+    by_test false e = absurd (no e)
+      where
+        no : true ≡ false → ⊥
+        no e = cc
+
+-- and one that doesn't
+left_none : (r : Record) → false ≡ is_some (left r) → left r ≡ None
+left_none r e = by_test ((r.is_requested || r.is_recent) || is_some r.value) e
+  where
+    by_test : (b : Bool) → false ≡ is_some {T = Record} (cond b (Some (record r { is_closed = false })) None) → cond b (Some (record r { is_closed = false })) None ≡ None
+    by_test true e = absurd (no e)
+      where
+        no : false ≡ true → ⊥
+        no e = cc
+    by_test false e = refl
+
+module _ (slots new : List Slot) (key : List ℕ) (i : ℕ) (e : Slot) (lt : i < length slots) (is : e ≡ get_or slots i e) where
+  pub left_marked : IsAt (rows_of slots) key i → true ≡ is_some (left e.kept) → ((d : Slot) → new ≡ set slots i (taken_slot (get_or slots i d))) → rows_of new ≡ left_rows (rows_of slots) key
+  left_marked at stays new_is =
+      left_there slots new key i e (record e.kept { is_closed = false }) at (ap (λ (s : Slot). left s.kept) (sym is) ∙ left_stays e.kept stays)
+      (ap rows_of (new_is e) ∙ map-set row_of slots i (taken_slot (get_or slots i e)) ∙ ap (λ (s : Slot). set (rows_of slots) i ((get_or slots i e).key, record s.kept { is_closed = false })) (sym is))
+
+  pub marked_still : (free : List ℕ) → ((d : Slot) → new ≡ set slots i (taken_slot (get_or slots i d))) → AreStillShared slots free new free
+  marked_still free new_is =
+      marked_shared slots new free (ap numbers_of (new_is e) ∙ map-set_same (λ (slot : Slot). slot.number) slots i (taken_slot (get_or slots i e)) e refl)
+
+  pub left_freed : KeysRise (rows_of slots) → IsAt (rows_of slots) key i → ((d : Slot) → same_bytes key (get_or slots i d).key ≡ true) → false ≡ is_some (left e.kept) → new ≡ take i slots ++ drop (suc i) slots → rows_of new ≡ left_rows (rows_of slots) key
+  left_freed rise at here goes new_is = left_gone slots new key i e rise at (here e) (ap (λ (s : Slot). left s.kept) (sym is) ∙ left_none e.kept goes) new_is
+
+-- a slot that stands for none
+abbrev pub any_slot : Slot
+any_slot = record { number = 0; key = []; kept = record { value = None; is_recent = false; is_closed = false; is_requested = false } }

@@ -1,6 +1,5 @@
 -- What each event leaves of a world that stands after a history.
 use Rattle.std.proofs.Common.{◌≡◌, ℕ, ◌+◌, List, [], ◌∷◌, ◌++◌, length, append-nil, subst, Option, Some, None, is_some, is_none, refl, sym, ap, ◌∙◌, arith, cond, true, false, Bool, not, eqb, ◌⊎◌, ◌&&◌, inl, inr, map}
-use Rattle.std.specs.Prelude.{MatchOption, IfSome}
 use Rattle.std.proofs.lemmas.Bool.Decides.{nat_tests}
 use Rattle.pc_types.specs.declared.Event.{Event}
 use Rattle.pc_types.specs.declared.Event.TheVariants as asked
@@ -8,151 +7,89 @@ use Rattle.pc_types.specs.declared.Reply.{Reply}
 use Rattle.pc_types.specs.declared.Reply.TheVariants as told
 use Rattle.pc_types.specs.declared.Refusal.{Refusal}
 use Rattle.pc_types.specs.declared.Refusal.TheVariants as why
-use Rattle.pc_types.specs.declared.Step.{Step}
 use Rattle.pc_types.specs.declared.Entry.TheVariants.{Commit}
 use Rattle.pc_types.specs.declared.Entry.{Entry}
 use Rattle.pc_model.specs.Maps as map_of
 use Rattle.pc_model.specs.Database.{KeysRise, database_of, key_cmp, key_order, same_bytes, written, with_write}
 use Rattle.pc_model.specs.Log.{after}
 use Rattle.pc_model.proofs.MapLaws.{get-from_list}
-use Rattle.pc_model.proofs.Effects.{refused_does_nothing, first_refusal_refuses}
 use Rattle.pc_model.proofs.Logs.{after-append}
 use Rattle.std.specs.FinMap.{find}
 use Rattle.pc_engine.proofs.Rising.{rows_rise}
-use Rattle.pc_engine.proofs.Serial.{is_serial}
-use Rattle.pc_model.specs.History.{History, effect, contents, log_of, begun, is_open, writes_of, number_of, has_died, entries_by, begun_by, open_by, writes_by}
-use Rattle.pc_model.specs.History.Effect.{Nothing}
-use Rattle.pc_model.specs.Locks.{outcome, queue_of, queue_by, is_waiting}
+use Rattle.pc_model.specs.History.{History, contents, log_of, begun, is_open, writes_of, number_of}
+use Rattle.pc_types.specs.declared.Phase.TheVariants.{Rest}
+use Rattle.pc_model.specs.Files.{File, shelf, file_at, join_of}
+use Rattle.pc_model.specs.Headline.{HasLegalEffects}
+use Rattle.pc_model.proofs.Standing.{closed_stays}
+use Rattle.pc_model.specs.Locks.{outcome, queue_of}
 use Rattle.pc_model.specs.Locks.Outcome.{Granted}
-use Rattle.pc_model.specs.Replies.{Setting, IsLegal, IsLegalHistory, certain, Answers, first_refusal, no_session, too_many, is_full, read_reply, value_read, by_outcome, is_empty, written_since_token, written_by}
-use Rattle.pc_engine.specs.Store.{Store, setting_of, record_of, stored, is_recent, is_requested, committed_row, requested_rows, is_full_for, is_one_too_many, open_causes, begin_causes, Owes, Begins, Gets, Puts, Commits}
+use Rattle.pc_model.specs.Replies.{Setting, first_refusal, or_else, same_phase, is_in, IsFileReply, no_session, too_many, is_full, read_reply, value_read, by_outcome, written_since_token}
+use Rattle.pc_engine.specs.Store.{Store, setting_of, record_of, stored, is_recent, is_closed, is_requested, committed_row, requested_rows, new_keys, is_full_for, is_one_too_many, open_causes, begin_causes, Owes, Begins, Gets, Puts, Commits, StartsPoint, Seals, Moves, TakesFirst, Takes, Shelves, Joins}
+use Rattle.pc_types.specs.declared.Phase.{Phase}
 use Rattle.pc_engine.specs.Stands.{IsReadOff, Stands, Follows, IfRefused, is_kept}
 use Rattle.pc_engine.specs.Alone.{IsBuilt}
-use Rattle.pc_engine.proofs.Alone.{alone_still, alone_begin, alone_read, alone_write, alone_commit, not_waiting, outcome_own, none_left, true_not_false}
+use Rattle.pc_engine.proofs.Alone.{alone_begin, alone_read, alone_write, alone_commit, outcome_own, none_left, true_not_false}
+use Rattle.pc_engine.proofs.NewKeys.{with_keys_new}
+use Rattle.pc_engine.proofs.Owing.{with_step, IsLeft, owes_follows, refused_idle, same_cycle, not_first, not_not, single, by_session, in_transaction}
 use Rattle.pc_engine.proofs.Occupied.{full_now}
 use Rattle.pc_engine.proofs.Settling.{same_records, requested_records, settled_records, distinct_writes}
 
 -- the other events are not built
-pub not_built : (e : Event) → ((s : ℕ) → e ≡ asked.Begin s → ⊥) → ((s : ℕ) (k : List ℕ) → e ≡ asked.Get s k → ⊥) → ((s : ℕ) (k v : List ℕ) → e ≡ asked.Put s k v → ⊥) → ((s : ℕ) → e ≡ asked.Commit s → ⊥) → IsBuilt e → ⊥
-not_built (asked.Begin s) b g p c is = b s refl
-not_built (asked.Get s k) b g p c is = g s k refl
-not_built (asked.Put s k v) b g p c is = p s k v refl
-not_built (asked.Commit s) b g p c is = c s refl
-not_built (asked.Del s k) b g p c is = is
-not_built (asked.Abort s) b g p c is = is
-not_built asked.StartPoint b g p c is = is
-not_built asked.Seal b g p c is = is
-not_built asked.OpenCapture b g p c is = is
-not_built asked.Take b g p c is = is
-not_built asked.Done b g p c is = is
-not_built asked.Rest b g p c is = is
-not_built (asked.Join m n) b g p c is = is
-
--- after what does nothing the world's parts are as before
-still : (w : Store) (h : History) (step : Step) → effect step ≡ Nothing → IsReadOff w h → IsReadOff w (step ∷ h)
-still w h step e parts =
-    let same : log_of (step ∷ h) ≡ log_of h = ap (λ d. log_of h ++ entries_by d h) e ∙ append-nil (log_of h) in
-    record {
-      records = same_records w.base.pairs w.kept.rows h (step ∷ h) (ap (after w.base.pairs) same) (λ q. ap (λ d. is_empty (queue_by q d h (queue_of q h))) e) (ap (λ d. written_by d h (written_since_token h)) e) parts.records;
-      log = parts.log ∙ sym same;
-      begun = parts.begun ∙ sym (ap (λ d. begun_by d (begun h)) e);
-      is_open = parts.is_open ∙ sym (ap (λ d. open_by 1 d (is_open 1 h)) e);
-      writes = λ o. parts.writes o ∙ sym (ap (λ d. writes_by 1 d (writes_of 1 h)) e);
-      alone = alone_still h step e parts.alone;
-    }
-
--- where the first cause does not stand
-not_first : (b : Bool) (r : Refusal) (cs : List (Bool × Refusal)) → first_refusal ((b, r) ∷ cs) ≡ None → (b ≡ false) × (first_refusal cs ≡ None)
-not_first true r cs e = cc
-not_first false r cs e = (refl, e)
-
-not_not : (b : Bool) → not b ≡ false → b ≡ true
-not_not true e = refl
-not_not false e = cc
-
--- the one session's number
-single : (st : Setting) (s : ℕ) → st.sessions ≡ 1 → no_session st s ≡ false → s ≡ 1
-single st s one e = grind (arith, nat_tests)
-
--- the same first refusal, where the causes behind NoSession are told for session 1
-by_session : (st : Setting) (s : ℕ) (mine theirs : List (Bool × Refusal)) → st.sessions ≡ 1 → (s ≡ 1 → first_refusal mine ≡ first_refusal theirs) →
-    first_refusal ((no_session st s, why.NoSession) ∷ mine) ≡ first_refusal ((no_session st s, why.NoSession) ∷ theirs)
-by_session st s mine theirs one then = by_test (no_session st s) refl
-  where
-    by_test : (b : Bool) → no_session st s ≡ b → cond b (Some (told.Refused why.NoSession)) (first_refusal mine) ≡ cond b (Some (told.Refused why.NoSession)) (first_refusal theirs)
-    by_test true e = refl
-    by_test false e = then (single st s one e)
-
--- two causes that do not stand
-passed_over : (a b : Bool) (ra rb : Refusal) (cs : List (Bool × Refusal)) → a ≡ false → b ≡ false → first_refusal cs ≡ first_refusal ((a, ra) ∷ (b, rb) ∷ cs)
-passed_over a b ra rb cs e f = rw (e, f) refl
-
--- the causes of an open transaction's events
-in_transaction : (w : Store) (h : History) (s : ℕ) (mine theirs : List (Bool × Refusal)) → Stands w h → (s ≡ 1 → w.is_open ≡ true → first_refusal mine ≡ first_refusal theirs) →
-    first_refusal (open_causes w s mine) ≡ first_refusal ((no_session (setting_of w) s, why.NoSession) ∷ (not (is_open s h), why.NoTransaction) ∷ (is_waiting s h, why.StillWaiting) ∷ (has_died s h, why.MustAbort) ∷ theirs)
-in_transaction w h s mine theirs stands then =
-    by_session (setting_of w) s ((not w.is_open, why.NoTransaction) ∷ mine) ((not (is_open s h), why.NoTransaction) ∷ (is_waiting s h, why.StillWaiting) ∷ (has_died s h, why.MustAbort) ∷ theirs) stands.single
-    (λ is. subst (λ t. first_refusal ((not w.is_open, why.NoTransaction) ∷ mine) ≡ first_refusal ((not (is_open t h), why.NoTransaction) ∷ (is_waiting t h, why.StillWaiting) ∷ (has_died t h, why.MustAbort) ∷ theirs)) (sym is)
-    (ap (λ b. cond (not b) (Some (told.Refused why.NoTransaction)) (first_refusal mine)) stands.parts.is_open
-    ∙ by_open (is_open 1 h) refl (then is)
-    ∙ ap (cond (not (is_open 1 h)) (Some (told.Refused why.NoTransaction))) (passed_over (is_waiting 1 h) (has_died 1 h) why.StillWaiting why.MustAbort theirs (not_waiting h stands.parts.alone) stands.parts.alone.died)))
-  where
-    by_open : (b : Bool) → is_open 1 h ≡ b → (w.is_open ≡ true → first_refusal mine ≡ first_refusal theirs) → cond (not b) (Some (told.Refused why.NoTransaction)) (first_refusal mine) ≡ cond (not b) (Some (told.Refused why.NoTransaction)) (first_refusal theirs)
-    by_open true e then_open = then_open (stands.parts.is_open ∙ e)
-    by_open false e then_open = refl
-
--- what an event leaves where it is done
-abbrev IsDone : Store → Store → History → Event → Reply → Type 0
-IsDone old new h event reply = Answers (setting_of old) h event reply × (setting_of new ≡ setting_of old) × IsReadOff new (record { event = event; reply = reply } ∷ h)
-
--- what an event leaves, given what it leaves where it is done
-owes_follows : (old new : Store) (h : History) (event : Event) (reply : Reply) (Done : Type 0) (cs : List (Bool × Refusal)) → Stands old h → first_refusal cs ≡ certain (setting_of old) h event → Owes (first_refusal cs) old reply new Done →
-    (first_refusal cs ≡ None → Done → IsDone old new h event reply) → Follows (setting_of old) h event reply new
-owes_follows old new h event reply Done cs stands same step done = by_cause (first_refusal cs) refl (first_refusal_refuses cs) step
-  where
-    goes_on : IsLegal (setting_of old) h event reply → setting_of new ≡ setting_of old → IsReadOff new (record { event = event; reply = reply } ∷ h) → Follows (setting_of old) h event reply new
-    goes_on legal setting parts =
-        let then : Stands new (record { event = event; reply = reply } ∷ h) = record {
-          legal = subst (λ st. IsLegalHistory st (record { event = event; reply = reply } ∷ h)) (sym setting) (legal, stands.legal);
-          single = ap (λ (st : Setting). st.sessions) setting ∙ stands.single;
-          parts = parts;
-        } in
-        record { legal = legal; stands = then; serial = is_serial new (record { event = event; reply = reply } ∷ h) then }
-
-    refused : (r : Refusal) → reply ≡ told.Refused r → new ≡ old → IsReadOff new (record { event = event; reply = reply } ∷ h)
-    refused r is unchanged = rw (is, unchanged) (still old h (record { event = event; reply = told.Refused r }) (refused_does_nothing event r) stands.parts)
-
-    legal_by : (o : Option Reply) → first_refusal cs ≡ o → MatchOption o (Answers (setting_of old) h event reply ⊎ (reply ≡ told.Refused why.OutOfMemory)) (λ due. reply ≡ due) → IsLegal (setting_of old) h event reply
-    legal_by o is fact = subst (λ o. MatchOption o (Answers (setting_of old) h event reply ⊎ (reply ≡ told.Refused why.OutOfMemory)) (λ due. reply ≡ due)) (sym is ∙ same) fact
-
-    by_cause : (o : Option Reply) → first_refusal cs ≡ o → IfSome o (λ due. (r : Refusal) × (due ≡ told.Refused r)) → Owes o old reply new Done → Follows (setting_of old) h event reply new
-    by_cause (Some due) is refuses owes = goes_on (legal_by (Some due) is owes.0) (ap setting_of owes.1) (refused refuses.0 (owes.0 ∙ refuses.1) owes.1)
-    by_cause None is refuses (inl d) = let all = done is d in goes_on (legal_by None is (inl all.0)) all.1 all.2
-    by_cause None is refuses (inr out) = goes_on (legal_by None is (inr out.0)) (ap setting_of out.1) (refused why.OutOfMemory out.0 out.1)
+pub not_built : (e : Event) → ((s : ℕ) → e ≡ asked.Begin s → ⊥) → ((s : ℕ) (k : List ℕ) → e ≡ asked.Get s k → ⊥) → ((s : ℕ) (k v : List ℕ) → e ≡ asked.Put s k v → ⊥) → ((s : ℕ) → e ≡ asked.Commit s → ⊥) → (e ≡ asked.StartPoint → ⊥) → (e ≡ asked.Seal → ⊥) →
+    (e ≡ asked.OpenCapture → ⊥) → (e ≡ asked.Take → ⊥) → (e ≡ asked.Done → ⊥) → (e ≡ asked.Rest → ⊥) → ((m n : ℕ) → e ≡ asked.Join m n → ⊥) → IsBuilt e → ⊥
+not_built (asked.Begin s) b g p c sp se oc ta dn re jo is = b s refl
+not_built (asked.Get s k) b g p c sp se oc ta dn re jo is = g s k refl
+not_built (asked.Put s k v) b g p c sp se oc ta dn re jo is = p s k v refl
+not_built (asked.Commit s) b g p c sp se oc ta dn re jo is = c s refl
+not_built (asked.Del s k) b g p c sp se oc ta dn re jo is = is
+not_built (asked.Abort s) b g p c sp se oc ta dn re jo is = is
+not_built asked.StartPoint b g p c sp se oc ta dn re jo is = sp refl
+not_built asked.Seal b g p c sp se oc ta dn re jo is = se refl
+not_built asked.OpenCapture b g p c sp se oc ta dn re jo is = oc refl
+not_built asked.Take b g p c sp se oc ta dn re jo is = ta refl
+not_built asked.Done b g p c sp se oc ta dn re jo is = dn refl
+not_built asked.Rest b g p c sp se oc ta dn re jo is = re refl
+not_built (asked.Join m n) b g p c sp se oc ta dn re jo is = jo m n refl
 
 -- after a read
-read_off : (w : Store) (h : History) (key : List ℕ) (answer : Option (List ℕ)) → is_open 1 h ≡ true → IsReadOff w h →
-    IsReadOff (record w { kept = record w.kept { rows = requested_rows w.kept.rows key } }) (record { event = asked.Get 1 key; reply = read_reply answer } ∷ h)
-read_off w h key None is parts = record {
-  records = requested_records w.base.pairs w.kept.rows h _ key (number_of 1 h) false (ap (after w.base.pairs) (append-nil (log_of h))) (λ q. refl) refl parts.records;
-  log = rw append-nil parts.log;
-  begun = parts.begun;
-  is_open = parts.is_open;
-  writes = parts.writes;
-  alone = alone_read h key None is parts.alone;
-}
-read_off w h key (Some v) is parts = record {
-  records = requested_records w.base.pairs w.kept.rows h _ key (number_of 1 h) false (ap (after w.base.pairs) (append-nil (log_of h))) (λ q. refl) refl parts.records;
-  log = rw append-nil parts.log;
-  begun = parts.begun;
-  is_open = parts.is_open;
-  writes = parts.writes;
-  alone = alone_read h key (Some v) is parts.alone;
-}
+read_off : (w : Store) (h : History) (key : List ℕ) (answer : Option (List ℕ)) → is_open 1 h ≡ true → HasLegalEffects (setting_of w) (with_step h (asked.Get 1 key) (read_reply answer)) → IsReadOff w h →
+    IsLeft w (record w { kept = record w.kept { rows = requested_rows w.kept.rows key } }) h (asked.Get 1 key) (read_reply answer)
+read_off w h key None is legal parts = (
+  refl,
+  record {
+    records = requested_records w.base.pairs w.kept.rows h _ key (number_of 1 h) false (ap (after w.base.pairs) (append-nil (log_of h))) (λ q. refl) refl (closed_stays (setting_of w) h (record { event = asked.Get 1 key; reply = told.Absent }) legal refl) parts.records;
+    log = rw append-nil parts.log;
+    begun = parts.begun;
+    is_open = parts.is_open;
+    writes = parts.writes;
+    alone = alone_read h key None is parts.alone;
+    cycle = same_cycle (setting_of w) w.cycle w.shelf h (record { event = asked.Get 1 key; reply = told.Absent }) legal refl refl refl refl refl (append-nil (shelf w.base.run h)) (λ r. parts.cycle.quiet r) parts.cycle;
+  },
+  tt,
+)
+read_off w h key (Some v) is legal parts = (
+  refl,
+  record {
+    records = requested_records w.base.pairs w.kept.rows h _ key (number_of 1 h) false (ap (after w.base.pairs) (append-nil (log_of h))) (λ q. refl) refl (closed_stays (setting_of w) h (record { event = asked.Get 1 key; reply = told.Found v }) legal refl) parts.records;
+    log = rw append-nil parts.log;
+    begun = parts.begun;
+    is_open = parts.is_open;
+    writes = parts.writes;
+    alone = alone_read h key (Some v) is parts.alone;
+    cycle = same_cycle (setting_of w) w.cycle w.shelf h (record { event = asked.Get 1 key; reply = told.Found v }) legal refl refl refl refl refl (append-nil (shelf w.base.run h)) (λ r. parts.cycle.quiet r) parts.cycle;
+  },
+  tt,
+)
 
 is_none-some : {A : Type 0} (o : Option A) → is_none o ≡ not (is_some o)
 is_none-some None = refl
 is_none-some (Some x) = refl
+
+-- the refusals of a begin, and those of the quiet case before them
+begin_due : (a r : Bool) (cs : List (Bool × Refusal)) → first_refusal ((a, why.NoSession) ∷ (r, why.WrongPhase) ∷ cs) ≡ or_else (first_refusal ((a, why.NoSession) ∷ (r, why.WrongPhase) ∷ [])) (first_refusal ((a, why.NoSession) ∷ cs))
+begin_due true r cs = refl
+begin_due false true cs = refl
+begin_due false false cs = refl
 
 module _ (old new : Store) (h : History) (s : ℕ) (reply : Reply) (stands : Stands old h) where
   one_then : (cs : List (Bool × Refusal)) → first_refusal ((no_session (setting_of old) s, why.NoSession) ∷ cs) ≡ None → s ≡ 1
@@ -164,84 +101,115 @@ module _ (old new : Store) (h : History) (s : ℕ) (reply : Reply) (stands : Sta
   pub begins_follows : Begins old s reply new → Follows (setting_of old) h (asked.Begin s) reply new
   begins_follows step =
       let mine : List (Bool × Refusal) = (old.is_open, why.AlreadyBegun) ∷ (eqb old.begun 1099511627776, why.LogFull) ∷ [] in
-      owes_follows old new h (asked.Begin s) reply _ (begin_causes old s) stands
-      (by_session (setting_of old) s mine ((is_open s h, why.AlreadyBegun) ∷ (eqb (begun h) 1099511627776, why.LogFull) ∷ []) stands.single (λ is. rw (is, stands.parts.is_open, stands.parts.begun) refl))
-      step
-      (λ none d.
-      let one : s ≡ 1 = one_then mine none in
-      let shut : old.is_open ≡ false = (not_first old.is_open why.AlreadyBegun ((eqb old.begun 1099511627776, why.LogFull) ∷ []) (not_first (no_session (setting_of old) s) why.NoSession mine none).1).0 in (
-        d.0 ∙ ap (λ n. told.Begun (n + 1)) stands.parts.begun,
-        ap setting_of d.1,
-        rw (d.0, d.1, one) (record {
-          records = same_records old.base.pairs old.kept.rows h _ (ap (after old.base.pairs) (append-nil (log_of h))) (λ q. refl) refl stands.parts.records;
+      let theirs : List (Bool × Refusal) = (is_open s h, why.AlreadyBegun) ∷ (eqb (begun h) 1099511627776, why.LogFull) ∷ [] in
+      let resting : same_phase old.cycle.phase Rest ≡ is_in Rest h = ap (λ p. same_phase p Rest) stands.parts.cycle.phase in
+      owes_follows old new h (asked.Begin s) reply _ (first_refusal (begin_causes old s)) stands
+      (ap (λ b. first_refusal ((no_session (setting_of old) s, why.NoSession) ∷ (not b, why.WrongPhase) ∷ mine)) resting
+      ∙ by_session (setting_of old) s ((not (is_in Rest h), why.WrongPhase) ∷ mine) ((not (is_in Rest h), why.WrongPhase) ∷ theirs) stands.single
+      (λ is. ap (cond (not (is_in Rest h)) (Some (told.Refused why.WrongPhase))) (rw (is, stands.parts.is_open, stands.parts.begun) refl))
+      ∙ begin_due (no_session (setting_of old) s) (not (is_in Rest h)) theirs)
+      (refused_idle (asked.Begin s) (begin_causes old s)) step
+      (λ none d. d.0 ∙ ap (λ n. told.Begun (n + 1)) stands.parts.begun)
+      (λ none d legal.
+      let one : s ≡ 1 = one_then ((not (same_phase old.cycle.phase Rest), why.WrongPhase) ∷ mine) none in
+      let others = (not_first (no_session (setting_of old) s) why.NoSession ((not (same_phase old.cycle.phase Rest), why.WrongPhase) ∷ mine) none).1 in
+      let rests : is_in Rest h ≡ true = sym resting ∙ not_not _ (not_first (not (same_phase old.cycle.phase Rest)) why.WrongPhase mine others).0 in
+      let shut : old.is_open ≡ false = (not_first old.is_open why.AlreadyBegun ((eqb old.begun 1099511627776, why.LogFull) ∷ []) (not_first (not (same_phase old.cycle.phase Rest)) why.WrongPhase mine others).1).0 in
+      let now = rw (d.0, one) at legal in
+      rw (d.0, d.1, one) (
+        refl,
+        record {
+          records = same_records old.base.pairs old.kept.rows h _ (ap (after old.base.pairs) (append-nil (log_of h))) (λ q. refl) refl (closed_stays (setting_of old) h (record { event = asked.Begin 1; reply = told.Begun (old.begun + 1) }) now refl) stands.parts.records;
           log = rw append-nil stands.parts.log;
           begun = ap (λ n. n + 1) stands.parts.begun;
           is_open = refl;
           writes = λ o. refl;
           alone = alone_begin h (old.begun + 1) (sym stands.parts.is_open ∙ shut) stands.parts.alone;
-        }),
+          cycle = same_cycle (setting_of old) old.cycle old.shelf h (record { event = asked.Begin 1; reply = told.Begun (old.begun + 1) }) now refl refl refl refl refl (append-nil (shelf old.base.run h)) (λ r. absurd (true_not_false (is_in Rest h) rests r)) stands.parts.cycle;
+        },
+        tt,
       ))
 
   pub gets_follows : (key : List ℕ) → Gets old s key reply new → Follows (setting_of old) h (asked.Get s key) reply new
   gets_follows key step =
       let mine : List (Bool × Refusal) = (is_full_for old.kept key, why.Full) ∷ [] in
-      owes_follows old new h (asked.Get s key) reply _ (open_causes old s mine) stands
+      owes_follows old new h (asked.Get s key) reply _ (first_refusal (open_causes old s mine)) stands
       (in_transaction old h s mine ((is_full (setting_of old) key h, why.Full) ∷ []) stands (λ is o. ap (λ b. first_refusal ((b, why.Full) ∷ [])) (full_now old h key stands.parts.records stands.parts.alone)))
-      step
+      (refused_idle (asked.Get s key) (open_causes old s mine)) step
       (λ none d.
       let both = open_then mine none in
       let writes : old.writes ≡ writes_of s h = rw both.0 (stands.parts.writes both.1) in
-      let granted : outcome (queue_of key h) (number_of s h) false ≡ Granted = rw both.0 (outcome_own (number_of 1 h) (queue_of key h) false (stands.parts.alone.own key)) in (
-        d.0 ∙ ap (λ ws. read_reply (value_read (written ws key) (stored (record_of old.kept.rows key)))) writes ∙ ap (λ v. read_reply (value_read (written (writes_of s h) key) v)) (stands.parts.records.stored key)
-            ∙ ap (λ o. by_outcome o (read_reply (value_read (written (writes_of s h) key) (map_of.get (contents old.base.pairs h) key)))) (sym granted),
-        ap setting_of d.1,
-        rw (d.0, d.1, both.0) (read_off old h key _ (sym stands.parts.is_open ∙ both.1) stands.parts),
-      ))
+      let granted : outcome (queue_of key h) (number_of s h) false ≡ Granted = rw both.0 (outcome_own (number_of 1 h) (queue_of key h) false (stands.parts.alone.own key)) in
+      d.0 ∙ ap (λ ws. read_reply (value_read (written ws key) (stored (record_of old.kept.rows key)))) writes ∙ ap (λ v. read_reply (value_read (written (writes_of s h) key) v)) (stands.parts.records.stored key)
+      ∙ ap (λ o. by_outcome o (read_reply (value_read (written (writes_of s h) key) (map_of.get (contents old.base.pairs h) key)))) (sym granted))
+      (λ none d legal.
+      let both = open_then mine none in
+      let now = rw (d.0, both.0) at legal in
+      rw (d.0, d.1, both.0) (read_off old h key _ (sym stands.parts.is_open ∙ both.1) now stands.parts))
 
   pub puts_follows : (key value : List ℕ) → Puts old s key value reply new → Follows (setting_of old) h (asked.Put s key value) reply new
   puts_follows key value step =
       let mine : List (Bool × Refusal) = (is_one_too_many old.writes key, why.TooManyWrites) ∷ (is_full_for old.kept key, why.Full) ∷ [] in
-      owes_follows old new h (asked.Put s key value) reply _ (open_causes old s mine) stands
+      owes_follows old new h (asked.Put s key value) reply _ (first_refusal (open_causes old s mine)) stands
       (in_transaction old h s mine ((too_many s key h, why.TooManyWrites) ∷ (is_full (setting_of old) key h, why.Full) ∷ []) stands
       (λ is o. subst (λ t. first_refusal mine ≡ first_refusal ((too_many t key h, why.TooManyWrites) ∷ (is_full (setting_of old) key h, why.Full) ∷ [])) (sym is)
       (ap (λ b. first_refusal ((b, why.TooManyWrites) ∷ (is_full_for old.kept key, why.Full) ∷ [])) (ap (λ ws. eqb (length ws) 256 && is_none (written ws key)) (stands.parts.writes o) ∙ ap (λ b. eqb (length (writes_of 1 h)) 256 && b) (is_none-some (written (writes_of 1 h) key)))
       ∙ ap (λ b. first_refusal ((too_many 1 key h, why.TooManyWrites) ∷ (b, why.Full) ∷ [])) (full_now old h key stands.parts.records stands.parts.alone))))
-      step
+      (refused_idle (asked.Put s key value) (open_causes old s mine)) step
       (λ none d.
       let both = open_then mine none in
-      let granted : outcome (queue_of key h) (number_of s h) true ≡ Granted = rw both.0 (outcome_own (number_of 1 h) (queue_of key h) true (stands.parts.alone.own key)) in (
-        d.0 ∙ ap (λ o. by_outcome o told.Ok) (sym granted),
-        ap setting_of d.1,
-        rw (d.0, d.1, both.0) (record {
-          records = requested_records old.base.pairs old.kept.rows h _ key (number_of 1 h) true (ap (after old.base.pairs) (append-nil (log_of h))) (λ q. refl) refl stands.parts.records;
+      let granted : outcome (queue_of key h) (number_of s h) true ≡ Granted = rw both.0 (outcome_own (number_of 1 h) (queue_of key h) true (stands.parts.alone.own key)) in
+      d.0 ∙ ap (λ o. by_outcome o told.Ok) (sym granted))
+      (λ none d legal.
+      let both = open_then mine none in
+      let now = rw (d.0, both.0) at legal in
+      rw (d.0, d.1, both.0) (
+        refl,
+        record {
+          records = requested_records old.base.pairs old.kept.rows h _ key (number_of 1 h) true (ap (after old.base.pairs) (append-nil (log_of h))) (λ q. refl) refl (closed_stays (setting_of old) h (record { event = asked.Put 1 key value; reply = told.Ok }) now refl) stands.parts.records;
           log = rw append-nil stands.parts.log;
           begun = stands.parts.begun;
           is_open = stands.parts.is_open;
           writes = λ o. ap (λ ws. with_write ws (record { key = key; value = Some value })) (stands.parts.writes o);
           alone = alone_write h key value (sym stands.parts.is_open ∙ both.1) stands.parts.alone;
-        }),
+          cycle = same_cycle (setting_of old) old.cycle old.shelf h (record { event = asked.Put 1 key value; reply = told.Ok }) now refl refl refl refl refl (append-nil (shelf old.base.run h)) (λ r. stands.parts.cycle.quiet r) stands.parts.cycle;
+        },
+        tt,
       ))
 
   pub commits_follows : Commits old s reply new → Follows (setting_of old) h (asked.Commit s) reply new
   commits_follows step =
       let mine : List (Bool × Refusal) = (eqb (length old.log) 16777216, why.LogFull) ∷ [] in
-      owes_follows old new h (asked.Commit s) reply _ (open_causes old s mine) stands
+      owes_follows old new h (asked.Commit s) reply _ (first_refusal (open_causes old s mine)) stands
       (in_transaction old h s mine ((eqb (length (log_of h)) 16777216, why.LogFull) ∷ []) stands (λ is o. ap (λ (l : List Entry). first_refusal ((eqb (length l) 16777216, why.LogFull) ∷ [])) stands.parts.log))
-      step
-      (λ none d.
+      (refused_idle (asked.Commit s) (open_causes old s mine)) step
+      (λ none d. d.0 ∙ ap (λ log. told.Committed (length log + 1)) stands.parts.log)
+      (λ none d legal.
       let both = open_then mine none in
-      let writes : old.writes ≡ writes_of 1 h = stands.parts.writes both.1 in (
-        d.0 ∙ ap (λ log. told.Committed (length log + 1)) stands.parts.log,
-        ap setting_of d.1,
-        rw (d.0, d.1, both.0, writes) (record {
+      let writes : old.writes ≡ writes_of 1 h = stands.parts.writes both.1 in
+      let now = rw (d.0, both.0) at legal in
+      let closed = closed_stays (setting_of old) h (record { event = asked.Commit 1; reply = told.Committed (length old.log + 1) }) now refl in
+      rw (d.0, d.1, both.0, writes) (
+        refl,
+        record {
           records = settled_records old.base.pairs old.kept.rows h _ (writes_of 1 h) (distinct_writes 1 h) (stands.parts.alone.held (sym stands.parts.is_open ∙ both.1))
-              (after-append old.base.pairs (log_of h) (Commit 1 (writes_of 1 h) ∷ [])) (λ q. none_left (number_of 1 h) (queue_of q h) (stands.parts.alone.own q)) refl stands.parts.records;
+              (after-append old.base.pairs (log_of h) (Commit 1 (writes_of 1 h) ∷ [])) (λ q. none_left (number_of 1 h) (queue_of q h) (stands.parts.alone.own q)) refl closed stands.parts.records;
           log = ap (λ log. log ++ Commit 1 (writes_of 1 h) ∷ []) stands.parts.log;
           begun = stands.parts.begun;
           is_open = refl;
           writes = λ o. cc;
           alone = alone_commit h (length old.log + 1) stands.parts.alone;
-        }),
+          cycle = record {
+            phase = stands.parts.cycle.phase;
+            point = stands.parts.cycle.point;
+            recent = ap (λ (ks : List (List ℕ)). ks ++ new_keys old.kept.rows (writes_of 1 h)) stands.parts.cycle.recent ∙ sym (with_keys_new (written_since_token h) old.kept.rows (writes_of 1 h) (distinct_writes 1 h) (λ q there. stands.parts.records.recent q));
+            closed = stands.parts.cycle.closed ∙ sym closed;
+            taken = stands.parts.cycle.taken;
+            shelved = stands.parts.cycle.shelved ∙ sym (append-nil (shelf old.base.run h));
+            quiet = λ r. refl;
+          };
+        },
+        tt,
       ))
 
 -- a fact of every reply is one of a refusal
@@ -274,6 +242,32 @@ puts_keeps old s key value reply new = owes_keeps _ old reply new _ (λ d. (ap s
 pub commits_keeps : (old : Store) (s : ℕ) (reply : Reply) (new : Store) → Commits old s reply new → Keeps old reply new
 commits_keeps old s reply new = owes_keeps _ old reply new _ (λ d. (ap setting_of d.1, rw d.0 tt))
 
+pub starts_keeps : (old : Store) (reply : Reply) (new : Store) → StartsPoint old reply new → Keeps old reply new
+starts_keeps old reply new = owes_keeps _ old reply new _ (λ d. (ap setting_of d.1, rw d.0 tt))
+
+pub seals_keeps : (old : Store) (reply : Reply) (new : Store) → Seals old reply new → Keeps old reply new
+seals_keeps old reply new = owes_keeps _ old reply new _ (λ d. (ap setting_of d.1, rw d.0 tt))
+
+pub moves_keeps : (from to : Phase) (old : Store) (reply : Reply) (new : Store) → Moves from to old reply new → Keeps old reply new
+moves_keeps from to old reply new = owes_keeps _ old reply new _ (λ d. (ap setting_of d.1, rw d.0 tt))
+
+pub takes_keeps : (old : Store) (reply : Reply) (new : Store) → Takes old reply new → Keeps old reply new
+takes_keeps old reply new = owes_keeps _ old reply new _ (by_keys old.cycle.closed)
+  where
+    by_keys : (keys : List (List ℕ)) → TakesFirst keys old reply new → Keeps old reply new
+    by_keys [] d = absurd d
+    by_keys (k ∷ ks) d = (ap setting_of d.1, rw d.0 tt)
+
+pub shelves_keeps : (old : Store) (reply : Reply) (new : Store) → Shelves old reply new → Keeps old reply new
+shelves_keeps old reply new = owes_keeps _ old reply new _ (λ d. (ap setting_of d.1, rw d.0 tt))
+
+pub joins_keeps : (old : Store) (a b : ℕ) (reply : Reply) (new : Store) → Joins old a b reply new → Keeps old reply new
+joins_keeps old a b reply new = owes_keeps _ old reply new _ (λ d. (ap setting_of d.1, told_file (join_of (file_at old.shelf a) (file_at old.shelf b)) d.0))
+  where
+    told_file : (files : List File) → IsFileReply files (length old.shelf + 1) reply → IfRefused reply (new ≡ old)
+    told_file [] is = absurd is
+    told_file (f ∷ fs) is = rw is tt
+
 -- every key's committed value is in its row
 found_rows : (pairs : List (List ℕ × List ℕ)) (q : List ℕ) → stored (record_of (map committed_row pairs) q) ≡ find key_cmp q pairs
 found_rows [] q = refl
@@ -291,10 +285,16 @@ all_kept : (pairs : List (List ℕ × List ℕ)) (q : List ℕ) → is_some (rec
 all_kept [] q = refl
 all_kept (p ∷ pairs) q = elim (same_bytes q p.0) as (λ b. is_some (cond b (Some (committed_row p).1) (record_of (map committed_row pairs) q)) ≡ is_kept (cond b (Some (committed_row p).1) (record_of (map committed_row pairs) q))) [ true ↦ refl | false ↦ all_kept pairs q ]
 
+not_closed : (pairs : List (List ℕ × List ℕ)) (q : List ℕ) → is_closed (record_of (map committed_row pairs) q) ≡ false
+not_closed [] q = refl
+not_closed (p ∷ pairs) q = elim (same_bytes q p.0) as (λ b. is_closed (cond b (Some (committed_row p).1) (record_of (map committed_row pairs) q)) ≡ false) [ true ↦ refl | false ↦ not_closed pairs q ]
+
 -- a world made of a base stands after no step
-pub stands_first : (w : Store) (pairs : List (List ℕ × List ℕ)) → KeysRise pairs → database_of pairs ≡ w.base.pairs → w.sessions ≡ 1 → w.kept.rows ≡ map committed_row pairs → w.log ≡ [] → w.begun ≡ 0 → w.is_open ≡ false → Stands w []
-stands_first w pairs rise base one rows log begun shut = record {
+pub stands_first : (w : Store) (pairs : List (List ℕ × List ℕ)) → KeysRise pairs → database_of pairs ≡ w.base.pairs → w.sessions ≡ 1 → w.kept.rows ≡ map committed_row pairs → w.log ≡ [] → w.begun ≡ 0 → w.is_open ≡ false → w.cycle.phase ≡ Rest → w.cycle.point ≡ 0 → w.cycle.recent ≡ [] → w.cycle.closed ≡ [] → w.shelf ≡ [] → Stands w []
+stands_first w pairs rise base one rows log begun shut phase point recent closed shelf = record {
   legal = tt;
+  quiet = refl;
+  values = tt;
   single = one;
   parts = record {
     records = rw rows (record {
@@ -302,12 +302,14 @@ stands_first w pairs rise base one rows log begun shut = record {
       stored = λ q. found_rows pairs q ∙ sym (get-from_list key_order pairs q) ∙ ap (λ db. map_of.get db q) base;
       requested = unrequested pairs;
       recent = not_recent pairs;
+      closed = not_closed pairs;
       kept = all_kept pairs;
     });
     log = log;
     begun = begun;
     is_open = shut;
     writes = λ o. absurd (true_not_false w.is_open o shut);
-    alone = record { own = λ q. tt; idle = λ o q. refl; waited = refl; died = refl; held = λ o. cc; asked = λ q o. cc; tokenless = λ p. refl };
+    alone = record { own = λ q. tt; idle = λ o q. refl; waited = refl; died = refl; held = λ o. cc; asked = λ q o. cc };
+    cycle = record { phase = phase; point = point; recent = recent; closed = closed; taken = λ t. cc; shelved = shelf; quiet = λ r. cc };
   };
 }

@@ -1,4 +1,6 @@
 pub mod Store
+pub mod Limits
+pub mod Shelves
 pub mod Slots
 pub mod Writes
 pub mod Alone

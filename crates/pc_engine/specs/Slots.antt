@@ -1,10 +1,10 @@
 -- Slots: the places of records. Each has a number of its own below the capacity.
-use Rattle.std.specs.Prelude.{◌≡◌, ℕ, zero, suc, ◌+◌, ◌==◌, nat_lt, List, [], ◌∷◌, map, length, Option, Some, None, slice_set, if◌then◌else◌}
+use Rattle.std.specs.Prelude.{◌≡◌, ℕ, false, zero, suc, ◌+◌, ◌==◌, nat_lt, List, [], ◌∷◌, map, length, Option, Some, None, slice_set, if◌then◌else◌}
 use Rattle.pc_types.specs.declared.Write.{Write}
 use Rattle.pc_model.specs.Database.{written}
 use Rattle.pc_engine.specs.declared.records.Record.{Record}
 use Rattle.pc_engine.specs.declared.records.Slot.{Slot}
-use Rattle.pc_engine.specs.Store.{Row, committed_row, requested, committed, settled}
+use Rattle.pc_engine.specs.Store.{Row, committed_row, requested, committed, settled, closed_record}
 
 -- the row in a slot
 abbrev pub row_of : Slot → Row
@@ -89,3 +89,11 @@ settled_slots writes (slot ∷ slots) = with_slot (settled (written writes slot.
 abbrev pub freed : List Write → List Slot → List ℕ
 freed writes [] = []
 freed writes (slot ∷ slots) = with_freed (settled (written writes slot.key) slot.kept) slot.number (freed writes slots)
+
+-- the slot once the open set is closed
+abbrev pub closed_slot : Slot → Slot
+closed_slot slot = record slot { kept = closed_record slot.kept }
+
+-- the slot once its key is taken
+abbrev pub taken_slot : Slot → Slot
+taken_slot slot = record slot { kept = record slot.kept { is_closed = false } }

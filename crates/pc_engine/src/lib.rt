@@ -2,6 +2,7 @@
 #![tactic(auto)]
 
 mod records;
+mod shelving;
 mod world;
 mod writes;
 

@@ -1,9 +1,9 @@
 //! The records: what is kept of each key, in slots that rise by key.
-ghost use Rattle.std.specs.Prelude.{◌≡◌, ◌<◌, ◌≤◌, ◌==◌, ◌&&◌, ◌+◌, None, true, false, insert, map, length, IfOk, IfErr, OnOk, OnErr, is_none, option_copied};
+ghost use Rattle.std.specs.Prelude.{◌≡◌, ◌<◌, ◌≤◌, ◌==◌, ◌&&◌, ◌+◌, None, true, false, insert, remove, map, length, IfOk, IfErr, OnOk, OnErr, is_none, is_some, option_copied, vec_len, vec_capacity};
 ghost use Rattle.std.specs.Prelude.{slice_index_or, slice_set, filter, List, Option, ℕ};
-ghost use Rattle.pc_model.specs.Database.{KeysRise, written};
-ghost use Rattle.pc_engine.specs.Store.{record_of, requested, requested_rows, outlasts, settled, settled_rows, stored, committed_row, is_full_for};
-ghost use Rattle.pc_engine.specs.Slots.{rows_of, numbers_from, slots_from, values_given, with_given, committed_slot, with_writes, freed, AreStillShared, IsMarked};
+ghost use Rattle.pc_model.specs.Database.{KeysRise, same_bytes, written};
+ghost use Rattle.pc_engine.specs.Store.{record_of, is_recent, closed_row, left, left_rows, requested, requested_rows, outlasts, settled, settled_rows, stored, committed_row, is_full_for};
+ghost use Rattle.pc_engine.specs.Slots.{rows_of, closed_slot, taken_slot, numbers_from, slots_from, values_given, with_given, committed_slot, with_writes, freed, AreStillShared, IsMarked};
 ghost use Rattle.pc_model.specs.Places.{IsAt, IsGap};
 
 use crate::writes::written_at;
@@ -18,8 +18,10 @@ use std::marker::Model;
 pub struct Record {
     /// The committed value, if the key has one.
     pub value: Option<Value>,
-    /// A commit since the last resolve token, or since the start, wrote the key.
+    /// The key is in the open set: a commit since the last resolve token, or since the start, wrote it.
     pub is_recent: bool,
+    /// The key is in the closed set: it is of the point, and not taken yet.
+    pub is_closed: bool,
     /// A request of the open transaction stands on the key.
     pub is_requested: bool,
 }
@@ -45,7 +47,7 @@ impl Model for Records {
     ghost use Rattle.std.specs.Prelude.{◌≤◌, length};
     ghost use Rattle.pc_model.specs.Database.{KeysRise};
     ghost use Rattle.pc_engine.specs.Store.{Kept};
-    ghost use Rattle.pc_engine.specs.Slots.{rows_of, AreShared};
+    ghost use Rattle.pc_engine.specs.Slots.{rows_of, closed_slot, taken_slot, AreShared};
 
     ghost Value = { Kept };
 
@@ -97,6 +99,30 @@ impl Records {
         request(alloc, &mut self.slots, &mut self.free, key)
     }
 
+    /// Whether the key is in the open set.
+    pub(crate) fn is_recent(&self, key: &Key) -> bool
+        ensures { result ≡ is_recent (record_of self.now.rows key.now) }
+    {
+        recent_at(&self.slots, key)
+    }
+
+    /// The open set is closed, and another one begins.
+    pub(crate) fn close(&mut self)
+        ensures { self.new ≡ record self.old { rows = map closed_row self.old.rows } }
+    {
+        close_slots(&mut self.slots);
+    }
+
+    /// The key is taken, and its slot is free where nothing keeps it.
+    pub(crate) fn take(&mut self, key: &Key) -> Result<(), AllocError>
+        ensures ok { OnOk result (self.new ≡ record self.old { rows = left_rows self.old.rows key.now }) }
+        ensures err { OnErr result (self.new ≡ self.old) }
+    {
+        self.free.reserve(1)?;
+        leave(&mut self.slots, &mut self.free, key);
+        Ok(())
+    }
+
     /// The transaction with these writes commits: they are the keys' values, and no request is left.
     pub(crate) fn settle(&mut self, alloc: Global, writes: &[Write]) -> Result<(), AllocError>
         ensures ok { OnOk result (self.new ≡ record self.old { rows = settled_rows writes.now self.old.rows }) }
@@ -127,6 +153,7 @@ fn slots_of(alloc: Global, pairs: &[(Key, Value)]) -> Result<Vec<Slot>, AllocErr
             kept: Record {
                 value: Some(value),
                 is_recent: false,
+                is_closed: false,
                 is_requested: false,
             },
         })?;
@@ -151,6 +178,7 @@ fn numbers_between(alloc: Global, first: u32, last: u32) -> Result<Vec<SlotId>, 
 fn place(slots: &[Slot], key: &Key) -> Result<usize, usize>
     requires { KeysRise (rows_of slots.now) }
     ensures at { IfOk result (IsAt (rows_of slots.now) key.now) }
+    ensures here { IfOk result (λ i. (d : Slot) → same_bytes key.now (slice_index_or slots.now i d).key ≡ true) }
     ensures gap { IfErr result (IsGap (rows_of slots.now) key.now) }
 {
     for (i, slot) in slots.iter().enumerate() {
@@ -185,6 +213,78 @@ fn value_at<'a>(slots: &'a [Slot], key: &Key) -> Option<&'a Value>
     }
 }
 
+// Whether the key is in the open set.
+fn recent_at(slots: &[Slot], key: &Key) -> bool
+    requires { KeysRise (rows_of slots.now) }
+    ensures { result ≡ is_recent (record_of (rows_of slots.now) key.now) }
+{
+    match place(slots, key) {
+        Ok(i) => slots[i].kept.is_recent,
+        Err(_) => false,
+    }
+}
+
+// The key of the slot is of the closed set where it was in the open one.
+fn close_slot(slots: &mut Vec<Slot>, i: usize)
+    requires { i < length slots.old.items }
+    ensures { (d : Slot) → slots.new.items ≡ slice_set slots.old.items i (closed_slot (slice_index_or slots.old.items i d)) }
+{
+    let slot = &mut slots[i];
+    slot.kept.is_closed = slot.kept.is_recent;
+    slot.kept.is_recent = false;
+}
+
+// The open set is closed.
+fn close_slots(slots: &mut Vec<Slot>)
+    ensures { slots.new.items ≡ map closed_slot slots.old.items }
+{
+    for i in 0..slots.len() {
+        close_slot(slots, i);
+    }
+}
+
+// Whether something but the closed set keeps the record.
+fn stays(kept: &Record) -> bool
+    ensures { result ≡ is_some (left kept.now) }
+{
+    kept.is_requested || kept.is_recent || kept.value.is_some()
+}
+
+// The slot at the place is free from now on.
+fn free_slot(slots: &mut Vec<Slot>, free: &mut Vec<SlotId>, i: usize)
+    requires place { i < length slots.old.items }
+    requires room { vec_len free.old < vec_capacity free.old }
+    ensures rows { slots.new.items ≡ remove slots.old.items i }
+    ensures shared { AreStillShared slots.old.items free.old.items slots.new.items free.new.items }
+{
+    let slot = slots.remove(i);
+    free.push_reserved(slot.number);
+}
+
+// The key of the slot is not in the closed set.
+fn mark_taken(slots: &mut Vec<Slot>, i: usize)
+    requires { i < length slots.old.items }
+    ensures { (d : Slot) → slots.new.items ≡ slice_set slots.old.items i (taken_slot (slice_index_or slots.old.items i d)) }
+{
+    slots[i].kept.is_closed = false;
+}
+
+// The key is taken, and its slot is free where nothing keeps it.
+fn leave(slots: &mut Vec<Slot>, free: &mut Vec<SlotId>, key: &Key)
+    requires rise { KeysRise (rows_of slots.old.items) }
+    requires room { vec_len free.old < vec_capacity free.old }
+    ensures rows { rows_of slots.new.items ≡ left_rows (rows_of slots.old.items) key.now }
+    ensures shared { AreStillShared slots.old.items free.old.items slots.new.items free.new.items }
+{
+    if let Ok(i) = place(slots, key) {
+        if stays(&slots[i].kept) {
+            mark_taken(slots, i);
+        } else {
+            free_slot(slots, free, i);
+        }
+    }
+}
+
 // The key of the slot is requested.
 fn mark_requested(slots: &mut Vec<Slot>, i: usize)
     requires { i < length slots.old.items }
@@ -211,6 +311,7 @@ fn insert_slot(
     let kept = Record {
         value: None,
         is_recent: false,
+        is_closed: false,
         is_requested: true,
     };
     slots.insert(i, Slot { number, key, kept })?;
@@ -244,7 +345,7 @@ fn request(
 }
 
 // A copy of a value or absence.
-fn copied(alloc: Global, value: &Option<Value>) -> Result<Option<Value>, AllocError>
+pub(crate) fn copied(alloc: Global, value: &Option<Value>) -> Result<Option<Value>, AllocError>
     ensures { IfOk result (λ v. v ≡ value.now) }
 {
     match value {
@@ -253,11 +354,11 @@ fn copied(alloc: Global, value: &Option<Value>) -> Result<Option<Value>, AllocEr
     }
 }
 
-// Whether something keeps the record once no request stands on it: a value, or a commit since the last resolve token.
+// Whether something keeps the record once no request stands on it: a value, or one of the two sets.
 fn outlasts(kept: &Record) -> bool
     ensures { result ≡ outlasts kept.now }
 {
-    kept.is_recent || kept.value.is_some()
+    kept.is_recent || kept.is_closed || kept.value.is_some()
 }
 
 // What the writes give to the key.
@@ -336,9 +437,11 @@ fn commit_slot(slots: &mut Vec<Slot>, i: usize, given: Option<Option<Value>>)
 {
     match given {
         Some(value) => {
+            let is_closed = slots[i].kept.is_closed;
             slots[i].kept = Record {
                 value,
                 is_recent: true,
+                is_closed,
                 is_requested: false,
             };
         }

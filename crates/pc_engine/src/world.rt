@@ -7,13 +7,19 @@ ghost use Rattle.pc_model.specs.Replies.{read_reply, value_read};
 ghost use Rattle.pc_engine.specs.Alone.{IsBuilt, AreBuilt};
 ghost use Rattle.pc_engine.specs.Runs.{IsRun};
 ghost use Rattle.pc_engine.specs.Stands.{Stands, Follows, IfRefused};
-ghost use Rattle.pc_engine.specs.Store.{starting, Begins, Gets, Puts, Commits, setting_of, record_of, requested_rows, stored, is_full_for};
+ghost use Rattle.pc_types.specs.declared.Phase.TheVariants as phase;
+ghost use Rattle.pc_model.specs.Replies.{same_phase};
+ghost use Rattle.pc_engine.specs.Store.{starting, Begins, Gets, Puts, Commits, StartsPoint, Seals, Moves, Takes, Shelves, Joins, setting_of, record_of, requested_rows, stored, is_full_for, is_one_too_many};
 
 use crate::records::Records;
-use crate::writes::{is_one_too_many, note_write, write_of, written_at};
-use pc_part::Base;
-use pc_types::{Entry, Event, Items, Key, Lsn, Refusal, Reply, SessionNo, TxnNo, Value, Write};
+use crate::shelving::{Shelvable, joined, part_of};
+use crate::writes::{is_one_too_many, new_keys, note_write, write_of, written_at};
+use pc_part::{Base, Part};
+use pc_types::{
+    Entry, Event, FileNo, Items, Key, Lsn, Phase, Point, Refusal, Reply, SessionNo, TxnNo, Value, Write,
+};
 use std::alloc::{AllocError, Global};
+use std::collections::VecDeque;
 use std::marker::Model;
 use std::mem;
 
@@ -22,6 +28,12 @@ const MOST_TRANSACTIONS: u64 = 1_099_511_627_776;
 
 // How many entries the log may have.
 const MOST_ENTRIES: usize = 16_777_216;
+
+// The last point that may be taken.
+const MOST_POINTS: u16 = 65_535;
+
+// How many files may be on the shelf.
+const MOST_FILES: usize = 65_536;
 
 /// A store in memory. It answers events, one after the other.
 #[derive(Drop)]
@@ -34,10 +46,17 @@ pub struct World {
     begun: u64,
     is_open: bool,
     writes: Vec<Write>,
+    phase: Phase,
+    point: Point,
+    recent: VecDeque<Key>,
+    closed: VecDeque<Key>,
+    taken: Vec<(Key, Option<Value>)>,
+    shelf: Vec<Part>,
 }
 
 impl Model for World {
     ghost use Rattle.std.specs.Prelude.{◌≤◌, length};
+    ghost use Rattle.pc_engine.specs.Limits.{IsWithinLimits};
     ghost use Rattle.std.specs.Coded.{codes};
     ghost use Rattle.pc_model.specs.Database.{database_code};
     ghost use Rattle.pc_engine.specs.Store.{Store};
@@ -54,9 +73,11 @@ impl Model for World {
       begun = w.begun;
       is_open = w.is_open;
       writes = w.writes.items;
+      cycle = record { phase = w.phase; point = w.point; recent = w.recent.items; closed = w.closed.items; taken = w.taken.items };
+      shelf = w.shelf.items;
     } };
 
-    ghost invariant = { λ w. (w.begun ≤ 1099511627776) × (length w.log.items ≤ 16777216) };
+    ghost invariant = { λ w. IsWithinLimits w.begun w.log.items w.writes.items w.phase w.point w.recent.items w.closed.items w.taken.items w.shelf.items };
 }
 
 impl World {
@@ -86,6 +107,12 @@ impl World {
                 begun: 0,
                 is_open: false,
                 writes: Vec::new(alloc),
+                phase: Phase::Rest,
+                point: Point(0),
+                recent: VecDeque::new(alloc),
+                closed: VecDeque::new(alloc),
+                taken: Vec::new(alloc),
+                shelf: Vec::new(alloc),
             }),
             Err(_) => Err(Refusal::OutOfMemory),
         }
@@ -105,6 +132,13 @@ impl World {
             Event::Get(session, key) => self.get(*session, key),
             Event::Put(session, key, value) => self.put(*session, key, value),
             Event::Commit(session) => self.commit(*session),
+            Event::StartPoint => self.start_point(),
+            Event::Seal => self.seal(),
+            Event::OpenCapture => self.advance(Phase::Resolve, Phase::Capture),
+            Event::Take => self.take(),
+            Event::Done => self.shelve(),
+            Event::Rest => self.advance(Phase::Complete, Phase::Rest),
+            Event::Join(first, second) => self.join_files(*first, *second),
             // The condition leaves no other event.
             _ => Reply::Refused(Refusal::WrongPhase),
         }
@@ -115,6 +149,9 @@ impl World {
     {
         if is_no_session(self.sessions, session) {
             return Reply::Refused(Refusal::NoSession);
+        }
+        if !is_same(self.phase, Phase::Rest) {
+            return Reply::Refused(Refusal::WrongPhase);
         }
         if self.is_open {
             return Reply::Refused(Refusal::AlreadyBegun);
@@ -185,14 +222,155 @@ impl World {
         if self.log.reserve(1).is_err() {
             return Reply::Refused(Refusal::OutOfMemory);
         }
+        let Ok(mut keys) = new_keys(self.alloc, &self.records, &self.writes) else {
+            return Reply::Refused(Refusal::OutOfMemory);
+        };
+        if self.recent.reserve(keys.len()).is_err() {
+            return Reply::Refused(Refusal::OutOfMemory);
+        }
         if self.records.settle(self.alloc, &self.writes).is_err() {
             return Reply::Refused(Refusal::OutOfMemory);
         }
+        let _ = self.recent.append(&mut keys);
         let writes = mem::replace(&mut self.writes, Vec::new(self.alloc));
         self.log
             .push_reserved(Entry::Commit(session, Items::from_vec(writes)));
         self.is_open = false;
         Reply::Committed(Lsn(self.log.len() as u32))
+    }
+
+    fn start_point(&mut self) -> Reply
+        ensures { StartsPoint self.old result self.new }
+    {
+        if self.is_open || !is_same(self.phase, Phase::Rest) {
+            return Reply::Refused(Refusal::WrongPhase);
+        }
+        if self.point.0 == MOST_POINTS {
+            return Reply::Refused(Refusal::PointsFull);
+        }
+        if self.log.len() == MOST_ENTRIES {
+            return Reply::Refused(Refusal::LogFull);
+        }
+        if self.log.reserve(1).is_err() {
+            return Reply::Refused(Refusal::OutOfMemory);
+        }
+        self.point = Point(self.point.0 + 1);
+        self.phase = Phase::Prepare;
+        self.log.push_reserved(Entry::Token(self.phase, self.point));
+        Reply::Phase(self.phase, self.point)
+    }
+
+    fn seal(&mut self) -> Reply
+        ensures { Seals self.old result self.new }
+    {
+        if !is_same(self.phase, Phase::Prepare) {
+            return Reply::Refused(Refusal::WrongPhase);
+        }
+        if self.log.len() == MOST_ENTRIES {
+            return Reply::Refused(Refusal::LogFull);
+        }
+        if self.log.reserve(1).is_err() {
+            return Reply::Refused(Refusal::OutOfMemory);
+        }
+        self.phase = Phase::Resolve;
+        self.log.push_reserved(Entry::Token(self.phase, self.point));
+        self.closed = mem::replace(&mut self.recent, VecDeque::new(self.alloc));
+        self.taken.clear();
+        self.records.close();
+        Reply::Phase(self.phase, self.point)
+    }
+
+    // The phase changes from one to another.
+    fn advance(&mut self, from: Phase, to: Phase) -> Reply
+        requires { same_phase from phase.Rest ≡ false }
+        ensures { Moves from to self.old result self.new }
+    {
+        if !is_same(self.phase, from) {
+            return Reply::Refused(Refusal::WrongPhase);
+        }
+        if self.log.len() == MOST_ENTRIES {
+            return Reply::Refused(Refusal::LogFull);
+        }
+        if self.log.reserve(1).is_err() {
+            return Reply::Refused(Refusal::OutOfMemory);
+        }
+        self.phase = to;
+        self.log.push_reserved(Entry::Token(self.phase, self.point));
+        Reply::Phase(self.phase, self.point)
+    }
+
+    fn take(&mut self) -> Reply
+        ensures { Takes self.old result self.new }
+    {
+        if !is_same(self.phase, Phase::Capture) {
+            return Reply::Refused(Refusal::WrongPhase);
+        }
+        let Some(first) = self.closed.front() else {
+            return Reply::NoneLeft;
+        };
+        let Ok((key, content)) = pair_of(self.alloc, &self.records, first) else {
+            return Reply::Refused(Refusal::OutOfMemory);
+        };
+        let Ok(pair) = pair_of(self.alloc, &self.records, first) else {
+            return Reply::Refused(Refusal::OutOfMemory);
+        };
+        if self.taken.reserve(1).is_err() {
+            return Reply::Refused(Refusal::OutOfMemory);
+        }
+        if self.records.take(&key).is_err() {
+            return Reply::Refused(Refusal::OutOfMemory);
+        }
+        let _ = self.closed.pop_front();
+        self.taken.push_reserved(pair);
+        Reply::Took(key, content)
+    }
+
+    fn shelve(&mut self) -> Reply
+        ensures { Shelves self.old result self.new }
+    {
+        if !is_same(self.phase, Phase::Capture) {
+            return Reply::Refused(Refusal::WrongPhase);
+        }
+        if !self.closed.is_empty() {
+            return Reply::NotYet(self.closed.len() as u32);
+        }
+        if self.shelf.len() == MOST_FILES {
+            return Reply::Refused(Refusal::ShelfFull);
+        }
+        if self.log.len() == MOST_ENTRIES {
+            return Reply::Refused(Refusal::LogFull);
+        }
+        let Ok(part) = part_of(self.alloc, self.base.run(), self.point, &self.taken) else {
+            return Reply::Refused(Refusal::OutOfMemory);
+        };
+        if self.shelf.reserve(1).is_err() || self.log.reserve(1).is_err() {
+            return Reply::Refused(Refusal::OutOfMemory);
+        }
+        let entries = self.taken.len() as u32;
+        self.phase = Phase::Complete;
+        self.log.push_reserved(Entry::Token(self.phase, self.point));
+        self.shelf.push_reserved(part);
+        self.taken.clear();
+        Reply::PartDone(self.point, FileNo(self.shelf.len() as u32), entries)
+    }
+
+    fn join_files(&mut self, first: FileNo, second: FileNo) -> Reply
+        ensures { Joins self.old first second result self.new }
+    {
+        match joined(self.alloc, &self.shelf, first, second) {
+            Ok(Shelvable {
+                part,
+                points,
+                entries,
+            }) => {
+                if self.shelf.reserve(1).is_err() {
+                    return Reply::Refused(Refusal::OutOfMemory);
+                }
+                self.shelf.push_reserved(part);
+                Reply::File(FileNo(self.shelf.len() as u32), points, entries)
+            }
+            Err(why) => Reply::Refused(why),
+        }
     }
 }
 
@@ -203,6 +381,29 @@ fn is_no_session(sessions: u8, session: SessionNo) -> bool
     session.0 == 0 || u32::from(sessions) < session.0
 }
 
+// Whether the phases are the same.
+fn is_same(a: Phase, b: Phase) -> bool
+    ensures { result ≡ same_phase a b }
+{
+    a == b
+}
+
+// The key with what is committed of it.
+fn pair_of(
+    alloc: Global,
+    records: &Records,
+    key: &Key,
+) -> Result<(Key, Option<Value>), AllocError>
+    ensures { IfOk result (λ pair. pair ≡ (key.now, stored (record_of records.now.rows key.now))) }
+{
+    let content = match records.value(key) {
+        Some(value) => Some(value.copy(alloc)?),
+        None => None,
+    };
+    let key = key.copy(alloc)?;
+    Ok((key, content))
+}
+
 // The key is requested and written, or memory ran out and nothing changed.
 fn take_write(
     alloc: Global,
@@ -211,7 +412,10 @@ fn take_write(
     key: &Key,
     value: &Value,
 ) -> Result<(), AllocError>
-    requires { is_full_for records.old key.now ≡ false }
+    requires room { is_full_for records.old key.now ≡ false }
+    requires few { is_one_too_many writes.old.items key.now ≡ false }
+    requires limit { length writes.old.items ≤ 256 }
+    ensures limit { length writes.new.items ≤ 256 }
     ensures records { OnOk result (records.new ≡ record records.old { rows = requested_rows records.old.rows key.now }) }
     ensures writes { OnOk result (writes.new.items ≡ with_write writes.old.items (record { key = key.now; value = Some value.now })) }
     ensures same_records { OnErr result (records.new ≡ records.old) }

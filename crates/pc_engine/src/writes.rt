@@ -1,11 +1,13 @@
 //! The writes of the open transaction: the final one per key, in the order of first writes.
-ghost use Rattle.std.specs.Prelude.{◌≡◌, ◌<◌, ◌==◌, ◌&&◌, IfOk, MatchOption, Some, is_none, vec_len, vec_capacity};
+ghost use Rattle.std.specs.Prelude.{◌≡◌, ◌<◌, ◌≤◌, ◌==◌, ◌&&◌, ◌++◌, [], length, IfOk, OnOk, MatchOption, Some, is_none, vec_len, vec_capacity};
 ghost use Rattle.pc_model.specs.Database.{with_write, written};
-ghost use Rattle.pc_engine.specs.Store.{is_one_too_many};
+ghost use Rattle.pc_engine.specs.Store.{is_one_too_many, is_recent, record_of, new_keys, with_new};
 ghost use Rattle.pc_engine.specs.Writes.{IsWrittenAt, IsUnwritten};
 
+use crate::records::Records;
 use pc_types::{Key, Value, Write};
 use std::alloc::{AllocError, Global};
+use std::collections::VecDeque;
 
 // How many keys a transaction may write.
 const MOST_WRITES: usize = 256;
@@ -48,6 +50,38 @@ pub(crate) fn note_write(writes: &mut Vec<Write>, write: Write)
         Some(i) => writes[i] = write,
         None => writes.push_reserved(write),
     }
+}
+
+// The keys of the writes that aren't in the open set.
+pub(crate) fn new_keys(
+    alloc: Global,
+    records: &Records,
+    writes: &[Write],
+) -> Result<VecDeque<Key>, AllocError>
+    ensures keys { IfOk result (λ keys. keys.items ≡ new_keys records.now.rows writes.now) }
+    ensures count { IfOk result (λ keys. length keys.items ≤ length writes.now) }
+{
+    let mut keys = VecDeque::new(alloc);
+    for write in writes {
+        add_new(alloc, records, &mut keys, &write.key)?;
+    }
+    Ok(keys)
+}
+
+// Adds the key where it isn't in the open set.
+fn add_new(
+    alloc: Global,
+    records: &Records,
+    keys: &mut VecDeque<Key>,
+    key: &Key,
+) -> Result<(), AllocError>
+    ensures { OnOk result (keys.new.items ≡ keys.old.items ++ with_new (is_recent (record_of records.now.rows key.now)) key.now []) }
+{
+    if !records.is_recent(key) {
+        let key = key.copy(alloc)?;
+        keys.push_back(key)?;
+    }
+    Ok(())
 }
 
 // A write of copies.

@@ -1,5 +1,5 @@
 -- The points of ranges: they rise, they give the ranges back, and a range has each of them.
-use Rattle.std.proofs.Common.{◌≡◌, ℕ, zero, suc, ◌+◌, ◌-◌, ◌<◌, ◌≤◌, ◌&&◌, ◌||◌, nat_le, nat_lt, T, Bool, true, false, List, [], ◌∷◌, ◌++◌, map, refl, sym, ap, subst, ◌∙◌, arith}
+use Rattle.std.proofs.Common.{◌≡◌, ℕ, zero, suc, ◌+◌, ◌-◌, ◌<◌, ◌≤◌, ◌&&◌, ◌||◌, nat_le, nat_lt, T, Bool, true, false, List, [], ◌∷◌, ◌++◌, append_assoc, map, refl, sym, ap, subst, ◌∙◌, arith}
 use Rattle.std.specs.Prelude.{⊤}
 use Rattle.std.specs.List.{list_any}
 use Rattle.std.specs.declared.cmp.Ordering.TheVariants.{Less}
@@ -98,6 +98,18 @@ ranges_back least (r ∷ ranges) h =
 -- the set of the points gives the ranges back
 pub ranges_of-points_of : (ranges : List Range) → AreRanges ranges → ranges_of (set.items (points_of ranges)) ≡ bounds_of ranges
 ranges_of-points_of ranges h = ap ranges_of (items_of (points_in ranges) (points_rise 1 ranges h.1)) ∙ ranges_back 1 ranges h.1
+
+-- the set of the points has them in their order
+pub items-points_of : (ranges : List Range) → AreRanges ranges → set.items (points_of ranges) ≡ points_in ranges
+items-points_of ranges h = items_of (points_in ranges) (points_rise 1 ranges h.1)
+
+-- one more point
+pub points_more : (p n : ℕ) → points_from p (n + 1) ≡ points_from p n ++ (p + n) ∷ []
+points_more p zero = grind arith
+points_more p (suc n) = grind (arith, points_more (p + 1) n)
+
+pub one_pushed : (old points new : List ℕ) (low n : ℕ) → points ≡ old ++ points_from low n → new ≡ points ++ (low + n) ∷ [] → new ≡ old ++ points_from low (n + 1)
+one_pushed old points new low n so_far is = is ∙ ap (λ (ps : List ℕ). ps ++ (low + n) ∷ []) so_far ∙ append_assoc old (points_from low n) ((low + n) ∷ []) ∙ ap (λ (ps : List ℕ). old ++ ps) (sym (points_more low n))
 
 -- the same of ranges known by their points
 pub bounds_known : (inside given : List Range) (points : Set number_order) → AreRanges inside → points_of inside ≡ points → given ≡ inside → bounds_of given ≡ ranges_of (set.items points)

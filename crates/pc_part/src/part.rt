@@ -8,9 +8,9 @@ ghost use Rattle.pc_model.specs.Sets as set;
 ghost use Rattle.pc_part.specs.Bases.{IsWithinLimit};
 ghost use Rattle.pc_part.specs.Parts.{AreCovered, AreRanges, bounds_of, points_of, triple_at, triples_of};
 
-use crate::ranges::Range;
+use crate::ranges::{Range, points_in};
 use pc_model::Triple;
-use pc_types::{Key, Point, Refusal, Value};
+use pc_types::{Items, Key, Point, Refusal, Value};
 use std::alloc::{AllocError, Global};
 use std::marker::Model;
 
@@ -91,6 +91,14 @@ impl Part {
         ensures bounds { bounds_of result.now ≡ ranges_of (set.items self.now.points) }
     {
         self.ranges.as_slice()
+    }
+
+    /// The points, rising strictly; there is at least one. It fails only where memory ran out.
+    pub fn points(&self, alloc: Global) -> Result<Items<Point>, AllocError>
+        ensures { IfOk result (λ points. points ≡ set.items self.now.points) }
+    {
+        let points = points_in(alloc, &self.ranges)?;
+        Ok(Items::from_vec(points))
     }
 
     /// The entries, rising strictly by key, each of one of its points; at most 4,294,967,295.

@@ -1,9 +1,44 @@
 //! Ranges of points.
+ghost use Rattle.std.specs.Prelude.{◌≡◌, ◌+◌, ◌-◌, ◌≤◌, ◌++◌, IfOk, OnOk};
+ghost use Rattle.pc_part.specs.Parts.{points_from, points_in};
+
 use pc_types::Point;
+use std::alloc::{AllocError, Global};
 
 /// The points from one to another, both among them.
 #[derive(Clone, Copy, Debug, PartialEq, Eq)]
 pub struct Range {
     pub low: Point,
     pub high: Point,
+}
+
+/// The points of the ranges, in their order.
+pub(crate) fn points_in(alloc: Global, ranges: &[Range]) -> Result<Vec<Point>, AllocError>
+    ensures { IfOk result (λ points. points.items ≡ points_in ranges.now) }
+{
+    let mut points = Vec::new(alloc);
+    for range in ranges {
+        push_points(&mut points, number(range.low), number(range.high))?;
+    }
+    Ok(points)
+}
+
+// The number of a point.
+fn number(point: Point) -> u32
+    ensures number { result ≡ point }
+    ensures limit { result ≤ 65535 }
+{
+    u32::from(point.0)
+}
+
+// Adds the points from one to another.
+fn push_points(points: &mut Vec<Point>, low: u32, high: u32) -> Result<(), AllocError>
+    requires { (low ≤ 65535) × (high ≤ 65535) }
+    ensures { OnOk result (points.new.items ≡ points.old.items ++ points_from low (high + 1 - low)) }
+{
+    let count = if low <= high { high + 1 - low } else { 0 };
+    for n in 0..count {
+        points.push(Point((low + n) as u16))?;
+    }
+    Ok(())
 }

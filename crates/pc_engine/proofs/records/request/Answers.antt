@@ -1,11 +1,5 @@
-use Rattle.std.proofs.Common.{[]}
-use Rattle.std.specs.Prelude.{None, false}
-use Rattle.pc_engine.specs.declared.records.Slot.{Slot}
-use Rattle.pc_engine.proofs.SlotLemmas.{marked_rows, marked_shared}
+use Rattle.pc_engine.proofs.SlotLemmas.{marked_rows, marked_shared, any_slot}
 use Rattle.pc_engine.proofs.records.request.Goals as goal
-
-abbrev any_slot : Slot
-any_slot = record { number = 0; key = []; kept = record { value = None; is_recent = false; is_requested = false } }
 
 pub returns-in-Ok-clause-rows : goal.returns-in-Ok-clause-rows
 returns-in-Ok-clause-rows c = marked_rows c.args.slots.now.items c.mark_requested.new.slots.items c.args.key.now c.in-Ok.i any_slot (rw c.deref.ensures.value at c.in-Ok.ensures.at) (c.mark_requested.ensures any_slot)

@@ -1,4 +1,5 @@
-use Rattle.pc_engine.proofs.Standing.{begins_follows, gets_follows, puts_follows, commits_follows, begins_keeps, gets_keeps, puts_keeps, commits_keeps, not_built}
+use Rattle.pc_engine.proofs.Standing.{begins_follows, gets_follows, puts_follows, commits_follows, begins_keeps, gets_keeps, puts_keeps, commits_keeps, starts_keeps, seals_keeps, moves_keeps, takes_keeps, shelves_keeps, joins_keeps, not_built}
+use Rattle.pc_engine.proofs.Cycles.{starts_follows, seals_follows, opens_follows, takes_follows, shelves_follows, rests_follows, joins_follows}
 use Rattle.pc_engine.proofs.world.World.step.Goals as goal
 
 pub returns-in-Begin : goal.returns-in-Begin
@@ -21,5 +22,42 @@ returns-in-Commit c =
     let kept = commits_keeps _ _ _ _ c.commit.ensures in
     record { follows = λ history stands. rw c.in-Commit.is (commits_follows _ _ history _ _ stands c.commit.ensures); setting = kept.0; refused = kept.1 }
 
+pub returns-in-StartPoint : goal.returns-in-StartPoint
+returns-in-StartPoint c =
+    let kept = starts_keeps _ _ _ c.start_point.ensures in
+    record { follows = λ history stands. rw c.in-StartPoint.is (starts_follows _ _ history _ stands c.start_point.ensures); setting = kept.0; refused = kept.1 }
+
+pub returns-in-Seal : goal.returns-in-Seal
+returns-in-Seal c =
+    let kept = seals_keeps _ _ _ c.seal.ensures in
+    record { follows = λ history stands. rw c.in-Seal.is (seals_follows _ _ history _ stands c.seal.ensures); setting = kept.0; refused = kept.1 }
+
+pub returns-in-OpenCapture : goal.returns-in-OpenCapture
+returns-in-OpenCapture c =
+    let kept = moves_keeps _ _ _ _ _ c.advance.ensures in
+    record { follows = λ history stands. rw c.in-OpenCapture.is (opens_follows _ _ history _ stands c.advance.ensures); setting = kept.0; refused = kept.1 }
+
+pub returns-in-Take : goal.returns-in-Take
+returns-in-Take c =
+    let kept = takes_keeps _ _ _ c.take.ensures in
+    record { follows = λ history stands. rw c.in-Take.is (takes_follows _ _ history _ stands c.take.ensures); setting = kept.0; refused = kept.1 }
+
+pub returns-in-Done : goal.returns-in-Done
+returns-in-Done c =
+    let kept = shelves_keeps _ _ _ c.shelve.ensures in
+    record { follows = λ history stands. rw c.in-Done.is (shelves_follows _ _ history _ stands c.shelve.ensures); setting = kept.0; refused = kept.1 }
+
+pub returns-in-Rest : goal.returns-in-Rest
+returns-in-Rest c =
+    let kept = moves_keeps _ _ _ _ _ c.advance-in-Rest.ensures in
+    record { follows = λ history stands. rw c.in-Rest.is (rests_follows _ _ history _ stands c.advance-in-Rest.ensures); setting = kept.0; refused = kept.1 }
+
+pub returns-in-Join : goal.returns-in-Join
+returns-in-Join c =
+    let kept = joins_keeps _ _ _ _ _ c.join_files.ensures in
+    record { follows = λ history stands. rw c.in-Join.is (joins_follows _ _ history _ stands _ _ c.join_files.ensures); setting = kept.0; refused = kept.1 }
+
 pub returns-in_default-clause-follows : goal.returns-in_default-clause-follows
-returns-in_default-clause-follows c history stands = absurd (not_built c.args.event.now c.in_default.not-Begin c.in_default.not-Get c.in_default.not-Put c.in_default.not-Commit c.requires.built)
+returns-in_default-clause-follows c history stands =
+    absurd (not_built c.args.event.now c.in_default.not-Begin c.in_default.not-Get c.in_default.not-Put c.in_default.not-Commit c.in_default.not-StartPoint c.in_default.not-Seal c.in_default.not-OpenCapture c.in_default.not-Take c.in_default.not-Done c.in_default.not-Rest
+    c.in_default.not-Join c.requires.built)

@@ -1,0 +1,7 @@
+use Rattle.std.proofs.Common.{◌∙◌, sym, ap}
+use Rattle.pc_model.specs.Sets as set
+use Rattle.pc_part.proofs.RangePoints.{items-points_of}
+use Rattle.pc_part.proofs.part.Part.points.Goals as goal
+
+pub returns : goal.returns
+returns c = rw (← c.self.view_is, c.from_vec.ensures, c.in_ok-points.ensures, c.deref.ensures.value) (sym (items-points_of c.self.inside.ranges.items c.self.invariant.0))
