@@ -54,6 +54,7 @@ moved_off w h step to n legal e other taking shut parts =
       is_open = parts.is_open ∙ sym opened;
       writes = λ o. parts.writes o ∙ sym writes;
       alone = alone_other h step (λ q. ap (λ d. queue_by q d h (queue_of q h)) e) opened (ap (λ d. number_by 1 d (begun h) (number_of 1 h)) e) (ap (λ d. waits_by 1 d h (waited_for 1 h)) e) (ap (λ d. died_by 1 d (has_died 1 h)) e) writes parts.alone;
+      start = parts.start;
       cycle = record {
         phase = sym phase;
         point = sym (ap (λ d. point_by d (point_of h)) e);
@@ -173,6 +174,7 @@ module _ (old new : Store) (h : History) (reply : Reply) (stands : Stands old h)
               is_open = stands.parts.is_open;
               writes = stands.parts.writes;
               alone = alone_other h (record { event = asked.Seal; reply = told.Phase Resolve old.cycle.point }) (λ q. refl) refl refl refl refl refl stands.parts.alone;
+              start = stands.parts.start;
               cycle = record {
                 phase = refl;
                 point = refl;
@@ -257,6 +259,7 @@ module _ (old new : Store) (h : History) (reply : Reply) (stands : Stands old h)
               is_open = stands.parts.is_open;
               writes = stands.parts.writes;
               alone = alone_other h (record { event = asked.Take; reply = told.Took k content }) (λ q. refl) refl refl refl refl refl stands.parts.alone;
+              start = stands.parts.start;
               cycle = record {
                 phase = stands.parts.cycle.phase;
                 point = stands.parts.cycle.point;
@@ -309,6 +312,7 @@ module _ (old new : Store) (h : History) (reply : Reply) (stands : Stands old h)
               is_open = stands.parts.is_open;
               writes = stands.parts.writes;
               alone = alone_other h done (λ q. refl) refl refl refl refl refl stands.parts.alone;
+              start = stands.parts.start;
               cycle = record {
                 phase = refl;
                 point = refl;
@@ -344,6 +348,7 @@ module _ (old new : Store) (h : History) (reply : Reply) (stands : Stands old h)
               is_open = stands.parts.is_open;
               writes = stands.parts.writes;
               alone = alone_other h done (λ q. refl) refl refl refl refl refl stands.parts.alone;
+              start = stands.parts.start;
               cycle = record {
                 phase = stands.parts.cycle.phase;
                 point = stands.parts.cycle.point;

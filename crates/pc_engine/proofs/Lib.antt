@@ -11,3 +11,4 @@ pub mod SlotLemmas
 pub mod Runs
 pub mod Gathered
 pub mod NewKeys
+pub mod CommittedPairs

@@ -74,6 +74,7 @@ still w h step legal e parts =
       is_open = parts.is_open ∙ sym shut;
       writes = λ o. parts.writes o ∙ sym (ap (λ d. writes_by 1 d (writes_of 1 h)) e);
       alone = alone_still h step e parts.alone;
+      start = parts.start;
       cycle = same_cycle (setting_of w) w.cycle w.shelf h step legal (ap (λ d. phase_by d (phase_of h)) e) (ap (λ d. point_by d (point_of h)) e) written closed (ap (λ d. taken_by d (taken h)) e)
           (ap (λ d. shelf w.base.run h ++ Rattle.pc_model.specs.Files.shelved_by w.base.run d h (shelf w.base.run h)) e ∙ append-nil (shelf w.base.run h)) (λ r. shut ∙ parts.cycle.quiet r) parts.cycle;
     }

@@ -63,6 +63,7 @@ read_off w h key None is legal parts = (
     is_open = parts.is_open;
     writes = parts.writes;
     alone = alone_read h key None is parts.alone;
+    start = parts.start;
     cycle = same_cycle (setting_of w) w.cycle w.shelf h (record { event = asked.Get 1 key; reply = told.Absent }) legal refl refl refl refl refl (append-nil (shelf w.base.run h)) (λ r. parts.cycle.quiet r) parts.cycle;
   },
   tt,
@@ -76,6 +77,7 @@ read_off w h key (Some v) is legal parts = (
     is_open = parts.is_open;
     writes = parts.writes;
     alone = alone_read h key (Some v) is parts.alone;
+    start = parts.start;
     cycle = same_cycle (setting_of w) w.cycle w.shelf h (record { event = asked.Get 1 key; reply = told.Found v }) legal refl refl refl refl refl (append-nil (shelf w.base.run h)) (λ r. parts.cycle.quiet r) parts.cycle;
   },
   tt,
@@ -125,6 +127,7 @@ module _ (old new : Store) (h : History) (s : ℕ) (reply : Reply) (stands : Sta
           is_open = refl;
           writes = λ o. refl;
           alone = alone_begin h (old.begun + 1) (sym stands.parts.is_open ∙ shut) stands.parts.alone;
+          start = stands.parts.start;
           cycle = same_cycle (setting_of old) old.cycle old.shelf h (record { event = asked.Begin 1; reply = told.Begun (old.begun + 1) }) now refl refl refl refl refl (append-nil (shelf old.base.run h)) (λ r. absurd (true_not_false (is_in Rest h) rests r)) stands.parts.cycle;
         },
         tt,
@@ -172,6 +175,7 @@ module _ (old new : Store) (h : History) (s : ℕ) (reply : Reply) (stands : Sta
           is_open = stands.parts.is_open;
           writes = λ o. ap (λ ws. with_write ws (record { key = key; value = Some value })) (stands.parts.writes o);
           alone = alone_write h key value (sym stands.parts.is_open ∙ both.1) stands.parts.alone;
+          start = stands.parts.start;
           cycle = same_cycle (setting_of old) old.cycle old.shelf h (record { event = asked.Put 1 key value; reply = told.Ok }) now refl refl refl refl refl (append-nil (shelf old.base.run h)) (λ r. stands.parts.cycle.quiet r) stands.parts.cycle;
         },
         tt,
@@ -199,6 +203,7 @@ module _ (old new : Store) (h : History) (s : ℕ) (reply : Reply) (stands : Sta
           is_open = refl;
           writes = λ o. cc;
           alone = alone_commit h (length old.log + 1) stands.parts.alone;
+          start = stands.parts.start;
           cycle = record {
             phase = stands.parts.cycle.phase;
             point = stands.parts.cycle.point;
@@ -290,8 +295,8 @@ not_closed [] q = refl
 not_closed (p ∷ pairs) q = elim (same_bytes q p.0) as (λ b. is_closed (cond b (Some (committed_row p).1) (record_of (map committed_row pairs) q)) ≡ false) [ true ↦ refl | false ↦ not_closed pairs q ]
 
 -- a world made of a base stands after no step
-pub stands_first : (w : Store) (pairs : List (List ℕ × List ℕ)) → KeysRise pairs → database_of pairs ≡ w.base.pairs → w.sessions ≡ 1 → w.kept.rows ≡ map committed_row pairs → w.log ≡ [] → w.begun ≡ 0 → w.is_open ≡ false → w.cycle.phase ≡ Rest → w.cycle.point ≡ 0 → w.cycle.recent ≡ [] → w.cycle.closed ≡ [] → w.shelf ≡ [] → Stands w []
-stands_first w pairs rise base one rows log begun shut phase point recent closed shelf = record {
+pub stands_first : (w : Store) (pairs : List (List ℕ × List ℕ)) → KeysRise pairs → database_of pairs ≡ w.base.pairs → w.sessions ≡ 1 → w.kept.rows ≡ map committed_row pairs → w.log ≡ [] → w.begun ≡ 0 → w.is_open ≡ false → w.cycle.phase ≡ Rest → w.cycle.point ≡ 0 → w.cycle.recent ≡ [] → w.cycle.closed ≡ [] → w.shelf ≡ [] → w.base.point ≡ 0 → Stands w []
+stands_first w pairs rise base one rows log begun shut phase point recent closed shelf start = record {
   legal = tt;
   quiet = refl;
   values = tt;
@@ -310,6 +315,7 @@ stands_first w pairs rise base one rows log begun shut phase point recent closed
     is_open = shut;
     writes = λ o. absurd (true_not_false w.is_open o shut);
     alone = record { own = λ q. tt; idle = λ o q. refl; waited = refl; died = refl; held = λ o. cc; asked = λ q o. cc };
+    start = start;
     cycle = record { phase = phase; point = point; recent = recent; closed = closed; taken = λ t. cc; shelved = shelf; quiet = λ r. cc };
   };
 }

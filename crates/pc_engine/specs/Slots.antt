@@ -97,3 +97,13 @@ closed_slot slot = record slot { kept = closed_record slot.kept }
 -- the slot once its key is taken
 abbrev pub taken_slot : Slot → Slot
 taken_slot slot = record slot { kept = record slot.kept { is_closed = false } }
+
+-- the pairs with this one before them, where there is a value
+abbrev pub with_pair : List ℕ → Option (List ℕ) → List (List ℕ × List ℕ) → List (List ℕ × List ℕ)
+with_pair key None pairs = pairs
+with_pair key (Some value) pairs = (key, value) ∷ pairs
+
+-- the committed pairs of the slots
+abbrev pub committed_pairs : List Slot → List (List ℕ × List ℕ)
+committed_pairs [] = []
+committed_pairs (slot ∷ slots) = with_pair slot.key slot.kept.value (committed_pairs slots)

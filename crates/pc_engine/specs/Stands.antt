@@ -52,6 +52,7 @@ pub record IsReadOff (w : Store) (history : History) : Type 0 where
   pub writes : w.is_open ≡ true → w.writes ≡ writes_of 1 history
   pub alone : IsAlone history
   pub cycle : IsCycle w.base.run w.cycle w.shelf history
+  pub start : w.base.point ≡ 0
 
 -- The world stands after the history: the history is legal and quiet, each Take has carried what its key has at the point,
 -- and each part of the world is read off the history.

@@ -1,7 +1,8 @@
 //! The records: what is kept of each key, in slots that rise by key.
 ghost use Rattle.std.specs.Prelude.{◌≡◌, ◌<◌, ◌≤◌, ◌==◌, ◌&&◌, ◌+◌, None, true, false, insert, remove, map, length, IfOk, IfErr, OnOk, OnErr, is_none, is_some, option_copied, vec_len, vec_capacity};
 ghost use Rattle.std.specs.Prelude.{slice_index_or, slice_set, filter, List, Option, ℕ};
-ghost use Rattle.pc_model.specs.Database.{KeysRise, same_bytes, written};
+ghost use Rattle.pc_model.specs.Maps.{get};
+ghost use Rattle.pc_model.specs.Database.{KeysRise, database_of, same_bytes, written};
 ghost use Rattle.pc_engine.specs.Store.{record_of, is_recent, closed_row, left, left_rows, requested, requested_rows, outlasts, settled, settled_rows, stored, committed_row, is_full_for};
 ghost use Rattle.pc_engine.specs.Slots.{rows_of, closed_slot, taken_slot, numbers_from, slots_from, values_given, with_given, committed_slot, with_writes, freed, AreStillShared, IsMarked};
 ghost use Rattle.pc_model.specs.Places.{IsAt, IsGap};
@@ -88,6 +89,14 @@ impl Records {
         ensures { option_copied result ≡ stored (record_of self.now.rows key.now) }
     {
         value_at(&self.slots, key)
+    }
+
+    /// The committed pairs, rising by key.
+    pub(crate) fn committed(&self, alloc: Global) -> Result<Vec<(Key, Value)>, AllocError>
+        ensures rise { IfOk result (λ pairs. KeysRise pairs.items) }
+        ensures contents { IfOk result (λ pairs. (key : List ℕ) → get (database_of pairs.items) key ≡ stored (record_of self.now.rows key)) }
+    {
+        committed_pairs(alloc, &self.slots)
     }
 
     /// A request of the open transaction stands on the key from now on.
@@ -211,6 +220,23 @@ fn value_at<'a>(slots: &'a [Slot], key: &Key) -> Option<&'a Value>
         Ok(i) => slots[i].kept.value.as_ref(),
         Err(_) => None,
     }
+}
+
+// The pairs of the slots that have a value.
+fn committed_pairs(alloc: Global, slots: &[Slot]) -> Result<Vec<(Key, Value)>, AllocError>
+    requires { KeysRise (rows_of slots.now) }
+    ensures rise { IfOk result (λ pairs. KeysRise pairs.items) }
+    ensures contents { IfOk result (λ pairs. (key : List ℕ) → get (database_of pairs.items) key ≡ stored (record_of (rows_of slots.now) key)) }
+{
+    let mut pairs = Vec::new(alloc);
+    for slot in slots {
+        if let Some(value) = &slot.kept.value {
+            let key = slot.key.copy(alloc)?;
+            let value = value.copy(alloc)?;
+            pairs.push((key, value))?;
+        }
+    }
+    Ok(pairs)
 }
 
 // Whether the key is in the open set.

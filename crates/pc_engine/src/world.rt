@@ -1,7 +1,9 @@
 //! The world, and its run over a list of events.
 ghost use Rattle.std.specs.Prelude.{IfSome, ◌≡◌, ◌≤◌, ◌<◌, ◌==◌, ◌||◌, nat_lt, ◌⊎◌, ◌++◌, [], ◌∷◌, false, length, IfOk, IfErr, OnOk, OnErr, Some, option_copied, vec_len, vec_capacity};
-ghost use Rattle.pc_model.specs.Maps.{len};
-ghost use Rattle.pc_model.specs.Database.{with_write, written};
+ghost use Rattle.std.specs.Prelude.{List, ℕ};
+ghost use Rattle.pc_model.specs.Maps.{get, len};
+ghost use Rattle.pc_model.specs.Files.{file_at};
+ghost use Rattle.pc_model.specs.Database.{KeysRise, database_of, with_write, written};
 ghost use Rattle.pc_model.specs.History.{History};
 ghost use Rattle.pc_model.specs.Replies.{read_reply, value_read};
 ghost use Rattle.pc_engine.specs.Alone.{IsBuilt, AreBuilt};
@@ -12,7 +14,7 @@ ghost use Rattle.pc_model.specs.Replies.{same_phase};
 ghost use Rattle.pc_engine.specs.Store.{starting, Begins, Gets, Puts, Commits, StartsPoint, Seals, Moves, Takes, Shelves, Joins, setting_of, record_of, requested_rows, stored, is_full_for, is_one_too_many};
 
 use crate::records::Records;
-use crate::shelving::{Shelvable, joined, part_of};
+use crate::shelving::{Shelvable, file_at, joined, part_of};
 use crate::writes::{is_one_too_many, new_keys, note_write, write_of, written_at};
 use pc_part::{Base, Part};
 use pc_types::{
@@ -142,6 +144,45 @@ impl World {
             // The condition leaves no other event.
             _ => Reply::Refused(Refusal::WrongPhase),
         }
+    }
+
+    /// The base that the store started from; it stands at point 0.
+    pub fn base(&self) -> &Base
+        ensures { result.now ≡ self.now.base }
+    {
+        &self.base
+    }
+
+    /// The log: a commit's entry for each committed transaction, and a token for each change of the phase, in order; at
+    /// most 16,777,216 entries.
+    pub fn log(&self) -> &[Entry]
+        ensures { result.now ≡ self.now.log }
+    {
+        self.log.as_slice()
+    }
+
+    /// The shelf's file of this number: files are numbered from 1 in the order of shelving.
+    pub fn file(&self, number: FileNo) -> Option<&Part>
+        ensures { option_copied result ≡ file_at self.now.shelf number }
+    {
+        file_at(&self.shelf, number)
+    }
+
+    /// The files on the shelf, in the order of shelving; at most 65,536.
+    pub fn files(&self) -> &[Part]
+        ensures { result.now ≡ self.now.shelf }
+    {
+        self.shelf.as_slice()
+    }
+
+    /// The committed contents, rising strictly by key. It fails only where memory ran out.
+    pub fn committed(&self) -> Result<Vec<(Key, Value)>, Refusal>
+        ensures rise { IfOk result (λ pairs. KeysRise pairs.items) }
+        ensures contents { IfOk result (λ pairs. (key : List ℕ) → get (database_of pairs.items) key ≡ stored (record_of self.now.kept.rows key)) }
+        ensures refusals { IfErr result (λ e. e ≡ Refusal.OutOfMemory) }
+    {
+        let pairs = self.records.committed(self.alloc)?;
+        Ok(pairs)
     }
 
     fn begin(&mut self, session: SessionNo) -> Reply

@@ -12,7 +12,7 @@ returns-then-pairs-capacity-clause-refusals c =
 
 pub returns-in-Ok-clause-stands : goal.returns-in-Ok-clause-stands
 returns-in-Ok-clause-stands c =
-    stands_first _ c.pairs-pairs.result.now c.pairs-pairs.ensures.rise c.pairs-pairs.ensures.pairs c.requires.single (ap (λ (kept : Kept). kept.rows) c.in-Ok.ensures) c.new.ensures.items refl refl refl refl c.new-in-Ok-2.ensures.items c.new-in-Ok-3.ensures.items c.new-in-Ok-5.ensures.items
+    stands_first _ c.pairs-pairs.result.now c.pairs-pairs.ensures.rise c.pairs-pairs.ensures.pairs c.requires.single (ap (λ (kept : Kept). kept.rows) c.in-Ok.ensures) c.new.ensures.items refl refl refl refl c.new-in-Ok-2.ensures.items c.new-in-Ok-3.ensures.items c.new-in-Ok-5.ensures.items c.requires.start
 
 pub returns-in-Ok-clause-full : goal.returns-in-Ok-clause-full
 returns-in-Ok-clause-full c =
