@@ -161,20 +161,20 @@ no_difference states x (Some m) (Some n) is =
     by_point false e = refl
 
 -- a test that fails at each entry that is found finds none
-none_found : (es : List (List ℕ × AtPoint)) (f : (List ℕ × AtPoint) → Bool) → IsTrue (is_sorted key_cmp es) → ((e : List ℕ × AtPoint) → find key_cmp e.0 es ≡ Some e.1 → f e ≡ false) → list_any f es ≡ false
+pub none_found : {X : Type 0} (es : List (List ℕ × X)) (f : (List ℕ × X) → Bool) → IsTrue (is_sorted key_cmp es) → ((e : List ℕ × X) → find key_cmp e.0 es ≡ Some e.1 → f e ≡ false) → list_any f es ≡ false
 none_found [] f rises fails = refl
-none_found (e ∷ es) f rises fails =
+none_found {X} (e ∷ es) f rises fails =
     let parts = both (below_all key_cmp e.0 es) (is_sorted key_cmp es) rises in
     ap (λ b. b || list_any f es) (fails e (ap (λ b. cond b (Some e.1) (find key_cmp e.0 es)) ((eq_by_cmp_equiv key_order.total).refl e.0)))
     ∙ none_found es f parts.1 (λ x there. fails x (later_found x parts.0 there))
   where
-    later_found : (x : List ℕ × AtPoint) → below_all key_cmp e.0 es ≡ true → find key_cmp x.0 es ≡ Some x.1 → find key_cmp x.0 (e ∷ es) ≡ Some x.1
+    later_found : (x : List ℕ × X) → below_all key_cmp e.0 es ≡ true → find key_cmp x.0 es ≡ Some x.1 → find key_cmp x.0 (e ∷ es) ≡ Some x.1
     later_found x below there = by_key (same_bytes x.0 e.0) refl
       where
         by_key : (b : Bool) → same_bytes x.0 e.0 ≡ b → cond b (Some e.1) (find key_cmp x.0 es) ≡ Some x.1
         by_key true same = let none : find key_cmp x.0 es ≡ None = ap (λ k. find key_cmp k es) (one_key x.0 e.0 same) ∙ none_below e.0 es below in absurd (no_both (sym none ∙ there))
           where
-            no_both : {X : Type 0} {y : X} → None ≡ Some y → ⊥
+            no_both : {A : Type 0} {y : A} → None ≡ Some y → ⊥
             no_both e = cc
         by_key false same = there
 

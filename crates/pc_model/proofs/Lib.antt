@@ -21,6 +21,8 @@ pub mod Latest
 pub mod Contents
 pub mod TakenValues
 pub mod ShelfFiles
+pub mod TreeLaws
+pub mod AuditLaws
 pub mod LaidInTurn
 pub mod Taken
 pub mod ExamplesOfTransactions

@@ -196,6 +196,7 @@ module _ (st : Setting) (h : History) (legal : HasLegalEffects st h) (values : T
   -- the headline
   pub headline : HasHeadline st h
   headline = record {
+    has_tokens = λ f p made there. (made_is_of_points f made).has_tokens p there;
     any_two_join = λ a b made other. let well = made_join_well a b made other in (well.one_run, well.no_conflict);
     one_file = λ a b made other same. (made_is_of_points a made).is ∙ ap (file_of st.run st.base (log_of h)) same ∙ sym (made_is_of_points b other).is;
     is_the_state = λ f n made covers. laid_is_state f n (made_is_of_points f made) covers;

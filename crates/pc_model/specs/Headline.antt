@@ -48,7 +48,7 @@ pub record TakesEachKeyOnce (history : History) : Type 0 where
   pub all_taken : IsTrue (has_token (point_of history) (log_of history)) → IsFalse (is_taking (phase_of history)) → map (λ t. t.0) (taken history) ≡ touched (point_of history) (log_of history)
   pub once : IsDistinct same_bytes (touched (point_of history) (log_of history))
 
--- resolve, capture and complete: the point's token is there, and its cycle not at its end
+-- resolve, capture and complete, from the point's token to the end of its cycle
 abbrev pub is_past_token : Phase → Bool
 is_past_token Resolve = true
 is_past_token Capture = true
@@ -65,7 +65,7 @@ abbrev pub TakesPointValue : Database → History → Type 0
 TakesPointValue base [] = ⊤
 TakesPointValue base (step ∷ history) = ValueBy base (effect step) history × TakesPointValue base history
 
--- a file is that of its points by the log, of which there is one at least, and each has its token there
+-- the file is the one that the log gives its points; it has at least one point, and each has its token in the log
 pub record IsOfItsPoints (run : ℕ) (base : Database) (log : List Entry) (file : File) : Type 0 where
   pub is : file ≡ file_of run base log file.points
   pub covers_some : ¬ (set.items file.points ≡ [])
@@ -82,9 +82,11 @@ pub record JoinsWell (run : ℕ) (base : Database) (log : List Entry) (a b : Fil
   pub no_conflict : IsFalse (conflict a.triples b.triples)
   pub is_of_both : joined_file a b ≡ file_of run base log (set.union a.points b.points)
 
--- The headline, of the files made of the shelf: any two are of one run and don't conflict; those of the same points are one
--- file, in whatever order and however often they were joined; and one of the points 1 to n, laid on the base, is the state of n.
+-- The headline, of the files made of the shelf: each of their points has its token in the log; any two are of one run and
+-- don't conflict; those of the same points are one file, in whatever order and however often they were joined; and one of
+-- the points 1 to n, laid on the base, is the state of n: the database after what was committed before n's token.
 pub record HasHeadline (st : Setting) (history : History) : Type 0 where
+  pub has_tokens : (file : File) (point : ℕ) → IsMade (shelf st.run history) file → IsTrue (set.contains file.points point) → IsTrue (has_token point (log_of history))
   pub any_two_join : (a b : File) → IsMade (shelf st.run history) a → IsMade (shelf st.run history) b → (a.run ≡ b.run) × IsFalse (conflict a.triples b.triples)
   pub one_file : (a b : File) → IsMade (shelf st.run history) a → IsMade (shelf st.run history) b → a.points ≡ b.points → a ≡ b
   pub is_the_state : (file : File) (n : ℕ) → IsMade (shelf st.run history) file → set.items file.points ≡ numbers_to n → laid st.base 0 file.triples ≡ state_at st.base (log_of history) n

@@ -14,6 +14,8 @@ pub mod Reads
 pub mod Headline
 pub mod Laws
 pub mod Laying
+pub mod Trees
+pub mod Audits
 pub mod Examples
 pub mod ExamplesOfTransactions
 pub mod ExamplesOfPoints
