@@ -1,11 +1,12 @@
 -- The size of a base.
-use Rattle.std.proofs.Common.{◌≡◌, ℕ, ◌+◌, ◌≤◌, ◌&&◌, false, not, cond, List, length, Option, Some, None, is_some, arith}
+use Rattle.std.proofs.Common.{◌≡◌, ℕ, ◌+◌, ◌≤◌, ◌&&◌, false, not, cond, List, length, Option, Some, None, is_some, arith, ap, sym, ◌∙◌}
 use Rattle.std.specs.Prelude.{nat_lt, is_none}
 use Rattle.std.specs.FinMap.{find}
 use Rattle.std.specs.FinMap.Entries.{length-put}
 use Rattle.std.proofs.lemmas.Bool.Decides.{nat_tests}
 use Rattle.pc_model.specs.Maps.{get, insert, len}
-use Rattle.pc_model.specs.Database.{Database, key_cmp, key_order}
+use Rattle.pc_model.specs.Database.{Database, KeysRise, database_of, key_cmp, key_order}
+use Rattle.pc_model.proofs.PairMaps.{entries_of}
 use Rattle.pcalc.specs.Scripts.{is_base_full}
 
 size_after : (found : Option (List ℕ)) (n capacity : ℕ) → n ≤ capacity → (is_none found && not (nat_lt n capacity)) ≡ false → cond (is_some found) n (n + 1) ≤ capacity
@@ -17,3 +18,7 @@ pub room_after : (base : Database) (key value : List ℕ) (capacity : ℕ) → l
 unfolding get insert
 room_after base key value capacity fits room =
     rw (length-put key_cmp key_order.total key value base.entries base.rises) (size_after (find key_cmp key base.entries) (length base.entries) capacity fits room)
+
+-- the pairs of a database are the rising pairs that it is made of
+pub pairs_of : (pairs : List (List ℕ × List ℕ)) (db : Database) → KeysRise pairs → database_of pairs ≡ db → db.entries ≡ pairs
+pairs_of pairs db rise is = ap (λ (d : Database). d.entries) (sym is) ∙ entries_of pairs rise

@@ -7,17 +7,14 @@ use Rattle.pc_types.specs.declared.Refusal.{Refusal}
 use Rattle.pc_engine.specs.Alone.{IsBuilt}
 use Rattle.pcalc.specs.declared.lines.Line.{Line}
 use Rattle.pcalc.specs.declared.lines.Line.TheVariants as line
+use Rattle.pcalc.specs.declared.lines.View.TheVariants as view
 use Rattle.pcalc.specs.Words.{number_of, text_of}
-use Rattle.pcalc.specs.Lines.{is_key, is_value, base_line, session_line, get_line, put_line, spelled_by}
+use Rattle.pcalc.specs.Lines.{is_key, is_value, base_line, get_line, put_line, one_word, numbered, join_line, spelled_by}
 use Rattle.pcalc.specs.Built.{AsksBuilt}
 
 built_if : (b : Bool) (x y : Line) → AsksBuilt x → AsksBuilt y → AsksBuilt (if b then x else y)
 built_if true x y p q = p
 built_if false x y p q = q
-
-built_session : (event : ℕ → Event) (s : Option ℕ) → ((n : ℕ) → IsBuilt (event n)) → AsksBuilt (session_line event s)
-built_session event None h = tt
-built_session event (Some s) h = h s
 
 built_base : (key value : Option (List ℕ)) → AsksBuilt (base_line key value)
 built_base None value = tt
@@ -35,15 +32,36 @@ built_put (Some s) None value = tt
 built_put (Some s) (Some key) None = tt
 built_put (Some s) (Some key) (Some value) = built_if (is_key key) _ _ (built_if (is_value value) (line.Asks (asked.Put s key value)) _ tt tt) tt
 
+built_one : (verb : List ℕ) → AsksBuilt (one_word verb)
+built_one verb =
+    built_if (bytes_eq verb (codes "point")) (line.Asks asked.StartPoint) _ tt
+    (built_if (bytes_eq verb (codes "seal")) (line.Asks asked.Seal) _ tt
+    (built_if (bytes_eq verb (codes "capture")) (line.Asks asked.OpenCapture) _ tt
+    (built_if (bytes_eq verb (codes "take")) (line.Asks asked.Take) _ tt
+    (built_if (bytes_eq verb (codes "done")) (line.Asks asked.Done) _ tt
+    (built_if (bytes_eq verb (codes "rest")) (line.Asks asked.Rest) line.Malformed tt tt)))))
+
+built_number : (verb : List ℕ) (number : Option ℕ) → AsksBuilt (numbered verb number)
+built_number verb None = tt
+built_number verb (Some n) =
+    built_if (bytes_eq verb (codes "begin")) (line.Asks (asked.Begin n)) _ tt
+    (built_if (bytes_eq verb (codes "commit")) (line.Asks (asked.Commit n)) _ tt
+    (built_if (bytes_eq verb (codes "state")) (line.Shows (view.State n)) _ tt
+    (built_if (bytes_eq verb (codes "text")) (line.Shows (view.Text n)) line.Malformed tt tt)))
+
+built_join : (first second : Option ℕ) → AsksBuilt (join_line first second)
+built_join None second = tt
+built_join (Some a) None = tt
+built_join (Some a) (Some b) = tt
+
 built_words : (words : List (List ℕ)) → AsksBuilt (spelled_by words)
 built_words [] = tt
-built_words (a ∷ []) = tt
-built_words (verb ∷ a ∷ []) =
-    built_if (bytes_eq verb (codes "begin")) _ _ (built_session asked.Begin (number_of a) (λ n. tt))
-    (built_if (bytes_eq verb (codes "commit")) _ line.Malformed (built_session asked.Commit (number_of a) (λ n. tt)) tt)
+built_words (a ∷ []) = built_one a
+built_words (verb ∷ a ∷ []) = built_number verb (number_of a)
 built_words (verb ∷ a ∷ b ∷ []) =
     built_if (bytes_eq verb (codes "get")) _ _ (built_get (number_of a) (text_of b))
-    (built_if (bytes_eq verb (codes "base")) _ line.Malformed (built_base (text_of a) (text_of b)) tt)
+    (built_if (bytes_eq verb (codes "base")) _ _ (built_base (text_of a) (text_of b))
+    (built_if (bytes_eq verb (codes "join")) _ line.Malformed (built_join (number_of a) (number_of b)) tt))
 built_words (verb ∷ a ∷ b ∷ c ∷ []) = built_if (bytes_eq verb (codes "put")) _ line.Malformed (built_put (number_of a) (text_of b) (text_of c)) tt
 built_words (a ∷ b ∷ c ∷ d ∷ e ∷ words) = tt
 

@@ -3,11 +3,6 @@ use Rattle.std.proofs.Common.{◌≡◌, ℕ, ◌≤◌, List, [], ◌∷◌, le
 use Rattle.pcalc.specs.declared.lines.Line.TheVariants.{Malformed}
 use Rattle.pcalc.specs.Lines.{spelled_by}
 
-pub one_word : (words : List (List ℕ)) → 1 ≤ length words → length words ≤ 1 → spelled_by words ≡ Malformed
-one_word [] low high = absurd (omega arith)
-one_word (a ∷ []) low high = refl
-one_word (a ∷ b ∷ words) low high = absurd (omega arith)
-
 pub many_words : (words : List (List ℕ)) → 5 ≤ length words → spelled_by words ≡ Malformed
 many_words [] low = absurd (omega arith)
 many_words (a ∷ []) low = absurd (omega arith)

@@ -2,6 +2,7 @@ pub mod Words
 pub mod Texts
 pub mod Lines
 pub mod Built
+pub mod Views
 pub mod Scripts
 pub mod Holding
 pub mod Runs

@@ -8,6 +8,7 @@ use Rattle.pc_types.specs.declared.Event.TheVariants as asked
 use Rattle.pc_types.specs.declared.Refusal.TheVariants as why
 use Rattle.pcalc.specs.declared.lines.Line.{Line}
 use Rattle.pcalc.specs.declared.lines.Line.TheVariants as line
+use Rattle.pcalc.specs.declared.lines.View.TheVariants as view
 use Rattle.pcalc.specs.Words.{number_of, text_of}
 
 -- the lines: each ends with a line feed, before which one carriage return is dropped; the last one may lack its line feed
@@ -31,11 +32,6 @@ abbrev pub base_line : Option (List ℕ) → Option (List ℕ) → Line
 base_line (Some key) (Some value) = if is_key key then (if is_value value then line.Sets key value else line.SetsRefused why.ValueLength) else line.SetsRefused why.KeyLength
 base_line key value = line.Malformed
 
--- an event of a session alone
-abbrev pub session_line : (ℕ → Event) → Option ℕ → Line
-session_line event (Some session) = line.Asks (event session)
-session_line event None = line.Malformed
-
 -- a read
 abbrev pub get_line : Option ℕ → Option (List ℕ) → Line
 get_line (Some session) (Some key) = if is_key key then line.Asks (asked.Get session key) else line.AsksRefused why.KeyLength
@@ -47,17 +43,44 @@ put_line (Some session) (Some key) (Some value) =
     if is_key key then (if is_value value then line.Asks (asked.Put session key value) else line.AsksRefused why.ValueLength) else line.AsksRefused why.KeyLength
 put_line session key value = line.Malformed
 
+-- what a word alone spells
+abbrev pub one_word : List ℕ → Line
+one_word verb =
+    if bytes_eq verb (codes "point") then line.Asks asked.StartPoint
+    else (if bytes_eq verb (codes "seal") then line.Asks asked.Seal
+    else (if bytes_eq verb (codes "capture") then line.Asks asked.OpenCapture
+    else (if bytes_eq verb (codes "take") then line.Asks asked.Take
+    else (if bytes_eq verb (codes "done") then line.Asks asked.Done
+    else (if bytes_eq verb (codes "rest") then line.Asks asked.Rest else line.Malformed)))))
+
+-- what a word and a number spell
+abbrev pub numbered_line : List ℕ → ℕ → Line
+numbered_line verb number =
+    if bytes_eq verb (codes "begin") then line.Asks (asked.Begin number)
+    else (if bytes_eq verb (codes "commit") then line.Asks (asked.Commit number)
+    else (if bytes_eq verb (codes "state") then line.Shows (view.State number)
+    else (if bytes_eq verb (codes "text") then line.Shows (view.Text number) else line.Malformed)))
+
+-- the same where the number may be no number
+abbrev pub numbered : List ℕ → Option ℕ → Line
+numbered verb (Some number) = numbered_line verb number
+numbered verb None = line.Malformed
+
 -- what two words spell
 abbrev pub two_words : List ℕ → List ℕ → Line
-two_words verb session =
-    if bytes_eq verb (codes "begin") then session_line asked.Begin (number_of session)
-    else (if bytes_eq verb (codes "commit") then session_line asked.Commit (number_of session) else line.Malformed)
+two_words verb number = numbered verb (number_of number)
+
+-- a join of two files
+abbrev pub join_line : Option ℕ → Option ℕ → Line
+join_line (Some first) (Some second) = line.Asks (asked.Join first second)
+join_line first second = line.Malformed
 
 -- what three words spell
 abbrev pub three_words : List ℕ → List ℕ → List ℕ → Line
 three_words verb first second =
     if bytes_eq verb (codes "get") then get_line (number_of first) (text_of second)
-    else (if bytes_eq verb (codes "base") then base_line (text_of first) (text_of second) else line.Malformed)
+    else (if bytes_eq verb (codes "base") then base_line (text_of first) (text_of second)
+    else (if bytes_eq verb (codes "join") then join_line (number_of first) (number_of second) else line.Malformed))
 
 -- what four words spell
 abbrev pub four_words : List ℕ → List ℕ → List ℕ → List ℕ → Line
@@ -67,6 +90,7 @@ four_words verb first second third =
 -- what the words of a line spell
 abbrev pub spelled_by : List (List ℕ) → Line
 spelled_by [] = line.Silent
+spelled_by (verb ∷ []) = one_word verb
 spelled_by (verb ∷ a ∷ []) = two_words verb a
 spelled_by (verb ∷ a ∷ b ∷ []) = three_words verb a b
 spelled_by (verb ∷ a ∷ b ∷ c ∷ []) = four_words verb a b c

@@ -19,7 +19,8 @@ use Rattle.pcalc.specs.declared.setup.Setup.{Setup}
 use Rattle.pcalc.specs.declared.script.Status.{Status}
 use Rattle.pcalc.specs.declared.script.Status.TheVariants as status
 use Rattle.pcalc.specs.Lines.{lines_in, spelled}
-use Rattle.pcalc.specs.Texts.{reply_text}
+use Rattle.pcalc.specs.Texts.{reply_text, state_text, hex_line}
+use Rattle.pcalc.specs.Views.{AnswersView}
 
 -- how far a script has come
 pub data Stage : Type 0 where
@@ -57,6 +58,7 @@ AnswersLine st history (line.SetsRefused why) said next = (said ≡ refused why)
 AnswersLine st history (line.AsksRefused why) said next = (said ≡ refused why) × (next ≡ history)
 AnswersLine st history (line.Asks event) said next =
     (reply : Reply) × IsLegalForNow st history event reply × (said ≡ answer.Says reply) × (next ≡ record { event = event; reply = reply } ∷ history)
+AnswersLine st history (line.Shows view) said next = AnswersView st history view said × (next ≡ history)
 
 -- the first line after the base: the store is made and answers it, or memory ran out
 abbrev pub AnswersFirst : Setup → Database → Line → Answer → Stage → Type 0
@@ -71,6 +73,7 @@ Answers setup (Reading base) (line.SetsRefused why) said next = (said ≡ refuse
 Answers setup (Reading base) line.Malformed said next = AnswersFirst setup base line.Malformed said next
 Answers setup (Reading base) (line.Asks event) said next = AnswersFirst setup base (line.Asks event) said next
 Answers setup (Reading base) (line.AsksRefused why) said next = AnswersFirst setup base (line.AsksRefused why) said next
+Answers setup (Reading base) (line.Shows view) said next = AnswersFirst setup base (line.Shows view) said next
 Answers setup (Running base history) l said next = (after : History) × AnswersLine (setting setup base) history l said after × (next ≡ Running base after)
 Answers setup Ended l said next = (said ≡ answer.Nothing) × (next ≡ Ended)
 
@@ -79,6 +82,8 @@ abbrev pub answer_text : Answer → List ℕ
 answer_text answer.Nothing = []
 answer_text answer.BadLine = codes "bad line\n"
 answer_text (answer.Says reply) = reply_text reply ++ codes "\n"
+answer_text (answer.State base) = state_text base
+answer_text (answer.Text text) = hex_line text
 
 -- the text that the lines may print one after the other, from a stage to the last one
 abbrev pub Prints : Setup → Stage → List (List ℕ) → List ℕ → Stage → Type 0

@@ -10,6 +10,8 @@ use Rattle.pc_types.specs.declared.Reply.{Reply}
 use Rattle.pc_types.specs.declared.Reply.TheVariants as told
 use Rattle.pc_types.specs.declared.Refusal.{Refusal}
 use Rattle.pc_types.specs.declared.Refusal.TheVariants as why
+use Rattle.pc_model.specs.Maps.{len}
+use Rattle.pc_model.specs.Files.{BaseFile}
 use Rattle.pc_model.specs.Ranges.{ranges_of}
 use Rattle.pcalc.specs.Words.{is_plain}
 
@@ -67,3 +69,23 @@ reply_text told.NoneLeft = codes "none left"
 reply_text (told.PartDone point file entries) = codes "part " ++ (decimal point ++ (codes " file " ++ (decimal file ++ (codes " entries " ++ decimal entries))))
 reply_text (told.File file points entries) = codes "file " ++ (decimal file ++ (codes " points " ++ (ranges_text (ranges_of points) ++ (codes " entries " ++ decimal entries))))
 reply_text (told.Refused why) = codes "refused " ++ refusal_text why
+
+-- a pair of a state, with the end of its line
+abbrev pub pair_text : List ℕ × List ℕ → List ℕ
+pair_text pair = (printed pair.0 ++ (codes " " ++ printed pair.1)) ++ codes "\n"
+
+-- the point of a state and the number of its pairs
+abbrev pub state_head : ℕ → ℕ → List ℕ
+state_head point count = (codes "state point " ++ decimal point) ++ (codes " pairs " ++ decimal count)
+
+-- a state: a line for its point and the number of its pairs, and a line for each pair
+abbrev pub state_text : BaseFile → List ℕ
+state_text base = state_head base.point (len base.pairs) ++ (codes "\n" ++ flat_map pair_text base.pairs.entries)
+
+-- a byte by its two hexadecimal digits
+abbrev pub hex_byte : ℕ → List ℕ
+hex_byte b = digit_char (b / 16) ∷ digit_char (b % 16) ∷ []
+
+-- the bytes of a file, with the end of the line
+abbrev pub hex_line : List ℕ → List ℕ
+hex_line bytes = (codes "text " ++ flat_map hex_byte bytes) ++ codes "\n"

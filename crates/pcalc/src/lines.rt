@@ -3,10 +3,10 @@ ghost use Rattle.std.specs.Prelude.{◌≡◌, ◌==◌, ℕ, List, Some, map, l
 ghost use Rattle.std.specs.List.{slice_split};
 ghost use Rattle.pcalc.specs.Words.{number_of, text_of};
 ghost use Rattle.pcalc.specs.Built.{AsksBuilt};
-ghost use Rattle.pcalc.specs.Lines.{words_of, is_key, is_value, base_line, get_line, put_line, two_words, three_words, four_words, spelled_by, is_comment, spelled};
+ghost use Rattle.pcalc.specs.Lines.{words_of, is_key, is_value, base_line, get_line, put_line, one_word, numbered_line, two_words, three_words, four_words, spelled_by, is_comment, spelled};
 
 use crate::words::{number, text_of};
-use pc_types::{Event, Key, Refusal, SessionNo, Value};
+use pc_types::{Event, FileNo, Key, Refusal, SessionNo, Value};
 use std::alloc::{AllocError, Global};
 
 /// What a line of a script spells.
@@ -24,6 +24,17 @@ pub enum Line {
     Asks(Event),
     /// An event with a key or value of a wrong length.
     AsksRefused(Refusal),
+    /// Something to be shown, which changes nothing.
+    Shows(View),
+}
+
+/// What a line asks to be shown.
+#[derive(Clone, Copy, Debug, PartialEq, Eq)]
+pub enum View {
+    /// The base with a file laid on it.
+    State(FileNo),
+    /// The bytes of a file.
+    Text(FileNo),
 }
 
 /// What the line, without its end, spells. Refuses only with `OutOfMemory`.
@@ -46,8 +57,8 @@ fn spelled_by(alloc: Global, words: &[&[u8]]) -> Result<Line, Refusal>
 {
     match words {
         [] => Ok(Line::Silent),
-        [_] => Ok(Line::Malformed),
-        [verb, session] => Ok(two_words(verb, session)),
+        [verb] => Ok(one_word(verb)),
+        [verb, number] => Ok(two_words(verb, number)),
         [verb, first, second] => three_words(alloc, verb, first, second),
         [verb, first, second, third] => four_words(alloc, verb, first, second, third),
         _ => Ok(Line::Malformed),
@@ -80,19 +91,46 @@ fn words<'a>(alloc: Global, text: &'a [u8]) -> Result<Vec<&'a [u8]>, AllocError>
     Ok(words)
 }
 
-fn two_words(verb: &[u8], session: &[u8]) -> Line
-    ensures { result ≡ two_words verb.now session.now }
+fn one_word(verb: &[u8]) -> Line
+    ensures { result ≡ one_word verb.now }
+{
+    if verb == b"point".as_slice() {
+        Line::Asks(Event::StartPoint)
+    } else if verb == b"seal".as_slice() {
+        Line::Asks(Event::Seal)
+    } else if verb == b"capture".as_slice() {
+        Line::Asks(Event::OpenCapture)
+    } else if verb == b"take".as_slice() {
+        Line::Asks(Event::Take)
+    } else if verb == b"done".as_slice() {
+        Line::Asks(Event::Done)
+    } else if verb == b"rest".as_slice() {
+        Line::Asks(Event::Rest)
+    } else {
+        Line::Malformed
+    }
+}
+
+fn two_words(verb: &[u8], number_word: &[u8]) -> Line
+    ensures { result ≡ two_words verb.now number_word.now }
+{
+    match number(number_word) {
+        Some(number) => numbered_line(verb, number),
+        None => Line::Malformed,
+    }
+}
+
+fn numbered_line(verb: &[u8], number: u32) -> Line
+    ensures { result ≡ numbered_line verb.now number }
 {
     if verb == b"begin".as_slice() {
-        match number(session) {
-            Some(session) => Line::Asks(Event::Begin(SessionNo(session))),
-            None => Line::Malformed,
-        }
+        Line::Asks(Event::Begin(SessionNo(number)))
     } else if verb == b"commit".as_slice() {
-        match number(session) {
-            Some(session) => Line::Asks(Event::Commit(SessionNo(session))),
-            None => Line::Malformed,
-        }
+        Line::Asks(Event::Commit(SessionNo(number)))
+    } else if verb == b"state".as_slice() {
+        Line::Shows(View::State(FileNo(number)))
+    } else if verb == b"text".as_slice() {
+        Line::Shows(View::Text(FileNo(number)))
     } else {
         Line::Malformed
     }
@@ -113,6 +151,13 @@ fn three_words(alloc: Global, verb: &[u8], first: &[u8], second: &[u8]) -> Resul
         let value = text_of(alloc, second)?;
         match (key, value) {
             (Some(key), Some(value)) => base_line(alloc, &key, &value),
+            _ => Ok(Line::Malformed),
+        }
+    } else if verb == b"join".as_slice() {
+        match (number(first), number(second)) {
+            (Some(first), Some(second)) => {
+                Ok(Line::Asks(Event::Join(FileNo(first), FileNo(second))))
+            }
             _ => Ok(Line::Malformed),
         }
     } else {

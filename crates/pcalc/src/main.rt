@@ -9,6 +9,7 @@ mod setup;
 #[cfg(test)]
 mod tests;
 mod texts;
+mod views;
 mod words;
 
 use clap::error::ErrorKind;

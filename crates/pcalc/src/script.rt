@@ -15,12 +15,13 @@ ghost use Rattle.pcalc.specs.declared.script.Status.TheVariants.{BadLines};
 
 use crate::lines::{Line, read_line};
 use crate::setup::Setup;
-use crate::texts::put_reply;
+use crate::texts::{put_reply, put_state, put_text};
+use crate::views::answer_view;
 use bstr::ByteSlice;
 use pc_engine::World;
 use pc_model::Pairs;
 use pc_part::Base;
-use pc_types::{Key, Refusal, Reply, Tally, Value};
+use pc_types::{Items, Key, Refusal, Reply, Tally, Value};
 use std::alloc::Global;
 use std::io::Write;
 
@@ -41,6 +42,10 @@ pub enum Answer {
     Nothing,
     BadLine,
     Says(Reply),
+    /// The base with a file laid on it.
+    State(Base),
+    /// The bytes of a file.
+    Text(Items<u8>),
 }
 
 /// What the lines so far have made.
@@ -135,7 +140,7 @@ fn answer_line(alloc: Global, setup: Setup, made: Made, line: Line) -> (Answer, 
     match made {
         Made::Base(pairs) => answer_base(alloc, setup, pairs, line),
         Made::Store(mut world) => {
-            let answer = answer_stored(&mut world, line);
+            let answer = answer_stored(alloc, &mut world, line);
             (answer, Made::Store(world))
         }
         Made::Ended => (Answer::Nothing, Made::Ended),
@@ -159,6 +164,7 @@ fn answer_base(alloc: Global, setup: Setup, mut pairs: Pairs, line: Line) -> (An
         Line::Malformed => answer_first(alloc, setup, pairs, Line::Malformed),
         Line::Asks(event) => answer_first(alloc, setup, pairs, Line::Asks(event)),
         Line::AsksRefused(why) => answer_first(alloc, setup, pairs, Line::AsksRefused(why)),
+        Line::Shows(view) => answer_first(alloc, setup, pairs, Line::Shows(view)),
     }
 }
 
@@ -171,14 +177,14 @@ fn answer_first(alloc: Global, setup: Setup, pairs: Pairs, line: Line) -> (Answe
 {
     match start(alloc, setup, pairs) {
         Some(mut world) => {
-            let answer = answer_stored(&mut world, line);
+            let answer = answer_stored(alloc, &mut world, line);
             (answer, Made::Store(world))
         }
         None => (refused(Refusal::OutOfMemory), Made::Ended),
     }
 }
 
-fn refused(why: Refusal) -> Answer
+pub(crate) fn refused(why: Refusal) -> Answer
     ensures { result ≡ refused why }
 {
     Answer::Says(Reply::Refused(why))
@@ -219,7 +225,7 @@ fn start(alloc: Global, setup: Setup, pairs: Pairs) -> Option<World>
 }
 
 // Answers a line by the store.
-fn answer_stored(world: &mut World, line: Line) -> Answer
+fn answer_stored(alloc: Global, world: &mut World, line: Line) -> Answer
     requires { AsksBuilt line }
     ensures setting { setting_of world.new ≡ setting_of world.old }
     ensures answer { (history : History) → Stands world.old history
@@ -232,6 +238,7 @@ fn answer_stored(world: &mut World, line: Line) -> Answer
         Line::SetsRefused(why) => refused(why),
         Line::AsksRefused(why) => refused(why),
         Line::Asks(event) => Answer::Says(world.step(&event)),
+        Line::Shows(view) => answer_view(alloc, world, view),
     }
 }
 
@@ -245,5 +252,7 @@ fn put_answer<W: Write>(out: &mut Tally<W>, answer: &Answer) -> Result<(), Refus
             put_reply(out, reply)?;
             out.put(b"\n")
         }
+        Answer::State(base) => put_state(out, base),
+        Answer::Text(text) => put_text(out, text.as_slice()),
     }
 }

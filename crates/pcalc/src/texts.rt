@@ -4,11 +4,12 @@ ghost use Rattle.std.specs.List.{flat_map};
 ghost use Rattle.std.specs.Char.{digit_char};
 ghost use Rattle.pc_types.specs.Tallies.{Puts};
 ghost use Rattle.pc_model.specs.Ranges.{ranges_of};
-ghost use Rattle.pcalc.specs.Texts.{printed_byte, printed, printed_value, phase_name, range_text, ranges_text, refusal_text, reply_text};
+ghost use Rattle.pcalc.specs.Texts.{printed_byte, printed, printed_value, phase_name, range_text, ranges_text, refusal_text, reply_text, pair_text, state_head, state_text, hex_byte, hex_line};
 
 use crate::words::is_plain;
 use itoa::Buffer;
-use pc_types::{Phase, Point, Refusal, Reply, Tally, Value};
+use pc_part::Base;
+use pc_types::{Key, Phase, Point, Refusal, Reply, Tally, Value};
 use std::io::Write;
 
 /// Writes the text of a reply, without the end of its line.
@@ -215,4 +216,82 @@ fn hex_digit(value: u8) -> u8
     ensures { result ≡ digit_char value }
 {
     if value < 10 { 48 + value } else { 87 + value }
+}
+
+/// Writes the lines of a state: its point and the number of its pairs, and each pair.
+pub fn put_state<W: Write>(out: &mut Tally<W>, base: &Base) -> Result<(), Refusal>
+    ensures { Puts W.contents out.old out.new result (state_text base.now) }
+{
+    let pairs = base.pairs();
+    put_state_head(out, base.point(), pairs.len() as u32)?;
+    put_state_pairs(out, pairs)
+}
+
+fn put_state_head<W: Write>(out: &mut Tally<W>, point: Point, count: u32) -> Result<(), Refusal>
+    ensures { Puts W.contents out.old out.new result (state_head point count) }
+{
+    put_number(out, b"state point ", u64::from(point.0))?;
+    put_number(out, b" pairs ", u64::from(count))
+}
+
+// The end of the line, and a line for each pair.
+fn put_state_pairs<W: Write>(out: &mut Tally<W>, pairs: &[(Key, Value)]) -> Result<(), Refusal>
+    ensures { Puts W.contents out.old out.new result (codes "\n" ++ flat_map pair_text pairs.now) }
+{
+    out.put(b"\n")?;
+    put_pairs(out, pairs)
+}
+
+fn put_pairs<W: Write>(out: &mut Tally<W>, pairs: &[(Key, Value)]) -> Result<(), Refusal>
+    ensures { Puts W.contents out.old out.new result (flat_map pair_text pairs.now) }
+{
+    for pair in pairs {
+        put_pair(out, pair)?;
+    }
+    Ok(())
+}
+
+fn put_pair<W: Write>(out: &mut Tally<W>, pair: &(Key, Value)) -> Result<(), Refusal>
+    ensures { Puts W.contents out.old out.new result (pair_text pair.now) }
+{
+    put_two(out, pair.0.as_bytes(), pair.1.as_bytes())?;
+    out.put(b"\n")
+}
+
+// Two words with a space between them.
+fn put_two<W: Write>(out: &mut Tally<W>, first: &[u8], second: &[u8]) -> Result<(), Refusal>
+    ensures { Puts W.contents out.old out.new result (printed first.now ++ (codes " " ++ printed second.now)) }
+{
+    put_printed(out, first)?;
+    put_named(out, b" ", second)
+}
+
+/// Writes the bytes of a file by their hexadecimal digits, with the end of the line.
+pub fn put_text<W: Write>(out: &mut Tally<W>, bytes: &[u8]) -> Result<(), Refusal>
+    ensures { Puts W.contents out.old out.new result (hex_line bytes.now) }
+{
+    put_hex_words(out, bytes)?;
+    out.put(b"\n")
+}
+
+fn put_hex_words<W: Write>(out: &mut Tally<W>, bytes: &[u8]) -> Result<(), Refusal>
+    ensures { Puts W.contents out.old out.new result (codes "text " ++ flat_map hex_byte bytes.now) }
+{
+    out.put(b"text ")?;
+    put_hex(out, bytes)
+}
+
+fn put_hex<W: Write>(out: &mut Tally<W>, bytes: &[u8]) -> Result<(), Refusal>
+    ensures { Puts W.contents out.old out.new result (flat_map hex_byte bytes.now) }
+{
+    for byte in bytes {
+        put_hex_byte(out, *byte)?;
+    }
+    Ok(())
+}
+
+fn put_hex_byte<W: Write>(out: &mut Tally<W>, byte: u8) -> Result<(), Refusal>
+    ensures { Puts W.contents out.old out.new result (hex_byte byte) }
+{
+    out.put(&[hex_digit(byte / 16), hex_digit(byte % 16)])
 }
