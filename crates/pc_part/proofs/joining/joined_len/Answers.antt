@@ -46,8 +46,8 @@ loop-x-preserved c =
 pub returns : goal.returns
 returns c =
     let e = ends c.args.a.now c.args.b.now c.loop-x.left.now c.loop-x.right.now c.loop-x.len c.loop-x.invariant
-        (elim c.match-split_first.branch [
-          | in_default w ↦ inr w.in_default.ensures'.cases
-          | in_default-2 w ↦ inl w.in_default.ensures.cases
-        ]) in
+    (elim c.match-split_first.branch [
+      | in_default w ↦ inr w.in_default.ensures'.cases
+      | in_default-2 w ↦ inl w.in_default.ensures.cases
+    ]) in
     gives _ _ _ e.0 e.1
