@@ -1,5 +1,5 @@
 -- The union of ranges, gone through by their first points.
-use Rattle.std.proofs.Common.{◌≡◌, ℕ, ◌+◌, ◌≤◌, ◌<◌, ◌&&◌, ◌||◌, nat_le, max, get_or, Bool, true, false, List, [], ◌∷◌, ◌++◌, length, map, is_some, Option, Some, None, cond, ◌⊎◌, inl, inr, refl, sym, ap, ◌∙◌, arith}
+use Rattle.std.proofs.Common.{◌≡◌, ℕ, ◌+◌, ◌≤◌, ◌&&◌, ◌||◌, nat_le, max, get_or, Bool, true, false, List, [], ◌∷◌, ◌++◌, is_some, Option, Some, cond, inl, inr, refl, sym, ap, ◌∙◌, arith}
 use Rattle.std.specs.Prelude.{⊤}
 use Rattle.std.specs.List.{list_any}
 use Rattle.std.specs.Ordering.{nat_cmp, eq_by_cmp}

@@ -18,6 +18,9 @@ use pc_types::{Refusal, Value};
 use std::alloc::{AllocError, Global};
 use std::cmp::Ordering;
 
+// A file has at most so many entries.
+pub(crate) const ENTRY_LIMIT: usize = 4_294_967_295;
+
 /// The join of two parts of one run: it stands for the points of both, and has of each key the entry of the greatest
 /// point, whether a value or a tombstone. Both parts stay as they are. Of several refusals the first counts:
 ///
@@ -36,9 +39,6 @@ pub fn join(alloc: Global, a: &Part, b: &Part) -> Result<Part, Refusal>
     let ranges = union_ranges(alloc, a.ranges(), b.ranges())?;
     Ok(Part::from_lists(a.run(), ranges, entries))
 }
-
-// A file has at most so many entries.
-pub(crate) const ENTRY_LIMIT: usize = 4_294_967_295;
 
 // The triples of both, of each key that of the greater point, where no two conflict and they are not too many.
 fn merge_entries(alloc: Global, a: &[Triple], b: &[Triple]) -> Result<Vec<Triple>, Refusal>
@@ -281,6 +281,9 @@ mod tests {
         Ok(())
     }
 
+    // Takes memory of its own.
+    const LONG: &[u8] = b"more than 16 bytes";
+
     // The join, asked for once more where memory was refused.
     fn joined_at_last(alloc: Global, a: &Part, b: &Part) -> Result<Part, Refusal> {
         match join(alloc, a, b) {
@@ -293,7 +296,7 @@ mod tests {
     #[test]
     fn leaves_both_parts(rt: HostRuntime) -> Result<(), Fail> {
         let alloc = rt.alloc();
-        let a = one(alloc, 1, 1, b"a", Some(b"1".as_slice()))?;
+        let a = one(alloc, 1, 1, LONG, Some(LONG))?;
         let b = one(alloc, 1, 3, b"b", None)?;
         let before = (text_of(alloc, &a)?, text_of(alloc, &b)?);
         let joined = joined_at_last(alloc, &a, &b)?;

@@ -280,6 +280,9 @@ mod tests {
         Ok(())
     }
 
+    // Takes memory of its own.
+    const LONG: &[u8] = b"more than 16 bytes";
+
     // The base with the part laid on it, asked for once more where memory was refused.
     fn laid_at_last(alloc: Global, base: &Base, part: &Part) -> Result<Base, Refusal> {
         match lay(alloc, base, part) {
@@ -293,12 +296,12 @@ mod tests {
     fn leaves_base_and_part(rt: HostRuntime) -> Result<(), Fail> {
         let alloc = rt.alloc();
         let base = start(alloc)?;
-        let part = of_two(alloc)?;
+        let part = one(alloc, 1, 1, LONG, Some(LONG))?;
         let laid = laid_at_last(alloc, &base, &part)?;
-        assert_eq!(rt; seen(alloc, &laid)?.1.as_slice(), b"a1c0".as_slice());
-        assert_eq!(rt; seen(alloc, &base)?.1.as_slice(), b"b0c0".as_slice());
-        assert_eq!(rt; part.ranges().len(), 1);
-        assert_eq!(rt; part.entries().len(), 2);
+        assert_eq!(rt; laid.pairs().len(), 3);
+        assert_eq!(rt; laid.pairs()[2].1.as_bytes(), LONG);
+        assert_eq!(rt; base.pairs().len(), 2);
+        assert_eq!(rt; part.entries().len(), 1);
         Ok(())
     }
 

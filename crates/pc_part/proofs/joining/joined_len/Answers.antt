@@ -1,4 +1,4 @@
-use Rattle.std.proofs.Common.{rules, ◌≡◌, ◌∷◌, [], inl, inr, sym, ap, ◌∙◌, cond, Bool, ℕ, List, true, false, Ok, Err, Result, refl}
+use Rattle.std.proofs.Common.{rules, ◌≡◌, ◌∷◌, inl, inr, sym, ap, cond, Bool, ℕ, true, false, Ok, Err, Result, refl}
 use Rattle.pc_types.specs.declared.refusal.Refusal.{Refusal}
 use Rattle.pc_types.specs.declared.refusal.Refusal.TheVariants.{Conflict}
 use Rattle.pc_part.proofs.JoinedLists.{Counted, count_first, count_second, count_both, stops, ends}
