@@ -1,17 +1,15 @@
 -- Laws of the join, key by key.
 use Rattle.std.proofs.Common.{◌≡◌, ℕ, Bool, true, false, cond, not, ◌&&◌, ◌||◌, ◌==◌, nat_lt, List, Option, Some, None, refl, sym, ap, ◌∙◌, arith}
-use Rattle.std.specs.Prelude.{IsFalse, ⊤}
-use Rattle.std.specs.List.{list_any}
-use Rattle.std.specs.Ordering.{is_eq}
+use Rattle.std.specs.Prelude.{⊤}
 use Rattle.std.specs.Cmp.{eq_by_cmp_equiv}
 use Rattle.std.proofs.lemmas.Bool.Decides.{nat_tests}
 use Rattle.std.proofs.lemmas.Bool.{ltb-true, ltb-false}
 use Rattle.pc_model.specs.Maps.{get}
 use Rattle.pc_model.specs.Sets as set
 use Rattle.pc_model.specs.Sets.{Set, number_order}
-use Rattle.pc_model.specs.Database.{key_order, same_bytes}
+use Rattle.pc_model.specs.Database.{key_order}
 use Rattle.pc_model.specs.Points.{AtPoint, Triples, newer, later, joined}
-use Rattle.pc_model.specs.Files.{File, joined_file, conflict, differs, same_content}
+use Rattle.pc_model.specs.Files.{conflict, differs, same_content}
 use Rattle.pc_model.proofs.MapLaws.{get-entries, same_map}
 use Rattle.pc_model.proofs.SetLaws.{same_set}
 use Rattle.pc_model.proofs.PairMaps.{tested}

@@ -17,9 +17,9 @@ use Rattle.pc_model.specs.Maps as map_of
 use Rattle.pc_model.specs.Sets as set
 use Rattle.pc_model.specs.Sets.{Set, number_order}
 use Rattle.pc_model.specs.Database.{key_cmp, key_order, same_bytes, KeysRise}
-use Rattle.pc_model.specs.Points.{AtPoint, Triples, later, joined}
+use Rattle.pc_model.specs.Points.{AtPoint, later, joined}
 use Rattle.pc_model.specs.Files.{differs, conflict}
-use Rattle.pc_model.specs.Laying.{entry_of, entries_of}
+use Rattle.pc_model.specs.Laying.{entries_of}
 use Rattle.pc_model.specs.Replies.{is_empty}
 use Rattle.pc_model.proofs.MapLaws.{get-from_list, same_map}
 use Rattle.pc_model.proofs.PairMaps as pair_maps

@@ -1,22 +1,21 @@
 -- Rising triples laid on rising pairs, from the fronts of both.
-use Rattle.std.proofs.Common.{◌≡◌, ℕ, ◌+◌, ◌≤◌, ◌<◌, nat_lt, Bool, true, false, cond, List, [], ◌∷◌, ◌++◌, length, Option, Some, None, refl, sym, ap, ◌∙◌, append_assoc, arith, lt-ltb}
+use Rattle.std.proofs.Common.{◌≡◌, ℕ, ◌+◌, ◌≤◌, ◌<◌, nat_lt, false, List, [], ◌∷◌, ◌++◌, length, Option, Some, None, refl, sym, ap, ◌∙◌, append_assoc, arith, lt-ltb}
 use Rattle.std.proofs.lemmas.List.{append-nil}
 use Rattle.std.proofs.lemmas.Bool.Decides.{nat_tests}
 use Rattle.std.specs.declared.cmp.Ordering.TheVariants.{Less, Equal, Greater}
 use Rattle.std.specs.FinMap.{find}
-use Rattle.pc_types.specs.declared.Refusal.{Refusal}
 use Rattle.pc_types.specs.declared.Refusal.TheVariants.{Full}
 use Rattle.pc_model.specs.declared.laying.Triple.{Triple}
 use Rattle.pc_model.specs.Maps as map_of
-use Rattle.pc_model.specs.Database.{Database, database_of, key_cmp, key_order, KeysRise}
-use Rattle.pc_model.specs.Points.{AtPoint, laid_at, laid}
+use Rattle.pc_model.specs.Database.{database_of, key_cmp, key_order, KeysRise}
+use Rattle.pc_model.specs.Points.{laid_at, laid}
 use Rattle.pc_model.specs.Laying.{entry_of, entries_of}
 use Rattle.pc_model.proofs.MapLaws.{get-from_list}
 use Rattle.pc_model.proofs.PairMaps as pair_maps
 use Rattle.pc_model.proofs.Joins.{get-laid}
 use Rattle.pc_part.specs.Joins.{first_cause}
 use Rattle.pc_part.specs.Layings.{laid_there, limit_causes, IsLaidFirst}
-use Rattle.pc_part.specs.Merges.{with_content, from_second, merged}
+use Rattle.pc_part.specs.Merges.{with_content, merged}
 use Rattle.pc_part.specs.Parts.{triples_of}
 use Rattle.pc_part.proofs.Merging.{Merges, merges, merged_first, merged_both, merged_second, merged_only_first, merged_only_second}
 

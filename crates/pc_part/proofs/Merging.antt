@@ -104,8 +104,8 @@ module _ {A B C : Type 0} (rule : Option A → Option B → Option C) where
     second_merges (b ∷ bs) rise =
         let parts = both_of (below_all key_cmp b.0 bs) (is_sorted key_cmp bs) rise in
         one_step b.0 None (Some b.1) [] [] (b ∷ bs) bs (from_second rule bs) (λ q. find_apart b.0 q [] refl) (λ q. refl) refl parts.0
-            (λ k in_a in_b. let h = both_of (is_lt (key_cmp k b.0)) (below_all key_cmp k bs) in_b in record { less = h.0; first = refl; second = h.1 })
-            (second_merges bs parts.1)
+        (λ k in_a in_b. let h = both_of (is_lt (key_cmp k b.0)) (below_all key_cmp k bs) in_b in record { less = h.0; first = refl; second = h.1 })
+        (second_merges bs parts.1)
 
     merges_with : (a : List ℕ × A) (rest : List (List ℕ × A)) (again : (bs : List (List ℕ × B)) → Rise rest → Rise bs → Merges rest bs (merged rule rest bs)) (bs : List (List ℕ × B)) →
         Rise (a ∷ rest) → Rise bs → Merges (a ∷ rest) bs (merged_with rule a (merged rule rest) bs)
@@ -113,8 +113,8 @@ module _ {A B C : Type 0} (rule : Option A → Option B → Option C) where
     merges_with a rest again [] rise_a rise_b =
         let parts = both_of (below_all key_cmp a.0 rest) (is_sorted key_cmp rest) rise_a in
         one_step a.0 (Some a.1) None (a ∷ rest) rest [] [] (merged rule rest []) (λ q. refl) (λ q. find_apart a.0 q [] refl) parts.0 refl
-            (λ k in_a in_b. let h = both_of (is_lt (key_cmp k a.0)) (below_all key_cmp k rest) in_a in record { less = h.0; first = h.1; second = refl })
-            (again [] parts.1 refl)
+        (λ k in_a in_b. let h = both_of (is_lt (key_cmp k a.0)) (below_all key_cmp k rest) in_a in record { less = h.0; first = h.1; second = refl })
+        (again [] parts.1 refl)
     merges_with a rest again (b ∷ bs) rise_a rise_b =
         by (λ rise. merges_with a rest again bs rise_a rise) (key_cmp a.0 b.0) refl (both_of (below_all key_cmp a.0 rest) (is_sorted key_cmp rest) rise_a) (both_of (below_all key_cmp b.0 bs) (is_sorted key_cmp bs) rise_b)
       where
@@ -123,21 +123,21 @@ module _ {A B C : Type 0} (rule : Option A → Option B → Option C) where
         by later Less is pa pb =
             let under : Below a.0 (b ∷ bs) = and_of (is_lt (key_cmp a.0 b.0)) (below_all key_cmp a.0 bs) (ap is_lt is) (lesser_below a.0 b.0 bs is pb.0) in
             one_step a.0 (Some a.1) None (a ∷ rest) rest (b ∷ bs) (b ∷ bs) (merged rule rest (b ∷ bs)) (λ q. refl) (λ q. find_apart a.0 q (b ∷ bs) under) pa.0 under
-                (λ k in_a in_b. let h = both_of (is_lt (key_cmp k a.0)) (below_all key_cmp k rest) in_a in record { less = h.0; first = h.1; second = in_b })
-                (again (b ∷ bs) pa.1 rise_b)
+            (λ k in_a in_b. let h = both_of (is_lt (key_cmp k a.0)) (below_all key_cmp k rest) in_a in record { less = h.0; first = h.1; second = in_b })
+            (again (b ∷ bs) pa.1 rise_b)
         by later Greater is pa pb =
             let turned = flipped a.0 b.0 is in
             let under : Below b.0 (a ∷ rest) = and_of (is_lt (key_cmp b.0 a.0)) (below_all key_cmp b.0 rest) (ap is_lt turned) (lesser_below b.0 a.0 rest turned pa.0) in
             one_step b.0 None (Some b.1) (a ∷ rest) (a ∷ rest) (b ∷ bs) bs (merged_with rule a (merged rule rest) bs) (λ q. find_apart b.0 q (a ∷ rest) under) (λ q. refl) under pb.0
-                (λ k in_a in_b. let h = both_of (is_lt (key_cmp k b.0)) (below_all key_cmp k bs) in_b in record { less = h.0; first = in_a; second = h.1 })
-                (later pb.1)
+            (λ k in_a in_b. let h = both_of (is_lt (key_cmp k b.0)) (below_all key_cmp k bs) in_b in record { less = h.0; first = in_a; second = h.1 })
+            (later pb.1)
         by later Equal is pa pb =
             let keys : a.0 ≡ b.0 = key_order.exact a.0 b.0 is in
             one_step a.0 (Some a.1) (Some b.1) (a ∷ rest) rest (b ∷ bs) bs (merged rule rest bs) (λ q. refl) (λ q. ap (λ k. cond (same_bytes q k) (Some b.1) (find key_cmp q bs)) (sym keys))
-                pa.0 (subst (λ k. Below k bs) (sym keys) pb.0)
-                (λ k in_a in_b. let h = both_of (is_lt (key_cmp k a.0)) (below_all key_cmp k rest) in_a in
-                    record { less = h.0; first = h.1; second = (both_of (is_lt (key_cmp k b.0)) (below_all key_cmp k bs) in_b).1 })
-                (again bs pa.1 pb.1)
+            pa.0 (subst (λ k. Below k bs) (sym keys) pb.0)
+            (λ k in_a in_b. let h = both_of (is_lt (key_cmp k a.0)) (below_all key_cmp k rest) in_a in
+            record { less = h.0; first = h.1; second = (both_of (is_lt (key_cmp k b.0)) (below_all key_cmp k bs) in_b).1 })
+            (again bs pa.1 pb.1)
 
     -- a merge of rising lists has at each key what the rule makes of what both have there
     pub merges : (a : List (List ℕ × A)) (b : List (List ℕ × B)) → Rise a → Rise b → Merges a b (merged rule a b)

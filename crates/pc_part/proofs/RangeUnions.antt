@@ -1,5 +1,5 @@
 -- The union of ranges, gone through by their first points.
-use Rattle.std.proofs.Common.{◌≡◌, ℕ, ◌+◌, ◌≤◌, ◌<◌, ◌&&◌, ◌||◌, nat_le, max, get_or, Bool, true, false, List, [], ◌∷◌, ◌++◌, length, map, is_some, Option, Some, None, cond, ◌⊎◌, inl, inr, refl, sym, ap, ◌∙◌, arith}
+use Rattle.std.proofs.Common.{◌≡◌, ℕ, ◌+◌, ◌≤◌, ◌&&◌, ◌||◌, nat_le, max, get_or, Bool, true, false, List, [], ◌∷◌, ◌++◌, is_some, Option, Some, cond, inl, inr, refl, sym, ap, ◌∙◌, arith}
 use Rattle.std.specs.Prelude.{⊤}
 use Rattle.std.specs.List.{list_any}
 use Rattle.std.specs.Ordering.{nat_cmp, eq_by_cmp}
@@ -74,7 +74,9 @@ next_is left right range xs ys least (inl first) from_left from_right =
     let l : RangesFrom least (range ∷ xs) = rw first.0 at from_left in
     let r : RangesFrom least ys = rw first.1 at from_right in
     record {
-      from = l.0; ends = l.1; limit = l.2;
+      from = l.0;
+      ends = l.1;
+      limit = l.2;
       left_from = let ends : range.low ≤ range.high = l.1 in lower (range.high + 2) range.low xs (omega arith) l.3;
       right_from = higher least range.low ys first.2 r;
       same = λ q. rw (first.0, first.1) (or_assoc (has_point range q) (have_point xs q) (have_point ys q));
@@ -83,7 +85,9 @@ next_is left right range xs ys least (inr first) from_left from_right =
     let r : RangesFrom least (range ∷ ys) = rw first.0 at from_right in
     let l : RangesFrom least xs = rw first.1 at from_left in
     record {
-      from = r.0; ends = r.1; limit = r.2;
+      from = r.0;
+      ends = r.1;
+      limit = r.2;
       left_from = higher least range.low xs first.2 l;
       right_from = let ends : range.low ≤ range.high = r.1 in lower (range.high + 2) range.low ys (omega arith) r.3;
       same = λ q. rw (first.0, first.1) (or_swap (have_point xs q) (has_point range q) (have_point ys q));
@@ -161,9 +165,11 @@ is_union a b out same = same_set (points_of out) (set.union (points_of a) (point
 
 -- the loop's end
 pub is_united : (a b left right out : List Range) (open' : Range) (new : List Range) → Uniting a b left right out open' → left ≡ [] → right ≡ [] → new ≡ out ++ open' ∷ [] → AreRanges new × (points_of new ≡ set.union (points_of a) (points_of b))
-is_united a b left right out open' new before no_left no_right put = rw put ((let n = length-append out (open' ∷ []) in omega (arith, n), before.rise),
-    is_union a b (out ++ open' ∷ []) (λ q. list_any-append (λ r. has_point r q) out (open' ∷ []) ∙ last (have_point out q) (has_point open' q)
-        ∙ sym (ap (λ l. (have_point out q || has_point open' q) || (have_point l q || have_point right q)) no_left ∙ ap (λ l. (have_point out q || has_point open' q) || (false || have_point l q)) no_right) ∙ before.same q))
+is_united a b left right out open' new before no_left no_right put = rw put (
+  (let n = length-append out (open' ∷ []) in omega (arith, n), before.rise),
+  is_union a b (out ++ open' ∷ []) (λ q. list_any-append (λ r. has_point r q) out (open' ∷ []) ∙ last (have_point out q) (has_point open' q)
+      ∙ sym (ap (λ l. (have_point out q || has_point open' q) || (have_point l q || have_point right q)) no_left ∙ ap (λ l. (have_point out q || has_point open' q) || (false || have_point l q)) no_right) ∙ before.same q),
+)
   where
     last : (o p : Bool) → (o || (p || false)) ≡ ((o || p) || false)
     last true p = refl

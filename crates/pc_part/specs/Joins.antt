@@ -1,5 +1,5 @@
 -- The join of two files: when it is refused, and its laws.
-use Rattle.std.specs.Prelude.{◌≡◌, Bool, false, List, [], ◌∷◌, Option, Some, None, Result, Err, IfErr, if◌then◌else◌, IsFalse, MatchOption, ⊤, nat_lt}
+use Rattle.std.specs.Prelude.{◌≡◌, Bool, List, [], ◌∷◌, Option, Some, None, Result, Err, IfErr, if◌then◌else◌, IsFalse, MatchOption, ⊤, nat_lt}
 use Rattle.pc_types.specs.declared.Refusal.{Refusal}
 use Rattle.pc_types.specs.declared.Refusal.TheVariants.{OutOfMemory, Conflict, Full}
 use Rattle.pc_model.specs.Maps as map_of

@@ -8,7 +8,7 @@ use Rattle.pc_model.specs.declared.laying.Triple.{Triple}
 use Rattle.pc_model.specs.Laying.{entries_of}
 use Rattle.pc_part.specs.Merges.{merged, with_content}
 use Rattle.pc_model.specs.Points.{AtPoint, Triples, laid_at, laid}
-use Rattle.pc_model.specs.Files.{File, BaseFile, gap_above, laid_file}
+use Rattle.pc_model.specs.Files.{File, BaseFile, gap_above}
 
 -- what a key has once what is there of it in the triples is laid at the point on what it had
 abbrev pub laid_there : ℕ → Option (List ℕ) → Option AtPoint → Option (List ℕ)

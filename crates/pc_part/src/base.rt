@@ -42,14 +42,14 @@ impl Base {
     }
 
     // The base of a run at this point with these pairs.
-    pub(crate) fn at_point(run: u64, point: Point, pairs: Vec<(Key, Value)>) -> Base
+    pub(crate) fn at_point(run: u64, at: Point, pairs: Vec<(Key, Value)>) -> Base
         requires rise { KeysRise pairs.items }
         requires limit { IsWithinLimit pairs.items }
-        ensures { result ≡ record { run = run; point = point; pairs = database_of pairs.items } }
+        ensures { result ≡ record { run = run; point = at; pairs = database_of pairs.items } }
     {
         Base {
             run,
-            point,
+            point: at,
             pairs,
         }
     }

@@ -129,11 +129,9 @@ fn first_of<'a>(
     pairs: &'a [(Key, Value)],
     triples: &'a [Triple],
 ) -> Option<(&'a Key, Option<&'a Value>, &'a [(Key, Value)], &'a [Triple])>
-    ensures {
-        MatchOption result
-            (merged (laid_there point) pairs.now (entries_of triples.now) ≡ [])
-            (λ t. IsLaidFirst point pairs.now triples.now t.0.now (option_copied t.1) t.2.now t.3.now)
-    }
+    ensures { MatchOption result
+        (merged (laid_there point) pairs.now (entries_of triples.now) ≡ [])
+        (λ t. IsLaidFirst point pairs.now triples.now t.0.now (option_copied t.1) t.2.now t.3.now) }
 {
     match (pairs.split_first(), triples.split_first()) {
         (Some((pair, later)), Some((triple, rest))) => match pair.0.compare(&triple.key) {
@@ -157,11 +155,7 @@ fn first_of<'a>(
 }
 
 // What a triple's key has once the triple is laid at the point on what it had.
-fn content_of<'a>(
-    point: Point,
-    there: Option<&'a Value>,
-    triple: &'a Triple,
-) -> Option<&'a Value>
+fn content_of<'a>(point: Point, there: Option<&'a Value>, triple: &'a Triple) -> Option<&'a Value>
     ensures { option_copied result ≡ laid_there point (option_copied there.entry) (Some (entry_of triple.now).1) }
 {
     if point.0 < triple.point.0 {
@@ -194,5 +188,154 @@ fn last_point(ranges: &[Range]) -> Point
     match ranges.last() {
         Some(range) => range.high,
         None => Point(0),
+    }
+}
+
+#[cfg(test)]
+mod tests {
+    use super::*;
+    use crate::joining::join;
+    use std::test::Fail;
+
+    // The part of a point at which one key was taken.
+    fn one(
+        alloc: Global,
+        run: u64,
+        point: u16,
+        key: &[u8],
+        content: Option<&[u8]>,
+    ) -> Result<Part, Refusal>
+        requires { 1 ≤ point }
+    {
+        let content = match content {
+            Some(bytes) => Some(Value::new(alloc, bytes)?),
+            None => None,
+        };
+        let mut entries = Vec::new(alloc);
+        entries.push((Key::new(alloc, key)?, content))?;
+        Part::of_point(alloc, run, Point(point), entries)
+    }
+
+    // The base of run 1, which has `b` and `c`.
+    fn start(alloc: Global) -> Result<Base, Refusal> {
+        let mut pairs = Vec::new(alloc);
+        pairs.push((Key::new(alloc, b"b")?, Value::new(alloc, b"0")?))?;
+        pairs.push((Key::new(alloc, b"c")?, Value::new(alloc, b"0")?))?;
+        Ok(Base::start(1, pairs))
+    }
+
+    // At point 1 `a` had `1`, at point 2 `b` was removed.
+    fn of_two(alloc: Global) -> Result<Part, Refusal> {
+        let first = one(alloc, 1, 1, b"a", Some(b"1".as_slice()))?;
+        let second = one(alloc, 1, 2, b"b", None)?;
+        join(alloc, &second, &first)
+    }
+
+    // The base's point, and its keys and values in a row.
+    fn seen(alloc: Global, base: &Base) -> Result<(u16, Vec<u8>), Refusal> {
+        let mut text = Vec::new(alloc);
+        for pair in base.pairs() {
+            text.extend_from_slice(pair.0.as_bytes())?;
+            text.extend_from_slice(pair.1.as_bytes())?;
+        }
+        Ok((base.point().0, text))
+    }
+
+    // Keys are set and removed; the others stay.
+    #[test]
+    fn sets_and_removes(rt: HostRuntime) -> Result<(), Fail> {
+        let base = start(rt.alloc())?;
+        let part = of_two(rt.alloc())?;
+        let laid = lay(rt.alloc(), &base, &part)?;
+        let (point, pairs) = seen(rt.alloc(), &laid)?;
+        assert_eq!(rt; point, 2);
+        assert_eq!(rt; pairs.as_slice(), b"a1c0".as_slice());
+        assert_eq!(rt; laid.run(), 1);
+        let (point, pairs) = seen(rt.alloc(), &base)?;
+        assert_eq!(rt; point, 0);
+        assert_eq!(rt; pairs.as_slice(), b"b0c0".as_slice());
+        Ok(())
+    }
+
+    // What is seen once a part of one point, at which `c` had `9`, is laid on a base at point 2.
+    fn laid_later(alloc: Global, point: u16) -> Result<(u16, Vec<u8>), Refusal>
+        requires { 1 ≤ point }
+    {
+        let base = start(alloc)?;
+        let base = lay(alloc, &base, &of_two(alloc)?)?;
+        let part = one(alloc, 1, point, b"c", Some(b"9".as_slice()))?;
+        let laid = lay(alloc, &base, &part)?;
+        seen(alloc, &laid)
+    }
+
+    // What a part has of the base's point or of one below is not laid, and the base never goes back.
+    #[test]
+    fn lays_what_is_above_the_base(rt: HostRuntime) -> Result<(), Fail> {
+        let rows: [(u16, u16, &[u8]); 3] = [(1, 2, b"a1c0"), (2, 2, b"a1c0"), (3, 3, b"a1c9")];
+        for (of, at, expected) in rows {
+            let (point, pairs) = laid_later(rt.alloc(), of.max(1))?;
+            assert_eq!(rt; point, at, "{of}");
+            assert_eq!(rt; pairs.as_slice(), expected, "{of}");
+        }
+        Ok(())
+    }
+
+    // Takes memory of its own.
+    const LONG: &[u8] = b"more than 16 bytes";
+
+    // The base with the part laid on it, asked for once more where memory was refused.
+    fn laid_at_last(alloc: Global, base: &Base, part: &Part) -> Result<Base, Refusal> {
+        match lay(alloc, base, part) {
+            Err(Refusal::OutOfMemory) => lay(alloc, base, part),
+            other => other,
+        }
+    }
+
+    // The base and the part stay as they are, also where a growth is refused, and asked again the base is the same.
+    #[test]
+    fn leaves_base_and_part(rt: HostRuntime) -> Result<(), Fail> {
+        let alloc = rt.alloc();
+        let base = start(alloc)?;
+        let part = one(alloc, 1, 1, LONG, Some(LONG))?;
+        let laid = laid_at_last(alloc, &base, &part)?;
+        assert_eq!(rt; laid.pairs().len(), 3);
+        assert_eq!(rt; laid.pairs()[2].1.as_bytes(), LONG);
+        assert_eq!(rt; base.pairs().len(), 2);
+        assert_eq!(rt; part.entries().len(), 1);
+        Ok(())
+    }
+
+    // Why the part of a point, alone or joined with that of point 1, isn't laid on a base at point 0, if it isn't.
+    fn refused(
+        alloc: Global,
+        run: u64,
+        point: u16,
+        with_first: bool,
+    ) -> Result<Option<Refusal>, Refusal>
+        requires { 1 ≤ point }
+    {
+        let base = start(alloc)?;
+        let mut part = one(alloc, run, point, b"b", None)?;
+        if with_first {
+            let first = one(alloc, run, 1, b"a", None)?;
+            part = join(alloc, &part, &first)?;
+        }
+        Ok(lay(alloc, &base, &part).err())
+    }
+
+    // Parts of another run are not laid, nor parts that leave a point out above the base's.
+    #[test]
+    fn refuses_in_order(rt: HostRuntime) -> Result<(), Fail> {
+        let alloc = rt.alloc();
+        assert_eq!(rt; refused(alloc, 2, 3, true)?, Some(Refusal::OtherRun));
+        assert_eq!(rt; refused(alloc, 2, 1, false)?, Some(Refusal::OtherRun));
+        assert_eq!(rt; refused(alloc, 1, 3, true)?, Some(Refusal::Gap(Point(2))));
+        assert_eq!(rt; refused(alloc, 1, 3, false)?, Some(Refusal::Gap(Point(1))));
+        assert_eq!(rt;
+            refused(alloc, 1, 65535, true)?,
+            Some(Refusal::Gap(Point(2)))
+        );
+        assert_eq!(rt; refused(alloc, 1, 2, true)?, None);
+        Ok(())
     }
 }

@@ -40,13 +40,8 @@ pub(crate) fn union_ranges<'a>(
 }
 
 // The range that begins first, and what is then left of both.
-fn first_of<'a>(
-    left: &'a [Range],
-    right: &'a [Range],
-) -> Option<(Range, &'a [Range], &'a [Range])>
-    ensures {
-        MatchOption result ((left.now ≡ []) × (right.now ≡ [])) (λ t. IsFirst left.now right.now t.0 t.1.now t.2.now)
-    }
+fn first_of<'a>(left: &'a [Range], right: &'a [Range]) -> Option<(Range, &'a [Range], &'a [Range])>
+    ensures { MatchOption result ((left.now ≡ []) × (right.now ≡ [])) (λ t. IsFirst left.now right.now t.0 t.1.now t.2.now) }
 {
     match (left.split_first(), right.split_first()) {
         (Some((x, xs)), Some((y, ys))) => {

@@ -1,4 +1,4 @@
-use Rattle.std.proofs.Common.{rules, ◌≡◌, ◌∷◌, [], inl, inr, sym, ap, ◌∙◌, cond, Bool, ℕ, List, true, false, Ok, Err, Result, refl}
+use Rattle.std.proofs.Common.{rules, ◌≡◌, ◌∷◌, inl, inr, sym, ap, cond, Bool, ℕ, true, false, Ok, Err, Result, refl}
 use Rattle.pc_types.specs.declared.refusal.Refusal.{Refusal}
 use Rattle.pc_types.specs.declared.refusal.Refusal.TheVariants.{Conflict}
 use Rattle.pc_part.proofs.JoinedLists.{Counted, count_first, count_second, count_both, stops, ends}
@@ -46,8 +46,8 @@ loop-x-preserved c =
 pub returns : goal.returns
 returns c =
     let e = ends c.args.a.now c.args.b.now c.loop-x.left.now c.loop-x.right.now c.loop-x.len c.loop-x.invariant
-        (elim c.match-split_first.branch [
-          | in_default w ↦ inr w.in_default.ensures'.cases
-          | in_default-2 w ↦ inl w.in_default.ensures.cases
-        ]) in
+    (elim c.match-split_first.branch [
+      | in_default w ↦ inr w.in_default.ensures'.cases
+      | in_default-2 w ↦ inl w.in_default.ensures.cases
+    ]) in
     gives _ _ _ e.0 e.1

@@ -32,7 +32,7 @@ loop-x-preserved c =
 pub returns : goal.returns
 returns c =
     is_joined c.args.a.now c.args.b.now c.loop-x.left.now c.loop-x.right.now c.loop-x.out.items c.push_copies-2.new.out.items c.loop-x.invariant
-        (elim c.match-split_first.branch [
-          | in_default w ↦ inr w.in_default.ensures'.cases
-          | in_default-2 w ↦ inl w.in_default.ensures.cases
-        ]) (c.in_ok-push_copies-2.ensures ∙ ap (λ (t : List Triple). t ++ c.loop-x.right.now) c.in_ok-push_copies.ensures)
+    (elim c.match-split_first.branch [
+      | in_default w ↦ inr w.in_default.ensures'.cases
+      | in_default-2 w ↦ inl w.in_default.ensures.cases
+    ]) (c.in_ok-push_copies-2.ensures ∙ ap (λ (t : List Triple). t ++ c.loop-x.right.now) c.in_ok-push_copies.ensures)
