@@ -40,10 +40,10 @@ Fits st h (Commits s) = some_active st h ≡ true
 Fits st h other = ⊤
 
 -- a reply that has no effect, whatever was asked
-abbrev IsIdle : Reply → Type 0
+abbrev pub IsIdle : Reply → Type 0
 IsIdle reply = (event : Event) → effect_of event reply ≡ Nothing
 
-abbrev IsIdleIfAny : Option Reply → Type 0
+abbrev pub IsIdleIfAny : Option Reply → Type 0
 IsIdleIfAny o = IfSome o IsIdle
 
 refused_idle : (w : Refusal) → IsIdle (told.Refused w)
@@ -94,7 +94,7 @@ or_else_idle (Some due) p first second = first
 not_yet_idle : (count : ℕ) → IsIdleIfAny (not_yet count)
 not_yet_idle count = elim (eqb count 0) as (λ b. IsIdleIfAny (cond b None (Some (told.NotYet count)))) [ true ↦ tt | false ↦ λ event. not_yet_does_nothing event count ]
 
-held_back_idle : (st : Setting) (from : Phase) (class : Class) (h : History) → IsIdleIfAny (held_back st from class h)
+pub held_back_idle : (st : Setting) (from : Phase) (class : Class) (h : History) → IsIdleIfAny (held_back st from class h)
 held_back_idle st from class h =
     or_else_idle (wrong_phase from h) _ (causes_idle ((not (is_in from h), why.WrongPhase) ∷ []))
     (or_else_idle (not_yet (active_in st class h)) _ (not_yet_idle (active_in st class h)) (causes_idle ((log_is_full h, why.LogFull) ∷ [])))
@@ -104,7 +104,7 @@ none_left_idle true = none_left_does_nothing
 none_left_idle false = tt
 
 -- a legal reply is idle, or the answer where no reply was certain
-settled : (o : Option Reply) (Answer : Type 0) (reply : Reply) → IsIdleIfAny o → MatchOption o (Answer ⊎ (reply ≡ told.Refused why.OutOfMemory)) (λ due. reply ≡ due) → ((o ≡ None) × Answer) ⊎ IsIdle reply
+pub settled : (o : Option Reply) (Answer : Type 0) (reply : Reply) → IsIdleIfAny o → MatchOption o (Answer ⊎ (reply ≡ told.Refused why.OutOfMemory)) (λ due. reply ≡ due) → ((o ≡ None) × Answer) ⊎ IsIdle reply
 settled None Answer reply idle (inl answer) = inl (refl, answer)
 settled None Answer reply idle (inr out) = inr (λ event. ap (effect_of event) out ∙ refused_idle why.OutOfMemory event)
 settled (Some due) Answer reply idle same = inr (λ event. ap (effect_of event) same ∙ idle event)
@@ -116,7 +116,7 @@ or_else_none : (o p : Option Reply) → or_else o p ≡ None → (o ≡ None) ×
 or_else_none None p none = (refl, none)
 or_else_none (Some due) p none = cc
 
-turned : (b : Bool) → not b ≡ false → b ≡ true
+pub turned : (b : Bool) → not b ≡ false → b ≡ true
 turned true e = refl
 turned false e = cc
 
@@ -281,7 +281,7 @@ legal_has_legal_effects st [] legal = tt
 legal_has_legal_effects st (step ∷ h) legal = (inl legal.0, legal_has_legal_effects st h legal.1)
 
 -- the refusals of quiet points
-quiet_refusal_refuses : (st : Setting) (h : History) (event : Event) → IsIdleIfAny (quiet_refusal st h event)
+pub quiet_refusal_refuses : (st : Setting) (h : History) (event : Event) → IsIdleIfAny (quiet_refusal st h event)
 quiet_refusal_refuses st h (asked.Begin s) = causes_idle ((no_session st s, why.NoSession) ∷ (not (is_in Rest h), why.WrongPhase) ∷ [])
 quiet_refusal_refuses st h asked.StartPoint = causes_idle ((some_active st h, why.WrongPhase) ∷ [])
 quiet_refusal_refuses st h other = tt

@@ -17,6 +17,7 @@ pub mod LegalEffects
 pub mod Tokens
 pub mod Standing
 pub mod QuietContents
+pub mod QuietHistories
 pub mod Latest
 pub mod Contents
 pub mod TakenValues
@@ -28,6 +29,7 @@ pub mod Taken
 pub mod ExamplesOfTransactions
 pub mod ExamplesOfPoints
 pub mod ExamplesOfFiles
+pub mod ExamplesOfHeadlines
 pub mod ExamplesOfLocks
 pub mod ExamplesOfCapacity
 pub mod ExamplesOfRefusals

@@ -49,6 +49,10 @@ LegalHistoriesHaveLegalEffects = (st : Setting) (history : History) → IsLegalH
 abbrev pub HistoriesForNowHaveLegalEffects : Type 0
 HistoriesForNowHaveLegalEffects = (st : Setting) (history : History) → IsLegalHistoryForNow st history → HasLegalEffects st history
 
+-- And it is quiet.
+abbrev pub HistoriesForNowAreQuiet : Type 0
+HistoriesForNowAreQuiet = (st : Setting) (history : History) → IsLegalHistoryForNow st history → IsQuiet st history
+
 -- The tokens of points stand in the log in order, and none is left out.
 abbrev pub TokensStandInOrder : Type 0
 TokensStandInOrder = (st : Setting) (history : History) → HasLegalEffects st history → HasTokensInOrder history

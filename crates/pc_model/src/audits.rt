@@ -19,9 +19,9 @@ pub struct CompleteFile {
 }
 
 /// Whether each file is right: the log has its point's token, and the file, laid on the base, is the state of the point.
-/// The base stands at point 0, and of several of its pairs with one key the first counts; each file's triples rise
-/// strictly by key. Where the files' points rise as their tokens do in the log, the log is replayed once. Each file costs
-/// at most the lengths of the base, the log and the file, times a logarithm. It fails only where memory ran out.
+/// The base stands at point 0, and of several of its pairs with one key the first counts; each file's triples are to rise
+/// strictly by key. Where the files' points rise, as their tokens do in the log, the log is replayed once. Each file costs
+/// at most the sizes of the base, the log and the file, times a logarithm. It fails only where memory ran out.
 pub fn audit(
     alloc: Global,
     base: &[(Key, Value)],

@@ -3,6 +3,7 @@
 ghost use Rattle.pc_model.specs.ExamplesOfTransactions.{ExamplesOfTransactions};
 ghost use Rattle.pc_model.specs.ExamplesOfPoints.{ExamplesOfPoints};
 ghost use Rattle.pc_model.specs.ExamplesOfFiles.{ExamplesOfFiles};
+ghost use Rattle.pc_model.specs.ExamplesOfHeadlines.{ExamplesOfHeadlines};
 ghost use Rattle.pc_model.specs.ExamplesOfLocks.{ExamplesOfLocks};
 ghost use Rattle.pc_model.specs.ExamplesOfCapacity.{ExamplesOfCapacity};
 ghost use Rattle.pc_model.specs.ExamplesOfRefusals.{ExamplesOfRefusals};
@@ -22,6 +23,11 @@ pub fn worked_examples_of_points()
 /// Files and their joins.
 pub fn worked_examples_of_files()
     ensures { ExamplesOfFiles }
+{}
+
+/// The headline, of a history that has it and of one that hasn't.
+pub fn worked_examples_of_headlines()
+    ensures { ExamplesOfHeadlines }
 {}
 
 /// Locks: who waits, who dies, and what is granted when a transaction ends.

@@ -1,6 +1,6 @@
 //! Laws of the definitions. Each function does nothing, and its contract is a law.
 ghost use Rattle.pc_model.specs.Laws.{ReplaysInPieces, CyclesMakeStates, UntouchedKeysStay, PartsMakeStates, EveryEventHasALegalReply, OneSessionReadsRight};
-ghost use Rattle.pc_model.specs.Laws.{LegalHistoriesHaveLegalEffects, HistoriesForNowHaveLegalEffects, TokensStandInOrder, EachKeyIsTakenOnce, QuietContentsStay};
+ghost use Rattle.pc_model.specs.Laws.{LegalHistoriesHaveLegalEffects, HistoriesForNowHaveLegalEffects, HistoriesForNowAreQuiet, TokensStandInOrder, EachKeyIsTakenOnce, QuietContentsStay};
 ghost use Rattle.pc_model.specs.Laws.{JoinsAreContents, FilesAreOfTheirPoints, FilesJoinWell, FilesAreStates};
 
 /// Replay of a log in two pieces is replay of the second on the replay of the first.
@@ -41,6 +41,11 @@ pub fn legal_histories_have_legal_effects()
 /// And so has each step of a history that is legal until points are taken beside open transactions.
 pub fn histories_for_now_have_legal_effects()
     ensures { HistoriesForNowHaveLegalEffects }
+{}
+
+/// Until points are taken beside open transactions every history is quiet.
+pub fn histories_for_now_are_quiet()
+    ensures { HistoriesForNowAreQuiet }
 {}
 
 /// The tokens of points stand in the log in order, and none is left out.
