@@ -1,5 +1,4 @@
-use Rattle.std.proofs.Common.{◌∙◌, sym, ap}
-use Rattle.pc_model.specs.Sets as set
+use Rattle.std.proofs.Common.{sym}
 use Rattle.pc_part.proofs.RangePoints.{items-points_of}
 use Rattle.pc_part.proofs.part.Part.points.Goals as goal
 
