@@ -298,8 +298,9 @@ mod tests {
         let base = start(alloc)?;
         let part = one(alloc, 1, 1, LONG, Some(LONG))?;
         let laid = laid_at_last(alloc, &base, &part)?;
-        assert_eq!(rt; laid.pairs().len(), 3);
-        assert_eq!(rt; laid.pairs()[2].1.as_bytes(), LONG);
+        let pairs = laid.pairs();
+        assert_eq!(rt; pairs.len(), 3);
+        assert_eq!(rt; pairs[2].1.as_bytes(), LONG);
         assert_eq!(rt; base.pairs().len(), 2);
         assert_eq!(rt; part.entries().len(), 1);
         Ok(())
