@@ -67,7 +67,7 @@ pub gathers_next : (taken entries new : List Pair) (n : ℕ) (t : Pair) → n < 
 gathers_next taken entries new n t lt is so_far new_is =
     let i = length taken - 1 - n in
     let here : drop (length taken - (n + 1)) taken ≡ t ∷ drop (length taken - n) taken =
-        ap (λ j. drop j taken) (omega (arith, lt)) ∙ rest_at taken i t (omega (arith, lt)) is ∙ ap (λ j. t ∷ drop j taken) (omega (arith, lt)) in
+    ap (λ j. drop j taken) (omega (arith, lt)) ∙ rest_at taken i t (omega (arith, lt)) is ∙ ap (λ j. t ∷ drop j taken) (omega (arith, lt)) in
     new_is ∙ ap (put key_cmp t.0 t.1) so_far ∙ sym (inserted (from_list {o = key_order} (drop (length taken - n) taken)) t.0 t.1) ∙ ap (λ ts. (from_list {o = key_order} ts).entries) (sym here)
 
 pub gathers_none : (taken : List Pair) → [] ≡ (from_list {o = key_order} (drop (length taken - 0) taken)).entries

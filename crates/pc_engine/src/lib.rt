@@ -3,6 +3,8 @@
 
 mod records;
 mod shelving;
+#[cfg(test)]
+mod tests;
 mod world;
 mod writes;
 

@@ -18,7 +18,8 @@ use crate::shelving::{Shelvable, file_at, joined, part_of};
 use crate::writes::{is_one_too_many, new_keys, note_write, write_of, written_at};
 use pc_part::{Base, Part};
 use pc_types::{
-    Entry, Event, FileNo, Items, Key, Lsn, Phase, Point, Refusal, Reply, SessionNo, TxnNo, Value, Write,
+    Entry, Event, FileNo, Items, Key, Lsn, Phase, Point, Refusal, Reply, SessionNo, TxnNo, Value,
+    Write,
 };
 use std::alloc::{AllocError, Global};
 use std::collections::VecDeque;
@@ -399,11 +400,13 @@ impl World {
         ensures { Joins self.old first second result self.new }
     {
         match joined(self.alloc, &self.shelf, first, second) {
-            Ok(Shelvable {
-                part,
-                points,
-                entries,
-            }) => {
+            Ok(
+                Shelvable {
+                    part,
+                    points,
+                    entries,
+                },
+            ) => {
                 if self.shelf.reserve(1).is_err() {
                     return Reply::Refused(Refusal::OutOfMemory);
                 }
@@ -430,11 +433,7 @@ fn is_same(a: Phase, b: Phase) -> bool
 }
 
 // The key with what is committed of it.
-fn pair_of(
-    alloc: Global,
-    records: &Records,
-    key: &Key,
-) -> Result<(Key, Option<Value>), AllocError>
+fn pair_of(alloc: Global, records: &Records, key: &Key) -> Result<(Key, Option<Value>), AllocError>
     ensures { IfOk result (λ pair. pair ≡ (key.now, stored (record_of records.now.rows key.now))) }
 {
     let content = match records.value(key) {
@@ -514,168 +513,4 @@ pub fn run(
         replies.push(reply)?;
     }
     Ok((world, replies))
-}
-
-#[cfg(test)]
-mod tests {
-    use super::*;
-    use std::test::Fail;
-
-    // A reply as a word and a number: that of the transaction or the entry, or the value's length.
-    fn told(reply: &Reply) -> (&'static str, u64) {
-        match reply {
-            Reply::Begun(number) => ("begun", number.0),
-            Reply::Found(value) => ("found", value.as_bytes().len() as u64),
-            Reply::Absent => ("absent", 0),
-            Reply::Ok => ("ok", 0),
-            Reply::Committed(number) => ("committed", u64::from(number.0)),
-            Reply::Refused(refusal) => (refusal.name(), 0),
-            _ => ("other", 0),
-        }
-    }
-
-    // The event of these words, or none for want of memory.
-    fn event(alloc: Global, word: &str, session: u32, key: &[u8], value: &[u8]) -> Option<Event>
-        ensures { IfSome result (λ event. IsBuilt event) }
-    {
-        let session = SessionNo(session);
-        if word == "begin" {
-            return Some(Event::Begin(session));
-        }
-        if word == "commit" {
-            return Some(Event::Commit(session));
-        }
-        let key = Key::new(alloc, key).ok()?;
-        if word == "get" {
-            return Some(Event::Get(session, key));
-        }
-        let value = Value::new(alloc, value).ok()?;
-        Some(Event::Put(session, key, value))
-    }
-
-    // What the world answers to the event; where memory is wanting it is asked again.
-    fn ask_again(world: &mut World, event: &Event) -> (&'static str, u64)
-        requires { IsBuilt event.now }
-    {
-        let first = told(&world.step(event));
-        if first.0 == "OutOfMemory" {
-            return told(&world.step(event));
-        }
-        first
-    }
-
-    // What the world answers to these words; the event is made again where memory was wanting for it.
-    fn ask(
-        alloc: Global,
-        world: &mut World,
-        word: &str,
-        session: u32,
-        key: &[u8],
-        value: &[u8],
-    ) -> (&'static str, u64) {
-        if let Some(event) = event(alloc, word, session, key, value) {
-            return ask_again(world, &event);
-        }
-        match event(alloc, word, session, key, value) {
-            Some(event) => ask_again(world, &event),
-            None => ("unasked", 0),
-        }
-    }
-
-    fn empty_world(alloc: Global, capacity: u32) -> Result<World, Refusal>
-        requires { (1 ≤ capacity) × (capacity ≤ 1048576) }
-    {
-        World::new(alloc, Base::start(1, Vec::new(alloc)), 1, capacity)
-    }
-
-    #[test]
-    fn runs_to_the_end(rt: HostRuntime) -> Result<(), Fail> {
-        let alloc = rt.alloc();
-        let events = [Event::Begin(SessionNo(1)), Event::Commit(SessionNo(1))];
-        let (_, replies) = run(alloc, Base::start(1, Vec::new(alloc)), 1, 1024, &events)?;
-        assert_eq!(rt; replies.len(), 2);
-        assert_eq!(rt; told(&replies[1]), ("committed", 1));
-        Ok(())
-    }
-
-    // Keys and values that don't lie inline take memory: `rt try --test --fail-alloc` refuses each growth in turn.
-    #[test]
-    fn reads_what_was_committed(rt: HostRuntime) -> Result<(), Fail> {
-        let alloc = rt.alloc();
-        let mut world = empty_world(alloc, 1024)?;
-        let key = b"a key that does not lie inline";
-        let value = b"a value that does not lie inline";
-        for (word, want) in [
-            ("begin", ("begun", 1)),
-            ("get", ("absent", 0)),
-            ("put", ("ok", 0)),
-            ("get", ("found", 32)),
-            ("commit", ("committed", 1)),
-            ("begin", ("begun", 2)),
-            ("get", ("found", 32)),
-            ("commit", ("committed", 2)),
-        ] {
-            assert_eq!(rt;
-                ask(alloc, &mut world, word, 1, key, value),
-                want,
-                "at {word}"
-            );
-        }
-        Ok(())
-    }
-
-    #[test]
-    fn refuses_in_order(rt: HostRuntime) -> Result<(), Fail> {
-        let alloc = rt.alloc();
-        let mut world = empty_world(alloc, 1)?;
-        for (word, session, key, want) in [
-            ("get", 9, "k", ("NoSession", 0)),
-            ("get", 0, "k", ("NoSession", 0)),
-            ("get", 1, "k", ("NoTransaction", 0)),
-            ("commit", 1, "", ("NoTransaction", 0)),
-            ("begin", 1, "", ("begun", 1)),
-            ("begin", 1, "", ("AlreadyBegun", 0)),
-            ("get", 1, "k", ("absent", 0)),
-            ("put", 1, "l", ("Full", 0)),
-            ("get", 1, "l", ("Full", 0)),
-            ("commit", 1, "", ("committed", 1)),
-            ("begin", 1, "", ("begun", 2)),
-            ("put", 1, "l", ("ok", 0)),
-            ("get", 1, "l", ("found", 1)),
-        ] {
-            assert_eq!(rt;
-                ask(alloc, &mut world, word, session, key.as_bytes(), b"1"),
-                want,
-                "at {word} {key}"
-            );
-        }
-        Ok(())
-    }
-
-    #[test]
-    fn writes_256_keys(rt: HostRuntime) -> Result<(), Fail> {
-        let alloc = rt.alloc();
-        let mut world = empty_world(alloc, 1024)?;
-        assert_eq!(rt; ask(alloc, &mut world, "begin", 1, b"", b""), ("begun", 1));
-        for n in 0..=255u8 {
-            assert_eq!(rt;
-                ask(alloc, &mut world, "put", 1, &[b'k', n], b"v"),
-                ("ok", 0),
-                "at {n}"
-            );
-        }
-        assert_eq!(rt;
-            ask(alloc, &mut world, "put", 1, b"more", b"v"),
-            ("TooManyWrites", 0)
-        );
-        assert_eq!(rt;
-            ask(alloc, &mut world, "put", 1, &[b'k', 7], b"twice"),
-            ("ok", 0)
-        );
-        assert_eq!(rt;
-            ask(alloc, &mut world, "get", 1, &[b'k', 7], b""),
-            ("found", 5)
-        );
-        Ok(())
-    }
 }

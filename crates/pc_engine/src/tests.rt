@@ -1,0 +1,707 @@
+//! Tests of the store: worked rows, refusals in their order, and every short list of events against the model.
+ghost use Rattle.std.specs.Prelude.{◌≡◌, ◌≤◌, IfSome};
+ghost use Rattle.pc_engine.specs.Alone.{IsBuilt};
+
+use crate::records::{Records, copied};
+use crate::world::{World, run};
+use pc_model::{CompleteFile, Pairs, Triple, after, audit};
+use pc_part::{Base, Part, lay};
+use pc_types::{Event, FileNo, Key, Phase, Point, Refusal, Reply, SessionNo, Tally, Value, Write};
+use std::alloc::{AllocError, Global};
+use std::test::Fail;
+
+// What is asked of a store.
+#[derive(Clone, Copy)]
+enum Ask<'a> {
+    Begin(u32),
+    Get(u32, &'a [u8]),
+    Put(u32, &'a [u8], &'a [u8]),
+    Commit(u32),
+    StartPoint,
+    Seal,
+    OpenCapture,
+    Take,
+    Done,
+    Rest,
+    Join(u32, u32),
+}
+
+// What the store answers. Of a value that was found the length is told; of a key that was taken the first byte, and that
+// of what it had, or 0; of a joined file's points the digits.
+#[derive(Clone, Copy, Debug, PartialEq)]
+enum Told {
+    Begun(u64),
+    Found(usize),
+    Absent,
+    Ok,
+    Committed(u32),
+    Phase(Phase, u16),
+    NotYet(u32),
+    Took(u8, u8),
+    NoneLeft,
+    PartDone(u16, u32, u32),
+    File(u32, u32, u32),
+    Refused(Refusal),
+    Unasked,
+}
+
+fn tell(reply: &Reply) -> Told {
+    match reply {
+        Reply::Begun(number) => Told::Begun(number.0),
+        Reply::Found(value) => Told::Found(value.as_bytes().len()),
+        Reply::Absent => Told::Absent,
+        Reply::Ok => Told::Ok,
+        Reply::Committed(number) => Told::Committed(number.0),
+        Reply::Phase(phase, point) => Told::Phase(*phase, point.0),
+        Reply::NotYet(count) => Told::NotYet(*count),
+        Reply::Took(key, content) => Told::Took(first(key.as_bytes()), content_told(content)),
+        Reply::NoneLeft => Told::NoneLeft,
+        Reply::PartDone(point, number, entries) => Told::PartDone(point.0, number.0, *entries),
+        Reply::File(number, points, entries) => {
+            Told::File(number.0, digits(points.as_slice()), *entries)
+        }
+        Reply::Refused(refusal) => Told::Refused(*refusal),
+        _ => Told::Unasked,
+    }
+}
+
+// The first byte, or 0.
+fn first(bytes: &[u8]) -> u8 {
+    bytes.first().copied().unwrap_or(0)
+}
+
+fn content_told(content: &Option<Value>) -> u8 {
+    match content {
+        Some(value) => first(value.as_bytes()),
+        None => 0,
+    }
+}
+
+// The points, one digit each.
+fn digits(points: &[Point]) -> u32 {
+    let mut digits = 0u32;
+    for point in points {
+        digits = digits.wrapping_mul(10).wrapping_add(u32::from(point.0));
+    }
+    digits
+}
+
+// The event, or none for want of memory.
+fn event_of(alloc: Global, ask: Ask) -> Option<Event>
+    ensures { IfSome result (λ event. IsBuilt event) }
+{
+    match ask {
+        Ask::Begin(session) => Some(Event::Begin(SessionNo(session))),
+        Ask::Get(session, key) => {
+            let key = Key::new(alloc, key).ok()?;
+            Some(Event::Get(SessionNo(session), key))
+        }
+        Ask::Put(session, key, value) => {
+            let key = Key::new(alloc, key).ok()?;
+            let value = Value::new(alloc, value).ok()?;
+            Some(Event::Put(SessionNo(session), key, value))
+        }
+        Ask::Commit(session) => Some(Event::Commit(SessionNo(session))),
+        Ask::StartPoint => Some(Event::StartPoint),
+        Ask::Seal => Some(Event::Seal),
+        Ask::OpenCapture => Some(Event::OpenCapture),
+        Ask::Take => Some(Event::Take),
+        Ask::Done => Some(Event::Done),
+        Ask::Rest => Some(Event::Rest),
+        Ask::Join(first, second) => Some(Event::Join(FileNo(first), FileNo(second))),
+    }
+}
+
+// What the world answers to the event; where memory is wanting it is asked again.
+fn ask_again(world: &mut World, event: &Event) -> Told
+    requires { IsBuilt event.now }
+{
+    let answer = tell(&world.step(event));
+    match answer {
+        Told::Refused(Refusal::OutOfMemory) => tell(&world.step(event)),
+        _ => answer,
+    }
+}
+
+// What the world answers; the event is made again where memory was wanting for it.
+fn answer(alloc: Global, world: &mut World, ask: Ask) -> Told {
+    if let Some(event) = event_of(alloc, ask) {
+        return ask_again(world, &event);
+    }
+    match event_of(alloc, ask) {
+        Some(event) => ask_again(world, &event),
+        None => Told::Unasked,
+    }
+}
+
+// The first row at which the world answers something else than the row has, and what it answers there.
+fn first_wrong(alloc: Global, world: &mut World, rows: &[(Ask, Told)]) -> Option<(usize, Told)> {
+    for (i, row) in rows.iter().enumerate() {
+        let told = answer(alloc, world, row.0);
+        if told != row.1 {
+            return Some((i, told));
+        }
+    }
+    None
+}
+
+// A store of one session that starts from nothing; where memory is wanting it is made again.
+fn empty_world(alloc: Global, capacity: u32) -> Result<World, Refusal>
+    requires { (1 ≤ capacity) × (capacity ≤ 1048576) }
+{
+    match World::new(alloc, Base::start(1, Vec::new(alloc)), 1, capacity) {
+        Ok(world) => Ok(world),
+        Err(_) => World::new(alloc, Base::start(1, Vec::new(alloc)), 1, capacity),
+    }
+}
+
+// Whether the rows are what a store of this capacity, which starts from nothing, answers; else the first other answer.
+fn wrong_from_empty(
+    alloc: Global,
+    capacity: u32,
+    rows: &[(Ask, Told)],
+) -> Result<Option<(usize, Told)>, Refusal>
+    requires { (1 ≤ capacity) × (capacity ≤ 1048576) }
+{
+    let mut world = empty_world(alloc, capacity)?;
+    Ok(first_wrong(alloc, &mut world, rows))
+}
+
+// The text of a file, and again where memory was wanting.
+fn text_of(alloc: Global, part: &Part) -> Result<Vec<u8>, Refusal> {
+    let mut out = Tally::new(Vec::new(alloc));
+    if part.encode(&mut out).is_ok() {
+        return Ok(out.into_inner());
+    }
+    let mut out = Tally::new(Vec::new(alloc));
+    part.encode(&mut out)?;
+    Ok(out.into_inner())
+}
+
+// The text of the store's file of this number.
+fn text_at(alloc: Global, world: &World, number: u32) -> Result<Vec<u8>, Refusal> {
+    match world.file(FileNo(number)) {
+        Some(part) => text_of(alloc, part),
+        None => Err(Refusal::NoFile),
+    }
+}
+
+// The store's base with its file of this number laid on it.
+fn laid_at(alloc: Global, world: &World, number: u32) -> Result<Base, Refusal> {
+    let Some(part) = world.file(FileNo(number)) else {
+        return Err(Refusal::NoFile);
+    };
+    match lay(alloc, world.base(), part) {
+        Err(Refusal::OutOfMemory) => lay(alloc, world.base(), part),
+        laid => laid,
+    }
+}
+
+// How many pairs there are, and the first bytes of the keys and values of the first two, or 0.
+type TwoPairs = (usize, (u8, u8), (u8, u8));
+
+fn pairs_told(pairs: &[(Key, Value)]) -> TwoPairs {
+    (pairs.len(), pair_told(pairs, 0), pair_told(pairs, 1))
+}
+
+fn pair_told(pairs: &[(Key, Value)], i: usize) -> (u8, u8) {
+    match pairs.get(i) {
+        Some(pair) => (first(pair.0.as_bytes()), first(pair.1.as_bytes())),
+        None => (0, 0),
+    }
+}
+
+#[test]
+fn runs_to_the_end(rt: HostRuntime) -> Result<(), Fail> {
+    let alloc = rt.alloc();
+    let events = [Event::Begin(SessionNo(1)), Event::Commit(SessionNo(1))];
+    let (_, replies) = run(alloc, Base::start(1, Vec::new(alloc)), 1, 1024, &events)?;
+    assert_eq!(rt; replies.len(), 2);
+    assert_eq!(rt; tell(&replies[1]), Told::Committed(1));
+    Ok(())
+}
+
+const LONG_KEY: &[u8] = b"a key that does not lie inline";
+
+const LONG_VALUE: &[u8] = b"a value that does not lie inline";
+
+// Keys and values that don't lie inline take memory: `rt try --test --fail-alloc` refuses each growth in turn.
+#[test]
+fn reads_what_was_committed(rt: HostRuntime) -> Result<(), Fail> {
+    let rows = [
+        (Ask::Begin(1), Told::Begun(1)),
+        (Ask::Get(1, LONG_KEY), Told::Absent),
+        (Ask::Put(1, LONG_KEY, LONG_VALUE), Told::Ok),
+        (Ask::Get(1, LONG_KEY), Told::Found(32)),
+        (Ask::Commit(1), Told::Committed(1)),
+        (Ask::Begin(1), Told::Begun(2)),
+        (Ask::Get(1, LONG_KEY), Told::Found(32)),
+        (Ask::Commit(1), Told::Committed(2)),
+    ];
+    assert_eq!(rt; wrong_from_empty(rt.alloc(), 1024, &rows)?, None);
+    Ok(())
+}
+
+#[test]
+fn refuses_in_order(rt: HostRuntime) -> Result<(), Fail> {
+    let rows = [
+        (Ask::Get(9, b"k"), Told::Refused(Refusal::NoSession)),
+        (Ask::Get(0, b"k"), Told::Refused(Refusal::NoSession)),
+        (Ask::Get(1, b"k"), Told::Refused(Refusal::NoTransaction)),
+        (Ask::Commit(1), Told::Refused(Refusal::NoTransaction)),
+        (Ask::Begin(1), Told::Begun(1)),
+        (Ask::Begin(1), Told::Refused(Refusal::AlreadyBegun)),
+        (Ask::Get(1, b"k"), Told::Absent),
+        (Ask::Put(1, b"l", b"1"), Told::Refused(Refusal::Full)),
+        (Ask::Get(1, b"l"), Told::Refused(Refusal::Full)),
+        (Ask::Commit(1), Told::Committed(1)),
+        (Ask::Begin(1), Told::Begun(2)),
+        (Ask::Put(1, b"l", b"1"), Told::Ok),
+        (Ask::Get(1, b"l"), Told::Found(1)),
+    ];
+    assert_eq!(rt; wrong_from_empty(rt.alloc(), 1, &rows)?, None);
+    Ok(())
+}
+
+#[test]
+fn writes_256_keys(rt: HostRuntime) -> Result<(), Fail> {
+    let alloc = rt.alloc();
+    let mut world = empty_world(alloc, 1024)?;
+    assert_eq!(rt; answer(alloc, &mut world, Ask::Begin(1)), Told::Begun(1));
+    for n in 0..=255u8 {
+        let told = answer(alloc, &mut world, Ask::Put(1, &[b'k', n], b"v"));
+        assert_eq!(rt; told, Told::Ok, "at {n}");
+    }
+    let rows = [
+        (
+            Ask::Put(1, b"more", b"v"),
+            Told::Refused(Refusal::TooManyWrites),
+        ),
+        (Ask::Put(1, b"k\x07", b"twice"), Told::Ok),
+        (Ask::Get(1, b"k\x07"), Told::Found(5)),
+    ];
+    assert_eq!(rt; first_wrong(alloc, &mut world, &rows), None);
+    Ok(())
+}
+
+// The file of point 1 of run 1, in which no key was written.
+const EMPTY_POINT: [u8; 34] = *b"PCALCP01\
+    \x00\x00\x00\x00\x00\x00\x00\x01\
+    \x00\x00\x00\x01\x00\x00\x00\x01\x00\x00\x00\x01\
+    \x00\x00\x00\x00\x00\x00";
+
+#[test]
+fn a_point_without_writes(rt: HostRuntime) -> Result<(), Fail> {
+    let alloc = rt.alloc();
+    let mut world = empty_world(alloc, 1024)?;
+    let rows = [
+        (Ask::StartPoint, Told::Phase(Phase::Prepare, 1)),
+        (Ask::Seal, Told::Phase(Phase::Resolve, 1)),
+        (Ask::OpenCapture, Told::Phase(Phase::Capture, 1)),
+        (Ask::Take, Told::NoneLeft),
+        (Ask::Done, Told::PartDone(1, 1, 0)),
+        (Ask::Rest, Told::Phase(Phase::Rest, 1)),
+    ];
+    assert_eq!(rt; first_wrong(alloc, &mut world, &rows), None);
+    let text = text_at(alloc, &world, 1)?;
+    assert_eq!(rt; text.as_slice(), EMPTY_POINT.as_slice());
+    Ok(())
+}
+
+// Three points, one commit before each, and joins of their files.
+const THREE_POINTS: [(Ask, Told); 33] = [
+    (Ask::Begin(1), Told::Begun(1)),
+    (Ask::Put(1, b"a", b"1"), Told::Ok),
+    (Ask::Put(1, b"b", b"1"), Told::Ok),
+    (Ask::Commit(1), Told::Committed(1)),
+    (Ask::StartPoint, Told::Phase(Phase::Prepare, 1)),
+    (Ask::Seal, Told::Phase(Phase::Resolve, 1)),
+    (Ask::OpenCapture, Told::Phase(Phase::Capture, 1)),
+    (Ask::Take, Told::Took(b'a', b'1')),
+    (Ask::Take, Told::Took(b'b', b'1')),
+    (Ask::Done, Told::PartDone(1, 1, 2)),
+    (Ask::Rest, Told::Phase(Phase::Rest, 1)),
+    (Ask::Begin(1), Told::Begun(2)),
+    (Ask::Put(1, b"a", b"2"), Told::Ok),
+    (Ask::Commit(1), Told::Committed(7)),
+    (Ask::StartPoint, Told::Phase(Phase::Prepare, 2)),
+    (Ask::Seal, Told::Phase(Phase::Resolve, 2)),
+    (Ask::OpenCapture, Told::Phase(Phase::Capture, 2)),
+    (Ask::Take, Told::Took(b'a', b'2')),
+    (Ask::Done, Told::PartDone(2, 2, 1)),
+    (Ask::Rest, Told::Phase(Phase::Rest, 2)),
+    (Ask::Begin(1), Told::Begun(3)),
+    (Ask::Put(1, b"b", b"3"), Told::Ok),
+    (Ask::Commit(1), Told::Committed(13)),
+    (Ask::StartPoint, Told::Phase(Phase::Prepare, 3)),
+    (Ask::Seal, Told::Phase(Phase::Resolve, 3)),
+    (Ask::OpenCapture, Told::Phase(Phase::Capture, 3)),
+    (Ask::Take, Told::Took(b'b', b'3')),
+    (Ask::Done, Told::PartDone(3, 3, 1)),
+    (Ask::Rest, Told::Phase(Phase::Rest, 3)),
+    (Ask::Join(1, 2), Told::File(4, 12, 2)),
+    (Ask::Join(4, 3), Told::File(5, 123, 2)),
+    (Ask::Join(3, 1), Told::File(6, 13, 2)),
+    (Ask::Join(6, 2), Told::File(7, 123, 2)),
+];
+
+#[test]
+fn three_points(rt: HostRuntime) -> Result<(), Fail> {
+    assert_eq!(rt; wrong_from_empty(rt.alloc(), 1024, &THREE_POINTS)?, None);
+    Ok(())
+}
+
+fn world_of_three_points(alloc: Global) -> Result<World, Refusal> {
+    let mut world = empty_world(alloc, 1024)?;
+    let _ = first_wrong(alloc, &mut world, &THREE_POINTS);
+    Ok(world)
+}
+
+// How long the text of the one file is, and whether it is that of the other.
+fn compared(alloc: Global, world: &World, one: u32, other: u32) -> Result<(usize, bool), Refusal> {
+    let one = text_at(alloc, world, one)?;
+    let other = text_at(alloc, world, other)?;
+    Ok((one.len(), one.as_slice() == other.as_slice()))
+}
+
+// The point and the pairs of the base with the store's file of this number laid on it.
+fn state_told(alloc: Global, world: &World, number: u32) -> Result<(u16, TwoPairs), Refusal> {
+    let laid = laid_at(alloc, world, number)?;
+    Ok((laid.point().0, pairs_told(laid.pairs())))
+}
+
+#[test]
+fn files_of_three_points(rt: HostRuntime) -> Result<(), Fail> {
+    let alloc = rt.alloc();
+    let world = world_of_three_points(alloc)?;
+    assert_eq!(rt; world.files().len(), 7);
+    assert_eq!(rt; compared(alloc, &world, 5, 7), Ok((60, true)));
+    let pairs = (2, (b'a', b'2'), (b'b', b'3'));
+    assert_eq!(rt; state_told(alloc, &world, 5), Ok((3, pairs)));
+    let gap = Refusal::Gap(Point(2));
+    assert_eq!(rt; state_told(alloc, &world, 6), Err(gap));
+    Ok(())
+}
+
+// Each phase's way on, and the phase that it leads to.
+const CYCLE: [(Ask, Phase); 5] = [
+    (Ask::StartPoint, Phase::Prepare),
+    (Ask::Seal, Phase::Resolve),
+    (Ask::OpenCapture, Phase::Capture),
+    (Ask::Done, Phase::Complete),
+    (Ask::Rest, Phase::Rest),
+];
+
+// The events that belong to one phase alone, with the phase.
+const OF_ONE_PHASE: [(Ask, Phase); 7] = [
+    (Ask::Begin(1), Phase::Rest),
+    (Ask::StartPoint, Phase::Rest),
+    (Ask::Seal, Phase::Prepare),
+    (Ask::OpenCapture, Phase::Resolve),
+    (Ask::Take, Phase::Capture),
+    (Ask::Done, Phase::Capture),
+    (Ask::Rest, Phase::Complete),
+];
+
+// Whether each event that belongs to another phase alone is refused.
+fn refuses_the_others(alloc: Global, world: &mut World, now: Phase) -> bool {
+    for (ask, phase) in &OF_ONE_PHASE {
+        if *phase != now && answer(alloc, world, *ask) != Told::Refused(Refusal::WrongPhase) {
+            return false;
+        }
+    }
+    true
+}
+
+#[test]
+fn refuses_in_each_other_phase(rt: HostRuntime) -> Result<(), Fail> {
+    let alloc = rt.alloc();
+    let mut world = empty_world(alloc, 1)?;
+    let mut now = Phase::Rest;
+    for (ask, next) in CYCLE {
+        assert!(rt; refuses_the_others(alloc, &mut world, now), "in {now:?}");
+        let refused = matches!(answer(alloc, &mut world, ask), Told::Refused(_));
+        assert!(rt; !refused, "in {now:?}");
+        now = next;
+    }
+    assert!(rt; refuses_the_others(alloc, &mut world, now), "in {now:?}");
+    Ok(())
+}
+
+// Until points are taken beside open transactions.
+#[test]
+fn refuses_points_beside_transactions(rt: HostRuntime) -> Result<(), Fail> {
+    let rows = [
+        (Ask::Begin(1), Told::Begun(1)),
+        (Ask::StartPoint, Told::Refused(Refusal::WrongPhase)),
+        (Ask::Begin(1), Told::Refused(Refusal::AlreadyBegun)),
+        (Ask::Commit(1), Told::Committed(1)),
+        (Ask::StartPoint, Told::Phase(Phase::Prepare, 1)),
+        (Ask::Begin(0), Told::Refused(Refusal::NoSession)),
+        (Ask::Begin(2), Told::Refused(Refusal::NoSession)),
+        (Ask::Begin(1), Told::Refused(Refusal::WrongPhase)),
+        (Ask::Get(2, b"a"), Told::Refused(Refusal::NoSession)),
+        (Ask::Get(1, b"a"), Told::Refused(Refusal::NoTransaction)),
+        (Ask::Seal, Told::Phase(Phase::Resolve, 1)),
+        (Ask::OpenCapture, Told::Phase(Phase::Capture, 1)),
+        (Ask::Take, Told::NoneLeft),
+        (Ask::Take, Told::NoneLeft),
+        (Ask::Done, Told::PartDone(1, 1, 0)),
+        (Ask::Rest, Told::Phase(Phase::Rest, 1)),
+        (Ask::Begin(1), Told::Begun(2)),
+    ];
+    assert_eq!(rt; wrong_from_empty(rt.alloc(), 1, &rows)?, None);
+    Ok(())
+}
+
+// A file is joined with itself too, and file numbers are 1 to the number of files.
+#[test]
+fn joins_what_is_on_the_shelf(rt: HostRuntime) -> Result<(), Fail> {
+    let rows = [
+        (Ask::Join(1, 1), Told::Refused(Refusal::NoFile)),
+        (Ask::StartPoint, Told::Phase(Phase::Prepare, 1)),
+        (Ask::Seal, Told::Phase(Phase::Resolve, 1)),
+        (Ask::OpenCapture, Told::Phase(Phase::Capture, 1)),
+        (Ask::Done, Told::PartDone(1, 1, 0)),
+        (Ask::Join(0, 1), Told::Refused(Refusal::NoFile)),
+        (Ask::Join(1, 0), Told::Refused(Refusal::NoFile)),
+        (Ask::Join(1, 2), Told::Refused(Refusal::NoFile)),
+        (Ask::Join(u32::MAX, 1), Told::Refused(Refusal::NoFile)),
+        (Ask::Join(1, 1), Told::File(2, 1, 0)),
+        (Ask::Join(2, 1), Told::File(3, 1, 0)),
+        (Ask::Join(1, 4), Told::Refused(Refusal::NoFile)),
+    ];
+    assert_eq!(rt; wrong_from_empty(rt.alloc(), 1, &rows)?, None);
+    Ok(())
+}
+
+// Only keys that a commit wrote are taken, each once, with the last value; a key that was read is none of them, and
+// neither is one whose write was refused. What is written after the point waits for the next one.
+#[test]
+fn takes_each_written_key_once(rt: HostRuntime) -> Result<(), Fail> {
+    let rows = [
+        (Ask::Begin(1), Told::Begun(1)),
+        (Ask::Get(1, b"c"), Told::Absent),
+        (Ask::Put(1, b"b", b"1"), Told::Ok),
+        (Ask::Put(1, b"b", b"2"), Told::Ok),
+        (Ask::Put(1, b"a", b"1"), Told::Ok),
+        (Ask::Put(1, b"d", b"1"), Told::Refused(Refusal::Full)),
+        (Ask::Commit(1), Told::Committed(1)),
+        (Ask::Begin(1), Told::Begun(2)),
+        (Ask::Put(1, b"a", b"3"), Told::Ok),
+        (Ask::Commit(1), Told::Committed(2)),
+        (Ask::StartPoint, Told::Phase(Phase::Prepare, 1)),
+        (Ask::Seal, Told::Phase(Phase::Resolve, 1)),
+        (Ask::OpenCapture, Told::Phase(Phase::Capture, 1)),
+        (Ask::Done, Told::NotYet(2)),
+        (Ask::Take, Told::Took(b'b', b'2')),
+        (Ask::Done, Told::NotYet(1)),
+        (Ask::Take, Told::Took(b'a', b'3')),
+        (Ask::Take, Told::NoneLeft),
+        (Ask::Done, Told::PartDone(1, 1, 2)),
+        (Ask::Rest, Told::Phase(Phase::Rest, 1)),
+        (Ask::StartPoint, Told::Phase(Phase::Prepare, 2)),
+        (Ask::Seal, Told::Phase(Phase::Resolve, 2)),
+        (Ask::OpenCapture, Told::Phase(Phase::Capture, 2)),
+        (Ask::Take, Told::NoneLeft),
+        (Ask::Done, Told::PartDone(2, 2, 0)),
+    ];
+    assert_eq!(rt; wrong_from_empty(rt.alloc(), 3, &rows)?, None);
+    Ok(())
+}
+
+// A store of run 7 that starts from one pair.
+fn world_of_a_pair(alloc: Global) -> Result<World, Refusal> {
+    let mut pairs = Vec::new(alloc);
+    let key = Key::new(alloc, b"b")?;
+    let value = Value::new(alloc, b"1")?;
+    pairs.push((key, value))?;
+    World::new(alloc, Base::start(7, pairs), 1, 2)
+}
+
+// How long the log is, how many files there are, how many of the numbers 0 to 3 have a file, and what is committed.
+fn shown(world: &World) -> Result<(usize, usize, usize, TwoPairs), Refusal> {
+    let committed = world.committed()?;
+    let mut found = 0usize;
+    for number in 0..4u32 {
+        if world.file(FileNo(number)).is_some() {
+            found = found.wrapping_add(1);
+        }
+    }
+    let pairs = pairs_told(&committed);
+    Ok((world.log().len(), world.files().len(), found, pairs))
+}
+
+// The base's run and pairs.
+fn base_told(world: &World) -> (u64, TwoPairs) {
+    (world.base().run(), pairs_told(world.base().pairs()))
+}
+
+const ONE_PAIR: TwoPairs = (1, (b'b', b'1'), (0, 0));
+
+const TWO_PAIRS: TwoPairs = (2, (b'a', b'2'), (b'b', b'1'));
+
+// The store shows its log, its files and what is committed, and its base as it was.
+#[test]
+fn shows_what_it_holds(rt: HostRuntime) -> Result<(), Fail> {
+    let alloc = rt.alloc();
+    let mut world = world_of_a_pair(alloc)?;
+    for (ask, entries, files, pairs) in [
+        (Ask::Begin(1), 0, 0, ONE_PAIR),
+        (Ask::Put(1, b"a", b"2"), 0, 0, ONE_PAIR),
+        (Ask::Commit(1), 1, 0, TWO_PAIRS),
+        (Ask::StartPoint, 2, 0, TWO_PAIRS),
+        (Ask::Seal, 3, 0, TWO_PAIRS),
+        (Ask::OpenCapture, 4, 0, TWO_PAIRS),
+        (Ask::Take, 4, 0, TWO_PAIRS),
+        (Ask::Done, 5, 1, TWO_PAIRS),
+        (Ask::Join(1, 1), 5, 2, TWO_PAIRS),
+    ] {
+        let _ = answer(alloc, &mut world, ask);
+        assert_eq!(rt; shown(&world), Ok((entries, files, files, pairs)));
+        assert_eq!(rt; base_told(&world), (7, ONE_PAIR));
+    }
+    Ok(())
+}
+
+// Whether records of capacity 1 have room for another key: once their key was deleted, and once it was then taken.
+fn have_room(alloc: Global) -> Result<(bool, bool), Refusal> {
+    let key = Key::new(alloc, b"a")?;
+    let other = Key::new(alloc, b"b")?;
+    let mut records = Records::of_pairs(alloc, 1, &[])?;
+    records.request(alloc, &key)?;
+    let deletion = Write {
+        key: key.copy(alloc)?,
+        value: None,
+    };
+    records.settle(alloc, &[deletion])?;
+    records.close();
+    let before = !records.is_full_for(&other);
+    records.take(&key)?;
+    Ok((before, !records.is_full_for(&other)))
+}
+
+#[test]
+fn drops_a_deleted_key_once_it_is_taken(rt: HostRuntime) -> Result<(), Fail> {
+    assert_eq!(rt; have_room(rt.alloc())?, (false, true));
+    Ok(())
+}
+
+fn are_same(pairs: &[(Key, Value)], others: &[(Key, Value)]) -> bool {
+    for (pair, other) in pairs.iter().zip(others) {
+        if !pair.0.is(&other.0) || !pair.1.is(&other.1) {
+            return false;
+        }
+    }
+    pairs.len() == others.len()
+}
+
+// The last point of a file that stands for all the points up to it.
+fn complete_to(part: &Part) -> Option<Point> {
+    match part.ranges() {
+        [range] if range.low == Point(1) => Some(range.high),
+        _ => None,
+    }
+}
+
+fn triples_of(alloc: Global, part: &Part) -> Result<Vec<Triple>, AllocError> {
+    let mut triples = Vec::new(alloc);
+    for triple in part.entries() {
+        let content = copied(alloc, &triple.content)?;
+        let key = triple.key.copy(alloc)?;
+        let point = triple.point;
+        triples.push(Triple {
+            key,
+            point,
+            content,
+        })?;
+    }
+    Ok(triples)
+}
+
+// The files that stand for all the points up to one.
+fn complete_files(alloc: Global, files: &[Part]) -> Result<Vec<CompleteFile>, AllocError> {
+    let mut complete = Vec::new(alloc);
+    for part in files {
+        if let Some(point) = complete_to(part) {
+            let triples = triples_of(alloc, part)?;
+            complete.push(CompleteFile { point, triples })?;
+        }
+    }
+    Ok(complete)
+}
+
+// Whether what is committed is the log replayed on the base, and each file of all the points up to one, laid on the base,
+// is the state of that point.
+fn is_right(alloc: Global, world: &World) -> Result<bool, Refusal> {
+    let committed = world.committed()?;
+    let replayed = after(alloc, &Pairs::new(alloc), world.log())?;
+    let files = complete_files(alloc, world.files())?;
+    let are_right = audit(alloc, world.base().pairs(), world.log(), &files)?;
+    Ok(are_right && are_same(&committed, replayed.as_slice()))
+}
+
+const LETTERS: [Ask; 11] = [
+    Ask::Begin(1),
+    Ask::Put(1, b"a", b"1"),
+    Ask::Put(1, b"b", b"2"),
+    Ask::Commit(1),
+    Ask::StartPoint,
+    Ask::Seal,
+    Ask::OpenCapture,
+    Ask::Take,
+    Ask::Done,
+    Ask::Rest,
+    Ask::Join(1, 1),
+];
+
+const MOST_EVENTS: usize = 10;
+
+// Whether the last event of the list, by the letters' indices, is refused, and whether the store is then right.
+fn outcome(alloc: Global, list: &[usize]) -> Result<(bool, bool), Refusal> {
+    let mut world = empty_world(alloc, 2)?;
+    let mut told = Told::Unasked;
+    for i in list {
+        if let Some(ask) = LETTERS.get(*i) {
+            told = answer(alloc, &mut world, *ask);
+        }
+    }
+    let is_refused = matches!(told, Told::Refused(_));
+    Ok((is_refused, is_right(alloc, &world)?))
+}
+
+// The next list, depth first: a longer one where that is wanted, else one with the next letter in the last place that
+// has another. It is empty where none is left.
+fn go_on(list: &mut Vec<usize>, is_longer: bool) -> Result<(), AllocError> {
+    if is_longer && list.len() < MOST_EVENTS {
+        list.push(0)?;
+        return Ok(());
+    }
+    for _ in 0..list.len() {
+        if let Some(i) = list.pop() {
+            if i < LETTERS.len() - 1 {
+                list.push(i + 1)?;
+                return Ok(());
+            }
+        }
+    }
+    Ok(())
+}
+
+// Every list of at most so many events, where a list is not gone on with once its last event was refused.
+#[test]
+fn every_short_list_is_right(rt: HostRuntime) -> Result<(), Fail> {
+    let alloc = rt.alloc();
+    let mut list = vec![in alloc; 0usize]?;
+    for count in 0..50_000u32 {
+        if list.is_empty() {
+            assert_eq!(rt; count, 35_838);
+            return Ok(());
+        }
+        let (is_refused, is_right) = outcome(alloc, &list)?;
+        assert!(rt; is_right, "after {list:?}");
+        go_on(&mut list, !is_refused)?;
+    }
+    assert!(rt; list.is_empty(), "lists are left");
+    Ok(())
+}
