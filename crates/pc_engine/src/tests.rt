@@ -655,7 +655,7 @@ const LETTERS: [Ask; 11] = [
     Ask::Join(1, 1),
 ];
 
-const MOST_EVENTS: usize = 10;
+const MOST_EVENTS: usize = 9;
 
 // Whether the last event of the list, by the letters' indices, is refused, and whether the store is then right.
 fn outcome(alloc: Global, list: &[usize]) -> Result<(bool, bool), Refusal> {
@@ -693,9 +693,9 @@ fn go_on(list: &mut Vec<usize>, is_longer: bool) -> Result<(), AllocError> {
 fn every_short_list_is_right(rt: HostRuntime) -> Result<(), Fail> {
     let alloc = rt.alloc();
     let mut list = vec![in alloc; 0usize]?;
-    for count in 0..50_000u32 {
+    for count in 0..20_000u32 {
         if list.is_empty() {
-            assert_eq!(rt; count, 35_838);
+            assert_eq!(rt; count, 14_476);
             return Ok(());
         }
         let (is_refused, is_right) = outcome(alloc, &list)?;
