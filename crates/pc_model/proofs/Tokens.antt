@@ -22,6 +22,7 @@ use Rattle.pc_model.proofs.TouchedKeys.{touched_distinct, without_none, without_
 abbrev pub left_of : ℕ → List Entry → List (List ℕ) → List (List ℕ)
 left_of point log gone = if has_token point log then without (touched point log) gone else []
 
+-- the phase is rest
 abbrev pub is_rest : Phase → Bool
 is_rest Rest = true
 is_rest other = false

@@ -49,7 +49,7 @@ LegalHistoriesHaveLegalEffects = (st : Setting) (history : History) → IsLegalH
 abbrev pub HistoriesForNowHaveLegalEffects : Type 0
 HistoriesForNowHaveLegalEffects = (st : Setting) (history : History) → IsLegalHistoryForNow st history → HasLegalEffects st history
 
--- And it is quiet.
+-- Such a history is quiet.
 abbrev pub HistoriesForNowAreQuiet : Type 0
 HistoriesForNowAreQuiet = (st : Setting) (history : History) → IsLegalHistoryForNow st history → IsQuiet st history
 
