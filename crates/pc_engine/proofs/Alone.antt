@@ -1,23 +1,20 @@
 -- With one session each request is granted.
-use Rattle.std.proofs.Common.{◌≡◌, ℕ, List, [], ◌∷◌, ◌++◌, append-nil, Option, Some, None, is_some, refl, sym, ap, ◌∙◌, arith, cond, true, false, Bool, not, eqb, ◌||◌}
+use Rattle.std.proofs.Common.{◌≡◌, ℕ, List, [], ◌∷◌, ◌++◌, Option, Some, None, is_some, refl, sym, ap, ◌∙◌, arith, cond, true, false, Bool, not, eqb, ◌||◌}
 use Rattle.std.proofs.lemmas.Bool.Decides.{nat_tests}
 use Rattle.pc_types.specs.declared.Write.{Write}
 use Rattle.pc_types.specs.declared.Step.{Step}
-use Rattle.pc_types.specs.declared.Entry.{Entry}
-use Rattle.pc_types.specs.declared.Entry.TheVariants.{Commit, Token}
 use Rattle.pc_types.specs.declared.Event.{Event}
 use Rattle.pc_types.specs.declared.Event.TheVariants as asked
 use Rattle.pc_types.specs.declared.Reply.TheVariants as told
 use Rattle.pc_model.specs.Database.{written, with_write, same_bytes}
-use Rattle.pc_model.specs.Log.{has_token, is_token_of}
-use Rattle.pc_model.specs.History.{History, Effect, effect, effect_of, is_open, writes_of, log_of, number_of, has_died, open_by, writes_by, number_by, died_by, entries_by, begun}
+use Rattle.pc_model.specs.History.{History, effect, is_open, writes_of, number_of, has_died}
 use Rattle.pc_model.specs.History.Effect.{Nothing}
 use Rattle.pc_model.specs.Locks.{Request, Outcome, outcome, queue_of, queue_by, queue_after, queue_without, waited_for, waits_by, is_waiting}
 use Rattle.pc_model.specs.Locks.Outcome.{Granted}
 use Rattle.pc_model.specs.Points.{is_among, with_key}
 use Rattle.std.proofs.lemmas.List.Folds.{list_any-append}
 use Rattle.std.proofs.lemmas.Cmp.{eq_by_cmp_equiv}
-use Rattle.pc_model.specs.Replies.{asked_for, asked_by, is_empty, closed_set, read_reply}
+use Rattle.pc_model.specs.Replies.{asked_for, asked_by, is_empty, read_reply}
 use Rattle.pc_model.specs.Database.{key_cmp, key_order}
 use Rattle.std.specs.declared.cmp.Ordering.{Ordering}
 use Rattle.std.specs.declared.cmp.Ordering.TheVariants.{Less, Equal, Greater}

@@ -1,5 +1,5 @@
 -- What each step of the checkpointer leaves of a world that stands after a history.
-use Rattle.std.proofs.Common.{◌≡◌, ℕ, ◌+◌, List, [], ◌∷◌, ◌++◌, length, map, append-nil, subst, Option, Some, None, is_none, refl, sym, ap, ◌∙◌, cond, true, false, Bool, not, eqb, ◌||◌, ◌&&◌, inl, inr}
+use Rattle.std.proofs.Common.{◌≡◌, ℕ, ◌+◌, List, [], ◌∷◌, ◌++◌, length, map, append-nil, subst, Option, Some, None, is_none, refl, sym, ap, ◌∙◌, cond, true, false, Bool, not, eqb, ◌||◌, ◌&&◌}
 use Rattle.std.specs.Prelude.{IfSome, filter}
 use Rattle.std.specs.List.{list_any, IsDistinct, AllByRecursion}
 use Rattle.pc_types.specs.declared.Event.{Event}
@@ -15,9 +15,9 @@ use Rattle.pc_types.specs.declared.Entry.{Entry}
 use Rattle.pc_types.specs.declared.Entry.TheVariants.{Token}
 use Rattle.pc_model.specs.Maps as map_of
 use Rattle.pc_model.specs.Database.{same_bytes}
-use Rattle.pc_model.specs.Log.{after, state_at, is_resolve}
+use Rattle.pc_model.specs.Log.{after, is_resolve}
 use Rattle.pc_model.specs.Files.{File, shelf, shelved_by, file_at, join_of, numbers_to, triples_taken}
-use Rattle.pc_model.specs.History.{History, Effect, Class, effect, effect_of, contents, log_of, begun, is_open, writes_of, number_of, has_died, class_of, phase_of, point_of, entries_by, begun_by, open_by, writes_by, number_by, died_by, phase_by, point_by}
+use Rattle.pc_model.specs.History.{History, Class, effect, effect_of, log_of, begun, is_open, writes_of, number_of, has_died, class_of, phase_of, point_of, entries_by, begun_by, open_by, writes_by, number_by, died_by, phase_by, point_by}
 use Rattle.pc_model.specs.History.Effect.{Moves, Nothing}
 use Rattle.pc_model.specs.History.Class.{Before, During, After}
 use Rattle.pc_model.specs.Locks.{queue_of, queue_by, waited_for, waits_by}
@@ -29,7 +29,7 @@ use Rattle.pc_model.proofs.Logs.{after-append}
 use Rattle.pc_model.proofs.LegalEffects.{legal_for_now_has_legal_effects, one_phase}
 use Rattle.pc_model.proofs.QuietContents.{quiet_contents}
 use Rattle.pc_model.proofs.Standing.{closed_stays, changes_closed, each_key_once, none_left, past_token, seal_closes, take_leaves}
-use Rattle.pc_engine.specs.Store.{Store, setting_of, record_of, stored, closed_row, left_rows, moved, sealed, start_causes, move_causes, take_due, done_due, part_taken, Owes, StartsPoint, Moves as MovesOn, Seals, TakesFirst, Takes, Shelves, Joins}
+use Rattle.pc_engine.specs.Store.{Store, setting_of, record_of, stored, moved, sealed, start_causes, move_causes, take_due, done_due, part_taken, StartsPoint, Moves as MovesOn, Seals, TakesFirst, Takes, Shelves, Joins}
 use Rattle.pc_engine.specs.Stands.{IsReadOff, Stands, Follows}
 use Rattle.pc_engine.proofs.Alone.{alone_other}
 use Rattle.pc_engine.proofs.Settling.{same_records, closed_records, left_records}

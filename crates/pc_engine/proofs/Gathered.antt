@@ -1,7 +1,6 @@
 -- What was taken, as rising entries.
 use Rattle.std.proofs.Common.{◌≡◌, ℕ, ◌+◌, ◌-◌, ◌<◌, ◌≤◌, List, [], ◌∷◌, length, drop, get_or, Option, Some, None, refl, sym, ap, ◌∙◌, arith, cond, Bool, true, false}
-use Rattle.std.specs.Prelude.{IsTrue}
-use Rattle.std.specs.FinMap.{find, put, is_sorted}
+use Rattle.std.specs.FinMap.{find, put}
 use Rattle.std.specs.FinMap.Entries.{length-put}
 use Rattle.pc_model.specs.Maps.{Map, empty, insert, get, from_list}
 use Rattle.pc_model.specs.Database.{key_cmp, key_order, same_bytes, KeysRise}

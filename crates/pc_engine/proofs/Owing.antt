@@ -16,7 +16,7 @@ use Rattle.pc_model.specs.History.{History, effect, effect_of, log_of, is_open, 
 use Rattle.pc_model.specs.History.Effect.{Nothing}
 use Rattle.pc_model.specs.Points.{taken, taken_by}
 use Rattle.pc_model.specs.Locks.{queue_of, queue_by, is_waiting}
-use Rattle.pc_model.specs.Replies.{Setting, IsLegal, certain, Answers, first_refusal, or_else, no_session, is_empty, is_in, some_active, written_since_token, written_by, closed_set}
+use Rattle.pc_model.specs.Replies.{Setting, IsLegal, certain, Answers, first_refusal, or_else, no_session, is_empty, is_in, some_active, written_since_token, written_by}
 use Rattle.pc_model.specs.Reads.{IsQuiet, is_quiet}
 use Rattle.pc_model.specs.QuietPoints.{quiet_refusal, IsLegalForNow, IsLegalHistoryForNow}
 use Rattle.pc_model.specs.Headline.{HasLegalEffects, TakesPointValue, ValueBy}

@@ -1,6 +1,5 @@
 -- What each event leaves of a world that stands after a history.
-use Rattle.std.proofs.Common.{◌≡◌, ℕ, ◌+◌, List, [], ◌∷◌, ◌++◌, length, append-nil, subst, Option, Some, None, is_some, is_none, refl, sym, ap, ◌∙◌, arith, cond, true, false, Bool, not, eqb, ◌⊎◌, ◌&&◌, inl, inr, map}
-use Rattle.std.proofs.lemmas.Bool.Decides.{nat_tests}
+use Rattle.std.proofs.Common.{◌≡◌, ℕ, ◌+◌, List, [], ◌∷◌, ◌++◌, length, append-nil, subst, Option, Some, None, is_some, is_none, refl, sym, ap, ◌∙◌, cond, true, false, Bool, not, eqb, ◌&&◌, inl, inr, map}
 use Rattle.pc_types.specs.declared.Event.{Event}
 use Rattle.pc_types.specs.declared.Event.TheVariants as asked
 use Rattle.pc_types.specs.declared.Reply.{Reply}
@@ -23,7 +22,7 @@ use Rattle.pc_model.specs.Headline.{HasLegalEffects}
 use Rattle.pc_model.proofs.Standing.{closed_stays}
 use Rattle.pc_model.specs.Locks.{outcome, queue_of}
 use Rattle.pc_model.specs.Locks.Outcome.{Granted}
-use Rattle.pc_model.specs.Replies.{Setting, first_refusal, or_else, same_phase, is_in, IsFileReply, no_session, too_many, is_full, read_reply, value_read, by_outcome, written_since_token}
+use Rattle.pc_model.specs.Replies.{first_refusal, or_else, same_phase, is_in, IsFileReply, no_session, too_many, is_full, read_reply, value_read, by_outcome, written_since_token}
 use Rattle.pc_engine.specs.Store.{Store, setting_of, record_of, stored, is_recent, is_closed, is_requested, committed_row, requested_rows, new_keys, is_full_for, is_one_too_many, open_causes, begin_causes, Owes, Begins, Gets, Puts, Commits, StartsPoint, Seals, Moves, TakesFirst, Takes, Shelves, Joins}
 use Rattle.pc_types.specs.declared.Phase.{Phase}
 use Rattle.pc_engine.specs.Stands.{IsReadOff, Stands, Follows, IfRefused, is_kept}

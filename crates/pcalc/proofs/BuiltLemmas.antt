@@ -1,10 +1,8 @@
 -- What a line asks is what the engine serves.
 use Rattle.std.specs.Prelude.{◌≡◌, IfOk, Result, Ok, Err, ℕ, Bool, true, false, List, [], ◌∷◌, Option, Some, None, if◌then◌else◌, codes}
 use Rattle.std.specs.Str.{bytes_eq}
-use Rattle.pc_types.specs.declared.Event.{Event}
 use Rattle.pc_types.specs.declared.Event.TheVariants as asked
 use Rattle.pc_types.specs.declared.Refusal.{Refusal}
-use Rattle.pc_engine.specs.Alone.{IsBuilt}
 use Rattle.pcalc.specs.declared.lines.Line.{Line}
 use Rattle.pcalc.specs.declared.lines.Line.TheVariants as line
 use Rattle.pcalc.specs.declared.lines.View.TheVariants as view

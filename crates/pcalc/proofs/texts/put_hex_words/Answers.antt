@@ -1,4 +1,4 @@
-use Rattle.std.proofs.Common.{◌++◌, codes}
+use Rattle.std.proofs.Common.{codes}
 use Rattle.std.proofs.lemmas.Result.{err_from_is_err_and}
 use Rattle.pc_types.proofs.PutsLemmas.{puts_then, puts_stop}
 use Rattle.std.specs.List.{flat_map}

@@ -1,6 +1,5 @@
-use Rattle.std.proofs.Common.{◌≡◌, ◌∙◌, ap, map}
-use Rattle.pc_engine.specs.Store.{closed_row}
-use Rattle.pc_engine.specs.Slots.{rows_of, closed_slot}
+use Rattle.std.proofs.Common.{◌∙◌, ap}
+use Rattle.pc_engine.specs.Slots.{rows_of}
 use Rattle.pc_engine.proofs.Rising.{rise_closed}
 use Rattle.pc_engine.proofs.SlotLemmas.{rows-closed, closed_shared}
 use Rattle.pc_engine.proofs.records.Records.close.Goals as goal
