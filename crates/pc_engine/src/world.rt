@@ -121,9 +121,13 @@ impl World {
         }
     }
 
-    /// Answers one event. For every history that the world stands after, the reply is legal, the world then stands after
-    /// the history with this event and reply, and each key's committed value is that of the log replayed on the base.
-    /// A refused event changes nothing.
+    /// Answers one event. For every history that the world stands after, the reply is legal, and the world then stands
+    /// after the history with this event and reply. Of that history each key's committed value is that of the log
+    /// replayed on the base, and committed transactions have read right. Each key that was written since the point
+    /// before was taken once, with what it had at the point. Files of the shelf, and joins of them, that cover the same
+    /// points are one file, and one of the points 1 to n, laid on the base, is the database after what was committed
+    /// before point n's token. A refused event changes nothing. Until points are taken beside open transactions, a
+    /// begin outside rest and a start of a cycle with a transaction open are answered `WrongPhase`.
     pub fn step(&mut self, event: &Event) -> Reply
         requires built { IsBuilt event.now }
         ensures follows { (history : History) → Stands self.old history → Follows (setting_of self.old) history event.now result self.new }
@@ -489,8 +493,9 @@ fn answer(alloc: Global, found: Option<&Value>) -> Result<Reply, AllocError>
 }
 
 /// Runs the events, in order, on a new store that starts from the base, and gives the store and the replies. The whole
-/// history is legal, and the committed contents are those of the replayed log. Refuses with `Full` exactly where the
-/// base has more pairs than the capacity, and else only with `OutOfMemory`.
+/// history is legal and quiet, the committed contents are those of the replayed log, and files and points keep what
+/// `step` says of them. Refuses with `Full` exactly where the base has more pairs than the capacity, and else only with
+/// `OutOfMemory`.
 pub fn run(
     alloc: Global,
     base: Base,
