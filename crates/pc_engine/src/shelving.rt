@@ -45,8 +45,8 @@ fn rising(
     Ok(entries)
 }
 
-// How many files may be on the shelf.
-const MOST_FILES: usize = 65_536;
+/// How many files may be on the shelf.
+pub(crate) const MOST_FILES: usize = 65_536;
 
 /// The shelf's file of this number, from 1 on.
 pub(crate) fn file_at(shelf: &[Part], number: FileNo) -> Option<&Part>

@@ -14,7 +14,7 @@ ghost use Rattle.pc_model.specs.Replies.{same_phase};
 ghost use Rattle.pc_engine.specs.Store.{starting, Begins, Gets, Puts, Commits, StartsPoint, Seals, Moves, Takes, Shelves, Joins, setting_of, record_of, requested_rows, stored, is_full_for, is_one_too_many};
 
 use crate::records::Records;
-use crate::shelving::{Shelvable, file_at, joined, part_of};
+use crate::shelving::{MOST_FILES, Shelvable, file_at, joined, part_of};
 use crate::writes::{is_one_too_many, new_keys, note_write, write_of, written_at};
 use pc_part::{Base, Part};
 use pc_types::{
@@ -34,9 +34,6 @@ const MOST_ENTRIES: usize = 16_777_216;
 
 // The last point that may be taken.
 const MOST_POINTS: u16 = 65_535;
-
-// How many files may be on the shelf.
-const MOST_FILES: usize = 65_536;
 
 /// A store in memory. It answers events, one after the other.
 #[derive(Drop)]
