@@ -12,3 +12,4 @@ pub mod Runs
 pub mod Gathered
 pub mod NewKeys
 pub mod CommittedPairs
+pub mod Soundness

@@ -6,3 +6,4 @@ pub mod Writes
 pub mod Alone
 pub mod Stands
 pub mod Runs
+pub mod Checks

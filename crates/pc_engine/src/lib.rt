@@ -1,6 +1,7 @@
 //! The store's world: it answers events, one after the other, each by a legal reply.
 #![tactic(auto)]
 
+mod checks;
 mod records;
 mod shelving;
 #[cfg(test)]

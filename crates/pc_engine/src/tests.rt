@@ -2,9 +2,8 @@
 ghost use Rattle.std.specs.Prelude.{◌≡◌, ◌≤◌, IfSome};
 ghost use Rattle.pc_engine.specs.Alone.{IsBuilt};
 
-use crate::records::{Records, copied};
+use crate::records::Records;
 use crate::world::{World, run};
-use pc_model::{CompleteFile, Pairs, Triple, after, audit};
 use pc_part::{Base, Part, lay};
 use pc_types::{Event, FileNo, Key, Phase, Point, Refusal, Reply, SessionNo, Tally, Value, Write};
 use std::alloc::{AllocError, Global};
@@ -587,60 +586,6 @@ fn drops_a_deleted_key_once_it_is_taken(rt: HostRuntime) -> Result<(), Fail> {
     Ok(())
 }
 
-fn are_same(pairs: &[(Key, Value)], others: &[(Key, Value)]) -> bool {
-    for (pair, other) in pairs.iter().zip(others) {
-        if !pair.0.is(&other.0) || !pair.1.is(&other.1) {
-            return false;
-        }
-    }
-    pairs.len() == others.len()
-}
-
-// The last point of a file that stands for all the points up to it.
-fn complete_to(part: &Part) -> Option<Point> {
-    match part.ranges() {
-        [range] if range.low == Point(1) => Some(range.high),
-        _ => None,
-    }
-}
-
-fn triples_of(alloc: Global, part: &Part) -> Result<Vec<Triple>, AllocError> {
-    let mut triples = Vec::new(alloc);
-    for triple in part.entries() {
-        let content = copied(alloc, &triple.content)?;
-        let key = triple.key.copy(alloc)?;
-        let point = triple.point;
-        triples.push(Triple {
-            key,
-            point,
-            content,
-        })?;
-    }
-    Ok(triples)
-}
-
-// The files that stand for all the points up to one.
-fn complete_files(alloc: Global, files: &[Part]) -> Result<Vec<CompleteFile>, AllocError> {
-    let mut complete = Vec::new(alloc);
-    for part in files {
-        if let Some(point) = complete_to(part) {
-            let triples = triples_of(alloc, part)?;
-            complete.push(CompleteFile { point, triples })?;
-        }
-    }
-    Ok(complete)
-}
-
-// Whether what is committed is the log replayed on the base, and each file of all the points up to one, laid on the base,
-// is the state of that point.
-fn is_right(alloc: Global, world: &World) -> Result<bool, Refusal> {
-    let committed = world.committed()?;
-    let replayed = after(alloc, &Pairs::new(alloc), world.log())?;
-    let files = complete_files(alloc, world.files())?;
-    let are_right = audit(alloc, world.base().pairs(), world.log(), &files)?;
-    Ok(are_right && are_same(&committed, replayed.as_slice()))
-}
-
 const LETTERS: [Ask; 11] = [
     Ask::Begin(1),
     Ask::Put(1, b"a", b"1"),
@@ -667,7 +612,7 @@ fn outcome(alloc: Global, list: &[usize]) -> Result<(bool, bool), Refusal> {
         }
     }
     let is_refused = matches!(told, Told::Refused(_));
-    Ok((is_refused, is_right(alloc, &world)?))
+    Ok((is_refused, world.check()?))
 }
 
 // The next list, depth first: a longer one where that is wanted, else one with the next letter in the last place that

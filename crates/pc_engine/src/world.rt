@@ -1,18 +1,20 @@
 //! The world, and its run over a list of events.
 ghost use Rattle.std.specs.Prelude.{IfSome, ◌≡◌, ◌≤◌, ◌<◌, ◌==◌, ◌||◌, nat_lt, ◌⊎◌, ◌++◌, [], ◌∷◌, false, length, IfOk, IfErr, OnOk, OnErr, Some, option_copied, vec_len, vec_capacity};
-ghost use Rattle.std.specs.Prelude.{List, ℕ};
+ghost use Rattle.std.specs.Prelude.{◌↔◌, IsTrue, List, ℕ, true};
 ghost use Rattle.pc_model.specs.Maps.{get, len};
 ghost use Rattle.pc_model.specs.Files.{file_at};
 ghost use Rattle.pc_model.specs.Database.{KeysRise, database_of, with_write, written};
 ghost use Rattle.pc_model.specs.History.{History};
 ghost use Rattle.pc_model.specs.Replies.{read_reply, value_read};
 ghost use Rattle.pc_engine.specs.Alone.{IsBuilt, AreBuilt};
+ghost use Rattle.pc_engine.specs.Checks.{IsSound};
 ghost use Rattle.pc_engine.specs.Runs.{IsRun};
 ghost use Rattle.pc_engine.specs.Stands.{Stands, Follows, IfRefused};
 ghost use Rattle.pc_types.specs.declared.Phase.TheVariants as phase;
 ghost use Rattle.pc_model.specs.Replies.{same_phase};
 ghost use Rattle.pc_engine.specs.Store.{starting, Begins, Gets, Puts, Commits, StartsPoint, Seals, Moves, Takes, Shelves, Joins, setting_of, record_of, requested_rows, stored, is_full_for, is_one_too_many};
 
+use crate::checks::is_sound;
 use crate::records::Records;
 use crate::shelving::{MOST_FILES, Shelvable, file_at, joined, part_of};
 use crate::writes::{is_one_too_many, new_keys, note_write, write_of, written_at};
@@ -185,6 +187,25 @@ impl World {
     {
         let pairs = self.records.committed(self.alloc)?;
         Ok(pairs)
+    }
+
+    /// Whether the store is what its log says, by the slow forms of the definitions: its committed contents are the log
+    /// replayed on the base, and each file of the shelf whose points are those from 1 to some n, laid on the base, is the
+    /// state of n. It is so after every history. It fails only where memory ran out.
+    pub fn check(&self) -> Result<bool, Refusal>
+        ensures sound { IfOk result (λ sound. IsTrue sound ↔ IsSound self.now) }
+        ensures always { (history : History) → Stands self.now history → IfOk result (λ sound. sound ≡ true) }
+        ensures refusals { IfErr result (λ e. e ≡ Refusal.OutOfMemory) }
+    {
+        let pairs = self.committed()?;
+        let sound = is_sound(
+            self.alloc,
+            self.base(),
+            self.log(),
+            self.files(),
+            pairs.as_slice(),
+        )?;
+        Ok(sound)
     }
 
     fn begin(&mut self, session: SessionNo) -> Reply

@@ -34,6 +34,22 @@ pub fn audit(
     Ok(right)
 }
 
+/// Whether the pairs are the log replayed on the base. Of several pairs with one key the first counts. It fails only where
+/// memory ran out.
+pub fn is_replay(
+    alloc: Global,
+    base: &[(Key, Value)],
+    log: &[Entry],
+    pairs: &[(Key, Value)],
+) -> Result<bool, AllocError>
+    ensures { IfOk result (λ right. IsTrue right ↔ (database_of pairs.now ≡ after (database_of base.now) log.now)) }
+{
+    let mut replayed = Tree::of_pairs(alloc, base)?;
+    replayed.replay(alloc, log)?;
+    let tree = Tree::of_pairs(alloc, pairs)?;
+    Ok(tree.is(&replayed))
+}
+
 // Whether each file is right, where its triples are laid one after the other.
 fn are_right(
     alloc: Global,
@@ -205,6 +221,27 @@ mod tests {
             push_file(alloc, &mut files, points[i], a[i], b[i])?;
         }
         Ok(audit(alloc, &[], log.as_slice(), files.as_slice())?)
+    }
+
+    // Whether the pair of "b" and these bytes is the first entries of the log replayed.
+    fn replays(alloc: Global, entries: usize, bytes: &[u8]) -> Result<bool, Refusal> {
+        let log = log_of_two_points(alloc)?;
+        let mut pairs = Vec::new(alloc);
+        pairs.push((Key::new(alloc, b"b")?, Value::new(alloc, bytes)?))?;
+        if log.len() < entries {
+            return Ok(false);
+        }
+        Ok(is_replay(alloc, &[], &log.as_slice()[..entries], pairs.as_slice())?)
+    }
+
+    // Before the last entry "b" alone is there; behind it nothing, and before "a" was removed both.
+    #[test]
+    fn finds_wrong_contents(rt: HostRuntime) -> Result<(), Fail> {
+        assert!(rt; replays(rt.alloc(), 5, b"2")?);
+        assert!(rt; !replays(rt.alloc(), 5, b"3")?);
+        assert!(rt; !replays(rt.alloc(), 6, b"2")?);
+        assert!(rt; !replays(rt.alloc(), 2, b"1")?);
+        Ok(())
     }
 
     // Right files in either order; a wrong value, a wrong key, a file of a later state, and a point that the log lacks.

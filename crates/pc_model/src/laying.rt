@@ -16,6 +16,24 @@ pub struct Triple {
     pub content: Option<Value>,
 }
 
+impl Triple {
+    /// The same triple once more. It fails only where memory ran out.
+    pub fn copy(&self, alloc: Global) -> Result<Triple, AllocError>
+        ensures { IfOk result (λ copy. copy ≡ self.now) }
+    {
+        let key = self.key.copy(alloc)?;
+        let content = match &self.content {
+            Some(value) => Some(value.copy(alloc)?),
+            None => None,
+        };
+        Ok(Triple {
+            key,
+            point: self.point,
+            content,
+        })
+    }
+}
+
 /// The base, which stands at the point, with the triples laid on it: each key whose triple has a point above is set or
 /// removed. The triples rise strictly by key. It fails only where memory ran out.
 pub fn lay_plain(

@@ -1,3 +1,4 @@
+pub mod CompleteParts
 pub mod Gaps
 pub mod JoinLaws
 pub mod JoinedFiles

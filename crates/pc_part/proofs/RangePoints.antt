@@ -69,7 +69,7 @@ items_of ks rise =
     firsts (k ∷ ks) = ap (λ rest. k ∷ rest) (firsts ks)
 
 -- points one after the other are one range
-one_range : (p n : ℕ) (rest : List ℕ) → ranges_of (points_from p (suc n) ++ rest) ≡ with_range p (p + n) (ranges_of rest)
+pub one_range : (p n : ℕ) (rest : List ℕ) → ranges_of (points_from p (suc n) ++ rest) ≡ with_range p (p + n) (ranges_of rest)
 one_range p zero rest = ap (λ high. with_range p high (ranges_of rest)) (omega arith)
 one_range p (suc n) rest = ap (with_range p p) (one_range (p + 1) n rest) ∙ wider (ranges_of rest)
   where

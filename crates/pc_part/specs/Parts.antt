@@ -1,5 +1,5 @@
 -- Part files: the points and the triples that a part stands for, and how both are stored.
-use Rattle.std.specs.Prelude.{ℕ, zero, suc, ◌+◌, ◌-◌, ◌≤◌, List, [], ◌∷◌, ◌++◌, Option, length, map, IsTrue}
+use Rattle.std.specs.Prelude.{◌≡◌, ℕ, zero, suc, ◌+◌, ◌-◌, ◌≤◌, ◌==◌, List, [], ◌∷◌, ◌++◌, Option, Some, None, if◌then◌else◌, length, map, IsTrue}
 use Rattle.std.specs.List.{All}
 use Rattle.std.specs.Coded.{Coded, code_by, coded×, coded_ℕ, coded_list, coded_option}
 use base.Stored.{coded_unit}
@@ -8,7 +8,7 @@ use Rattle.pc_model.specs.Maps as map_of
 use Rattle.pc_model.specs.Sets as set
 use Rattle.pc_model.specs.Sets.{Set, number_order}
 use Rattle.pc_model.specs.Points.{AtPoint, Triples}
-use Rattle.pc_model.specs.Files.{File}
+use Rattle.pc_model.specs.Files.{File, numbers_to}
 use Rattle.pc_model.specs.Laying.{entries_of}
 use Rattle.pc_model.specs.declared.laying.Triple.{Triple}
 use Rattle.pc_part.specs.declared.ranges.Range.{Range}
@@ -43,6 +43,15 @@ bounds range = (range.low, range.high)
 -- the same of each range
 abbrev pub bounds_of : List Range → List (ℕ × ℕ)
 bounds_of ranges = map bounds ranges
+
+-- the file's points are those from 1 to n
+abbrev pub CoversTo : File → ℕ → Type 0
+CoversTo file n = (1 ≤ n) × (set.items file.points ≡ numbers_to n)
+
+-- the last point, where the ranges are one from 1 on
+abbrev pub last_covered : List (ℕ × ℕ) → Option ℕ
+last_covered (r ∷ []) = if r.0 == 1 then Some r.1 else None
+last_covered ranges = None
 
 -- each triple is of one of the points
 abbrev pub AreCovered : Set number_order → List Triple → Type 0

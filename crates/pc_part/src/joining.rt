@@ -58,27 +58,11 @@ fn merge_entries(alloc: Global, a: &[Triple], b: &[Triple]) -> Result<Vec<Triple
     Ok(out)
 }
 
-// The same triple once more.
-fn copy_of(alloc: Global, triple: &Triple) -> Result<Triple, AllocError>
-    ensures { IfOk result (λ copy. copy ≡ triple.now) }
-{
-    let key = triple.key.copy(alloc)?;
-    let content = match &triple.content {
-        Some(value) => Some(value.copy(alloc)?),
-        None => None,
-    };
-    Ok(Triple {
-        key,
-        point: triple.point,
-        content,
-    })
-}
-
 // Adds a copy of the triple.
 fn push_copy(alloc: Global, out: &mut Vec<Triple>, triple: &Triple) -> Result<(), AllocError>
     ensures { OnOk result (out.new.items ≡ out.old.items ++ triple.now ∷ []) }
 {
-    let copy = copy_of(alloc, triple)?;
+    let copy = triple.copy(alloc)?;
     out.push(copy)?;
     Ok(())
 }

@@ -1,14 +1,14 @@
 //! Part files: what the keys that a run wrote in some of its points had there.
-ghost use Rattle.std.specs.Prelude.{◌≡◌, ◌≤◌, map, IfOk, IfErr};
+ghost use Rattle.std.specs.Prelude.{◌≡◌, ◌≤◌, ℕ, map, IfOk, IfErr, MatchOption};
 ghost use Rattle.pc_model.specs.Database.{KeysRise};
 ghost use Rattle.pc_model.specs.Files.{triples_taken};
 ghost use Rattle.pc_model.specs.Laying.{entries_of};
 ghost use Rattle.pc_model.specs.Ranges.{ranges_of};
 ghost use Rattle.pc_model.specs.Sets as set;
 ghost use Rattle.pc_part.specs.Bases.{IsWithinLimit};
-ghost use Rattle.pc_part.specs.Parts.{AreCovered, AreRanges, bounds_of, points_of, triple_at, triples_of};
+ghost use Rattle.pc_part.specs.Parts.{AreCovered, AreRanges, CoversTo, bounds_of, points_of, triple_at, triples_of};
 
-use crate::ranges::{Range, points_in};
+use crate::ranges::{Range, last_covered, points_in};
 use pc_model::Triple;
 use pc_types::{Items, Key, Point, Refusal, Value};
 use std::alloc::{AllocError, Global};
@@ -101,6 +101,13 @@ impl Part {
         Ok(Items::from_vec(points))
     }
 
+    /// The last point, where the points are all those from 1 to it.
+    pub fn complete_to(&self) -> Option<Point>
+        ensures { MatchOption result ((n : ℕ) → ¬ CoversTo self.now n) (CoversTo self.now) }
+    {
+        last_covered(&self.ranges)
+    }
+
     /// The entries, rising strictly by key, each of one of its points; at most 4,294,967,295.
     pub fn entries(&self) -> &[Triple]
         ensures rise { KeysRise (entries_of result.now) }
@@ -156,6 +163,17 @@ mod tests {
         assert_eq!(rt; entries[1].point, Point(3));
         assert!(rt; entries[0].content.is_some());
         assert!(rt; entries[1].content.is_none());
+        Ok(())
+    }
+
+    // The part of point 1 has all points up to it, one of a later point hasn't.
+    #[test]
+    fn is_complete_from_point_one(rt: HostRuntime) -> Result<(), Fail> {
+        let alloc = rt.alloc();
+        let first = Part::of_point(alloc, 7, Point(1), Vec::new(alloc))?;
+        assert_eq!(rt; first.complete_to(), Some(Point(1)));
+        let third = Part::of_point(alloc, 7, Point(3), Vec::new(alloc))?;
+        assert_eq!(rt; third.complete_to(), None);
         Ok(())
     }
 }

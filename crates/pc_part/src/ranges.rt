@@ -1,6 +1,6 @@
 //! Ranges of points.
 ghost use Rattle.std.specs.Prelude.{◌≡◌, ◌+◌, ◌-◌, ◌≤◌, ◌++◌, IfOk, OnOk};
-ghost use Rattle.pc_part.specs.Parts.{points_from, points_in};
+ghost use Rattle.pc_part.specs.Parts.{bounds_of, last_covered, points_from, points_in};
 
 use pc_types::Point;
 use std::alloc::{AllocError, Global};
@@ -21,6 +21,16 @@ pub(crate) fn points_in(alloc: Global, ranges: &[Range]) -> Result<Vec<Point>, A
         push_points(&mut points, number(range.low), number(range.high))?;
     }
     Ok(points)
+}
+
+/// The last point, where the ranges are one from 1 on.
+pub(crate) fn last_covered(ranges: &[Range]) -> Option<Point>
+    ensures { result ≡ last_covered (bounds_of ranges.now) }
+{
+    match ranges {
+        [range] if range.low == Point(1) => Some(range.high),
+        _ => None,
+    }
 }
 
 // The number of a point.

@@ -37,7 +37,8 @@ built_one verb =
     (built_if (bytes_eq verb (codes "capture")) (line.Asks asked.OpenCapture) _ tt
     (built_if (bytes_eq verb (codes "take")) (line.Asks asked.Take) _ tt
     (built_if (bytes_eq verb (codes "done")) (line.Asks asked.Done) _ tt
-    (built_if (bytes_eq verb (codes "rest")) (line.Asks asked.Rest) line.Malformed tt tt)))))
+    (built_if (bytes_eq verb (codes "rest")) (line.Asks asked.Rest) _ tt
+    (built_if (bytes_eq verb (codes "check")) (line.Shows view.Check) line.Malformed tt tt))))))
 
 built_number : (verb : List ℕ) (number : Option ℕ) → AsksBuilt (numbered verb number)
 built_number verb None = tt

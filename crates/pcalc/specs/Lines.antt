@@ -50,7 +50,8 @@ one_word verb =
     else (if bytes_eq verb (codes "capture") then line.Asks asked.OpenCapture
     else (if bytes_eq verb (codes "take") then line.Asks asked.Take
     else (if bytes_eq verb (codes "done") then line.Asks asked.Done
-    else (if bytes_eq verb (codes "rest") then line.Asks asked.Rest else line.Malformed)))))
+    else (if bytes_eq verb (codes "rest") then line.Asks asked.Rest
+    else (if bytes_eq verb (codes "check") then line.Shows view.Check else line.Malformed))))))
 
 -- what a word and a number spell
 abbrev pub numbered_line : List ℕ → ℕ → Line

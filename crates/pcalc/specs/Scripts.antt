@@ -19,7 +19,7 @@ use Rattle.pcalc.specs.declared.setup.Setup.{Setup}
 use Rattle.pcalc.specs.declared.script.Status.{Status}
 use Rattle.pcalc.specs.declared.script.Status.TheVariants as status
 use Rattle.pcalc.specs.Lines.{lines_in, spelled}
-use Rattle.pcalc.specs.Texts.{reply_text, state_text, hex_line}
+use Rattle.pcalc.specs.Texts.{reply_text, state_text, hex_line, check_line}
 use Rattle.pcalc.specs.Views.{AnswersView}
 
 -- how far a script has come
@@ -84,6 +84,7 @@ answer_text answer.BadLine = codes "bad line\n"
 answer_text (answer.Says reply) = reply_text reply ++ codes "\n"
 answer_text (answer.State base) = state_text base
 answer_text (answer.Text text) = hex_line text
+answer_text (answer.Check sound) = check_line sound
 
 -- the text that the lines may print one after the other, from a stage to the last one
 abbrev pub Prints : Setup → Stage → List (List ℕ) → List ℕ → Stage → Type 0

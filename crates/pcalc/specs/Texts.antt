@@ -1,5 +1,5 @@
 -- What is printed: the text of each reply, and of the bytes of keys and values.
-use Rattle.std.specs.Prelude.{ℕ, ◌/◌, ◌%◌, ◌==◌, List, [], ◌∷◌, ◌++◌, Option, Some, None, if◌then◌else◌, codes, decimal}
+use Rattle.std.specs.Prelude.{ℕ, ◌/◌, ◌%◌, ◌==◌, Bool, List, [], ◌∷◌, ◌++◌, Option, Some, None, if◌then◌else◌, codes, decimal}
 use Rattle.std.specs.List.{flat_map}
 use Rattle.std.specs.Str.{bytes_eq}
 use Rattle.std.specs.Char.{digit_char}
@@ -89,3 +89,7 @@ hex_byte b = digit_char (b / 16) ∷ digit_char (b % 16) ∷ []
 -- the bytes of a file, with the end of the line
 abbrev pub hex_line : List ℕ → List ℕ
 hex_line bytes = (codes "text " ++ flat_map hex_byte bytes) ++ codes "\n"
+
+-- what a check found, with the end of the line
+abbrev pub check_line : Bool → List ℕ
+check_line sound = if sound then codes "check ok\n" else codes "check failed\n"

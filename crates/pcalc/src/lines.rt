@@ -35,6 +35,8 @@ pub enum View {
     State(FileNo),
     /// The bytes of a file.
     Text(FileNo),
+    /// Whether the store is what its log says.
+    Check,
 }
 
 /// What the line, without its end, spells. Refuses only with `OutOfMemory`.
@@ -106,6 +108,8 @@ fn one_word(verb: &[u8]) -> Line
         Line::Asks(Event::Done)
     } else if verb == b"rest".as_slice() {
         Line::Asks(Event::Rest)
+    } else if verb == b"check".as_slice() {
+        Line::Shows(View::Check)
     } else {
         Line::Malformed
     }

@@ -15,7 +15,7 @@ ghost use Rattle.pcalc.specs.declared.script.Status.TheVariants.{BadLines};
 
 use crate::lines::{Line, read_line};
 use crate::setup::Setup;
-use crate::texts::{put_reply, put_state, put_text};
+use crate::texts::{put_check, put_reply, put_state, put_text};
 use crate::views::answer_view;
 use bstr::ByteSlice;
 use pc_engine::World;
@@ -46,6 +46,8 @@ pub enum Answer {
     State(Base),
     /// The bytes of a file.
     Text(Items<u8>),
+    /// Whether the store is what its log says.
+    Check(bool),
 }
 
 /// What the lines so far have made.
@@ -117,7 +119,7 @@ fn answer_one<W: Write>(
         (λ e. (e ≡ Refusal.Device) × HasRisen (failures_of out.old) (failures_of out.new)) }
 {
     let (answer, next) = answer_line(alloc, setup, made, line);
-    put_answer(out, &answer)?;
+    say(out, answer)?;
     Ok(next)
 }
 
@@ -242,6 +244,13 @@ fn answer_stored(alloc: Global, world: &mut World, line: Line) -> Answer
     }
 }
 
+// Writes the answer, which is used up.
+fn say<W: Write>(out: &mut Tally<W>, answer: Answer) -> Result<(), Refusal>
+    ensures { Puts W.contents out.old out.new result (answer_text answer) }
+{
+    put_answer(out, &answer)
+}
+
 fn put_answer<W: Write>(out: &mut Tally<W>, answer: &Answer) -> Result<(), Refusal>
     ensures { Puts W.contents out.old out.new result (answer_text answer.now) }
 {
@@ -254,5 +263,6 @@ fn put_answer<W: Write>(out: &mut Tally<W>, answer: &Answer) -> Result<(), Refus
         }
         Answer::State(base) => put_state(out, base),
         Answer::Text(text) => put_text(out, text.as_slice()),
+        Answer::Check(sound) => put_check(out, *sound),
     }
 }

@@ -51,9 +51,9 @@ fn answers_a_session(rt: HostRuntime) {
 // The empty point: its file has the 34 bytes of its header, its range and its end.
 #[test]
 fn takes_an_empty_point(rt: HostRuntime) {
-    let script = "point\nseal\ncapture\ntake\ndone\nrest\ntext 1\nstate 1\n";
+    let script = "point\nseal\ncapture\ntake\ndone\nrest\ntext 1\nstate 1\ncheck\n";
     let want =
-        "phase prepare 1\nphase resolve 1\nphase capture 1\nnone left\npart 1 file 1 entries 0\nphase rest 1\ntext 5043414c435030310000000000000001000000010000000100000001000000000000\nstate point 1 pairs 0\n";
+        "phase prepare 1\nphase resolve 1\nphase capture 1\nnone left\npart 1 file 1 entries 0\nphase rest 1\ntext 5043414c435030310000000000000001000000010000000100000001000000000000\nstate point 1 pairs 0\ncheck ok\n";
     let (status, out, errors) = ran(rt.alloc(), 1024, script.as_bytes());
     assert_eq!(rt; out.as_slice(), want.as_bytes());
     assert_eq!(rt; status, 0);
@@ -64,9 +64,9 @@ fn takes_an_empty_point(rt: HostRuntime) {
 #[test]
 fn takes_three_points(rt: HostRuntime) {
     let script =
-        "begin 1\nput 1 a 1\nput 1 b 1\ncommit 1\npoint\nseal\ncapture\ntake\ndone\ntake\ntake\ndone\nrest\nbegin 1\nput 1 a 2\ncommit 1\npoint\nseal\ncapture\ntake\ndone\nrest\nbegin 1\nput 1 b 3\ncommit 1\npoint\nseal\ncapture\ntake\ndone\nrest\njoin 1 2\njoin 4 3\njoin 3 1\njoin 6 2\nstate 5\nstate 6\ntext 5\ntext 7\n";
+        "begin 1\nput 1 a 1\nput 1 b 1\ncommit 1\npoint\nseal\ncapture\ntake\ndone\ntake\ntake\ndone\nrest\nbegin 1\nput 1 a 2\ncommit 1\npoint\nseal\ncapture\ntake\ndone\nrest\nbegin 1\nput 1 b 3\ncommit 1\npoint\nseal\ncapture\ntake\ndone\nrest\njoin 1 2\njoin 4 3\njoin 3 1\njoin 6 2\nstate 5\nstate 6\ntext 5\ntext 7\ncheck\n";
     let want =
-        "begun 1\nok\nok\ncommitted 1\nphase prepare 1\nphase resolve 1\nphase capture 1\ntook a 1\nnot yet 1\ntook b 1\nnone left\npart 1 file 1 entries 2\nphase rest 1\nbegun 2\nok\ncommitted 7\nphase prepare 2\nphase resolve 2\nphase capture 2\ntook a 2\npart 2 file 2 entries 1\nphase rest 2\nbegun 3\nok\ncommitted 13\nphase prepare 3\nphase resolve 3\nphase capture 3\ntook b 3\npart 3 file 3 entries 1\nphase rest 3\nfile 4 points 1-2 entries 2\nfile 5 points 1-3 entries 2\nfile 6 points 1,3 entries 2\nfile 7 points 1-3 entries 2\nstate point 3 pairs 2\na 2\nb 3\nrefused Gap 2\ntext 5043414c4350303100000000000000010000000100000001000000030001610000000201000000013200016200000003010000000133000000000002\ntext 5043414c4350303100000000000000010000000100000001000000030001610000000201000000013200016200000003010000000133000000000002\n";
+        "begun 1\nok\nok\ncommitted 1\nphase prepare 1\nphase resolve 1\nphase capture 1\ntook a 1\nnot yet 1\ntook b 1\nnone left\npart 1 file 1 entries 2\nphase rest 1\nbegun 2\nok\ncommitted 7\nphase prepare 2\nphase resolve 2\nphase capture 2\ntook a 2\npart 2 file 2 entries 1\nphase rest 2\nbegun 3\nok\ncommitted 13\nphase prepare 3\nphase resolve 3\nphase capture 3\ntook b 3\npart 3 file 3 entries 1\nphase rest 3\nfile 4 points 1-2 entries 2\nfile 5 points 1-3 entries 2\nfile 6 points 1,3 entries 2\nfile 7 points 1-3 entries 2\nstate point 3 pairs 2\na 2\nb 3\nrefused Gap 2\ntext 5043414c4350303100000000000000010000000100000001000000030001610000000201000000013200016200000003010000000133000000000002\ntext 5043414c4350303100000000000000010000000100000001000000030001610000000201000000013200016200000003010000000133000000000002\ncheck ok\n";
     let (status, out, errors) = ran(rt.alloc(), 1024, script.as_bytes());
     assert_eq!(rt; out.as_slice(), want.as_bytes());
     assert_eq!(rt; status, 0);

@@ -4,7 +4,7 @@ ghost use Rattle.std.specs.List.{flat_map};
 ghost use Rattle.std.specs.Char.{digit_char};
 ghost use Rattle.pc_types.specs.Tallies.{Puts};
 ghost use Rattle.pc_model.specs.Ranges.{ranges_of};
-ghost use Rattle.pcalc.specs.Texts.{printed_byte, printed, printed_value, phase_name, range_text, ranges_text, refusal_text, reply_text, pair_text, state_head, state_text, hex_byte, hex_line};
+ghost use Rattle.pcalc.specs.Texts.{printed_byte, printed, printed_value, phase_name, range_text, ranges_text, refusal_text, reply_text, pair_text, state_head, state_text, hex_byte, hex_line, check_line};
 
 use crate::words::is_plain;
 use itoa::Buffer;
@@ -294,4 +294,15 @@ fn put_hex_byte<W: Write>(out: &mut Tally<W>, byte: u8) -> Result<(), Refusal>
     ensures { Puts W.contents out.old out.new result (hex_byte byte) }
 {
     out.put(&[hex_digit(byte / 16), hex_digit(byte % 16)])
+}
+
+/// Writes what a check found, with the end of the line.
+pub fn put_check<W: Write>(out: &mut Tally<W>, sound: bool) -> Result<(), Refusal>
+    ensures { Puts W.contents out.old out.new result (check_line sound) }
+{
+    if sound {
+        out.put(b"check ok\n")
+    } else {
+        out.put(b"check failed\n")
+    }
 }

@@ -3,7 +3,8 @@ ghost use Rattle.std.specs.Prelude.{◌≡◌};
 ghost use Rattle.pc_model.specs.History.{History};
 ghost use Rattle.pc_engine.specs.Stands.{Stands};
 ghost use Rattle.pc_engine.specs.Store.{setting_of};
-ghost use Rattle.pcalc.specs.Views.{AnswersView, ShowsState, ShowsText};
+ghost use Rattle.pcalc.specs.Views.{AnswersView, ShowsCheck, ShowsItsCheck, ShowsState, ShowsText};
+ghost use Rattle.pcalc.specs.declared.lines.View.TheVariants as view;
 
 use crate::lines::View;
 use crate::script::{Answer, refused};
@@ -14,7 +15,8 @@ use std::alloc::Global;
 
 /// Shows what the line asks for.
 pub(crate) fn answer_view(alloc: Global, world: &World, view: View) -> Answer
-    ensures { (history : History) → Stands world.now history → AnswersView (setting_of world.now) history view result }
+    ensures answer { (history : History) → Stands world.now history → AnswersView (setting_of world.now) history view result }
+    ensures check { ShowsItsCheck world.now view result }
 {
     match view {
         View::State(number) => match world.file(number) {
@@ -25,6 +27,7 @@ pub(crate) fn answer_view(alloc: Global, world: &World, view: View) -> Answer
             Some(file) => shown_text(alloc, file),
             None => refused(Refusal::NoFile),
         },
+        View::Check => shown_check(world),
     }
 }
 
@@ -35,6 +38,17 @@ fn shown_state(alloc: Global, base: &Base, file: &Part) -> Answer
     match lay(alloc, base, file) {
         Ok(laid) => Answer::State(laid),
         Err(why) => refused(why),
+    }
+}
+
+// Whether the store is what its log says.
+fn shown_check(world: &World) -> Answer
+    ensures check { ShowsCheck world.now result }
+    ensures always { (history : History) → Stands world.now history → AnswersView (setting_of world.now) history view.Check result }
+{
+    match world.check() {
+        Ok(sound) => Answer::Check(sound),
+        Err(_) => refused(Refusal::OutOfMemory),
     }
 }
 

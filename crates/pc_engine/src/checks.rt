@@ -1,0 +1,71 @@
+//! A store's contents and files against its log.
+ghost use Rattle.std.specs.Prelude.{◌≡◌, ◌↔◌, ◌++◌, All, IsTrue, IfOk, OnOk, List};
+ghost use Rattle.pc_types.specs.declared.Entry.{Entry};
+ghost use Rattle.pc_model.specs.Database.{Database, database_of};
+ghost use Rattle.pc_model.specs.Log.{after};
+ghost use Rattle.pc_model.specs.Audits.{IsRight, TriplesRise};
+ghost use Rattle.pc_engine.specs.Checks.{IsFileRight};
+
+use pc_model::{CompleteFile, Triple, audit, is_replay};
+use pc_part::{Base, Part};
+use pc_types::{Entry, Key, Value};
+use std::alloc::{AllocError, Global};
+
+// Whether the pairs are the log replayed on the base, and each file of the points 1 to some n, laid on the base, is the
+// state of n.
+pub(crate) fn is_sound(
+    alloc: Global,
+    base: &Base,
+    log: &[Entry],
+    files: &[Part],
+    pairs: &[(Key, Value)],
+) -> Result<bool, AllocError>
+    ensures { IfOk result (λ sound. IsTrue sound ↔ ((database_of pairs.now ≡ after base.now.pairs log.now) × All (IsFileRight base.now.pairs log.now) files.now)) }
+{
+    if !is_replay(alloc, base.pairs(), log, pairs)? {
+        return Ok(false);
+    }
+    let complete = complete_files(alloc, files)?;
+    let sound = audit(alloc, base.pairs(), log, complete.as_slice())?;
+    Ok(sound)
+}
+
+// A copy of each file of the points 1 to some n.
+fn complete_files(alloc: Global, files: &[Part]) -> Result<Vec<CompleteFile>, AllocError>
+    ensures rise { IfOk result (λ complete. All TriplesRise complete.items) }
+    ensures right { (base : Database) (log : List Entry) → IfOk result (λ complete. All (IsRight base log) complete.items ↔ All (IsFileRight base log) files.now) }
+{
+    let mut complete = Vec::new(alloc);
+    for file in files {
+        push_complete(alloc, &mut complete, file)?;
+    }
+    Ok(complete)
+}
+
+// Adds a copy of the file, where its points are 1 to some n.
+fn push_complete(
+    alloc: Global,
+    complete: &mut Vec<CompleteFile>,
+    file: &Part,
+) -> Result<(), AllocError>
+    ensures rise { All TriplesRise complete.old.items → OnOk result (All TriplesRise complete.new.items) }
+    ensures right { (base : Database) (log : List Entry) → OnOk result (All (IsRight base log) complete.new.items ↔ (All (IsRight base log) complete.old.items × IsFileRight base log file.now)) }
+{
+    if let Some(point) = file.complete_to() {
+        let triples = copies(alloc, file.entries())?;
+        complete.push(CompleteFile { point, triples })?;
+    }
+    Ok(())
+}
+
+// Copies of the triples.
+fn copies(alloc: Global, triples: &[Triple]) -> Result<Vec<Triple>, AllocError>
+    ensures { IfOk result (λ copies. copies.items ≡ triples.now) }
+{
+    let mut copies = Vec::new(alloc);
+    for triple in triples {
+        let copy = triple.copy(alloc)?;
+        copies.push(copy)?;
+    }
+    Ok(copies)
+}
