@@ -1,3 +1,4 @@
+#!/usr/bin/env python3
 """Measures library calls by the program `pc_bench`: several runs, the least and the greatest time, and the peak of memory.
 
     bench/calls.py join 1000000           the join of two parts of so many entries each, and its text

@@ -1,3 +1,4 @@
+#!/usr/bin/env python3
 """Runs each test that is named for it once for each growth that it asks for, with that growth refused.
 
 Such a test's name ends in `at_each_refused_growth`. It asks again where memory was wanting, and wants in the end what it
