@@ -382,6 +382,58 @@ fn files_of_three_points(rt: HostRuntime) -> Result<(), Fail> {
     Ok(())
 }
 
+// A word with the same first byte that takes memory of its own.
+fn lengthened(word: &[u8]) -> &'static [u8] {
+    match first(word) {
+        b'a' => b"a word of 20 letters",
+        b'b' => b"b word of 20 letters",
+        b'1' => b"1 word of 20 letters",
+        b'2' => b"2 word of 20 letters",
+        _ => b"3 word of 20 letters",
+    }
+}
+
+// The same, with such a key and such a value.
+fn long(ask: Ask) -> Ask {
+    match ask {
+        Ask::Put(session, key, value) => Ask::Put(session, lengthened(key), lengthened(value)),
+        other => other,
+    }
+}
+
+// The first of those rows, with such keys and values, at which the world answers something else.
+fn first_wrong_long(alloc: Global, world: &mut World) -> Option<(usize, Told)> {
+    for (i, row) in THREE_POINTS.iter().enumerate() {
+        let told = answer(alloc, world, long(row.0));
+        if told != row.1 {
+            return Some((i, told));
+        }
+    }
+    None
+}
+
+// The file of the three points then.
+const LONG_FILE: [u8; 136] = *b"PCALCP01\
+    \x00\x00\x00\x00\x00\x00\x00\x01\
+    \x00\x00\x00\x01\x00\x00\x00\x01\x00\x00\x00\x03\
+    \x00\x14a word of 20 letters\x00\x00\x00\x02\x01\x00\x00\x00\x142 word of 20 letters\
+    \x00\x14b word of 20 letters\x00\x00\x00\x03\x01\x00\x00\x00\x143 word of 20 letters\
+    \x00\x00\x00\x00\x00\x02";
+
+// Whichever growth is refused, asked again the store answers as with ample memory, then and later, and its files are the
+// same: the refused event used up no number.
+#[test]
+fn answers_the_same_at_each_refused_growth(rt: HostRuntime) -> Result<(), Fail> {
+    let alloc = rt.alloc();
+    let mut world = empty_world(alloc, 2)?;
+    assert_eq!(rt; first_wrong_long(alloc, &mut world), None);
+    for number in [5u32, 7] {
+        let text = text_at(alloc, &world, number)?;
+        assert_eq!(rt; text.as_slice(), LONG_FILE.as_slice(), "{number}");
+    }
+    Ok(())
+}
+
 // Each phase's way on, and the phase that it leads to.
 const CYCLE: [(Ask, Phase); 5] = [
     (Ask::StartPoint, Phase::Prepare),

@@ -257,4 +257,69 @@ mod tests {
         assert!(rt; !says(rt.alloc(), [1, 3], [one, None], [None, two])?);
         Ok(())
     }
+
+    // Takes memory of its own.
+    const LONG: &[u8] = b"more than 16 bytes";
+
+    // At point 1 that key has that value, and "b" has "2".
+    fn long_log(alloc: Global) -> Result<Vec<Entry>, Refusal> {
+        let mut log = Vec::new(alloc);
+        push_commit(alloc, &mut log, LONG, Some(LONG))?;
+        push_commit(alloc, &mut log, b"b", Some(b"2".as_slice()))?;
+        log.push(Entry::Token(Phase::Resolve, Point(1)))?;
+        Ok(log)
+    }
+
+    fn long_log_at_last(alloc: Global) -> Result<Vec<Entry>, Refusal> {
+        match long_log(alloc) {
+            Err(_) => long_log(alloc),
+            log => log,
+        }
+    }
+
+    // A file of point 1, at which "b" had "2" and the long key had this.
+    fn long_file(alloc: Global, bytes: &[u8]) -> Result<Vec<CompleteFile>, Refusal> {
+        let mut triples = Vec::new(alloc);
+        triples.push(triple(alloc, b"b", 1, Some(b"2".as_slice()))?)?;
+        triples.push(triple(alloc, LONG, 1, Some(bytes))?)?;
+        let mut files = Vec::new(alloc);
+        files.push(CompleteFile {
+            point: Point(1),
+            triples,
+        })?;
+        Ok(files)
+    }
+
+    fn long_file_at_last(alloc: Global, bytes: &[u8]) -> Result<Vec<CompleteFile>, Refusal> {
+        match long_file(alloc, bytes) {
+            Err(_) => long_file(alloc, bytes),
+            files => files,
+        }
+    }
+
+    // What the audit says, asked once more where memory was refused.
+    fn says_at_last(
+        log: &[Entry],
+        files: &[CompleteFile],
+        alloc: Global,
+    ) -> Result<bool, AllocError> {
+        match audit(alloc, &[], log, files) {
+            Err(_) => audit(alloc, &[], log, files),
+            right => right,
+        }
+    }
+
+    // The answer is the same whichever growth is refused.
+    #[test]
+    fn says_the_same_at_each_refused_growth(rt: HostRuntime) -> Result<(), Fail> {
+        let alloc = rt.alloc();
+        let log = long_log_at_last(alloc)?;
+        let right = long_file_at_last(alloc, LONG)?;
+        let wrong = long_file_at_last(alloc, b"less than 17")?;
+        assert!(rt; says_at_last(&log, &right, alloc)?);
+        assert!(rt; !says_at_last(&log, &wrong, alloc)?);
+        assert_eq!(rt; log.len(), 3);
+        assert_eq!(rt; right.len(), 1);
+        Ok(())
+    }
 }

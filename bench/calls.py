@@ -1,0 +1,68 @@
+#!/usr/bin/env python3
+"""Measures library calls by the program `pc_bench`: several runs, the least and the greatest time, and the peak of memory.
+
+    bench/calls.py join 1000000           the join of two parts of so many entries each, and its text
+    bench/calls.py points 100 1000        so many points over so many keys: the time for a key that is taken
+
+Build the program first, by `rt run` in the folder crates/pc_bench.
+"""
+
+import os
+import sys
+import tempfile
+
+PROGRAM = os.path.join(os.path.dirname(os.path.abspath(__file__)), "..", "crates", "pc_bench", "out", "pc_bench")
+RUNS = 7
+GROUPS = 10
+
+
+def run(words):
+    """What one run prints, and its peak memory in bytes."""
+    with tempfile.TemporaryFile() as output:
+        child = os.posix_spawn(PROGRAM, [PROGRAM, "--times", *words], os.environ, file_actions=[(os.POSIX_SPAWN_DUP2, output.fileno(), 1)])
+        _, status, usage = os.wait4(child, 0)
+        if status != 0:
+            sys.exit("the program ended with status %d" % os.waitstatus_to_exitcode(status))
+        output.seek(0)
+        return output.read().decode("ascii").split("\n")[:-1], usage.ru_maxrss * 1024
+
+
+def spread(text, numbers):
+    return "%s %.1f to %.1f" % (text, min(numbers), max(numbers))
+
+
+def measure_join(words):
+    """The join's times and its memory, of several runs."""
+    runs = [run(["join", *words]) for _ in range(RUNS)]
+    told = [dict(line.split() for line in lines) for lines, _ in runs]
+    entries, size = int(told[0]["entries"]), int(told[0]["bytes"])
+    peak = max(memory for _, memory in runs)
+    print("%d entries, %d bytes, %d runs" % (entries, size, RUNS))
+    print(spread("join, ms:", [int(t["join_us"]) / 1e3 for t in told]))
+    print(spread("encode, ms:", [int(t["encode_us"]) / 1e3 for t in told]))
+    print(spread("encode, MB a second:", [size / int(t["encode_us"]) for t in told]))
+    print("peak %.0f MB, %.0f bytes for an entry of the join" % (peak / 1e6, peak / entries))
+
+
+def measure_points(words):
+    """The time for a key that is taken, by how many points were taken before; of each point the least of several runs."""
+    runs = [[line.split() for line in run(["points", *words])[0]] for _ in range(RUNS)]
+    points = len(runs[0])
+    least = [min(int(told[i][5]) / int(told[i][3]) for told in runs) for i in range(points)]
+    print("%d points over %s keys, %d runs" % (points, words[1], RUNS))
+    group = max(1, points // GROUPS)
+    for first in range(0, points, group):
+        some = least[first : first + group]
+        print("points %d to %d: %s" % (first + 1, first + len(some), spread("us a key taken:", some)))
+
+
+def main():
+    measures = {"join": measure_join, "points": measure_points}
+    if len(sys.argv) < 3 or sys.argv[1] not in measures:
+        sys.exit(__doc__)
+    if not os.access(PROGRAM, os.X_OK):
+        sys.exit("%s is not there: build it first" % PROGRAM)
+    measures[sys.argv[1]](sys.argv[2:])
+
+
+main()

@@ -1,0 +1,84 @@
+//! Measures calls of the libraries: each sub-command does so much work, and tells what came of it.
+#![tactic(auto)]
+
+mod failure;
+mod joins;
+mod options;
+mod points;
+#[cfg(test)]
+mod tests;
+
+use clap::error::ErrorKind;
+use failure::Failure;
+use joins::measure_join;
+use options::{Cycles, Options, Work, options_of};
+use points::measure_points;
+use std::process::ExitCode;
+use std::{env, io};
+
+fn main(rt: HostRuntime) -> ExitCode {
+    match run_command(&rt) {
+        Ok(status) => ExitCode::from(status),
+        Err(_) => ExitCode::from(1),
+    }
+}
+
+fn run_command(rt: &HostRuntime) -> io::Result<u8> {
+    let alloc = rt.alloc();
+    let mut texts = Vec::new(alloc);
+    for text in env::args(rt)? {
+        texts.push(text)?;
+    }
+    let mut words: Vec<&str> = Vec::new(alloc);
+    for text in &texts {
+        words.push(text.as_str())?;
+    }
+    match options_of(alloc, &words) {
+        Ok(Some(options)) => run_work(rt, &options),
+        Ok(None) => Ok(2),
+        Err(e) if e.kind() == ErrorKind::OutOfMemory => Ok(1),
+        Err(e) => {
+            e.print(rt)?;
+            Ok(if e.use_stderr() { 2 } else { 0 })
+        }
+    }
+}
+
+// Does the work and tells of it. The status is 1 where a call was refused.
+fn run_work(rt: &HostRuntime, options: &Options) -> io::Result<u8> {
+    let done = match options.work {
+        Work::Join { entries } => run_join(rt, entries, options.is_timed),
+        Work::Points(cycles) => run_points(rt, cycles, options.is_timed),
+    };
+    match done {
+        Ok(()) => Ok(0),
+        Err(Failure::System(e)) => Err(e),
+        Err(Failure::Refused(why)) => {
+            eprintln!(rt; "pc_bench: {why}")?;
+            Ok(1)
+        }
+    }
+}
+
+fn run_join(rt: &HostRuntime, entries: u32, is_timed: bool) -> Result<(), Failure> {
+    let done = measure_join(rt.alloc(), rt, entries)?;
+    println!(rt; "entries {}", done.entries)?;
+    println!(rt; "bytes {}", done.text.len())?;
+    if is_timed {
+        println!(rt; "join_us {}", done.joining.as_micros())?;
+        println!(rt; "encode_us {}", done.encoding.as_micros())?;
+    }
+    Ok(())
+}
+
+fn run_points(rt: &HostRuntime, cycles: Cycles, is_timed: bool) -> Result<(), Failure> {
+    let done = measure_points(rt.alloc(), rt, cycles)?;
+    for (i, cycle) in done.iter().enumerate() {
+        print!(rt; "point {} taken {}", i + 1, cycle.taken)?;
+        if is_timed {
+            print!(rt; " take_us {}", cycle.taking.as_micros())?;
+        }
+        println!(rt; "")?;
+    }
+    Ok(())
+}

@@ -1,0 +1,105 @@
+//! The command line.
+ghost use Rattle.std.specs.Prelude.{◌≤◌};
+
+use clap::{Arg, ArgAction, ArgMatches, Command, Error};
+use std::alloc::Global;
+
+/// What is measured.
+#[derive(Clone, Copy, Debug)]
+pub enum Work {
+    /// The join of two parts of so many entries each, and the join's text.
+    Join { entries: u32 },
+    /// Cycles in each of which all keys are written and taken.
+    Points(Cycles),
+}
+
+/// How many cycles a store goes through, and how many keys it has, 1 to 1,048,576.
+#[derive(Clone, Copy, Debug)]
+pub struct Cycles {
+    pub points: u16,
+    pub keys: u32,
+    ghost in_range: { (1 ≤ keys) × (keys ≤ 1048576) },
+}
+
+/// What the program is asked to do.
+#[derive(Clone, Copy, Debug)]
+pub struct Options {
+    pub work: Work,
+    /// Whether times are told, which differ from run to run.
+    pub is_timed: bool,
+}
+
+/// What the words ask for, or what is to be told: a fault, or the help that was asked for.
+pub fn options_of<'a>(alloc: Global, words: &'a [&'a str]) -> Result<Option<Options>, Error> {
+    let matches = command(alloc)?.try_get_matches_from(words)?;
+    Ok(asked(&matches))
+}
+
+fn command<'a>(alloc: Global) -> Result<Command<'a>, Error> {
+    let times = Arg::new(alloc, "times")
+        .long("times")
+        .help("Tells times too")
+        .action(ArgAction::SetTrue);
+    Ok(
+        Command::new(alloc, "pc_bench")
+            .about("Measures calls of the libraries")
+            .subcommand_required(true)
+            .arg(times)?
+            .subcommand(join_command(alloc)?)?
+            .subcommand(points_command(alloc)?)?,
+    )
+}
+
+fn join_command<'a>(alloc: Global) -> Result<Command<'a>, Error> {
+    let entries = Arg::new(alloc, "ENTRIES")
+        .help("How many entries each part has, 1 to 100000000")
+        .required(true)
+        .value_parser(clap::value_parser!(u32).range(1..=100_000_000));
+    Ok(
+        Command::new(alloc, "join")
+            .about("Joins two parts and encodes the join")
+            .arg(entries)?,
+    )
+}
+
+fn points_command<'a>(alloc: Global) -> Result<Command<'a>, Error> {
+    let points = Arg::new(alloc, "POINTS")
+        .help("How many points are taken, 1 to 65535")
+        .required(true)
+        .value_parser(clap::value_parser!(u16).range(1..=65_535));
+    let keys = Arg::new(alloc, "KEYS")
+        .help("How many keys are written and taken at each, 1 to 1048576")
+        .required(true)
+        .value_parser(clap::value_parser!(u32).range(1..=1_048_576));
+    Ok(
+        Command::new(alloc, "points")
+            .about("Takes points over keys that are all written before each")
+            .arg(points)?
+            .arg(keys)?,
+    )
+}
+
+fn asked(matches: &ArgMatches) -> Option<Options> {
+    let is_timed = matches.get_flag("times");
+    let (name, matches) = matches.subcommand()?;
+    let work = match name {
+        "join" => join_of(matches)?,
+        "points" => points_of(matches)?,
+        _ => return None,
+    };
+    Some(Options { work, is_timed })
+}
+
+fn join_of(matches: &ArgMatches) -> Option<Work> {
+    let entries = matches.get_one::<u32>("ENTRIES")?;
+    Some(Work::Join { entries })
+}
+
+fn points_of(matches: &ArgMatches) -> Option<Work> {
+    let points = matches.get_one::<u16>("POINTS")?;
+    let keys = matches.get_one::<u32>("KEYS")?;
+    if keys < 1 || 1_048_576 < keys {
+        return None;
+    }
+    Some(Work::Points(Cycles { points, keys }))
+}

@@ -1,0 +1,103 @@
+//! Cycles over keys that are all written before each point.
+ghost use Rattle.std.specs.Prelude.{◌≡◌, ◌≤◌, length, All, IfOk};
+ghost use Rattle.pc_engine.specs.Alone.{IsBuilt};
+
+use crate::failure::Failure;
+use crate::options::Cycles;
+use pc_engine::World;
+use pc_part::Base;
+use pc_types::{Event, Key, Refusal, Reply, SessionNo, Value};
+use std::alloc::Global;
+use std::rt::Clock;
+use std::time::{Duration, Instant};
+
+// How many keys a transaction writes.
+const WRITES: usize = 250;
+
+const SESSION: SessionNo = SessionNo(1);
+
+/// What came of a cycle.
+#[derive(Clone, Copy, Debug)]
+pub struct Cycle {
+    /// How many keys were taken.
+    pub taken: u32,
+    /// How long that took.
+    pub taking: Duration,
+}
+
+/// Goes through so many cycles: writes all keys, and takes them at the point, in each cycle no more than there are.
+pub fn measure_points(
+    alloc: Global,
+    clock: &impl Clock,
+    cycles: Cycles,
+) -> Result<Vec<Cycle>, Failure>
+    ensures cycles { IfOk result (λ done. length done.items ≡ cycles.points) }
+    ensures taken { IfOk result (λ done. All (λ cycle. cycle.taken ≤ cycles.keys) done.items) }
+{
+    let base = Base::start(1, Vec::new(alloc));
+    let mut world = World::new(alloc, base, 1, cycles.keys)?;
+    let mut done = Vec::new(alloc);
+    for _ in 0..cycles.points {
+        write_all(alloc, &mut world, cycles.keys)?;
+        done.push(take_point(clock, &mut world, cycles.keys)?)?;
+    }
+    Ok(done)
+}
+
+// Writes the keys of the numbers below this one.
+fn write_all(alloc: Global, world: &mut World, keys: u32) -> Result<(), Refusal> {
+    for first in (0..keys).step_by(WRITES) {
+        write_some(alloc, world, first, keys)?;
+    }
+    Ok(())
+}
+
+// One transaction, which writes keys from the first on, as many as it may.
+fn write_some(alloc: Global, world: &mut World, first: u32, keys: u32) -> Result<(), Refusal> {
+    ask(world, &Event::Begin(SESSION))?;
+    for number in (first..keys).take(WRITES) {
+        let key = Key::new(alloc, &number.to_be_bytes())?;
+        let value = Value::new(alloc, &number.to_be_bytes())?;
+        ask(world, &Event::Put(SESSION, key, value))?;
+    }
+    ask(world, &Event::Commit(SESSION))?;
+    Ok(())
+}
+
+// A cycle, from its start to rest.
+fn take_point(clock: &impl Clock, world: &mut World, keys: u32) -> Result<Cycle, Failure>
+    ensures { IfOk result (λ cycle. cycle.taken ≤ keys) }
+{
+    ask(world, &Event::StartPoint)?;
+    ask(world, &Event::Seal)?;
+    ask(world, &Event::OpenCapture)?;
+    let start = Instant::now(clock)?;
+    let taken = take_all(world, keys)?;
+    let taking = start.elapsed(clock)?;
+    ask(world, &Event::Done)?;
+    ask(world, &Event::Rest)?;
+    Ok(Cycle { taken, taking })
+}
+
+// Takes keys until none is left, at most so many.
+fn take_all(world: &mut World, keys: u32) -> Result<u32, Refusal>
+    ensures { IfOk result (λ taken. taken ≤ keys) }
+{
+    for taken in 0..keys {
+        match ask(world, &Event::Take)? {
+            Reply::Took(_, _) => {}
+            _ => return Ok(taken),
+        }
+    }
+    Ok(keys)
+}
+
+// The store's answer to the event, where it isn't refused.
+fn ask(world: &mut World, event: &Event) -> Result<Reply, Refusal>
+    requires { IsBuilt event.now }
+{
+    match world.step(event) {
+        Reply::Refused(why) => Err(why),
+        reply => Ok(reply),
+    }
+}

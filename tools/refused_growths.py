@@ -1,0 +1,76 @@
+#!/usr/bin/env python3
+"""Runs each test that is named for it once for each growth that it asks for, with that growth refused.
+
+Such a test's name ends in `at_each_refused_growth`. It asks again where memory was wanting, and wants in the end what it
+would have got with ample memory, so it passes whichever growth is refused. Run `rt test` first in the folders of the
+crates, or of those that are given as arguments; it leaves the tests in out/. A C compiler is needed, as `cc`.
+"""
+
+import os
+import subprocess
+import sys
+import tempfile
+import time
+
+HERE = os.path.dirname(os.path.abspath(__file__))
+CRATES = ("pc_model", "pc_part", "pc_engine")
+MARK = "at_each_refused_growth"
+TOLD = b"a growth was refused"
+MOST_GROWTHS = 10_000
+SECONDS = 60
+
+
+def tests_of(program):
+    """The full names of the tests that are to be run so."""
+    listed = subprocess.run([program, "--list"], capture_output=True, text=True, check=True).stdout
+    names = [line.removesuffix(": test") for line in listed.splitlines() if line.endswith(": test")]
+    return [name for name in names if name.endswith(MARK)]
+
+
+def refuse(library, program, test, number):
+    """Whether a growth of this number was asked for and refused, and whether the test passed."""
+    env = {**os.environ, "LD_PRELOAD": library, "REFUSED_GROWTH": str(number)}
+    run = subprocess.run([program, test], env=env, capture_output=True, timeout=SECONDS)
+    return TOLD in run.stderr, run.returncode == 0
+
+
+def refuse_each(library, program, test):
+    """How many growths there are, and the numbers of those at which the test failed."""
+    failed = []
+    for number in range(1, MOST_GROWTHS):
+        is_refused, has_passed = refuse(library, program, test, number)
+        if not has_passed:
+            failed.append(number)
+        if not is_refused:
+            return number - 1, failed
+    sys.exit("%s: there is no end of growths" % test)
+
+
+def check_crate(library, crate):
+    """Whether each of the crate's tests passes at each growth."""
+    program = os.path.join(HERE, "..", "crates", crate, "out", crate + "_tests")
+    if not os.path.exists(program):
+        sys.exit("%s has no built tests: run `rt test` in its folder first" % crate)
+    tests = tests_of(program)
+    if not tests:
+        sys.exit("%s has no test whose name ends in %s" % (crate, MARK))
+    is_right = True
+    for test in tests:
+        start = time.monotonic()
+        growths, failed = refuse_each(library, program, test)
+        is_right = is_right and growths > 0 and not failed
+        seconds = time.monotonic() - start
+        print("%s %s: %d growths in %.1f s, failed at %s" % (crate, test, growths, seconds, failed or "none"), flush=True)
+    return is_right
+
+
+def main():
+    with tempfile.TemporaryDirectory() as folder:
+        library = os.path.join(folder, "refuse.so")
+        source = os.path.join(HERE, "refused_growths", "refuse.c")
+        subprocess.run(["cc", "-shared", "-fPIC", "-O1", "-fno-builtin", "-o", library, source], check=True)
+        results = [check_crate(library, crate) for crate in sys.argv[1:] or CRATES]
+    sys.exit(0 if all(results) else 1)
+
+
+main()
