@@ -1,0 +1,4 @@
+pub mod Splits
+pub mod RowLemmas
+pub mod Restoring
+pub mod KeyLemmas
