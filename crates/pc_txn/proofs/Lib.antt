@@ -2,3 +2,4 @@ pub mod Splits
 pub mod RowLemmas
 pub mod Restoring
 pub mod KeyLemmas
+pub mod KeyRows
