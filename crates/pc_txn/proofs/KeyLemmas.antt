@@ -1,13 +1,13 @@
 -- Rows of slots that have keys.
-use Rattle.std.proofs.Common.{◌≡◌, ◌≢◌, ℕ, suc, List, [], ◌∷◌, Option, Some, option_map, refl, sym, ap, ◌∙◌, arith, cond, Bool, true, false, eqb}
+use Rattle.std.proofs.Common.{◌≡◌, ℕ, suc, List, [], ◌∷◌, Some, option_map, refl, sym, ap, ◌∙◌, arith, cond, Bool, true, false, eqb}
 use Rattle.std.proofs.lemmas.Bool.Decides.{nat_tests}
 use Rattle.std.proofs.lemmas.Cmp.{eq_by_cmp_equiv}
 use Rattle.pc_model.proofs.Joins.{one_key}
 use Rattle.pc_types.specs.declared.Write.{Write}
 use Rattle.pc_model.specs.Database.{key_order, same_bytes, with_write}
 use Rattle.pc_txn.specs.declared.transaction.Undone.{Undone}
-use Rattle.pc_txn.specs.Changes.{row_of_slot, row_of_key, with_saved}
-use Rattle.pc_txn.specs.Keys.{AreOf, IsAlone, RowsAgree, RowsStayOf}
+use Rattle.pc_txn.specs.Changes.{row_of_key, with_saved}
+use Rattle.pc_txn.specs.Keys.{AreOf, RowsAgree, RowsStayOf}
 
 -- whether a row is the slot's and whether it is the key's is one test
 same_test : (key_of : ℕ → List ℕ) (u : Undone) (w : Write) (slot : ℕ) → w.key ≡ key_of u.slot → (key_of u.slot ≡ key_of slot → u.slot ≡ slot) → same_bytes w.key (key_of slot) ≡ eqb u.slot slot

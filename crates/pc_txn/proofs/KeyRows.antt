@@ -1,5 +1,5 @@
 -- Where a key has its row, sought from the first write on.
-use Rattle.std.proofs.Common.{◌≡◌, ℕ, zero, suc, ◌+◌, ◌<◌, ◌≤◌, List, [], ◌∷◌, length, drop, get_or, Option, Some, None, option_map, refl, sym, ap, ◌∙◌, arith, cond, true, false}
+use Rattle.std.proofs.Common.{◌≡◌, ℕ, suc, ◌+◌, ◌<◌, ◌≤◌, List, [], length, drop, get_or, Option, Some, None, option_map, refl, ap, ◌∙◌, arith, cond, true, false}
 use Rattle.std.proofs.lemmas.Grind.{common_steps}
 use Rattle.pc_types.specs.declared.Write.{Write}
 use Rattle.pc_model.specs.Database.{same_bytes}

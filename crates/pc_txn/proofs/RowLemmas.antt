@@ -1,5 +1,5 @@
 -- Rows of slots and of keys, and an index of them.
-use Rattle.std.proofs.Common.{◌≡◌, ◌≢◌, ℕ, zero, suc, ◌+◌, ◌-◌, ◌<◌, ◌≤◌, List, [], ◌∷◌, ◌++◌, length, get_or, take, set, Option, Some, None, option_map, IfSome, refl, sym, ap, subst, ◌∙◌, arith, cond, Bool, true, false, eqb, ltb, ltb-true, ltb-false}
+use Rattle.std.proofs.Common.{◌≡◌, ℕ, zero, suc, ◌+◌, ◌-◌, ◌<◌, List, [], ◌∷◌, ◌++◌, length, get_or, take, set, Option, Some, None, option_map, IfSome, refl, sym, ap, subst, ◌∙◌, arith, cond, Bool, true, false, eqb, ltb, ltb-true, ltb-false}
 use Rattle.std.proofs.Math.ListN.{get_or-append}
 use Rattle.std.proofs.Math.Seq.{get_or-append_seam}
 use Rattle.std.proofs.lemmas.Grind.{common_steps}

@@ -1,4 +1,4 @@
-use Rattle.std.proofs.Common.{◌≡◌, ℕ, List, Bool, false, cond, Result, Ok, Err, is_ok, is_err, sym}
+use Rattle.std.proofs.Common.{◌≡◌, ℕ, List, false, cond, Result, Ok, Err, is_ok, is_err}
 use Rattle.pc_txn.proofs.Splits.{gap_where_none, rises_with, found_with}
 use Rattle.pc_txn.proofs.index.add.Goals as goal
 

@@ -1,4 +1,4 @@
-use Rattle.std.proofs.Common.{ap, sym, ◌∙◌, arith}
+use Rattle.std.proofs.Common.{arith}
 use Rattle.pc_txn.proofs.Splits.{at_or_gap}
 use Rattle.pc_txn.proofs.index.is_at.Goals as goal
 

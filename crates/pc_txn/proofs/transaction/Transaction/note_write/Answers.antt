@@ -1,4 +1,4 @@
-use Rattle.std.proofs.Common.{◌≡◌, ℕ, ◌<◌, [], ◌∷◌, ◌++◌, length, set, cond, eqb, Some, ap, sym, ◌∙◌}
+use Rattle.std.proofs.Common.{◌≡◌, ◌<◌, [], ◌∷◌, ◌++◌, length, set, cond, eqb, Some, ap, sym, ◌∙◌}
 use Rattle.pc_txn.specs.Indexes.{found}
 use Rattle.pc_txn.specs.Changes.{Changes, row_of_slot}
 use Rattle.pc_txn.proofs.RowLemmas.{noted_again, noted_first, rows_added}

@@ -1,6 +1,5 @@
-use Rattle.std.proofs.Common.{◌≡◌, ℕ, ◌<◌, length, Option, Some, None, IfSome, ap, sym, ◌∙◌, arith}
+use Rattle.std.proofs.Common.{ap, sym, ◌∙◌}
 use Rattle.pc_txn.specs.Indexes.{found}
-use Rattle.pc_txn.specs.Changes.{Changes, AreRows}
 use Rattle.pc_txn.proofs.RowLemmas.{row_within}
 use Rattle.pc_txn.proofs.transaction.Transaction.row.Goals as goal
 
