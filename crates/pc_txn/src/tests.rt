@@ -122,6 +122,7 @@ fn undoes_from_the_last_row(rt: HostRuntime) -> Result<(), Fail> {
     assert_eq!(rt; undone_told(transaction.undo()), Some((5, 8)));
     assert_eq!(rt; undone_told(transaction.undo()), Some((3, 6)));
     assert_eq!(rt; transaction.writes().len(), 1);
+    assert_eq!(rt; transaction.saved().len(), 1);
     write_at_last(rt.alloc(), &mut transaction, 3, 9, 1)?;
     assert_eq!(rt; undone_told(transaction.undo()), Some((3, 9)));
     assert_eq!(rt; undone_told(transaction.undo()), Some((7, 0)));

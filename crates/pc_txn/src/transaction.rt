@@ -72,6 +72,13 @@ impl Transaction {
         self.writes.as_slice()
     }
 
+    /// The slot of each row, with what stood there before the first write, in the order of first writes.
+    pub fn saved(&self) -> &[Undone]
+        ensures { result.now ≡ self.now.saved }
+    {
+        self.saved.as_slice()
+    }
+
     /// Where the slot has its row, counted from 0 in the order of first writes. There stands its final write too.
     pub fn row(&self, slot: SlotId) -> Option<usize>
         ensures row { result ≡ row_of_slot self.now.saved slot }
