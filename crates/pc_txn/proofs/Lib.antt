@@ -1,0 +1,5 @@
+pub mod Splits
+pub mod RowLemmas
+pub mod Restoring
+pub mod KeyLemmas
+pub mod KeyRows

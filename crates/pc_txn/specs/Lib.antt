@@ -1,0 +1,4 @@
+pub mod Changes
+pub mod Indexes
+pub mod Keys
+pub mod Undoing
