@@ -1,12 +1,11 @@
 -- With one session each request is granted.
 use Rattle.std.proofs.Common.{◌≡◌, ℕ, List, [], ◌∷◌, ◌++◌, Option, Some, None, is_some, refl, sym, ap, ◌∙◌, arith, cond, true, false, Bool, not, eqb, ◌||◌}
 use Rattle.std.proofs.lemmas.Bool.Decides.{nat_tests}
-use Rattle.pc_types.specs.declared.Write.{Write}
 use Rattle.pc_types.specs.declared.Step.{Step}
 use Rattle.pc_types.specs.declared.Event.{Event}
 use Rattle.pc_types.specs.declared.Event.TheVariants as asked
 use Rattle.pc_types.specs.declared.Reply.TheVariants as told
-use Rattle.pc_model.specs.Database.{written, with_write, same_bytes}
+use Rattle.pc_model.specs.Database.{written, same_bytes}
 use Rattle.pc_model.specs.History.{History, effect, is_open, writes_of, number_of, has_died}
 use Rattle.pc_model.specs.History.Effect.{Nothing}
 use Rattle.pc_model.specs.Locks.{Request, Outcome, outcome, queue_of, queue_by, queue_after, queue_without, waited_for, waits_by, is_waiting}
@@ -19,6 +18,7 @@ use Rattle.pc_model.specs.Database.{key_cmp, key_order}
 use Rattle.std.specs.declared.cmp.Ordering.{Ordering}
 use Rattle.std.specs.declared.cmp.Ordering.TheVariants.{Less, Equal, Greater}
 use Rattle.std.specs.Ordering.{is_eq}
+use Rattle.pc_model.proofs.WrittenKeys.{held_by}
 use Rattle.pc_engine.specs.Alone.{IsOwn, IsAlone}
 
 pub eqb-same : (n m : ℕ) → n ≡ m → eqb n m ≡ true
@@ -151,28 +151,6 @@ alone_read h k (Some v) is a =
       held = λ o key w. stays_by (number_of 1 h) (queue_of key h) false (same_bytes k key) (a.held o key w);
       asked = λ key o. among_with_key (asked_for h) k key ∙ asked_now (number_of 1 h) (queue_of key h) false (same_bytes k key) (is_among (asked_for h) key) o (a.asked key);
     }
-
-or_none_of : (v : Option (List ℕ)) (b : Bool) → is_some (cond b (Some v) None) ≡ (b || false)
-or_none_of v true = refl
-or_none_of v false = refl
-
-twice : (b : Bool) (v x : Option (List ℕ)) (o : Option (Option (List ℕ))) → is_some (cond b (Some v) o) ≡ (b || is_some (cond b (Some x) o))
-twice true v x o = refl
-twice false v x o = refl
-
-over : (a b : Bool) (x : Option (List ℕ)) (o p : Option (Option (List ℕ))) → is_some o ≡ (b || is_some p) → is_some (cond a (Some x) o) ≡ (b || is_some (cond a (Some x) p))
-over true true x o p e = refl
-over true false x o p e = refl
-over false b x o p e = e
-
--- a write's key is its own, or was written before
-pub held_by : (ws : List Write) (k key : List ℕ) (v : Option (List ℕ)) → is_some (written (with_write ws (record { key = k; value = v })) key) ≡ (same_bytes k key || is_some (written ws key))
-held_by [] k key v = or_none_of v (same_bytes k key)
-held_by (w ∷ ws) k key v = by_match (same_bytes w.key k) refl (held_by ws k key v)
-  where
-    by_match : (b : Bool) → same_bytes w.key k ≡ b → is_some (written (with_write ws (record { key = k; value = v })) key) ≡ (same_bytes k key || is_some (written ws key)) → is_some (written (cond b (record { key = k; value = v } ∷ ws) (w ∷ with_write ws (record { key = k; value = v }))) key) ≡ (same_bytes k key || is_some (cond (same_bytes w.key key) (Some w.value) (written ws key)))
-    by_match true e later = rw (same_key w.key k e) (twice (same_bytes k key) v w.value (written ws key))
-    by_match false e later = over (same_bytes w.key key) (same_bytes k key) w.value (written (with_write ws (record { key = k; value = v })) key) (written ws key) later
 
 pub alone_write : (h : History) (k v : List ℕ) → is_open 1 h ≡ true → IsAlone h → IsAlone (record { event = asked.Put 1 k v; reply = told.Ok } ∷ h)
 alone_write h k v is a =

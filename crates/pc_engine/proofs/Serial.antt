@@ -11,5 +11,5 @@ use Rattle.pc_engine.specs.Stands.{Stands, IsSerial}
 pub is_serial : (w : Store) (history : History) → Stands w history → IsSerial w history
 is_serial w history stands = record {
   contents = λ key. stands.parts.records.stored key ∙ ap (λ log. map_of.get (after w.base.pairs log) key) (sym stands.parts.log);
-  reads = effects_read_right (setting_of w) history stands.single (legal_for_now_has_legal_effects (setting_of w) history stands.legal);
+  reads = effects_read_right (setting_of w) history (legal_for_now_has_legal_effects (setting_of w) history stands.legal);
 }

@@ -22,7 +22,8 @@ use Rattle.pc_engine.specs.declared.records.Record.{Record}
 use Rattle.pc_engine.specs.Store.{Row, record_of, stored, is_recent, is_closed, is_requested, requested, settled, with_settled, settled_rows, closed_record, closed_row, left_of, with_left, left_rows}
 use Rattle.pc_engine.specs.Stands.{AreRecords, is_kept}
 use Rattle.pc_engine.proofs.Rising.{rise_closed, rise_left}
-use Rattle.pc_engine.proofs.Alone.{same_key, held_by, granted_stands, among_with_key}
+use Rattle.pc_model.proofs.WrittenKeys.{held_by}
+use Rattle.pc_engine.proofs.Alone.{same_key, granted_stands, among_with_key}
 
 symm : (a b : List ℕ) → same_bytes a b ≡ same_bytes b a
 symm a b = (eq_by_cmp_equiv key_order.total).symm a b

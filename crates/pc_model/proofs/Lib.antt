@@ -35,3 +35,8 @@ pub mod ExamplesOfCapacity
 pub mod ExamplesOfRefusals
 pub mod ExamplesOfIllegalReplies
 pub mod ExamplesOfRules
+pub mod QueueLaws
+pub mod Holding
+pub mod WrittenKeys
+pub mod SessionLocks
+pub mod LegalQueues

@@ -3,11 +3,7 @@ use Rattle.std.proofs.Common.{◌≡◌, List, [], ◌∷◌, ◌++◌, refl, sy
 use Rattle.std.specs.Prelude.{⊤, MatchBool}
 use Rattle.std.specs.List.{list_all}
 use Rattle.pc_model.specs.Locks.{Request, are_compatible, granted_behind}
-
--- all wait
-abbrev pub AllWait : List Request → Type 0
-AllWait [] = ⊤
-AllWait (r ∷ rs) = (r.granted ≡ false) × AllWait rs
+use Rattle.pc_model.specs.Queues.{AllWait}
 
 -- behind these requests: first granted ones, each of which fits all before it, and then only waiting ones
 abbrev pub IsSoundBehind : List Request → List Request → Type 0

@@ -13,6 +13,7 @@ use Rattle.pc_model.specs.Sets.{Set, number_order}
 use Rattle.pc_model.specs.Files.{File, shelf}
 use Rattle.pc_model.specs.Replies.{Setting, IsLegal, IsLegalHistory}
 use Rattle.pc_model.specs.QuietPoints.{IsLegalHistoryForNow}
+use Rattle.pc_model.specs.Locks.{IsLegalQueue, queue_of}
 use Rattle.pc_model.specs.Reads.{HasRightReads, IsQuiet}
 use Rattle.pc_model.specs.Headline.{HasLegalEffects, HasTokensInOrder, TakesEachKeyOnce, TakesPointValue, IsOfItsPoints, IsMade, JoinsWell, HasHeadline, is_past_token}
 
@@ -37,9 +38,13 @@ PartsMakeStates = (base : Database) (log : List Entry) (point : ℕ) → Precede
 abbrev pub EveryEventHasALegalReply : Type 0
 EveryEventHasALegalReply = (st : Setting) (history : History) (event : Event) → (reply : Reply) × IsLegal st history event reply
 
--- In a legal history of one session the reads of each committed transaction are right.
-abbrev pub OneSessionReadsRight : Type 0
-OneSessionReadsRight = (st : Setting) (history : History) → st.sessions ≡ 1 → IsLegalHistory st history → HasRightReads st.base history
+-- Serial truth: in a legal history, of however many sessions, the reads of each committed transaction are right.
+abbrev pub CommittedReadsAreRight : Type 0
+CommittedReadsAreRight = (st : Setting) (history : History) → IsLegalHistory st history → HasRightReads st.base history
+
+-- After a legal history no two granted requests of a key conflict.
+abbrev pub LocksNeverConflict : Type 0
+LocksNeverConflict = (st : Setting) (history : History) (key : List ℕ) → IsLegalHistory st history → IsLegalQueue (queue_of key history)
 
 -- Each step of a legal history has a legal effect.
 abbrev pub LegalHistoriesHaveLegalEffects : Type 0

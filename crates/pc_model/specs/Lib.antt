@@ -26,3 +26,4 @@ pub mod ExamplesOfCapacity
 pub mod ExamplesOfRefusals
 pub mod ExamplesOfIllegalReplies
 pub mod ExamplesOfRules
+pub mod Queues

@@ -1,5 +1,5 @@
 //! Laws of the definitions. Each function does nothing, and its contract is a law.
-ghost use Rattle.pc_model.specs.Laws.{ReplaysInPieces, CyclesMakeStates, UntouchedKeysStay, PartsMakeStates, EveryEventHasALegalReply, OneSessionReadsRight};
+ghost use Rattle.pc_model.specs.Laws.{ReplaysInPieces, CyclesMakeStates, UntouchedKeysStay, PartsMakeStates, EveryEventHasALegalReply, CommittedReadsAreRight, LocksNeverConflict};
 ghost use Rattle.pc_model.specs.Laws.{LegalHistoriesHaveLegalEffects, HistoriesForNowHaveLegalEffects, HistoriesForNowAreQuiet, TokensStandInOrder, EachKeyIsTakenOnce, QuietContentsStay};
 ghost use Rattle.pc_model.specs.Laws.{JoinsAreContents, FilesAreOfTheirPoints, FilesJoinWell, FilesAreStates};
 
@@ -28,9 +28,14 @@ pub fn every_event_has_a_legal_reply()
     ensures { EveryEventHasALegalReply }
 {}
 
-/// In a legal history of one session the reads of each committed transaction are right.
-pub fn one_session_reads_right()
-    ensures { OneSessionReadsRight }
+/// Serial truth: in a legal history, of however many sessions, the reads of each committed transaction are right.
+pub fn committed_reads_are_right()
+    ensures { CommittedReadsAreRight }
+{}
+
+/// After a legal history no two granted requests of a key conflict.
+pub fn locks_never_conflict()
+    ensures { LocksNeverConflict }
 {}
 
 /// Each step of a legal history has a legal effect.

@@ -1,0 +1,5 @@
+use Rattle.pc_model.proofs.RightReads.{reads_right}
+use Rattle.pc_model.proofs.laws.committed_reads_are_right.Goals as goal
+
+pub returns : goal.returns
+returns c st history legal = reads_right st history legal
