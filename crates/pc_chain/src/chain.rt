@@ -29,7 +29,8 @@ impl<I: Copy> Chain<I> {
     pub fn first<L: Links<Id = I>>(&self, links: &L) -> Option<I>
         ensures { (xs : List I) → IsChain (L.has links.now) (L.next_of links.now) self.now xs → result ≡ first_of xs }
     {
-        self.first
+        let Chain { first, last: _ } = *self;
+        first
     }
 
     /// Adds an id, which isn't in the list, at its end. Of the other ids only the links of those in the list may change, so
@@ -64,7 +65,11 @@ impl<I: Copy> Chain<I> {
 
     /// Takes the id behind `previous` out of the list, the first one where `previous` is None, and gives it; None where
     /// there is no such id. Only the link of `previous` changes, so that each chain without it stays the list that it was.
-    pub fn unlink_after<L: Links<Id = I>>(&mut self, links: &mut L, previous: Option<I>) -> Option<I>
+    pub fn unlink_after<L: Links<Id = I>>(
+        &mut self,
+        links: &mut L,
+        previous: Option<I>,
+    ) -> Option<I>
         requires { (before rest : List I) × IsChain (L.has links.old) (L.next_of links.old) self.old (before ++ rest) × (previous ≡ last_of before) }
         ensures given { (before rest : List I) → IsChain (L.has links.old) (L.next_of links.old) self.old (before ++ rest) → previous ≡ last_of before → result ≡ first_of rest }
         ensures list { (before rest : List I) → IsChain (L.has links.old) (L.next_of links.old) self.old (before ++ rest) → previous ≡ last_of before → IsChain (L.has links.new) (L.next_of links.new) self.new (before ++ rest_of rest) }

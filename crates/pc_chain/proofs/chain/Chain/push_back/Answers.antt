@@ -1,5 +1,4 @@
-use Rattle.std.proofs.Common.{rules, ◌≡◌, ◌≢◌, ◌<◌, ◌^◌, [], ◌∷◌, ◌++◌, List, Option, length, Some, None, IfSome, refl, sym, ◌∙◌, subst}
-use Rattle.pc_chain.specs.Chains.{first_of, last_of, rest_of, Avoids, AreApart, IsChain, SetsLink}
+use Rattle.std.proofs.Common.{refl, sym, ◌∙◌}
 use Rattle.pc_chain.proofs.ChainLaws.{have_last, if_some, avoids_last, first_push, link_after_push, chain_after_push, other_after_push}
 use Rattle.pc_chain.proofs.chain.Chain.push_back.Goals as goal
 

@@ -1,0 +1,7 @@
+//! Strict two-phase locking with wait-die: the requests that transactions make of slots, who is granted, who waits and who dies.
+#![tactic(auto)]
+
+mod queue;
+mod request;
+
+pub use request::{Mode, Outcome};
