@@ -1,1 +1,4 @@
+pub mod ListLaws
 pub mod QueueLaws
+pub mod Rows
+pub mod StateLaws

@@ -1,16 +1,16 @@
 -- The six rules keep a queue settled, and each transaction in it once.
-use Rattle.std.proofs.Common.{◌≡◌, ◌≢◌, ℕ, ◌==◌, List, [], ◌∷◌, ◌++◌, Option, Some, None, Bool, true, false, ◌||◌, ◌&&◌, not, nat_lt, cond, refl, sym, ◌∙◌, ap, subst, ◌<◌, length, set, append-nil, append_assoc, is_some, rules, tests, arith}
+use Rattle.std.proofs.Common.{◌≡◌, ◌≢◌, ℕ, ◌==◌, List, [], ◌∷◌, ◌++◌, Option, Some, None, Bool, true, false, ◌||◌, ◌&&◌, ◌⊎◌, inl, inr, not, nat_lt, cond, refl, sym, ◌∙◌, ap, subst, ◌<◌, length, set, append-nil, append_assoc, is_some, rules, tests, arith}
 use Rattle.std.specs.Prelude.{⊤, MatchBool, filter}
 use Rattle.std.specs.List.{list_any, list_all, find}
 use Rattle.std.proofs.lemmas.List.Elements.{filter-append}
 use Rattle.std.proofs.lemmas.List.Folds.{list_any-append, list_all-append}
 use Rattle.std.proofs.lemmas.Bool.Decides.{nat_tests}
-use Rattle.pc_model.specs.Locks.{Request, Queue, are_compatible, request_in, granted_behind, with_request, Outcome, outcome_of_upgrade, outcome_of_new, queue_after, queue_without}
+use Rattle.pc_model.specs.Locks.{Request, Queue, are_compatible, request_in, granted_behind, with_request, Outcome, outcome, outcome_beside, outcome_of_upgrade, outcome_of_new, queue_after, queue_without}
 use Rattle.pc_model.specs.Locks.Outcome.{Granted, Queued, Died}
 use Rattle.pc_model.proofs.Queues.{AllWait, IsSoundBehind}
 use Rattle.pc_locks.specs.Queues.{IsSettledBehind, stands_in, AreOnce, IsSettled}
 
-abbrev grant : Request → Request
+abbrev pub grant : Request → Request
 grant r = record r { granted = true }
 
 pub match_map : {P Q S T : Type 0} (b : Bool) → (P → S) → (Q → T) → MatchBool b P Q → MatchBool b S T
@@ -329,3 +329,13 @@ pub kept_upgraded : (queue : Queue) (own : Request) → IsSettled queue → requ
     × IsSettledBehind [] (set queue 0 (record own { exclusive = true })) × AreOnce (set queue 0 (record own { exclusive = true }))
 kept_upgraded queue own s f g e o =
     upgraded queue own.transaction own s.0 s.1 f g e (alone_where_granted (list_any (λ r. r.granted && not (r.transaction == own.transaction)) queue) o)
+
+pub either_covered : (a b c : Bool) → b ≡ a → (b ≡ true) ⊎ ((b ≡ false) × (c ≡ false)) → (a || not c) ≡ true
+either_covered a b c e h = elim h [ inl f ↦ rw (sym e, f) | inr f ↦ rw (sym e, f.0, f.1) ]
+
+pub new_outcome : (queue : Queue) (t : ℕ) (exclusive : Bool) → stands_in queue t ≡ false → outcome queue t exclusive ≡ outcome_of_new queue t exclusive
+new_outcome queue t exclusive e = by (request_in queue t) (stands_is queue t ∙ e)
+  where
+    by : (o : Option Request) → is_some o ≡ false → outcome_beside queue t exclusive o ≡ outcome_of_new queue t exclusive
+    by None f = refl
+    by (Some r) f = absurd cc

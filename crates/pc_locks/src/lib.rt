@@ -1,7 +1,11 @@
 //! Strict two-phase locking with wait-die: the requests that transactions make of slots, who is granted, who waits and who dies.
 #![tactic(auto)]
 
+mod lists;
+mod locks;
+
 mod queue;
 mod request;
 
+pub use locks::Locks;
 pub use request::{Mode, Outcome};

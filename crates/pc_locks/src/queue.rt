@@ -1,8 +1,8 @@
 //! The requests of one slot, in the order of arrival.
-ghost use Rattle.std.specs.Prelude.{◌≡◌, ◌==◌, ◌<◌, ◌≤◌, ◌+◌, ◌^◌, ◌++◌, ◌∷◌, [], not, true, false, length, filter, OnOk, OnErr, vec_len, option_copied, nat_lt, ◌||◌, ◌&&◌};
+ghost use Rattle.std.specs.Prelude.{◌≡◌, ◌==◌, ◌<◌, ◌≤◌, ◌+◌, ◌^◌, ◌++◌, ◌∷◌, [], not, true, false, length, filter, OnOk, OnErr, vec_len, option_copied, if◌then◌else◌, nat_lt, ◌||◌, ◌&&◌};
 ghost use Rattle.std.specs.List.{list_any, list_all};
 ghost use Rattle.pc_model.specs.Locks.{Request as LockRequest, are_compatible, request_in, granted_behind, outcome, outcome_of_new, outcome_of_upgrade, queue_after, queue_without, is_ungranted};
-ghost use Rattle.pc_model.specs.Locks.Outcome.{Granted, Queued};
+ghost use Rattle.pc_model.specs.Locks.Outcome.{Granted, Queued, Died};
 ghost use Rattle.pc_locks.specs.Queues.{told, stands_in, IsSettled};
 
 use crate::request::{Outcome, Request};
@@ -64,6 +64,13 @@ impl Queue {
         ensures { told result ≡ outcome self.now.requests transaction exclusive }
     {
         outcome(&self.requests, transaction, exclusive)
+    }
+
+    /// Whether a lock is granted to another transaction.
+    pub(crate) fn is_held_beside(&self, transaction: TxnNo) -> bool
+        ensures { outcome_of_upgrade self.now.requests transaction ≡ (if result then Died else Granted) }
+    {
+        is_held_beside(&self.requests, transaction)
     }
 
     /// Makes room for one more request.
