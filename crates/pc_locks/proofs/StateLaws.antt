@@ -1,14 +1,16 @@
 -- Answering and releasing keep the queues and the lists linked.
-use Rattle.std.proofs.Common.{◌≡◌, ◌≢◌, ℕ, ◌==◌, ◌<◌, ◌⊎◌, inl, inr, List, [], ◌∷◌, ◌++◌, length, Option, Some, None, Bool, true, false, ◌||◌, ◌&&◌, not, cond, set, replicate, refl, sym, ◌∙◌, ap, subst, is_some, append-nil, arith}
-use Rattle.std.specs.Prelude.{⊤, MatchBool, filter}
+use Rattle.std.proofs.Common.{◌≡◌, ◌≢◌, ℕ, ◌==◌, ◌<◌, ◌⊎◌, inl, inr, List, [], ◌∷◌, ◌++◌, length, Option, Some, None, Bool, true, false, ◌||◌, ◌&&◌, not, cond, set, replicate, refl, sym, ◌∙◌, ap, subst, is_some, zero, suc, append-nil, arith}
+use Rattle.std.specs.Prelude.{⊤, MatchBool, filter, Result, Ok, Err, IfOk, OnErr}
 use Rattle.std.specs.List.{list_any, list_all, find}
 use Rattle.std.proofs.lemmas.List.Folds.{list_any-append}
 use Rattle.std.proofs.lemmas.Bool.Decides.{nat_tests}
-use Rattle.pc_model.specs.Locks.{Request, Queue, are_compatible, request_in, granted_behind, with_request, queue_without, is_ungranted}
-use Rattle.pc_locks.specs.Queues.{stands_in}
-use Rattle.pc_locks.specs.States.{Lists, slots_of, queue_at, first_of, rest_of, last_of, is_listed, AreDifferent, AreLinked}
-use Rattle.pc_locks.proofs.Rows.{at_cases, none_at}
-use Rattle.pc_locks.proofs.QueueLaws.{grant, stands_granted, stands_is}
+use Rattle.pc_model.specs.Locks.{Request, Queue, are_compatible, request_in, granted_behind, with_request, queue_after, queue_without, outcome_beside, Outcome, is_ungranted}
+use Rattle.pc_model.specs.Locks.Outcome.{Granted, Queued, Died}
+use Rattle.std.proofs.lemmas.List.{length-map}
+use Rattle.pc_locks.specs.Queues.{Held, stands_in}
+use Rattle.pc_locks.specs.States.{Lists, requests_of, slots_of, queue_at, first_of, rest_of, last_of, is_listed, slots_after, AreDifferent, AreLinked}
+use Rattle.pc_locks.proofs.Rows.{at_cases, none_at, set_back}
+use Rattle.pc_locks.proofs.QueueLaws.{grant, stands_granted, stands_is, with_new}
 
 same_test : (a b : ℕ) → a ≡ b → (a == b) ≡ true
 same_test a b e = grind (arith, nat_tests)
@@ -238,3 +240,136 @@ linked_pop queues lists new_lists s t h f e o k =
               inl c ↦ k.waits u s (others_wait (queue_at queues s) t u a (ap (λ q. is_ungranted (request_in q u)) (sym c.1) ∙ g)) ∙ ap Some (sym c.0)
               | inr c ↦ k.waits u slot (ap (λ q. is_ungranted (request_in q u)) (sym c.1) ∙ g) ] ];
     }
+
+abbrev waits_for : ℕ → Queue → Bool
+waits_for t q = is_ungranted (request_in q t)
+
+pub none_any : (t : ℕ) (queues : List Queue) → ((s : ℕ) → waits_for t (queue_at queues s) ≡ false) → list_any (waits_for t) queues ≡ false
+none_any t [] f = refl
+none_any t (q ∷ qs) f = rw (f 0) (none_any t qs (λ s. f (suc s)))
+
+some_any : (t : ℕ) (queues : List Queue) (s : ℕ) → waits_for t (queue_at queues s) ≡ true → list_any (waits_for t) queues ≡ true
+some_any t [] s e = absurd cc
+some_any t (q ∷ qs) zero e = rw e
+some_any t (q ∷ qs) (suc s) e = rw (some_any t qs s e) (or_true (waits_for t q))
+
+pub ready_at : (t : ℕ) (queues : List Queue) → list_any (waits_for t) queues ≡ false → (s : ℕ) → waits_for t (queue_at queues s) ≡ false
+ready_at t [] e s = refl
+ready_at t (q ∷ qs) e zero = (or_false (waits_for t q) (list_any (waits_for t) qs) e).0
+ready_at t (q ∷ qs) e (suc s) = ready_at t qs (or_false (waits_for t q) (list_any (waits_for t) qs) e).1 s
+
+not_true : (b : Bool) → (b ≡ true → ⊥) → b ≡ false
+not_true true f = absurd (f refl)
+not_true false f = refl
+
+-- only the last of a transaction's slots may have it wait
+pub any_waits : (queues : List Queue) (lists : Lists) (t s : ℕ) → AreLinked queues lists → Some s ≡ last_of (slots_of lists t) → waits_for t (queue_at queues s) ≡ list_any (waits_for t) queues
+any_waits queues lists t s k e = by (waits_for t (queue_at queues s)) refl
+  where
+    by : (b : Bool) → waits_for t (queue_at queues s) ≡ b → b ≡ list_any (waits_for t) queues
+    by true f = sym (some_any t queues s f)
+    by false f = sym (none_any t queues (λ x. not_true (waits_for t (queue_at queues x)) (λ g.
+        let h : Some s ≡ Some x = e ∙ k.waits t x g in
+        let i : s ≡ x = cc in
+        let j : waits_for t (queue_at queues s) ≡ true = ap (λ y. waits_for t (queue_at queues y)) i ∙ g in
+        cc)))
+
+pub none_waiting : (queues : List Queue) (lists : Lists) (t : ℕ) → AreLinked queues lists → None ≡ last_of (slots_of lists t) → false ≡ list_any (waits_for t) queues
+none_waiting queues lists t k e = sym (none_any t queues (λ x. not_true (waits_for t (queue_at queues x)) (λ g. let h : None ≡ Some x = e ∙ k.waits t x g in cc)))
+
+stands_range : (queues : List Queue) (s t : ℕ) → stands_in (queue_at queues s) t ≡ true → s < length queues
+stands_range [] s t e = absurd cc
+stands_range (q ∷ qs) zero t e = omega arith
+stands_range (q ∷ qs) (suc s) t e = let h = stands_range qs s t e in omega (arith, h)
+
+first_listed : (xs : List ℕ) (s : ℕ) → Some s ≡ first_of xs → is_listed xs s ≡ true
+first_listed [] s e = absurd cc
+first_listed (x ∷ xs) s e = let f : s ≡ x = cc in rw (same_test x s (sym f))
+
+last_listed : (xs : List ℕ) (s : ℕ) → Some s ≡ last_of xs → is_listed xs s ≡ true
+last_listed [] s e = absurd cc
+last_listed (x ∷ []) s e = let f : s ≡ x = cc in rw (same_test x s (sym f))
+last_listed (x ∷ y ∷ ys) s e = rw (last_listed (y ∷ ys) s e) (or_true (x == s))
+
+pub first_range : (held : List Held) (lists : Lists) (s t : ℕ) → AreLinked (requests_of held) lists → Some s ≡ first_of (slots_of lists t) → s < length held
+first_range held lists s t k e =
+    let h = stands_range (requests_of held) s t (sym (k.listed t s) ∙ first_listed (slots_of lists t) s e) in
+    omega (arith, h, length-map held (λ (x : Held). x.requests))
+
+pub last_range : (held : List Held) (lists : Lists) (s t : ℕ) → AreLinked (requests_of held) lists → Some s ≡ last_of (slots_of lists t) → s < length held
+last_range held lists s t k e =
+    let h = stands_range (requests_of held) s t (sym (k.listed t s) ∙ last_listed (slots_of lists t) s e) in
+    omega (arith, h, length-map held (λ (x : Held). x.requests))
+
+pub range_of : (held : List Held) (s : ℕ) → s < length (requests_of held) → s < length held
+range_of held s h = omega (arith, h, length-map held (λ (x : Held). x.requests))
+
+pub queues_range : (held : List Held) (s : ℕ) → s < length held → s < length (requests_of held)
+queues_range held s h = omega (arith, h, length-map held (λ (x : Held). x.requests))
+
+pub found_is : (q : Queue) (t : ℕ) (own : Request) → request_in q t ≡ Some own → own.transaction ≡ t
+found_is [] t own e = absurd cc
+found_is (r ∷ rs) t own e = by (r.transaction == t) refl (found_is rs t own) e
+  where
+    by : (b : Bool) → (r.transaction == t) ≡ b → (request_in rs t ≡ Some own → own.transaction ≡ t) → cond b (Some r) (request_in rs t) ≡ Some own → own.transaction ≡ t
+    by true f ih g = let h : r ≡ own = cc in ap (λ (x : Request). x.transaction) (sym h) ∙ test_same r.transaction t f
+    by false f ih g = ih g
+
+pub granted_of : (own : Request) → is_ungranted (Some own) ≡ false → own.granted ≡ true
+granted_of own e = by own.granted e
+  where
+    by : (b : Bool) → not b ≡ false → b ≡ true
+    by true f = refl
+    by false f = absurd cc
+
+pub again_kind : (q : Queue) (t : ℕ) (exclusive : Bool) (own : Request) (o : Outcome) → o ≡ outcome_beside q t exclusive (Some own) → (o ≡ Granted) ⊎ (o ≡ Died)
+again_kind q t exclusive own o e = by (own.exclusive || not exclusive) (list_any (λ r. r.granted && not (r.transaction == t)) q) e
+  where
+    by : (a b : Bool) → o ≡ cond a Granted (cond b Died Granted) → (o ≡ Granted) ⊎ (o ≡ Died)
+    by true b f = inl f
+    by false true f = inr f
+    by false false f = inl f
+
+pub linked_again : (queues : List Queue) (lists : Lists) (s t : ℕ) (exclusive : Bool) (own : Request) (o : Outcome) → s < length queues → (o ≡ Granted) ⊎ (o ≡ Died) → request_in (queue_at queues s) t ≡ Some own →
+    AreLinked queues lists → AreLinked (set queues s (queue_after (queue_at queues s) t exclusive o)) lists
+linked_again queues lists s t exclusive own o h c f k = elim c [
+    inl e ↦ subst (λ x. AreLinked (set queues s (queue_after (queue_at queues s) t exclusive x)) lists) (sym e)
+        (linked_with queues lists s (record { transaction = t; exclusive = exclusive; granted = true }) h (sym (stands_is (queue_at queues s) t) ∙ ap is_some f) k)
+    | inr e ↦ subst (λ x. AreLinked (set queues s (queue_after (queue_at queues s) t exclusive x)) lists) (sym e) (subst (λ x. AreLinked x lists) (sym (set_back queues s)) k) ]
+
+pub list_again : (slots : List ℕ) (s : ℕ) (b : Bool) (o : Outcome) → (o ≡ Granted) ⊎ (o ≡ Died) → b ≡ true → slots ≡ slots_after slots s b o
+list_again slots s b o c e = elim c [ inl f ↦ rw (f, e) | inr f ↦ rw f ]
+
+linked_lists : (queues : List Queue) (lists new_lists : Lists) → ((u : ℕ) → slots_of new_lists u ≡ slots_of lists u) → AreLinked queues lists → AreLinked queues new_lists
+linked_lists queues lists new_lists f k = record {
+  listed = λ t slot. ap (λ xs. is_listed xs slot) (f t) ∙ k.listed t slot;
+  once = λ t. subst AreDifferent (sym (f t)) (k.once t);
+  waits = λ t slot g. ap last_of (f t) ∙ k.waits t slot g;
+}
+
+every : (t : ℕ) (lists new_lists : Lists) → slots_of new_lists t ≡ slots_of lists t → ((u : ℕ) → u ≢ t → slots_of new_lists u ≡ slots_of lists u) → (u : ℕ) → slots_of new_lists u ≡ slots_of lists u
+every t lists new_lists e o u = elim (same_or_other u t) [
+    inl a ↦ subst (λ x. slots_of new_lists x ≡ slots_of lists x) (sym a) e
+    | inr a ↦ o u a ]
+
+pub linked_first : (queues : List Queue) (lists new_lists : Lists) (s t : ℕ) (exclusive : Bool) (o : Outcome) → s < length queues → stands_in (queue_at queues s) t ≡ false →
+    ((slot : ℕ) → is_ungranted (request_in (queue_at queues slot) t) ≡ false) →
+    slots_of new_lists t ≡ slots_after (slots_of lists t) s false o → ((u : ℕ) → u ≢ t → slots_of new_lists u ≡ slots_of lists u) →
+    AreLinked queues lists → AreLinked (set queues s (queue_after (queue_at queues s) t exclusive o)) new_lists
+linked_first queues lists new_lists s t exclusive Granted h f w e others k =
+    let n : Request = record { transaction = t; exclusive = exclusive; granted = true } in
+    subst (λ x. AreLinked (set queues s x) new_lists) (sym (with_new (queue_at queues s) n f)) (linked_push queues lists new_lists s n h f w e others k)
+linked_first queues lists new_lists s t exclusive Queued h f w e others k =
+    linked_push queues lists new_lists s (record { transaction = t; exclusive = exclusive; granted = false }) h f w e others k
+linked_first queues lists new_lists s t exclusive Died h f w e others k =
+    subst (λ x. AreLinked x new_lists) (sym (set_back queues s)) (linked_lists queues lists new_lists (every t lists new_lists e others) k)
+
+pub linked_result : {A E : Type 0} (result : Result A E) (told : A → Outcome) (queues new_queues : List Queue) (lists new_lists : Lists) (s t : ℕ) (exclusive : Bool) → s < length queues → stands_in (queue_at queues s) t ≡ false →
+    ((slot : ℕ) → is_ungranted (request_in (queue_at queues slot) t) ≡ false) →
+    IfOk result (λ a. new_queues ≡ set queues s (queue_after (queue_at queues s) t exclusive (told a))) →
+    IfOk result (λ a. slots_of new_lists t ≡ slots_after (slots_of lists t) s false (told a)) → ((u : ℕ) → u ≢ t → slots_of new_lists u ≡ slots_of lists u) →
+    OnErr result ((new_queues ≡ queues) × (new_lists ≡ lists)) → AreLinked queues lists → AreLinked new_queues new_lists
+linked_result (Ok a) told queues new_queues lists new_lists s t exclusive h f w q e others err k =
+    subst (λ x. AreLinked x new_lists) (sym q) (linked_first queues lists new_lists s t exclusive (told a) h f w e others k)
+linked_result (Err x) told queues new_queues lists new_lists s t exclusive h f w q e others err k =
+    subst (λ x. AreLinked x new_lists) (sym err.0) (subst (λ x. AreLinked queues x) (sym err.1) k)

@@ -32,6 +32,75 @@ impl Model for Locks {
     ghost invariant = { λ a. AreLinked (requests_of a.queues.items) a.lists.entries };
 }
 
+impl Locks {
+    /// Locks of the slots 0 to `slots` - 1: no request stands. It fails only where memory ran out.
+    pub fn new(alloc: Global, slots: u32) -> Result<Locks, AllocError>
+        requires { (1 ≤ slots) × (slots ≤ 1048576) }
+        ensures { IfOk result (λ locks. (locks.queues ≡ replicate slots []) × (locks.lists ≡ [])) }
+    {
+        let queues = queues_of(alloc, slots)?;
+        Ok(Locks {
+            alloc,
+            queues,
+            lists: BTreeMap::new(alloc),
+        })
+    }
+
+    /// Answers a transaction's request of a slot. What the own lock covers is granted at once, and a new request where it is
+    /// compatible with every other one. Else it waits where the transaction is older than each of the others, and else it
+    /// dies and leaves no request; an upgrade beside another reader dies too, and the shared lock stays. A lock stands until
+    /// it is released. The transaction may have no request that waits. It fails only where memory ran out, and then nothing
+    /// changed.
+    pub fn request(&mut self, transaction: TxnNo, slot: SlotId, mode: Mode) -> Result<Outcome, AllocError>
+        requires slot { slot < length self.old.queues }
+        requires ready { is_waiting self.old transaction ≡ false }
+        ensures told { IfOk result (λ answer. told answer ≡ outcome (queue_at self.old.queues slot) transaction (is_exclusive mode)) }
+        ensures queues { IfOk result (λ answer. self.new.queues ≡ slice_set self.old.queues slot (queue_after (queue_at self.old.queues slot) transaction (is_exclusive mode) (told answer))) }
+        ensures list { IfOk result (λ answer. slots_of self.new.lists transaction ≡ slots_after (slots_of self.old.lists transaction) slot (stands_in (queue_at self.old.queues slot) transaction) (told answer)) }
+        ensures others { (other : ℕ) → other ≢ transaction → slots_of self.new.lists other ≡ slots_of self.old.lists other }
+        ensures err { OnErr result (self.new ≡ self.old) }
+    {
+        let exclusive = mode.is_exclusive();
+        match self.queues[slot.0 as usize].request_of(transaction) {
+            Some(own) => Ok(again(&mut self.queues, slot.0 as usize, own, exclusive)),
+            None => first(self.alloc, &mut self.queues, &mut self.lists, slot, transaction, exclusive),
+        }
+    }
+
+    /// Removes the first request of the transaction's list, grants from the front of that slot's queue, and gives the slot;
+    /// None exactly where the transaction has no request. It takes no memory and always succeeds, so that repeated it
+    /// releases all.
+    pub fn release_one(&mut self, transaction: TxnNo) -> Option<SlotId>
+        ensures given { result ≡ first_of (slots_of self.old.lists transaction) }
+        ensures list { slots_of self.new.lists transaction ≡ rest_of (slots_of self.old.lists transaction) }
+        ensures others { (other : ℕ) → other ≢ transaction → slots_of self.new.lists other ≡ slots_of self.old.lists other }
+        ensures queues { self.new.queues ≡ queues_without self.old.queues transaction result }
+        ensures none { IfNone result (self.new ≡ self.old) }
+    {
+        let slot = lists::pop(&mut self.lists, transaction.0)?;
+        remove(&mut self.queues, slot.0 as usize, transaction);
+        Some(slot)
+    }
+
+    /// Whether a request of the transaction waits.
+    pub fn is_waiting(&self, transaction: TxnNo) -> bool
+        ensures { result ≡ is_waiting self.now transaction }
+    {
+        match lists::last(&self.lists, transaction.0) {
+            Some(slot) => self.queues[slot.0 as usize].is_waiting(transaction),
+            None => false,
+        }
+    }
+
+    /// Whether a request of the slot stands, granted or waiting.
+    pub fn has_request(&self, slot: SlotId) -> bool
+        requires { slot < length self.now.queues }
+        ensures { result ≡ not (length (queue_at self.now.queues slot) == 0) }
+    {
+        !self.queues[slot.0 as usize].is_empty()
+    }
+}
+
 // A queue for each slot.
 fn queues_of(alloc: Global, slots: u32) -> Result<Vec<Queue>, AllocError>
     ensures { IfOk result (λ queues. requests_of queues.items ≡ replicate slots []) }
@@ -91,4 +160,59 @@ fn remove(queues: &mut Vec<Queue>, slot: usize, transaction: TxnNo)
     ensures { requests_of queues.new.items ≡ slice_set (requests_of queues.old.items) slot (queue_without (queue_at (requests_of queues.old.items) slot) transaction) }
 {
     queues[slot].remove(transaction);
+}
+
+// Answers a transaction's first request of a slot.
+fn first(
+    alloc: Global,
+    queues: &mut Vec<Queue>,
+    lists: &mut BTreeMap<u64, Slots>,
+    slot: SlotId,
+    transaction: TxnNo,
+    exclusive: bool,
+) -> Result<Outcome, AllocError>
+    requires slot { slot < length queues.old.items }
+    requires fresh { stands_in (queue_at (requests_of queues.old.items) slot) transaction ≡ false }
+    ensures told { IfOk result (λ answer. told answer ≡ outcome_of_new (queue_at (requests_of queues.old.items) slot) transaction exclusive) }
+    ensures queues { IfOk result (λ answer. requests_of queues.new.items ≡ slice_set (requests_of queues.old.items) slot (queue_after (queue_at (requests_of queues.old.items) slot) transaction exclusive (told answer))) }
+    ensures list { IfOk result (λ answer. slots_of lists.new.entries transaction ≡ slots_after (slots_of lists.old.entries transaction) slot false (told answer)) }
+    ensures others { (other : ℕ) → other ≢ transaction → slots_of lists.new.entries other ≡ slots_of lists.old.entries other }
+    ensures err { OnErr result ((requests_of queues.new.items ≡ requests_of queues.old.items) × (lists.new.entries ≡ lists.old.entries)) }
+{
+    let answer = queues[slot.0 as usize].outcome_of_new(transaction, exclusive);
+    match answer {
+        Outcome::Died => Ok(answer),
+        Outcome::Granted => {
+            enter(alloc, queues, lists, slot, transaction, exclusive, answer)?;
+            Ok(answer)
+        }
+        Outcome::Queued => {
+            enter(alloc, queues, lists, slot, transaction, exclusive, answer)?;
+            Ok(answer)
+        }
+    }
+}
+
+// Adds a request and lists its slot. All memory is taken before anything changes.
+fn enter(
+    alloc: Global,
+    queues: &mut Vec<Queue>,
+    lists: &mut BTreeMap<u64, Slots>,
+    slot: SlotId,
+    transaction: TxnNo,
+    exclusive: bool,
+    answer: Outcome,
+) -> Result<(), AllocError>
+    requires slot { slot < length queues.old.items }
+    requires fresh { stands_in (queue_at (requests_of queues.old.items) slot) transaction ≡ false }
+    requires told { told answer ≡ outcome_of_new (queue_at (requests_of queues.old.items) slot) transaction exclusive }
+    ensures queues { OnOk result (requests_of queues.new.items ≡ slice_set (requests_of queues.old.items) slot (queue_after (queue_at (requests_of queues.old.items) slot) transaction exclusive (told answer))) }
+    ensures list { OnOk result (slots_of lists.new.entries transaction ≡ slots_of lists.old.entries transaction ++ slot ∷ []) }
+    ensures others { (other : ℕ) → other ≢ transaction → slots_of lists.new.entries other ≡ slots_of lists.old.entries other }
+    ensures err { OnErr result ((requests_of queues.new.items ≡ requests_of queues.old.items) × (lists.new.entries ≡ lists.old.entries)) }
+{
+    reserve(queues, slot.0 as usize)?;
+    lists::push(alloc, lists, transaction.0, slot)?;
+    add(queues, slot.0 as usize, transaction, exclusive, answer);
+    Ok(())
 }

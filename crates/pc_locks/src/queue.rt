@@ -59,11 +59,21 @@ impl Queue {
         request_of(&self.requests, transaction)
     }
 
-    /// How a request is answered.
-    pub(crate) fn outcome(&self, transaction: TxnNo, exclusive: bool) -> Outcome
-        ensures { told result ≡ outcome self.now.requests transaction exclusive }
+    /// Whether the transaction's request waits.
+    pub(crate) fn is_waiting(&self, transaction: TxnNo) -> bool
+        ensures { result ≡ is_ungranted (request_in self.now.requests transaction) }
     {
-        outcome(&self.requests, transaction, exclusive)
+        match self.request_of(transaction) {
+            Some(own) => !own.granted,
+            None => false,
+        }
+    }
+
+    /// How a request of a transaction that has none here is answered.
+    pub(crate) fn outcome_of_new(&self, transaction: TxnNo, exclusive: bool) -> Outcome
+        ensures { told result ≡ outcome_of_new self.now.requests transaction exclusive }
+    {
+        outcome_of_new(&self.requests, transaction, exclusive)
     }
 
     /// Whether a lock is granted to another transaction.
@@ -192,23 +202,7 @@ fn grant(requests: &mut Vec<Request>)
     }
 }
 
-// How the request is answered.
-fn outcome(requests: &[Request], transaction: TxnNo, exclusive: bool) -> Outcome
-    ensures { told result ≡ outcome requests.now transaction exclusive }
-{
-    match request_of(requests, transaction) {
-        Some(own) => {
-            if own.exclusive || !exclusive || !is_held_beside(requests, transaction) {
-                Outcome::Granted
-            } else {
-                Outcome::Died
-            }
-        }
-        None => outcome_of_new(requests, transaction, exclusive),
-    }
-}
-
-// The same for a transaction that has no request here.
+// How the request of a transaction that has none here is answered.
 fn outcome_of_new(requests: &[Request], transaction: TxnNo, exclusive: bool) -> Outcome
     ensures { told result ≡ outcome_of_new requests.now transaction exclusive }
 {

@@ -1,4 +1,7 @@
 //! Requests, and how they are answered.
+ghost use Rattle.std.specs.Prelude.{◌≡◌};
+ghost use Rattle.pc_locks.specs.Queues.{is_exclusive};
+
 use pc_types::TxnNo;
 use std::marker::Model;
 
@@ -9,6 +12,17 @@ pub enum Mode {
     Shared,
     /// To write: no other transaction may read or write.
     Exclusive,
+}
+
+impl Mode {
+    pub(crate) fn is_exclusive(self) -> bool
+        ensures { result ≡ is_exclusive self }
+    {
+        match self {
+            Mode::Shared => false,
+            Mode::Exclusive => true,
+        }
+    }
 }
 
 /// How a request is answered.
