@@ -1,3 +1,4 @@
+pub mod Legal
 pub mod ListLaws
 pub mod QueueLaws
 pub mod Rows

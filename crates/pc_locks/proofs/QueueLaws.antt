@@ -286,7 +286,7 @@ upgraded (r ∷ rs) t own s o f g e n = by (r.transaction == t) refl f
         let gr : r.granted ≡ true = ap (λ (q : Request). q.granted) i ∙ g in
         let m = or_false (r.granted && not (r.transaction == t)) (list_any (λ q. q.granted && not (q.transaction == t)) rs) n in
         let P : Request → Type 0 = λ own. (0 < length (r ∷ rs)) × ((record r { exclusive = r.exclusive || true } ∷ rs) ≡ (record own { exclusive = true } ∷ rs))
-            × IsSettledBehind [] (record own { exclusive = true } ∷ rs) × AreOnce (record own { exclusive = true } ∷ rs) in
+        × IsSettledBehind [] (record own { exclusive = true } ∷ rs) × AreOnce (record own { exclusive = true } ∷ rs) in
         subst P i (omega arith, ap (λ x. record r { exclusive = x } ∷ rs) (or_true r.exclusive), back_true _ _ r.granted gr (refl, waiting_behind r t rs h o.0 m.1 (where_true _ _ r.granted gr s).1), o)
     by false h k =
         let m = or_false (r.granted && not (r.transaction == t)) (list_any (λ q. q.granted && not (q.transaction == t)) rs) n in

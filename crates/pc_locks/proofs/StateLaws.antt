@@ -79,12 +79,14 @@ pub linked_same : (queues : List Queue) (lists : Lists) (s : ℕ) (q : Queue) �
     ((u : ℕ) → is_ungranted (request_in q u) ≡ true → is_ungranted (request_in (queue_at queues s) u) ≡ true) → AreLinked queues lists → AreLinked (set queues s q) lists
 linked_same queues lists s q h e w k = record {
   listed = λ t slot. k.listed t slot ∙ elim (at_cases queues s q slot h) [
-      inl c ↦ ap (λ x. stands_in (queue_at queues x) t) c.0 ∙ (sym (e t) ∙ ap (λ x. stands_in x t) (sym c.1))
-      | inr c ↦ ap (λ x. stands_in x t) (sym c.1) ];
+    | inl c ↦ ap (λ x. stands_in (queue_at queues x) t) c.0 ∙ (sym (e t) ∙ ap (λ x. stands_in x t) (sym c.1))
+    | inr c ↦ ap (λ x. stands_in x t) (sym c.1)
+  ];
   once = k.once;
   waits = λ t slot g. elim (at_cases queues s q slot h) [
-      inl c ↦ k.waits t s (w t (ap (λ x. is_ungranted (request_in x t)) (sym c.1) ∙ g)) ∙ ap Some (sym c.0)
-      | inr c ↦ k.waits t slot (ap (λ x. is_ungranted (request_in x t)) (sym c.1) ∙ g) ];
+    | inl c ↦ k.waits t s (w t (ap (λ x. is_ungranted (request_in x t)) (sym c.1) ∙ g)) ∙ ap Some (sym c.0)
+    | inr c ↦ k.waits t slot (ap (λ x. is_ungranted (request_in x t)) (sym c.1) ∙ g)
+  ];
 }
 
 pub linked_with : (queues : List Queue) (lists : Lists) (s : ℕ) (n : Request) → s < length queues → stands_in (queue_at queues s) n.transaction ≡ true → AreLinked queues lists → AreLinked (set queues s (with_request (queue_at queues s) n)) lists
@@ -131,23 +133,30 @@ pub linked_push : (queues : List Queue) (lists new_lists : Lists) (s : ℕ) (n :
     AreLinked queues lists → AreLinked (set queues s (queue_at queues s ++ n ∷ [])) new_lists
 linked_push queues lists new_lists s n h f w e o k = record {
   listed = λ t slot. elim (same_or_other t n.transaction) [
-      inl a ↦ subst (λ x. is_listed (slots_of new_lists x) slot ≡ stands_in (queue_at (set queues s (queue_at queues s ++ n ∷ [])) slot) x) (sym a)
-          (ap (λ xs. is_listed xs slot) e ∙ (listed_push (slots_of lists n.transaction) s slot ∙ elim (at_cases queues s (queue_at queues s ++ n ∷ []) slot h) [
-              inl c ↦ one_more (is_listed (slots_of lists n.transaction) slot) s slot (sym c.0) ∙ sym (ap (λ q. stands_in q n.transaction) c.1 ∙ (stands_push (queue_at queues s) n n.transaction ∙ one_more (stands_in (queue_at queues s) n.transaction) n.transaction n.transaction refl))
-              | inr c ↦ no_more (is_listed (slots_of lists n.transaction) slot) s slot (λ g. c.0 (sym g)) ∙ (k.listed n.transaction slot ∙ ap (λ q. stands_in q n.transaction) (sym c.1)) ]))
-      | inr a ↦ ap (λ xs. is_listed xs slot) (o t a) ∙ (k.listed t slot ∙ elim (at_cases queues s (queue_at queues s ++ n ∷ []) slot h) [
-              inl c ↦ sym (ap (λ q. stands_in q t) c.1 ∙ (stands_push (queue_at queues s) n t ∙ (no_more (stands_in (queue_at queues s) t) n.transaction t (λ g. a (sym g)) ∙ ap (λ x. stands_in (queue_at queues x) t) (sym c.0))))
-              | inr c ↦ ap (λ q. stands_in q t) (sym c.1) ]) ];
+    | inl a ↦ subst (λ x. is_listed (slots_of new_lists x) slot ≡ stands_in (queue_at (set queues s (queue_at queues s ++ n ∷ [])) slot) x) (sym a)
+        (ap (λ xs. is_listed xs slot) e ∙ (listed_push (slots_of lists n.transaction) s slot ∙ elim (at_cases queues s (queue_at queues s ++ n ∷ []) slot h) [
+          | inl c ↦ one_more (is_listed (slots_of lists n.transaction) slot) s slot (sym c.0) ∙ sym (ap (λ q. stands_in q n.transaction) c.1 ∙ (stands_push (queue_at queues s) n n.transaction ∙ one_more (stands_in (queue_at queues s) n.transaction) n.transaction n.transaction refl))
+          | inr c ↦ no_more (is_listed (slots_of lists n.transaction) slot) s slot (λ g. c.0 (sym g)) ∙ (k.listed n.transaction slot ∙ ap (λ q. stands_in q n.transaction) (sym c.1))
+        ]))
+    | inr a ↦ ap (λ xs. is_listed xs slot) (o t a) ∙ (k.listed t slot ∙ elim (at_cases queues s (queue_at queues s ++ n ∷ []) slot h) [
+      | inl c ↦ sym (ap (λ q. stands_in q t) c.1 ∙ (stands_push (queue_at queues s) n t ∙ (no_more (stands_in (queue_at queues s) t) n.transaction t (λ g. a (sym g)) ∙ ap (λ x. stands_in (queue_at queues x) t) (sym c.0))))
+      | inr c ↦ ap (λ q. stands_in q t) (sym c.1)
+    ])
+  ];
   once = λ t. elim (same_or_other t n.transaction) [
-      inl a ↦ subst (λ x. AreDifferent (slots_of new_lists x)) (sym a) (subst AreDifferent (sym e) (different_push (slots_of lists n.transaction) s (k.once n.transaction) (k.listed n.transaction s ∙ f)))
-      | inr a ↦ subst AreDifferent (sym (o t a)) (k.once t) ];
+    | inl a ↦ subst (λ x. AreDifferent (slots_of new_lists x)) (sym a) (subst AreDifferent (sym e) (different_push (slots_of lists n.transaction) s (k.once n.transaction) (k.listed n.transaction s ∙ f)))
+    | inr a ↦ subst AreDifferent (sym (o t a)) (k.once t)
+  ];
   waits = λ t slot g. elim (same_or_other t n.transaction) [
-      inl a ↦ elim (at_cases queues s (queue_at queues s ++ n ∷ []) slot h) [
-          inl c ↦ ap (λ x. last_of (slots_of new_lists x)) a ∙ (ap last_of e ∙ (last_push (slots_of lists n.transaction) s ∙ ap Some (sym c.0)))
-          | inr c ↦ absurd (let z : false ≡ true = sym (w slot) ∙ (ap (λ x. is_ungranted (request_in (queue_at queues slot) x)) (sym a) ∙ (ap (λ q. is_ungranted (request_in q t)) (sym c.1) ∙ g)) in cc) ]
-      | inr a ↦ ap last_of (o t a) ∙ elim (at_cases queues s (queue_at queues s ++ n ∷ []) slot h) [
-          inl c ↦ k.waits t s (sym (ungranted_push (queue_at queues s) n t (λ z. a (sym z))) ∙ (ap (λ q. is_ungranted (request_in q t)) (sym c.1) ∙ g)) ∙ ap Some (sym c.0)
-          | inr c ↦ k.waits t slot (ap (λ q. is_ungranted (request_in q t)) (sym c.1) ∙ g) ] ];
+    | inl a ↦ elim (at_cases queues s (queue_at queues s ++ n ∷ []) slot h) [
+      | inl c ↦ ap (λ x. last_of (slots_of new_lists x)) a ∙ (ap last_of e ∙ (last_push (slots_of lists n.transaction) s ∙ ap Some (sym c.0)))
+      | inr c ↦ absurd (let z : false ≡ true = sym (w slot) ∙ (ap (λ x. is_ungranted (request_in (queue_at queues slot) x)) (sym a) ∙ (ap (λ q. is_ungranted (request_in q t)) (sym c.1) ∙ g)) in cc)
+    ]
+    | inr a ↦ ap last_of (o t a) ∙ elim (at_cases queues s (queue_at queues s ++ n ∷ []) slot h) [
+      | inl c ↦ k.waits t s (sym (ungranted_push (queue_at queues s) n t (λ z. a (sym z))) ∙ (ap (λ q. is_ungranted (request_in q t)) (sym c.1) ∙ g)) ∙ ap Some (sym c.0)
+      | inr c ↦ k.waits t slot (ap (λ q. is_ungranted (request_in q t)) (sym c.1) ∙ g)
+    ]
+  ];
 }
 
 -- releasing
@@ -222,23 +231,30 @@ linked_pop queues lists new_lists s t h f e o k =
     let others = at_cases queues s (queue_without (queue_at queues s) t) in
     record {
       listed = λ u slot. elim (same_or_other u t) [
-          inl a ↦ subst (λ x. is_listed (slots_of new_lists x) slot ≡ stands_in (queue_at (set queues s (queue_without (queue_at queues s) t)) slot) x) (sym a)
-              (ap (λ xs. is_listed xs slot) e ∙ elim (others slot h) [
-                  inl c ↦ ap (is_listed rest) c.0 ∙ (d.0 ∙ sym (ap (λ q. stands_in q t) c.1 ∙ gone (queue_at queues s) t))
-                  | inr c ↦ sym (ap (λ b. b || is_listed rest slot) (other_test s slot (λ g. c.0 (sym g)))) ∙ (sym (ap (λ xs. is_listed xs slot) split) ∙ (k.listed t slot ∙ ap (λ q. stands_in q t) (sym c.1))) ])
-          | inr a ↦ ap (λ xs. is_listed xs slot) (o u a) ∙ (k.listed u slot ∙ elim (others slot h) [
-                  inl c ↦ ap (λ x. stands_in (queue_at queues x) u) c.0 ∙ sym (ap (λ q. stands_in q u) c.1 ∙ others_stand (queue_at queues s) t u a)
-                  | inr c ↦ ap (λ q. stands_in q u) (sym c.1) ]) ];
+        | inl a ↦ subst (λ x. is_listed (slots_of new_lists x) slot ≡ stands_in (queue_at (set queues s (queue_without (queue_at queues s) t)) slot) x) (sym a)
+            (ap (λ xs. is_listed xs slot) e ∙ elim (others slot h) [
+              | inl c ↦ ap (is_listed rest) c.0 ∙ (d.0 ∙ sym (ap (λ q. stands_in q t) c.1 ∙ gone (queue_at queues s) t))
+              | inr c ↦ sym (ap (λ b. b || is_listed rest slot) (other_test s slot (λ g. c.0 (sym g)))) ∙ (sym (ap (λ xs. is_listed xs slot) split) ∙ (k.listed t slot ∙ ap (λ q. stands_in q t) (sym c.1)))
+            ])
+        | inr a ↦ ap (λ xs. is_listed xs slot) (o u a) ∙ (k.listed u slot ∙ elim (others slot h) [
+          | inl c ↦ ap (λ x. stands_in (queue_at queues x) u) c.0 ∙ sym (ap (λ q. stands_in q u) c.1 ∙ others_stand (queue_at queues s) t u a)
+          | inr c ↦ ap (λ q. stands_in q u) (sym c.1)
+        ])
+      ];
       once = λ u. elim (same_or_other u t) [
-          inl a ↦ subst (λ x. AreDifferent (slots_of new_lists x)) (sym a) (subst AreDifferent (sym e) d.1)
-          | inr a ↦ subst AreDifferent (sym (o u a)) (k.once u) ];
+        | inl a ↦ subst (λ x. AreDifferent (slots_of new_lists x)) (sym a) (subst AreDifferent (sym e) d.1)
+        | inr a ↦ subst AreDifferent (sym (o u a)) (k.once u)
+      ];
       waits = λ u slot g. elim (same_or_other u t) [
-          inl a ↦ elim (others slot h) [
-              inl c ↦ absurd (let z : false ≡ true = sym (gone_waits (queue_at queues s) t) ∙ (ap (λ x. is_ungranted (request_in (queue_without (queue_at queues s) t) x)) (sym a) ∙ (ap (λ q. is_ungranted (request_in q u)) (sym c.1) ∙ g)) in cc)
-              | inr c ↦ ap (λ x. last_of (slots_of new_lists x)) a ∙ (ap last_of e ∙ last_rest s slot rest (sym (ap last_of split) ∙ k.waits t slot (ap (λ x. is_ungranted (request_in (queue_at queues slot) x)) (sym a) ∙ (ap (λ q. is_ungranted (request_in q u)) (sym c.1) ∙ g))) c.0) ]
-          | inr a ↦ ap last_of (o u a) ∙ elim (others slot h) [
-              inl c ↦ k.waits u s (others_wait (queue_at queues s) t u a (ap (λ q. is_ungranted (request_in q u)) (sym c.1) ∙ g)) ∙ ap Some (sym c.0)
-              | inr c ↦ k.waits u slot (ap (λ q. is_ungranted (request_in q u)) (sym c.1) ∙ g) ] ];
+        | inl a ↦ elim (others slot h) [
+          | inl c ↦ absurd (let z : false ≡ true = sym (gone_waits (queue_at queues s) t) ∙ (ap (λ x. is_ungranted (request_in (queue_without (queue_at queues s) t) x)) (sym a) ∙ (ap (λ q. is_ungranted (request_in q u)) (sym c.1) ∙ g)) in cc)
+          | inr c ↦ ap (λ x. last_of (slots_of new_lists x)) a ∙ (ap last_of e ∙ last_rest s slot rest (sym (ap last_of split) ∙ k.waits t slot (ap (λ x. is_ungranted (request_in (queue_at queues slot) x)) (sym a) ∙ (ap (λ q. is_ungranted (request_in q u)) (sym c.1) ∙ g))) c.0)
+        ]
+        | inr a ↦ ap last_of (o u a) ∙ elim (others slot h) [
+          | inl c ↦ k.waits u s (others_wait (queue_at queues s) t u a (ap (λ q. is_ungranted (request_in q u)) (sym c.1) ∙ g)) ∙ ap Some (sym c.0)
+          | inr c ↦ k.waits u slot (ap (λ q. is_ungranted (request_in q u)) (sym c.1) ∙ g)
+        ]
+      ];
     }
 
 abbrev waits_for : ℕ → Queue → Bool
@@ -333,9 +349,10 @@ again_kind q t exclusive own o e = by (own.exclusive || not exclusive) (list_any
 pub linked_again : (queues : List Queue) (lists : Lists) (s t : ℕ) (exclusive : Bool) (own : Request) (o : Outcome) → s < length queues → (o ≡ Granted) ⊎ (o ≡ Died) → request_in (queue_at queues s) t ≡ Some own →
     AreLinked queues lists → AreLinked (set queues s (queue_after (queue_at queues s) t exclusive o)) lists
 linked_again queues lists s t exclusive own o h c f k = elim c [
-    inl e ↦ subst (λ x. AreLinked (set queues s (queue_after (queue_at queues s) t exclusive x)) lists) (sym e)
-        (linked_with queues lists s (record { transaction = t; exclusive = exclusive; granted = true }) h (sym (stands_is (queue_at queues s) t) ∙ ap is_some f) k)
-    | inr e ↦ subst (λ x. AreLinked (set queues s (queue_after (queue_at queues s) t exclusive x)) lists) (sym e) (subst (λ x. AreLinked x lists) (sym (set_back queues s)) k) ]
+  | inl e ↦ subst (λ x. AreLinked (set queues s (queue_after (queue_at queues s) t exclusive x)) lists) (sym e)
+      (linked_with queues lists s (record { transaction = t; exclusive = exclusive; granted = true }) h (sym (stands_is (queue_at queues s) t) ∙ ap is_some f) k)
+  | inr e ↦ subst (λ x. AreLinked (set queues s (queue_after (queue_at queues s) t exclusive x)) lists) (sym e) (subst (λ x. AreLinked x lists) (sym (set_back queues s)) k)
+]
 
 pub list_again : (slots : List ℕ) (s : ℕ) (b : Bool) (o : Outcome) → (o ≡ Granted) ⊎ (o ≡ Died) → b ≡ true → slots ≡ slots_after slots s b o
 list_again slots s b o c e = elim c [ inl f ↦ rw (f, e) | inr f ↦ rw f ]
@@ -349,8 +366,9 @@ linked_lists queues lists new_lists f k = record {
 
 every : (t : ℕ) (lists new_lists : Lists) → slots_of new_lists t ≡ slots_of lists t → ((u : ℕ) → u ≢ t → slots_of new_lists u ≡ slots_of lists u) → (u : ℕ) → slots_of new_lists u ≡ slots_of lists u
 every t lists new_lists e o u = elim (same_or_other u t) [
-    inl a ↦ subst (λ x. slots_of new_lists x ≡ slots_of lists x) (sym a) e
-    | inr a ↦ o u a ]
+  | inl a ↦ subst (λ x. slots_of new_lists x ≡ slots_of lists x) (sym a) e
+  | inr a ↦ o u a
+]
 
 pub linked_first : (queues : List Queue) (lists new_lists : Lists) (s t : ℕ) (exclusive : Bool) (o : Outcome) → s < length queues → stands_in (queue_at queues s) t ≡ false →
     ((slot : ℕ) → is_ungranted (request_in (queue_at queues slot) t) ≡ false) →

@@ -3,9 +3,10 @@
 
 mod lists;
 mod locks;
-
 mod queue;
 mod request;
+#[cfg(test)]
+mod tests;
 
 pub use locks::Locks;
 pub use request::{Mode, Outcome};

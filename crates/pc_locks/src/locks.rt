@@ -1,9 +1,10 @@
 //! The locks of all slots.
 ghost use Rattle.std.specs.Prelude.{◌≡◌, ◌≢◌, ◌==◌, ◌<◌, ◌≤◌, ◌++◌, ◌∷◌, [], not, true, false, ℕ, length, map, is_some, IfOk, OnOk, OnErr, IfNone, Some, None, slice_set, vec_len, slice_index_or};
 ghost use Rattle.std.proofs.Common.{replicate};
-ghost use Rattle.pc_model.specs.Locks.{request_in, outcome, outcome_beside, outcome_of_new, queue_after, queue_without};
+ghost use Rattle.pc_model.specs.Locks.{request_in, is_ungranted, IsLegalQueue, outcome, outcome_beside, outcome_of_new, queue_after, queue_without};
 ghost use Rattle.pc_locks.specs.Queues.{Held, told, is_exclusive, stands_in, IsSettled};
-ghost use Rattle.pc_locks.specs.States.{State, requests_of, queue_at, slots_of, slots_after, queues_without, first_of, rest_of, is_waiting, AreLinked};
+ghost use Rattle.pc_locks.specs.States.{State, requests_of, queue_at, slots_of, slots_after, queues_without, first_of, rest_of, last_of, is_listed, AreDifferent, is_waiting, AreLinked};
+ghost use Rattle.pc_model.proofs.Queues.{IsSoundBehind};
 
 use crate::lists;
 use crate::lists::Slots;
@@ -51,7 +52,12 @@ impl Locks {
     /// dies and leaves no request; an upgrade beside another reader dies too, and the shared lock stays. A lock stands until
     /// it is released. The transaction may have no request that waits. It fails only where memory ran out, and then nothing
     /// changed.
-    pub fn request(&mut self, transaction: TxnNo, slot: SlotId, mode: Mode) -> Result<Outcome, AllocError>
+    pub fn request(
+        &mut self,
+        transaction: TxnNo,
+        slot: SlotId,
+        mode: Mode,
+    ) -> Result<Outcome, AllocError>
         requires slot { slot < length self.old.queues }
         requires ready { is_waiting self.old transaction ≡ false }
         ensures told { IfOk result (λ answer. told answer ≡ outcome (queue_at self.old.queues slot) transaction (is_exclusive mode)) }
@@ -63,7 +69,14 @@ impl Locks {
         let exclusive = mode.is_exclusive();
         match self.queues[slot.0 as usize].request_of(transaction) {
             Some(own) => Ok(again(&mut self.queues, slot.0 as usize, own, exclusive)),
-            None => first(self.alloc, &mut self.queues, &mut self.lists, slot, transaction, exclusive),
+            None => first(
+                self.alloc,
+                &mut self.queues,
+                &mut self.lists,
+                slot,
+                transaction,
+                exclusive,
+            ),
         }
     }
 
@@ -90,6 +103,21 @@ impl Locks {
             Some(slot) => self.queues[slot.0 as usize].is_waiting(transaction),
             None => false,
         }
+    }
+
+    /// What holds of every slot below the number of slots, at all times; the call does nothing. In its queue the granted
+    /// requests stand in front and don't conflict, and only waiting ones stand behind. The slot stands in a transaction's
+    /// list exactly where the transaction has a request in its queue, no slot stands twice in a list, and only the last
+    /// slot of a list may be one that its transaction waits for.
+    pub fn laws(&self, slot: SlotId)
+        requires { slot < length self.now.queues }
+        ensures sound { IsSoundBehind [] (queue_at self.now.queues slot) }
+        ensures legal { IsLegalQueue (queue_at self.now.queues slot) }
+        ensures listed { (transaction : ℕ) → is_listed (slots_of self.now.lists transaction) slot ≡ stands_in (queue_at self.now.queues slot) transaction }
+        ensures once { (transaction : ℕ) → AreDifferent (slots_of self.now.lists transaction) }
+        ensures waits { (transaction : ℕ) → is_ungranted (request_in (queue_at self.now.queues slot) transaction) ≡ true → last_of (slots_of self.now.lists transaction) ≡ Some slot }
+    {
+        self.queues[slot.0 as usize].is_settled();
     }
 
     /// Whether a request of the slot stands, granted or waiting.

@@ -39,7 +39,7 @@ impl Queue {
     }
 
     /// What a queue keeps.
-    pub(crate) fn is_sound(&self)
+    pub(crate) fn is_settled(&self)
         ensures { IsSettled self.now.requests }
     {
         let _ = &self.requests;
@@ -161,14 +161,18 @@ fn fits(request: &Request, others: &[Request]) -> bool
 fn is_older(transaction: TxnNo, others: &[Request]) -> bool
     ensures { result ≡ list_all (λ r. nat_lt transaction r.transaction) others.now }
 {
-    others.iter().all(|other| transaction.0 < other.transaction.0)
+    others
+        .iter()
+        .all(|other| transaction.0 < other.transaction.0)
 }
 
 // Whether a lock is granted to another transaction.
 fn is_held_beside(requests: &[Request], transaction: TxnNo) -> bool
     ensures { result ≡ list_any (λ r. r.granted && not (r.transaction == transaction)) requests.now }
 {
-    requests.iter().any(|r| r.granted && r.transaction != transaction)
+    requests
+        .iter()
+        .any(|r| r.granted && r.transaction != transaction)
 }
 
 // The transaction's request.

@@ -14,6 +14,6 @@ invariant_of-self-2 c =
     let lists = c.self.inside.lists.entries in
     subst (λ queues. AreLinked queues c.pop.new.lists.entries) (sym c.remove.ensures)
     (linked_pop (requests_of c.self.inside.queues.items) lists c.pop.new.lists.entries c.slot.inside.0 c.args.transaction (queues_range c.self.inside.queues.items c.slot.inside.0 h)
-        (e ∙ ap (λ t. first_of (slots_of lists t)) c.transaction.view_is)
-        (subst (λ t. slots_of c.pop.new.lists.entries t ≡ rest_of (slots_of lists t)) c.transaction.view_is c.pop.ensures.rest)
-        (λ u n. c.pop.ensures.others u (λ z. n (z ∙ c.transaction.view_is))) c.self.invariant)
+    (e ∙ ap (λ t. first_of (slots_of lists t)) c.transaction.view_is)
+    (subst (λ t. slots_of c.pop.new.lists.entries t ≡ rest_of (slots_of lists t)) c.transaction.view_is c.pop.ensures.rest)
+    (λ u n. c.pop.ensures.others u (λ z. n (z ∙ c.transaction.view_is))) c.self.invariant)

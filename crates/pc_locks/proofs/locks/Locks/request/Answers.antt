@@ -84,4 +84,4 @@ returns-in-None-clause-list c =
     let none : request_in (queue_at (requests_of c.self.inside.queues.items) c.slot.inside.0) c.args.transaction ≡ None = sym (ap (λ q. request_in q c.args.transaction) (seen c.self.inside.queues.items c.slot.inside.0 c.index.result.now (range_of c.self.inside.queues.items c.slot.inside.0 fits) c.index.ensures)) ∙ sym c.in-None.ensures in
     let fresh : stands_in (queue_at (requests_of c.self.inside.queues.items) c.args.slot) c.args.transaction ≡ false = subst (λ j. stands_in (queue_at (requests_of c.self.inside.queues.items) j) c.args.transaction ≡ false) c.slot.view_is (sym (stands_is (queue_at (requests_of c.self.inside.queues.items) c.slot.inside.0) c.args.transaction) ∙ ap is_some none) in
     IfOk-weaker c.first.result _ _ (λ a h. subst (λ (s : State). slots_of c.first.new.lists.entries c.args.transaction ≡ slots_after (slots_of s.lists c.args.transaction) c.args.slot (stands_in (queue_at s.queues c.args.slot) c.args.transaction) (told a)) c.self.view_is
-        (h ∙ ap (λ b. slots_after (slots_of c.self.inside.lists.entries c.args.transaction) c.args.slot b (told a)) (sym fresh))) c.first.ensures.list
+    (h ∙ ap (λ b. slots_after (slots_of c.self.inside.lists.entries c.args.transaction) c.args.slot b (told a)) (sym fresh))) c.first.ensures.list

@@ -12,7 +12,7 @@ invariant_of-self c =
     let own : Request = record { transaction = c.own.inside.transaction; exclusive = c.own.inside.exclusive; granted = c.own.inside.granted } in
     let o : own ≡ c.args.own = c.own.view_is in
     let k = kept_upgraded queue own c.self.invariant
-        (subst (λ (w : Request). request_in queue w.transaction ≡ Some w) (sym o) (subst (λ (q : Queue). request_in q c.args.own.transaction ≡ Some c.args.own) (sym e) c.requires.own))
-        (ap (λ (w : Request). w.granted) o ∙ c.requires.held) (ap (λ (w : Request). w.exclusive) o ∙ c.requires.shared)
-        (subst (λ (w : Request). outcome_of_upgrade queue w.transaction ≡ Granted) (sym o) (subst (λ (q : Queue). outcome_of_upgrade q c.args.own.transaction ≡ Granted) (sym e) c.requires.alone)) in
+    (subst (λ (w : Request). request_in queue w.transaction ≡ Some w) (sym o) (subst (λ (q : Queue). request_in q c.args.own.transaction ≡ Some c.args.own) (sym e) c.requires.own))
+    (ap (λ (w : Request). w.granted) o ∙ c.requires.held) (ap (λ (w : Request). w.exclusive) o ∙ c.requires.shared)
+    (subst (λ (w : Request). outcome_of_upgrade queue w.transaction ≡ Granted) (sym o) (subst (λ (q : Queue). outcome_of_upgrade q c.args.own.transaction ≡ Granted) (sym e) c.requires.alone)) in
     (k.2, k.3)
