@@ -1,6 +1,6 @@
 -- The transactions' lists of slots.
-use Rattle.std.proofs.Common.{◌≡◌, ◌≢◌, ℕ, ◌+◌, ◌-◌, ◌==◌, ◌<◌, List, [], ◌∷◌, ◌++◌, length, Option, Some, None, Result, Ok, Err, Bool, true, false, ◌||◌, cond, refl, sym, ◌∙◌, ap, subst, arith, zero, suc, get_or}
-use Rattle.std.specs.Prelude.{⊤, OnErr, IfNone, slice_get}
+use Rattle.std.proofs.Common.{◌≡◌, ℕ, ◌+◌, List, [], ◌∷◌, length, Option, Some, None, Bool, refl, sym, ◌∙◌, ap, subst, arith, zero, suc, get_or}
+use Rattle.std.specs.Prelude.{IfNone}
 use Rattle.std.specs.Map.{lookup, set_value}
 use Rattle.std.proofs.lemmas.Map.Steps.{set_value_same}
 use Rattle.pc_locks.specs.States.{first_of, rest_of, last_of}

@@ -1,11 +1,11 @@
 -- The six rules keep a queue settled, and each transaction in it once.
-use Rattle.std.proofs.Common.{◌≡◌, ◌≢◌, ℕ, ◌==◌, List, [], ◌∷◌, ◌++◌, Option, Some, None, Bool, true, false, ◌||◌, ◌&&◌, ◌⊎◌, inl, inr, not, nat_lt, cond, refl, sym, ◌∙◌, ap, subst, ◌<◌, length, set, append-nil, append_assoc, is_some, rules, tests, arith}
-use Rattle.std.specs.Prelude.{⊤, MatchBool, filter}
-use Rattle.std.specs.List.{list_any, list_all, find}
+use Rattle.std.proofs.Common.{◌≡◌, ℕ, ◌==◌, [], ◌∷◌, ◌++◌, Option, Some, None, Bool, true, false, ◌||◌, ◌&&◌, ◌⊎◌, inl, inr, not, nat_lt, cond, refl, sym, ◌∙◌, ap, subst, ◌<◌, length, set, append-nil, append_assoc, is_some, arith}
+use Rattle.std.specs.Prelude.{MatchBool, filter}
+use Rattle.std.specs.List.{list_any, list_all}
 use Rattle.std.proofs.lemmas.List.Elements.{filter-append}
 use Rattle.std.proofs.lemmas.List.Folds.{list_any-append, list_all-append}
 use Rattle.std.proofs.lemmas.Bool.Decides.{nat_tests}
-use Rattle.pc_model.specs.Locks.{Request, Queue, are_compatible, request_in, granted_behind, with_request, Outcome, outcome, outcome_beside, outcome_of_upgrade, outcome_of_new, queue_after, queue_without}
+use Rattle.pc_model.specs.Locks.{Request, Queue, are_compatible, request_in, granted_behind, with_request, outcome, outcome_beside, outcome_of_upgrade, outcome_of_new, queue_without}
 use Rattle.pc_model.specs.Locks.Outcome.{Granted, Queued, Died}
 use Rattle.pc_model.proofs.Queues.{AllWait, IsSoundBehind}
 use Rattle.pc_locks.specs.Queues.{IsSettledBehind, stands_in, AreOnce, IsSettled}

@@ -1,5 +1,5 @@
 -- A row of queues, one for each slot.
-use Rattle.std.proofs.Common.{◌≡◌, ◌≢◌, ℕ, zero, suc, ◌<◌, ◌⊎◌, inl, inr, List, [], ◌∷◌, ◌++◌, length, map, set, get_or, replicate, refl, sym, ◌∙◌, ap, arith}
+use Rattle.std.proofs.Common.{◌≡◌, ◌≢◌, ℕ, zero, suc, ◌<◌, ◌⊎◌, inl, inr, List, [], ◌∷◌, length, set, get_or, replicate, refl, sym, ◌∙◌, ap, arith}
 use Rattle.std.proofs.lemmas.List.{map-set}
 use Rattle.std.proofs.Math.ListN.{get_or-map}
 use Rattle.pc_model.specs.Locks.{Queue}

@@ -1,7 +1,7 @@
 -- Answering and releasing keep the queues and the lists linked.
-use Rattle.std.proofs.Common.{◌≡◌, ◌≢◌, ℕ, ◌==◌, ◌<◌, ◌⊎◌, inl, inr, List, [], ◌∷◌, ◌++◌, length, Option, Some, None, Bool, true, false, ◌||◌, ◌&&◌, not, cond, set, replicate, refl, sym, ◌∙◌, ap, subst, is_some, zero, suc, append-nil, arith}
-use Rattle.std.specs.Prelude.{⊤, MatchBool, filter, Result, Ok, Err, IfOk, OnErr}
-use Rattle.std.specs.List.{list_any, list_all, find}
+use Rattle.std.proofs.Common.{◌≡◌, ◌≢◌, ℕ, ◌==◌, ◌<◌, ◌⊎◌, inl, inr, List, [], ◌∷◌, ◌++◌, length, Option, Some, None, Bool, true, false, ◌||◌, ◌&&◌, not, cond, set, replicate, refl, sym, ◌∙◌, ap, subst, is_some, zero, suc, arith}
+use Rattle.std.specs.Prelude.{filter, Result, Ok, Err, IfOk, OnErr}
+use Rattle.std.specs.List.{list_any, list_all}
 use Rattle.std.proofs.lemmas.List.Folds.{list_any-append}
 use Rattle.std.proofs.lemmas.Bool.Decides.{nat_tests}
 use Rattle.pc_model.specs.Locks.{Request, Queue, are_compatible, request_in, granted_behind, with_request, queue_after, queue_without, outcome_beside, Outcome, is_ungranted}

@@ -1,5 +1,5 @@
 -- How the crate's words are those of the definitions.
-use Rattle.std.specs.Prelude.{◌≡◌, ℕ, ◌==◌, ⊤, Bool, true, false, MatchBool, List, [], ◌∷◌, ◌++◌}
+use Rattle.std.specs.Prelude.{◌≡◌, ℕ, ◌==◌, ⊤, Bool, true, false, MatchBool, [], ◌∷◌, ◌++◌}
 use Rattle.std.specs.List.{list_any, list_all}
 use Rattle.pc_model.specs.Locks as locks
 use Rattle.pc_model.specs.Locks.{Queue}

@@ -1,4 +1,3 @@
-use Rattle.std.proofs.Common.{◌≡◌}
 use Rattle.pc_locks.proofs.ListLaws.{none_taken}
 use Rattle.pc_locks.proofs.lists.take.Goals as goal
 

@@ -1,9 +1,9 @@
-use Rattle.std.proofs.Common.{◌≡◌, ◌∙◌, sym, ap, set}
+use Rattle.std.proofs.Common.{◌∙◌, sym, ap, set}
 use Rattle.pc_model.specs.Locks.{outcome_of_new, queue_after}
-use Rattle.pc_model.specs.Locks.Outcome.{Granted, Queued, Died}
+use Rattle.pc_model.specs.Locks.Outcome.{Granted, Queued}
 use Rattle.pc_locks.specs.Queues.{told}
 use Rattle.pc_locks.specs.States.{requests_of, queue_at}
-use Rattle.pc_locks.proofs.Rows.{placed, seen, set_back}
+use Rattle.pc_locks.proofs.Rows.{placed, seen}
 use Rattle.pc_locks.proofs.locks.add.Goals as goal
 
 pub add_granted-requires-clause-told : goal.add_granted-requires-clause-told

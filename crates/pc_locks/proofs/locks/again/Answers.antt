@@ -1,6 +1,5 @@
-use Rattle.std.proofs.Common.{◌≡◌, ◌∙◌, sym, ap, set, true, false, not, ◌||◌}
-use Rattle.pc_model.specs.Locks.{Request, with_request, queue_after}
-use Rattle.pc_model.specs.Locks.Outcome.{Granted}
+use Rattle.std.proofs.Common.{◌≡◌, ◌∙◌, sym, ap, set, true, not, ◌||◌}
+use Rattle.pc_model.specs.Locks.{Request, with_request}
 use Rattle.pc_locks.specs.States.{requests_of, queue_at}
 use Rattle.pc_locks.proofs.Rows.{placed, set_back}
 use Rattle.pc_locks.proofs.QueueLaws.{with_covered, either_covered}

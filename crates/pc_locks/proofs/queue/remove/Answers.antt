@@ -1,6 +1,5 @@
 use Rattle.std.proofs.Common.{◌==◌, not, rules, tests}
 use Rattle.std.proofs.lemmas.Fn.{filter_same}
-use Rattle.pc_model.specs.Locks.{Request}
 use Rattle.pc_locks.proofs.queue.remove.Goals as goal
 
 pub returns : goal.returns

@@ -1,6 +1,6 @@
-use Rattle.std.proofs.Common.{◌≡◌, ◌<◌, length, Some, None, sym, ◌∙◌, ap, subst, arith}
+use Rattle.std.proofs.Common.{Some, ◌∙◌, ap, arith}
 use Rattle.pc_model.specs.Locks.{request_in, is_ungranted}
-use Rattle.pc_locks.specs.States.{State, requests_of, queue_at, slots_of, last_of, is_waiting}
+use Rattle.pc_locks.specs.States.{State, requests_of, slots_of, last_of, is_waiting}
 use Rattle.pc_locks.proofs.Rows.{seen}
 use Rattle.pc_locks.proofs.StateLaws.{any_waits, none_waiting, last_range}
 use Rattle.pc_locks.proofs.locks.Locks.is_waiting.Goals as goal

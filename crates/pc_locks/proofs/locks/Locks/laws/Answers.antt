@@ -1,5 +1,5 @@
-use Rattle.std.proofs.Common.{◌≡◌, ◌<◌, List, [], length, sym, ◌∙◌, ap, subst}
-use Rattle.pc_model.specs.Locks.{Queue, IsLegalQueue}
+use Rattle.std.proofs.Common.{◌<◌, [], length, sym, subst}
+use Rattle.pc_model.specs.Locks.{IsLegalQueue}
 use Rattle.pc_model.proofs.Queues.{IsSoundBehind}
 use Rattle.pc_locks.specs.States.{State, requests_of, queue_at}
 use Rattle.pc_locks.proofs.Legal.{sound_legal}

@@ -1,5 +1,5 @@
-use Rattle.std.proofs.Common.{◌≡◌, ◌<◌, length, Some, None, sym, ◌∙◌, ap, subst}
-use Rattle.pc_locks.specs.States.{Lists, requests_of, queue_at, slots_of, first_of, rest_of, AreLinked}
+use Rattle.std.proofs.Common.{◌≡◌, Some, sym, ◌∙◌, ap, subst}
+use Rattle.pc_locks.specs.States.{requests_of, slots_of, first_of, rest_of, AreLinked}
 use Rattle.pc_locks.proofs.StateLaws.{first_range, linked_pop, queues_range}
 use Rattle.pc_locks.proofs.locks.Locks.release_one.Goals as goal
 

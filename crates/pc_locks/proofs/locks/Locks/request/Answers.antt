@@ -1,12 +1,11 @@
-use Rattle.std.proofs.Common.{◌≡◌, ◌<◌, length, set, Some, None, refl, is_some, false, true, sym, ◌∙◌, ap, subst, arith}
-use Rattle.std.specs.Prelude.{IfOk}
+use Rattle.std.proofs.Common.{◌≡◌, ◌<◌, length, set, Some, None, is_some, false, sym, ◌∙◌, ap, subst}
 use Rattle.std.proofs.lemmas.Result.{IfOk-weaker}
-use Rattle.pc_model.specs.Locks.{Request, Queue, request_in, is_ungranted, outcome, outcome_beside, queue_after}
+use Rattle.pc_model.specs.Locks.{request_in, is_ungranted, outcome, outcome_beside, queue_after}
 use Rattle.pc_locks.specs.Queues.{told, stands_in, is_exclusive}
 use Rattle.pc_locks.specs.States.{State, requests_of, queue_at, slots_of, slots_after, is_waiting, AreLinked}
 use Rattle.pc_locks.proofs.Rows.{seen}
 use Rattle.pc_locks.proofs.QueueLaws.{stands_is}
-use Rattle.pc_locks.proofs.StateLaws.{range_of, queues_range, found_is, granted_of, ready_at, again_kind, linked_again, list_again, linked_result}
+use Rattle.pc_locks.proofs.StateLaws.{range_of, found_is, granted_of, ready_at, again_kind, linked_again, list_again, linked_result}
 use Rattle.pc_locks.proofs.locks.Locks.request.Goals as goal
 
 pub again-requires-clause-own : goal.again-requires-clause-own

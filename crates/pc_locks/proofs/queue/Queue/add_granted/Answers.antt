@@ -1,6 +1,6 @@
-use Rattle.std.proofs.Common.{◌≡◌, ◌++◌, ◌∷◌, [], true, List, sym, ◌∙◌, ap, subst}
+use Rattle.std.proofs.Common.{◌++◌, ◌∷◌, [], true, sym, ◌∙◌, ap, subst}
 use Rattle.pc_locks.specs.Queues.{Held, IsSettled, stands_in}
-use Rattle.pc_model.specs.Locks.{Queue, outcome_of_new, outcome_of_upgrade, request_in}
+use Rattle.pc_model.specs.Locks.{outcome_of_new}
 use Rattle.pc_locks.proofs.QueueLaws.{kept_granted, with_new}
 use Rattle.pc_locks.proofs.queue.Queue.add_granted.Goals as goal
 

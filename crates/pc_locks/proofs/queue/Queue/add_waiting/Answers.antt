@@ -1,6 +1,6 @@
-use Rattle.std.proofs.Common.{◌≡◌, List, sym, ◌∙◌, ap, subst}
+use Rattle.std.proofs.Common.{sym, ◌∙◌, ap, subst}
 use Rattle.pc_locks.specs.Queues.{Held, IsSettled, stands_in}
-use Rattle.pc_model.specs.Locks.{Queue, outcome_of_new, outcome_of_upgrade, request_in}
+use Rattle.pc_model.specs.Locks.{outcome_of_new}
 use Rattle.pc_locks.proofs.QueueLaws.{kept_waiting}
 use Rattle.pc_locks.proofs.queue.Queue.add_waiting.Goals as goal
 

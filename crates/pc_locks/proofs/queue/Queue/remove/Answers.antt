@@ -1,6 +1,6 @@
-use Rattle.std.proofs.Common.{◌≡◌, [], List, sym, ◌∙◌, ap, subst}
-use Rattle.pc_locks.specs.Queues.{Held, IsSettled, stands_in}
-use Rattle.pc_model.specs.Locks.{granted_behind, Queue, outcome_of_new, outcome_of_upgrade, request_in}
+use Rattle.std.proofs.Common.{[], sym, ◌∙◌, ap, subst}
+use Rattle.pc_locks.specs.Queues.{IsSettled}
+use Rattle.pc_model.specs.Locks.{granted_behind}
 use Rattle.pc_locks.proofs.QueueLaws.{kept_without}
 use Rattle.pc_locks.proofs.queue.Queue.remove.Goals as goal
 

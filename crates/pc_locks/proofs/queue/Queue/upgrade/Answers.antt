@@ -1,6 +1,6 @@
-use Rattle.std.proofs.Common.{◌≡◌, Some, List, sym, ◌∙◌, ap, subst}
-use Rattle.pc_locks.specs.Queues.{Held, IsSettled, stands_in}
-use Rattle.pc_model.specs.Locks.{Request, Queue, outcome_of_new, outcome_of_upgrade, request_in}
+use Rattle.std.proofs.Common.{◌≡◌, Some, sym, ◌∙◌, ap, subst}
+use Rattle.pc_locks.specs.Queues.{Held}
+use Rattle.pc_model.specs.Locks.{Request, Queue, outcome_of_upgrade, request_in}
 use Rattle.pc_model.specs.Locks.Outcome.{Granted}
 use Rattle.pc_locks.proofs.QueueLaws.{kept_upgraded}
 use Rattle.pc_locks.proofs.queue.Queue.upgrade.Goals as goal
