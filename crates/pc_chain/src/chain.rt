@@ -1,0 +1,133 @@
+//! The chain itself: its two ends.
+ghost use Rattle.std.specs.Prelude.{◌≡◌, ◌≢◌, ◌<◌, ◌^◌, [], ◌∷◌, ◌++◌, List, length, Some, None, IfSome};
+ghost use Rattle.std.specs.List.{list_any};
+ghost use Rattle.pc_chain.specs.Chains.{first_of, last_of, rest_of, Avoids, AreApart, IsChain, IsEmpty, SetsLink};
+
+use crate::links::Links;
+
+/// A list of ids, each linked to the one behind it. The chain has its ends alone; the links are kept by whoever is given
+/// at each call. Several chains may stand over the same links, as long as no id is in two of them. No call takes memory,
+/// and each succeeds.
+#[derive(Clone, Copy)]
+pub struct Chain<I> {
+    first: Option<I>,
+    last: Option<I>,
+}
+
+impl<I: Copy> Chain<I> {
+    /// The empty list, over any links.
+    pub fn new() -> Self
+        ensures { IsEmpty result }
+    {
+        Chain {
+            first: None,
+            last: None,
+        }
+    }
+
+    /// The first id of the list.
+    pub fn first<L: Links<Id = I>>(&self, links: &L) -> Option<I>
+        ensures { (xs : List I) → IsChain (L.has links.now) (L.next_of links.now) self.now xs → result ≡ first_of xs }
+    {
+        let Chain { first, last: _ } = *self;
+        first
+    }
+
+    /// Adds an id, which isn't in the list, at its end. Of the other ids only the links of those in the list may change, so
+    /// that each chain without a common id stays the list that it was.
+    pub fn push_back<L: Links<Id = I>>(&mut self, links: &mut L, id: I)
+        requires has { L.has links.old id }
+        requires stands { (xs : List I) × IsChain (L.has links.old) (L.next_of links.old) self.old xs × Avoids id xs }
+        ensures list { (xs : List I) → IsChain (L.has links.old) (L.next_of links.old) self.old xs → Avoids id xs → IsChain (L.has links.new) (L.next_of links.new) self.new (xs ++ id ∷ []) }
+        ensures links { (xs : List I) (other : I) → IsChain (L.has links.old) (L.next_of links.old) self.old xs → Avoids other xs → other ≢ id → L.next_of links.new other ≡ L.next_of links.old other }
+        ensures others { (xs ys : List I) (other : Chain I) → IsChain (L.has links.old) (L.next_of links.old) self.old xs → IsChain (L.has links.old) (L.next_of links.old) other ys → AreApart xs ys → Avoids id ys → IsChain (L.has links.new) (L.next_of links.new) other ys }
+        ensures has { (other : I) → L.has links.old other → L.has links.new other }
+    {
+        links.set_next(id, None);
+        link(links, self.last, id);
+        self.first = self.first.or(Some(id));
+        self.last = Some(id);
+    }
+
+    /// Takes the first id out of the list and gives it; None where the list is empty. No link changes.
+    pub fn pop_front<L: Links<Id = I>>(&mut self, links: &L) -> Option<I>
+        requires { (xs : List I) × IsChain (L.has links.now) (L.next_of links.now) self.old xs }
+        ensures given { (xs : List I) → IsChain (L.has links.now) (L.next_of links.now) self.old xs → result ≡ first_of xs }
+        ensures list { (xs : List I) → IsChain (L.has links.now) (L.next_of links.now) self.old xs → IsChain (L.has links.now) (L.next_of links.now) self.new (rest_of xs) }
+    {
+        let id = self.first?;
+        self.first = links.next(id);
+        if self.first.is_none() {
+            self.last = None;
+        }
+        Some(id)
+    }
+
+    /// Takes the id behind `previous` out of the list, the first one where `previous` is None, and gives it; None where
+    /// there is no such id. Only the link of `previous` changes, so that each chain without it stays the list that it was.
+    pub fn unlink_after<L: Links<Id = I>>(
+        &mut self,
+        links: &mut L,
+        previous: Option<I>,
+    ) -> Option<I>
+        requires { (before rest : List I) × IsChain (L.has links.old) (L.next_of links.old) self.old (before ++ rest) × (previous ≡ last_of before) }
+        ensures given { (before rest : List I) → IsChain (L.has links.old) (L.next_of links.old) self.old (before ++ rest) → previous ≡ last_of before → result ≡ first_of rest }
+        ensures list { (before rest : List I) → IsChain (L.has links.old) (L.next_of links.old) self.old (before ++ rest) → previous ≡ last_of before → IsChain (L.has links.new) (L.next_of links.new) self.new (before ++ rest_of rest) }
+        ensures links { (other : I) → previous ≢ Some other → L.next_of links.new other ≡ L.next_of links.old other }
+        ensures others { (before rest ys : List I) (other : Chain I) → IsChain (L.has links.old) (L.next_of links.old) self.old (before ++ rest) → previous ≡ last_of before → IsChain (L.has links.old) (L.next_of links.old) other ys → AreApart (before ++ rest) ys → IsChain (L.has links.new) (L.next_of links.new) other ys }
+        ensures has { (other : I) → L.has links.old other → L.has links.new other }
+    {
+        match previous {
+            None => self.pop_front(&*links),
+            Some(before) => self.unlink_behind(links, before),
+        }
+    }
+
+    // The same behind an id of the list.
+    fn unlink_behind<L: Links<Id = I>>(&mut self, links: &mut L, previous: I) -> Option<I>
+        requires { (before rest : List I) × IsChain (L.has links.old) (L.next_of links.old) self.old (before ++ rest) × (Some previous ≡ last_of before) }
+        ensures given { (before rest : List I) → IsChain (L.has links.old) (L.next_of links.old) self.old (before ++ rest) → Some previous ≡ last_of before → result ≡ first_of rest }
+        ensures list { (before rest : List I) → IsChain (L.has links.old) (L.next_of links.old) self.old (before ++ rest) → Some previous ≡ last_of before → IsChain (L.has links.new) (L.next_of links.new) self.new (before ++ rest_of rest) }
+        ensures links { (other : I) → Some previous ≢ Some other → L.next_of links.new other ≡ L.next_of links.old other }
+        ensures has { (other : I) → L.has links.old other → L.has links.new other }
+    {
+        let id = links.next(previous)?;
+        let next = links.next(id);
+        links.set_next(previous, next);
+        if next.is_none() {
+            self.last = Some(previous);
+        }
+        Some(id)
+    }
+}
+
+// Where there is a last id, it leads to this one.
+fn link<L: Links>(links: &mut L, last: Option<L::Id>, id: L::Id)
+    requires { IfSome last (L.has links.old) }
+    ensures sets { SetsLink last (Some id) (L.next_of links.old) (L.next_of links.new) }
+    ensures has { (other : L.Id) → L.has links.old other → L.has links.new other }
+{
+    if let Some(last) = last {
+        links.set_next(last, Some(id));
+    }
+}
+
+impl<I: Copy + PartialEq> Chain<I> {
+    /// Whether the id is in the list, which has fewer than 2^64 ids.
+    pub fn contains<L: Links<Id = I>>(&self, links: &L, id: I) -> bool
+        requires { (xs : List I) × IsChain (L.has links.now) (L.next_of links.now) self.now xs × (length xs < 2 ^ 64) }
+        ensures { (xs : List I) → IsChain (L.has links.now) (L.next_of links.now) self.now xs → result ≡ list_any (λ x. I.eq x id) xs }
+    {
+        let mut at = self.first;
+        for _ in 0..u64::MAX {
+            let Some(here) = at else {
+                return false;
+            };
+            if here == id {
+                return true;
+            }
+            at = links.next(here);
+        }
+        false
+    }
+}

@@ -1,0 +1,75 @@
+//! Chains over a vector of links.
+ghost use Rattle.std.specs.Prelude.{◌≡◌, ◌≢◌, ◌<◌, ◌≤◌, ℕ, None, IfOk, slice_index_or, vec_len};
+
+use crate::{Chain, Links};
+use std::alloc::{AllocError, Global};
+use std::test::Fail;
+
+// A link for each number below its length.
+#[derive(Drop)]
+struct Row {
+    links: Vec<Option<usize>>,
+}
+
+impl Links for Row {
+    ghost use Rattle.std.specs.Prelude.{◌<◌, None, slice_index_or, vec_len};
+
+    type Id = usize;
+
+    ghost has = { λ row id. id < vec_len row.links };
+
+    ghost next_of = { λ row id. slice_index_or row.links.items id None };
+
+    fn next(&self, id: usize) -> Option<usize> {
+        self.links[id]
+    }
+
+    fn set_next(&mut self, id: usize, next: Option<usize>)
+        requires { id < vec_len self.old.links }
+        ensures set { slice_index_or self.new.links.items id None ≡ next }
+        ensures others { (other : ℕ) → other ≢ id → slice_index_or self.new.links.items other None ≡ slice_index_or self.old.links.items other None }
+        ensures has { (other : ℕ) → other < vec_len self.old.links → other < vec_len self.new.links }
+    {
+        self.links[id] = next;
+    }
+}
+
+// A row of links to none.
+fn unlinked(alloc: Global, len: usize) -> Result<Row, AllocError>
+    ensures { IfOk result (λ row. vec_len row.links ≡ len) }
+{
+    Ok(Row {
+        links: vec![in alloc; None; len]?,
+    })
+}
+
+// What two chains over one row give: the id behind 0 of the chain 0, 2; whether 1 is in the chain of 1 alone, and 0; and what is
+// taken from the front of the first chain, three times.
+fn used(row: &mut Row) -> (Option<usize>, bool, bool, [Option<usize>; 3])
+    requires { 3 ≤ vec_len row.old.links }
+{
+    let mut evens = Chain::new();
+    let mut odds = Chain::new();
+    evens.push_back(row, 0);
+    odds.push_back(row, 1);
+    evens.push_back(row, 2);
+    let behind = evens.unlink_after(row, Some(0));
+    let has_one = odds.contains(row, 1);
+    let has_zero = odds.contains(row, 0);
+    evens.push_back(row, 2);
+    let first = evens.pop_front(row);
+    let second = evens.pop_front(row);
+    let third = evens.pop_front(row);
+    (behind, has_one, has_zero, [first, second, third])
+}
+
+#[test]
+fn two_chains_over_one_row(rt: HostRuntime) -> Result<(), Fail> {
+    let mut row = unlinked(rt.alloc(), 3)?;
+    let (behind, has_one, has_zero, taken) = used(&mut row);
+    assert_eq!(rt; behind, Some(2));
+    assert!(rt; has_one);
+    assert!(rt; !has_zero);
+    assert_eq!(rt; taken, [Some(0), Some(2), None]);
+    Ok(())
+}

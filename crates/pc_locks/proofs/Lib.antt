@@ -1,0 +1,3 @@
+pub mod ListLaws
+pub mod Rows
+pub mod StateLaws

@@ -1,0 +1,78 @@
+-- What locks are seen as: each slot's queue, and the slots of each transaction.
+use Rattle.std.specs.Prelude.{◌≡◌, ⊤, ℕ, ◌==◌, Bool, true, false, List, [], ◌∷◌, ◌++◌, Option, Some, None, map, unwrap_or, slice_index_or, slice_set, if◌then◌else◌}
+use Rattle.std.specs.List.{list_any}
+use Rattle.std.specs.Ordering.{nat_cmp}
+use Rattle.std.specs.Map.{lookup}
+use Rattle.std.specs.BTreeMap.{is_at}
+use Rattle.pc_model.specs.Locks.{Queue, Outcome, request_in, queue_without, is_ungranted}
+use Rattle.pc_model.specs.Locks.Outcome.{Granted, Queued, Died}
+use Rattle.pc_model.specs.Queues.{stands_in}
+use Rattle.pc_locks.specs.Queues.{Held}
+
+-- the slots of the transactions, by number, in the order of first request
+abbrev pub Lists : Type 0
+Lists = List (ℕ × List ℕ)
+
+-- the slots of which the transaction has a request, in the order of first request
+abbrev pub slots_of : Lists → ℕ → List ℕ
+slots_of lists t = unwrap_or (lookup (is_at (nat_cmp t)) lists) []
+
+-- the queue of each slot, and the slots of each transaction
+pub record State : Type 0 where
+  pub queues : List Queue
+  pub lists : Lists
+
+-- the queue of a slot
+abbrev pub queue_at : List Queue → ℕ → Queue
+queue_at queues slot = slice_index_or queues slot []
+
+-- the requests of each
+abbrev pub requests_of : List Held → List Queue
+requests_of held = map (λ h. h.requests) held
+
+-- the first of the list
+abbrev pub first_of : List ℕ → Option ℕ
+first_of [] = None
+first_of (x ∷ xs) = Some x
+
+-- the list without its first
+abbrev pub rest_of : List ℕ → List ℕ
+rest_of [] = []
+rest_of (x ∷ xs) = xs
+
+-- the last of the list
+abbrev pub last_of : List ℕ → Option ℕ
+last_of [] = None
+last_of (x ∷ []) = Some x
+last_of (x ∷ y ∷ ys) = last_of (y ∷ ys)
+
+-- the slot stands in the list
+abbrev pub is_listed : List ℕ → ℕ → Bool
+is_listed slots slot = list_any (λ s. s == slot) slots
+
+-- no slot stands twice
+abbrev pub AreDifferent : List ℕ → Type 0
+AreDifferent [] = ⊤
+AreDifferent (x ∷ xs) = (is_listed xs x ≡ false) × AreDifferent xs
+
+-- the transaction's slots once a request of this slot was answered
+abbrev pub slots_after : List ℕ → ℕ → Bool → Outcome → List ℕ
+slots_after slots slot stood Granted = if stood then slots else slots ++ slot ∷ []
+slots_after slots slot stood Queued = slots ++ slot ∷ []
+slots_after slots slot stood Died = slots
+
+-- the queues once the transaction's request of this slot was removed
+abbrev pub queues_without : List Queue → ℕ → Option ℕ → List Queue
+queues_without queues t None = queues
+queues_without queues t (Some slot) = slice_set queues slot (queue_without (queue_at queues slot) t)
+
+-- a request of the transaction waits
+abbrev pub is_waiting : State → ℕ → Bool
+is_waiting state t = list_any (λ queue. is_ungranted (request_in queue t)) state.queues
+
+-- a slot stands in the transaction's list exactly where the transaction has a request in its queue, and none twice; only
+-- the last may wait
+pub record AreLinked (queues : List Queue) (lists : Lists) : Type 0 where
+  pub listed : (t slot : ℕ) → is_listed (slots_of lists t) slot ≡ stands_in (queue_at queues slot) t
+  pub once : (t : ℕ) → AreDifferent (slots_of lists t)
+  pub waits : (t slot : ℕ) → is_ungranted (request_in (queue_at queues slot) t) ≡ true → last_of (slots_of lists t) ≡ Some slot
