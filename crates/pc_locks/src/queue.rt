@@ -21,7 +21,7 @@ pub(crate) struct Queue {
 impl Model for Queue {
     ghost use Rattle.std.specs.Prelude.{◌-◌, vec_len, vec_capacity};
     ghost use Rattle.pc_model.specs.Queues.{IsSettled};
-ghost use Rattle.pc_locks.specs.Queues.{Held};
+    ghost use Rattle.pc_locks.specs.Queues.{Held};
 
     ghost Value = { Held };
 
