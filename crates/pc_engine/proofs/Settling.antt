@@ -23,7 +23,8 @@ use Rattle.pc_engine.specs.Store.{Row, record_of, stored, is_recent, is_closed, 
 use Rattle.pc_engine.specs.Stands.{AreRecords, is_kept}
 use Rattle.pc_engine.proofs.Rising.{rise_closed, rise_left}
 use Rattle.pc_model.proofs.WrittenKeys.{held_by}
-use Rattle.pc_engine.proofs.Alone.{same_key, granted_stands, among_with_key}
+use Rattle.pc_model.proofs.OccupiedKeys.{among_with_key}
+use Rattle.pc_engine.proofs.Alone.{same_key, granted_stands}
 
 symm : (a b : List ℕ) → same_bytes a b ≡ same_bytes b a
 symm a b = (eq_by_cmp_equiv key_order.total).symm a b

@@ -136,7 +136,7 @@ module _ (old new : Store) (h : History) (s : ℕ) (reply : Reply) (stands : Sta
   gets_follows key step =
       let mine : List (Bool × Refusal) = (is_full_for old.kept key, why.Full) ∷ [] in
       owes_follows old new h (asked.Get s key) reply _ (first_refusal (open_causes old s mine)) stands
-      (in_transaction old h s mine ((is_full (setting_of old) key h, why.Full) ∷ []) stands (λ is o. ap (λ b. first_refusal ((b, why.Full) ∷ [])) (full_now old h key stands.parts.records stands.parts.alone)))
+      (in_transaction old h s mine ((is_full (setting_of old) key h, why.Full) ∷ []) stands (λ is o. ap (λ b. first_refusal ((b, why.Full) ∷ [])) (full_now old h key stands.parts.records)))
       (refused_idle (asked.Get s key) (open_causes old s mine)) step
       (λ none d.
       let both = open_then mine none in
@@ -156,7 +156,7 @@ module _ (old new : Store) (h : History) (s : ℕ) (reply : Reply) (stands : Sta
       (in_transaction old h s mine ((too_many s key h, why.TooManyWrites) ∷ (is_full (setting_of old) key h, why.Full) ∷ []) stands
       (λ is o. subst (λ t. first_refusal mine ≡ first_refusal ((too_many t key h, why.TooManyWrites) ∷ (is_full (setting_of old) key h, why.Full) ∷ [])) (sym is)
       (ap (λ b. first_refusal ((b, why.TooManyWrites) ∷ (is_full_for old.kept key, why.Full) ∷ [])) (ap (λ ws. eqb (length ws) 256 && is_none (written ws key)) (stands.parts.writes o) ∙ ap (λ b. eqb (length (writes_of 1 h)) 256 && b) (is_none-some (written (writes_of 1 h) key)))
-      ∙ ap (λ b. first_refusal ((too_many 1 key h, why.TooManyWrites) ∷ (b, why.Full) ∷ [])) (full_now old h key stands.parts.records stands.parts.alone))))
+      ∙ ap (λ b. first_refusal ((too_many 1 key h, why.TooManyWrites) ∷ (b, why.Full) ∷ [])) (full_now old h key stands.parts.records))))
       (refused_idle (asked.Put s key value) (open_causes old s mine)) step
       (λ none d.
       let both = open_then mine none in
@@ -313,7 +313,7 @@ stands_first w pairs rise base one rows log begun shut phase point recent closed
     begun = begun;
     is_open = shut;
     writes = λ o. absurd (true_not_false w.is_open o shut);
-    alone = record { own = λ q. tt; idle = λ o q. refl; waited = refl; died = refl; held = λ o. cc; asked = λ q o. cc };
+    alone = record { own = λ q. tt; idle = λ o q. refl; waited = refl; died = refl; held = λ o. cc };
     start = start;
     cycle = record { phase = phase; point = point; recent = recent; closed = closed; taken = λ t. cc; shelved = shelf; quiet = λ r. cc };
   };

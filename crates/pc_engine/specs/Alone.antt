@@ -5,8 +5,7 @@ use Rattle.pc_types.specs.declared.Event.TheVariants as asked
 use Rattle.pc_model.specs.Database.{written}
 use Rattle.pc_model.specs.History.{History, is_open, writes_of, number_of, has_died}
 use Rattle.pc_model.specs.Locks.{Queue, queue_of, waited_for}
-use Rattle.pc_model.specs.Replies.{is_empty, asked_for}
-use Rattle.pc_model.specs.Points.{is_among}
+use Rattle.pc_model.specs.Replies.{is_empty}
 
 -- the events that the engine serves so far
 abbrev pub IsBuilt : Event → Type 0
@@ -40,4 +39,3 @@ pub record IsAlone (history : History) : Type 0 where
   pub waited : waited_for 1 history ≡ None
   pub died : has_died 1 history ≡ false
   pub held : is_open 1 history ≡ true → (key : List ℕ) → is_some (written (writes_of 1 history) key) ≡ true → is_empty (queue_of key history) ≡ false
-  pub asked : (key : List ℕ) → is_empty (queue_of key history) ≡ false → is_among (asked_for history) key ≡ true

@@ -40,3 +40,4 @@ pub mod Holding
 pub mod WrittenKeys
 pub mod SessionLocks
 pub mod LegalQueues
+pub mod OccupiedKeys
