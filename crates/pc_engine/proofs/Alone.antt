@@ -2,6 +2,7 @@
 use Rattle.std.proofs.Common.{◌≡◌, ℕ, List, [], ◌∷◌, Option, Some, None, is_some, refl, sym, ap, ◌∙◌, arith, cond, true, false, Bool, not, eqb, ◌||◌}
 use Rattle.std.proofs.lemmas.Bool.Decides.{nat_tests}
 use Rattle.pc_types.specs.declared.Step.{Step}
+use Rattle.pc_types.specs.declared.Event.{Event}
 use Rattle.pc_types.specs.declared.Event.TheVariants as asked
 use Rattle.pc_types.specs.declared.Reply.TheVariants as told
 use Rattle.pc_model.specs.Database.{written, same_bytes}
@@ -103,19 +104,32 @@ alone_read h k (Some v) is a =
       held = λ o key w. stays_by (number_of 1 h) (queue_of key h) false (same_bytes k key) (a.held o key w);
     }
 
-pub alone_write : (h : History) (k v : List ℕ) → is_open 1 h ≡ true → IsAlone h → IsAlone (record { event = asked.Put 1 k v; reply = told.Ok } ∷ h)
-alone_write h k v is a =
+held_write : (n : ℕ) (b c : Bool) (queue : List Request) → (b || c) ≡ true → (c ≡ true → is_empty queue ≡ false) → is_empty (cond b (queue_after queue n true Granted) queue) ≡ false
+held_write n true c queue e was = granted_stands n queue true
+held_write n false c queue e was = was e
+
+-- the event that writes the content: a put, or a removal
+abbrev pub write_event : ℕ → List ℕ → Option (List ℕ) → Event
+write_event s key (Some value) = asked.Put s key value
+write_event s key None = asked.Del s key
+
+pub alone_write : (h : History) (k : List ℕ) (content : Option (List ℕ)) → is_open 1 h ≡ true → IsAlone h → IsAlone (record { event = write_event 1 k content; reply = told.Ok } ∷ h)
+alone_write h k (Some v) is a =
     record {
       own = λ key. own_by (number_of 1 h) (queue_of key h) true (same_bytes k key) (a.own key);
       idle = λ o. absurd (true_not_false (is_open 1 h) is o);
       waited = a.waited;
       died = a.died;
-      held = λ o key w. held_write (same_bytes k key) (is_some (written (writes_of 1 h) key)) (queue_of key h) (sym (held_by (writes_of 1 h) k key (Some v)) ∙ w) (a.held o key);
+      held = λ o key w. held_write (number_of 1 h) (same_bytes k key) (is_some (written (writes_of 1 h) key)) (queue_of key h) (sym (held_by (writes_of 1 h) k key (Some v)) ∙ w) (a.held o key);
     }
-  where
-    held_write : (b c : Bool) (queue : List Request) → (b || c) ≡ true → (c ≡ true → is_empty queue ≡ false) → is_empty (cond b (queue_after queue (number_of 1 h) true Granted) queue) ≡ false
-    held_write true c queue e was = granted_stands (number_of 1 h) queue true
-    held_write false c queue e was = was e
+alone_write h k None is a =
+    record {
+      own = λ key. own_by (number_of 1 h) (queue_of key h) true (same_bytes k key) (a.own key);
+      idle = λ o. absurd (true_not_false (is_open 1 h) is o);
+      waited = a.waited;
+      died = a.died;
+      held = λ o key w. held_write (number_of 1 h) (same_bytes k key) (is_some (written (writes_of 1 h) key)) (queue_of key h) (sym (held_by (writes_of 1 h) k key None) ∙ w) (a.held o key);
+    }
 
 pub alone_commit : (h : History) (n : ℕ) → IsAlone h → IsAlone (record { event = asked.Commit 1; reply = told.Committed n } ∷ h)
 alone_commit h n a =

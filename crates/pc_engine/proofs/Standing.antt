@@ -15,40 +15,72 @@ use Rattle.pc_model.proofs.MapLaws.{get-from_list}
 use Rattle.pc_model.proofs.Logs.{after-append}
 use Rattle.std.specs.FinMap.{find}
 use Rattle.pc_engine.proofs.Rising.{rows_rise}
-use Rattle.pc_model.specs.History.{History, contents, log_of, begun, is_open, writes_of, number_of}
+use Rattle.pc_model.specs.History.{History, contents, log_of, begun, is_open, writes_of, number_of, has_died}
 use Rattle.pc_types.specs.declared.Phase.TheVariants.{Rest}
 use Rattle.pc_model.specs.Files.{File, shelf, file_at, join_of}
 use Rattle.pc_model.specs.Headline.{HasLegalEffects}
 use Rattle.pc_model.proofs.Standing.{closed_stays}
-use Rattle.pc_model.specs.Locks.{outcome, queue_of}
+use Rattle.pc_model.specs.Locks.{outcome, queue_of, is_waiting}
 use Rattle.pc_model.specs.Locks.Outcome.{Granted}
 use Rattle.pc_model.specs.Replies.{first_refusal, or_else, same_phase, is_in, IsFileReply, no_session, too_many, is_full, read_reply, value_read, by_outcome, written_since_token}
-use Rattle.pc_engine.specs.Store.{Store, setting_of, record_of, stored, is_recent, is_closed, is_requested, committed_row, requested_rows, new_keys, is_full_for, is_one_too_many, open_causes, begin_causes, Owes, Begins, Gets, Puts, Commits, StartsPoint, Seals, Moves, TakesFirst, Takes, Shelves, Joins}
+use Rattle.pc_engine.specs.Store.{Store, setting_of, record_of, stored, is_recent, is_closed, is_requested, committed_row, requested_rows, new_keys, is_full_for, is_one_too_many, open_causes, write_causes, begin_causes, Owes, Begins, Gets, WritesKey, Commits, StartsPoint, Seals, Moves, TakesFirst, Takes, Shelves, Joins}
 use Rattle.pc_types.specs.declared.Phase.{Phase}
 use Rattle.pc_engine.specs.Stands.{IsReadOff, Stands, Follows, IfRefused, is_kept}
 use Rattle.pc_engine.specs.Alone.{IsBuilt}
-use Rattle.pc_engine.proofs.Alone.{alone_begin, alone_read, alone_write, alone_commit, outcome_own, none_left, true_not_false}
+use Rattle.pc_engine.proofs.Alone.{alone_begin, alone_read, write_event, alone_write, alone_commit, outcome_own, none_left, true_not_false}
 use Rattle.pc_engine.proofs.NewKeys.{with_keys_new}
 use Rattle.pc_engine.proofs.Owing.{with_step, IsLeft, owes_follows, refused_idle, same_cycle, not_first, not_not, single, by_session, in_transaction}
 use Rattle.pc_engine.proofs.Occupied.{full_now}
 use Rattle.pc_engine.proofs.Settling.{same_records, requested_records, settled_records, distinct_writes}
 
 -- the other events are not built
-pub not_built : (e : Event) → ((s : ℕ) → e ≡ asked.Begin s → ⊥) → ((s : ℕ) (k : List ℕ) → e ≡ asked.Get s k → ⊥) → ((s : ℕ) (k v : List ℕ) → e ≡ asked.Put s k v → ⊥) → ((s : ℕ) → e ≡ asked.Commit s → ⊥) → (e ≡ asked.StartPoint → ⊥) → (e ≡ asked.Seal → ⊥) →
+pub not_built : (e : Event) → ((s : ℕ) → e ≡ asked.Begin s → ⊥) → ((s : ℕ) (k : List ℕ) → e ≡ asked.Get s k → ⊥) → ((s : ℕ) (k v : List ℕ) → e ≡ asked.Put s k v → ⊥) → ((s : ℕ) (k : List ℕ) → e ≡ asked.Del s k → ⊥) → ((s : ℕ) → e ≡ asked.Commit s → ⊥) → (e ≡ asked.StartPoint → ⊥) → (e ≡ asked.Seal → ⊥) →
     (e ≡ asked.OpenCapture → ⊥) → (e ≡ asked.Take → ⊥) → (e ≡ asked.Done → ⊥) → (e ≡ asked.Rest → ⊥) → ((m n : ℕ) → e ≡ asked.Join m n → ⊥) → IsBuilt e → ⊥
-not_built (asked.Begin s) b g p c sp se oc ta dn re jo is = b s refl
-not_built (asked.Get s k) b g p c sp se oc ta dn re jo is = g s k refl
-not_built (asked.Put s k v) b g p c sp se oc ta dn re jo is = p s k v refl
-not_built (asked.Commit s) b g p c sp se oc ta dn re jo is = c s refl
-not_built (asked.Del s k) b g p c sp se oc ta dn re jo is = is
-not_built (asked.Abort s) b g p c sp se oc ta dn re jo is = is
-not_built asked.StartPoint b g p c sp se oc ta dn re jo is = sp refl
-not_built asked.Seal b g p c sp se oc ta dn re jo is = se refl
-not_built asked.OpenCapture b g p c sp se oc ta dn re jo is = oc refl
-not_built asked.Take b g p c sp se oc ta dn re jo is = ta refl
-not_built asked.Done b g p c sp se oc ta dn re jo is = dn refl
-not_built asked.Rest b g p c sp se oc ta dn re jo is = re refl
-not_built (asked.Join m n) b g p c sp se oc ta dn re jo is = jo m n refl
+not_built (asked.Begin s) b g p d c sp se oc ta dn re jo is = b s refl
+not_built (asked.Get s k) b g p d c sp se oc ta dn re jo is = g s k refl
+not_built (asked.Put s k v) b g p d c sp se oc ta dn re jo is = p s k v refl
+not_built (asked.Commit s) b g p d c sp se oc ta dn re jo is = c s refl
+not_built (asked.Del s k) b g p d c sp se oc ta dn re jo is = d s k refl
+not_built (asked.Abort s) b g p d c sp se oc ta dn re jo is = is
+not_built asked.StartPoint b g p d c sp se oc ta dn re jo is = sp refl
+not_built asked.Seal b g p d c sp se oc ta dn re jo is = se refl
+not_built asked.OpenCapture b g p d c sp se oc ta dn re jo is = oc refl
+not_built asked.Take b g p d c sp se oc ta dn re jo is = ta refl
+not_built asked.Done b g p d c sp se oc ta dn re jo is = dn refl
+not_built asked.Rest b g p d c sp se oc ta dn re jo is = re refl
+not_built (asked.Join m n) b g p d c sp se oc ta dn re jo is = jo m n refl
+
+-- after a write
+written_off : (w : Store) (h : History) (key : List ℕ) (content : Option (List ℕ)) → is_open 1 h ≡ true → HasLegalEffects (setting_of w) (with_step h (write_event 1 key content) told.Ok) → IsReadOff w h →
+    IsLeft w (record w { kept = record w.kept { rows = requested_rows w.kept.rows key }; writes = with_write w.writes (record { key = key; value = content }) }) h (write_event 1 key content) told.Ok
+written_off w h key (Some v) is legal parts = (
+  refl,
+  record {
+    records = requested_records w.base.pairs w.kept.rows h _ key (number_of 1 h) true (ap (after w.base.pairs) (append-nil (log_of h))) (λ q. refl) refl (closed_stays (setting_of w) h (record { event = asked.Put 1 key v; reply = told.Ok }) legal refl) parts.records;
+    log = rw append-nil parts.log;
+    begun = parts.begun;
+    is_open = parts.is_open;
+    writes = λ o. ap (λ ws. with_write ws (record { key = key; value = Some v })) (parts.writes o);
+    alone = alone_write h key (Some v) is parts.alone;
+    start = parts.start;
+    cycle = same_cycle (setting_of w) w.cycle w.shelf h (record { event = asked.Put 1 key v; reply = told.Ok }) legal refl refl refl refl refl (append-nil (shelf w.base.run h)) (λ r. parts.cycle.quiet r) parts.cycle;
+  },
+  tt,
+)
+written_off w h key (None) is legal parts = (
+  refl,
+  record {
+    records = requested_records w.base.pairs w.kept.rows h _ key (number_of 1 h) true (ap (after w.base.pairs) (append-nil (log_of h))) (λ q. refl) refl (closed_stays (setting_of w) h (record { event = asked.Del 1 key; reply = told.Ok }) legal refl) parts.records;
+    log = rw append-nil parts.log;
+    begun = parts.begun;
+    is_open = parts.is_open;
+    writes = λ o. ap (λ ws. with_write ws (record { key = key; value = None })) (parts.writes o);
+    alone = alone_write h key (None) is parts.alone;
+    start = parts.start;
+    cycle = same_cycle (setting_of w) w.cycle w.shelf h (record { event = asked.Del 1 key; reply = told.Ok }) legal refl refl refl refl refl (append-nil (shelf w.base.run h)) (λ r. parts.cycle.quiet r) parts.cycle;
+  },
+  tt,
+)
 
 -- after a read
 read_off : (w : Store) (h : History) (key : List ℕ) (answer : Option (List ℕ)) → is_open 1 h ≡ true → HasLegalEffects (setting_of w) (with_step h (asked.Get 1 key) (read_reply answer)) → IsReadOff w h →
@@ -149,36 +181,39 @@ module _ (old new : Store) (h : History) (s : ℕ) (reply : Reply) (stands : Sta
       let now = rw (d.0, both.0) at legal in
       rw (d.0, d.1, both.0) (read_off old h key _ (sym stands.parts.is_open ∙ both.1) now stands.parts))
 
-  pub puts_follows : (key value : List ℕ) → Puts old s key value reply new → Follows (setting_of old) h (asked.Put s key value) reply new
-  puts_follows key value step =
+  -- the causes of a write's refusals are those of the history
+  write_causes_are : (key : List ℕ) → first_refusal (write_causes old s key) ≡ first_refusal ((no_session (setting_of old) s, why.NoSession) ∷ (not (is_open s h), why.NoTransaction) ∷ (is_waiting s h, why.StillWaiting) ∷ (has_died s h, why.MustAbort) ∷ (too_many s key h, why.TooManyWrites) ∷ (is_full (setting_of old) key h, why.Full) ∷ [])
+  write_causes_are key =
       let mine : List (Bool × Refusal) = (is_one_too_many old.writes key, why.TooManyWrites) ∷ (is_full_for old.kept key, why.Full) ∷ [] in
-      owes_follows old new h (asked.Put s key value) reply _ (first_refusal (open_causes old s mine)) stands
-      (in_transaction old h s mine ((too_many s key h, why.TooManyWrites) ∷ (is_full (setting_of old) key h, why.Full) ∷ []) stands
+      in_transaction old h s mine ((too_many s key h, why.TooManyWrites) ∷ (is_full (setting_of old) key h, why.Full) ∷ []) stands
       (λ is o. subst (λ t. first_refusal mine ≡ first_refusal ((too_many t key h, why.TooManyWrites) ∷ (is_full (setting_of old) key h, why.Full) ∷ [])) (sym is)
       (ap (λ b. first_refusal ((b, why.TooManyWrites) ∷ (is_full_for old.kept key, why.Full) ∷ [])) (ap (λ ws. eqb (length ws) 256 && is_none (written ws key)) (stands.parts.writes o) ∙ ap (λ b. eqb (length (writes_of 1 h)) 256 && b) (is_none-some (written (writes_of 1 h) key)))
-      ∙ ap (λ b. first_refusal ((too_many 1 key h, why.TooManyWrites) ∷ (b, why.Full) ∷ [])) (full_now old h key stands.parts.records))))
-      (refused_idle (asked.Put s key value) (open_causes old s mine)) step
-      (λ none d.
-      let both = open_then mine none in
+      ∙ ap (λ b. first_refusal ((too_many 1 key h, why.TooManyWrites) ∷ (b, why.Full) ∷ [])) (full_now old h key stands.parts.records)))
+
+  -- a write is granted
+  write_answer : (key : List ℕ) → first_refusal (write_causes old s key) ≡ None → reply ≡ told.Ok → reply ≡ by_outcome (outcome (queue_of key h) (number_of s h) true) told.Ok
+  write_answer key none is =
+      let both = open_then ((is_one_too_many old.writes key, why.TooManyWrites) ∷ (is_full_for old.kept key, why.Full) ∷ []) none in
       let granted : outcome (queue_of key h) (number_of s h) true ≡ Granted = rw both.0 (outcome_own (number_of 1 h) (queue_of key h) true (stands.parts.alone.own key)) in
-      d.0 ∙ ap (λ o. by_outcome o told.Ok) (sym granted))
+      is ∙ ap (λ o. by_outcome o told.Ok) (sym granted)
+
+  pub puts_follows : (key value : List ℕ) → WritesKey old s key (Some value) reply new → Follows (setting_of old) h (asked.Put s key value) reply new
+  puts_follows key value step =
+      owes_follows old new h (asked.Put s key value) reply _ (first_refusal (write_causes old s key)) stands (write_causes_are key) (refused_idle (asked.Put s key value) (write_causes old s key)) step
+      (λ none d. write_answer key none d.0)
       (λ none d legal.
-      let both = open_then mine none in
+      let both = open_then ((is_one_too_many old.writes key, why.TooManyWrites) ∷ (is_full_for old.kept key, why.Full) ∷ []) none in
       let now = rw (d.0, both.0) at legal in
-      rw (d.0, d.1, both.0) (
-        refl,
-        record {
-          records = requested_records old.base.pairs old.kept.rows h _ key (number_of 1 h) true (ap (after old.base.pairs) (append-nil (log_of h))) (λ q. refl) refl (closed_stays (setting_of old) h (record { event = asked.Put 1 key value; reply = told.Ok }) now refl) stands.parts.records;
-          log = rw append-nil stands.parts.log;
-          begun = stands.parts.begun;
-          is_open = stands.parts.is_open;
-          writes = λ o. ap (λ ws. with_write ws (record { key = key; value = Some value })) (stands.parts.writes o);
-          alone = alone_write h key value (sym stands.parts.is_open ∙ both.1) stands.parts.alone;
-          start = stands.parts.start;
-          cycle = same_cycle (setting_of old) old.cycle old.shelf h (record { event = asked.Put 1 key value; reply = told.Ok }) now refl refl refl refl refl (append-nil (shelf old.base.run h)) (λ r. stands.parts.cycle.quiet r) stands.parts.cycle;
-        },
-        tt,
-      ))
+      rw (d.0, d.1, both.0) (written_off old h key (Some value) (sym stands.parts.is_open ∙ both.1) now stands.parts))
+
+  pub dels_follows : (key : List ℕ) → WritesKey old s key None reply new → Follows (setting_of old) h (asked.Del s key) reply new
+  dels_follows key step =
+      owes_follows old new h (asked.Del s key) reply _ (first_refusal (write_causes old s key)) stands (write_causes_are key) (refused_idle (asked.Del s key) (write_causes old s key)) step
+      (λ none d. write_answer key none d.0)
+      (λ none d legal.
+      let both = open_then ((is_one_too_many old.writes key, why.TooManyWrites) ∷ (is_full_for old.kept key, why.Full) ∷ []) none in
+      let now = rw (d.0, both.0) at legal in
+      rw (d.0, d.1, both.0) (written_off old h key None (sym stands.parts.is_open ∙ both.1) now stands.parts))
 
   pub commits_follows : Commits old s reply new → Follows (setting_of old) h (asked.Commit s) reply new
   commits_follows step =
@@ -240,8 +275,8 @@ begins_keeps old s reply new = owes_keeps _ old reply new _ (λ d. (ap setting_o
 pub gets_keeps : (old : Store) (s : ℕ) (key : List ℕ) (reply : Reply) (new : Store) → Gets old s key reply new → Keeps old reply new
 gets_keeps old s key reply new = owes_keeps _ old reply new _ (λ d. (ap setting_of d.1, rw d.0 (not_refused _ _)))
 
-pub puts_keeps : (old : Store) (s : ℕ) (key value : List ℕ) (reply : Reply) (new : Store) → Puts old s key value reply new → Keeps old reply new
-puts_keeps old s key value reply new = owes_keeps _ old reply new _ (λ d. (ap setting_of d.1, rw d.0 tt))
+pub writes_keeps : (old : Store) (s : ℕ) (key : List ℕ) (content : Option (List ℕ)) (reply : Reply) (new : Store) → WritesKey old s key content reply new → Keeps old reply new
+writes_keeps old s key content reply new = owes_keeps _ old reply new _ (λ d. (ap setting_of d.1, rw d.0 tt))
 
 pub commits_keeps : (old : Store) (s : ℕ) (reply : Reply) (new : Store) → Commits old s reply new → Keeps old reply new
 commits_keeps old s reply new = owes_keeps _ old reply new _ (λ d. (ap setting_of d.1, rw d.0 tt))

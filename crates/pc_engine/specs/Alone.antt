@@ -12,6 +12,7 @@ abbrev pub IsBuilt : Event → Type 0
 IsBuilt (asked.Begin s) = ⊤
 IsBuilt (asked.Get s key) = ⊤
 IsBuilt (asked.Put s key value) = ⊤
+IsBuilt (asked.Del s key) = ⊤
 IsBuilt (asked.Commit s) = ⊤
 IsBuilt asked.StartPoint = ⊤
 IsBuilt asked.Seal = ⊤

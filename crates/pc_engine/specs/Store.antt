@@ -193,12 +193,21 @@ Gets old s key reply new =
     ((reply ≡ read_reply (value_read (written old.writes key) (stored (record_of old.kept.rows key))))
     × (new ≡ record old { kept = record old.kept { rows = requested_rows old.kept.rows key } }))
 
--- the key is written by the transaction, and requested
-abbrev pub Puts : Store → ℕ → List ℕ → List ℕ → Reply → Store → Type 0
-Puts old s key value reply new =
-    Owes (first_refusal (open_causes old s ((is_one_too_many old.writes key, why.TooManyWrites) ∷ (is_full_for old.kept key, why.Full) ∷ []))) old reply new
+-- the causes of a write's refusals
+abbrev pub write_causes : Store → ℕ → List ℕ → List (Bool × Refusal)
+write_causes w s key = open_causes w s ((is_one_too_many w.writes key, why.TooManyWrites) ∷ (is_full_for w.kept key, why.Full) ∷ [])
+
+-- the first of them that stands, or none does
+abbrev pub WriteCause : Store → ℕ → List ℕ → Option Refusal → Type 0
+WriteCause w s key None = first_refusal (write_causes w s key) ≡ None
+WriteCause w s key (Some r) = first_refusal (write_causes w s key) ≡ Some (told.Refused r)
+
+-- the key is set to the content or removed by the transaction, and requested
+abbrev pub WritesKey : Store → ℕ → List ℕ → Option (List ℕ) → Reply → Store → Type 0
+WritesKey old s key content reply new =
+    Owes (first_refusal (write_causes old s key)) old reply new
     ((reply ≡ told.Ok)
-    × (new ≡ record old { kept = record old.kept { rows = requested_rows old.kept.rows key }; writes = with_write old.writes (record { key = key; value = Some value }) }))
+    × (new ≡ record old { kept = record old.kept { rows = requested_rows old.kept.rows key }; writes = with_write old.writes (record { key = key; value = content }) }))
 
 -- the writes are logged and committed, and the transaction is over
 abbrev pub Commits : Store → ℕ → Reply → Store → Type 0

@@ -12,7 +12,7 @@ ghost use Rattle.pc_engine.specs.Runs.{IsRun};
 ghost use Rattle.pc_engine.specs.Stands.{Stands, Follows, IfRefused};
 ghost use Rattle.pc_types.specs.declared.Phase.TheVariants as phase;
 ghost use Rattle.pc_model.specs.Replies.{same_phase};
-ghost use Rattle.pc_engine.specs.Store.{starting, Begins, Gets, Puts, Commits, StartsPoint, Seals, Moves, Takes, Shelves, Joins, setting_of, record_of, requested_rows, stored, is_full_for, is_one_too_many};
+ghost use Rattle.pc_engine.specs.Store.{starting, Begins, Gets, WritesKey, Commits, StartsPoint, Seals, Moves, Takes, Shelves, Joins, WriteCause, setting_of, record_of, requested_rows, stored, is_full_for, is_one_too_many};
 
 use crate::checks::is_sound;
 use crate::records::Records;
@@ -137,6 +137,7 @@ impl World {
             Event::Begin(session) => self.begin(*session),
             Event::Get(session, key) => self.get(*session, key),
             Event::Put(session, key, value) => self.put(*session, key, value),
+            Event::Del(session, key) => self.delete(*session, key),
             Event::Commit(session) => self.commit(*session),
             Event::StartPoint => self.start_point(),
             Event::Seal => self.seal(),
@@ -251,24 +252,52 @@ impl World {
     }
 
     fn put(&mut self, session: SessionNo, key: &Key, value: &Value) -> Reply
-        ensures { Puts self.old session key.now value.now result self.new }
+        ensures { WritesKey self.old session key.now (Some value.now) result self.new }
     {
-        if is_no_session(self.sessions, session) {
-            return Reply::Refused(Refusal::NoSession);
+        if let Some(why) = self.write_cause(session, key) {
+            return Reply::Refused(why);
         }
-        if !self.is_open {
-            return Reply::Refused(Refusal::NoTransaction);
-        }
-        if is_one_too_many(&self.writes, key) {
-            return Reply::Refused(Refusal::TooManyWrites);
-        }
-        if self.records.is_full_for(key) {
-            return Reply::Refused(Refusal::Full);
-        }
-        match take_write(self.alloc, &mut self.records, &mut self.writes, key, value) {
+        match take_write(
+            self.alloc,
+            &mut self.records,
+            &mut self.writes,
+            key,
+            Some(value),
+        ) {
             Ok(()) => Reply::Ok,
             Err(_) => Reply::Refused(Refusal::OutOfMemory),
         }
+    }
+
+    fn delete(&mut self, session: SessionNo, key: &Key) -> Reply
+        ensures { WritesKey self.old session key.now None result self.new }
+    {
+        if let Some(why) = self.write_cause(session, key) {
+            return Reply::Refused(why);
+        }
+        match take_write(self.alloc, &mut self.records, &mut self.writes, key, None) {
+            Ok(()) => Reply::Ok,
+            Err(_) => Reply::Refused(Refusal::OutOfMemory),
+        }
+    }
+
+    // Why a write of the key is refused whatever memory there is, if it is.
+    fn write_cause(&self, session: SessionNo, key: &Key) -> Option<Refusal>
+        ensures { WriteCause self.now session key.now result }
+    {
+        if is_no_session(self.sessions, session) {
+            return Some(Refusal::NoSession);
+        }
+        if !self.is_open {
+            return Some(Refusal::NoTransaction);
+        }
+        if is_one_too_many(&self.writes, key) {
+            return Some(Refusal::TooManyWrites);
+        }
+        if self.records.is_full_for(key) {
+            return Some(Refusal::Full);
+        }
+        None
     }
 
     fn commit(&mut self, session: SessionNo) -> Reply
@@ -472,14 +501,14 @@ fn take_write(
     records: &mut Records,
     writes: &mut Vec<Write>,
     key: &Key,
-    value: &Value,
+    value: Option<&Value>,
 ) -> Result<(), AllocError>
     requires room { is_full_for records.old key.now ≡ false }
     requires few { is_one_too_many writes.old.items key.now ≡ false }
     requires limit { length writes.old.items ≤ 256 }
     ensures limit { length writes.new.items ≤ 256 }
     ensures records { OnOk result (records.new ≡ record records.old { rows = requested_rows records.old.rows key.now }) }
-    ensures writes { OnOk result (writes.new.items ≡ with_write writes.old.items (record { key = key.now; value = Some value.now })) }
+    ensures writes { OnOk result (writes.new.items ≡ with_write writes.old.items (record { key = key.now; value = option_copied value.entry })) }
     ensures same_records { OnErr result (records.new ≡ records.old) }
     ensures same_writes { OnErr result (writes.new.items ≡ writes.old.items) }
 {

@@ -1,5 +1,5 @@
 //! The writes of the open transaction: the final one per key, in the order of first writes.
-ghost use Rattle.std.specs.Prelude.{◌≡◌, ◌<◌, ◌≤◌, ◌==◌, ◌&&◌, ◌++◌, [], length, IfOk, OnOk, MatchOption, Some, is_none, vec_len, vec_capacity};
+ghost use Rattle.std.specs.Prelude.{◌≡◌, ◌<◌, ◌≤◌, ◌==◌, ◌&&◌, ◌++◌, [], length, IfOk, OnOk, MatchOption, Some, is_none, option_copied, vec_len, vec_capacity};
 ghost use Rattle.pc_model.specs.Database.{with_write, written};
 ghost use Rattle.pc_engine.specs.Store.{is_one_too_many, is_recent, record_of, new_keys, with_new};
 ghost use Rattle.pc_engine.specs.Writes.{IsWrittenAt, IsUnwritten};
@@ -84,14 +84,14 @@ fn add_new(
     Ok(())
 }
 
-// A write of copies.
-pub(crate) fn write_of(alloc: Global, key: &Key, value: &Value) -> Result<Write, AllocError>
-    ensures { IfOk result (λ write. write ≡ record { key = key.now; value = Some value.now }) }
+// A write of copies, of a value or of absence.
+pub(crate) fn write_of(alloc: Global, key: &Key, value: Option<&Value>) -> Result<Write, AllocError>
+    ensures { IfOk result (λ write. write ≡ record { key = key.now; value = option_copied value.entry }) }
 {
     let key = key.copy(alloc)?;
-    let value = value.copy(alloc)?;
-    Ok(Write {
-        key,
-        value: Some(value),
-    })
+    let value = match value {
+        Some(value) => Some(value.copy(alloc)?),
+        None => None,
+    };
+    Ok(Write { key, value })
 }

@@ -7,7 +7,7 @@ use Rattle.pcalc.specs.declared.lines.Line.{Line}
 use Rattle.pcalc.specs.declared.lines.Line.TheVariants as line
 use Rattle.pcalc.specs.declared.lines.View.TheVariants as view
 use Rattle.pcalc.specs.Words.{number_of, text_of}
-use Rattle.pcalc.specs.Lines.{is_key, is_value, base_line, get_line, put_line, one_word, numbered, join_line, spelled_by}
+use Rattle.pcalc.specs.Lines.{is_key, is_value, base_line, get_line, del_line, put_line, one_word, numbered, join_line, spelled_by}
 use Rattle.pcalc.specs.Built.{AsksBuilt}
 
 built_if : (b : Bool) (x y : Line) → AsksBuilt x → AsksBuilt y → AsksBuilt (if b then x else y)
@@ -23,6 +23,11 @@ built_get : (s : Option ℕ) (key : Option (List ℕ)) → AsksBuilt (get_line s
 built_get None key = tt
 built_get (Some s) None = tt
 built_get (Some s) (Some key) = built_if (is_key key) (line.Asks (asked.Get s key)) _ tt tt
+
+built_del : (s : Option ℕ) (key : Option (List ℕ)) → AsksBuilt (del_line s key)
+built_del None key = tt
+built_del (Some s) None = tt
+built_del (Some s) (Some key) = built_if (is_key key) (line.Asks (asked.Del s key)) _ tt tt
 
 built_put : (s : Option ℕ) (key value : Option (List ℕ)) → AsksBuilt (put_line s key value)
 built_put None key value = tt
@@ -59,8 +64,9 @@ built_words (a ∷ []) = built_one a
 built_words (verb ∷ a ∷ []) = built_number verb (number_of a)
 built_words (verb ∷ a ∷ b ∷ []) =
     built_if (bytes_eq verb (codes "get")) _ _ (built_get (number_of a) (text_of b))
+    (built_if (bytes_eq verb (codes "del")) _ _ (built_del (number_of a) (text_of b))
     (built_if (bytes_eq verb (codes "base")) _ _ (built_base (text_of a) (text_of b))
-    (built_if (bytes_eq verb (codes "join")) _ line.Malformed (built_join (number_of a) (number_of b)) tt))
+    (built_if (bytes_eq verb (codes "join")) _ line.Malformed (built_join (number_of a) (number_of b)) tt)))
 built_words (verb ∷ a ∷ b ∷ c ∷ []) = built_if (bytes_eq verb (codes "put")) _ line.Malformed (built_put (number_of a) (text_of b) (text_of c)) tt
 built_words (a ∷ b ∷ c ∷ d ∷ e ∷ words) = tt
 

@@ -36,6 +36,11 @@ abbrev pub get_line : Option ℕ → Option (List ℕ) → Line
 get_line (Some session) (Some key) = if is_key key then line.Asks (asked.Get session key) else line.AsksRefused why.KeyLength
 get_line session key = line.Malformed
 
+-- a removal
+abbrev pub del_line : Option ℕ → Option (List ℕ) → Line
+del_line (Some session) (Some key) = if is_key key then line.Asks (asked.Del session key) else line.AsksRefused why.KeyLength
+del_line session key = line.Malformed
+
 -- a put, whose key is tested before its value
 abbrev pub put_line : Option ℕ → Option (List ℕ) → Option (List ℕ) → Line
 put_line (Some session) (Some key) (Some value) =
@@ -79,8 +84,9 @@ join_line first second = line.Malformed
 abbrev pub three_words : List ℕ → List ℕ → List ℕ → Line
 three_words verb first second =
     if bytes_eq verb (codes "get") then get_line (number_of first) (text_of second)
+    else (if bytes_eq verb (codes "del") then del_line (number_of first) (text_of second)
     else (if bytes_eq verb (codes "base") then base_line (text_of first) (text_of second)
-    else (if bytes_eq verb (codes "join") then join_line (number_of first) (number_of second) else line.Malformed))
+    else (if bytes_eq verb (codes "join") then join_line (number_of first) (number_of second) else line.Malformed)))
 
 -- what four words spell
 abbrev pub four_words : List ℕ → List ℕ → List ℕ → List ℕ → Line

@@ -3,7 +3,7 @@ ghost use Rattle.std.specs.Prelude.{◌≡◌, ◌==◌, ℕ, List, Some, map, l
 ghost use Rattle.std.specs.List.{slice_split};
 ghost use Rattle.pcalc.specs.Words.{number_of, text_of};
 ghost use Rattle.pcalc.specs.Built.{AsksBuilt};
-ghost use Rattle.pcalc.specs.Lines.{words_of, is_key, is_value, base_line, get_line, put_line, one_word, numbered_line, two_words, three_words, four_words, spelled_by, is_comment, spelled};
+ghost use Rattle.pcalc.specs.Lines.{words_of, is_key, is_value, base_line, get_line, del_line, put_line, one_word, numbered_line, two_words, three_words, four_words, spelled_by, is_comment, spelled};
 
 use crate::words::{number, text_of};
 use pc_types::{Event, FileNo, Key, Refusal, SessionNo, Value};
@@ -150,6 +150,12 @@ fn three_words(alloc: Global, verb: &[u8], first: &[u8], second: &[u8]) -> Resul
             (Some(session), Some(key)) => get_line(alloc, session, &key),
             _ => Ok(Line::Malformed),
         }
+    } else if verb == b"del".as_slice() {
+        let text = text_of(alloc, second)?;
+        match (number(first), text) {
+            (Some(session), Some(key)) => del_line(alloc, session, &key),
+            _ => Ok(Line::Malformed),
+        }
     } else if verb == b"base".as_slice() {
         let key = text_of(alloc, first)?;
         let value = text_of(alloc, second)?;
@@ -220,6 +226,17 @@ fn get_line(alloc: Global, session: u32, key: &[u8]) -> Result<Line, Refusal>
     }
     let key = Key::new(alloc, key)?;
     Ok(Line::Asks(Event::Get(SessionNo(session), key)))
+}
+
+fn del_line(alloc: Global, session: u32, key: &[u8]) -> Result<Line, Refusal>
+    ensures line { IfOk result (λ line. line ≡ del_line (Some session) (Some key.now)) }
+    ensures refusals { IfErr result (λ e. e ≡ Refusal.OutOfMemory) }
+{
+    if !is_key(key) {
+        return Ok(Line::AsksRefused(Refusal::KeyLength));
+    }
+    let key = Key::new(alloc, key)?;
+    Ok(Line::Asks(Event::Del(SessionNo(session), key)))
 }
 
 fn put_line(alloc: Global, session: u32, key: &[u8], value: &[u8]) -> Result<Line, Refusal>

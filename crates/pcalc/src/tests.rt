@@ -60,6 +60,19 @@ fn takes_an_empty_point(rt: HostRuntime) {
     assert_eq!(rt; errors.len(), 0);
 }
 
+// A deleted key is taken as a tombstone, which the state leaves out; a key that was never there is deleted too.
+#[test]
+fn takes_a_deleted_key(rt: HostRuntime) {
+    let script =
+        "base k 7\nbegin 1\ndel 1 k\nget 1 k\ndel 1 z\ndel 1 -\ncommit 1\npoint\nseal\ncapture\ntake\ntake\ndone\nrest\nstate 1\nbegin 1\nget 1 k\nput 1 k 8\nget 1 k\ncommit 1\ncheck\n";
+    let want =
+        "ok\nbegun 1\nok\nabsent\nok\nrefused KeyLength\ncommitted 1\nphase prepare 1\nphase resolve 1\nphase capture 1\ntook k tombstone\ntook z tombstone\npart 1 file 1 entries 2\nphase rest 1\nstate point 1 pairs 0\nbegun 2\nabsent\nok\n= 8\ncommitted 7\ncheck ok\n";
+    let (status, out, errors) = ran(rt.alloc(), 1024, script.as_bytes());
+    assert_eq!(rt; out.as_slice(), want.as_bytes());
+    assert_eq!(rt; status, 0);
+    assert_eq!(rt; errors.len(), 0);
+}
+
 // Three points with a commit before each, and joins of their files in several orders.
 #[test]
 fn takes_three_points(rt: HostRuntime) {
@@ -136,7 +149,7 @@ fn answers_scripts(rt: HostRuntime) {
             "refused KeyLength\nrefused WrongPhase\n",
             0,
         ),
-        ("del 1 a\nbegin 1\n", "bad line\nbegun 1\n", 3),
+        ("abort 1\nbegin 1\n", "bad line\nbegun 1\n", 3),
         (
             "state 1\ntext 0\njoin 1 1\nstate\ntext x\njoin 1\n",
             "refused NoFile\nrefused NoFile\nrefused NoFile\nbad line\nbad line\nbad line\n",

@@ -1,4 +1,4 @@
-use Rattle.pc_engine.proofs.Standing.{begins_follows, gets_follows, puts_follows, commits_follows, begins_keeps, gets_keeps, puts_keeps, commits_keeps, starts_keeps, seals_keeps, moves_keeps, takes_keeps, shelves_keeps, joins_keeps, not_built}
+use Rattle.pc_engine.proofs.Standing.{begins_follows, gets_follows, puts_follows, dels_follows, commits_follows, begins_keeps, gets_keeps, writes_keeps, commits_keeps, starts_keeps, seals_keeps, moves_keeps, takes_keeps, shelves_keeps, joins_keeps, not_built}
 use Rattle.pc_engine.proofs.Cycles.{starts_follows, seals_follows, opens_follows, takes_follows, shelves_follows, rests_follows, joins_follows}
 use Rattle.pc_engine.proofs.world.World.step.Goals as goal
 
@@ -14,8 +14,13 @@ returns-in-Get c =
 
 pub returns-in-Put : goal.returns-in-Put
 returns-in-Put c =
-    let kept = puts_keeps _ _ _ _ _ _ c.put.ensures in
+    let kept = writes_keeps _ _ _ _ _ _ c.put.ensures in
     record { follows = λ history stands. rw c.in-Put.is (puts_follows _ _ history _ _ stands _ _ c.put.ensures); setting = kept.0; refused = kept.1 }
+
+pub returns-in-Del : goal.returns-in-Del
+returns-in-Del c =
+    let kept = writes_keeps _ _ _ _ _ _ c.delete.ensures in
+    record { follows = λ history stands. rw c.in-Del.is (dels_follows _ _ history _ _ stands _ c.delete.ensures); setting = kept.0; refused = kept.1 }
 
 pub returns-in-Commit : goal.returns-in-Commit
 returns-in-Commit c =
@@ -59,5 +64,5 @@ returns-in-Join c =
 
 pub returns-in_default-clause-follows : goal.returns-in_default-clause-follows
 returns-in_default-clause-follows c history stands =
-    absurd (not_built c.args.event.now c.in_default.not-Begin c.in_default.not-Get c.in_default.not-Put c.in_default.not-Commit c.in_default.not-StartPoint c.in_default.not-Seal c.in_default.not-OpenCapture c.in_default.not-Take c.in_default.not-Done c.in_default.not-Rest
+    absurd (not_built c.args.event.now c.in_default.not-Begin c.in_default.not-Get c.in_default.not-Put c.in_default.not-Del c.in_default.not-Commit c.in_default.not-StartPoint c.in_default.not-Seal c.in_default.not-OpenCapture c.in_default.not-Take c.in_default.not-Done c.in_default.not-Rest
     c.in_default.not-Join c.requires.built)
