@@ -86,6 +86,20 @@ fn takes_three_points(rt: HostRuntime) {
     assert_eq!(rt; errors.len(), 0);
 }
 
+// Three points, of which the last has a tombstone, and joins of their files in six groupings and orders: the four files of
+// all points have the same 55 bytes.
+#[test]
+fn joins_a_tombstone(rt: HostRuntime) {
+    let script =
+        "begin 1\nput 1 a 1\nput 1 b 1\ncommit 1\npoint\nseal\ncapture\ntake\ntake\ndone\nrest\nbegin 1\nput 1 a 2\ncommit 1\npoint\nseal\ncapture\ntake\ndone\nrest\nbegin 1\ndel 1 b\ncommit 1\npoint\nseal\ncapture\ntake\ndone\nrest\njoin 1 2\njoin 4 3\njoin 2 1\njoin 3 6\njoin 1 1\njoin 8 2\njoin 9 3\njoin 10 3\nstate 5\ntext 5\ntext 7\ntext 10\ntext 11\njoin 1 3\nstate 12\njoin 1 99\ncheck\n";
+    let want =
+        "begun 1\nok\nok\ncommitted 1\nphase prepare 1\nphase resolve 1\nphase capture 1\ntook a 1\ntook b 1\npart 1 file 1 entries 2\nphase rest 1\nbegun 2\nok\ncommitted 7\nphase prepare 2\nphase resolve 2\nphase capture 2\ntook a 2\npart 2 file 2 entries 1\nphase rest 2\nbegun 3\nok\ncommitted 13\nphase prepare 3\nphase resolve 3\nphase capture 3\ntook b tombstone\npart 3 file 3 entries 1\nphase rest 3\nfile 4 points 1-2 entries 2\nfile 5 points 1-3 entries 2\nfile 6 points 1-2 entries 2\nfile 7 points 1-3 entries 2\nfile 8 points 1 entries 2\nfile 9 points 1-2 entries 2\nfile 10 points 1-3 entries 2\nfile 11 points 1-3 entries 2\nstate point 3 pairs 1\na 2\ntext 5043414c435030310000000000000001000000010000000100000003000161000000020100000001320001620000000300000000000002\ntext 5043414c435030310000000000000001000000010000000100000003000161000000020100000001320001620000000300000000000002\ntext 5043414c435030310000000000000001000000010000000100000003000161000000020100000001320001620000000300000000000002\ntext 5043414c435030310000000000000001000000010000000100000003000161000000020100000001320001620000000300000000000002\nfile 12 points 1,3 entries 2\nrefused Gap 2\nrefused NoFile\ncheck ok\n";
+    let (status, out, errors) = ran(rt.alloc(), 1024, script.as_bytes());
+    assert_eq!(rt; out.as_slice(), want.as_bytes());
+    assert_eq!(rt; status, 0);
+    assert_eq!(rt; errors.len(), 0);
+}
+
 #[test]
 fn answers_scripts(rt: HostRuntime) {
     let cases = [
