@@ -365,26 +365,30 @@ fn first_wrong(alloc: Global, lists: Lists) -> Result<(u32, Vec<usize>), AllocEr
     Ok((u32::MAX, list))
 }
 
+// Every list of at most 7 events of two transactions at two slots, 7,246,390 lists. A list isn't gone on with once its last
+// event may not be: a transaction that waits only releases, and so does one that died, until it has released all. What each
+// event comes to, who waits and where a request stands is as in the slow table.
 #[test]
 fn every_short_list_of_two_is_right(rt: HostRuntime) -> Result<(), Fail> {
     let lists = Lists {
         letters: 10,
-        most: 4,
+        most: 7,
     };
     let (count, list) = first_wrong(rt.alloc(), lists)?;
     assert!(rt; list.is_empty(), "they differ after {list:?}");
-    assert_eq!(rt; count, 10_630);
+    assert_eq!(rt; count, 7_246_390);
     Ok(())
 }
 
+// The same of at most 6 events of three transactions, 9,206,640 lists.
 #[test]
 fn every_short_list_of_three_is_right(rt: HostRuntime) -> Result<(), Fail> {
     let lists = Lists {
         letters: 15,
-        most: 3,
+        most: 6,
     };
     let (count, list) = first_wrong(rt.alloc(), lists)?;
     assert!(rt; list.is_empty(), "they differ after {list:?}");
-    assert_eq!(rt; count, 3_615);
+    assert_eq!(rt; count, 9_206_640);
     Ok(())
 }
