@@ -69,7 +69,8 @@ impl SlowTable {
             .position(|e| e.transaction == transaction && e.slot == slot)
     }
 
-    // A transaction that writes or only reads again has what it needs; a reader may write where it holds the slot alone.
+    // The request at i is the transaction's own and is held. One that may write may do all, and to read again is nothing new;
+    // a reader may write where no other holds the slot.
     fn ask_again(&mut self, i: usize, writes: bool) -> Outcome {
         let Some(own) = self.entries.get(i).copied() else {
             return Outcome::Died;
@@ -146,7 +147,7 @@ impl SlowTable {
         slot
     }
 
-    // The first that don't disturb one another hold the slot.
+    // The requests hold the slot from the first on, up to one that may not stand beside those before it.
     fn grant(&mut self, slot: u32) {
         let mut has_reader = false;
         let mut has_writer = false;
