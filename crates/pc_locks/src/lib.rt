@@ -6,6 +6,8 @@ mod locks;
 mod queue;
 mod request;
 #[cfg(test)]
+mod slow_table;
+#[cfg(test)]
 mod tests;
 
 pub use locks::Locks;
