@@ -1,4 +1,5 @@
 //! Each measurement with few entries or keys.
+use crate::failure::Failure;
 use crate::joins::measure_join;
 use crate::locks::measure_locks;
 use crate::options::{Batches, Cycles, Pairs};
@@ -42,10 +43,11 @@ fn grants_and_releases(rt: HostRuntime) -> Result<(), Fail> {
             slots,
             others,
         };
-        let done = measure_locks(rt.alloc(), &rt, pairs)
-            .ok()
-            .ok_or("no pairs")?;
-        assert_eq!(rt; done.pairs, pairs.pairs, "{others}");
+        match measure_locks(rt.alloc(), &rt, pairs) {
+            Ok(done) => assert_eq!(rt; done.pairs, pairs.pairs, "{others}"),
+            Err(Failure::Refused(why)) => return Err(why.into()),
+            Err(Failure::System(e)) => return Err(e.into()),
+        }
     }
     Ok(())
 }
@@ -55,11 +57,11 @@ fn grants_and_releases(rt: HostRuntime) -> Result<(), Fail> {
 fn writes_each_key_twice(rt: HostRuntime) -> Result<(), Fail> {
     for (transactions, keys, rows) in [(1u32, 1u16, 1u64), (2, 16, 32), (3, 256, 768)] {
         let batches = Batches { transactions, keys };
-        let done = measure_writes(rt.alloc(), &rt, batches)
-            .ok()
-            .ok_or("no writes")?;
-        assert_eq!(rt; done.rows, rows, "{keys}");
-        assert_eq!(rt; done.writes, rows * 2, "{keys}");
+        match measure_writes(rt.alloc(), &rt, batches) {
+            Ok(done) => assert_eq!(rt; (done.rows, done.writes), (rows, rows * 2), "{keys}"),
+            Err(Failure::Refused(why)) => return Err(why.into()),
+            Err(Failure::System(e)) => return Err(e.into()),
+        }
     }
     Ok(())
 }
