@@ -3,18 +3,22 @@
 
 mod failure;
 mod joins;
+mod locks;
 mod options;
 mod points;
 #[cfg(test)]
 mod tests;
+mod writes;
 
 use clap::error::ErrorKind;
 use failure::Failure;
 use joins::measure_join;
-use options::{Cycles, Options, Work, options_of};
+use locks::{Paired, measure_locks};
+use options::{Batches, Cycles, Options, Pairs, Work, options_of};
 use points::measure_points;
 use std::process::ExitCode;
 use std::{env, io};
+use writes::{Written, measure_writes};
 
 fn main(rt: HostRuntime) -> ExitCode {
     match run_command(&rt) {
@@ -49,6 +53,8 @@ fn run_work(rt: &HostRuntime, options: &Options) -> io::Result<u8> {
     let done = match options.work {
         Work::Join { entries } => run_join(rt, entries, options.is_timed),
         Work::Points(cycles) => run_points(rt, cycles, options.is_timed),
+        Work::Locks(pairs) => run_locks(rt, pairs, options.is_timed),
+        Work::Writes(batches) => run_writes(rt, batches, options.is_timed),
     };
     match done {
         Ok(()) => Ok(0),
@@ -79,6 +85,37 @@ fn run_points(rt: &HostRuntime, cycles: Cycles, is_timed: bool) -> Result<(), Fa
             print!(rt; " take_us {}", cycle.taking.as_micros())?;
         }
         println!(rt; "")?;
+    }
+    Ok(())
+}
+
+fn run_locks(rt: &HostRuntime, pairs: Pairs, is_timed: bool) -> Result<(), Failure> {
+    match measure_locks(rt.alloc(), rt, pairs) {
+        Ok(done) => Ok(tell_locks(rt, &done, is_timed)?),
+        Err(why) => Err(why),
+    }
+}
+
+fn tell_locks(rt: &HostRuntime, done: &Paired, is_timed: bool) -> io::Result<()> {
+    println!(rt; "pairs {}", done.pairs)?;
+    if is_timed {
+        println!(rt; "pair_us {}", done.time.as_micros())?;
+    }
+    Ok(())
+}
+
+fn run_writes(rt: &HostRuntime, batches: Batches, is_timed: bool) -> Result<(), Failure> {
+    match measure_writes(rt.alloc(), rt, batches) {
+        Ok(done) => Ok(tell_writes(rt, &done, is_timed)?),
+        Err(why) => Err(why),
+    }
+}
+
+fn tell_writes(rt: &HostRuntime, done: &Written, is_timed: bool) -> io::Result<()> {
+    println!(rt; "writes {}", done.writes)?;
+    println!(rt; "rows {}", done.rows)?;
+    if is_timed {
+        println!(rt; "write_us {}", done.time.as_micros())?;
     }
     Ok(())
 }

@@ -11,6 +11,10 @@ pub enum Work {
     Join { entries: u32 },
     /// Cycles in each of which all keys are written and taken.
     Points(Cycles),
+    /// Pairs of a lock's request and its release.
+    Locks(Pairs),
+    /// Transactions that write keys, and end.
+    Writes(Batches),
 }
 
 /// How many cycles a store goes through, and how many keys it has, 1 to 1,048,576.
@@ -19,6 +23,24 @@ pub struct Cycles {
     pub points: u16,
     pub keys: u32,
     ghost in_range: { (1 ≤ keys) × (keys ≤ 1048576) },
+}
+
+/// How many pairs of a request and a release are made, over how many slots, 1 to 1,048,576, and how many other requests
+/// stand in each queue meanwhile.
+#[derive(Clone, Copy, Debug)]
+pub struct Pairs {
+    pub pairs: u32,
+    pub slots: u32,
+    pub others: u16,
+    ghost in_range: { (1 ≤ slots) × (slots ≤ 1048576) },
+}
+
+/// How many transactions there are, and how many keys each writes, all of them twice; at most 256.
+#[derive(Clone, Copy, Debug)]
+pub struct Batches {
+    pub transactions: u32,
+    pub keys: u16,
+    ghost in_range: { keys ≤ 256 },
 }
 
 /// What the program is asked to do.
@@ -46,7 +68,9 @@ fn command<'a>(alloc: Global) -> Result<Command<'a>, Error> {
             .subcommand_required(true)
             .arg(times)?
             .subcommand(join_command(alloc)?)?
-            .subcommand(points_command(alloc)?)?,
+            .subcommand(points_command(alloc)?)?
+            .subcommand(locks_command(alloc)?)?
+            .subcommand(writes_command(alloc)?)?,
     )
 }
 
@@ -79,12 +103,53 @@ fn points_command<'a>(alloc: Global) -> Result<Command<'a>, Error> {
     )
 }
 
+fn locks_command<'a>(alloc: Global) -> Result<Command<'a>, Error> {
+    let pairs = Arg::new(alloc, "PAIRS")
+        .help("How many pairs of a request and a release are made, 1 to 1000000000")
+        .required(true)
+        .value_parser(clap::value_parser!(u32).range(1..=1_000_000_000));
+    let slots = Arg::new(alloc, "SLOTS")
+        .help("How many slots they go round, 1 to 1048576")
+        .required(true)
+        .value_parser(clap::value_parser!(u32).range(1..=1_048_576));
+    let others = Arg::new(alloc, "OTHERS")
+        .help("How many other requests stand in each queue, 0 to 1000")
+        .required(true)
+        .value_parser(clap::value_parser!(u16).range(0..=1_000));
+    Ok(
+        Command::new(alloc, "locks")
+            .about("Requests and releases shared locks")
+            .arg(pairs)?
+            .arg(slots)?
+            .arg(others)?,
+    )
+}
+
+fn writes_command<'a>(alloc: Global) -> Result<Command<'a>, Error> {
+    let transactions = Arg::new(alloc, "TRANSACTIONS")
+        .help("How many transactions there are, 1 to 100000000")
+        .required(true)
+        .value_parser(clap::value_parser!(u32).range(1..=100_000_000));
+    let keys = Arg::new(alloc, "KEYS")
+        .help("How many keys each writes, all of them twice, 1 to 256")
+        .required(true)
+        .value_parser(clap::value_parser!(u16).range(1..=256));
+    Ok(
+        Command::new(alloc, "writes")
+            .about("Notes the writes of transactions, which end in turn by a commit and by an undo")
+            .arg(transactions)?
+            .arg(keys)?,
+    )
+}
+
 fn asked(matches: &ArgMatches) -> Option<Options> {
     let is_timed = matches.get_flag("times");
     let (name, matches) = matches.subcommand()?;
     let work = match name {
         "join" => join_of(matches)?,
         "points" => points_of(matches)?,
+        "locks" => locks_of(matches)?,
+        "writes" => writes_of(matches)?,
         _ => return None,
     };
     Some(Options { work, is_timed })
@@ -102,4 +167,27 @@ fn points_of(matches: &ArgMatches) -> Option<Work> {
         return None;
     }
     Some(Work::Points(Cycles { points, keys }))
+}
+
+fn locks_of(matches: &ArgMatches) -> Option<Work> {
+    let pairs = matches.get_one::<u32>("PAIRS")?;
+    let slots = matches.get_one::<u32>("SLOTS")?;
+    let others = matches.get_one::<u16>("OTHERS")?;
+    if slots < 1 || 1_048_576 < slots {
+        return None;
+    }
+    Some(Work::Locks(Pairs {
+        pairs,
+        slots,
+        others,
+    }))
+}
+
+fn writes_of(matches: &ArgMatches) -> Option<Work> {
+    let transactions = matches.get_one::<u32>("TRANSACTIONS")?;
+    let keys = matches.get_one::<u16>("KEYS")?;
+    if 256 < keys {
+        return None;
+    }
+    Some(Work::Writes(Batches { transactions, keys }))
 }

@@ -1,7 +1,10 @@
 //! Each measurement with few entries or keys.
+use crate::failure::Failure;
 use crate::joins::measure_join;
-use crate::options::Cycles;
+use crate::locks::measure_locks;
+use crate::options::{Batches, Cycles, Pairs};
 use crate::points::measure_points;
+use crate::writes::measure_writes;
 use std::test::Fail;
 
 // Two parts of four entries have two keys together, so their join has six entries, of 27 bytes each.
@@ -27,6 +30,38 @@ fn takes_every_key(rt: HostRuntime) -> Result<(), Fail> {
             .ok_or("no points")?;
         assert_eq!(rt; done.len(), 2, "{keys}");
         assert_eq!(rt; done[1].taken, keys);
+    }
+    Ok(())
+}
+
+// Each request is granted, and released, whether other requests stand or not, and more than once round.
+#[test]
+fn grants_and_releases(rt: HostRuntime) -> Result<(), Fail> {
+    for (pairs, slots, others) in [(1u32, 1u32, 0u16), (7, 3, 0), (7, 3, 7)] {
+        let pairs = Pairs {
+            pairs,
+            slots,
+            others,
+        };
+        match measure_locks(rt.alloc(), &rt, pairs) {
+            Ok(done) => assert_eq!(rt; done.pairs, pairs.pairs, "{others}"),
+            Err(Failure::Refused(why)) => return Err(why.into()),
+            Err(Failure::System(e)) => return Err(e.into()),
+        }
+    }
+    Ok(())
+}
+
+// Each key is written twice and has one row, however its transaction ends.
+#[test]
+fn writes_each_key_twice(rt: HostRuntime) -> Result<(), Fail> {
+    for (transactions, keys, rows) in [(1u32, 1u16, 1u64), (2, 16, 32), (3, 256, 768)] {
+        let batches = Batches { transactions, keys };
+        match measure_writes(rt.alloc(), &rt, batches) {
+            Ok(done) => assert_eq!(rt; (done.rows, done.writes), (rows, rows * 2), "{keys}"),
+            Err(Failure::Refused(why)) => return Err(why.into()),
+            Err(Failure::System(e)) => return Err(e.into()),
+        }
     }
     Ok(())
 }

@@ -204,7 +204,7 @@ none_waits : (o : Option Request) → is_some o ≡ false → is_ungranted o ≡
 none_waits None e = refl
 none_waits (Some r) e = absurd cc
 
-gone_waits : (q : Queue) (t : ℕ) → is_ungranted (request_in (queue_without q t) t) ≡ false
+pub gone_waits : (q : Queue) (t : ℕ) → is_ungranted (request_in (queue_without q t) t) ≡ false
 gone_waits q t = none_waits (request_in (queue_without q t) t) (stands_is (queue_without q t) t ∙ gone q t)
 
 others_stand : (q : Queue) (t u : ℕ) → u ≢ t → stands_in (queue_without q t) u ≡ stands_in q u
