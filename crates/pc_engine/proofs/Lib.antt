@@ -1,15 +1,4 @@
 pub mod WritePlaces
-pub mod Alone
-pub mod Occupied
-pub mod Settling
-pub mod Serial
-pub mod Owing
-pub mod Standing
-pub mod Cycles
-pub mod Rising
-pub mod SlotLemmas
-pub mod Runs
 pub mod Gathered
-pub mod NewKeys
-pub mod CommittedPairs
-pub mod Soundness
+pub mod SessionLemmas
+pub mod Causes

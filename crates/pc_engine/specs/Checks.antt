@@ -7,7 +7,8 @@ use Rattle.pc_model.specs.Log.{after, has_token, state_at}
 use Rattle.pc_model.specs.Points.{laid}
 use Rattle.pc_model.specs.Files.{File}
 use Rattle.pc_part.specs.Parts.{CoversTo}
-use Rattle.pc_engine.specs.Store.{Store, record_of, stored}
+use Rattle.pc_records.specs.Rows.{record_of, stored}
+use Rattle.pc_engine.specs.Store.{Store}
 
 -- the log has the point's token, and the file, laid on the base, is the state of the point
 abbrev pub IsStateOf : Database → List Entry → File → ℕ → Type 0

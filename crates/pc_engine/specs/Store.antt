@@ -1,5 +1,6 @@
 -- What a world is seen as, and what one event does to it.
-use Rattle.std.specs.Prelude.{◌≡◌, ℕ, ◌+◌, ◌==◌, ◌&&◌, ◌||◌, not, Bool, true, false, List, [], ◌∷◌, ◌++◌, length, map, filter, Option, Some, None, ◌⊎◌, is_some, is_none, if◌then◌else◌}
+use Rattle.std.specs.Prelude.{◌≡◌, ℕ, ◌+◌, ◌-◌, ◌<◌, ◌==◌, ◌&&◌, ◌||◌, not, Bool, true, false, List, [], ◌∷◌, ◌++◌, length, map, filter, Option, Some, None, ◌⊎◌, is_some, is_none, if◌then◌else◌, MatchOption}
+use Rattle.std.specs.List.{list_any}
 use Rattle.std.specs.FinMap.{find}
 use Rattle.std.specs.FinMap.{put as put_entry}
 use Rattle.pc_types.specs.declared.Write.{Write}
@@ -14,17 +15,11 @@ use Rattle.pc_types.specs.declared.Refusal.TheVariants as why
 use Rattle.pc_model.specs.Database.{key_cmp, same_bytes, with_write, written}
 use Rattle.pc_model.specs.Sets as set
 use Rattle.pc_model.specs.Files.{BaseFile, File, file_at, join_of, triples_taken}
-use Rattle.pc_model.specs.Replies.{Setting, first_refusal, or_else, not_yet, no_session, read_reply, value_read, same_phase, is_empty, join_refusal, IsFileReply}
-use Rattle.pc_engine.specs.declared.records.Record.{Record}
-
--- a row: a key with what is kept of it
-abbrev pub Row : Type 0
-Row = List ℕ × Record
-
--- the records, rising by key, and how many there may be
-pub record Kept : Type 0 where
-  pub capacity : ℕ
-  pub rows : List Row
+use Rattle.pc_model.specs.Replies.{Setting, first_refusal, or_else, not_yet, no_session, read_reply, value_read, by_outcome, same_phase, is_empty, join_refusal, IsFileReply}
+use Rattle.pc_model.specs.Locks.{Outcome, outcome}
+use Rattle.pc_records.specs.Rows.{Kept, record_of, stored, requests_on, is_full_for, is_waiting, rows_after, released_rows, written_row, closed_row, left_rows}
+use Rattle.pc_records.specs.NewKeys.{new_keys, is_one_too_many}
+use Rattle.pc_engine.specs.Sessions.{Active, active_in, with_session, number_in, has_died_in, writes_in, wrote, died, if_died, if_granted}
 
 -- Where the cycle of a checkpoint stands: its phase and point; the open set, the keys that commits wrote since the last
 -- resolve token; the closed set, the keys of the point that are left to take; and what was taken of it, in this order.
@@ -35,129 +30,27 @@ pub record Cycle : Type 0 where
   pub closed : List (List ℕ)
   pub taken : List (List ℕ × Option (List ℕ))
 
--- the parts of a world
+-- the parts of a world; a session has its open transaction, if there is one
 pub record Store : Type 0 where
   pub base : BaseFile
-  pub sessions : ℕ
+  pub sessions : List (Option Active)
   pub kept : Kept
   pub log : List Entry
   pub begun : ℕ
-  pub is_open : Bool
-  pub writes : List Write
   pub cycle : Cycle
   pub shelf : List File
 
 -- what the run started from
 abbrev pub setting_of : Store → Setting
-setting_of w = record { run = w.base.run; base = w.base.pairs; sessions = w.sessions; capacity = w.kept.capacity }
+setting_of w = record { run = w.base.run; base = w.base.pairs; sessions = length w.sessions; capacity = w.kept.capacity }
 
 -- what a run starts from that is given this base, so many sessions and this capacity
 abbrev pub starting : BaseFile → ℕ → ℕ → Setting
 starting base sessions capacity = record { run = base.run; base = base.pairs; sessions = sessions; capacity = capacity }
 
--- the record of the key
-abbrev pub record_of : List Row → List ℕ → Option Record
-record_of rows key = find key_cmp key rows
-
--- the committed value of a record
-abbrev pub stored : Option Record → Option (List ℕ)
-stored None = None
-stored (Some r) = r.value
-
--- a commit since the last resolve token, or since the start, wrote the key
-abbrev pub is_recent : Option Record → Bool
-is_recent None = false
-is_recent (Some r) = r.is_recent
-
--- the key is in the closed set
-abbrev pub is_closed : Option Record → Bool
-is_closed None = false
-is_closed (Some r) = r.is_closed
-
--- a request stands on the key
-abbrev pub is_requested : Option Record → Bool
-is_requested None = false
-is_requested (Some r) = r.is_requested
-
--- a row that keeps a committed value alone
-abbrev pub committed_row : List ℕ × List ℕ → Row
-committed_row pair = (pair.0, record { value = Some pair.1; is_recent = false; is_closed = false; is_requested = false })
-
--- a key's record once the key is requested
-abbrev pub requested : Option Record → Record
-requested None = record { value = None; is_recent = false; is_closed = false; is_requested = true }
-requested (Some r) = record r { is_requested = true }
-
--- the rows once the key is requested
-abbrev pub requested_rows : List Row → List ℕ → List Row
-requested_rows rows key = put_entry key_cmp key (requested (record_of rows key)) rows
-
--- a record once the transaction has committed, given what it wrote at the key
-abbrev pub committed : Option (Option (List ℕ)) → Record → Record
-committed (Some value) r = record r { value = value; is_recent = true; is_requested = false }
-committed None r = record r { is_requested = false }
-
--- something keeps the record where no request does
-abbrev pub outlasts : Record → Bool
-outlasts r = (r.is_recent || r.is_closed) || is_some r.value
-
--- the same record, or none where nothing keeps it
-abbrev pub settled : Option (Option (List ℕ)) → Record → Option Record
-settled given r = if outlasts (committed given r) then Some (committed given r) else None
-
--- the rows with this one before them, where a record is left
-abbrev pub with_settled : Option Record → List ℕ → List Row → List Row
-with_settled None key rows = rows
-with_settled (Some r) key rows = (key, r) ∷ rows
-
--- the rows once the transaction with these writes has committed
-abbrev pub settled_rows : List Write → List Row → List Row
-settled_rows writes [] = []
-settled_rows writes (row ∷ rows) = with_settled (settled (written writes row.0) row.1) row.0 (settled_rows writes rows)
-
--- the keys with this one before them, where it is new
-abbrev pub with_new : Bool → List ℕ → List (List ℕ) → List (List ℕ)
-with_new true key keys = keys
-with_new false key keys = key ∷ keys
-
--- the keys of the writes that are not in the open set
-abbrev pub new_keys : List Row → List Write → List (List ℕ)
-new_keys rows [] = []
-new_keys rows (w ∷ ws) = with_new (is_recent (record_of rows w.key)) w.key (new_keys rows ws)
-
--- a record once the open set is closed
-abbrev pub closed_record : Record → Record
-closed_record r = record r { is_recent = false; is_closed = r.is_recent }
-
--- the row once the open set is closed
-abbrev pub closed_row : Row → Row
-closed_row row = (row.0, closed_record row.1)
-
--- the record once its key is taken, or none where nothing keeps it
-abbrev pub left : Record → Option Record
-left r = if (r.is_requested || r.is_recent) || is_some r.value then Some (record r { is_closed = false }) else None
-
--- the record of the key once the key is taken
-abbrev pub left_of : Option Record → Option Record
-left_of None = None
-left_of (Some r) = left r
-
--- the rows with this record of the key, or without the key
-abbrev pub with_left : Option Record → List ℕ → List Row → List Row
-with_left None key rows = filter (λ row. not (same_bytes key row.0)) rows
-with_left (Some r) key rows = put_entry key_cmp key r rows
-
--- the rows once the key is taken
-abbrev pub left_rows : List Row → List ℕ → List Row
-left_rows rows key = with_left (left_of (record_of rows key)) key rows
-
--- the key has no record, and there are as many as there may be
-abbrev pub is_full_for : Kept → List ℕ → Bool
-is_full_for kept key = is_none (record_of kept.rows key) && (length kept.rows == kept.capacity)
-
--- a 257th key
-abbrev pub is_one_too_many : List Write → List ℕ → Bool
-is_one_too_many writes key = (length writes == 256) && is_none (written writes key)
+-- the open transaction of the session
+abbrev pub active : Store → ℕ → Option Active
+active w s = active_in w.sessions s
 
 -- What is certain is answered and changes nothing; where nothing is certain this is done, or memory ran out and nothing changed.
 abbrev pub Owes : Option Reply → Store → Reply → Store → Type 0 → Type 0
@@ -174,53 +67,86 @@ is_log_full w = length w.log == 16777216
 
 -- the causes of an open transaction's refusals, before these
 abbrev pub open_causes : Store → ℕ → List (Bool × Refusal) → List (Bool × Refusal)
-open_causes w s causes = (no_session (setting_of w) s, why.NoSession) ∷ (not w.is_open, why.NoTransaction) ∷ causes
+open_causes w s causes =
+    (no_session (setting_of w) s, why.NoSession) ∷ (is_none (active w s), why.NoTransaction) ∷ (is_waiting w.kept.rows (number_in (active w s)), why.StillWaiting) ∷ (has_died_in (active w s), why.MustAbort) ∷ causes
+
+-- the session has a transaction open, which may go on: none of its requests waits or has died
+pub record MayGoOn (w : Store) (s : ℕ) : Type 0 where
+  pub known : no_session (setting_of w) s ≡ false
+  pub in_range : s - 1 < length w.sessions
+  pub opened : is_none (active w s) ≡ false
+  pub ready : is_waiting w.kept.rows (number_in (active w s)) ≡ false
+  pub alive : has_died_in (active w s) ≡ false
+
+-- the first of those causes that stands, or none does
+abbrev pub OpenCause : Store → ℕ → Option Refusal → Type 0
+OpenCause w s None = MayGoOn w s
+OpenCause w s (Some r) = (causes : List (Bool × Refusal)) → first_refusal (open_causes w s causes) ≡ Some (told.Refused r)
 
 -- the causes of a begin's refusals
 abbrev pub begin_causes : Store → ℕ → List (Bool × Refusal)
-begin_causes w s = (no_session (setting_of w) s, why.NoSession) ∷ (not (is_in phase.Rest w), why.WrongPhase) ∷ (w.is_open, why.AlreadyBegun) ∷ (w.begun == 1099511627776, why.LogFull) ∷ []
+begin_causes w s = (no_session (setting_of w) s, why.NoSession) ∷ (not (is_in phase.Rest w), why.WrongPhase) ∷ (is_some (active w s), why.AlreadyBegun) ∷ (w.begun == 1099511627776, why.LogFull) ∷ []
 
 -- a transaction begins, and has written nothing
 abbrev pub Begins : Store → ℕ → Reply → Store → Type 0
 Begins old s reply new =
     Owes (first_refusal (begin_causes old s)) old reply new
-    ((reply ≡ told.Begun (old.begun + 1)) × (new ≡ record old { begun = old.begun + 1; is_open = true; writes = [] }))
+    ((reply ≡ told.Begun (old.begun + 1)) × (new ≡ record old { begun = old.begun + 1; sessions = with_session old.sessions s (Some (record { number = old.begun + 1; has_died = false; writes = [] })) }))
 
--- the transaction's own write is read, or else what is committed; the key is requested
+-- the world once the request of the session's transaction is answered, where it dies or leaves these sessions
+abbrev pub asked : Store → ℕ → List ℕ → Bool → Outcome → List (Option Active) → Store
+asked w s key exclusive o sessions = record w { kept = record w.kept { rows = rows_after w.kept.rows key (number_in (active w s)) exclusive o }; sessions = if_died o (with_session w.sessions s (died (active w s))) sessions }
+
+-- how the request of the session's transaction is answered
+abbrev pub outcome_in : Store → ℕ → List ℕ → Bool → Outcome
+outcome_in w s key exclusive = outcome (requests_on (record_of w.kept.rows key)) (number_in (active w s)) exclusive
+
+-- the transaction's own write is read, or else what is committed, where the request is granted
 abbrev pub Gets : Store → ℕ → List ℕ → Reply → Store → Type 0
 Gets old s key reply new =
     Owes (first_refusal (open_causes old s ((is_full_for old.kept key, why.Full) ∷ []))) old reply new
-    ((reply ≡ read_reply (value_read (written old.writes key) (stored (record_of old.kept.rows key))))
-    × (new ≡ record old { kept = record old.kept { rows = requested_rows old.kept.rows key } }))
+    ((reply ≡ by_outcome (outcome_in old s key false) (read_reply (value_read (written (writes_in (active old s)) key) (stored (record_of old.kept.rows key)))))
+    × (new ≡ asked old s key false (outcome_in old s key false) old.sessions))
 
 -- the causes of a write's refusals
 abbrev pub write_causes : Store → ℕ → List ℕ → List (Bool × Refusal)
-write_causes w s key = open_causes w s ((is_one_too_many w.writes key, why.TooManyWrites) ∷ (is_full_for w.kept key, why.Full) ∷ [])
+write_causes w s key = open_causes w s ((is_one_too_many (writes_in (active w s)) key, why.TooManyWrites) ∷ (is_full_for w.kept key, why.Full) ∷ [])
 
 -- the first of them that stands, or none does
 abbrev pub WriteCause : Store → ℕ → List ℕ → Option Refusal → Type 0
-WriteCause w s key None = first_refusal (write_causes w s key) ≡ None
+WriteCause w s key None = MayGoOn w s × (is_one_too_many (writes_in (active w s)) key ≡ false) × (is_full_for w.kept key ≡ false)
 WriteCause w s key (Some r) = first_refusal (write_causes w s key) ≡ Some (told.Refused r)
 
--- the key is set to the content or removed by the transaction, and requested
+-- the key is set to the content or removed by the transaction, where the request is granted
 abbrev pub WritesKey : Store → ℕ → List ℕ → Option (List ℕ) → Reply → Store → Type 0
 WritesKey old s key content reply new =
     Owes (first_refusal (write_causes old s key)) old reply new
-    ((reply ≡ told.Ok)
-    × (new ≡ record old { kept = record old.kept { rows = requested_rows old.kept.rows key }; writes = with_write old.writes (record { key = key; value = content }) }))
+    ((reply ≡ by_outcome (outcome_in old s key true) told.Ok)
+    × (new ≡ asked old s key true (outcome_in old s key true) (if_granted (outcome_in old s key true) (with_session old.sessions s (wrote (active old s) (record { key = key; value = content }))) old.sessions)))
 
--- the writes are logged and committed, and the transaction is over
+-- the writes are logged and committed, and the transaction is over: none of its requests stands
 abbrev pub Commits : Store → ℕ → Reply → Store → Type 0
 Commits old s reply new =
     Owes (first_refusal (open_causes old s ((is_log_full old, why.LogFull) ∷ []))) old reply new
     ((reply ≡ told.Committed (length old.log + 1))
     × (new ≡ record old {
-      kept = record old.kept { rows = settled_rows old.writes old.kept.rows };
-      log = old.log ++ Commit s old.writes ∷ [];
-      is_open = false;
-      writes = [];
-      cycle = record old.cycle { recent = old.cycle.recent ++ new_keys old.kept.rows old.writes };
+      kept = record old.kept { rows = released_rows (number_in (active old s)) (map (written_row (writes_in (active old s))) old.kept.rows) };
+      log = old.log ++ Commit s (writes_in (active old s)) ∷ [];
+      sessions = with_session old.sessions s None;
+      cycle = record old.cycle { recent = old.cycle.recent ++ new_keys old.kept.rows (writes_in (active old s)) };
     }))
+
+-- the causes of an abort's refusals
+abbrev pub abort_causes : Store → ℕ → List (Bool × Refusal)
+abort_causes w s = (no_session (setting_of w) s, why.NoSession) ∷ (is_none (active w s), why.NoTransaction) ∷ []
+
+-- The transaction is over, and none of its requests stands; whatever memory there is.
+abbrev pub Aborts : Store → ℕ → Reply → Store → Type 0
+Aborts old s reply new =
+    MatchOption (first_refusal (abort_causes old s))
+    ((reply ≡ told.Aborted)
+    × (new ≡ record old { kept = record old.kept { rows = released_rows (number_in (active old s)) old.kept.rows }; sessions = with_session old.sessions s None }))
+    (λ due. (reply ≡ due) × (new ≡ old))
 
 -- the world once the phase has changed, in the cycle of the point: the log has the token
 abbrev pub moved : Phase → ℕ → Store → Store
@@ -228,7 +154,7 @@ moved phase point w = record w { log = w.log ++ Token phase point ∷ []; cycle 
 
 -- the causes of the refusals of a start of a cycle
 abbrev pub start_causes : Store → List (Bool × Refusal)
-start_causes w = (w.is_open || not (is_in phase.Rest w), why.WrongPhase) ∷ (w.cycle.point == 65535, why.PointsFull) ∷ (is_log_full w, why.LogFull) ∷ []
+start_causes w = (list_any is_some w.sessions || not (is_in phase.Rest w), why.WrongPhase) ∷ (w.cycle.point == 65535, why.PointsFull) ∷ (is_log_full w, why.LogFull) ∷ []
 
 -- the cycle of the next point starts
 abbrev pub StartsPoint : Store → Reply → Store → Type 0

@@ -2,13 +2,12 @@
 #![tactic(auto)]
 
 mod checks;
-mod records;
+mod points;
+mod sessions;
 mod shelving;
-#[cfg(test)]
-mod tests;
+mod transactions;
 mod world;
 mod writes;
 
 pub use pc_types::{Event, Reply};
-pub use records::Record;
 pub use world::{World, run};

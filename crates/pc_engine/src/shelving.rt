@@ -5,7 +5,7 @@ ghost use Rattle.pc_model.specs.Database.{KeysRise};
 ghost use Rattle.pc_model.specs.Files.{triples_taken, file_at};
 ghost use Rattle.pc_engine.specs.Shelves.{IsJoin, IsShelvable};
 
-use crate::records::copied;
+use crate::writes::copied;
 use pc_model::set;
 use pc_part::{Part, join};
 use pc_types::{FileNo, Items, Key, Point, Refusal, Value};

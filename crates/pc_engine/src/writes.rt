@@ -1,10 +1,11 @@
 //! The writes of the open transaction: the final one per key, in the order of first writes.
 ghost use Rattle.std.specs.Prelude.{◌≡◌, ◌<◌, ◌≤◌, ◌==◌, ◌&&◌, ◌++◌, [], length, IfOk, OnOk, MatchOption, Some, is_none, option_copied, vec_len, vec_capacity};
 ghost use Rattle.pc_model.specs.Database.{with_write, written};
-ghost use Rattle.pc_engine.specs.Store.{is_one_too_many, is_recent, record_of, new_keys, with_new};
+ghost use Rattle.pc_records.specs.Rows.{is_recent, record_of};
+ghost use Rattle.pc_records.specs.NewKeys.{is_one_too_many, new_keys, with_new};
 ghost use Rattle.pc_engine.specs.Writes.{IsWrittenAt, IsUnwritten};
 
-use crate::records::Records;
+use pc_records::Records;
 use pc_types::{Key, Value, Write};
 use std::alloc::{AllocError, Global};
 use std::collections::VecDeque;
@@ -94,4 +95,14 @@ pub(crate) fn write_of(alloc: Global, key: &Key, value: Option<&Value>) -> Resul
         None => None,
     };
     Ok(Write { key, value })
+}
+
+// A copy of a value or absence.
+pub(crate) fn copied(alloc: Global, value: &Option<Value>) -> Result<Option<Value>, AllocError>
+    ensures { IfOk result (λ v. v ≡ value.now) }
+{
+    match value {
+        Some(value) => Ok(Some(value.copy(alloc)?)),
+        None => Ok(None),
+    }
 }

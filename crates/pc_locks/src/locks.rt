@@ -121,6 +121,13 @@ impl Locks {
         self.queues[slot.0 as usize].is_settled();
     }
 
+    /// The lists of the transactions and the queues of the slots say the same, at all times; the call does nothing.
+    pub fn linked(&self)
+        ensures { AreLinked self.now.queues self.now.lists }
+    {
+        let _ = &self.alloc;
+    }
+
     /// Whether a request of the slot stands, granted or waiting.
     pub fn has_request(&self, slot: SlotId) -> bool
         requires { slot < length self.now.queues }

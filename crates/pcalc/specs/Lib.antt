@@ -1,7 +1,6 @@
 pub mod Words
 pub mod Texts
 pub mod Lines
-pub mod Built
 pub mod Views
 pub mod Scripts
 pub mod Holding

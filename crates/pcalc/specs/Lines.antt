@@ -63,8 +63,9 @@ abbrev pub numbered_line : List ℕ → ℕ → Line
 numbered_line verb number =
     if bytes_eq verb (codes "begin") then line.Asks (asked.Begin number)
     else (if bytes_eq verb (codes "commit") then line.Asks (asked.Commit number)
+    else (if bytes_eq verb (codes "abort") then line.Asks (asked.Abort number)
     else (if bytes_eq verb (codes "state") then line.Shows (view.State number)
-    else (if bytes_eq verb (codes "text") then line.Shows (view.Text number) else line.Malformed)))
+    else (if bytes_eq verb (codes "text") then line.Shows (view.Text number) else line.Malformed))))
 
 -- the same where the number may be no number
 abbrev pub numbered : List ℕ → Option ℕ → Line

@@ -31,9 +31,9 @@ pub data Stage : Type 0 where
   -- the store couldn't be made
   Ended : Stage
 
--- what the store starts from; it has one session
+-- what the store starts from
 abbrev pub setting : Setup → Database → Setting
-setting setup base = record { run = setup.run; base = base; sessions = 1; capacity = setup.capacity }
+setting setup base = record { run = setup.run; base = base; sessions = setup.sessions; capacity = setup.capacity }
 
 -- the answer of a refusal
 abbrev pub refused : Refusal → Answer

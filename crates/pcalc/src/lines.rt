@@ -2,7 +2,6 @@
 ghost use Rattle.std.specs.Prelude.{◌≡◌, ◌==◌, ℕ, List, Some, map, length, IfOk, IfErr};
 ghost use Rattle.std.specs.List.{slice_split};
 ghost use Rattle.pcalc.specs.Words.{number_of, text_of};
-ghost use Rattle.pcalc.specs.Built.{AsksBuilt};
 ghost use Rattle.pcalc.specs.Lines.{words_of, is_key, is_value, base_line, get_line, del_line, put_line, one_word, numbered_line, two_words, three_words, four_words, spelled_by, is_comment, spelled};
 
 use crate::words::{number, text_of};
@@ -42,7 +41,6 @@ pub enum View {
 /// What the line, without its end, spells. Refuses only with `OutOfMemory`.
 pub fn read_line(alloc: Global, text: &[u8]) -> Result<Line, Refusal>
     ensures line { IfOk result (λ line. line ≡ spelled text.now) }
-    ensures built { IfOk result AsksBuilt }
     ensures refusals { IfErr result (λ e. e ≡ Refusal.OutOfMemory) }
 {
     if is_comment(text) {
@@ -131,6 +129,8 @@ fn numbered_line(verb: &[u8], number: u32) -> Line
         Line::Asks(Event::Begin(SessionNo(number)))
     } else if verb == b"commit".as_slice() {
         Line::Asks(Event::Commit(SessionNo(number)))
+    } else if verb == b"abort".as_slice() {
+        Line::Asks(Event::Abort(SessionNo(number)))
     } else if verb == b"state".as_slice() {
         Line::Shows(View::State(FileNo(number)))
     } else if verb == b"text".as_slice() {

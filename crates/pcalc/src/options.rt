@@ -10,8 +10,6 @@ use std::alloc::Global;
 pub struct StepOptions<'a> {
     /// The file of the script.
     pub script: &'a str,
-    /// How many sessions the store is to have, from 1 to 64. So far it has one all the same.
-    pub sessions: u8,
     /// What the store is made with.
     pub setup: Setup,
 }
@@ -75,12 +73,13 @@ fn options_of<'a>(matches: &ArgMatches<'a>) -> Option<StepOptions<'a>> {
     let sessions = matches.get_one::<u8>("sessions")?;
     let capacity = matches.get_one::<u32>("capacity")?;
     let run = matches.get_one::<u32>("run")?;
-    if capacity < 1 || 1_048_576 < capacity {
+    if capacity < 1 || 1_048_576 < capacity || sessions < 1 || 64 < sessions {
         return None;
     }
-    Some(StepOptions {
-        script,
+    let setup = Setup {
+        run,
         sessions,
-        setup: Setup { run, capacity },
-    })
+        capacity,
+    };
+    Some(StepOptions { script, setup })
 }

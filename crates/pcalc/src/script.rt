@@ -9,7 +9,6 @@ ghost use Rattle.pc_engine.specs.Stands.{Stands};
 ghost use Rattle.pc_engine.specs.Store.{setting_of};
 ghost use Rattle.pcalc.specs.Scripts.{Stage, setting, refused, is_base_full, AnswersPair, AnswersLine, AnswersFirst, Answers, answer_text, is_malformed, IsAnswered, IsAnsweredInPart};
 ghost use Rattle.pcalc.specs.Scripts.Stage.{Reading};
-ghost use Rattle.pcalc.specs.Built.{AsksBuilt};
 ghost use Rattle.pcalc.specs.Holding.{Holds, HasRoom, IsSaid, IsSaidInPart, is_ended};
 ghost use Rattle.pcalc.specs.declared.script.Status.TheVariants.{BadLines};
 
@@ -108,7 +107,6 @@ fn answer_one<W: Write>(
     line: Line,
     out: &mut Tally<W>,
 ) -> Result<Made, Refusal>
-    requires built { AsksBuilt line }
     requires room { HasRoom setup made }
     ensures room { IfOk result (λ next. HasRoom setup next) }
     ensures answered { IfOk result (λ next. IsSaid setup made line next
@@ -134,7 +132,6 @@ fn is_ended(made: &Made) -> bool
 
 // Answers a line with what was made so far, and gives what is made then.
 fn answer_line(alloc: Global, setup: Setup, made: Made, line: Line) -> (Answer, Made)
-    requires built { AsksBuilt line }
     requires room { HasRoom setup made }
     ensures room { HasRoom setup result.1 }
     ensures answer { (stage : Stage) → Holds setup made stage → (next : Stage) × Holds setup result.1 next × Answers setup stage line result.0 next }
@@ -151,7 +148,6 @@ fn answer_line(alloc: Global, setup: Setup, made: Made, line: Line) -> (Answer, 
 
 // Answers a line of the base, or the first one after it.
 fn answer_base(alloc: Global, setup: Setup, mut pairs: Pairs, line: Line) -> (Answer, Made)
-    requires built { AsksBuilt line }
     requires room { len pairs ≤ setup.capacity }
     ensures room { HasRoom setup result.1 }
     ensures answer { (next : Stage) × Holds setup result.1 next × Answers setup (Reading pairs) line result.0 next }
@@ -172,7 +168,6 @@ fn answer_base(alloc: Global, setup: Setup, mut pairs: Pairs, line: Line) -> (An
 
 // Makes the store, which answers the first line after the base.
 fn answer_first(alloc: Global, setup: Setup, pairs: Pairs, line: Line) -> (Answer, Made)
-    requires built { AsksBuilt line }
     requires room { len pairs ≤ setup.capacity }
     ensures room { HasRoom setup result.1 }
     ensures answer { (next : Stage) × Holds setup result.1 next × AnswersFirst setup pairs line result.0 next }
@@ -220,7 +215,7 @@ fn start(alloc: Global, setup: Setup, pairs: Pairs) -> Option<World>
     ensures { IfSome result (λ world. (setting_of world ≡ setting setup pairs) × Stands world []) }
 {
     let base = Base::start(u64::from(setup.run), pairs.into_vec());
-    match World::new(alloc, base, 1, setup.capacity) {
+    match World::new(alloc, base, setup.sessions, setup.capacity) {
         Ok(world) => Some(world),
         Err(_) => None,
     }
@@ -228,7 +223,6 @@ fn start(alloc: Global, setup: Setup, pairs: Pairs) -> Option<World>
 
 // Answers a line by the store.
 fn answer_stored(alloc: Global, world: &mut World, line: Line) -> Answer
-    requires { AsksBuilt line }
     ensures setting { setting_of world.new ≡ setting_of world.old }
     ensures answer { (history : History) → Stands world.old history
         → (next : History) × Stands world.new next × AnswersLine (setting_of world.old) history line result next }

@@ -1,11 +1,13 @@
 //! What a store is made with.
 ghost use Rattle.std.specs.Prelude.{◌≤◌};
 
-/// What a store is made with: its run's number and its capacity, the greatest number of keys that it has room for,
-/// from 1 to 1,048,576.
+/// What a store is made with: its run's number; how many sessions it has, from 1 to 64; and its capacity, the greatest
+/// number of keys that it has room for, from 1 to 1,048,576.
 #[derive(Clone, Copy, Debug)]
 pub struct Setup {
     pub run: u32,
+    pub sessions: u8,
     pub capacity: u32,
     ghost in_range: { (1 ≤ capacity) × (capacity ≤ 1048576) },
+    ghost some_sessions: { (1 ≤ sessions) × (sessions ≤ 64) },
 }

@@ -1,5 +1,5 @@
 use Rattle.std.proofs.Common.{◌≡◌, ◌++◌, drop}
-use Rattle.pc_engine.specs.Store.{new_keys}
+use Rattle.pc_records.specs.NewKeys.{new_keys}
 use Rattle.pc_engine.proofs.writes.new_keys.Given as goal
 
 -- the new keys of the writes so far

@@ -1,5 +1,5 @@
 use Rattle.std.proofs.Common.{refl}
-use Rattle.pc_engine.proofs.Owing.{owed_refusal}
+use Rattle.pc_engine.proofs.Causes.{owed_refusal}
 use Rattle.pc_engine.proofs.world.World.join_files.Goals as goal
 
 pub returns-in-Err : goal.returns-in-Err

@@ -1,0 +1,7 @@
+use Rattle.std.proofs.Common.{◌≡◌, None, replicate, length}
+use Rattle.pc_engine.specs.Sessions.{actives_of}
+use Rattle.pc_engine.proofs.sessions.idle.Given as goal
+
+-- so many sessions so far
+abbrev pub invariant-loop : goal.invariant-loop
+invariant-loop l = (actives_of l.sessions.items ≡ replicate l.counter None)

@@ -1,0 +1,8 @@
+use Rattle.std.proofs.Common.{◌≡◌, ◌∙◌, sym, ap, Some, true, get_or, set, None}
+use Rattle.std.specs.Prelude.{option_map}
+use Rattle.pc_engine.specs.Sessions.{active_of, actives_of, active_in, with_session, died}
+use Rattle.pc_engine.proofs.SessionLemmas.{set_one, seen_at, died_at}
+use Rattle.pc_engine.proofs.sessions.note_death.Goals as goal
+
+pub returns-in-Some : goal.returns-in-Some
+returns-in-Some c = died_at c.args.sessions.now.items c.args.session c.place.result c.index_mut.result.now c.in-Some.transaction c.place.ensures (rw (← c.place.ensures) at c.requires) c.index_mut.ensures.value c.in-Some.is

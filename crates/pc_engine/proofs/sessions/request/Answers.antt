@@ -1,0 +1,18 @@
+use Rattle.pc_locks.specs.Queues.{told}
+use Rattle.pc_engine.proofs.SessionLemmas.{after_request, after_refusal, few_after_request}
+use Rattle.pc_engine.proofs.sessions.request.Goals as goal
+
+pub returns-clause-sessions : goal.returns-clause-sessions
+returns-clause-sessions c =
+    after_request c.args.sessions.now.items c.args.session c.place.result c.index_mut.result.now c.in-Some.transaction c.request_write.new.transaction c.args.write c.place.ensures (rw (← c.place.ensures) at c.requires.place) c.index_mut.ensures.value c.in-Some.is
+    c.request_write.result told c.request_write.ensures.transaction
+
+pub returns-clause-same : goal.returns-clause-same
+returns-clause-same c =
+    after_refusal c.args.sessions.now.items c.args.session c.place.result c.index_mut.result.now c.in-Some.transaction c.request_write.new.transaction c.args.write c.place.ensures (rw (← c.place.ensures) at c.requires.place) c.index_mut.ensures.value c.in-Some.is
+    c.request_write.result c.request_write.ensures.same
+
+pub returns-clause-few : goal.returns-clause-few
+returns-clause-few c =
+    few_after_request c.args.sessions.now.items c.args.session c.place.result c.index_mut.result.now c.in-Some.transaction c.request_write.new.transaction c.args.write c.place.ensures (rw (← c.place.ensures) at c.requires.place) c.index_mut.ensures.value c.in-Some.is
+    c.request_write.result told c.request_write.ensures.transaction c.request_write.ensures.same c.requires.few c.requires.one

@@ -1,0 +1,71 @@
+-- The sessions: each has an open transaction, or none.
+use Rattle.std.specs.Prelude.{◌≡◌, ℕ, ◌-◌, ◌≤◌, Bool, true, false, List, [], map, length, Option, Some, None, option_map, slice_index_or, slice_set}
+use Rattle.pc_types.specs.declared.Write.{Write}
+use Rattle.pc_model.specs.Database.{with_write}
+use Rattle.pc_model.specs.Locks.{Outcome}
+use Rattle.pc_model.specs.Locks.Outcome.{Granted, Queued, Died}
+use Rattle.pc_engine.specs.declared.sessions.Transaction.{Transaction}
+
+-- an open transaction: its number, whether a request of it has died, and the final write of each key, in the order of first
+-- writes
+pub record Active : Type 0 where
+  pub number : ℕ
+  pub has_died : Bool
+  pub writes : List Write
+
+-- what a transaction is seen as
+abbrev pub active_of : Transaction → Active
+active_of t = record { number = t.number; has_died = t.has_died; writes = t.writes.items }
+
+-- what the sessions are seen as
+abbrev pub actives_of : List (Option Transaction) → List (Option Active)
+actives_of sessions = map (option_map active_of) sessions
+
+-- the open transaction of the session; sessions are numbered from 1
+abbrev pub active_in : List (Option Active) → ℕ → Option Active
+active_in sessions s = slice_index_or sessions (s - 1) None
+
+-- the sessions, where this one has this transaction, or none
+abbrev pub with_session : List (Option Active) → ℕ → Option Active → List (Option Active)
+with_session sessions s transaction = slice_set sessions (s - 1) transaction
+
+-- its number
+abbrev pub number_in : Option Active → ℕ
+number_in None = 0
+number_in (Some t) = t.number
+
+-- whether a request of it has died
+abbrev pub has_died_in : Option Active → Bool
+has_died_in None = false
+has_died_in (Some t) = t.has_died
+
+-- its writes
+abbrev pub writes_in : Option Active → List Write
+writes_in None = []
+writes_in (Some t) = t.writes
+
+-- the transaction once it has written this too
+abbrev pub wrote : Option Active → Write → Option Active
+wrote None write = None
+wrote (Some t) write = Some (record t { writes = with_write t.writes write })
+
+-- the transaction once a request of it has died
+abbrev pub died : Option Active → Option Active
+died None = None
+died (Some t) = Some (record t { has_died = true })
+
+-- the first where the request died, and else the second
+abbrev pub if_died : {X : Type 0} → Outcome → X → X → X
+if_died Granted a b = b
+if_died Queued a b = b
+if_died Died a b = a
+
+-- the first where the request is granted, and else the second
+abbrev pub if_granted : {X : Type 0} → Outcome → X → X → X
+if_granted Granted a b = a
+if_granted Queued a b = b
+if_granted Died a b = b
+
+-- no transaction has written more than 256 keys
+abbrev pub AreFew : List (Option Active) → Type 0
+AreFew sessions = (i : ℕ) → length (writes_in (slice_index_or sessions i None)) ≤ 256

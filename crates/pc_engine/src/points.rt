@@ -1,0 +1,179 @@
+//! What each event of the checkpointer does.
+ghost use Rattle.std.specs.Prelude.{IfSome, ◌≡◌, ◌≤◌, ◌<◌, ◌==◌, ◌||◌, ◌-◌, nat_lt, ◌⊎◌, ◌++◌, [], ◌∷◌, false, length, map, IfOk, IfErr, OnOk, OnErr, Some, None, option_copied, vec_len, vec_capacity};
+ghost use Rattle.std.specs.Prelude.{◌↔◌, IsTrue, List, ℕ, true};
+ghost use Rattle.std.proofs.Common.{replicate};
+ghost use Rattle.pc_model.specs.Maps.{get, len};
+ghost use Rattle.pc_model.specs.Files.{file_at};
+ghost use Rattle.pc_model.specs.Database.{KeysRise, database_of, with_write, written};
+ghost use Rattle.pc_model.specs.History.{History};
+ghost use Rattle.pc_model.specs.Replies.{read_reply, value_read};
+ghost use Rattle.pc_model.specs.Locks.{outcome};
+ghost use Rattle.pc_locks.specs.Queues.{told};
+ghost use Rattle.pc_types.specs.declared.Phase.TheVariants.{Rest};
+ghost use Rattle.pc_model.specs.Replies.{same_phase};
+ghost use Rattle.pc_records.specs.Rows.{record_of, stored, requests_on, is_full_for, is_waiting, rows_after};
+ghost use Rattle.pc_records.specs.NewKeys.{is_one_too_many};
+ghost use Rattle.pc_engine.specs.Sessions.{active_of, actives_of, active_in, with_session, number_in, writes_in, wrote, AreFew};
+ghost use Rattle.pc_engine.specs.Store.{starting, OpenCause, WriteCause, Begins, Gets, WritesKey, Commits, Aborts, StartsPoint, Seals, Moves, Takes, Shelves, Joins, setting_of};
+
+use crate::sessions;
+use crate::shelving::{MOST_FILES, Shelvable, joined, part_of};
+use crate::transactions::{MOST_ENTRIES, is_same};
+use crate::world::World;
+use pc_records::Records;
+use pc_types::{Entry, FileNo, Key, Phase, Point, Refusal, Reply, Value};
+use std::alloc::{AllocError, Global};
+use std::collections::VecDeque;
+use std::mem;
+
+// The last point that may be taken.
+const MOST_POINTS: u16 = 65_535;
+
+impl World {
+    pub(crate) fn start_point(&mut self) -> Reply
+        ensures { StartsPoint self.old result self.new }
+    {
+        if sessions::is_some_active(&self.sessions) || !is_same(self.phase, Phase::Rest) {
+            return Reply::Refused(Refusal::WrongPhase);
+        }
+        if self.point.0 == MOST_POINTS {
+            return Reply::Refused(Refusal::PointsFull);
+        }
+        if self.log.len() == MOST_ENTRIES {
+            return Reply::Refused(Refusal::LogFull);
+        }
+        if self.log.reserve(1).is_err() {
+            return Reply::Refused(Refusal::OutOfMemory);
+        }
+        self.point = Point(self.point.0 + 1);
+        self.phase = Phase::Prepare;
+        self.log.push_reserved(Entry::Token(self.phase, self.point));
+        Reply::Phase(self.phase, self.point)
+    }
+
+    pub(crate) fn seal(&mut self) -> Reply
+        ensures { Seals self.old result self.new }
+    {
+        if !is_same(self.phase, Phase::Prepare) {
+            return Reply::Refused(Refusal::WrongPhase);
+        }
+        if self.log.len() == MOST_ENTRIES {
+            return Reply::Refused(Refusal::LogFull);
+        }
+        if self.log.reserve(1).is_err() {
+            return Reply::Refused(Refusal::OutOfMemory);
+        }
+        self.phase = Phase::Resolve;
+        self.log.push_reserved(Entry::Token(self.phase, self.point));
+        self.closed = mem::replace(&mut self.recent, VecDeque::new(self.alloc));
+        self.taken.clear();
+        self.records.close();
+        Reply::Phase(self.phase, self.point)
+    }
+
+    // The phase changes from one to another.
+    pub(crate) fn advance(&mut self, from: Phase, to: Phase) -> Reply
+        requires { same_phase from Rest ≡ false }
+        ensures { Moves from to self.old result self.new }
+    {
+        if !is_same(self.phase, from) {
+            return Reply::Refused(Refusal::WrongPhase);
+        }
+        if self.log.len() == MOST_ENTRIES {
+            return Reply::Refused(Refusal::LogFull);
+        }
+        if self.log.reserve(1).is_err() {
+            return Reply::Refused(Refusal::OutOfMemory);
+        }
+        self.phase = to;
+        self.log.push_reserved(Entry::Token(self.phase, self.point));
+        Reply::Phase(self.phase, self.point)
+    }
+
+    pub(crate) fn take(&mut self) -> Reply
+        ensures { Takes self.old result self.new }
+    {
+        if !is_same(self.phase, Phase::Capture) {
+            return Reply::Refused(Refusal::WrongPhase);
+        }
+        let Some(first) = self.closed.front() else {
+            return Reply::NoneLeft;
+        };
+        let Ok((key, content)) = pair_of(self.alloc, &self.records, first) else {
+            return Reply::Refused(Refusal::OutOfMemory);
+        };
+        let Ok(pair) = pair_of(self.alloc, &self.records, first) else {
+            return Reply::Refused(Refusal::OutOfMemory);
+        };
+        if self.taken.reserve(1).is_err() {
+            return Reply::Refused(Refusal::OutOfMemory);
+        }
+        self.records.take(&key);
+        let _ = self.closed.pop_front();
+        self.taken.push_reserved(pair);
+        Reply::Took(key, content)
+    }
+
+    pub(crate) fn shelve(&mut self) -> Reply
+        ensures { Shelves self.old result self.new }
+    {
+        if !is_same(self.phase, Phase::Capture) {
+            return Reply::Refused(Refusal::WrongPhase);
+        }
+        if !self.closed.is_empty() {
+            return Reply::NotYet(self.closed.len() as u32);
+        }
+        if self.shelf.len() == MOST_FILES {
+            return Reply::Refused(Refusal::ShelfFull);
+        }
+        if self.log.len() == MOST_ENTRIES {
+            return Reply::Refused(Refusal::LogFull);
+        }
+        let Ok(part) = part_of(self.alloc, self.base.run(), self.point, &self.taken) else {
+            return Reply::Refused(Refusal::OutOfMemory);
+        };
+        if self.shelf.reserve(1).is_err() || self.log.reserve(1).is_err() {
+            return Reply::Refused(Refusal::OutOfMemory);
+        }
+        let entries = self.taken.len() as u32;
+        self.phase = Phase::Complete;
+        self.log.push_reserved(Entry::Token(self.phase, self.point));
+        self.shelf.push_reserved(part);
+        self.taken.clear();
+        Reply::PartDone(self.point, FileNo(self.shelf.len() as u32), entries)
+    }
+
+    pub(crate) fn join_files(&mut self, first: FileNo, second: FileNo) -> Reply
+        ensures { Joins self.old first second result self.new }
+    {
+        match joined(self.alloc, &self.shelf, first, second) {
+            Ok(
+                Shelvable {
+                    part,
+                    points,
+                    entries,
+                },
+            ) => {
+                if self.shelf.reserve(1).is_err() {
+                    return Reply::Refused(Refusal::OutOfMemory);
+                }
+                self.shelf.push_reserved(part);
+                Reply::File(FileNo(self.shelf.len() as u32), points, entries)
+            }
+            Err(why) => Reply::Refused(why),
+        }
+    }
+}
+
+// The key with what is committed of it.
+fn pair_of(alloc: Global, records: &Records, key: &Key) -> Result<(Key, Option<Value>), AllocError>
+    ensures { IfOk result (λ pair. pair ≡ (key.now, stored (record_of records.now.rows key.now))) }
+{
+    let content = match records.value(key) {
+        Some(value) => Some(value.copy(alloc)?),
+        None => None,
+    };
+    let key = key.copy(alloc)?;
+    Ok((key, content))
+}
+

@@ -1,0 +1,120 @@
+-- What the end of an open set, and a key taken, leave of the records.
+use Rattle.std.proofs.Common.{◌≡◌, ℕ, List, [], ◌∷◌, map, Option, Some, None, is_some, refl, sym, ap, ◌∙◌, cond, true, false, Bool, not, ◌||◌}
+use Rattle.std.specs.FinMap.Entries.{find-put}
+use Rattle.pc_model.specs.Maps as map_of
+use Rattle.pc_model.specs.Database.{Database, key_cmp, key_order, same_bytes}
+use Rattle.pc_model.specs.Points.{is_among}
+use Rattle.pc_model.specs.History.{History, contents}
+use Rattle.pc_model.specs.Locks.{queue_of}
+use Rattle.pc_model.specs.Replies.{is_empty, written_since_token, closed_set}
+use Rattle.pc_model.proofs.Joins.{one_key}
+use Rattle.pc_model.proofs.MapLaws.{find-without}
+use Rattle.pc_records.specs.Rows.{Row, Record, record_of, stored, is_recent, is_closed, requests_on, closed_row, left_of, with_left, left_rows}
+use Rattle.pc_records.specs.Following.{AreRecords, stands_kept}
+use Rattle.pc_records.proofs.Keeping.{stored-if, requests-if, recent-if, closed-if, kept-if}
+use Rattle.pc_records.proofs.Rising.{rise_closed, rise_left}
+
+-- the record of a key once the open set is closed
+abbrev closed_of : Option Record → Option Record
+closed_of None = None
+closed_of (Some r) = Some (record r { is_recent = false; is_closed = r.is_recent })
+
+found_closed : (rows : List Row) (q : List ℕ) → record_of (map closed_row rows) q ≡ closed_of (record_of rows q)
+found_closed [] q = refl
+found_closed (row ∷ rows) q =
+    elim (same_bytes q row.0) as (λ b. cond b (Some (record row.1 { is_recent = false; is_closed = row.1.is_recent })) (record_of (map closed_row rows) q) ≡ closed_of (cond b (Some row.1) (record_of rows q))) [ true ↦ refl | false ↦ found_closed rows q ]
+
+-- the open set was closed, and the closed set was empty before
+pub closed_records : (base : Database) (rows : List Row) (h after : History) → closed_set h ≡ [] → contents base after ≡ contents base h → ((q : List ℕ) → queue_of q after ≡ queue_of q h) → written_since_token after ≡ [] → closed_set after ≡ written_since_token h →
+    AreRecords base rows h → AreRecords base (map closed_row rows) after
+closed_records base rows h after none cs qs ws ls are =
+    record {
+      sorted = rise_closed rows (map closed_row rows) are.sorted refl;
+      stored = λ q. ap stored (found_closed rows q) ∙ stored_by (record_of rows q) ∙ are.stored q ∙ ap (λ db. map_of.get db q) (sym cs);
+      requests = λ q. ap requests_on (found_closed rows q) ∙ requests_by (record_of rows q) ∙ are.requests q ∙ sym (qs q);
+      recent = λ q. ap is_recent (found_closed rows q) ∙ recent_by (record_of rows q) ∙ ap (λ ks. is_among ks q) (sym ws);
+      closed = λ q. ap is_closed (found_closed rows q) ∙ closed_by (record_of rows q) ∙ are.recent q ∙ ap (λ ks. is_among ks q) (sym ls);
+      kept = λ q. ap is_some (found_closed rows q) ∙ kept_by (record_of rows q) (are.kept q) (are.closed q ∙ ap (λ ks. is_among ks q) none) ∙ ap stands_kept (sym (found_closed rows q));
+    }
+  where
+    stored_by : (o : Option Record) → stored (closed_of o) ≡ stored o
+    stored_by None = refl
+    stored_by (Some r) = refl
+
+    requests_by : (o : Option Record) → requests_on (closed_of o) ≡ requests_on o
+    requests_by None = refl
+    requests_by (Some r) = refl
+
+    recent_by : (o : Option Record) → is_recent (closed_of o) ≡ false
+    recent_by None = refl
+    recent_by (Some r) = refl
+
+    closed_by : (o : Option Record) → is_closed (closed_of o) ≡ is_recent o
+    closed_by None = refl
+    closed_by (Some r) = refl
+
+    turn : (a b c : Bool) → (a || (b || (c || false))) ≡ (a || (b || (false || c)))
+    turn true b c = refl
+    turn false true c = refl
+    turn false false true = refl
+    turn false false false = refl
+
+    kept_by : (o : Option Record) → is_some o ≡ stands_kept o → is_closed o ≡ false → is_some (closed_of o) ≡ stands_kept (closed_of o)
+    kept_by None e f = refl
+    kept_by (Some r) e f = e ∙ ap (λ b. is_some r.value || (not (is_empty r.requests) || (r.is_recent || b))) f ∙ turn (is_some r.value) (not (is_empty r.requests)) r.is_recent
+
+-- the record that a taken key has left keeps all but the closed set
+stored-left : (o : Option Record) → stored (left_of o) ≡ stored o
+stored-left None = refl
+stored-left (Some r) = stored-if (record r { is_closed = false })
+
+requests-left : (o : Option Record) → requests_on (left_of o) ≡ requests_on o
+requests-left None = refl
+requests-left (Some r) = requests-if (record r { is_closed = false })
+
+recent-left : (o : Option Record) → is_recent (left_of o) ≡ is_recent o
+recent-left None = refl
+recent-left (Some r) = recent-if (record r { is_closed = false })
+
+closed-left : (o : Option Record) → is_closed (left_of o) ≡ false
+closed-left None = refl
+closed-left (Some r) = closed-if (record r { is_closed = false })
+
+kept-left : (o : Option Record) → is_some (left_of o) ≡ stands_kept (left_of o)
+kept-left None = refl
+kept-left (Some r) = kept-if (record r { is_closed = false })
+
+-- the first key of the closed set was taken
+pub left_records : (base : Database) (rows : List Row) (h after : History) (k : List ℕ) (ks : List (List ℕ)) → closed_set h ≡ k ∷ ks → is_among ks k ≡ false → contents base after ≡ contents base h → ((q : List ℕ) → queue_of q after ≡ queue_of q h) →
+    written_since_token after ≡ written_since_token h → closed_set after ≡ ks → AreRecords base rows h → AreRecords base (left_rows rows k) after
+left_records base rows h after k ks first once cs qs ws ls are =
+    record {
+      sorted = rise_left rows (left_rows rows k) k are.sorted refl;
+      stored = λ q. ap stored (found q) ∙ by stored q (stored-left (record_of rows k)) ∙ are.stored q ∙ ap (λ db. map_of.get db q) (sym cs);
+      requests = λ q. ap requests_on (found q) ∙ by requests_on q (requests-left (record_of rows k)) ∙ are.requests q ∙ sym (qs q);
+      recent = λ q. ap is_recent (found q) ∙ by is_recent q (recent-left (record_of rows k)) ∙ are.recent q ∙ ap (λ keys. is_among keys q) (sym ws);
+      closed = λ q. ap is_closed (found q) ∙ closed_by q (same_bytes q k) refl ∙ ap (λ keys. is_among keys q) (sym ls);
+      kept = λ q. ap is_some (found q) ∙ kept_by q (same_bytes q k) ∙ ap stands_kept (sym (found q));
+    }
+  where
+    found_with : (o : Option Record) (q : List ℕ) → record_of (with_left o k rows) q ≡ cond (same_bytes q k) o (record_of rows q)
+    found_with None q = find-without key_order k q rows
+    found_with (Some r) q = find-put key_cmp key_order.total q k r rows
+
+    found : (q : List ℕ) → record_of (left_rows rows k) q ≡ cond (same_bytes q k) (left_of (record_of rows k)) (record_of rows q)
+    found q = found_with (left_of (record_of rows k)) q
+
+    by : {X : Type 0} (f : Option Record → X) (q : List ℕ) → f (left_of (record_of rows k)) ≡ f (record_of rows k) → f (cond (same_bytes q k) (left_of (record_of rows k)) (record_of rows q)) ≡ f (record_of rows q)
+    by f q e = by_test (same_bytes q k) refl
+      where
+        by_test : (b : Bool) → same_bytes q k ≡ b → f (cond b (left_of (record_of rows k)) (record_of rows q)) ≡ f (record_of rows q)
+        by_test true is = e ∙ ap (λ x. f (record_of rows x)) (sym (one_key q k is))
+        by_test false is = refl
+
+    closed_by : (q : List ℕ) (b : Bool) → same_bytes q k ≡ b → is_closed (cond b (left_of (record_of rows k)) (record_of rows q)) ≡ is_among ks q
+    closed_by q true is = closed-left (record_of rows k) ∙ sym once ∙ ap (is_among ks) (sym (one_key q k is))
+    closed_by q false is = are.closed q ∙ ap (λ keys. is_among keys q) first ∙ ap (λ b. b || is_among ks q) is
+
+    kept_by : (q : List ℕ) (b : Bool) → is_some (cond b (left_of (record_of rows k)) (record_of rows q)) ≡ stands_kept (cond b (left_of (record_of rows k)) (record_of rows q))
+    kept_by q true = kept-left (record_of rows k)
+    kept_by q false = are.kept q

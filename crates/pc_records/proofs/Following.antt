@@ -1,0 +1,119 @@
+-- What each request leaves of the records.
+use Rattle.std.proofs.Common.{◌≡◌, ℕ, List, [], ◌∷◌, Option, Some, None, is_some, refl, sym, ap, ◌∙◌, cond, true, false, Bool, not, ◌||◌}
+use Rattle.std.specs.FinMap.{put as put_entry}
+use Rattle.std.specs.FinMap.Entries.{is_sorted-put, find-put}
+use Rattle.std.proofs.lemmas.Cmp.{eq_by_cmp_equiv}
+use Rattle.pc_model.specs.Maps as map_of
+use Rattle.pc_model.specs.Database.{Database, key_cmp, key_order, same_bytes}
+use Rattle.pc_model.specs.Points.{is_among}
+use Rattle.pc_model.specs.History.{History, contents}
+use Rattle.pc_model.specs.Locks.{Queue, Request, Outcome, queue_of, queue_after, with_request}
+use Rattle.pc_model.specs.Locks.Outcome.{Granted, Queued, Died}
+use Rattle.pc_model.specs.Replies.{is_empty, written_since_token, closed_set}
+use Rattle.pc_model.proofs.Joins.{one_key}
+use Rattle.pc_model.proofs.PairMaps.{computes, tested}
+use Rattle.pc_records.specs.Rows.{Row, Record, record_of, stored, is_recent, is_closed, requests_on, with_requests, rows_after}
+use Rattle.pc_records.specs.Following.{AreRecords, stands_kept}
+
+pub turned_key : (a b : List ℕ) → same_bytes a b ≡ same_bytes b a
+turned_key a b = (eq_by_cmp_equiv key_order.total).symm a b
+
+-- where the database, the queues and the written keys stay, so do the records
+pub same_records : (base : Database) (rows : List Row) (h after : History) → contents base after ≡ contents base h → ((q : List ℕ) → queue_of q after ≡ queue_of q h) → written_since_token after ≡ written_since_token h → closed_set after ≡ closed_set h → AreRecords base rows h → AreRecords base rows after
+same_records base rows h after cs qs ws ls are =
+    record {
+      sorted = are.sorted;
+      stored = λ q. are.stored q ∙ ap (λ db. map_of.get db q) (sym cs);
+      requests = λ q. are.requests q ∙ sym (qs q);
+      recent = λ q. are.recent q ∙ ap (λ ks. is_among ks q) (sym ws);
+      closed = λ q. are.closed q ∙ ap (λ ks. is_among ks q) (sym ls);
+      kept = are.kept;
+    }
+
+-- a record with other requests keeps the rest, and a request keeps it
+stored-with : (r : Option Record) (queue : Queue) → stored (Some (with_requests r queue)) ≡ stored r
+stored-with None queue = refl
+stored-with (Some r) queue = refl
+
+recent-with : (r : Option Record) (queue : Queue) → is_recent (Some (with_requests r queue)) ≡ is_recent r
+recent-with None queue = refl
+recent-with (Some r) queue = refl
+
+closed-with : (r : Option Record) (queue : Queue) → is_closed (Some (with_requests r queue)) ≡ is_closed r
+closed-with None queue = refl
+closed-with (Some r) queue = refl
+
+requests-with : (r : Option Record) (queue : Queue) → requests_on (Some (with_requests r queue)) ≡ queue
+requests-with None queue = refl
+requests-with (Some r) queue = refl
+
+kept-with : (r : Option Record) (queue : Queue) → is_empty queue ≡ false → true ≡ stands_kept (Some (with_requests r queue))
+kept-with None queue some = rw some refl
+kept-with (Some r) queue some = by_value (is_some r.value) (is_empty queue) (r.is_recent || r.is_closed) some
+  where
+    by_value : (a b c : Bool) → b ≡ false → true ≡ (a || (not b || c))
+    by_value true b c e = refl
+    by_value false true c e = cc
+    by_value false false c e = refl
+
+-- a request that stands, granted or waiting
+placed_records : (base : Database) (rows : List Row) (h after : History) (k : List ℕ) (n : ℕ) (exclusive : Bool) (o : Outcome) → ((queue : Queue) → is_empty (queue_after queue n exclusive o) ≡ false) → contents base after ≡ contents base h →
+    ((q : List ℕ) → queue_of q after ≡ cond (same_bytes k q) (queue_after (queue_of q h) n exclusive o) (queue_of q h)) → written_since_token after ≡ written_since_token h →
+    closed_set after ≡ closed_set h → AreRecords base rows h → AreRecords base (put_entry key_cmp k (with_requests (record_of rows k) (queue_after (requests_on (record_of rows k)) n exclusive o)) rows) after
+placed_records base rows h after k n x o stands cs qs ws ls are =
+    record {
+      sorted = tested (is_sorted-put key_cmp key_order.total k new rows (computes are.sorted));
+      stored = λ q. ap stored (found q) ∙ by stored q (stored-with (record_of rows k) now) ∙ are.stored q ∙ ap (λ db. map_of.get db q) (sym cs);
+      requests = λ q. ap requests_on (found q) ∙ requests_by q (same_bytes q k) refl ∙ sym (qs q);
+      recent = λ q. ap is_recent (found q) ∙ by is_recent q (recent-with (record_of rows k) now) ∙ are.recent q ∙ ap (λ ks. is_among ks q) (sym ws);
+      closed = λ q. ap is_closed (found q) ∙ by is_closed q (closed-with (record_of rows k) now) ∙ are.closed q ∙ ap (λ ks. is_among ks q) (sym ls);
+      kept = λ q. ap is_some (found q) ∙ kept_by q (same_bytes q k) ∙ ap stands_kept (sym (found q));
+    }
+  where
+    now : Queue
+    now = queue_after (requests_on (record_of rows k)) n x o
+
+    new : Record
+    new = with_requests (record_of rows k) now
+
+    found : (q : List ℕ) → record_of (put_entry key_cmp k new rows) q ≡ cond (same_bytes q k) (Some new) (record_of rows q)
+    found q = find-put key_cmp key_order.total q k new rows
+
+    by : {X : Type 0} (f : Option Record → X) (q : List ℕ) → f (Some new) ≡ f (record_of rows k) → f (cond (same_bytes q k) (Some new) (record_of rows q)) ≡ f (record_of rows q)
+    by f q e = by_test (same_bytes q k) refl
+      where
+        by_test : (b : Bool) → same_bytes q k ≡ b → f (cond b (Some new) (record_of rows q)) ≡ f (record_of rows q)
+        by_test true is = e ∙ ap (λ x. f (record_of rows x)) (sym (one_key q k is))
+        by_test false is = refl
+
+    requests_by : (q : List ℕ) (b : Bool) → same_bytes q k ≡ b → requests_on (cond b (Some new) (record_of rows q)) ≡ cond (same_bytes k q) (queue_after (queue_of q h) n x o) (queue_of q h)
+    requests_by q true e = requests-with (record_of rows k) now ∙ rw (turned_key k q ∙ e) (ap (λ u. queue_after u n x o) (are.requests k ∙ ap (λ u. queue_of u h) (sym (one_key q k e))))
+    requests_by q false e = rw (turned_key k q ∙ e) (are.requests q)
+
+    kept_by : (q : List ℕ) (b : Bool) → is_some (cond b (Some new) (record_of rows q)) ≡ stands_kept (cond b (Some new) (record_of rows q))
+    kept_by q true = kept-with (record_of rows k) now (stands (requests_on (record_of rows k)))
+    kept_by q false = are.kept q
+
+granted_stands : (queue : Queue) (request : Request) → is_empty (with_request queue request) ≡ false
+granted_stands [] request = refl
+granted_stands (r ∷ rs) request = by_own (Rattle.std.specs.Prelude.◌==◌ r.transaction request.transaction)
+  where
+    by_own : (b : Bool) → is_empty (cond b (record r { exclusive = r.exclusive || request.exclusive } ∷ rs) (r ∷ with_request rs request)) ≡ false
+    by_own true = refl
+    by_own false = refl
+
+queued_stands : (queue : Queue) (n : ℕ) (exclusive : Bool) → is_empty (queue_after queue n exclusive Queued) ≡ false
+queued_stands [] n x = refl
+queued_stands (r ∷ rs) n x = refl
+
+-- the transaction's request of a key was answered
+pub asked_records : (base : Database) (rows : List Row) (h after : History) (k : List ℕ) (n : ℕ) (exclusive : Bool) (o : Outcome) → contents base after ≡ contents base h →
+    ((q : List ℕ) → queue_of q after ≡ cond (same_bytes k q) (queue_after (queue_of q h) n exclusive o) (queue_of q h)) → written_since_token after ≡ written_since_token h →
+    closed_set after ≡ closed_set h → AreRecords base rows h → AreRecords base (rows_after rows k n exclusive o) after
+asked_records base rows h after k n x Granted cs qs ws ls are = placed_records base rows h after k n x Granted (λ queue. granted_stands queue (record { transaction = n; exclusive = x; granted = true })) cs qs ws ls are
+asked_records base rows h after k n x Queued cs qs ws ls are = placed_records base rows h after k n x Queued (λ queue. queued_stands queue n x) cs qs ws ls are
+asked_records base rows h after k n x Died cs qs ws ls are = same_records base rows h after cs (λ q. qs q ∙ either (same_bytes k q) (queue_of q h)) ws ls are
+  where
+    either : (b : Bool) (queue : Queue) → cond b queue queue ≡ queue
+    either true queue = refl
+    either false queue = refl

@@ -1,0 +1,65 @@
+-- Who waits in the queues waits in the rows.
+use Rattle.std.proofs.Common.{◌≡◌, ◌≢◌, ℕ, zero, suc, ◌+◌, ◌<◌, ◌≤◌, List, [], ◌∷◌, length, get_or, refl, sym, ap, ◌∙◌, arith, cond, Bool, true, false, eqb, ◌||◌}
+use Rattle.std.specs.List.{list_any}
+use Rattle.std.proofs.lemmas.Bool.Decides.{nat_tests}
+use Rattle.pc_model.specs.Locks.{Queue, request_in, is_ungranted}
+use Rattle.pc_locks.specs.States as states
+use Rattle.pc_locks.specs.States.{State, Lists, queue_at}
+use Rattle.pc_records.specs.declared.slots.Slot.{Slot}
+use Rattle.pc_records.specs.Rows.{Row, is_waiting}
+use Rattle.pc_records.specs.Slots.{row_of, rows_of, numbers_of, times, AreKept}
+
+abbrev waits_in : ℕ → Queue → Bool
+waits_in t q = is_ungranted (request_in q t)
+
+or_false : (a b : Bool) → (a || b) ≡ false → (a ≡ false) × (b ≡ false)
+or_false true b e = absurd cc
+or_false false b e = (refl, e)
+
+or_true : (a : Bool) → (a || true) ≡ true
+or_true true = refl
+or_true false = refl
+
+-- none waits in a queue where none waits in the rows
+none_at : (t n : ℕ) (queues : List Queue) (slots : List Slot) → is_waiting (rows_of queues slots) t ≡ false → 0 < times n (numbers_of slots) → waits_in t (queue_at queues n) ≡ false
+none_at t n queues [] none more = absurd (omega (arith, more))
+none_at t n queues (x ∷ xs) none more =
+    let parts = or_false (waits_in t (queue_at queues x.number)) (is_waiting (rows_of queues xs) t) none in
+    by_test (eqb x.number n) refl more parts.0 (none_at t n queues xs parts.1)
+  where
+    by_test : (b : Bool) → eqb x.number n ≡ b → 0 < cond b (times n (numbers_of xs) + 1) (times n (numbers_of xs)) → waits_in t (queue_at queues x.number) ≡ false → (0 < times n (numbers_of xs) → waits_in t (queue_at queues n) ≡ false) →
+        waits_in t (queue_at queues n) ≡ false
+    by_test true is more here rest =
+        let same : x.number ≡ n = grind (arith, nat_tests, is) in
+        ap (λ m. waits_in t (queue_at queues m)) (sym same) ∙ here
+    by_test false is more here rest = rest more
+
+none_waits : (t n : ℕ) (queues : List Queue) (slots : List Slot) → ((n : ℕ) → times n (numbers_of slots) ≡ 0 → queue_at queues n ≡ []) → is_waiting (rows_of queues slots) t ≡ false → waits_in t (queue_at queues n) ≡ false
+none_waits t n queues slots bare none = by_count (times n (numbers_of slots)) refl
+  where
+    by_count : (m : ℕ) → times n (numbers_of slots) ≡ m → waits_in t (queue_at queues n) ≡ false
+    by_count zero e = ap (waits_in t) (bare n e)
+    by_count (suc m) e = none_at t n queues slots none (omega (arith, e))
+
+any_none : (t : ℕ) (queues : List Queue) → ((n : ℕ) → waits_in t (queue_at queues n) ≡ false) → list_any (waits_in t) queues ≡ false
+any_none t [] f = refl
+any_none t (q ∷ qs) f = rw (f 0) (any_none t qs (λ n. f (suc n)))
+
+-- and the other way round
+none_in_rows : (t : ℕ) (queues : List Queue) (slots : List Slot) → ((n : ℕ) → waits_in t (queue_at queues n) ≡ false) → is_waiting (rows_of queues slots) t ≡ false
+none_in_rows t queues [] f = refl
+none_in_rows t queues (x ∷ xs) f = rw (f x.number) (none_in_rows t queues xs f)
+
+none_of : (t : ℕ) (queues : List Queue) → list_any (waits_in t) queues ≡ false → (n : ℕ) → waits_in t (queue_at queues n) ≡ false
+none_of t [] e n = refl
+none_of t (q ∷ qs) e zero = (or_false (waits_in t q) (list_any (waits_in t) qs) e).0
+none_of t (q ∷ qs) e (suc n) = none_of t qs (or_false (waits_in t q) (list_any (waits_in t) qs) e).1 n
+
+pub waits_same : (slots : List Slot) (free : List ℕ) (most : ℕ) (queues : List Queue) (t : ℕ) → AreKept slots free most queues → list_any (waits_in t) queues ≡ is_waiting (rows_of queues slots) t
+waits_same slots free most queues t kept = by_test (list_any (waits_in t) queues) (is_waiting (rows_of queues slots) t) refl refl
+  where
+    by_test : (a b : Bool) → list_any (waits_in t) queues ≡ a → is_waiting (rows_of queues slots) t ≡ b → a ≡ b
+    by_test true true e f = refl
+    by_test false false e f = refl
+    by_test true false e f = sym e ∙ any_none t queues (λ n. none_waits t n queues slots kept.bare f)
+    by_test false true e f = sym (sym f ∙ none_in_rows t queues slots (none_of t queues e))

@@ -1,0 +1,23 @@
+-- What the records say of a history.
+use Rattle.std.specs.Prelude.{◌≡◌, ℕ, Bool, false, List, Option, Some, None, is_some}
+use Rattle.pc_model.specs.Maps as map_of
+use Rattle.pc_model.specs.Database.{Database, KeysRise}
+use Rattle.pc_model.specs.Points.{is_among}
+use Rattle.pc_model.specs.Locks.{queue_of}
+use Rattle.pc_model.specs.History.{History, contents}
+use Rattle.pc_model.specs.Replies.{written_since_token, closed_set}
+use Rattle.pc_records.specs.Rows.{Row, Record, record_of, stored, is_recent, is_closed, requests_on, is_kept}
+
+-- there is a record, and something keeps it
+abbrev pub stands_kept : Option Record → Bool
+stands_kept None = false
+stands_kept (Some r) = is_kept r
+
+-- each key's record is what the history says of the key, and no record is kept for nothing
+pub record AreRecords (base : Database) (rows : List Row) (history : History) : Type 0 where
+  pub sorted : KeysRise rows
+  pub stored : (key : List ℕ) → stored (record_of rows key) ≡ map_of.get (contents base history) key
+  pub requests : (key : List ℕ) → requests_on (record_of rows key) ≡ queue_of key history
+  pub recent : (key : List ℕ) → is_recent (record_of rows key) ≡ is_among (written_since_token history) key
+  pub closed : (key : List ℕ) → is_closed (record_of rows key) ≡ is_among (closed_set history) key
+  pub kept : (key : List ℕ) → is_some (record_of rows key) ≡ stands_kept (record_of rows key)
