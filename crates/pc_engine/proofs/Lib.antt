@@ -2,3 +2,13 @@ pub mod WritePlaces
 pub mod Gathered
 pub mod SessionLemmas
 pub mod Causes
+pub mod ActiveSessions
+pub mod Serial
+pub mod Owing
+pub mod LocalSteps
+pub mod Requests
+pub mod Endings
+pub mod Standing
+pub mod Runs
+pub mod Soundness
+pub mod Cycles

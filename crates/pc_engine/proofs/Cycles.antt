@@ -1,0 +1,336 @@
+-- What each step of the checkpointer leaves of a world that stands after a history.
+use Rattle.std.proofs.Common.{◌≡◌, ℕ, ◌+◌, List, [], ◌∷◌, ◌++◌, length, map, append-nil, subst, Option, Some, None, is_some, is_none, refl, sym, ap, ◌∙◌, cond, true, false, Bool, not, eqb, ◌||◌}
+use Rattle.std.specs.Prelude.{IfSome}
+use Rattle.std.specs.List.{list_any, IsDistinct, AllByRecursion}
+use Rattle.pc_types.specs.declared.Event.{Event}
+use Rattle.pc_types.specs.declared.Event.TheVariants as asked
+use Rattle.pc_types.specs.declared.Reply.{Reply}
+use Rattle.pc_types.specs.declared.Reply.TheVariants as told
+use Rattle.pc_types.specs.declared.Refusal.{Refusal}
+use Rattle.pc_types.specs.declared.Refusal.TheVariants as why
+use Rattle.pc_types.specs.declared.Phase.{Phase}
+use Rattle.pc_types.specs.declared.Phase.TheVariants.{Rest, Prepare, Resolve, Capture, Complete}
+use Rattle.pc_types.specs.declared.Step.{Step}
+use Rattle.pc_types.specs.declared.Entry.{Entry}
+use Rattle.pc_types.specs.declared.Entry.TheVariants.{Token}
+use Rattle.pc_model.specs.Maps as map_of
+use Rattle.pc_model.specs.Database.{same_bytes}
+use Rattle.pc_model.specs.Log.{after, is_resolve}
+use Rattle.pc_model.specs.Files.{File, shelf, shelved_by, file_at, join_of, triples_taken}
+use Rattle.pc_model.specs.History.{History, Class, effect, effect_of, log_of, begun, phase_of, point_of, entries_by, begun_by, phase_by, point_by}
+use Rattle.pc_model.specs.History.Effect.{Moves, Nothing}
+use Rattle.pc_model.specs.History.Class.{Before, During, After}
+use Rattle.pc_model.specs.Locks.{queue_of, queue_by}
+use Rattle.pc_model.specs.Points.{is_among, touched, taken, taken_by}
+use Rattle.pc_model.specs.Replies.{Setting, first_refusal, or_else, not_yet, is_in, same_phase, active_in, some_active, log_is_full, join_refusal, join_causes, IsFileReply, is_empty, written_since_token, written_by, closed_set}
+use Rattle.pc_model.specs.Replies.{TakesFirst as AnswersFirst}
+use Rattle.pc_model.specs.Headline.{HasLegalEffects, is_taking, is_past_token}
+use Rattle.pc_model.proofs.Logs.{after-append}
+use Rattle.pc_model.proofs.LegalEffects.{legal_for_now_has_legal_effects, one_phase}
+use Rattle.pc_model.proofs.QuietContents.{quiet_contents}
+use Rattle.pc_model.proofs.Standing.{closed_stays, changes_closed, each_key_once, none_left, past_token, seal_closes, take_leaves}
+use Rattle.pc_engine.specs.Store.{Store, setting_of, moved, sealed, start_causes, move_causes, take_due, done_due, part_taken, StartsPoint, Moves as MovesOn, Seals, TakesFirst, Takes, Shelves, Joins}
+use Rattle.pc_engine.specs.Stands.{IsReadOff, Stands, Follows}
+use Rattle.pc_records.proofs.Following.{same_records}
+use Rattle.pc_records.proofs.Cycles.{closed_records, left_records}
+use Rattle.pc_records.specs.Rows.{record_of, stored}
+use Rattle.pc_engine.proofs.ActiveSessions.{active_by, some_now, none_active}
+use Rattle.pc_engine.proofs.Owing.{with_step, IsLeft, owes_follows, refused_idle, not_first, not_not, none_outside}
+use Rattle.pc_model.proofs.QuietHistories.{for_now_is_quiet}
+
+-- the phase has changed, but not to resolve
+moved_off : (w : Store) (h : History) (step : Step) (to : Phase) (n : ℕ) → HasLegalEffects (setting_of w) (step ∷ h) → effect step ≡ Moves to n → is_resolve to ≡ false → (is_taking to ≡ true → w.cycle.taken ≡ taken h) → IsReadOff w h →
+    IsReadOff (moved to n w) (step ∷ h)
+moved_off w h step to n legal e other taking parts =
+    let log : log_of (step ∷ h) ≡ log_of h ++ Token to n ∷ [] = ap (λ d. log_of h ++ entries_by d h) e in
+    let written : written_since_token (step ∷ h) ≡ written_since_token h = ap (λ d. written_by d h (written_since_token h)) e ∙ ap (λ b. cond b [] (written_since_token h)) other in
+    let takes : taken (step ∷ h) ≡ taken h = ap (λ d. taken_by d (taken h)) e ∙ ap (λ b. cond b [] (taken h)) other in
+    let same : changes_closed (effect step) ≡ false = ap changes_closed e ∙ other in
+    let closed : closed_set (step ∷ h) ≡ closed_set h = closed_stays (setting_of w) h step legal same in
+    let phase : phase_of (step ∷ h) ≡ to = ap (λ d. phase_by d (phase_of h)) e in
+    record {
+      records = same_records w.base.pairs w.kept.rows h (step ∷ h) (ap (after w.base.pairs) log ∙ after-append w.base.pairs (log_of h) (Token to n ∷ [])) (λ q. ap (λ d. queue_by q d h (queue_of q h)) e) written closed parts.records;
+      log = ap (λ l. l ++ Token to n ∷ []) parts.log ∙ sym log;
+      begun = parts.begun ∙ sym (ap (λ d. begun_by d (begun h)) e);
+      sessions = λ t there. parts.sessions t there ∙ sym (ap (λ d. active_by t d h) e);
+      start = parts.start;
+      cycle = record {
+        phase = sym phase;
+        point = sym (ap (λ d. point_by d (point_of h)) e);
+        recent = parts.cycle.recent ∙ sym written;
+        closed = parts.cycle.closed ∙ sym closed;
+        taken = λ t. taking (ap is_taking (sym phase) ∙ t) ∙ sym takes;
+        shelved = parts.cycle.shelved ∙ sym (ap (λ d. shelf w.base.run h ++ shelved_by w.base.run d h (shelf w.base.run h)) e ∙ append-nil (shelf w.base.run h));
+      };
+    }
+
+-- the two causes of WrongPhase at the start of a cycle
+start_due : (a b : Bool) (cs : List (Bool × Refusal)) →
+    first_refusal ((a || b, why.WrongPhase) ∷ cs) ≡ or_else (first_refusal ((a, why.WrongPhase) ∷ [])) (or_else (first_refusal ((b, why.WrongPhase) ∷ [])) (first_refusal cs))
+start_due true b cs = refl
+start_due false true cs = refl
+start_due false false cs = refl
+
+-- nobody is waited for
+move_due : (a full : Bool) (n : ℕ) → (a ≡ false → n ≡ 0) →
+    first_refusal ((a, why.WrongPhase) ∷ (full, why.LogFull) ∷ []) ≡ or_else (first_refusal ((a, why.WrongPhase) ∷ [])) (or_else (not_yet n) (first_refusal ((full, why.LogFull) ∷ [])))
+move_due true full n none = refl
+move_due false full n none = rw (none refl) refl
+
+idle_or : (event : Event) (a b : Option Reply) → IfSome a (λ d. effect_of event d ≡ Nothing) → IfSome b (λ d. effect_of event d ≡ Nothing) → IfSome (or_else a b) (λ d. effect_of event d ≡ Nothing)
+idle_or event None b p q = q
+idle_or event (Some d) b p q = p
+
+-- of keys that stand once each a first one isn't among the others
+apart_from : (key : List ℕ) (keys : List (List ℕ)) → AllByRecursion (λ k. same_bytes key k ≡ false) keys → is_among keys key ≡ false
+apart_from key [] all = refl
+apart_from key (k ∷ keys) all = ap (λ b. b || is_among keys key) all.0 ∙ apart_from key keys all.1
+
+next_apart : (gone : List (List ℕ)) (key : List ℕ) (keys : List (List ℕ)) → IsDistinct same_bytes (gone ++ key ∷ keys) → is_among keys key ≡ false
+unfolding IsDistinct
+next_apart [] key keys once = apart_from key keys once.0
+next_apart (g ∷ gone) key keys once = next_apart gone key keys once.1
+
+module _ (old new : Store) (h : History) (reply : Reply) (stands : Stands old h) where
+  abbrev st : Setting
+  st = setting_of old
+
+  legal_before : HasLegalEffects st h
+  legal_before = legal_for_now_has_legal_effects st h stands.legal
+
+  in_phase : (p : Phase) → same_phase old.cycle.phase p ≡ is_in p h
+  in_phase p = ap (λ x. same_phase x p) stands.parts.cycle.phase
+
+  log_full : eqb (length old.log) 16777216 ≡ log_is_full h
+  log_full = ap (λ (l : List Entry). eqb (length l) 16777216) stands.parts.log
+
+  is_phase : (p : Phase) → is_in p h ≡ true → phase_of h ≡ p
+  is_phase p e = one_phase (phase_of h) p e
+
+  shut_in : (p : Phase) → same_phase p Rest ≡ false → is_in p h ≡ true → some_active st h ≡ false
+  shut_in p apart e = none_outside old h stands (ap (λ x. same_phase x Rest) (is_phase p e) ∙ apart)
+
+  pub starts_follows : StartsPoint old reply new → Follows st h asked.StartPoint reply new
+  starts_follows step =
+      let late : List (Bool × Refusal) = (eqb old.cycle.point 65535, why.PointsFull) ∷ (eqb (length old.log) 16777216, why.LogFull) ∷ [] in
+      owes_follows old new h asked.StartPoint reply _ (first_refusal (start_causes old)) stands
+      (start_due (list_any is_some old.sessions) (not (same_phase old.cycle.phase Rest)) late
+      ∙ ap (λ b. or_else (first_refusal ((b, why.WrongPhase) ∷ [])) (or_else (first_refusal ((not (same_phase old.cycle.phase Rest), why.WrongPhase) ∷ [])) (first_refusal late))) (some_now old.sessions h stands.parts.sessions)
+      ∙ ap (λ b. or_else (first_refusal ((some_active st h, why.WrongPhase) ∷ [])) (or_else (first_refusal ((not b, why.WrongPhase) ∷ [])) (first_refusal late))) (in_phase Rest)
+      ∙ ap (λ n. or_else (first_refusal ((some_active st h, why.WrongPhase) ∷ [])) (or_else (first_refusal ((not (is_in Rest h), why.WrongPhase) ∷ [])) (first_refusal ((eqb n 65535, why.PointsFull) ∷ (eqb (length old.log) 16777216, why.LogFull) ∷ [])))) stands.parts.cycle.point
+      ∙ ap (λ b. or_else (first_refusal ((some_active st h, why.WrongPhase) ∷ [])) (or_else (first_refusal ((not (is_in Rest h), why.WrongPhase) ∷ [])) (first_refusal ((eqb (point_of h) 65535, why.PointsFull) ∷ (b, why.LogFull) ∷ [])))) log_full)
+      (refused_idle asked.StartPoint (start_causes old)) step
+      (λ none d. d.0 ∙ ap (λ n. told.Phase Prepare (n + 1)) stands.parts.cycle.point)
+      (λ none d legal.
+      let now = rw d.0 at legal in
+      rw (d.0, d.1) (refl, moved_off old h (record { event = asked.StartPoint; reply = told.Phase Prepare (old.cycle.point + 1) }) Prepare (old.cycle.point + 1) now refl refl (λ t. cc) stands.parts, tt))
+
+  -- what is due to a change of the phase
+  moves_due : (from : Phase) (class : Class) → same_phase from Rest ≡ false →
+      first_refusal (move_causes from old) ≡ or_else (first_refusal ((not (is_in from h), why.WrongPhase) ∷ [])) (or_else (not_yet (active_in st class h)) (first_refusal ((log_is_full h, why.LogFull) ∷ [])))
+  moves_due from class apart =
+      ap (λ b. first_refusal ((not b, why.WrongPhase) ∷ (eqb (length old.log) 16777216, why.LogFull) ∷ [])) (in_phase from)
+      ∙ ap (λ b. first_refusal ((not (is_in from h), why.WrongPhase) ∷ (b, why.LogFull) ∷ [])) log_full
+      ∙ move_due (not (is_in from h)) (log_is_full h) (active_in st class h) (λ e. none_active st class h (shut_in from apart (not_not (is_in from h) e)))
+
+  -- where no refusal is due the phase is the right one
+  right_phase : (from : Phase) → first_refusal (move_causes from old) ≡ None → is_in from h ≡ true
+  right_phase from none = sym (in_phase from) ∙ not_not _ (not_first (not (same_phase old.cycle.phase from)) why.WrongPhase ((eqb (length old.log) 16777216, why.LogFull) ∷ []) none).0
+
+  pub seals_follows : Seals old reply new → Follows st h asked.Seal reply new
+  seals_follows step =
+      owes_follows old new h asked.Seal reply _ (first_refusal (move_causes Prepare old)) stands (moves_due Prepare Before refl) (refused_idle asked.Seal (move_causes Prepare old)) step
+      (λ none d. d.0 ∙ ap (told.Phase Resolve) stands.parts.cycle.point)
+      (λ none d legal. rw (d.0, d.1) (sealed_off (is_phase Prepare (right_phase Prepare none)) (rw d.0 at legal)))
+    where
+      sealed_off : phase_of h ≡ Prepare → HasLegalEffects st (with_step h asked.Seal (told.Phase Resolve old.cycle.point)) → IsLeft old (sealed (moved Resolve old.cycle.point old)) h asked.Seal (told.Phase Resolve old.cycle.point)
+      sealed_off prepares legal =
+          let closes = seal_closes st h (record { event = asked.Seal; reply = told.Phase Resolve old.cycle.point }) legal old.cycle.point refl in (
+            refl,
+            record {
+              records = closed_records old.base.pairs old.kept.rows h _ (none_left st h legal_before (ap is_taking prepares)) (after-append old.base.pairs (log_of h) (Token Resolve old.cycle.point ∷ [])) (λ q. refl) refl (closes.0 ∙ closes.1) stands.parts.records;
+              log = ap (λ l. l ++ Token Resolve old.cycle.point ∷ []) stands.parts.log;
+              begun = stands.parts.begun;
+              sessions = λ t there. stands.parts.sessions t there;
+              start = stands.parts.start;
+              cycle = record {
+                phase = refl;
+                point = refl;
+                recent = refl;
+                closed = stands.parts.cycle.recent ∙ sym (closes.0 ∙ closes.1);
+                taken = λ t. refl;
+                shelved = stands.parts.cycle.shelved ∙ sym (append-nil (shelf old.base.run h));
+              };
+            },
+            tt,
+          )
+
+  pub opens_follows : MovesOn Resolve Capture old reply new → Follows st h asked.OpenCapture reply new
+  opens_follows step =
+      owes_follows old new h asked.OpenCapture reply _ (first_refusal (move_causes Resolve old)) stands (moves_due Resolve During refl) (refused_idle asked.OpenCapture (move_causes Resolve old)) step
+      (λ none d. d.0 ∙ ap (told.Phase Capture) stands.parts.cycle.point)
+      (λ none d legal.
+      let now = rw d.0 at legal in
+      let resolves = is_phase Resolve (right_phase Resolve none) in
+      rw (d.0, d.1) (
+        refl,
+        moved_off old h (record { event = asked.OpenCapture; reply = told.Phase Capture old.cycle.point }) Capture old.cycle.point now refl refl (λ t. stands.parts.cycle.taken (ap is_taking resolves)) stands.parts,
+        tt,
+      ))
+
+  pub rests_follows : MovesOn Complete Rest old reply new → Follows st h asked.Rest reply new
+  rests_follows step =
+      owes_follows old new h asked.Rest reply _ (first_refusal (move_causes Complete old)) stands (moves_due Complete After refl) (refused_idle asked.Rest (move_causes Complete old)) step
+      (λ none d. d.0 ∙ ap (told.Phase Rest) stands.parts.cycle.point)
+      (λ none d legal.
+      let now = rw d.0 at legal in
+      rw (d.0, d.1) (
+        refl,
+        moved_off old h (record { event = asked.Rest; reply = told.Phase Rest old.cycle.point }) Rest old.cycle.point now refl refl (λ t. cc) stands.parts,
+        tt,
+      ))
+
+  -- where nothing else is due at first, the phase is the right one
+  first_phase : (p : Phase) (rest : Option Reply) → or_else (first_refusal ((not (same_phase old.cycle.phase p), why.WrongPhase) ∷ [])) rest ≡ None → is_in p h ≡ true
+  first_phase p rest none = sym (in_phase p) ∙ by_test (same_phase old.cycle.phase p) none
+    where
+      by_test : (b : Bool) → or_else (first_refusal ((not b, why.WrongPhase) ∷ [])) rest ≡ None → b ≡ true
+      by_test true e = refl
+      by_test false e = cc
+
+  pub takes_follows : Takes old reply new → Follows st h asked.Take reply new
+  takes_follows step =
+      owes_follows old new h asked.Take reply _ (take_due old) stands
+      (ap (λ b. or_else (first_refusal ((not b, why.WrongPhase) ∷ [])) (cond (is_empty old.cycle.closed) (Some told.NoneLeft) None)) (in_phase Capture)
+      ∙ ap (λ (ks : List (List ℕ)). or_else (first_refusal ((not (is_in Capture h), why.WrongPhase) ∷ [])) (cond (is_empty ks) (Some told.NoneLeft) None)) stands.parts.cycle.closed)
+      (idle_or asked.Take (first_refusal ((not (same_phase old.cycle.phase Capture), why.WrongPhase) ∷ [])) (cond (is_empty old.cycle.closed) (Some told.NoneLeft) None) (refused_idle asked.Take ((not (same_phase old.cycle.phase Capture), why.WrongPhase) ∷ [])) (none_idle (is_empty old.cycle.closed)))
+      step
+      (λ none d. answers old.cycle.closed stands.parts.cycle.closed d)
+      (λ none d legal. leaves old.cycle.closed stands.parts.cycle.closed (is_phase Capture (first_phase Capture (cond (is_empty old.cycle.closed) (Some told.NoneLeft) None) none)) d legal)
+    where
+      none_idle : (b : Bool) → IfSome (cond b (Some told.NoneLeft) None) (λ d. effect_of asked.Take d ≡ Nothing)
+      none_idle true = refl
+      none_idle false = tt
+
+      answers : (keys : List (List ℕ)) → keys ≡ closed_set h → TakesFirst keys old reply new → AnswersFirst (closed_set h) reply
+      answers [] is d = absurd d
+      answers (k ∷ ks) is d = subst (λ keys. AnswersFirst keys reply) is (stored (record_of old.kept.rows k), d.0)
+
+      leaves : (keys : List (List ℕ)) → keys ≡ closed_set h → phase_of h ≡ Capture → TakesFirst keys old reply new → HasLegalEffects st (with_step h asked.Take reply) → IsLeft old new h asked.Take reply
+      leaves [] is captures d legal = absurd d
+      leaves (k ∷ ks) is captures d legal =
+          let content = stored (record_of old.kept.rows k) in
+          let now = rw d.0 at legal in
+          let taking : is_taking (phase_of h) ≡ true = ap is_taking captures in
+          let past : is_past_token (phase_of h) ≡ true = ap is_past_token captures in
+          let keys = each_key_once st h legal_before in
+          let order : map (λ t. t.0) (taken h) ++ k ∷ ks ≡ touched (point_of h) (log_of h) = ap (λ more. map (λ t. t.0) (taken h) ++ more) is ∙ keys.taken_and_left (past_token st h legal_before past) in
+          let once : is_among ks k ≡ false = next_apart (map (λ t. t.0) (taken h)) k ks (subst (IsDistinct same_bytes) (sym order) keys.once) in
+          let closed : closed_set (with_step h asked.Take (told.Took k content)) ≡ ks = take_leaves st h (record { event = asked.Take; reply = told.Took k content }) legal_before k content ks refl (sym is) in
+          rw (d.0, d.1) (
+            refl,
+            record {
+              records = left_records old.base.pairs old.kept.rows h _ k ks (sym is) once (ap (after old.base.pairs) (append-nil (log_of h))) (λ q. refl) refl closed stands.parts.records;
+              log = rw append-nil stands.parts.log;
+              begun = stands.parts.begun;
+              sessions = λ t there. stands.parts.sessions t there;
+              start = stands.parts.start;
+              cycle = record {
+                phase = stands.parts.cycle.phase;
+                point = stands.parts.cycle.point;
+                recent = stands.parts.cycle.recent;
+                closed = sym closed;
+                taken = λ t. ap (λ ts. ts ++ (k, content) ∷ []) (stands.parts.cycle.taken taking);
+                shelved = stands.parts.cycle.shelved ∙ sym (append-nil (shelf old.base.run h));
+              };
+            },
+            stands.parts.records.stored k ∙ ap (λ db. map_of.get db k) (quiet_contents st h legal_before (for_now_is_quiet st h stands.legal) past),
+          )
+
+  pub shelves_follows : Shelves old reply new → Follows st h asked.Done reply new
+  shelves_follows step =
+      owes_follows old new h asked.Done reply _ (done_due old) stands same idle step
+      (λ none d. d.0 ∙ ap (λ n. told.PartDone n (length old.shelf + 1) (length old.cycle.taken)) stands.parts.cycle.point ∙ ap (λ (fs : List File). told.PartDone (point_of h) (length fs + 1) (length old.cycle.taken)) stands.parts.cycle.shelved
+      ∙ ap (λ ts. told.PartDone (point_of h) (length (shelf old.base.run h) + 1) (length ts)) (stands.parts.cycle.taken (ap is_taking (is_phase Capture (first_phase Capture _ none)))))
+      (λ none d legal. rw (d.0, d.1) (shelved_off (first_phase Capture _ none) (rw d.0 at legal)))
+    where
+      late : List (Bool × Refusal)
+      late = (eqb (length old.shelf) 65536, why.ShelfFull) ∷ (eqb (length old.log) 16777216, why.LogFull) ∷ []
+
+      same : done_due old ≡ or_else (first_refusal ((not (is_in Capture h), why.WrongPhase) ∷ [])) (or_else (not_yet (length (closed_set h))) (first_refusal ((eqb (length (shelf st.run h)) 65536, why.ShelfFull) ∷ (log_is_full h, why.LogFull) ∷ [])))
+      same =
+          ap (λ b. or_else (first_refusal ((not b, why.WrongPhase) ∷ [])) (or_else (not_yet (length old.cycle.closed)) (first_refusal late))) (in_phase Capture)
+          ∙ ap (λ (ks : List (List ℕ)). or_else (first_refusal ((not (is_in Capture h), why.WrongPhase) ∷ [])) (or_else (not_yet (length ks)) (first_refusal late))) stands.parts.cycle.closed
+          ∙ ap (λ (fs : List File). or_else (first_refusal ((not (is_in Capture h), why.WrongPhase) ∷ [])) (or_else (not_yet (length (closed_set h))) (first_refusal ((eqb (length fs) 65536, why.ShelfFull) ∷ (eqb (length old.log) 16777216, why.LogFull) ∷ [])))) stands.parts.cycle.shelved
+          ∙ ap (λ b. or_else (first_refusal ((not (is_in Capture h), why.WrongPhase) ∷ [])) (or_else (not_yet (length (closed_set h))) (first_refusal ((eqb (length (shelf st.run h)) 65536, why.ShelfFull) ∷ (b, why.LogFull) ∷ [])))) log_full
+
+      yet_idle : (n : ℕ) → IfSome (not_yet n) (λ d. effect_of asked.Done d ≡ Nothing)
+      yet_idle n = elim (eqb n 0) as (λ b. IfSome (cond b None (Some (told.NotYet n))) (λ d. effect_of asked.Done d ≡ Nothing)) [ true ↦ tt | false ↦ refl ]
+
+      idle : IfSome (done_due old) (λ d. effect_of asked.Done d ≡ Nothing)
+      idle =
+          idle_or asked.Done (first_refusal ((not (same_phase old.cycle.phase Capture), why.WrongPhase) ∷ [])) (or_else (not_yet (length old.cycle.closed)) (first_refusal late)) (refused_idle asked.Done ((not (same_phase old.cycle.phase Capture), why.WrongPhase) ∷ []))
+          (idle_or asked.Done (not_yet (length old.cycle.closed)) (first_refusal late) (yet_idle (length old.cycle.closed)) (refused_idle asked.Done late))
+
+      shelved_off : is_in Capture h ≡ true → HasLegalEffects st (with_step h asked.Done (told.PartDone old.cycle.point (length old.shelf + 1) (length old.cycle.taken))) →
+          IsLeft old (record old { log = old.log ++ Token Complete old.cycle.point ∷ []; cycle = record old.cycle { phase = Complete; taken = [] }; shelf = old.shelf ++ part_taken old ∷ [] }) h asked.Done (told.PartDone old.cycle.point (length old.shelf + 1) (length old.cycle.taken))
+      shelved_off captures legal =
+          let done : Step = record { event = asked.Done; reply = told.PartDone old.cycle.point (length old.shelf + 1) (length old.cycle.taken) } in
+          let closed : closed_set (done ∷ h) ≡ closed_set h = closed_stays st h done legal refl in
+          let takes : old.cycle.taken ≡ taken h = stands.parts.cycle.taken (ap is_taking (is_phase Capture captures)) in (
+            refl,
+            record {
+              records = same_records old.base.pairs old.kept.rows h (done ∷ h) (after-append old.base.pairs (log_of h) (Token Complete old.cycle.point ∷ [])) (λ q. refl) refl closed stands.parts.records;
+              log = ap (λ l. l ++ Token Complete old.cycle.point ∷ []) stands.parts.log;
+              begun = stands.parts.begun;
+              sessions = λ t there. stands.parts.sessions t there;
+              start = stands.parts.start;
+              cycle = record {
+                phase = refl;
+                point = refl;
+                recent = stands.parts.cycle.recent;
+                closed = stands.parts.cycle.closed ∙ sym closed;
+                taken = λ t. cc;
+                shelved = ap (λ (fs : List File). fs ++ part_taken old ∷ []) stands.parts.cycle.shelved
+                    ∙ ap (λ ts. shelf old.base.run h ++ record { run = old.base.run; points = Rattle.pc_model.specs.Sets.insert Rattle.pc_model.specs.Sets.empty old.cycle.point; triples = triples_taken old.cycle.point ts } ∷ []) takes;
+              };
+            },
+            tt,
+          )
+
+  pub joins_follows : (a b : ℕ) → Joins old a b reply new → Follows st h (asked.Join a b) reply new
+  joins_follows a b step =
+      owes_follows old new h (asked.Join a b) reply _ (join_refusal old.shelf (file_at old.shelf a) (file_at old.shelf b)) stands
+      (ap (λ (fs : List File). join_refusal fs (file_at fs a) (file_at fs b)) stands.parts.cycle.shelved)
+      (refused_idle (asked.Join a b) ((is_none (file_at old.shelf a) || is_none (file_at old.shelf b), why.NoFile) ∷ (eqb (length old.shelf) 65536, why.ShelfFull) ∷ join_causes (file_at old.shelf a) (file_at old.shelf b))) step
+      (λ none d. subst (λ (fs : List File). IsFileReply (join_of (file_at fs a) (file_at fs b)) (length fs + 1) reply) stands.parts.cycle.shelved d.0)
+      (λ none d legal. leaves (join_of (file_at old.shelf a) (file_at old.shelf b)) refl d.0 d.1 legal)
+    where
+      joined_off : (number : ℕ) (points : List ℕ) (count : ℕ) → HasLegalEffects st (with_step h (asked.Join a b) (told.File number points count)) →
+          IsLeft old (record old { shelf = old.shelf ++ join_of (file_at old.shelf a) (file_at old.shelf b) }) h (asked.Join a b) (told.File number points count)
+      joined_off number points count legal =
+          let done : Step = record { event = asked.Join a b; reply = told.File number points count } in
+          let closed : closed_set (done ∷ h) ≡ closed_set h = closed_stays st h done legal refl in (
+            refl,
+            record {
+              records = same_records old.base.pairs old.kept.rows h (done ∷ h) (ap (after old.base.pairs) (append-nil (log_of h))) (λ q. refl) refl closed stands.parts.records;
+              log = rw append-nil stands.parts.log;
+              begun = stands.parts.begun;
+              sessions = λ t there. stands.parts.sessions t there;
+              start = stands.parts.start;
+              cycle = record {
+                phase = stands.parts.cycle.phase;
+                point = stands.parts.cycle.point;
+                recent = stands.parts.cycle.recent;
+                closed = stands.parts.cycle.closed ∙ sym closed;
+                taken = stands.parts.cycle.taken;
+                shelved = ap (λ (fs : List File). fs ++ join_of (file_at fs a) (file_at fs b)) stands.parts.cycle.shelved;
+              };
+            },
+            tt,
+          )
+
+      leaves : (files : List File) → join_of (file_at old.shelf a) (file_at old.shelf b) ≡ files → IsFileReply files (length old.shelf + 1) reply → new ≡ record old { shelf = old.shelf ++ join_of (file_at old.shelf a) (file_at old.shelf b) } →
+          HasLegalEffects st (with_step h (asked.Join a b) reply) → IsLeft old new h (asked.Join a b) reply
+      leaves [] is answer left legal = absurd answer
+      leaves (f ∷ fs) is answer left legal = let now = rw answer at legal in rw (answer, left) (joined_off _ _ _ now)

@@ -1,0 +1,225 @@
+-- What is owed to an event, and what follows once it is paid.
+use Rattle.std.proofs.Common.{◌≡◌, ℕ, List, [], ◌∷◌, ◌++◌, append-nil, subst, Option, Some, None, is_none, refl, sym, ap, ◌∙◌, cond, true, false, Bool, not, ◌⊎◌, ◌||◌, ◌&&◌, inl, inr}
+use Rattle.std.specs.Prelude.{MatchOption, IfSome}
+use Rattle.pc_types.specs.declared.Event.{Event}
+use Rattle.pc_types.specs.declared.Reply.{Reply}
+use Rattle.pc_types.specs.declared.Reply.TheVariants as told
+use Rattle.pc_types.specs.declared.Refusal.{Refusal}
+use Rattle.pc_types.specs.declared.Refusal.TheVariants as why
+use Rattle.pc_types.specs.declared.Phase.TheVariants.{Rest}
+use Rattle.pc_types.specs.declared.Step.{Step}
+use Rattle.pc_model.specs.Log.{after}
+use Rattle.pc_model.specs.Files.{File, shelf, shelved_by}
+use Rattle.pc_model.specs.History.{History, effect, effect_of, log_of, is_open, number_of, has_died, entries_by, begun_by, phase_by, point_by, begun, phase_of, point_of}
+use Rattle.pc_model.specs.History.Effect.{Nothing}
+use Rattle.pc_model.specs.Points.{taken, taken_by}
+use Rattle.pc_model.specs.Locks.{queue_of, queue_by, is_waiting}
+use Rattle.pc_model.specs.Replies.{Setting, IsLegal, certain, Answers, first_refusal, or_else, no_session, is_in, some_active, written_since_token, written_by}
+use Rattle.pc_model.specs.Reads.{IsQuiet, is_quiet}
+use Rattle.pc_model.specs.QuietPoints.{quiet_refusal, IsLegalForNow, IsLegalHistoryForNow}
+use Rattle.pc_model.specs.Headline.{HasLegalEffects, TakesPointValue, ValueBy}
+use Rattle.pc_model.proofs.Effects.{refused_does_nothing, first_refusal_refuses}
+use Rattle.pc_model.proofs.LegalEffects.{legal_for_now_has_legal_effects}
+use Rattle.pc_model.proofs.QuietHistories.{for_now_is_quiet}
+use Rattle.pc_model.proofs.RightReads.{locked}
+use Rattle.pc_model.proofs.SessionLocks.{Locked}
+use Rattle.pc_model.proofs.Standing.{closed_stays, changes_closed, each_key_once}
+use Rattle.pc_model.proofs.ShelfFiles.{headline}
+use Rattle.pc_records.specs.Rows.{is_waiting as waits_in_rows}
+use Rattle.pc_records.proofs.Following.{same_records}
+use Rattle.pc_records.proofs.Waiting.{waiting_now}
+use Rattle.pc_engine.specs.Sessions.{Active, number_in, has_died_in}
+use Rattle.pc_engine.specs.Store.{Store, Cycle, setting_of, active, open_causes, Owes}
+use Rattle.pc_engine.specs.Stands.{IsCycle, IsReadOff, Stands, KeepsPoints, Follows}
+use Rattle.pc_engine.proofs.ActiveSessions.{active_now, active_by}
+use Rattle.pc_engine.proofs.Serial.{is_serial}
+
+-- the history with one more step
+abbrev pub with_step : History → Event → Reply → History
+with_step h event reply = record { event = event; reply = reply } ∷ h
+
+-- what is due to an event whatever memory there is
+abbrev pub due_for_now : Setting → History → Event → Option Reply
+due_for_now st h event = or_else (quiet_refusal st h event) (certain st h event)
+
+-- what is due is legal, and where nothing is due the answer is
+pub legal_by_due : (st : Setting) (h : History) (event : Event) (reply : Reply) →
+    MatchOption (due_for_now st h event) (Answers st h event reply ⊎ (reply ≡ told.Refused why.OutOfMemory)) (λ due. reply ≡ due) → IsLegalForNow st h event reply
+legal_by_due st h event reply fact = by_quiet (quiet_refusal st h event) fact
+  where
+    by_quiet : (q : Option Reply) → MatchOption (or_else q (certain st h event)) (Answers st h event reply ⊎ (reply ≡ told.Refused why.OutOfMemory)) (λ due. reply ≡ due) → MatchOption q (IsLegal st h event reply) (λ due. reply ≡ due)
+    by_quiet None fact = fact
+    by_quiet (Some due) fact = fact
+
+-- where the step does nothing to it the cycle stays
+pub same_cycle : (st : Setting) (c : Cycle) (files : List File) (h : History) (step : Step) → HasLegalEffects st (step ∷ h) → phase_of (step ∷ h) ≡ phase_of h → point_of (step ∷ h) ≡ point_of h → written_since_token (step ∷ h) ≡ written_since_token h →
+    changes_closed (effect step) ≡ false → taken (step ∷ h) ≡ taken h → shelf st.run (step ∷ h) ≡ shelf st.run h → IsCycle st.run c files h → IsCycle st.run c files (step ∷ h)
+same_cycle st c files h step legal phase point written same takes shelved was = record {
+  phase = was.phase ∙ sym phase;
+  point = was.point ∙ sym point;
+  recent = was.recent ∙ sym written;
+  closed = was.closed ∙ sym (closed_stays st h step legal same);
+  taken = λ t. was.taken (rw phase at t) ∙ sym takes;
+  shelved = was.shelved ∙ sym shelved;
+}
+
+-- after what does nothing the world's parts are as before
+still : (w : Store) (h : History) (step : Step) → HasLegalEffects (setting_of w) (step ∷ h) → effect step ≡ Nothing → IsReadOff w h → IsReadOff w (step ∷ h)
+still w h step legal e parts =
+    let same : log_of (step ∷ h) ≡ log_of h = ap (λ d. log_of h ++ entries_by d h) e ∙ append-nil (log_of h) in
+    let written : written_since_token (step ∷ h) ≡ written_since_token h = ap (λ d. written_by d h (written_since_token h)) e in
+    let closed : changes_closed (effect step) ≡ false = ap changes_closed e in
+    record {
+      records = same_records w.base.pairs w.kept.rows h (step ∷ h) (ap (after w.base.pairs) same) (λ q. ap (λ d. queue_by q d h (queue_of q h)) e) written (closed_stays (setting_of w) h step legal closed) parts.records;
+      log = parts.log ∙ sym same;
+      begun = parts.begun ∙ sym (ap (λ d. begun_by d (begun h)) e);
+      sessions = λ t there. parts.sessions t there ∙ sym (ap (λ d. active_by t d h) e);
+      start = parts.start;
+      cycle = same_cycle (setting_of w) w.cycle w.shelf h step legal (ap (λ d. phase_by d (phase_of h)) e) (ap (λ d. point_by d (point_of h)) e) written closed (ap (λ d. taken_by d (taken h)) e)
+          (ap (λ d. shelf w.base.run h ++ shelved_by w.base.run d h (shelf w.base.run h)) e ∙ append-nil (shelf w.base.run h)) parts.cycle;
+    }
+
+-- a world that stands keeps what checkpoints promise
+pub keeps_points : (w : Store) (h : History) → Stands w h → KeepsPoints w h
+keeps_points w h stands =
+    let legal : HasLegalEffects (setting_of w) h = legal_for_now_has_legal_effects (setting_of w) h stands.legal in
+    record { once = each_key_once (setting_of w) h legal; values = stands.values; headline = headline (setting_of w) h legal stands.values }
+
+-- and what locking keeps
+pub locked_now : (w : Store) (h : History) → Stands w h → Locked h
+locked_now w h stands = locked (setting_of w) h (legal_for_now_has_legal_effects (setting_of w) h stands.legal)
+
+-- outside rest no transaction is active
+pub none_outside : (w : Store) (h : History) → Stands w h → is_in Rest h ≡ false → some_active (setting_of w) h ≡ false
+none_outside w h stands out = by_head h out (for_now_is_quiet (setting_of w) h stands.legal)
+  where
+    by_rest : (a b c : Bool) → a ≡ false → ((a || not b) && c) ≡ true → b ≡ false
+    by_rest true b c e quiet = cc
+    by_rest false true c e quiet = cc
+    by_rest false false c e quiet = refl
+
+    by_head : (h : History) → is_in Rest h ≡ false → IsQuiet (setting_of w) h → some_active (setting_of w) h ≡ false
+    by_head [] out quiet = cc
+    by_head (step ∷ h) out quiet = by_rest (is_in Rest (step ∷ h)) (some_active (setting_of w) (step ∷ h)) (is_quiet (setting_of w) h) out quiet
+
+-- what an event leaves where it is done
+abbrev pub IsLeft : Store → Store → History → Event → Reply → Type 0
+IsLeft old new h event reply = (setting_of new ≡ setting_of old) × IsReadOff new (with_step h event reply) × ValueBy old.base.pairs (effect_of event reply) h
+
+-- the history with the step has legal effects
+pub legal_then : (w : Store) (h : History) (event : Event) (reply : Reply) → Stands w h → IsLegalForNow (setting_of w) h event reply → HasLegalEffects (setting_of w) (with_step h event reply)
+legal_then w h event reply stands legal = legal_for_now_has_legal_effects (setting_of w) (with_step h event reply) (legal, stands.legal)
+
+-- a legal reply, given what it leaves
+pub goes_on : (old new : Store) (h : History) (event : Event) (reply : Reply) → Stands old h → IsLegalForNow (setting_of old) h event reply → IsLeft old new h event reply → Follows (setting_of old) h event reply new
+goes_on old new h event reply stands legal left =
+    let then : Stands new (with_step h event reply) = record {
+      legal = subst (λ st. IsLegalHistoryForNow st (with_step h event reply)) (sym left.0) (legal, stands.legal);
+      values = subst (λ (st : Setting). TakesPointValue st.base (with_step h event reply)) (sym left.0) (left.2, stands.values);
+      parts = left.1;
+    } in
+    record { legal = legal; stands = then; serial = is_serial new (with_step h event reply) then; points = keeps_points new (with_step h event reply) then }
+
+-- a legal reply that does nothing
+pub unmoved : (old new : Store) (h : History) (event : Event) (reply : Reply) → Stands old h → effect_of event reply ≡ Nothing → new ≡ old → IsLegalForNow (setting_of old) h event reply → Follows (setting_of old) h event reply new
+unmoved old new h event reply stands none unchanged legal =
+    goes_on old new h event reply stands legal (
+      ap setting_of unchanged,
+      subst (λ w. IsReadOff w (with_step h event reply)) (sym unchanged) (still old h (record { event = event; reply = reply }) (legal_then old h event reply stands legal) none stands.parts),
+      subst (λ e. ValueBy old.base.pairs e h) (sym none) tt,
+    )
+
+-- what an event leaves, given what it leaves where it is done
+pub owes_follows : (old new : Store) (h : History) (event : Event) (reply : Reply) (Done : Type 0) (due : Option Reply) → Stands old h → due ≡ due_for_now (setting_of old) h event → IfSome due (λ d. effect_of event d ≡ Nothing) → Owes due old reply new Done →
+    (due ≡ None → Done → Answers (setting_of old) h event reply) → (due ≡ None → Done → HasLegalEffects (setting_of old) (with_step h event reply) → IsLeft old new h event reply) → Follows (setting_of old) h event reply new
+owes_follows old new h event reply Done due stands same idle step answers leaves = by_due due refl idle step
+  where
+    st : Setting
+    st = setting_of old
+
+    legal_by : (o : Option Reply) → due ≡ o → MatchOption o (Answers st h event reply ⊎ (reply ≡ told.Refused why.OutOfMemory)) (λ d. reply ≡ d) → IsLegalForNow st h event reply
+    legal_by o is fact = legal_by_due st h event reply (subst (λ o. MatchOption o (Answers st h event reply ⊎ (reply ≡ told.Refused why.OutOfMemory)) (λ d. reply ≡ d)) (sym is ∙ same) fact)
+
+    by_due : (o : Option Reply) → due ≡ o → IfSome o (λ d. effect_of event d ≡ Nothing) → Owes o old reply new Done → Follows st h event reply new
+    by_due (Some d) is none owes = unmoved old new h event reply stands (ap (effect_of event) owes.0 ∙ none) owes.1 (legal_by (Some d) is owes.0)
+    by_due None is none (inl d) =
+        let legal : IsLegalForNow st h event reply = legal_by None is (inl (answers is d)) in
+        goes_on old new h event reply stands legal (leaves is d (legal_then old h event reply stands legal))
+    by_due None is none (inr out) = unmoved old new h event reply stands (ap (effect_of event) out.0 ∙ refused_does_nothing event why.OutOfMemory) out.1 (legal_by None is (inr out.0))
+
+-- a refusal does nothing
+pub refused_idle : (event : Event) (causes : List (Bool × Refusal)) → IfSome (first_refusal causes) (λ d. effect_of event d ≡ Nothing)
+refused_idle event causes = by_first (first_refusal causes) (first_refusal_refuses causes)
+  where
+    by_first : (o : Option Reply) → IfSome o (λ due. (r : Refusal) × (due ≡ told.Refused r)) → IfSome o (λ d. effect_of event d ≡ Nothing)
+    by_first None refuses = tt
+    by_first (Some due) refuses = ap (effect_of event) refuses.1 ∙ refused_does_nothing event refuses.0
+
+-- where the first cause does not stand
+pub not_first : (b : Bool) (r : Refusal) (cs : List (Bool × Refusal)) → first_refusal ((b, r) ∷ cs) ≡ None → (b ≡ false) × (first_refusal cs ≡ None)
+not_first true r cs e = cc
+not_first false r cs e = (refl, e)
+
+pub not_not : (b : Bool) → not b ≡ false → b ≡ true
+not_not true e = refl
+not_not false e = cc
+
+-- the same first refusal, where the causes behind NoSession are told for a session that there is
+pub by_session : (st : Setting) (s : ℕ) (mine theirs : List (Bool × Refusal)) → (no_session st s ≡ false → first_refusal mine ≡ first_refusal theirs) →
+    first_refusal ((no_session st s, why.NoSession) ∷ mine) ≡ first_refusal ((no_session st s, why.NoSession) ∷ theirs)
+by_session st s mine theirs then = by_test (no_session st s) refl
+  where
+    by_test : (b : Bool) → no_session st s ≡ b → cond b (Some (told.Refused why.NoSession)) (first_refusal mine) ≡ cond b (Some (told.Refused why.NoSession)) (first_refusal theirs)
+    by_test true e = refl
+    by_test false e = then e
+
+-- the causes of an open transaction's events behind NoSession, by what the session has and by the history
+abbrev causes_by : Store → List (Bool × Refusal) → Option Active → List (Bool × Refusal)
+causes_by w mine a = (is_none a, why.NoTransaction) ∷ (waits_in_rows w.kept.rows (number_in a), why.StillWaiting) ∷ (has_died_in a, why.MustAbort) ∷ mine
+
+abbrev causes_after : History → ℕ → List (Bool × Refusal) → List (Bool × Refusal)
+causes_after h s theirs = (not (is_open s h), why.NoTransaction) ∷ (is_waiting s h, why.StillWaiting) ∷ (has_died s h, why.MustAbort) ∷ theirs
+
+-- the causes of an open transaction's events
+pub in_transaction : (w : Store) (h : History) (s : ℕ) (mine theirs : List (Bool × Refusal)) → Stands w h → (no_session (setting_of w) s ≡ false → is_open s h ≡ true → first_refusal mine ≡ first_refusal theirs) →
+    first_refusal (open_causes w s mine) ≡ first_refusal ((no_session (setting_of w) s, why.NoSession) ∷ (not (is_open s h), why.NoTransaction) ∷ (is_waiting s h, why.StillWaiting) ∷ (has_died s h, why.MustAbort) ∷ theirs)
+in_transaction w h s mine theirs stands then = by_session (setting_of w) s (causes_by w mine (active w s)) (causes_after h s theirs) (λ there. ap (λ a. first_refusal (causes_by w mine a)) (stands.parts.sessions s there) ∙ by_open (is_open s h) refl (then there))
+  where
+    waits : is_open s h ≡ true → waits_in_rows w.kept.rows (number_of s h) ≡ is_waiting s h
+    waits opened = waiting_now w.base.pairs w.kept.rows h s (locked_now w h stands) stands.parts.records opened
+
+    by_open : (b : Bool) → is_open s h ≡ b → (is_open s h ≡ true → first_refusal mine ≡ first_refusal theirs) →
+        first_refusal (causes_by w mine (cond b (Some (active_now s h)) None)) ≡ first_refusal ((not b, why.NoTransaction) ∷ (is_waiting s h, why.StillWaiting) ∷ (has_died s h, why.MustAbort) ∷ theirs)
+    by_open true e then_open =
+        ap (λ b. first_refusal ((b, why.StillWaiting) ∷ (has_died s h, why.MustAbort) ∷ mine)) (waits e)
+        ∙ ap (λ o. cond (is_waiting s h) (Some (told.Refused why.StillWaiting)) (cond (has_died s h) (Some (told.Refused why.MustAbort)) o)) (then_open e)
+    by_open false e then_open = refl
+
+-- an open session, and what the world has of its transaction
+pub record IsOpenIn (w : Store) (h : History) (s : ℕ) : Type 0 where
+  pub there : no_session (setting_of w) s ≡ false
+  pub opened : is_open s h ≡ true
+  pub same : active w s ≡ Some (active_now s h)
+
+-- a session that has a transaction is open
+pub open_in : (w : Store) (h : History) (s : ℕ) → Stands w h → no_session (setting_of w) s ≡ false → is_none (active w s) ≡ false → IsOpenIn w h s
+open_in w h s stands there some = by_open (is_open s h) refl (stands.parts.sessions s there)
+  where
+    by_open : (b : Bool) → is_open s h ≡ b → active w s ≡ cond b (Some (active_now s h)) None → IsOpenIn w h s
+    by_open true e same = record { there = there; opened = e; same = same }
+    by_open false e same = absurd (no (is_none (active w s)) (ap is_none same) some)
+      where
+        no : (b : Bool) → b ≡ true → b ≡ false → ⊥
+        no true t f = cc
+        no false t f = cc
+
+-- where no cause stands the session is open
+pub open_then : (w : Store) (h : History) (s : ℕ) (causes : List (Bool × Refusal)) → Stands w h → first_refusal (open_causes w s causes) ≡ None → IsOpenIn w h s
+open_then w h s causes stands none =
+    let first = not_first (no_session (setting_of w) s) why.NoSession (causes_by w causes (active w s)) none in
+    open_in w h s stands first.0 (not_first (is_none (active w s)) why.NoTransaction ((waits_in_rows w.kept.rows (number_in (active w s)), why.StillWaiting) ∷ (has_died_in (active w s), why.MustAbort) ∷ causes) first.1).0
+
+-- what was refused was due, or memory ran out
+pub owed_refusal : (o : Option Reply) (e : Refusal) (old new : Store) (Done : Type 0) → MatchOption o (e ≡ why.OutOfMemory) (λ due. due ≡ told.Refused e) → new ≡ old → Owes o old (told.Refused e) new Done
+owed_refusal None e old new Done is same = inr (ap told.Refused is, same)
+owed_refusal (Some due) e old new Done is same = (sym is, same)

@@ -1,0 +1,132 @@
+-- What every event keeps of a world, and that a new world stands after no event.
+use Rattle.std.proofs.Common.{◌≡◌, ℕ, ◌+◌, ◌-◌, zero, suc, List, [], ◌∷◌, length, get_or, replicate, Option, Some, None, refl, ap, ◌∙◌, true, false, inl, inr, map}
+use Rattle.std.specs.Prelude.{MatchOption}
+use Rattle.std.proofs.lemmas.List.{length-set}
+use Rattle.pc_types.specs.declared.Phase.{Phase}
+use Rattle.pc_types.specs.declared.Phase.TheVariants.{Rest}
+use Rattle.pc_types.specs.declared.Reply.{Reply}
+use Rattle.pc_types.specs.declared.Reply.TheVariants as told
+use Rattle.pc_model.specs.Database.{KeysRise, database_of}
+use Rattle.pc_model.specs.Files.{File, file_at, join_of}
+use Rattle.pc_model.specs.Locks.{Outcome}
+use Rattle.pc_model.specs.Locks.Outcome.{Granted, Queued, Died}
+use Rattle.pc_model.specs.Replies.{IsFileReply, first_refusal, read_reply, by_outcome}
+use Rattle.pc_records.specs.Rows.{committed_row}
+use Rattle.pc_records.proofs.First.{first_records}
+use Rattle.pc_engine.specs.Sessions.{Active, active_in, with_session, wrote, died, if_died, if_granted}
+use Rattle.pc_engine.specs.Store.{Store, setting_of, active, outcome_in, abort_causes, Owes, Begins, Gets, WritesKey, Commits, Aborts, StartsPoint, Seals, Moves, TakesFirst, Takes, Shelves, Joins}
+use Rattle.pc_engine.specs.Stands.{Stands, IfRefused}
+use Rattle.pc_engine.proofs.LocalSteps.{same_setting}
+
+-- a fact of every reply is one of a refusal
+if_refused : (reply : Reply) (Fact : Type 0) → Fact → IfRefused reply Fact
+if_refused (told.Refused why) Fact fact = fact
+if_refused other Fact fact = tt
+
+-- what every event keeps: what the run started from, and, where it is refused, all
+abbrev Keeps : Store → Reply → Store → Type 0
+Keeps old reply new = (setting_of new ≡ setting_of old) × IfRefused reply (new ≡ old)
+
+owes_keeps : (o : Option Reply) (old : Store) (reply : Reply) (new : Store) (Done : Type 0) → (Done → Keeps old reply new) → Owes o old reply new Done → Keeps old reply new
+owes_keeps (Some due) old reply new Done done owes = (ap setting_of owes.1, if_refused reply (new ≡ old) owes.1)
+owes_keeps None old reply new Done done (inl d) = done d
+owes_keeps None old reply new Done done (inr out) = (ap setting_of out.1, if_refused reply (new ≡ old) out.1)
+
+-- a request's answer is no refusal
+not_refused : (o : Outcome) (answer : Option (List ℕ)) (Fact : Type 0) → IfRefused (by_outcome o (read_reply answer)) Fact
+not_refused Granted None Fact = tt
+not_refused Granted (Some v) Fact = tt
+not_refused Queued answer Fact = tt
+not_refused Died answer Fact = tt
+
+not_refused_write : (o : Outcome) (Fact : Type 0) → IfRefused (by_outcome o told.Ok) Fact
+not_refused_write Granted Fact = tt
+not_refused_write Queued Fact = tt
+not_refused_write Died Fact = tt
+
+-- there are as many sessions, however a request is answered
+asked_length : (o : Outcome) (old dead sessions : List (Option Active)) → length dead ≡ length old → length sessions ≡ length old → length (if_died o dead (if_granted o sessions old)) ≡ length old
+asked_length Granted old dead sessions d s = s
+asked_length Queued old dead sessions d s = refl
+asked_length Died old dead sessions d s = d
+
+read_length : (o : Outcome) (old dead : List (Option Active)) → length dead ≡ length old → length (if_died o dead old) ≡ length old
+read_length Granted old dead d = refl
+read_length Queued old dead d = refl
+read_length Died old dead d = d
+
+pub begins_keeps : (old : Store) (s : ℕ) (reply : Reply) (new : Store) → Begins old s reply new → Keeps old reply new
+begins_keeps old s reply new = owes_keeps _ old reply new _ (λ d. (ap setting_of d.1 ∙ same_setting old _ (length-set old.sessions _ _), rw d.0 tt))
+
+pub gets_keeps : (old : Store) (s : ℕ) (key : List ℕ) (reply : Reply) (new : Store) → Gets old s key reply new → Keeps old reply new
+gets_keeps old s key reply new =
+    owes_keeps _ old reply new _ (λ d. (ap setting_of d.1 ∙ same_setting old _ (read_length (outcome_in old s key false) old.sessions (with_session old.sessions s (died (active old s))) (length-set old.sessions _ _)), rw d.0 (not_refused (outcome_in old s key false) _ _)))
+
+pub writes_keeps : (old : Store) (s : ℕ) (key : List ℕ) (content : Option (List ℕ)) (reply : Reply) (new : Store) → WritesKey old s key content reply new → Keeps old reply new
+writes_keeps old s key content reply new =
+    owes_keeps _ old reply new _
+    (λ d. (
+      ap setting_of d.1
+          ∙ same_setting old _ (asked_length (outcome_in old s key true) old.sessions (with_session old.sessions s (died (active old s))) (with_session old.sessions s (wrote (active old s) (record { key = key; value = content }))) (length-set old.sessions _ _) (length-set old.sessions _ _)),
+      rw d.0 (not_refused_write (outcome_in old s key true) _),
+    ))
+
+pub commits_keeps : (old : Store) (s : ℕ) (reply : Reply) (new : Store) → Commits old s reply new → Keeps old reply new
+commits_keeps old s reply new = owes_keeps _ old reply new _ (λ d. (ap setting_of d.1 ∙ same_setting old _ (length-set old.sessions _ _), rw d.0 tt))
+
+pub aborts_keeps : (old : Store) (s : ℕ) (reply : Reply) (new : Store) → Aborts old s reply new → Keeps old reply new
+aborts_keeps old s reply new = by_due (first_refusal (abort_causes old s)) (λ d. (ap setting_of d.1 ∙ same_setting old _ (length-set old.sessions _ _), rw d.0 tt))
+  where
+    by_due : (o : Option Reply) {Done : Type 0} → (Done → Keeps old reply new) → MatchOption o Done (λ due. (reply ≡ due) × (new ≡ old)) → Keeps old reply new
+    by_due None done step = done step
+    by_due (Some due) done step = (ap setting_of step.1, if_refused reply (new ≡ old) step.1)
+
+pub starts_keeps : (old : Store) (reply : Reply) (new : Store) → StartsPoint old reply new → Keeps old reply new
+starts_keeps old reply new = owes_keeps _ old reply new _ (λ d. (ap setting_of d.1, rw d.0 tt))
+
+pub seals_keeps : (old : Store) (reply : Reply) (new : Store) → Seals old reply new → Keeps old reply new
+seals_keeps old reply new = owes_keeps _ old reply new _ (λ d. (ap setting_of d.1, rw d.0 tt))
+
+pub moves_keeps : (from to : Phase) (old : Store) (reply : Reply) (new : Store) → Moves from to old reply new → Keeps old reply new
+moves_keeps from to old reply new = owes_keeps _ old reply new _ (λ d. (ap setting_of d.1, rw d.0 tt))
+
+pub takes_keeps : (old : Store) (reply : Reply) (new : Store) → Takes old reply new → Keeps old reply new
+takes_keeps old reply new = owes_keeps _ old reply new _ (by_keys old.cycle.closed)
+  where
+    by_keys : (keys : List (List ℕ)) → TakesFirst keys old reply new → Keeps old reply new
+    by_keys [] d = absurd d
+    by_keys (k ∷ ks) d = (ap setting_of d.1, rw d.0 tt)
+
+pub shelves_keeps : (old : Store) (reply : Reply) (new : Store) → Shelves old reply new → Keeps old reply new
+shelves_keeps old reply new = owes_keeps _ old reply new _ (λ d. (ap setting_of d.1, rw d.0 tt))
+
+pub joins_keeps : (old : Store) (a b : ℕ) (reply : Reply) (new : Store) → Joins old a b reply new → Keeps old reply new
+joins_keeps old a b reply new = owes_keeps _ old reply new _ (λ d. (ap setting_of d.1, told_file (join_of (file_at old.shelf a) (file_at old.shelf b)) d.0))
+  where
+    told_file : (files : List File) → IsFileReply files (length old.shelf + 1) reply → IfRefused reply (new ≡ old)
+    told_file [] is = absurd is
+    told_file (f ∷ fs) is = rw is tt
+
+-- no session has a transaction
+abbrev no_transaction : Option Active
+no_transaction = None
+
+all_idle : (n i : ℕ) → get_or (replicate n no_transaction) i None ≡ None
+all_idle zero i = refl
+all_idle (suc n) zero = refl
+all_idle (suc n) (suc i) = all_idle n i
+
+-- a world made of a base stands after no step
+pub stands_first : (w : Store) (pairs : List (List ℕ × List ℕ)) (n : ℕ) → KeysRise pairs → database_of pairs ≡ w.base.pairs → w.kept.rows ≡ map committed_row pairs → w.log ≡ [] → w.begun ≡ 0 → w.sessions ≡ replicate n None → w.cycle.phase ≡ Rest → w.cycle.point ≡ 0 → w.cycle.recent ≡ [] → w.cycle.closed ≡ [] → w.shelf ≡ [] → w.base.point ≡ 0 → Stands w []
+stands_first w pairs n rise base rows log begun idle phase point recent closed shelf start = record {
+  legal = tt;
+  values = tt;
+  parts = record {
+    records = rw rows (first_records w.base.pairs pairs rise base);
+    log = log;
+    begun = begun;
+    sessions = λ s there. ap (λ (ss : List (Option Active)). active_in ss s) idle ∙ all_idle n (s - 1);
+    start = start;
+    cycle = record { phase = phase; point = point; recent = recent; closed = closed; taken = λ t. cc; shelved = shelf };
+  };
+}

@@ -1,0 +1,31 @@
+use Rattle.std.proofs.Common.{◌≡◌, ◌∙◌, length, ap, refl, inl, arith}
+use Rattle.pc_model.specs.Maps.{len}
+use Rattle.pc_model.proofs.PairMaps.{len_of}
+use Rattle.pc_records.specs.Rows.{Kept}
+use Rattle.pc_engine.proofs.Standing.{stands_first}
+use Rattle.pc_engine.proofs.world.World.new.Goals as goal
+
+pub returns-then-pairs-capacity-clause-refusals : goal.returns-then-pairs-capacity-clause-refusals
+returns-then-pairs-capacity-clause-refusals c =
+    let count : length c.pairs-pairs.result.now ≡ len c.args.base.pairs = len_of c.pairs-pairs.result.now c.pairs-pairs.ensures.rise ∙ ap len c.pairs-pairs.ensures.pairs in
+    inl (refl, omega arith)
+
+pub returns-in_err-records-clause-full : goal.returns-in_err-records-clause-full
+returns-in_err-records-clause-full c =
+    let count : length c.pairs-pairs.result.now ≡ len c.args.base.pairs = len_of c.pairs-pairs.result.now c.pairs-pairs.ensures.rise ∙ ap len c.pairs-pairs.ensures.pairs in
+    λ over. absurd (omega arith)
+
+pub returns-in_err-sessions-clause-full : goal.returns-in_err-sessions-clause-full
+returns-in_err-sessions-clause-full c =
+    let count : length c.pairs-pairs.result.now ≡ len c.args.base.pairs = len_of c.pairs-pairs.result.now c.pairs-pairs.ensures.rise ∙ ap len c.pairs-pairs.ensures.pairs in
+    λ over. absurd (omega arith)
+
+pub returns-clause-full : goal.returns-clause-full
+returns-clause-full c =
+    let count : length c.pairs-pairs.result.now ≡ len c.args.base.pairs = len_of c.pairs-pairs.result.now c.pairs-pairs.ensures.rise ∙ ap len c.pairs-pairs.ensures.pairs in
+    λ over. absurd (omega arith)
+
+pub returns-clause-stands : goal.returns-clause-stands
+returns-clause-stands c =
+    stands_first _ c.pairs-pairs.result.now c.args.sessions c.pairs-pairs.ensures.rise c.pairs-pairs.ensures.pairs (ap (λ (kept : Kept). kept.rows) c.in_ok-records.ensures) c.new.ensures.items refl c.in_ok-sessions.ensures refl refl c.new-2.ensures.items c.new-3.ensures.items
+    c.new-5.ensures.items c.requires.start
