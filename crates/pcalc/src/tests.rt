@@ -9,13 +9,24 @@ use std::io;
 use std::io::{ErrorKind, Read, Write};
 use std::test::Fail;
 
+// What a script's store is made with: run 1, and 8 sessions.
+fn setup_of(capacity: u32) -> Setup
+    requires { (1 ≤ capacity) × (capacity ≤ 1048576) }
+{
+    Setup {
+        run: 1,
+        sessions: 8,
+        capacity,
+    }
+}
+
 // The status of a script, what it prints, and what it tells of a fault.
 fn ran(alloc: Global, capacity: u32, script: &[u8]) -> (u8, Vec<u8>, Vec<u8>)
     requires { (1 ≤ capacity) × (capacity ≤ 1048576) }
 {
     let mut out = Tally::new(Vec::new(alloc));
     let mut errors = Tally::new(Vec::new(alloc));
-    let setup = Setup { run: 1, capacity };
+    let setup = setup_of(capacity);
     let status = run_script(alloc, setup, "s", Ok(script), &mut out, &mut errors);
     (status, out.into_inner(), errors.into_inner())
 }
@@ -163,7 +174,7 @@ fn answers_scripts(rt: HostRuntime) {
             "refused KeyLength\nrefused WrongPhase\n",
             0,
         ),
-        ("abort 1\nbegin 1\n", "bad line\nbegun 1\n", 3),
+        ("undo 1\nbegin 1\n", "bad line\nbegun 1\n", 3),
         (
             "state 1\ntext 0\njoin 1 1\nstate\ntext x\njoin 1\n",
             "refused NoFile\nrefused NoFile\nrefused NoFile\nbad line\nbad line\nbad line\n",
@@ -251,10 +262,7 @@ impl Read for Torn {
 #[test]
 fn tells_of_a_script_that_cannot_be_read(rt: HostRuntime) {
     let alloc = rt.alloc();
-    let setup = Setup {
-        run: 1,
-        capacity: 1024,
-    };
+    let setup = setup_of(1024);
     let mut out = Tally::new(Vec::new(alloc));
     let mut errors = Tally::new(Vec::new(alloc));
     assert_eq!(rt;
@@ -304,10 +312,7 @@ impl Write for Narrow {
 #[test]
 fn stops_where_the_output_fails(rt: HostRuntime) {
     let alloc = rt.alloc();
-    let setup = Setup {
-        run: 1,
-        capacity: 1024,
-    };
+    let setup = setup_of(1024);
     let script = b"begin 1\nfrob\ncommit 1\n".as_slice();
     for left in 0..29 {
         let mut out = Tally::new(Narrow { left });
@@ -336,4 +341,71 @@ fn asks_again_after_want_of_memory(rt: HostRuntime) {
     assert!(rt; status == 0 || status == 1);
     assert!(rt; status == 1 || out.len() > 40);
     assert!(rt; errors.len() <= 22);
+}
+
+// Whether the script's lines are answered so, by a store of this capacity, each of them well.
+fn answers(alloc: Global, capacity: u32, script: &str, want: &str) -> bool
+    requires { (1 ≤ capacity) × (capacity ≤ 1048576) }
+{
+    let (status, out, errors) = ran(alloc, capacity, script.as_bytes());
+    status == 0 && out.as_slice() == want.as_bytes() && errors.is_empty()
+}
+
+// Two wait for a writer's commit, read what it wrote, and the younger one's upgrade dies beside the older reader.
+#[test]
+fn grants_in_order(rt: HostRuntime) {
+    let script =
+        "base k 5\nbegin 1\nbegin 2\nbegin 3\nput 3 k 1\nget 2 k\nget 1 k\ncommit 3\nget 1 k\nget 2 k\nput 2 k 4\nabort 2\nput 1 k 9\ncommit 1\ncheck\n";
+    let want =
+        "ok\nbegun 1\nbegun 2\nbegun 3\nok\nwait\nwait\ncommitted 1\n= 1\n= 1\ndied\naborted\nok\ncommitted 2\ncheck ok\n";
+    assert!(rt; answers(rt.alloc(), 1024, script, want));
+}
+
+// A read of an absent key takes its place, and an abort gives it back.
+#[test]
+fn gives_a_place_back(rt: HostRuntime) {
+    let script =
+        "begin 1\nget 1 x\nput 1 y 1\nabort 1\nbegin 1\nput 1 y 1\ncommit 1\ncheck\n";
+    let want =
+        "begun 1\nabsent\nrefused Full\naborted\nbegun 2\nok\ncommitted 1\ncheck ok\n";
+    assert!(rt; answers(rt.alloc(), 1, script, want));
+}
+
+// Who waits is told so until the lock is granted, and then asks again; only an abort is not put off.
+#[test]
+fn waits_for_a_younger_writer(rt: HostRuntime) {
+    let script =
+        "begin 1\nbegin 2\nput 2 a 7\nget 1 a\nget 1 a\nput 1 b 1\ncommit 1\ncommit 2\nget 1 a\ncommit 1\nabort 1\ncheck\n";
+    let want =
+        "begun 1\nbegun 2\nok\nwait\nrefused StillWaiting\nrefused StillWaiting\nrefused StillWaiting\ncommitted 1\n= 7\ncommitted 2\nrefused NoTransaction\ncheck ok\n";
+    assert!(rt; answers(rt.alloc(), 16, script, want));
+}
+
+// A younger transaction dies of an older one's lock, and must abort; what it wrote is gone.
+#[test]
+fn dies_of_an_older_writer(rt: HostRuntime) {
+    let script =
+        "begin 1\nbegin 2\nput 1 a 1\nput 2 b 2\nget 2 a\nget 2 b\nput 2 b 3\ndel 2 b\ncommit 2\nabort 2\nget 1 b\ncommit 1\nbegin 2\nget 2 a\ncommit 2\ncheck\n";
+    let want =
+        "begun 1\nbegun 2\nok\nok\ndied\nrefused MustAbort\nrefused MustAbort\nrefused MustAbort\nrefused MustAbort\naborted\nabsent\ncommitted 1\nbegun 3\n= 1\ncommitted 2\ncheck ok\n";
+    assert!(rt; answers(rt.alloc(), 16, script, want));
+}
+
+// Of two readers neither may write; one that reads alone may.
+#[test]
+fn upgrades_a_lone_reader(rt: HostRuntime) {
+    let script =
+        "base a 1\nbegin 1\nbegin 2\nget 1 a\nget 2 a\nput 1 a 5\nput 2 a 6\nabort 1\nabort 2\nbegin 1\nget 1 a\nput 1 a 7\nget 1 a\ncommit 1\ncheck\n";
+    let want =
+        "ok\nbegun 1\nbegun 2\n= 1\n= 1\ndied\ndied\naborted\naborted\nbegun 3\n= 1\nok\n= 7\ncommitted 1\ncheck ok\n";
+    assert!(rt; answers(rt.alloc(), 16, script, want));
+}
+
+// Sessions are numbered from 1 to as many as the store has.
+#[test]
+fn counts_its_sessions(rt: HostRuntime) {
+    let script = "begin 8\nbegin 9\nabort 9\nabort 7\nabort 8\nbegin 0\n";
+    let want =
+        "begun 1\nrefused NoSession\nrefused NoSession\nrefused NoTransaction\naborted\nrefused NoSession\n";
+    assert!(rt; answers(rt.alloc(), 16, script, want));
 }
