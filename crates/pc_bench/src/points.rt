@@ -1,6 +1,5 @@
 //! Cycles over keys that are all written before each point.
 ghost use Rattle.std.specs.Prelude.{◌≡◌, ◌≤◌, length, All, IfOk};
-ghost use Rattle.pc_engine.specs.Alone.{IsBuilt};
 
 use crate::failure::Failure;
 use crate::options::Cycles;
@@ -94,7 +93,6 @@ fn take_all(world: &mut World, keys: u32) -> Result<u32, Refusal>
 
 // The store's answer to the event, where it isn't refused.
 fn ask(world: &mut World, event: &Event) -> Result<Reply, Refusal>
-    requires { IsBuilt event.now }
 {
     match world.step(event) {
         Reply::Refused(why) => Err(why),

@@ -1,23 +1,22 @@
 -- Rows once a request was answered.
-use Rattle.std.proofs.Common.{◌≡◌, ◌≢◌, ℕ, zero, suc, ◌+◌, ◌<◌, ◌≤◌, List, [], ◌∷◌, length, take, get_or, set, Option, Some, None, is_none, refl, sym, ap, ◌∙◌, subst, arith, cond, Bool, true, false, eqb, ltb, Result, Ok, Err, ◌&&◌}
+use Rattle.std.proofs.Common.{◌≡◌, ℕ, ◌+◌, ◌<◌, ◌≤◌, List, [], length, take, get_or, set, None, is_none, sym, ap, ◌∙◌, subst, arith, Bool, true, false, eqb, Result, Ok, Err}
 use Rattle.std.specs.Prelude.{insert, IfOk, OnErr}
 use Rattle.std.specs.FinMap.{put}
 use Rattle.std.specs.FinMap.Entries.{is_sorted-put}
 use Rattle.std.proofs.lemmas.Bool.Decides.{nat_tests}
 use Rattle.std.proofs.Math.ListN.{get_or-map}
-use Rattle.pc_model.specs.Database.{key_cmp, key_order, KeysRise}
+use Rattle.pc_model.specs.Database.{key_cmp, key_order}
 use Rattle.pc_model.specs.Locks.{Queue, Outcome, outcome, queue_after}
 use Rattle.pc_model.specs.Locks.Outcome.{Granted, Queued, Died}
-use Rattle.pc_model.specs.Places.{IsAt, IsGap}
 use Rattle.pc_model.proofs.PairMaps.{computes, tested}
 use Rattle.pc_locks.specs.States.{State, queue_at}
 use Rattle.pc_records.specs.declared.slots.Slot.{Slot}
-use Rattle.pc_records.specs.Rows.{Row, Record, record_of, requests_on, with_requests, rows_after, is_full_for}
-use Rattle.pc_records.specs.Slots.{row_of, rows_of, numbers_of, times, AreShared, AreKept, IsSlotOf, IsNewAt}
+use Rattle.pc_records.specs.Rows.{Row, record_of, requests_on, with_requests, rows_after, is_full_for}
+use Rattle.pc_records.specs.Slots.{row_of, rows_of, AreKept, IsSlotOf, IsNewAt}
 use Rattle.pc_records.proofs.SlotRising.{rise_any}
 use Rattle.pc_records.proofs.SlotPlaces.{length-rows, slot_found}
 use Rattle.pc_records.proofs.Numbers.{rows-insert}
-use Rattle.pc_records.proofs.Queued.{with_queue, set_back, rows-at, rows-apart, queue_same, times_at, length-set}
+use Rattle.pc_records.proofs.Queued.{with_queue, set_back, rows-at, rows-apart, queue_same, times_at}
 use Rattle.pc_records.proofs.SlotKeeping.{once, number_below, kept_queued, kept_inserted, free_number, free_below}
 
 -- there is a free number for a new key

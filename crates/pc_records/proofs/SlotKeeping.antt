@@ -1,7 +1,6 @@
 -- What slots, free numbers and queues keep.
 use Rattle.std.proofs.Common.{◌≡◌, ◌≢◌, ℕ, zero, suc, ◌+◌, ◌<◌, ◌≤◌, List, [], ◌∷◌, ◌++◌, length, map, take, drop, get_or, set, refl, sym, ap, ◌∙◌, subst, arith, cond, Bool, true, false, eqb, ltb, replicate}
 use Rattle.std.specs.Prelude.{insert}
-use Rattle.std.proofs.lemmas.Grind.{common_steps}
 use Rattle.std.proofs.lemmas.Bool.Decides.{nat_tests}
 use Rattle.std.proofs.Math.Seq.{map-set_same}
 use Rattle.pc_model.specs.Database.{KeysRise}
@@ -9,10 +8,10 @@ use Rattle.pc_model.specs.Locks.{Queue}
 use Rattle.pc_locks.specs.States.{queue_at}
 use Rattle.pc_locks.proofs.Rows.{none_at}
 use Rattle.pc_records.specs.declared.slots.Slot.{Slot}
-use Rattle.pc_records.specs.Rows.{Row, committed_row}
-use Rattle.pc_records.specs.Slots.{row_of, rows_of, numbers_of, times, uses, AreShared, AreStillShared, AreKept, numbers_from, slots_from, taken_slot}
+use Rattle.pc_records.specs.Rows.{committed_row}
+use Rattle.pc_records.specs.Slots.{rows_of, numbers_of, times, uses, AreShared, AreKept, numbers_from, slots_from, taken_slot}
 use Rattle.pc_records.proofs.SlotRising.{keys_of, rise_any, rise_same, rows_rise}
-use Rattle.pc_records.proofs.Numbers.{keeps_shared, same_shared, inserted, removed_shared, times-insert, times-removed, times-append, times-one, first_shared, rows-first}
+use Rattle.pc_records.proofs.Numbers.{keeps_shared, same_shared, inserted, removed_shared, times-insert, times-removed, first_shared, rows-first}
 use Rattle.pc_records.proofs.Queued.{length-set, queue_other, times_at}
 
 -- no number stands in two slots

@@ -1,5 +1,5 @@
 -- Rows once requests were removed.
-use Rattle.std.proofs.Common.{◌≡◌, ◌≢◌, ℕ, zero, suc, ◌+◌, ◌<◌, ◌≤◌, List, [], ◌∷◌, length, get_or, set, not, filter, Option, Some, None, refl, sym, ap, ◌∙◌, subst, arith, cond, Bool, true, false, eqb}
+use Rattle.std.proofs.Common.{◌≡◌, ℕ, zero, suc, ◌<◌, List, [], ◌∷◌, length, get_or, set, not, filter, Some, None, refl, sym, ap, ◌∙◌, subst, arith, cond, Bool, true, false, eqb}
 use Rattle.std.proofs.lemmas.Bool.Decides.{nat_tests}
 use Rattle.std.proofs.Math.ListN.{get_or-map}
 use Rattle.pc_model.specs.Locks.{Queue, queue_without}
@@ -106,8 +106,8 @@ module _ (t n : ℕ) (slots : List Slot) (free : List ℕ) (most : ℕ) (queues 
   pub released_first : (new : List Slot) → rows_of new_queues new ≡ tidied (rows_of new_queues slots) i → released_rows t (rows_of new_queues new) ≡ released_rows t (rows_of queues slots)
   released_first new new_is =
       let row : get_or (rows_of queues slots) i (row_of queues any_slot) ≡ with_queue (get_or slots i any_slot) (queue_at queues n) =
-          get_or-map (row_of queues) slots i any_slot ∙ ap (λ m. with_queue (get_or slots i any_slot) (queue_at queues m)) (there.has any_slot) in
+      get_or-map (row_of queues) slots i any_slot ∙ ap (λ m. with_queue (get_or slots i any_slot) (queue_at queues m)) (there.has any_slot) in
       let rows : rows_of new_queues slots ≡ set (rows_of queues slots) i ((get_or (rows_of queues slots) i (row_of queues any_slot)).0, record (get_or (rows_of queues slots) i (row_of queues any_slot)).1 { requests = queue_without (get_or (rows_of queues slots) i (row_of queues any_slot)).1.requests t }) =
-          rows_without ∙ ap (λ (r : Row). set (rows_of queues slots) i (r.0, record r.1 { requests = queue_without r.1.requests t })) (sym row) in
+      rows_without ∙ ap (λ (r : Row). set (rows_of queues slots) i (r.0, record r.1 { requests = queue_without r.1.requests t })) (sym row) in
       ap (released_rows t) (new_is ∙ ap (λ (rs : List Row). tidied rs i) rows)
       ∙ release_first t (rows_of queues slots) i (row_of queues any_slot) (omega (arith, there.in_range, length-rows queues slots)) (ap (λ (r : Row). stands_in r.1.requests t) row ∙ stands)

@@ -1,13 +1,12 @@
 -- Who waits in the queues waits in the rows.
-use Rattle.std.proofs.Common.{◌≡◌, ◌≢◌, ℕ, zero, suc, ◌+◌, ◌<◌, ◌≤◌, List, [], ◌∷◌, length, get_or, refl, sym, ap, ◌∙◌, arith, cond, Bool, true, false, eqb, ◌||◌}
+use Rattle.std.proofs.Common.{◌≡◌, ℕ, zero, suc, ◌+◌, ◌<◌, List, [], ◌∷◌, refl, sym, ap, ◌∙◌, arith, cond, Bool, true, false, eqb, ◌||◌}
 use Rattle.std.specs.List.{list_any}
 use Rattle.std.proofs.lemmas.Bool.Decides.{nat_tests}
 use Rattle.pc_model.specs.Locks.{Queue, request_in, is_ungranted}
-use Rattle.pc_locks.specs.States as states
-use Rattle.pc_locks.specs.States.{State, Lists, queue_at}
+use Rattle.pc_locks.specs.States.{queue_at}
 use Rattle.pc_records.specs.declared.slots.Slot.{Slot}
-use Rattle.pc_records.specs.Rows.{Row, is_waiting}
-use Rattle.pc_records.specs.Slots.{row_of, rows_of, numbers_of, times, AreKept}
+use Rattle.pc_records.specs.Rows.{is_waiting}
+use Rattle.pc_records.specs.Slots.{rows_of, numbers_of, times, AreKept}
 
 abbrev waits_in : ℕ → Queue → Bool
 waits_in t q = is_ungranted (request_in q t)

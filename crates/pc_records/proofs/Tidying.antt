@@ -1,5 +1,5 @@
 -- A slot that nothing keeps is freed.
-use Rattle.std.proofs.Common.{◌≡◌, ◌≢◌, ℕ, zero, suc, ◌+◌, ◌<◌, ◌≤◌, List, [], ◌∷◌, ◌++◌, length, take, drop, get_or, set, Option, Some, None, is_some, not, filter, refl, sym, ap, ◌∙◌, arith, cond, Bool, true, false, ◌&&◌, ◌||◌}
+use Rattle.std.proofs.Common.{◌≡◌, ℕ, zero, suc, ◌<◌, List, [], ◌∷◌, ◌++◌, length, take, drop, get_or, set, Option, Some, None, is_some, not, filter, refl, sym, ap, ◌∙◌, arith, cond, Bool, true, false, ◌||◌}
 use Rattle.std.proofs.Math.ListN.{get_or-map}
 use Rattle.std.proofs.lemmas.List.{map-set, get_or_default}
 use Rattle.std.proofs.lemmas.Grind.{common_steps}
@@ -7,7 +7,7 @@ use Rattle.std.proofs.lemmas.Cmp.{eq_by_cmp_equiv}
 use Rattle.std.specs.declared.cmp.Ordering.{Ordering}
 use Rattle.std.specs.declared.cmp.Ordering.TheVariants.{Less, Equal, Greater}
 use Rattle.std.specs.Ordering.{is_lt, is_eq}
-use Rattle.std.specs.FinMap.{is_sorted, put}
+use Rattle.std.specs.FinMap.{is_sorted}
 use Rattle.std.specs.FinMap.Entries.{below_all}
 use Rattle.pc_model.specs.Database.{key_cmp, key_order, same_bytes, KeysRise}
 use Rattle.pc_model.specs.Locks.{Queue}
@@ -18,7 +18,7 @@ use Rattle.pc_model.proofs.Joins.{one_key}
 use Rattle.pc_locks.specs.States.{queue_at}
 use Rattle.pc_records.specs.declared.slots.Slot.{Slot}
 use Rattle.pc_records.specs.Rows.{Row, Record, record_of, is_kept, if_kept, with_row, left_of, with_left, left_rows}
-use Rattle.pc_records.specs.Slots.{row_of, rows_of, numbers_of, times, AreKept, IsSlotOf, tidied, taken_slot}
+use Rattle.pc_records.specs.Slots.{row_of, rows_of, AreKept, IsSlotOf, tidied, taken_slot}
 use Rattle.pc_records.proofs.SlotRising.{rise_any}
 use Rattle.pc_records.proofs.SlotPlaces.{length-rows}
 use Rattle.pc_records.proofs.SlotKeeping.{kept_removed}
@@ -179,6 +179,6 @@ pub taken_there : (slots marked new : List Slot) (queues : List Queue) (key : Li
 taken_there slots marked new queues key i d rise at here marked_is new_is =
     let row : get_or (rows_of queues slots) i (row_of queues d) ≡ row_of queues (get_or slots i d) = get_or-map (row_of queues) slots i d in
     let rows : rows_of queues marked ≡ set (rows_of queues slots) i ((get_or (rows_of queues slots) i (row_of queues d)).0, record (get_or (rows_of queues slots) i (row_of queues d)).1 { is_closed = false }) =
-        ap (rows_of queues) (marked_is d) ∙ map-set (row_of queues) slots i (taken_slot (get_or slots i d)) ∙ ap (λ (r : Row). set (rows_of queues slots) i (r.0, record r.1 { is_closed = false })) (sym row) in
+    ap (rows_of queues) (marked_is d) ∙ map-set (row_of queues) slots i (taken_slot (get_or slots i d)) ∙ ap (λ (r : Row). set (rows_of queues slots) i (r.0, record r.1 { is_closed = false })) (sym row) in
     new_is ∙ ap (λ (rs : List Row). tidied rs i) rows
     ∙ taken_rows (rows_of queues slots) key i (row_of queues d) (rise_any [] queues slots rise) (at queues) (ap (λ (r : Row). same_bytes key r.0) row ∙ here)

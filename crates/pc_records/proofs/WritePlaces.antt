@@ -1,5 +1,5 @@
 -- Where a list of writes has a key.
-use Rattle.std.proofs.Common.{◌≡◌, ℕ, ◌+◌, ◌<◌, List, length, drop, get_or, Option, Some, refl, sym, ap, ◌∙◌, cond, true}
+use Rattle.std.proofs.Common.{◌≡◌, ℕ, ◌+◌, ◌<◌, List, length, drop, get_or, Some, sym, ap, ◌∙◌, cond, true}
 use Rattle.std.proofs.lemmas.List.{get_or_default}
 use Rattle.pc_types.specs.declared.Write.{Write}
 use Rattle.pc_model.specs.Database.{written, same_bytes}

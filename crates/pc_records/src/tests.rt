@@ -1,5 +1,5 @@
 //! Tests of the records: requests, releases and what keeps a slot.
-ghost use Rattle.std.specs.Prelude.{◌≡◌, ◌≤◌, length, false, IfOk};
+ghost use Rattle.std.specs.Prelude.{◌≡◌, ◌≤◌};
 
 use crate::Records;
 use pc_locks::{Mode, Outcome};
@@ -7,39 +7,69 @@ use pc_types::{Key, Refusal, TxnNo, Value, Write};
 use std::alloc::Global;
 use std::test::Fail;
 
-// Asks for the lock of the key and says what came of it.
-fn asked(
+// What is asked of records: keys and values of one byte, and transactions by number.
+#[derive(Clone, Copy)]
+enum Ask {
+    Read(u64, u8),
+    Write(u64, u8),
+    Release(u64),
+    // A commit of the value, or of absence.
+    Commit(u8, Option<u8>),
+    Close,
+    Take(u8),
+    Value(u8),
+    IsRecent(u8),
+    IsFullFor(u8),
+    // How many keys have a value.
+    Values,
+}
+
+use Ask::{Close, Commit, IsFullFor, IsRecent, Read, Release, Take, Values};
+
+#[derive(Clone, Copy, Debug, PartialEq)]
+enum Told {
+    Granted,
+    Queued,
+    Died,
+    // A request of the transaction waits, so that it can't ask.
+    Waits,
+    // There is no room for the key, so that it can't be asked for.
+    Full,
+    Done,
+    Value(u8),
+    Absent,
+    Yes,
+    No,
+    Count(usize),
+}
+
+use Told::{Absent, Count, Died, Done, Full, Granted, No, Queued, Waits, Yes};
+
+// Asks for the lock of the key.
+fn request(
     alloc: Global,
     records: &mut Records,
     transaction: u64,
-    bytes: &[u8],
+    key: u8,
     mode: Mode,
-) -> Result<&'static str, Refusal> {
-    let key = Key::new(alloc, bytes)?;
+) -> Result<Told, Refusal> {
+    let key = Key::new(alloc, &[key])?;
     let transaction = TxnNo(transaction);
     if records.is_waiting(transaction) {
-        return Ok("waits");
+        return Ok(Waits);
     }
     if records.is_full_for(&key) {
-        return Ok("full");
+        return Ok(Full);
     }
     match records.request(alloc, transaction, &key, mode)? {
-        Outcome::Granted => Ok("granted"),
-        Outcome::Queued => Ok("queued"),
-        Outcome::Died => Ok("died"),
+        Outcome::Granted => Ok(Granted),
+        Outcome::Queued => Ok(Queued),
+        Outcome::Died => Ok(Died),
     }
 }
 
-// No records, and how many there may be.
-fn none_of(alloc: Global, capacity: u32) -> Result<Records, Refusal>
-    requires { (1 ≤ capacity) × (capacity ≤ 1048576) }
-{
-    Ok(Records::of_pairs(alloc, capacity, &[])?)
-}
-
-// A write of one byte, or of absence.
-fn write_of(alloc: Global, bytes: &[u8], content: Option<u8>) -> Result<Write, Refusal> {
-    let key = Key::new(alloc, bytes)?;
+fn write_of(alloc: Global, key: u8, content: Option<u8>) -> Result<Write, Refusal> {
+    let key = Key::new(alloc, &[key])?;
     let value = match content {
         Some(byte) => Some(Value::new(alloc, &[byte])?),
         None => None,
@@ -47,133 +77,179 @@ fn write_of(alloc: Global, bytes: &[u8], content: Option<u8>) -> Result<Write, R
     Ok(Write { key, value })
 }
 
-// The key's committed value is this byte, or there is none.
-fn has(
+// Commits a write of the key, before another one of the key, which doesn't count.
+fn commit(
     alloc: Global,
-    records: &Records,
-    bytes: &[u8],
+    records: &mut Records,
+    key: u8,
     content: Option<u8>,
-) -> Result<bool, Refusal> {
-    let key = Key::new(alloc, bytes)?;
-    match (records.value(&key), content) {
-        (Some(value), Some(byte)) => Ok(value.as_bytes() == [byte].as_slice()),
-        (None, None) => Ok(true),
-        _ => Ok(false),
-    }
-}
-
-// The older one waits for the younger one, and is granted once that one releases; the youngest dies.
-#[test]
-fn waits_and_is_granted(rt: HostRuntime) -> Result<(), Fail> {
-    let alloc = rt.alloc();
-    let mut records = none_of(alloc, 2)?;
-    assert_eq!(rt;
-        asked(alloc, &mut records, 2, b"a", Mode::Exclusive)?,
-        "granted"
-    );
-    assert_eq!(rt;
-        asked(alloc, &mut records, 1, b"a", Mode::Shared)?,
-        "queued"
-    );
-    assert_eq!(rt; asked(alloc, &mut records, 3, b"a", Mode::Shared)?, "died");
-    assert_eq!(rt; asked(alloc, &mut records, 1, b"b", Mode::Shared)?, "waits");
-    records.release(TxnNo(3));
-    assert!(rt; records.is_waiting(TxnNo(1)));
-    records.release(TxnNo(2));
-    assert!(rt; !records.is_waiting(TxnNo(1)));
-    assert_eq!(rt;
-        asked(alloc, &mut records, 1, b"a", Mode::Exclusive)?,
-        "granted"
-    );
-    Ok(())
-}
-
-// What only a request keeps is gone after the release, and its slot is used again, in any order of keys.
-#[test]
-fn slots_are_used_again(rt: HostRuntime) -> Result<(), Fail> {
-    let alloc = rt.alloc();
-    let mut records = none_of(alloc, 2)?;
-    for round in 0u64..3 {
-        assert_eq!(rt;
-            asked(alloc, &mut records, round, b"b", Mode::Shared)?,
-            "granted"
-        );
-        assert_eq!(rt;
-            asked(alloc, &mut records, round, b"a", Mode::Exclusive)?,
-            "granted"
-        );
-        assert_eq!(rt;
-            asked(alloc, &mut records, round, b"c", Mode::Shared)?,
-            "full"
-        );
-        assert_eq!(rt;
-            asked(alloc, &mut records, round, b"b", Mode::Exclusive)?,
-            "granted"
-        );
-        records.release(TxnNo(round));
-        assert!(rt; !records.is_full_for(&Key::new(alloc, b"c")?));
-    }
-    Ok(())
-}
-
-// One slot: full for another key until nothing keeps it.
-#[test]
-fn one_slot(rt: HostRuntime) -> Result<(), Fail> {
-    let alloc = rt.alloc();
-    let mut records = none_of(alloc, 1)?;
-    assert_eq!(rt;
-        asked(alloc, &mut records, 1, b"a", Mode::Shared)?,
-        "granted"
-    );
-    assert_eq!(rt;
-        asked(alloc, &mut records, 2, b"a", Mode::Shared)?,
-        "granted"
-    );
-    assert_eq!(rt; asked(alloc, &mut records, 2, b"b", Mode::Shared)?, "full");
-    records.release(TxnNo(1));
-    assert_eq!(rt; asked(alloc, &mut records, 1, b"b", Mode::Shared)?, "full");
-    records.release(TxnNo(2));
-    assert_eq!(rt;
-        asked(alloc, &mut records, 1, b"b", Mode::Exclusive)?,
-        "granted"
-    );
-    Ok(())
-}
-
-// A removed key stays until its set is closed and it is taken; a key with a value stays for good.
-#[test]
-fn installs_and_takes(rt: HostRuntime) -> Result<(), Fail> {
-    let alloc = rt.alloc();
-    let pairs = [(Key::new(alloc, b"a")?, Value::new(alloc, b"\x01")?)];
-    let mut records = Records::of_pairs(alloc, 2, &pairs)?;
-    assert_eq!(rt;
-        asked(alloc, &mut records, 1, b"a", Mode::Exclusive)?,
-        "granted"
-    );
-    assert_eq!(rt;
-        asked(alloc, &mut records, 1, b"b", Mode::Exclusive)?,
-        "granted"
-    );
-    let writes = [
-        write_of(alloc, b"b", Some(2))?,
-        write_of(alloc, b"a", None)?,
-        write_of(alloc, b"b", Some(3))?,
-    ];
+) -> Result<Told, Refusal> {
+    let mut writes = Vec::new(alloc);
+    writes.push(write_of(alloc, key, content)?)?;
+    writes.push(write_of(alloc, key, Some(99))?)?;
     records.install(alloc, &writes)?;
-    records.release(TxnNo(1));
-    let (a, b, c) = (
-        Key::new(alloc, b"a")?,
-        Key::new(alloc, b"b")?,
-        Key::new(alloc, b"c")?,
-    );
-    assert!(rt; has(alloc, &records, b"a", None)? && has(alloc, &records, b"b", Some(2))?);
-    assert_eq!(rt; records.committed(alloc)?.len(), 1);
-    assert!(rt; records.is_recent(&a) && records.is_recent(&b) && records.is_full_for(&c));
-    records.close();
-    assert!(rt; !records.is_recent(&a) && !records.is_recent(&b) && records.is_full_for(&c));
-    records.take(&b);
-    assert!(rt; records.is_full_for(&c));
-    records.take(&a);
-    assert!(rt; !records.is_full_for(&c) && has(alloc, &records, b"b", Some(2))?);
+    Ok(Done)
+}
+
+fn value_of(records: &Records, key: &Key) -> Told {
+    match records.value(key) {
+        Some(value) => match value.as_bytes().first() {
+            Some(byte) => Told::Value(*byte),
+            None => Absent,
+        },
+        None => Absent,
+    }
+}
+
+fn yes(is: bool) -> Told {
+    if is { Yes } else { No }
+}
+
+fn take(alloc: Global, records: &mut Records, key: u8) -> Result<Told, Refusal> {
+    records.take(&Key::new(alloc, &[key])?);
+    Ok(Done)
+}
+
+// What the records say of the key.
+fn seen(alloc: Global, records: &Records, ask: Ask) -> Result<Told, Refusal> {
+    match ask {
+        Ask::Value(key) => Ok(value_of(records, &Key::new(alloc, &[key])?)),
+        IsRecent(key) => Ok(yes(records.is_recent(&Key::new(alloc, &[key])?))),
+        IsFullFor(key) => Ok(yes(records.is_full_for(&Key::new(alloc, &[key])?))),
+        _ => Ok(Count(records.committed(alloc)?.len())),
+    }
+}
+
+// Does what is asked.
+fn tell(alloc: Global, records: &mut Records, ask: Ask) -> Result<Told, Refusal> {
+    match ask {
+        Read(transaction, key) => request(alloc, records, transaction, key, Mode::Shared),
+        Ask::Write(transaction, key) => request(alloc, records, transaction, key, Mode::Exclusive),
+        Release(transaction) => {
+            records.release(TxnNo(transaction));
+            Ok(Done)
+        }
+        Commit(key, content) => commit(alloc, records, key, content),
+        Close => {
+            records.close();
+            Ok(Done)
+        }
+        Take(key) => take(alloc, records, key),
+        _ => seen(alloc, records, ask),
+    }
+}
+
+// The first of the rows that came out otherwise.
+fn first_wrong(
+    alloc: Global,
+    records: &mut Records,
+    rows: &[(Ask, Told)],
+) -> Result<Option<usize>, Refusal> {
+    for (i, row) in rows.iter().enumerate() {
+        if tell(alloc, records, row.0)? != row.1 {
+            return Ok(Some(i));
+        }
+    }
+    Ok(None)
+}
+
+const LOCKS: [(Ask, Told); 13] = [
+    // The older one waits for the younger one, and is granted once that one releases; the youngest dies.
+    (Ask::Write(2, 1), Granted),
+    (Read(1, 1), Queued),
+    (Read(3, 1), Died),
+    (Read(1, 2), Waits),
+    (Release(3), Done),
+    (Read(1, 2), Waits),
+    (Release(2), Done),
+    (Ask::Write(1, 1), Granted),
+    // A second key fills the records; what only requests keep is gone with them.
+    (Ask::Write(1, 2), Granted),
+    (Read(3, 1), Died),
+    (Read(3, 3), Full),
+    (Release(1), Done),
+    (Read(3, 3), Granted),
+];
+
+#[test]
+fn locks(rt: HostRuntime) -> Result<(), Fail> {
+    let alloc = rt.alloc();
+    let mut records = Records::of_pairs(alloc, 2, &[])?;
+    assert_eq!(rt; first_wrong(alloc, &mut records, &LOCKS)?, None);
+    Ok(())
+}
+
+const SLOTS: [(Ask, Told); 20] = [
+    // One slot, of two readers in turn: it is free once both have released.
+    (Read(1, 7), Granted),
+    (Read(2, 7), Granted),
+    (Read(2, 8), Full),
+    (Release(1), Done),
+    (IsFullFor(8), Yes),
+    (Release(2), Done),
+    (IsFullFor(8), No),
+    // A smaller key in the same slot, and one that waits beside the owner's release.
+    (Ask::Write(5, 3), Granted),
+    (Ask::Write(4, 3), Queued),
+    (Release(5), Done),
+    (IsFullFor(8), Yes),
+    (Read(4, 3), Granted),
+    (Release(4), Done),
+    // A key with a value stays, and no request stands on it any more.
+    (Ask::Write(6, 9), Granted),
+    (Commit(9, Some(1)), Done),
+    (Release(6), Done),
+    (IsFullFor(8), Yes),
+    (Ask::Write(7, 9), Granted),
+    (Release(7), Done),
+    (Ask::Value(9), Told::Value(1)),
+];
+
+#[test]
+fn slots(rt: HostRuntime) -> Result<(), Fail> {
+    let alloc = rt.alloc();
+    let mut records = Records::of_pairs(alloc, 1, &[])?;
+    assert_eq!(rt; first_wrong(alloc, &mut records, &SLOTS)?, None);
+    Ok(())
+}
+
+const SETS: [(Ask, Told); 22] = [
+    // A removed key stays until its set is closed and it is taken.
+    (Ask::Value(5), Told::Value(50)),
+    (Commit(5, None), Done),
+    (Ask::Write(1, 6), Granted),
+    (Commit(6, Some(60)), Done),
+    (Commit(7, Some(70)), Done),
+    (Release(1), Done),
+    (Ask::Value(5), Absent),
+    (Ask::Value(6), Told::Value(60)),
+    (Ask::Value(7), Absent),
+    (Values, Count(1)),
+    (IsRecent(5), Yes),
+    (IsFullFor(7), Yes),
+    (Close, Done),
+    (IsRecent(5), No),
+    (IsFullFor(7), Yes),
+    (Take(6), Done),
+    (IsFullFor(7), Yes),
+    (Take(5), Done),
+    (IsFullFor(7), No),
+    (Read(2, 7), Granted),
+    (Ask::Value(6), Told::Value(60)),
+    (IsFullFor(5), Yes),
+];
+
+// Two slots, one with a key that has a value.
+fn with_value(alloc: Global) -> Result<Records, Refusal> {
+    let mut pairs = Vec::new(alloc);
+    pairs.push((Key::new(alloc, &[5])?, Value::new(alloc, &[50])?))?;
+    Ok(Records::of_pairs(alloc, 2, &pairs)?)
+}
+
+#[test]
+fn sets(rt: HostRuntime) -> Result<(), Fail> {
+    let alloc = rt.alloc();
+    let mut records = with_value(alloc)?;
+    assert_eq!(rt; first_wrong(alloc, &mut records, &SETS)?, None);
     Ok(())
 }

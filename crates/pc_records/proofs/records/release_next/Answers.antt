@@ -1,7 +1,7 @@
-use Rattle.std.proofs.Common.{◌≡◌, ◌∙◌, ap, sym, vec_capacity}
+use Rattle.std.proofs.Common.{◌∙◌, ap, vec_capacity}
 use Rattle.pc_locks.specs.States.{State}
 use Rattle.pc_records.specs.Slots.{rows_of}
-use Rattle.pc_records.proofs.SlotReleasing.{stands_first, stands_nowhere, none_released, kept_without, released_first, slot_there, shorter}
+use Rattle.pc_records.proofs.SlotReleasing.{stands_first, stands_nowhere, none_released, released_first}
 use Rattle.pc_records.proofs.records.release_next.Goals as goal
 
 pub returns-in-Some-slot_numbered-clause-rows : goal.returns-in-Some-slot_numbered-clause-rows

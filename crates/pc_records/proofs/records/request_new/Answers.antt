@@ -1,4 +1,4 @@
-use Rattle.std.proofs.Common.{◌≡◌, ◌+◌, ◌-◌, length, arith, vec_capacity}
+use Rattle.std.proofs.Common.{◌-◌, arith, vec_capacity}
 use Rattle.pc_locks.specs.Queues.{told, is_exclusive}
 use Rattle.pc_records.proofs.SlotKeeping.{free_below}
 use Rattle.pc_records.proofs.Requesting.{told_new, rows_new, kept_new}

@@ -1,6 +1,4 @@
-use Rattle.std.proofs.Common.{◌∙◌, ◌<◌, length, ap, sym, subst, vec_capacity}
-use Rattle.pc_records.specs.declared.slots.Slot.{Slot}
-use Rattle.pc_records.specs.Slots.{taken_slot}
+use Rattle.std.proofs.Common.{◌<◌, sym, subst, vec_capacity}
 use Rattle.pc_records.proofs.Turning.{any_slot, length-changed}
 use Rattle.pc_records.proofs.SlotKeeping.{kept_taken}
 use Rattle.pc_records.proofs.Tidying.{taken_there, left_away}

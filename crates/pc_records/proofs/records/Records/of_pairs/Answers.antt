@@ -1,4 +1,4 @@
-use Rattle.std.proofs.Common.{◌∙◌, ap, sym, vec_capacity, length}
+use Rattle.std.proofs.Common.{◌∙◌, ap, vec_capacity, length}
 use Rattle.pc_records.proofs.SlotKeeping.{kept_first, rows-none, length-none}
 use Rattle.pc_records.proofs.records.Records.of_pairs.Goals as goal
 
