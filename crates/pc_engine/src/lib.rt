@@ -1,10 +1,22 @@
 //! The store's world: it answers events, one after the other, each by a legal reply.
 #![tactic(auto)]
 
+#[cfg(test)]
+mod asks;
 mod checks;
+#[cfg(test)]
+mod crowd_tests;
+#[cfg(test)]
+mod list_tests;
+#[cfg(test)]
+mod lock_tests;
 mod points;
 mod sessions;
 mod shelving;
+#[cfg(test)]
+mod slow_store;
+#[cfg(test)]
+mod tests;
 mod transactions;
 mod world;
 mod writes;

@@ -1,3 +1,12 @@
+pub mod ChainRows
+pub mod Grants
+pub mod LineLaws
 pub mod ListLaws
+pub mod LocksLaws
+pub mod Outcomes
+pub mod RemovalLaws
 pub mod Rows
 pub mod StateLaws
+pub mod TableLaws
+pub mod Upgrades
+pub mod Walks

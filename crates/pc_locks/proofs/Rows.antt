@@ -1,26 +1,7 @@
 -- A row of queues, one for each slot.
-use Rattle.std.proofs.Common.{◌≡◌, ◌≢◌, ℕ, zero, suc, ◌<◌, ◌⊎◌, inl, inr, List, [], ◌∷◌, length, set, get_or, replicate, refl, sym, ◌∙◌, ap, arith}
-use Rattle.std.proofs.lemmas.List.{map-set}
-use Rattle.std.proofs.Math.ListN.{get_or-map}
+use Rattle.std.proofs.Common.{◌≡◌, ◌≢◌, ℕ, zero, suc, ◌<◌, ◌⊎◌, inl, inr, List, [], ◌∷◌, length, set, replicate, refl, ap, arith}
 use Rattle.pc_model.specs.Locks.{Queue}
-use Rattle.pc_locks.specs.Queues.{Held}
-use Rattle.pc_locks.specs.States.{requests_of, queue_at}
-
-get_same : (held : List Held) (i : ℕ) (d e : Held) → i < length held → get_or held i d ≡ get_or held i e
-get_same [] i d e h = absurd (omega (arith, h))
-get_same (x ∷ xs) zero d e h = refl
-get_same (x ∷ xs) (suc i) d e h = get_same xs i d e (omega (arith, h))
-
--- what is read at a slot is its queue
-pub seen : (held : List Held) (i : ℕ) (d : Held) → i < length held → d ≡ get_or held i d → d.requests ≡ queue_at (requests_of held) i
-seen held i d h e =
-    let z : Held = record { requests = []; spare = 0 } in
-    ap (λ (x : Held). x.requests) (e ∙ get_same held i d z h) ∙ sym (get_or-map (λ (x : Held). x.requests) held i z)
-
--- and what is written there
-pub placed : (held : List Held) (i : ℕ) (new d : Held) (f : Queue → Queue) → i < length held → d ≡ get_or held i d → new.requests ≡ f d.requests →
-    requests_of (set held i new) ≡ set (requests_of held) i (f (queue_at (requests_of held) i))
-placed held i new d f h e n = map-set (λ (x : Held). x.requests) held i new ∙ ap (set (requests_of held) i) (n ∙ ap f (seen held i d h e))
+use Rattle.pc_locks.specs.States.{queue_at}
 
 pub set_back : (queues : List Queue) (i : ℕ) → set queues i (queue_at queues i) ≡ queues
 set_back [] i = refl

@@ -6,10 +6,8 @@ use Rattle.std.proofs.lemmas.List.Folds.{list_any-append}
 use Rattle.std.proofs.lemmas.Bool.Decides.{nat_tests}
 use Rattle.pc_model.specs.Locks.{Request, Queue, are_compatible, request_in, granted_behind, with_request, queue_after, queue_without, outcome_beside, Outcome, is_ungranted}
 use Rattle.pc_model.specs.Locks.Outcome.{Granted, Queued, Died}
-use Rattle.std.proofs.lemmas.List.{length-map}
 use Rattle.pc_model.specs.Queues.{stands_in}
-use Rattle.pc_locks.specs.Queues.{Held}
-use Rattle.pc_locks.specs.States.{Lists, requests_of, slots_of, queue_at, first_of, rest_of, last_of, is_listed, slots_after, AreDifferent, AreLinked}
+use Rattle.pc_locks.specs.States.{Lists, slots_of, queue_at, first_of, rest_of, last_of, is_listed, slots_after, AreDifferent, AreLinked}
 use Rattle.pc_locks.proofs.Rows.{at_cases, none_at, set_back}
 use Rattle.pc_model.proofs.QueueLaws.{grant, stands_granted, stands_is, with_new}
 
@@ -303,26 +301,10 @@ first_listed : (xs : List ℕ) (s : ℕ) → Some s ≡ first_of xs → is_liste
 first_listed [] s e = absurd cc
 first_listed (x ∷ xs) s e = let f : s ≡ x = cc in rw (same_test x s (sym f))
 
-last_listed : (xs : List ℕ) (s : ℕ) → Some s ≡ last_of xs → is_listed xs s ≡ true
+pub last_listed : (xs : List ℕ) (s : ℕ) → Some s ≡ last_of xs → is_listed xs s ≡ true
 last_listed [] s e = absurd cc
 last_listed (x ∷ []) s e = let f : s ≡ x = cc in rw (same_test x s (sym f))
 last_listed (x ∷ y ∷ ys) s e = rw (last_listed (y ∷ ys) s e) (or_true (x == s))
-
-pub first_range : (held : List Held) (lists : Lists) (s t : ℕ) → AreLinked (requests_of held) lists → Some s ≡ first_of (slots_of lists t) → s < length held
-first_range held lists s t k e =
-    let h = stands_range (requests_of held) s t (sym (k.listed t s) ∙ first_listed (slots_of lists t) s e) in
-    omega (arith, h, length-map held (λ (x : Held). x.requests))
-
-pub last_range : (held : List Held) (lists : Lists) (s t : ℕ) → AreLinked (requests_of held) lists → Some s ≡ last_of (slots_of lists t) → s < length held
-last_range held lists s t k e =
-    let h = stands_range (requests_of held) s t (sym (k.listed t s) ∙ last_listed (slots_of lists t) s e) in
-    omega (arith, h, length-map held (λ (x : Held). x.requests))
-
-pub range_of : (held : List Held) (s : ℕ) → s < length (requests_of held) → s < length held
-range_of held s h = omega (arith, h, length-map held (λ (x : Held). x.requests))
-
-pub queues_range : (held : List Held) (s : ℕ) → s < length held → s < length (requests_of held)
-queues_range held s h = omega (arith, h, length-map held (λ (x : Held). x.requests))
 
 pub found_is : (q : Queue) (t : ℕ) (own : Request) → request_in q t ≡ Some own → own.transaction ≡ t
 found_is [] t own e = absurd cc

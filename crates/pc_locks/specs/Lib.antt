@@ -1,2 +1,4 @@
+pub mod Lines
 pub mod Queues
 pub mod States
+pub mod Tables

@@ -1,145 +1,141 @@
-//! The slots of each transaction, in the order of first request.
-ghost use Rattle.std.specs.Prelude.{◌≡◌, ◌≢◌, ◌==◌, ◌<◌, ◌++◌, ◌∷◌, [], ℕ, length, OnOk, OnErr, IfNone, Some, None};
+//! Lists of ids, one for each transaction.
+ghost use Rattle.std.specs.Prelude.{◌≡◌, ◌≢◌, ◌<◌, ◌≤◌, ◌++◌, ◌∷◌, [], ℕ, true, false, is_some, length, OnOk, OnErr, IfNone, None};
 ghost use Rattle.std.specs.Ordering.{nat_cmp};
-ghost use Rattle.pc_locks.specs.States.{slots_of, first_of, rest_of, last_of};
+ghost use Rattle.std.specs.Map.{lookup};
+ghost use Rattle.std.specs.BTreeMap.{is_at};
+ghost use Rattle.pc_locks.specs.Lines.{ends_at, no_chain, no_ends};
+ghost use Rattle.pc_locks.specs.States.{slots_of, first_of, rest_of, last_of, is_listed};
 
-use pc_types::SlotId;
+use crate::ends::Ends;
+use crate::row::Row;
+use pc_chain::Chain;
 use std::alloc::{AllocError, Global};
-use std::collections::{BTreeMap, VecDeque};
+use std::collections::BTreeMap;
 use std::marker::Model;
 
-/// A list of slots.
+/// The lists, each a chain over one row of links. No id stands in two of them.
 #[derive(Drop)]
-pub(crate) struct Slots {
-    slots: VecDeque<SlotId>,
+pub(crate) struct Lists {
+    links: Row,
+    ends: BTreeMap<u64, Ends>,
 }
 
-impl Model for Slots {
-    ghost use Rattle.std.specs.Prelude.{List, ℕ};
+impl Model for Lists {
+    ghost use Rattle.std.specs.Prelude.{length};
+    ghost use Rattle.pc_locks.specs.Lines.{Listed, entry_ids, AreLists};
 
-    ghost Value = { List ℕ };
+    ghost Value = { Listed };
 
-    ghost view = { λ a. a.slots.items };
+    ghost view = { λ a. record { entries = entry_ids a.links.links.items a.ends.entries; room = length a.links.links.items } };
+
+    ghost invariant = { λ a. AreLists a.links.links.items a.ends.entries };
 }
 
-impl Slots {
-    /// No slots. It takes no memory.
-    fn new(alloc: Global) -> Slots
-        ensures { result ≡ [] }
+impl Lists {
+    /// No lists. It takes no memory.
+    pub(crate) fn new(alloc: Global) -> Lists
+        ensures { result.entries ≡ [] }
     {
-        Slots {
-            slots: VecDeque::new(alloc),
+        Lists {
+            links: Row::new(alloc),
+            ends: BTreeMap::new(alloc),
         }
     }
 
-    /// Adds a slot at the end. Where memory ran out nothing changed.
-    fn push(&mut self, slot: SlotId) -> Result<(), AllocError>
-        ensures ok { OnOk result (self.new ≡ self.old ++ slot ∷ []) }
-        ensures err { OnErr result (self.new ≡ self.old) }
+    /// Makes room for ids below `room`, and for one more id in the transaction's list. The lists stay.
+    pub(crate) fn reserve(&mut self, transaction: u64, room: usize) -> Result<(), AllocError>
+        ensures lists { (other : ℕ) → slots_of self.new.entries other ≡ slots_of self.old.entries other }
+        ensures known { OnOk result (is_some (lookup (is_at (nat_cmp transaction)) self.new.entries) ≡ true) }
+        ensures room { OnOk result (room ≤ self.new.room) }
+        ensures err { OnErr result (self.new.entries ≡ self.old.entries) }
     {
-        self.slots.push_back(slot)?;
-        Ok(())
+        self.links.lengthen(room)?;
+        keep(&mut self.ends, transaction)
     }
 
-    /// Takes the first slot.
-    fn pop(&mut self) -> Option<SlotId>
-        ensures given { result ≡ first_of self.old }
-        ensures rest { self.new ≡ rest_of self.old }
+    /// Adds an id, which is in none of the lists, at the end of the transaction's.
+    pub(crate) fn push(&mut self, transaction: u64, id: usize)
+        requires known { is_some (lookup (is_at (nat_cmp transaction)) self.old.entries) ≡ true }
+        requires room { id < self.old.room }
+        requires fresh { (other : ℕ) → is_listed (slots_of self.old.entries other) id ≡ false }
+        ensures list { slots_of self.new.entries transaction ≡ slots_of self.old.entries transaction ++ id ∷ [] }
+        ensures others { (other : ℕ) → other ≢ transaction → slots_of self.new.entries other ≡ slots_of self.old.entries other }
     {
-        self.slots.pop_front()
+        let mut ends = ends_of(&self.ends, transaction);
+        ends.chain.push_back(&mut self.links, id);
+        ends.last = Some(id);
+        put(&mut self.ends, transaction, ends);
     }
 
-    /// The last slot.
-    fn last(&self) -> Option<SlotId>
-        ensures { result ≡ last_of self.now }
+    /// Takes the first id of the transaction's list.
+    pub(crate) fn pop(&mut self, transaction: u64) -> Option<usize>
+        ensures given { result ≡ first_of (slots_of self.old.entries transaction) }
+        ensures rest { slots_of self.new.entries transaction ≡ rest_of (slots_of self.old.entries transaction) }
+        ensures others { (other : ℕ) → other ≢ transaction → slots_of self.new.entries other ≡ slots_of self.old.entries other }
+        ensures none { IfNone result (self.new ≡ self.old) }
     {
-        let len = self.slots.len();
-        if len == 0 {
-            return None;
+        let mut ends = ends_of(&self.ends, transaction);
+        let id = ends.chain.pop_front(&self.links)?;
+        if ends.chain.first(&self.links).is_some() {
+            put(&mut self.ends, transaction, ends);
+        } else {
+            forget(&mut self.ends, transaction);
         }
-        Some(self.slots[len - 1])
+        Some(id)
     }
 
-    /// Whether there is none.
-    fn is_empty(&self) -> bool
-        ensures { result ≡ (length self.now == 0) }
+    /// The last id of the transaction's list.
+    pub(crate) fn last(&self, transaction: u64) -> Option<usize>
+        ensures { result ≡ last_of (slots_of self.now.entries transaction) }
     {
-        self.slots.is_empty()
+        ends_of(&self.ends, transaction).last
     }
 }
 
-/// Adds a slot at the end of the transaction's. Where memory ran out nothing changed.
-pub(crate) fn push(
-    alloc: Global,
-    lists: &mut BTreeMap<u64, Slots>,
-    transaction: u64,
-    slot: SlotId,
-) -> Result<(), AllocError>
-    ensures list { OnOk result (slots_of lists.new.entries transaction ≡ slots_of lists.old.entries transaction ++ slot ∷ []) }
-    ensures others { (other : ℕ) → other ≢ transaction → slots_of lists.new.entries other ≡ slots_of lists.old.entries other }
-    ensures err { OnErr result (lists.new.entries ≡ lists.old.entries) }
+// A transaction's ends; empty ones where it has none.
+fn ends_of(entries: &BTreeMap<u64, Ends>, transaction: u64) -> Ends
+    ensures { result ≡ ends_at entries.now.entries transaction }
 {
-    match lists.get_mut(&transaction) {
-        Some(slots) => slots.push(slot),
-        None => {
-            let mut slots = Slots::new(alloc);
-            slots.push(slot)?;
-            lists.insert(transaction, slots)?;
-            Ok(())
-        }
+    match entries.get(&transaction) {
+        Some(ends) => *ends,
+        None => Ends {
+            chain: Chain::new(),
+            last: None,
+        },
     }
 }
 
-/// Takes the first of the transaction's slots.
-pub(crate) fn pop(lists: &mut BTreeMap<u64, Slots>, transaction: u64) -> Option<SlotId>
-    ensures given { result ≡ first_of (slots_of lists.old.entries transaction) }
-    ensures rest { slots_of lists.new.entries transaction ≡ rest_of (slots_of lists.old.entries transaction) }
-    ensures others { (other : ℕ) → other ≢ transaction → slots_of lists.new.entries other ≡ slots_of lists.old.entries other }
-    ensures none { IfNone result (lists.new.entries ≡ lists.old.entries) }
+// Makes sure that the transaction has ends. Where memory ran out nothing changed.
+fn keep(entries: &mut BTreeMap<u64, Ends>, transaction: u64) -> Result<(), AllocError>
+    ensures ends { (other : ℕ) → ends_at entries.new.entries other ≡ ends_at entries.old.entries other }
+    ensures known { OnOk result (is_some (lookup (is_at (nat_cmp transaction)) entries.new.entries) ≡ true) }
+    ensures err { OnErr result (entries.new.entries ≡ entries.old.entries) }
 {
-    let slot = take(lists, transaction)?;
-    drop_empty(lists, transaction);
-    Some(slot)
+    if !entries.contains_key(&transaction) {
+        let ends = Ends {
+            chain: Chain::new(),
+            last: None,
+        };
+        entries.insert(transaction, ends)?;
+    }
+    Ok(())
 }
 
-// The same, where the list may be left empty.
-fn take(lists: &mut BTreeMap<u64, Slots>, transaction: u64) -> Option<SlotId>
-    ensures given { result ≡ first_of (slots_of lists.old.entries transaction) }
-    ensures rest { slots_of lists.new.entries transaction ≡ rest_of (slots_of lists.old.entries transaction) }
-    ensures others { (other : ℕ) → other ≢ transaction → slots_of lists.new.entries other ≡ slots_of lists.old.entries other }
-    ensures none { IfNone result (lists.new.entries ≡ lists.old.entries) }
+// Writes the ends of a transaction that has some.
+fn put(entries: &mut BTreeMap<u64, Ends>, transaction: u64, ends: Ends)
+    requires { is_some (lookup (is_at (nat_cmp transaction)) entries.old.entries) ≡ true }
+    ensures this { ends_at entries.new.entries transaction ≡ ends }
+    ensures others { (other : ℕ) → other ≢ transaction → ends_at entries.new.entries other ≡ ends_at entries.old.entries other }
 {
-    match lists.get_mut(&transaction) {
-        Some(slots) => slots.pop(),
-        None => None,
+    if let Some(place) = entries.get_mut(&transaction) {
+        *place = ends;
     }
 }
 
-// An empty list isn't kept.
-fn drop_empty(lists: &mut BTreeMap<u64, Slots>, transaction: u64)
-    ensures { (other : ℕ) → slots_of lists.new.entries other ≡ slots_of lists.old.entries other }
+// Removes the ends of a transaction.
+fn forget(entries: &mut BTreeMap<u64, Ends>, transaction: u64)
+    ensures this { ends_at entries.new.entries transaction ≡ no_ends }
+    ensures others { (other : ℕ) → other ≢ transaction → ends_at entries.new.entries other ≡ ends_at entries.old.entries other }
 {
-    if is_empty(lists, transaction) {
-        lists.remove(&transaction);
-    }
-}
-
-// Whether the transaction has no slots.
-fn is_empty(lists: &BTreeMap<u64, Slots>, transaction: u64) -> bool
-    ensures { result ≡ (length (slots_of lists.now.entries transaction) == 0) }
-{
-    match lists.get(&transaction) {
-        Some(slots) => slots.is_empty(),
-        None => true,
-    }
-}
-
-/// The last of the transaction's slots.
-pub(crate) fn last(lists: &BTreeMap<u64, Slots>, transaction: u64) -> Option<SlotId>
-    ensures { result ≡ last_of (slots_of lists.now.entries transaction) }
-{
-    match lists.get(&transaction) {
-        Some(slots) => slots.last(),
-        None => None,
-    }
+    entries.remove(&transaction);
 }

@@ -1,37 +1,34 @@
 //! The locks of all slots.
-ghost use Rattle.std.specs.Prelude.{◌≡◌, ◌≢◌, ◌==◌, ◌<◌, ◌≤◌, ◌++◌, ◌∷◌, [], not, true, false, ℕ, length, map, is_some, IfOk, OnOk, OnErr, IfNone, Some, None, slice_set, vec_len, slice_index_or};
+ghost use Rattle.std.specs.Prelude.{◌≡◌, ◌≢◌, ◌==◌, ◌<◌, ◌≤◌, [], not, true, false, ℕ, length, IfOk, OnErr, IfNone, Some, slice_set};
 ghost use Rattle.std.proofs.Common.{replicate};
-ghost use Rattle.pc_model.specs.Locks.{request_in, is_ungranted, IsLegalQueue, outcome, outcome_beside, outcome_of_new, queue_after, queue_without};
-ghost use Rattle.pc_model.specs.Queues.{stands_in, IsSettled};
-ghost use Rattle.pc_locks.specs.Queues.{Held, told, is_exclusive};
-ghost use Rattle.pc_locks.specs.States.{State, requests_of, queue_at, slots_of, slots_after, queues_without, first_of, rest_of, last_of, is_listed, AreDifferent, is_waiting, AreLinked};
+ghost use Rattle.pc_model.specs.Locks.{request_in, is_ungranted, IsLegalQueue, outcome, queue_after};
+ghost use Rattle.pc_model.specs.Queues.{stands_in};
+ghost use Rattle.pc_locks.specs.Queues.{told, is_exclusive};
+ghost use Rattle.pc_locks.specs.States.{queue_at, slots_of, slots_after, queues_without, first_of, rest_of, last_of, is_listed, AreDifferent, is_waiting, AreLinked};
 ghost use Rattle.pc_model.proofs.Queues.{IsSoundBehind};
 
-use crate::lists;
-use crate::lists::Slots;
-use crate::queue::Queue;
-use crate::request::{Mode, Outcome, Request};
+use crate::node::Test;
+use crate::request::{Mode, Outcome};
+use crate::table::Table;
 use pc_types::{SlotId, TxnNo};
 use std::alloc::{AllocError, Global};
-use std::collections::BTreeMap;
 use std::marker::Model;
 
 /// The locks of slots, and what each transaction has requested.
 #[derive(Drop)]
 pub struct Locks {
-    alloc: Global,
-    queues: Vec<Queue>,
-    lists: BTreeMap<u64, Slots>,
+    table: Table,
 }
 
 impl Model for Locks {
-    ghost use Rattle.pc_locks.specs.States.{State, requests_of, AreLinked};
+    ghost use Rattle.pc_locks.specs.States.{State};
+    ghost use Rattle.pc_locks.specs.Tables.{queues_in, lists_in, Keeps};
 
     ghost Value = { State };
 
-    ghost view = { λ a. record { queues = requests_of a.queues.items; lists = a.lists.entries } };
+    ghost view = { λ a. record { queues = queues_in a.table.nodes.slots a.table.queues.ids; lists = lists_in a.table.nodes.slots a.table.lists.entries } };
 
-    ghost invariant = { λ a. AreLinked (requests_of a.queues.items) a.lists.entries };
+    ghost invariant = { λ a. Keeps a.table.nodes.slots a.table.queues.ids a.table.lists.entries };
 }
 
 impl Locks {
@@ -40,12 +37,8 @@ impl Locks {
         requires { (1 ≤ slots) × (slots ≤ 1048576) }
         ensures { IfOk result (λ locks. (locks.queues ≡ replicate slots []) × (locks.lists ≡ [])) }
     {
-        let queues = queues_of(alloc, slots)?;
-        Ok(Locks {
-            alloc,
-            queues,
-            lists: BTreeMap::new(alloc),
-        })
+        let table = Table::new(alloc, slots)?;
+        Ok(Locks { table })
     }
 
     /// Answers a transaction's request of a slot. What the own lock covers is granted at once, and a new request where it is
@@ -68,16 +61,12 @@ impl Locks {
         ensures err { OnErr result (self.new ≡ self.old) }
     {
         let exclusive = mode.is_exclusive();
-        match self.queues[slot.0 as usize].request_of(transaction) {
-            Some(own) => Ok(again(&mut self.queues, slot.0 as usize, own, exclusive)),
-            None => first(
-                self.alloc,
-                &mut self.queues,
-                &mut self.lists,
-                slot,
-                transaction,
-                exclusive,
+        match self.table.find(slot.0 as usize, Test::Of(transaction)) {
+            Some(found) => Ok(
+                self.table
+                    .again(slot.0 as usize, found, transaction, exclusive),
             ),
+            None => self.table.first(slot.0, transaction, exclusive),
         }
     }
 
@@ -91,17 +80,17 @@ impl Locks {
         ensures queues { self.new.queues ≡ queues_without self.old.queues transaction result }
         ensures none { IfNone result (self.new ≡ self.old) }
     {
-        let slot = lists::pop(&mut self.lists, transaction.0)?;
-        remove(&mut self.queues, slot.0 as usize, transaction);
-        Some(slot)
+        let slot = self.table.take(transaction)?;
+        self.table.grant(slot as usize);
+        Some(SlotId(slot))
     }
 
     /// Whether a request of the transaction waits.
     pub fn is_waiting(&self, transaction: TxnNo) -> bool
         ensures { result ≡ is_waiting self.now transaction }
     {
-        match lists::last(&self.lists, transaction.0) {
-            Some(slot) => self.queues[slot.0 as usize].is_waiting(transaction),
+        match self.table.last(transaction) {
+            Some(last) => !self.table.request(last).granted,
             None => false,
         }
     }
@@ -118,14 +107,14 @@ impl Locks {
         ensures once { (transaction : ℕ) → AreDifferent (slots_of self.now.lists transaction) }
         ensures waits { (transaction : ℕ) → is_ungranted (request_in (queue_at self.now.queues slot) transaction) ≡ true → last_of (slots_of self.now.lists transaction) ≡ Some slot }
     {
-        self.queues[slot.0 as usize].is_settled();
+        let _ = self.table.is_empty(slot.0 as usize);
     }
 
     /// The lists of the transactions and the queues of the slots say the same, at all times; the call does nothing.
     pub fn linked(&self)
         ensures { AreLinked self.now.queues self.now.lists }
     {
-        let _ = &self.alloc;
+        let _ = &self.table;
     }
 
     /// Whether a request of the slot stands, granted or waiting.
@@ -133,122 +122,6 @@ impl Locks {
         requires { slot < length self.now.queues }
         ensures { result ≡ not (length (queue_at self.now.queues slot) == 0) }
     {
-        !self.queues[slot.0 as usize].is_empty()
+        !self.table.is_empty(slot.0 as usize)
     }
-}
-
-// A queue for each slot.
-fn queues_of(alloc: Global, slots: u32) -> Result<Vec<Queue>, AllocError>
-    ensures { IfOk result (λ queues. requests_of queues.items ≡ replicate slots []) }
-{
-    let mut queues = Vec::with_capacity(alloc, slots as usize)?;
-    for _ in 0..slots {
-        queues.push(Queue::new(alloc))?;
-    }
-    Ok(queues)
-}
-
-// Answers a request of a transaction whose own request here is granted.
-fn again(queues: &mut Vec<Queue>, slot: usize, own: Request, exclusive: bool) -> Outcome
-    requires slot { slot < length queues.old.items }
-    requires own { request_in (queue_at (requests_of queues.old.items) slot) own.transaction ≡ Some own }
-    requires held { own.granted ≡ true }
-    ensures told { told result ≡ outcome_beside (queue_at (requests_of queues.old.items) slot) own.transaction exclusive (Some own) }
-    ensures queues { requests_of queues.new.items ≡ slice_set (requests_of queues.old.items) slot (queue_after (queue_at (requests_of queues.old.items) slot) own.transaction exclusive (told result)) }
-{
-    if own.exclusive || !exclusive {
-        return Outcome::Granted;
-    }
-    if queues[slot].is_held_beside(own.transaction) {
-        return Outcome::Died;
-    }
-    queues[slot].upgrade(own);
-    Outcome::Granted
-}
-
-// Makes room for one more request.
-fn reserve(queues: &mut Vec<Queue>, slot: usize) -> Result<(), AllocError>
-    requires { slot < length queues.old.items }
-    ensures queues { requests_of queues.new.items ≡ requests_of queues.old.items }
-    ensures room { OnOk result (0 < (slice_index_or queues.new.items slot (record { requests = []; spare = 0 })).spare) }
-{
-    queues[slot].reserve()
-}
-
-// Adds a request, answered so.
-fn add(queues: &mut Vec<Queue>, slot: usize, transaction: TxnNo, exclusive: bool, answer: Outcome)
-    requires slot { slot < length queues.old.items }
-    requires room { 0 < (slice_index_or queues.old.items slot (record { requests = []; spare = 0 })).spare }
-    requires fresh { stands_in (queue_at (requests_of queues.old.items) slot) transaction ≡ false }
-    requires told { told answer ≡ outcome_of_new (queue_at (requests_of queues.old.items) slot) transaction exclusive }
-    ensures { requests_of queues.new.items ≡ slice_set (requests_of queues.old.items) slot (queue_after (queue_at (requests_of queues.old.items) slot) transaction exclusive (told answer)) }
-{
-    match answer {
-        Outcome::Granted => queues[slot].add_granted(transaction, exclusive),
-        Outcome::Queued => queues[slot].add_waiting(transaction, exclusive),
-        Outcome::Died => {}
-    }
-}
-
-// Removes the transaction's request, and grants from the front.
-fn remove(queues: &mut Vec<Queue>, slot: usize, transaction: TxnNo)
-    requires { slot < length queues.old.items }
-    ensures { requests_of queues.new.items ≡ slice_set (requests_of queues.old.items) slot (queue_without (queue_at (requests_of queues.old.items) slot) transaction) }
-{
-    queues[slot].remove(transaction);
-}
-
-// Answers a transaction's first request of a slot.
-fn first(
-    alloc: Global,
-    queues: &mut Vec<Queue>,
-    lists: &mut BTreeMap<u64, Slots>,
-    slot: SlotId,
-    transaction: TxnNo,
-    exclusive: bool,
-) -> Result<Outcome, AllocError>
-    requires slot { slot < length queues.old.items }
-    requires fresh { stands_in (queue_at (requests_of queues.old.items) slot) transaction ≡ false }
-    ensures told { IfOk result (λ answer. told answer ≡ outcome_of_new (queue_at (requests_of queues.old.items) slot) transaction exclusive) }
-    ensures queues { IfOk result (λ answer. requests_of queues.new.items ≡ slice_set (requests_of queues.old.items) slot (queue_after (queue_at (requests_of queues.old.items) slot) transaction exclusive (told answer))) }
-    ensures list { IfOk result (λ answer. slots_of lists.new.entries transaction ≡ slots_after (slots_of lists.old.entries transaction) slot false (told answer)) }
-    ensures others { (other : ℕ) → other ≢ transaction → slots_of lists.new.entries other ≡ slots_of lists.old.entries other }
-    ensures err { OnErr result ((requests_of queues.new.items ≡ requests_of queues.old.items) × (lists.new.entries ≡ lists.old.entries)) }
-{
-    let answer = queues[slot.0 as usize].outcome_of_new(transaction, exclusive);
-    match answer {
-        Outcome::Died => Ok(answer),
-        Outcome::Granted => {
-            enter(alloc, queues, lists, slot, transaction, exclusive, answer)?;
-            Ok(answer)
-        }
-        Outcome::Queued => {
-            enter(alloc, queues, lists, slot, transaction, exclusive, answer)?;
-            Ok(answer)
-        }
-    }
-}
-
-// Adds a request and lists its slot. All memory is taken before anything changes.
-fn enter(
-    alloc: Global,
-    queues: &mut Vec<Queue>,
-    lists: &mut BTreeMap<u64, Slots>,
-    slot: SlotId,
-    transaction: TxnNo,
-    exclusive: bool,
-    answer: Outcome,
-) -> Result<(), AllocError>
-    requires slot { slot < length queues.old.items }
-    requires fresh { stands_in (queue_at (requests_of queues.old.items) slot) transaction ≡ false }
-    requires told { told answer ≡ outcome_of_new (queue_at (requests_of queues.old.items) slot) transaction exclusive }
-    ensures queues { OnOk result (requests_of queues.new.items ≡ slice_set (requests_of queues.old.items) slot (queue_after (queue_at (requests_of queues.old.items) slot) transaction exclusive (told answer))) }
-    ensures list { OnOk result (slots_of lists.new.entries transaction ≡ slots_of lists.old.entries transaction ++ slot ∷ []) }
-    ensures others { (other : ℕ) → other ≢ transaction → slots_of lists.new.entries other ≡ slots_of lists.old.entries other }
-    ensures err { OnErr result ((requests_of queues.new.items ≡ requests_of queues.old.items) × (lists.new.entries ≡ lists.old.entries)) }
-{
-    reserve(queues, slot.0 as usize)?;
-    lists::push(alloc, lists, transaction.0, slot)?;
-    add(queues, slot.0 as usize, transaction, exclusive, answer);
-    Ok(())
 }

@@ -1,19 +1,33 @@
-use Rattle.std.proofs.Common.{◌≡◌, Some, sym, ◌∙◌, ap, subst}
-use Rattle.pc_locks.specs.States.{requests_of, slots_of, first_of, rest_of, AreLinked}
-use Rattle.pc_locks.proofs.StateLaws.{first_range, linked_pop, queues_range}
+use Rattle.std.proofs.Common.{◌∙◌, sym, ap, subst, set}
+use Rattle.pc_model.specs.Locks.{queue_without}
+use Rattle.pc_locks.specs.Lines.{Lines, Listed}
+use Rattle.pc_locks.specs.States.{State, AreDifferent, queue_at}
+use Rattle.pc_locks.specs.Tables.{queues_in, Keeps}
+use Rattle.pc_locks.proofs.TableLaws.{found_slots}
+use Rattle.pc_locks.proofs.LocksLaws.{once_at, once_left, released}
 use Rattle.pc_locks.proofs.locks.Locks.release_one.Goals as goal
 
-pub remove-requires : goal.remove-requires
-remove-requires c =
-    first_range c.self.inside.queues.items c.self.inside.lists.entries c.slot.inside.0 c.transaction.inside.0 c.self.invariant (ap Some c.slot.view_is ∙ c.in_ok-slot.ensures.given)
+pub take-requires-clause-once : goal.take-requires-clause-once
+take-requires-clause-once c = λ s. once_at c.self.inside.table.nodes.slots c.self.inside.table.queues.ids c.self.inside.table.lists.entries s c.self.invariant
+
+pub take-requires-clause-different : goal.take-requires-clause-different
+take-requires-clause-different c = subst AreDifferent (found_slots c.self.inside.table.nodes.slots c.self.inside.table.lists.entries c.args.transaction) (c.self.invariant.linked.once c.args.transaction)
+
+pub grant-requires-clause-once : goal.grant-requires-clause-once
+grant-requires-clause-once c =
+    once_left c.self.inside.table.nodes.slots c.take.new.self.nodes.slots c.self.inside.table.queues.ids c.take.new.self.queues.ids c.self.inside.table.lists.entries c.in_ok-slot.slot c.args.transaction c.self.invariant
+    c.in_ok-slot.ensures.range c.in_ok-slot.ensures.queues
 
 pub invariant_of-self-2 : goal.invariant_of-self-2
 invariant_of-self-2 c =
-    let e = ap Some c.slot.view_is ∙ c.in_ok-slot.ensures.given in
-    let h = first_range c.self.inside.queues.items c.self.inside.lists.entries c.slot.inside.0 c.transaction.inside.0 c.self.invariant e in
-    let lists = c.self.inside.lists.entries in
-    subst (λ queues. AreLinked queues c.pop.new.lists.entries) (sym c.remove.ensures)
-    (linked_pop (requests_of c.self.inside.queues.items) lists c.pop.new.lists.entries c.slot.inside.0 c.args.transaction (queues_range c.self.inside.queues.items c.slot.inside.0 h)
-    (e ∙ ap (λ t. first_of (slots_of lists t)) c.transaction.view_is)
-    (subst (λ t. slots_of c.pop.new.lists.entries t ≡ rest_of (slots_of lists t)) c.transaction.view_is c.pop.ensures.rest)
-    (λ u n. c.pop.ensures.others u (λ z. n (z ∙ c.transaction.view_is))) c.self.invariant)
+    let done = released c.self.inside.table.nodes.slots c.take.new.self.nodes.slots c.grant.new.self.nodes.slots c.self.inside.table.queues.ids c.take.new.self.queues.ids c.self.inside.table.lists.entries c.take.new.self.lists.entries c.in_ok-slot.slot c.args.transaction c.self.invariant
+    c.in_ok-slot.ensures.range c.in_ok-slot.ensures.table c.in_ok-slot.ensures.given c.in_ok-slot.ensures.list c.in_ok-slot.ensures.others c.in_ok-slot.ensures.queues c.grant.ensures.granted c.grant.ensures.places c.grant.ensures.others in
+    subst (λ (v : Lines). Keeps c.grant.new.self.nodes.slots v.ids c.grant.new.self.lists.entries) (sym c.grant.ensures.queues)
+    (subst (λ (v : Listed). Keeps c.grant.new.self.nodes.slots c.take.new.self.queues.ids v.entries) (sym c.grant.ensures.lists) done.keeps)
+
+pub returns-clause-queues : goal.returns-clause-queues
+returns-clause-queues c =
+    let done = released c.self.inside.table.nodes.slots c.take.new.self.nodes.slots c.grant.new.self.nodes.slots c.self.inside.table.queues.ids c.take.new.self.queues.ids c.self.inside.table.lists.entries c.take.new.self.lists.entries c.in_ok-slot.slot c.args.transaction c.self.invariant
+    c.in_ok-slot.ensures.range c.in_ok-slot.ensures.table c.in_ok-slot.ensures.given c.in_ok-slot.ensures.list c.in_ok-slot.ensures.others c.in_ok-slot.ensures.queues c.grant.ensures.granted c.grant.ensures.places c.grant.ensures.others in
+    ap (λ (v : Lines). queues_in c.grant.new.self.nodes.slots v.ids) c.grant.ensures.queues
+    ∙ (done.queues ∙ ap (λ (s : State). set s.queues c.in_ok-slot.slot (queue_without (queue_at s.queues c.in_ok-slot.slot) c.args.transaction)) c.self.view_is)

@@ -1,87 +1,108 @@
-use Rattle.std.proofs.Common.{◌≡◌, ◌<◌, length, set, Some, None, is_some, false, sym, ◌∙◌, ap, subst}
+use Rattle.std.proofs.Common.{◌≡◌, ◌<◌, length, set, true, false, is_some, sym, ◌∙◌, ap, subst}
 use Rattle.std.proofs.lemmas.Result.{IfOk-weaker}
-use Rattle.pc_model.specs.Locks.{request_in, is_ungranted, outcome, outcome_beside, queue_after}
+use Rattle.pc_model.specs.Locks.{outcome, queue_after}
 use Rattle.pc_model.specs.Queues.{stands_in}
+use Rattle.pc_model.proofs.QueueLaws.{stands_is, new_outcome}
+use Rattle.pc_locks.specs.Lines.{Lines, Listed}
 use Rattle.pc_locks.specs.Queues.{told, is_exclusive}
-use Rattle.pc_locks.specs.States.{State, requests_of, queue_at, slots_of, slots_after, is_waiting, AreLinked}
-use Rattle.pc_locks.proofs.Rows.{seen}
-use Rattle.pc_model.proofs.QueueLaws.{stands_is}
-use Rattle.pc_locks.proofs.StateLaws.{range_of, found_is, granted_of, ready_at, again_kind, linked_again, list_again, linked_result}
+use Rattle.pc_locks.specs.States.{State, queue_at, slots_of, slots_after, is_waiting}
+use Rattle.pc_locks.specs.Tables.{queues_in, lists_in, Keeps}
+use Rattle.pc_locks.proofs.StateLaws.{ready_at, list_again}
+use Rattle.pc_locks.proofs.TableLaws.{found_queue}
+use Rattle.pc_locks.proofs.LocksLaws.{once_at, own_at, within_ids, answered_again, keeps_first}
 use Rattle.pc_locks.proofs.locks.Locks.request.Goals as goal
 
-pub again-requires-clause-own : goal.again-requires-clause-own
-again-requires-clause-own c =
-    let slot_fits = subst (λ (s : State). c.slot.inside.0 < length s.queues) (sym c.self.view_is) (subst (λ i. i < length c.args.self.now.queues) (sym c.slot.view_is) c.requires.slot) in
-    let e = sym (ap (λ q. request_in q c.args.transaction) (seen c.self.inside.queues.items c.slot.inside.0 c.index.result.now (range_of c.self.inside.queues.items c.slot.inside.0 slot_fits) c.index.ensures)) ∙ sym c.in-Some.ensures in
-    subst (λ u. request_in (queue_at (requests_of c.self.inside.queues.items) c.slot.inside.0) u ≡ Some c.in-Some.own) (sym (found_is (queue_at (requests_of c.self.inside.queues.items) c.slot.inside.0) c.args.transaction c.in-Some.own e)) e
-
-pub again-requires-clause-held : goal.again-requires-clause-held
-again-requires-clause-held c =
-    let fits = subst (λ (s : State). c.slot.inside.0 < length s.queues) (sym c.self.view_is) (subst (λ i. i < length c.args.self.now.queues) (sym c.slot.view_is) c.requires.slot) in
-    let e : request_in (queue_at (requests_of c.self.inside.queues.items) c.slot.inside.0) c.args.transaction ≡ Some c.in-Some.own = sym (ap (λ q. request_in q c.args.transaction) (seen c.self.inside.queues.items c.slot.inside.0 c.index.result.now (range_of c.self.inside.queues.items c.slot.inside.0 fits) c.index.ensures)) ∙ sym c.in-Some.ensures in
-    let ready = ready_at c.args.transaction (requests_of c.self.inside.queues.items) (ap (λ (s : State). is_waiting s c.args.transaction) c.self.view_is ∙ c.requires.ready) in
-    granted_of c.in-Some.own (sym (ap is_ungranted e) ∙ ready c.slot.inside.0)
+pub again-requires-clause-once : goal.again-requires-clause-once
+again-requires-clause-once c = once_at c.self.inside.table.nodes.slots c.self.inside.table.queues.ids c.self.inside.table.lists.entries c.slot.inside.0 c.self.invariant
 
 pub invariant_of-self : goal.invariant_of-self
 invariant_of-self c =
-    let fits = subst (λ (s : State). c.slot.inside.0 < length s.queues) (sym c.self.view_is) (subst (λ i. i < length c.args.self.now.queues) (sym c.slot.view_is) c.requires.slot) in
-    let e : request_in (queue_at (requests_of c.self.inside.queues.items) c.slot.inside.0) c.args.transaction ≡ Some c.in-Some.own = sym (ap (λ q. request_in q c.args.transaction) (seen c.self.inside.queues.items c.slot.inside.0 c.index.result.now (range_of c.self.inside.queues.items c.slot.inside.0 fits) c.index.ensures)) ∙ sym c.in-Some.ensures in
-    let same : c.in-Some.own.transaction ≡ c.args.transaction = found_is (queue_at (requests_of c.self.inside.queues.items) c.slot.inside.0) c.args.transaction c.in-Some.own e in
-    let kind = again_kind (queue_at (requests_of c.self.inside.queues.items) c.slot.inside.0) c.in-Some.own.transaction _ c.in-Some.own _ c.again.ensures.told in
-    subst (λ x. AreLinked x c.self.inside.lists.entries) (sym c.again.ensures.queues)
-    (linked_again (requests_of c.self.inside.queues.items) c.self.inside.lists.entries c.slot.inside.0 c.in-Some.own.transaction _ c.in-Some.own _ fits kind (subst (λ u. request_in (queue_at (requests_of c.self.inside.queues.items) c.slot.inside.0) u ≡ Some c.in-Some.own) (sym same) e) c.self.invariant)
-
-pub first-requires-clause-fresh : goal.first-requires-clause-fresh
-first-requires-clause-fresh c =
-    let fits = subst (λ (s : State). c.slot.inside.0 < length s.queues) (sym c.self.view_is) (subst (λ i. i < length c.args.self.now.queues) (sym c.slot.view_is) c.requires.slot) in
-    let none : request_in (queue_at (requests_of c.self.inside.queues.items) c.slot.inside.0) c.args.transaction ≡ None = sym (ap (λ q. request_in q c.args.transaction) (seen c.self.inside.queues.items c.slot.inside.0 c.index.result.now (range_of c.self.inside.queues.items c.slot.inside.0 fits) c.index.ensures)) ∙ sym c.in-None.ensures in
-    let fresh : stands_in (queue_at (requests_of c.self.inside.queues.items) c.args.slot) c.args.transaction ≡ false = subst (λ j. stands_in (queue_at (requests_of c.self.inside.queues.items) j) c.args.transaction ≡ false) c.slot.view_is (sym (stands_is (queue_at (requests_of c.self.inside.queues.items) c.slot.inside.0) c.args.transaction) ∙ ap is_some none) in
-    fresh
+    let nodes = c.self.inside.table.nodes.slots in
+    let ids = c.self.inside.table.queues.ids in
+    let entries = c.self.inside.table.lists.entries in
+    let queues = queues_in nodes ids in
+    let n : c.slot.inside.0 < length queues = subst (λ (s : State). c.slot.inside.0 < length s.queues) (sym c.self.view_is) (subst (λ i. i < length c.args.self.now.queues) (sym c.slot.view_is) c.requires.slot) in
+    let h = within_ids nodes ids c.slot.inside.0 n in
+    let ready = ready_at c.args.transaction queues (ap (λ (s : State). is_waiting s c.args.transaction) c.self.view_is ∙ c.requires.ready) in
+    let done = answered_again nodes c.again.new.self.nodes.slots ids entries c.slot.inside.0 c.args.transaction c.in-Some.found.previous c.in-Some.found.id c.is_exclusive-exclusive.result (told c.again.result) c.self.invariant h
+    (ready c.slot.inside.0) c.in-Some.ensures.some c.again.ensures.told c.again.ensures.queue c.again.ensures.places c.again.ensures.others in
+    subst (λ (v : Lines). Keeps c.again.new.self.nodes.slots v.ids c.again.new.self.lists.entries) (sym c.again.ensures.queues)
+    (subst (λ (v : Listed). Keeps c.again.new.self.nodes.slots ids v.entries) (sym c.again.ensures.lists) done.keeps)
 
 pub invariant_of-self-in-None : goal.invariant_of-self-in-None
 invariant_of-self-in-None c =
-    let fits = subst (λ (s : State). c.slot.inside.0 < length s.queues) (sym c.self.view_is) (subst (λ i. i < length c.args.self.now.queues) (sym c.slot.view_is) c.requires.slot) in
-    let none : request_in (queue_at (requests_of c.self.inside.queues.items) c.slot.inside.0) c.args.transaction ≡ None = sym (ap (λ q. request_in q c.args.transaction) (seen c.self.inside.queues.items c.slot.inside.0 c.index.result.now (range_of c.self.inside.queues.items c.slot.inside.0 fits) c.index.ensures)) ∙ sym c.in-None.ensures in
-    let fresh : stands_in (queue_at (requests_of c.self.inside.queues.items) c.args.slot) c.args.transaction ≡ false = subst (λ j. stands_in (queue_at (requests_of c.self.inside.queues.items) j) c.args.transaction ≡ false) c.slot.view_is (sym (stands_is (queue_at (requests_of c.self.inside.queues.items) c.slot.inside.0) c.args.transaction) ∙ ap is_some none) in
-    let ready = ready_at c.args.transaction (requests_of c.self.inside.queues.items) (ap (λ (s : State). is_waiting s c.args.transaction) c.self.view_is ∙ c.requires.ready) in
-    linked_result c.first.result told (requests_of c.self.inside.queues.items) (requests_of c.first.new.queues.items) c.self.inside.lists.entries c.first.new.lists.entries c.args.slot c.args.transaction _
-    (subst (λ (s : State). c.args.slot < length s.queues) (sym c.self.view_is) c.requires.slot) fresh ready
-    c.first.ensures.queues c.first.ensures.list c.first.ensures.others c.first.ensures.err c.self.invariant
+    let nodes = c.self.inside.table.nodes.slots in
+    let ids = c.self.inside.table.queues.ids in
+    let entries = c.self.inside.table.lists.entries in
+    let queues = queues_in nodes ids in
+    let n : c.slot.inside.0 < length queues = subst (λ (s : State). c.slot.inside.0 < length s.queues) (sym c.self.view_is) (subst (λ i. i < length c.args.self.now.queues) (sym c.slot.view_is) c.requires.slot) in
+    let h = within_ids nodes ids c.slot.inside.0 n in
+    let ready = ready_at c.args.transaction queues (ap (λ (s : State). is_waiting s c.args.transaction) c.self.view_is ∙ c.requires.ready) in
+    let fresh : stands_in (queue_at queues c.slot.inside.0) c.args.transaction ≡ false = ap (λ q. stands_in q c.args.transaction) (found_queue nodes ids c.slot.inside.0) ∙ c.in-None.ensures.none in
+    keeps_first c.first.result told nodes c.first.new.self.nodes.slots ids c.first.new.self.queues.ids entries c.first.new.self.lists.entries c.slot.inside.0 c.args.transaction c.is_exclusive-exclusive.result c.self.invariant h fresh ready
+    c.first.ensures.table c.first.ensures.told c.first.ensures.queues c.first.ensures.list c.first.ensures.others c.first.ensures.err
 
 pub returns-in-Some-clause-told : goal.returns-in-Some-clause-told
 returns-in-Some-clause-told c =
-    let fits = subst (λ (s : State). c.slot.inside.0 < length s.queues) (sym c.self.view_is) (subst (λ i. i < length c.args.self.now.queues) (sym c.slot.view_is) c.requires.slot) in
-    let e : request_in (queue_at (requests_of c.self.inside.queues.items) c.slot.inside.0) c.args.transaction ≡ Some c.in-Some.own = sym (ap (λ q. request_in q c.args.transaction) (seen c.self.inside.queues.items c.slot.inside.0 c.index.result.now (range_of c.self.inside.queues.items c.slot.inside.0 fits) c.index.ensures)) ∙ sym c.in-Some.ensures in
-    let same : c.in-Some.own.transaction ≡ c.args.transaction = found_is (queue_at (requests_of c.self.inside.queues.items) c.slot.inside.0) c.args.transaction c.in-Some.own e in
-    subst (λ (s : State). told c.again.result ≡ outcome (queue_at s.queues c.args.slot) c.args.transaction (is_exclusive c.args.mode)) c.self.view_is
-    (subst (λ j. told c.again.result ≡ outcome (queue_at (requests_of c.self.inside.queues.items) j) c.args.transaction (is_exclusive c.args.mode)) c.slot.view_is
-    (subst (λ o. told c.again.result ≡ outcome_beside (queue_at (requests_of c.self.inside.queues.items) c.slot.inside.0) c.args.transaction (is_exclusive c.args.mode) o) (sym e)
-    (subst (λ x. told c.again.result ≡ outcome_beside (queue_at (requests_of c.self.inside.queues.items) c.slot.inside.0) c.args.transaction x (Some c.in-Some.own)) c.is_exclusive-exclusive.ensures
-    (subst (λ u. told c.again.result ≡ outcome_beside (queue_at (requests_of c.self.inside.queues.items) c.slot.inside.0) u c.is_exclusive-exclusive.result (Some c.in-Some.own)) same c.again.ensures.told))))
+    let nodes = c.self.inside.table.nodes.slots in
+    let ids = c.self.inside.table.queues.ids in
+    let entries = c.self.inside.table.lists.entries in
+    let queues = queues_in nodes ids in
+    let n : c.slot.inside.0 < length queues = subst (λ (s : State). c.slot.inside.0 < length s.queues) (sym c.self.view_is) (subst (λ i. i < length c.args.self.now.queues) (sym c.slot.view_is) c.requires.slot) in
+    let h = within_ids nodes ids c.slot.inside.0 n in
+    let ready = ready_at c.args.transaction queues (ap (λ (s : State). is_waiting s c.args.transaction) c.self.view_is ∙ c.requires.ready) in
+    let done = answered_again nodes c.again.new.self.nodes.slots ids entries c.slot.inside.0 c.args.transaction c.in-Some.found.previous c.in-Some.found.id c.is_exclusive-exclusive.result (told c.again.result) c.self.invariant h
+    (ready c.slot.inside.0) c.in-Some.ensures.some c.again.ensures.told c.again.ensures.queue c.again.ensures.places c.again.ensures.others in
+    done.told ∙ (ap (outcome (queue_at queues c.slot.inside.0) c.args.transaction) c.is_exclusive-exclusive.ensures
+    ∙ (ap (λ j. outcome (queue_at queues j) c.args.transaction (is_exclusive c.args.mode)) c.slot.view_is
+    ∙ ap (λ (s : State). outcome (queue_at s.queues c.args.slot) c.args.transaction (is_exclusive c.args.mode)) c.self.view_is))
 
 pub returns-in-Some-clause-queues : goal.returns-in-Some-clause-queues
 returns-in-Some-clause-queues c =
-    let fits = subst (λ (s : State). c.slot.inside.0 < length s.queues) (sym c.self.view_is) (subst (λ i. i < length c.args.self.now.queues) (sym c.slot.view_is) c.requires.slot) in
-    let e : request_in (queue_at (requests_of c.self.inside.queues.items) c.slot.inside.0) c.args.transaction ≡ Some c.in-Some.own = sym (ap (λ q. request_in q c.args.transaction) (seen c.self.inside.queues.items c.slot.inside.0 c.index.result.now (range_of c.self.inside.queues.items c.slot.inside.0 fits) c.index.ensures)) ∙ sym c.in-Some.ensures in
-    let same : c.in-Some.own.transaction ≡ c.args.transaction = found_is (queue_at (requests_of c.self.inside.queues.items) c.slot.inside.0) c.args.transaction c.in-Some.own e in
-    subst (λ (s : State). requests_of c.again.new.queues.items ≡ set s.queues c.args.slot (queue_after (queue_at s.queues c.args.slot) c.args.transaction (is_exclusive c.args.mode) (told c.again.result))) c.self.view_is
-    (subst (λ j. requests_of c.again.new.queues.items ≡ set (requests_of c.self.inside.queues.items) j (queue_after (queue_at (requests_of c.self.inside.queues.items) j) c.args.transaction (is_exclusive c.args.mode) (told c.again.result))) c.slot.view_is
-    (subst (λ x. requests_of c.again.new.queues.items ≡ set (requests_of c.self.inside.queues.items) c.slot.inside.0 (queue_after (queue_at (requests_of c.self.inside.queues.items) c.slot.inside.0) c.args.transaction x (told c.again.result))) c.is_exclusive-exclusive.ensures
-    (subst (λ u. requests_of c.again.new.queues.items ≡ set (requests_of c.self.inside.queues.items) c.slot.inside.0 (queue_after (queue_at (requests_of c.self.inside.queues.items) c.slot.inside.0) u c.is_exclusive-exclusive.result (told c.again.result))) same c.again.ensures.queues)))
+    let nodes = c.self.inside.table.nodes.slots in
+    let ids = c.self.inside.table.queues.ids in
+    let entries = c.self.inside.table.lists.entries in
+    let queues = queues_in nodes ids in
+    let n : c.slot.inside.0 < length queues = subst (λ (s : State). c.slot.inside.0 < length s.queues) (sym c.self.view_is) (subst (λ i. i < length c.args.self.now.queues) (sym c.slot.view_is) c.requires.slot) in
+    let h = within_ids nodes ids c.slot.inside.0 n in
+    let ready = ready_at c.args.transaction queues (ap (λ (s : State). is_waiting s c.args.transaction) c.self.view_is ∙ c.requires.ready) in
+    let done = answered_again nodes c.again.new.self.nodes.slots ids entries c.slot.inside.0 c.args.transaction c.in-Some.found.previous c.in-Some.found.id c.is_exclusive-exclusive.result (told c.again.result) c.self.invariant h
+    (ready c.slot.inside.0) c.in-Some.ensures.some c.again.ensures.told c.again.ensures.queue c.again.ensures.places c.again.ensures.others in
+    ap (λ (v : Lines). queues_in c.again.new.self.nodes.slots v.ids) c.again.ensures.queues
+    ∙ (done.queues ∙ (ap (λ x. set queues c.slot.inside.0 (queue_after (queue_at queues c.slot.inside.0) c.args.transaction x (told c.again.result))) c.is_exclusive-exclusive.ensures
+    ∙ (ap (λ j. set queues j (queue_after (queue_at queues j) c.args.transaction (is_exclusive c.args.mode) (told c.again.result))) c.slot.view_is
+    ∙ ap (λ (s : State). set s.queues c.args.slot (queue_after (queue_at s.queues c.args.slot) c.args.transaction (is_exclusive c.args.mode) (told c.again.result))) c.self.view_is)))
 
 pub returns-in-Some-clause-list : goal.returns-in-Some-clause-list
 returns-in-Some-clause-list c =
-    let fits = subst (λ (s : State). c.slot.inside.0 < length s.queues) (sym c.self.view_is) (subst (λ i. i < length c.args.self.now.queues) (sym c.slot.view_is) c.requires.slot) in
-    let e : request_in (queue_at (requests_of c.self.inside.queues.items) c.slot.inside.0) c.args.transaction ≡ Some c.in-Some.own = sym (ap (λ q. request_in q c.args.transaction) (seen c.self.inside.queues.items c.slot.inside.0 c.index.result.now (range_of c.self.inside.queues.items c.slot.inside.0 fits) c.index.ensures)) ∙ sym c.in-Some.ensures in
-    let kind = again_kind (queue_at (requests_of c.self.inside.queues.items) c.slot.inside.0) c.in-Some.own.transaction _ c.in-Some.own _ c.again.ensures.told in
-    subst (λ (s : State). slots_of c.self.inside.lists.entries c.args.transaction ≡ slots_after (slots_of s.lists c.args.transaction) c.args.slot (stands_in (queue_at s.queues c.args.slot) c.args.transaction) (told c.again.result)) c.self.view_is
-    (subst (λ j. slots_of c.self.inside.lists.entries c.args.transaction ≡ slots_after (slots_of c.self.inside.lists.entries c.args.transaction) j (stands_in (queue_at (requests_of c.self.inside.queues.items) j) c.args.transaction) (told c.again.result)) c.slot.view_is
-    (list_again (slots_of c.self.inside.lists.entries c.args.transaction) c.slot.inside.0 (stands_in (queue_at (requests_of c.self.inside.queues.items) c.slot.inside.0) c.args.transaction) (told c.again.result) kind (sym (stands_is (queue_at (requests_of c.self.inside.queues.items) c.slot.inside.0) c.args.transaction) ∙ ap is_some e)))
+    let nodes = c.self.inside.table.nodes.slots in
+    let ids = c.self.inside.table.queues.ids in
+    let entries = c.self.inside.table.lists.entries in
+    let queues = queues_in nodes ids in
+    let n : c.slot.inside.0 < length queues = subst (λ (s : State). c.slot.inside.0 < length s.queues) (sym c.self.view_is) (subst (λ i. i < length c.args.self.now.queues) (sym c.slot.view_is) c.requires.slot) in
+    let h = within_ids nodes ids c.slot.inside.0 n in
+    let ready = ready_at c.args.transaction queues (ap (λ (s : State). is_waiting s c.args.transaction) c.self.view_is ∙ c.requires.ready) in
+    let done = answered_again nodes c.again.new.self.nodes.slots ids entries c.slot.inside.0 c.args.transaction c.in-Some.found.previous c.in-Some.found.id c.is_exclusive-exclusive.result (told c.again.result) c.self.invariant h
+    (ready c.slot.inside.0) c.in-Some.ensures.some c.again.ensures.told c.again.ensures.queue c.again.ensures.places c.again.ensures.others in
+    let q = queue_at queues c.slot.inside.0 in
+    let stood : stands_in q c.args.transaction ≡ true = sym (stands_is q c.args.transaction) ∙ ap is_some (own_at nodes ids c.slot.inside.0 c.args.transaction c.in-Some.found.previous c.in-Some.found.id c.in-Some.ensures.some) in
+    ap (λ (v : Listed). slots_of (lists_in c.again.new.self.nodes.slots v.entries) c.args.transaction) c.again.ensures.lists
+    ∙ (ap (λ x. slots_of x c.args.transaction) done.lists
+    ∙ (list_again (slots_of (lists_in nodes entries) c.args.transaction) c.slot.inside.0 (stands_in q c.args.transaction) (told c.again.result) done.kind stood
+    ∙ (ap (λ j. slots_after (slots_of (lists_in nodes entries) c.args.transaction) j (stands_in (queue_at queues j) c.args.transaction) (told c.again.result)) c.slot.view_is
+    ∙ ap (λ (s : State). slots_after (slots_of s.lists c.args.transaction) c.args.slot (stands_in (queue_at s.queues c.args.slot) c.args.transaction) (told c.again.result)) c.self.view_is)))
 
-pub returns-in-None-clause-list : goal.returns-in-None-clause-list
-returns-in-None-clause-list c =
-    let fits = subst (λ (s : State). c.slot.inside.0 < length s.queues) (sym c.self.view_is) (subst (λ i. i < length c.args.self.now.queues) (sym c.slot.view_is) c.requires.slot) in
-    let none : request_in (queue_at (requests_of c.self.inside.queues.items) c.slot.inside.0) c.args.transaction ≡ None = sym (ap (λ q. request_in q c.args.transaction) (seen c.self.inside.queues.items c.slot.inside.0 c.index.result.now (range_of c.self.inside.queues.items c.slot.inside.0 fits) c.index.ensures)) ∙ sym c.in-None.ensures in
-    let fresh : stands_in (queue_at (requests_of c.self.inside.queues.items) c.args.slot) c.args.transaction ≡ false = subst (λ j. stands_in (queue_at (requests_of c.self.inside.queues.items) j) c.args.transaction ≡ false) c.slot.view_is (sym (stands_is (queue_at (requests_of c.self.inside.queues.items) c.slot.inside.0) c.args.transaction) ∙ ap is_some none) in
-    IfOk-weaker c.first.result _ _ (λ a h. subst (λ (s : State). slots_of c.first.new.lists.entries c.args.transaction ≡ slots_after (slots_of s.lists c.args.transaction) c.args.slot (stands_in (queue_at s.queues c.args.slot) c.args.transaction) (told a)) c.self.view_is
-    (h ∙ ap (λ b. slots_after (slots_of c.self.inside.lists.entries c.args.transaction) c.args.slot b (told a)) (sym fresh))) c.first.ensures.list
+pub returns-in-None-clause-told : goal.returns-in-None-clause-told
+returns-in-None-clause-told c =
+    let nodes = c.self.inside.table.nodes.slots in
+    let ids = c.self.inside.table.queues.ids in
+    let entries = c.self.inside.table.lists.entries in
+    let queues = queues_in nodes ids in
+    let n : c.slot.inside.0 < length queues = subst (λ (s : State). c.slot.inside.0 < length s.queues) (sym c.self.view_is) (subst (λ i. i < length c.args.self.now.queues) (sym c.slot.view_is) c.requires.slot) in
+    let h = within_ids nodes ids c.slot.inside.0 n in
+    let ready = ready_at c.args.transaction queues (ap (λ (s : State). is_waiting s c.args.transaction) c.self.view_is ∙ c.requires.ready) in
+    let fresh : stands_in (queue_at queues c.slot.inside.0) c.args.transaction ≡ false = ap (λ q. stands_in q c.args.transaction) (found_queue nodes ids c.slot.inside.0) ∙ c.in-None.ensures.none in
+    IfOk-weaker c.first.result _ _ (λ a e. e ∙ (sym (new_outcome (queue_at queues c.slot.inside.0) c.args.transaction c.is_exclusive-exclusive.result fresh)
+    ∙ (ap (outcome (queue_at queues c.slot.inside.0) c.args.transaction) c.is_exclusive-exclusive.ensures
+    ∙ (ap (λ j. outcome (queue_at queues j) c.args.transaction (is_exclusive c.args.mode)) c.slot.view_is
+    ∙ ap (λ (s : State). outcome (queue_at s.queues c.args.slot) c.args.transaction (is_exclusive c.args.mode)) c.self.view_is)))) c.first.ensures.told

@@ -1,0 +1,224 @@
+-- Chains over a row of links, as lists of ids.
+use Rattle.std.proofs.Common.{◌≡◌, ◌≢◌, ℕ, zero, suc, ◌==◌, ◌<◌, ◌≤◌, ◌^◌, ◌⊎◌, inl, inr, List, [], ◌∷◌, ◌++◌, length, Option, Some, None, Bool, true, false, ◌||◌, refl, sym, ◌∙◌, ap, subst, arith}
+use Rattle.std.specs.List.{list_any, IsDistinct, AllByRecursion}
+use Rattle.std.proofs.lemmas.Bool.Decides.{nat_tests}
+use Rattle.std.proofs.lemmas.List.Folds.{list_any-append}
+use Rattle.std.proofs.lemmas.Map.Steps.{length-le_from_distinct_below}
+use Rattle.pc_chain.specs.declared.chain.Chain.{Chain}
+use Rattle.pc_chain.specs.Chains as chains
+use Rattle.pc_chain.specs.Chains.{IsChain, Leads, AllHave, Avoids, AreApart}
+use Rattle.pc_locks.specs.Lines.{most, next_in, follow, ids_of, IsLine, AreLines}
+use Rattle.pc_locks.specs.States.{is_listed, first_of, rest_of, last_of}
+
+pub is_same : (a b : ℕ) → (a == b) ≡ true → a ≡ b
+is_same a b e = grind (arith, nat_tests)
+
+pub same_is : (a b : ℕ) → a ≡ b → (a == b) ≡ true
+same_is a b e = grind (arith, nat_tests)
+
+pub other_is : (a b : ℕ) → a ≢ b → (a == b) ≡ false
+other_is a b n = grind (arith, nat_tests)
+
+pub decide : (a b : ℕ) → (a ≡ b) ⊎ (a ≢ b)
+decide a b = by (a == b) refl
+  where
+    by : (t : Bool) → (a == b) ≡ t → (a ≡ b) ⊎ (a ≢ b)
+    by true e = inl (is_same a b e)
+    by false e = inr (λ f. let g = same_is a b f in cc)
+
+pub either_true : (a b : Bool) → (a || b) ≡ true → (a ≡ true) ⊎ (b ≡ true)
+either_true true b e = inl refl
+either_true false b e = inr e
+
+pub neither : (a b : Bool) → (a || b) ≡ false → (a ≡ false) × (b ≡ false)
+neither true b e = absurd cc
+neither false b e = (refl, e)
+
+pub right_true : (a b : Bool) → b ≡ true → (a || b) ≡ true
+right_true true b e = refl
+right_true false b e = e
+
+pub row_fits : (n : ℕ) → n < 2 ^ 64 → n ≤ most
+unfolding most
+row_fits n h = omega (arith, h)
+
+-- the chain isn't longer than the row
+distinct : (next : ℕ → Option ℕ) (xs : List ℕ) → Leads next xs → IsDistinct ◌==◌ xs
+unfolding IsDistinct
+distinct next [] l = tt
+distinct next (x ∷ xs) l = (avoided x xs l.1, distinct next xs l.2)
+  where
+    avoided : (x : ℕ) (xs : List ℕ) → Avoids x xs → AllByRecursion (λ y. (x == y) ≡ false) xs
+    avoided x [] a = tt
+    avoided x (y ∷ ys) a = (other_is x y (λ e. a.0 (sym e)), avoided x ys a.1)
+
+below : (n : ℕ) (xs : List ℕ) → AllHave (λ id. id < n) xs → (q : ℕ) → list_any (λ x. q == x) xs ≡ true → q < n
+below n [] h q e = absurd cc
+below n (x ∷ xs) h q e = elim (either_true (q == x) (list_any (λ y. q == y) xs) e) [
+  | inl f ↦ let g = is_same q x f in omega (arith, g, h.0)
+  | inr f ↦ below n xs h.1 q f
+]
+
+pub fits : (links : List (Option ℕ)) (chain : Chain ℕ) (xs : List ℕ) → IsLine links chain xs → length xs ≤ length links
+fits links chain xs c = length-le_from_distinct_below xs (length links) (distinct (next_in links) xs c.leads) (below (length links) xs c.held)
+
+follow_is : (links : List (Option ℕ)) (n : ℕ) (xs : List ℕ) → Leads (next_in links) xs → length xs ≤ n → follow links n (chains.first_of xs) ≡ xs
+follow_is links n [] l h = refl
+follow_is links zero (x ∷ xs) l h = absurd (omega (arith, h))
+follow_is links (suc n) (x ∷ xs) l h = ap (λ ys. x ∷ ys) (ap (follow links n) l.0 ∙ follow_is links n xs l.2 (omega (arith, h)))
+
+-- over its links a chain is one list
+pub line_is : (links : List (Option ℕ)) (chain : Chain ℕ) (xs : List ℕ) → length links ≤ most → IsLine links chain xs → ids_of links chain ≡ xs
+line_is links chain xs h c =
+    let f = fits links chain xs c in
+    let n : length xs ≤ most = omega (arith, h, f) in
+    ap (follow links most) c.first ∙ follow_is links most xs c.leads n
+
+-- what is in none of the list
+pub avoids_unlisted : (id : ℕ) (xs : List ℕ) → is_listed xs id ≡ false → Avoids id xs
+avoids_unlisted id [] e = tt
+avoids_unlisted id (x ∷ xs) e =
+    let h = neither (x == id) (is_listed xs id) e in
+    ((λ f. let g = same_is x id f in let z = h.0 in cc), avoids_unlisted id xs h.1)
+
+pub unlisted_avoids : (id : ℕ) (xs : List ℕ) → Avoids id xs → is_listed xs id ≡ false
+unlisted_avoids id [] a = refl
+unlisted_avoids id (x ∷ xs) a = rw (other_is x id a.0) (unlisted_avoids id xs a.1)
+
+pub apart_lists : (xs ys : List ℕ) → ((id : ℕ) → is_listed ys id ≡ true → is_listed xs id ≡ false) → AreApart xs ys
+apart_lists xs [] f = tt
+apart_lists xs (y ∷ ys) f =
+    (avoids_unlisted y xs (f y (ap (λ b. b || is_listed ys y) (same_is y y refl))), apart_lists xs ys (λ id e. f id (right_true (y == id) (is_listed ys id) e)))
+
+pub not_both : (b : Bool) → (b ≡ true → ⊥) → b ≡ false
+not_both true f = absurd (f refl)
+not_both false f = refl
+
+-- an id of one chain is in no other
+pub others_lack : (links : List (Option ℕ)) (lines : ℕ → Chain ℕ) (j k id : ℕ) → AreLines links lines → j ≢ k → is_listed (ids_of links (lines j)) id ≡ true → is_listed (ids_of links (lines k)) id ≡ false
+others_lack links lines j k id a n e = not_both (is_listed (ids_of links (lines k)) id) (λ f. n (a.apart j k id e f))
+
+-- one of the chains became this list, and the others stayed
+pub record Become (links new_links : List (Option ℕ)) (lines new_lines : ℕ → Chain ℕ) (k : ℕ) (new : List ℕ) : Type 0 where
+  pub kept : AreLines new_links new_lines
+  pub this : ids_of new_links (new_lines k) ≡ new
+  pub others : (j : ℕ) → j ≢ k → ids_of new_links (new_lines j) ≡ ids_of links (lines j)
+
+pub become : (links new_links : List (Option ℕ)) (lines new_lines : ℕ → Chain ℕ) (k : ℕ) (new : List ℕ) → length new_links ≤ most → AreLines links lines → IsLine new_links (new_lines k) new →
+    ((j : ℕ) → j ≢ k → IsLine new_links (new_lines j) (ids_of links (lines j))) →
+    ((id j : ℕ) → j ≢ k → is_listed new id ≡ true → is_listed (ids_of links (lines j)) id ≡ false) → Become links new_links lines new_lines k new
+become links new_links lines new_lines k new h a l o s =
+    let this = line_is new_links (new_lines k) new h l in
+    let others : (j : ℕ) → j ≢ k → ids_of new_links (new_lines j) ≡ ids_of links (lines j) = λ j n. line_is new_links (new_lines j) (ids_of links (lines j)) h (o j n) in
+    record {
+      kept = record {
+        line = λ j. elim (decide j k) [
+          | inl e ↦ subst (λ x. IsLine new_links (new_lines x) (ids_of new_links (new_lines x))) (sym e) (subst (IsLine new_links (new_lines k)) (sym this) l)
+          | inr n ↦ subst (IsLine new_links (new_lines j)) (sym (others j n)) (o j n)
+        ];
+        apart = λ i j id e f. elim (decide i k) [
+          | inl p ↦ elim (decide j k) [
+            | inl q ↦ p ∙ sym q
+            | inr n ↦ absurd (
+                let g : is_listed new id ≡ true = sym (ap (λ xs. is_listed xs id) (ap (λ x. ids_of new_links (new_lines x)) p ∙ this)) ∙ e in
+                let z : false ≡ true = sym (s id j n g) ∙ (sym (ap (λ xs. is_listed xs id) (others j n)) ∙ f) in cc)
+          ]
+          | inr m ↦ elim (decide j k) [
+            | inl q ↦ absurd (
+                let g : is_listed new id ≡ true = sym (ap (λ xs. is_listed xs id) (ap (λ x. ids_of new_links (new_lines x)) q ∙ this)) ∙ f in
+                let z : false ≡ true = sym (s id i m g) ∙ (sym (ap (λ xs. is_listed xs id) (others i m)) ∙ e) in cc)
+            | inr n ↦ a.apart i j id (sym (ap (λ xs. is_listed xs id) (others i m)) ∙ e) (sym (ap (λ xs. is_listed xs id) (others j n)) ∙ f)
+          ]
+        ];
+      };
+      this = this;
+      others = others;
+    }
+
+pub listed_end : (xs : List ℕ) (id x : ℕ) → is_listed (xs ++ id ∷ []) x ≡ (is_listed xs x || ((id == x) || false))
+listed_end xs id x = list_any-append (λ y. y == x) xs (id ∷ [])
+
+no_end : (b : Bool) → (b || false) ≡ true → b ≡ true
+no_end true e = refl
+no_end false e = absurd cc
+
+-- an id at the end of one
+pub become_pushed : (links new_links : List (Option ℕ)) (lines new_lines : ℕ → Chain ℕ) (k id : ℕ) → length new_links ≤ most → AreLines links lines → ((j : ℕ) → is_listed (ids_of links (lines j)) id ≡ false) →
+    IsLine new_links (new_lines k) (ids_of links (lines k) ++ id ∷ []) →
+    ((ys : List ℕ) (other : Chain ℕ) → IsLine links other ys → AreApart (ids_of links (lines k)) ys → Avoids id ys → IsLine new_links other ys) →
+    ((j : ℕ) → j ≢ k → new_lines j ≡ lines j) → Become links new_links lines new_lines k (ids_of links (lines k) ++ id ∷ [])
+become_pushed links new_links lines new_lines k id h a f l o same =
+    become links new_links lines new_lines k (ids_of links (lines k) ++ id ∷ []) h a l
+    (λ j n. subst (λ c. IsLine new_links c (ids_of links (lines j))) (sym (same j n))
+    (o (ids_of links (lines j)) (lines j) (a.line j) (apart_lists (ids_of links (lines k)) (ids_of links (lines j)) (λ x e. others_lack links lines j k x a n e)) (avoids_unlisted id (ids_of links (lines j)) (f j))))
+    (λ x j n e. elim (either_true (is_listed (ids_of links (lines k)) x) ((id == x) || false) (sym (listed_end (ids_of links (lines k)) id x) ∙ e)) [
+      | inl g ↦ others_lack links lines k j x a (λ h. n (sym h)) g
+      | inr g ↦ let h : id ≡ x = is_same id x (no_end (id == x) g) in subst (λ y. is_listed (ids_of links (lines j)) y ≡ false) h (f j)
+    ])
+
+-- fewer ids in one
+pub become_fewer : (links new_links : List (Option ℕ)) (lines new_lines : ℕ → Chain ℕ) (k : ℕ) (new : List ℕ) → length new_links ≤ most → AreLines links lines →
+    ((id : ℕ) → is_listed new id ≡ true → is_listed (ids_of links (lines k)) id ≡ true) → IsLine new_links (new_lines k) new →
+    ((ys : List ℕ) (other : Chain ℕ) → IsLine links other ys → AreApart (ids_of links (lines k)) ys → IsLine new_links other ys) →
+    ((j : ℕ) → j ≢ k → new_lines j ≡ lines j) → Become links new_links lines new_lines k new
+become_fewer links new_links lines new_lines k new h a f l o same =
+    become links new_links lines new_lines k new h a l
+    (λ j n. subst (λ c. IsLine new_links c (ids_of links (lines j))) (sym (same j n))
+    (o (ids_of links (lines j)) (lines j) (a.line j) (apart_lists (ids_of links (lines k)) (ids_of links (lines j)) (λ x e. others_lack links lines j k x a n e))))
+    (λ x j n e. others_lack links lines k j x a (λ h. n (sym h)) (f x e))
+
+pub rest_listed : (xs : List ℕ) (id : ℕ) → is_listed (rest_of xs) id ≡ true → is_listed xs id ≡ true
+rest_listed [] id e = e
+rest_listed (x ∷ xs) id e = right_true (x == id) (is_listed xs id) e
+
+-- the words of the two crates are the same
+pub same_first : (xs : List ℕ) → chains.first_of xs ≡ first_of xs
+same_first [] = refl
+same_first (x ∷ xs) = refl
+
+pub same_rest : (xs : List ℕ) → chains.rest_of xs ≡ rest_of xs
+same_rest [] = refl
+same_rest (x ∷ xs) = refl
+
+pub same_last : (xs : List ℕ) → chains.last_of xs ≡ last_of xs
+same_last [] = refl
+same_last (x ∷ []) = refl
+same_last (x ∷ y ∷ ys) = same_last (y ∷ ys)
+
+-- links that lead where they led, in a longer row
+leads_same : (links new_links : List (Option ℕ)) → ((id : ℕ) → next_in new_links id ≡ next_in links id) → (xs : List ℕ) → Leads (next_in links) xs → Leads (next_in new_links) xs
+leads_same links new_links f [] l = tt
+leads_same links new_links f (x ∷ xs) l = (f x ∙ l.0, l.1, leads_same links new_links f xs l.2)
+
+have_more : (m n : ℕ) → m ≤ n → (xs : List ℕ) → AllHave (λ id. id < m) xs → AllHave (λ id. id < n) xs
+have_more m n h [] a = tt
+have_more m n h (x ∷ xs) a = (omega (arith, h, a.0), have_more m n h xs a.1)
+
+pub line_same : (links new_links : List (Option ℕ)) (chain : Chain ℕ) (xs : List ℕ) → ((id : ℕ) → next_in new_links id ≡ next_in links id) → length links ≤ length new_links → IsLine links chain xs → IsLine new_links chain xs
+line_same links new_links chain xs f h c = record {
+  first = c.first;
+  last = c.last;
+  leads = leads_same links new_links f xs c.leads;
+  held = have_more (length links) (length new_links) h xs c.held;
+}
+
+follow_same : (links new_links : List (Option ℕ)) → ((id : ℕ) → next_in new_links id ≡ next_in links id) → (n : ℕ) (at : Option ℕ) → follow new_links n at ≡ follow links n at
+follow_same links new_links f n None = refl
+follow_same links new_links f zero (Some id) = refl
+follow_same links new_links f (suc n) (Some id) = ap (λ ys. id ∷ ys) (ap (follow new_links n) (f id) ∙ follow_same links new_links f n (next_in links id))
+
+pub ids_same : (links new_links : List (Option ℕ)) (chain : Chain ℕ) → ((id : ℕ) → next_in new_links id ≡ next_in links id) → ids_of new_links chain ≡ ids_of links chain
+ids_same links new_links chain f = follow_same links new_links f most chain.first
+
+pub lines_same : (links new_links : List (Option ℕ)) (lines : ℕ → Chain ℕ) → ((id : ℕ) → next_in new_links id ≡ next_in links id) → length links ≤ length new_links → AreLines links lines → AreLines new_links lines
+lines_same links new_links lines f h a = record {
+  line = λ k. subst (IsLine new_links (lines k)) (sym (ids_same links new_links (lines k) f)) (line_same links new_links (lines k) (ids_of links (lines k)) f h (a.line k));
+  apart = λ j k id e g. a.apart j k id (sym (ap (λ xs. is_listed xs id) (ids_same links new_links (lines j) f)) ∙ e) (sym (ap (λ xs. is_listed xs id) (ids_same links new_links (lines k) f)) ∙ g);
+}
+
+-- where no id is in any
+pub lines_none : (links : List (Option ℕ)) (lines : ℕ → Chain ℕ) → ((k : ℕ) → (lines k).first ≡ None) → ((k : ℕ) → (lines k).last ≡ None) → AreLines links lines
+lines_none links lines f l = record {
+  line = λ k. subst (IsLine links (lines k)) (sym (ap (follow links most) (f k))) (record { first = f k; last = l k; leads = tt; held = tt });
+  apart = λ j k id e g. absurd (let h : false ≡ true = sym (ap (λ o. is_listed (follow links most o) id) (f j)) ∙ e in cc);
+}

@@ -1,0 +1,75 @@
+-- Lists of ids that are linked in a row.
+use Rattle.std.specs.Prelude.{◌≡◌, ℕ, zero, suc, ◌<◌, ◌^◌, List, [], ◌∷◌, length, map, Option, Some, None, unwrap_or, slice_index_or, true}
+use Rattle.std.specs.Map.{lookup}
+use Rattle.std.specs.BTreeMap.{is_at}
+use Rattle.std.specs.Ordering.{nat_cmp}
+use Rattle.pc_chain.specs.declared.chain.Chain.{Chain}
+use Rattle.pc_chain.specs.Chains.{IsChain}
+use Rattle.pc_locks.specs.declared.ends.Ends.{Ends}
+use Rattle.pc_locks.specs.States.{is_listed, last_of}
+
+-- what an id's link leads to
+abbrev pub next_in : List (Option ℕ) → ℕ → Option ℕ
+next_in links id = slice_index_or links id None
+
+-- so many ids at most, from this one on
+abbrev pub follow : List (Option ℕ) → ℕ → Option ℕ → List ℕ
+follow links n None = []
+follow links zero (Some id) = []
+follow links (suc n) (Some id) = id ∷ follow links n (next_in links id)
+
+-- no row has more links
+unfoldable pub most : ℕ
+most = 2 ^ 64
+
+-- the ids of a chain
+abbrev pub ids_of : List (Option ℕ) → Chain ℕ → List ℕ
+ids_of links chain = follow links most chain.first
+
+-- over these links the chain is this list
+abbrev pub IsLine : List (Option ℕ) → Chain ℕ → List ℕ → Type 0
+IsLine links chain ids = IsChain (λ id. id < length links) (next_in links) chain ids
+
+-- each is a chain, and no id is in two of them
+pub record AreLines (links : List (Option ℕ)) (chains : ℕ → Chain ℕ) : Type 0 where
+  pub line : (k : ℕ) → IsLine links (chains k) (ids_of links (chains k))
+  pub apart : (j k id : ℕ) → is_listed (ids_of links (chains j)) id ≡ true → is_listed (ids_of links (chains k)) id ≡ true → j ≡ k
+
+-- the empty chain
+abbrev pub no_chain : Chain ℕ
+no_chain = record { first = None; last = None }
+
+-- the chain at a place of the row
+abbrev pub chain_at : List (Chain ℕ) → ℕ → Chain ℕ
+chain_at chains slot = slice_index_or chains slot no_chain
+
+-- the ids of each
+abbrev pub all_ids : List (Option ℕ) → List (Chain ℕ) → List (List ℕ)
+all_ids links chains = map (ids_of links) chains
+
+-- the ends of an empty list
+abbrev pub no_ends : Ends
+no_ends = record { chain = no_chain; last = None }
+
+-- a transaction's ends
+abbrev pub ends_at : List (ℕ × Ends) → ℕ → Ends
+ends_at entries t = unwrap_or (lookup (is_at (nat_cmp t)) entries) no_ends
+
+-- the ids of each transaction
+abbrev pub entry_ids : List (Option ℕ) → List (ℕ × Ends) → List (ℕ × List ℕ)
+entry_ids links entries = map (λ e. (e.0, ids_of links e.1.chain)) entries
+
+-- what the transactions' lists keep
+pub record AreLists (links : List (Option ℕ)) (entries : List (ℕ × Ends)) : Type 0 where
+  pub lines : AreLines links (λ t. (ends_at entries t).chain)
+  pub lasts : (t : ℕ) → (ends_at entries t).last ≡ last_of (ids_of links (ends_at entries t).chain)
+
+-- the ids of each slot, and below which number ids fit
+pub record Lines : Type 0 where
+  pub ids : List (List ℕ)
+  pub room : ℕ
+
+-- the ids of each transaction, and below which number ids fit
+pub record Listed : Type 0 where
+  pub entries : List (ℕ × List ℕ)
+  pub room : ℕ

@@ -1,0 +1,112 @@
+-- Requests in a slab, named by ids, and the ids of each slot and of each transaction.
+use Rattle.std.specs.Prelude.{◌≡◌, ◌≤◌, is_some, ℕ, ◌==◌, ◌&&◌, not, nat_lt, Bool, true, false, List, [], ◌∷◌, ◌++◌, map, Option, Some, None, unwrap_or, option_map, slice_index_or, slice_set}
+use Rattle.std.specs.List.{list_any}
+use Rattle.std.specs.Map.{lookup}
+use Rattle.std.specs.BTreeMap.{is_at}
+use Rattle.std.specs.Ordering.{nat_cmp}
+use Rattle.slab.specs.Slab.{Slab, HasRoomFor}
+use Rattle.pc_locks.specs.Lines.{Lines, Listed}
+use Rattle.pc_model.specs.Locks.{Request, Queue, are_compatible}
+use Rattle.pc_model.specs.Queues.{stands_in, IsSettled}
+use Rattle.pc_locks.specs.declared.node.Node.{Node}
+use Rattle.pc_locks.specs.declared.node.Test.{Test}
+use Rattle.pc_locks.specs.declared.node.Test.TheVariants as test
+use Rattle.pc_locks.specs.States.{Lists, AreLinked, queue_at, slots_of, is_listed, last_of}
+
+-- what a test asks of a request
+abbrev pub passes : Test → Request → Bool
+passes (test.Of t) r = r.transaction == t
+passes (test.Conflicts own) r = not (are_compatible own r)
+passes (test.NotYounger t) r = not (nat_lt t r.transaction)
+passes (test.HeldBeside t) r = r.granted && not (r.transaction == t)
+
+-- the requests by id
+abbrev pub Nodes : Type 0
+Nodes = List (Option Node)
+
+-- the request of an id and its slot, where it has one
+abbrev pub node_at : Nodes → ℕ → Option Node
+node_at nodes id = slice_index_or nodes id None
+
+-- the request of a node
+abbrev pub request_of : Option Node → Request
+request_of node = unwrap_or (option_map (λ (n : Node). n.request) node) (record { transaction = 0; exclusive = false; granted = false })
+
+-- the slot of a node
+abbrev pub slot_of : Option Node → ℕ
+slot_of node = unwrap_or (option_map (λ (n : Node). n.slot) node) 0
+
+-- the request of an id
+abbrev pub request_at : Nodes → ℕ → Request
+request_at nodes id = request_of (node_at nodes id)
+
+-- the slot of an id
+abbrev pub slot_at : Nodes → ℕ → ℕ
+slot_at nodes id = slot_of (node_at nodes id)
+
+-- the slot and the transaction of a node
+abbrev pub place_of : Option Node → Option (ℕ × ℕ)
+place_of node = option_map (λ (n : Node). (n.slot, n.request.transaction)) node
+
+-- the requests of these ids
+abbrev pub requests : Nodes → List ℕ → Queue
+requests nodes ids = map (request_at nodes) ids
+
+-- the slots of these ids
+abbrev pub slots : Nodes → List ℕ → List ℕ
+slots nodes ids = map (slot_at nodes) ids
+
+-- the ids of a slot
+abbrev pub ids_at : List (List ℕ) → ℕ → List ℕ
+ids_at ids slot = slice_index_or ids slot []
+
+-- the requests of each slot
+abbrev pub queues_in : Nodes → List (List ℕ) → List Queue
+queues_in nodes ids = map (requests nodes) ids
+
+-- the slots of each transaction
+abbrev pub lists_in : Nodes → List (ℕ × List ℕ) → Lists
+lists_in nodes entries = map (λ e. (e.0, slots nodes e.1)) entries
+
+-- each id of a slot has a request of it, each id of a transaction has a request of it, which stands with its slot, and each
+-- request stands with both
+pub record IsTable (nodes : Nodes) (ids : List (List ℕ)) (entries : List (ℕ × List ℕ)) : Type 0 where
+  pub in_queue : (slot id : ℕ) → is_listed (ids_at ids slot) id ≡ true → (t : ℕ) × (place_of (node_at nodes id) ≡ Some (slot, t))
+  pub in_list : (t id : ℕ) → is_listed (slots_of entries t) id ≡ true → (slot : ℕ) × (place_of (node_at nodes id) ≡ Some (slot, t)) × (is_listed (ids_at ids slot) id ≡ true)
+  pub with_both : (id slot t : ℕ) → place_of (node_at nodes id) ≡ Some (slot, t) → (is_listed (ids_at ids slot) id ≡ true) × (is_listed (slots_of entries t) id ≡ true)
+
+-- the first id of the list whose request passes the test, and the one before it
+pub record IsFound (nodes : Nodes) (ids : List ℕ) (asked : Test) (previous : Option ℕ) (id : ℕ) : Type 0 where
+  pub before : List ℕ
+  pub behind : List ℕ
+  pub split : ids ≡ before ++ id ∷ behind
+  pub previous_is : previous ≡ last_of before
+  pub none_before : list_any (passes asked) (requests nodes before) ≡ false
+  pub passed : passes asked (request_at nodes id) ≡ true
+
+-- the first of the list whose request is the transaction's
+abbrev pub IsOwn : Nodes → List ℕ → ℕ → Option ℕ → ℕ → Type 0
+IsOwn nodes ids t previous id = IsFound nodes ids (test.Of t) previous id
+
+-- one more request of the transaction fits without memory
+pub record HasRoom (nodes : Slab Node) (queues : Lines) (lists : Listed) (t : ℕ) : Type 0 where
+  pub nodes_fit : HasRoomFor nodes 1
+  pub queues_fit : nodes.capacity ≤ queues.room
+  pub lists_fit : nodes.capacity ≤ lists.room
+  pub known : is_some (lookup (is_at (nat_cmp t)) lists.entries) ≡ true
+
+-- of the slot's ids the first whose request is the transaction's was taken out
+pub record IsUnlinked (nodes : Nodes) (ids new_ids : List (List ℕ)) (slot t : ℕ) : Type 0 where
+  pub before : List ℕ
+  pub id : ℕ
+  pub behind : List ℕ
+  pub split : ids_at ids slot ≡ before ++ id ∷ behind
+  pub none_before : stands_in (requests nodes before) t ≡ false
+  pub passed : ((request_at nodes id).transaction == t) ≡ true
+  pub new : new_ids ≡ slice_set ids slot (before ++ behind)
+
+-- what locks keep
+pub record Keeps (nodes : Nodes) (ids : List (List ℕ)) (entries : List (ℕ × List ℕ)) : Type 0 where
+  pub table : IsTable nodes ids entries
+  pub settled : (slot : ℕ) → IsSettled (queue_at (queues_in nodes ids) slot)
+  pub linked : AreLinked (queues_in nodes ids) (lists_in nodes entries)
