@@ -1,5 +1,5 @@
 -- Sessions and what they are seen as.
-use Rattle.std.proofs.Common.{◌≡◌, ℕ, zero, suc, ◌+◌, ◌-◌, ◌<◌, ◌≤◌, ◌++◌, List, [], ◌∷◌, length, map, take, drop, get_or, set, Option, Some, None, is_some, refl, sym, ap, ◌∙◌, arith, Bool, true, false, ◌||◌, cond}
+use Rattle.std.proofs.Common.{◌≡◌, ℕ, zero, suc, ◌+◌, ◌-◌, ◌<◌, ◌≤◌, List, [], ◌∷◌, length, drop, get_or, set, Option, Some, None, is_some, refl, sym, ap, ◌∙◌, Bool, true, false, ◌||◌}
 use Rattle.std.specs.Prelude.{option_map, Result, Ok, Err, IfOk, OnErr}
 use Rattle.pc_types.specs.declared.Write.{Write}
 use Rattle.pc_model.specs.Locks.{Outcome}

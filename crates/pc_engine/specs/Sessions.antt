@@ -1,5 +1,5 @@
 -- The sessions: each has an open transaction, or none.
-use Rattle.std.specs.Prelude.{◌≡◌, ℕ, ◌-◌, ◌≤◌, Bool, true, false, List, [], map, length, Option, Some, None, option_map, slice_index_or, slice_set}
+use Rattle.std.specs.Prelude.{ℕ, ◌-◌, ◌≤◌, Bool, true, false, List, [], map, length, Option, Some, None, option_map, slice_index_or, slice_set}
 use Rattle.pc_types.specs.declared.Write.{Write}
 use Rattle.pc_model.specs.Database.{with_write}
 use Rattle.pc_model.specs.Locks.{Outcome}

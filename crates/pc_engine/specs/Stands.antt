@@ -4,7 +4,6 @@ use Rattle.pc_types.specs.declared.Event.{Event}
 use Rattle.pc_types.specs.declared.Reply.{Reply}
 use Rattle.pc_types.specs.declared.Reply.TheVariants as told
 use Rattle.pc_model.specs.Maps as map_of
-use Rattle.pc_model.specs.Database.{Database}
 use Rattle.pc_model.specs.Points.{taken}
 use Rattle.pc_model.specs.Log.{after}
 use Rattle.pc_model.specs.History.{History, log_of, begun, is_open, number_of, has_died, writes_of, phase_of, point_of}

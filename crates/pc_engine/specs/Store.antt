@@ -1,9 +1,6 @@
 -- What a world is seen as, and what one event does to it.
-use Rattle.std.specs.Prelude.{◌≡◌, ℕ, ◌+◌, ◌-◌, ◌<◌, ◌==◌, ◌&&◌, ◌||◌, not, Bool, true, false, List, [], ◌∷◌, ◌++◌, length, map, filter, Option, Some, None, ◌⊎◌, is_some, is_none, if◌then◌else◌, MatchOption}
+use Rattle.std.specs.Prelude.{◌≡◌, ℕ, ◌+◌, ◌-◌, ◌<◌, ◌==◌, ◌||◌, not, Bool, true, false, List, [], ◌∷◌, ◌++◌, length, map, Option, Some, None, ◌⊎◌, is_some, is_none, if◌then◌else◌, MatchOption}
 use Rattle.std.specs.List.{list_any}
-use Rattle.std.specs.FinMap.{find}
-use Rattle.std.specs.FinMap.{put as put_entry}
-use Rattle.pc_types.specs.declared.Write.{Write}
 use Rattle.pc_types.specs.declared.Entry.{Entry}
 use Rattle.pc_types.specs.declared.Entry.TheVariants.{Commit, Token}
 use Rattle.pc_types.specs.declared.Phase.{Phase}
@@ -12,7 +9,7 @@ use Rattle.pc_types.specs.declared.Reply.{Reply}
 use Rattle.pc_types.specs.declared.Reply.TheVariants as told
 use Rattle.pc_types.specs.declared.Refusal.{Refusal}
 use Rattle.pc_types.specs.declared.Refusal.TheVariants as why
-use Rattle.pc_model.specs.Database.{key_cmp, same_bytes, with_write, written}
+use Rattle.pc_model.specs.Database.{written}
 use Rattle.pc_model.specs.Sets as set
 use Rattle.pc_model.specs.Files.{BaseFile, File, file_at, join_of, triples_taken}
 use Rattle.pc_model.specs.Replies.{Setting, first_refusal, or_else, not_yet, no_session, read_reply, value_read, by_outcome, same_phase, is_empty, join_refusal, IsFileReply}

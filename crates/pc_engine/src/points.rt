@@ -1,20 +1,9 @@
 //! What each event of the checkpointer does.
-ghost use Rattle.std.specs.Prelude.{IfSome, ◌≡◌, ◌≤◌, ◌<◌, ◌==◌, ◌||◌, ◌-◌, nat_lt, ◌⊎◌, ◌++◌, [], ◌∷◌, false, length, map, IfOk, IfErr, OnOk, OnErr, Some, None, option_copied, vec_len, vec_capacity};
-ghost use Rattle.std.specs.Prelude.{◌↔◌, IsTrue, List, ℕ, true};
-ghost use Rattle.std.proofs.Common.{replicate};
-ghost use Rattle.pc_model.specs.Maps.{get, len};
-ghost use Rattle.pc_model.specs.Files.{file_at};
-ghost use Rattle.pc_model.specs.Database.{KeysRise, database_of, with_write, written};
-ghost use Rattle.pc_model.specs.History.{History};
-ghost use Rattle.pc_model.specs.Replies.{read_reply, value_read};
-ghost use Rattle.pc_model.specs.Locks.{outcome};
-ghost use Rattle.pc_locks.specs.Queues.{told};
+ghost use Rattle.std.specs.Prelude.{◌≡◌, ◌<◌, ◌==◌, ◌||◌, ◌-◌, false, IfOk, Some, None};
 ghost use Rattle.pc_types.specs.declared.Phase.TheVariants.{Rest};
 ghost use Rattle.pc_model.specs.Replies.{same_phase};
-ghost use Rattle.pc_records.specs.Rows.{record_of, stored, requests_on, is_full_for, is_waiting, rows_after};
-ghost use Rattle.pc_records.specs.NewKeys.{is_one_too_many};
-ghost use Rattle.pc_engine.specs.Sessions.{active_of, actives_of, active_in, with_session, number_in, writes_in, wrote, AreFew};
-ghost use Rattle.pc_engine.specs.Store.{starting, OpenCause, WriteCause, Begins, Gets, WritesKey, Commits, Aborts, StartsPoint, Seals, Moves, Takes, Shelves, Joins, setting_of};
+ghost use Rattle.pc_records.specs.Rows.{record_of, stored};
+ghost use Rattle.pc_engine.specs.Store.{StartsPoint, Seals, Moves, Takes, Shelves, Joins};
 
 use crate::sessions;
 use crate::shelving::{MOST_FILES, Shelvable, joined, part_of};
@@ -176,4 +165,3 @@ fn pair_of(alloc: Global, records: &Records, key: &Key) -> Result<(Key, Option<V
     let key = key.copy(alloc)?;
     Ok((key, content))
 }
-

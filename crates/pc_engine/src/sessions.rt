@@ -1,5 +1,5 @@
 //! The sessions' open transactions.
-ghost use Rattle.std.specs.Prelude.{◌≡◌, ◌<◌, ◌≤◌, ◌-◌, ◌==◌, ◌||◌, nat_lt, length, option_map, option_copied, slice_index_or, None, Some, IfOk, OnErr, is_none, is_some, true, false};
+ghost use Rattle.std.specs.Prelude.{◌≡◌, ◌<◌, ◌-◌, length, option_map, option_copied, None, Some, IfOk, OnErr, is_none, is_some, true, false};
 ghost use Rattle.std.specs.List.{list_any};
 ghost use Rattle.std.proofs.Common.{replicate};
 ghost use Rattle.pc_model.specs.Locks.{outcome};
@@ -41,10 +41,7 @@ pub(crate) fn place(session: SessionNo) -> usize
 }
 
 /// The session's open transaction.
-pub(crate) fn active(
-    sessions: &[Option<Transaction>],
-    session: SessionNo,
-) -> Option<&Transaction>
+pub(crate) fn active(sessions: &[Option<Transaction>], session: SessionNo) -> Option<&Transaction>
     ensures { option_map active_of (option_copied result) ≡ active_in (actives_of sessions.now) session }
 {
     match sessions.get(place(session)) {
@@ -108,7 +105,10 @@ pub(crate) fn note_death(sessions: &mut Vec<Option<Transaction>>, session: Sessi
 }
 
 /// The session's transaction is taken out, if it has one.
-pub(crate) fn end(sessions: &mut Vec<Option<Transaction>>, session: SessionNo) -> Option<Transaction>
+pub(crate) fn end(
+    sessions: &mut Vec<Option<Transaction>>,
+    session: SessionNo,
+) -> Option<Transaction>
     requires { session - 1 < length sessions.old.items }
     ensures given { option_map active_of result ≡ active_in (actives_of sessions.old.items) session }
     ensures rest { actives_of sessions.new.items ≡ with_session (actives_of sessions.old.items) session None }

@@ -1,20 +1,14 @@
 //! What each event of a session does.
-ghost use Rattle.std.specs.Prelude.{IfNone, IfSome, ◌≡◌, ◌≤◌, ◌<◌, ◌==◌, ◌||◌, ◌-◌, nat_lt, ◌⊎◌, ◌++◌, [], ◌∷◌, false, length, map, IfOk, IfErr, OnOk, OnErr, Some, None, is_none, option_copied, vec_len, vec_capacity};
-ghost use Rattle.std.specs.Prelude.{◌↔◌, IsTrue, List, ℕ, true};
-ghost use Rattle.std.proofs.Common.{replicate};
-ghost use Rattle.pc_model.specs.Maps.{get, len};
-ghost use Rattle.pc_model.specs.Files.{file_at};
-ghost use Rattle.pc_model.specs.Database.{KeysRise, database_of, with_write, written};
-ghost use Rattle.pc_model.specs.History.{History};
+ghost use Rattle.std.specs.Prelude.{◌≡◌, ◌<◌, ◌==◌, ◌||◌, ◌-◌, nat_lt, ◌++◌, [], ◌∷◌, false, length, IfOk, Some, None, is_none, option_copied, vec_len, vec_capacity};
+ghost use Rattle.pc_model.specs.Maps.{get};
+ghost use Rattle.pc_model.specs.Database.{written};
 ghost use Rattle.pc_model.specs.Replies.{read_reply, value_read};
-ghost use Rattle.pc_model.specs.Locks.{outcome};
-ghost use Rattle.pc_locks.specs.Queues.{told};
 ghost use Rattle.pc_model.specs.Replies.{same_phase};
 ghost use Rattle.pc_types.specs.declared.Entry.TheVariants.{Commit};
 ghost use Rattle.pc_records.specs.Rows.{record_of, stored, released_rows};
 ghost use Rattle.pc_records.specs.NewKeys.{is_one_too_many};
-ghost use Rattle.pc_engine.specs.Sessions.{active_of, actives_of, active_in, with_session, number_in, writes_in, wrote, AreFew};
-ghost use Rattle.pc_engine.specs.Store.{starting, OpenCause, WriteCause, MayGoOn, Begins, Gets, WritesKey, Commits, Aborts, StartsPoint, Seals, Moves, Takes, Shelves, Joins, setting_of};
+ghost use Rattle.pc_engine.specs.Sessions.{actives_of, active_in, with_session, number_in, writes_in};
+ghost use Rattle.pc_engine.specs.Store.{OpenCause, WriteCause, Begins, Gets, WritesKey, Commits, Aborts};
 
 use crate::sessions;
 use crate::sessions::Transaction;
@@ -176,7 +170,12 @@ impl World {
             return Reply::Refused(Refusal::OutOfMemory);
         }
         let _ = self.recent.append(&mut keys);
-        log_commit(&mut self.sessions, &mut self.records, &mut self.log, session);
+        log_commit(
+            &mut self.sessions,
+            &mut self.records,
+            &mut self.log,
+            session,
+        );
         Reply::Committed(Lsn(self.log.len() as u32))
     }
 
@@ -250,4 +249,3 @@ fn answer(alloc: Global, found: Option<&Value>) -> Result<Reply, AllocError>
         Some(value) => Ok(Reply::Found(value.copy(alloc)?)),
     }
 }
-

@@ -364,10 +364,8 @@ fn grants_in_order(rt: HostRuntime) {
 // A read of an absent key takes its place, and an abort gives it back.
 #[test]
 fn gives_a_place_back(rt: HostRuntime) {
-    let script =
-        "begin 1\nget 1 x\nput 1 y 1\nabort 1\nbegin 1\nput 1 y 1\ncommit 1\ncheck\n";
-    let want =
-        "begun 1\nabsent\nrefused Full\naborted\nbegun 2\nok\ncommitted 1\ncheck ok\n";
+    let script = "begin 1\nget 1 x\nput 1 y 1\nabort 1\nbegin 1\nput 1 y 1\ncommit 1\ncheck\n";
+    let want = "begun 1\nabsent\nrefused Full\naborted\nbegun 2\nok\ncommitted 1\ncheck ok\n";
     assert!(rt; answers(rt.alloc(), 1, script, want));
 }
 

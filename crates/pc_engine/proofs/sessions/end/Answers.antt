@@ -1,4 +1,4 @@
-use Rattle.std.proofs.Common.{None, ◌∙◌, ap, ◌≡◌}
+use Rattle.std.proofs.Common.{None}
 use Rattle.pc_engine.proofs.SessionLemmas.{set_one}
 use Rattle.pc_engine.proofs.sessions.end.Goals as goal
 

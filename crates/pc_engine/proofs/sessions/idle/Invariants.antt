@@ -1,4 +1,4 @@
-use Rattle.std.proofs.Common.{◌≡◌, None, replicate, length}
+use Rattle.std.proofs.Common.{◌≡◌, None, replicate}
 use Rattle.pc_engine.specs.Sessions.{actives_of}
 use Rattle.pc_engine.proofs.sessions.idle.Given as goal
 

@@ -1,7 +1,4 @@
-use Rattle.std.proofs.Common.{◌≡◌, ◌∙◌, sym, ap, Some, true, get_or, set, None}
-use Rattle.std.specs.Prelude.{option_map}
-use Rattle.pc_engine.specs.Sessions.{active_of, actives_of, active_in, with_session, died}
-use Rattle.pc_engine.proofs.SessionLemmas.{set_one, seen_at, died_at}
+use Rattle.pc_engine.proofs.SessionLemmas.{died_at}
 use Rattle.pc_engine.proofs.sessions.note_death.Goals as goal
 
 pub returns-in-Some : goal.returns-in-Some

@@ -1,4 +1,3 @@
-use Rattle.std.proofs.Common.{◌≡◌}
 use Rattle.pc_engine.proofs.SessionLemmas.{set_one}
 use Rattle.pc_engine.proofs.sessions.set.Goals as goal
 
