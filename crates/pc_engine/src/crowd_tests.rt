@@ -161,6 +161,18 @@ fn agreed(
     Ok(Told::Unasked)
 }
 
+// Whether both stores answer alike, and not for want of memory.
+fn is_agreed(
+    alloc: Global,
+    world: &mut World,
+    slow: &mut SlowStore,
+    ask: Ask,
+) -> Result<bool, AllocError> {
+    let told = answer(alloc, world, ask);
+    let wanted = slow.answer(ask)?;
+    Ok(told == wanted && told != Told::Refused(Refusal::OutOfMemory))
+}
+
 // The session asks again for what it wishes and commits, or aborts where it has died. Whether both stores answer alike,
 // and whether its transaction has ended.
 fn turn(
@@ -198,8 +210,7 @@ fn wish_in(crowd: Crowd, session: u32) -> Ask<'static> {
 // All begin. Whether both stores answer alike.
 fn begin(alloc: Global, world: &mut World, slow: &mut SlowStore) -> Result<bool, AllocError> {
     for session in 1..=64u32 {
-        let told = agreed(alloc, world, slow, Ask::Begin(session))?;
-        if matches!(told, Told::Unasked) {
+        if !is_agreed(alloc, world, slow, Ask::Begin(session))? {
             return Ok(false);
         }
     }
@@ -215,8 +226,7 @@ fn come(
 ) -> Result<bool, AllocError> {
     for n in 0..64u32 {
         let session = (n.wrapping_mul(crowd.stride) % 64).wrapping_add(1);
-        let told = agreed(alloc, world, slow, wish_in(crowd, session))?;
-        if matches!(told, Told::Unasked) {
+        if !is_agreed(alloc, world, slow, wish_in(crowd, session))? {
             return Ok(false);
         }
     }
