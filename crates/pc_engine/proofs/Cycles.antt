@@ -1,7 +1,7 @@
 -- What each step of the checkpointer leaves of a world that stands after a history.
-use Rattle.std.proofs.Common.{◌≡◌, ℕ, ◌+◌, List, [], ◌∷◌, ◌++◌, length, map, append-nil, subst, Option, Some, None, is_some, is_none, refl, sym, ap, ◌∙◌, cond, true, false, Bool, not, eqb, ◌||◌}
+use Rattle.std.proofs.Common.{◌≡◌, ℕ, ◌+◌, List, [], ◌∷◌, ◌++◌, length, map, append-nil, subst, Option, Some, None, is_none, refl, sym, ap, ◌∙◌, cond, true, false, Bool, not, eqb, ◌||◌}
 use Rattle.std.specs.Prelude.{IfSome}
-use Rattle.std.specs.List.{list_any, IsDistinct, AllByRecursion}
+use Rattle.std.specs.List.{IsDistinct, AllByRecursion}
 use Rattle.pc_types.specs.declared.Event.{Event}
 use Rattle.pc_types.specs.declared.Event.TheVariants as asked
 use Rattle.pc_types.specs.declared.Reply.{Reply}
@@ -22,21 +22,21 @@ use Rattle.pc_model.specs.History.Effect.{Moves, Nothing}
 use Rattle.pc_model.specs.History.Class.{Before, During, After}
 use Rattle.pc_model.specs.Locks.{queue_of, queue_by}
 use Rattle.pc_model.specs.Points.{is_among, touched, taken, taken_by}
-use Rattle.pc_model.specs.Replies.{Setting, first_refusal, or_else, not_yet, is_in, same_phase, active_in, some_active, log_is_full, join_refusal, join_causes, IsFileReply, is_empty, written_since_token, written_by, closed_set}
+use Rattle.pc_model.specs.Replies.{Setting, first_refusal, or_else, not_yet, is_in, same_phase, active_in, log_is_full, join_refusal, join_causes, IsFileReply, is_empty, written_since_token, written_by, closed_set}
 use Rattle.pc_model.specs.Replies.{TakesFirst as AnswersFirst}
 use Rattle.pc_model.specs.Headline.{HasLegalEffects, is_taking, is_past_token}
 use Rattle.pc_model.proofs.Logs.{after-append}
-use Rattle.pc_model.proofs.LegalEffects.{legal_for_now_has_legal_effects, one_phase}
-use Rattle.pc_model.proofs.QuietContents.{quiet_contents}
+use Rattle.pc_model.proofs.LegalEffects.{legal_has_legal_effects, not_yet_does_nothing, one_phase}
+use Rattle.pc_model.proofs.PointsStay.{sealed_state}
 use Rattle.pc_model.proofs.Standing.{closed_stays, changes_closed, each_key_once, none_left, past_token, seal_closes, take_leaves}
-use Rattle.pc_engine.specs.Store.{Store, setting_of, moved, sealed, start_causes, move_causes, take_due, done_due, part_taken, StartsPoint, Moves as MovesOn, Seals, TakesFirst, Takes, Shelves, Joins}
+use Rattle.pc_engine.specs.Store.{Store, setting_of, moved, sealed, start_causes, move_due, take_due, done_due, part_taken, StartsPoint, Moves as MovesOn, Seals, TakesFirst, Takes, Shelves, Joins}
 use Rattle.pc_engine.specs.Stands.{IsReadOff, Stands, Follows}
 use Rattle.pc_records.proofs.Following.{same_records}
-use Rattle.pc_records.proofs.Cycles.{closed_records, left_records}
-use Rattle.pc_records.specs.Rows.{record_of, stored}
-use Rattle.pc_engine.proofs.ActiveSessions.{active_by, some_now, none_active}
-use Rattle.pc_engine.proofs.Owing.{with_step, IsLeft, owes_follows, refused_idle, not_first, not_not, none_outside}
-use Rattle.pc_model.proofs.QuietHistories.{for_now_is_quiet}
+use Rattle.pc_records.proofs.Cycles.{closed_records, left_records, taken_value}
+use Rattle.pc_engine.specs.Sessions.{count_of}
+use Rattle.pc_records.specs.Rows.{record_of, at_point}
+use Rattle.pc_engine.proofs.ActiveSessions.{active_by, count_now}
+use Rattle.pc_engine.proofs.Owing.{with_step, IsLeft, owes_follows, refused_idle, states_stay}
 
 -- the phase has changed, but not to resolve
 moved_off : (w : Store) (h : History) (step : Step) (to : Phase) (n : ℕ) → HasLegalEffects (setting_of w) (step ∷ h) → effect step ≡ Moves to n → is_resolve to ≡ false → (is_taking to ≡ true → w.cycle.taken ≡ taken h) → IsReadOff w h →
@@ -49,7 +49,7 @@ moved_off w h step to n legal e other taking parts =
     let closed : closed_set (step ∷ h) ≡ closed_set h = closed_stays (setting_of w) h step legal same in
     let phase : phase_of (step ∷ h) ≡ to = ap (λ d. phase_by d (phase_of h)) e in
     record {
-      records = same_records w.base.pairs w.kept.rows h (step ∷ h) (ap (after w.base.pairs) log ∙ after-append w.base.pairs (log_of h) (Token to n ∷ [])) (λ q. ap (λ d. queue_by q d h (queue_of q h)) e) written closed parts.records;
+      records = same_records w.base.pairs w.kept.rows h (step ∷ h) (ap (after w.base.pairs) log ∙ after-append w.base.pairs (log_of h) (Token to n ∷ [])) (λ q. ap (λ d. queue_by q d h (queue_of q h)) e) written closed (states_stay (setting_of w) h step legal) parts.records;
       log = ap (λ l. l ++ Token to n ∷ []) parts.log ∙ sym log;
       begun = parts.begun ∙ sym (ap (λ d. begun_by d (begun h)) e);
       sessions = λ t there. parts.sessions t there ∙ sym (ap (λ d. active_by t d h) e);
@@ -64,18 +64,12 @@ moved_off w h step to n legal e other taking parts =
       };
     }
 
--- the two causes of WrongPhase at the start of a cycle
-start_due : (a b : Bool) (cs : List (Bool × Refusal)) →
-    first_refusal ((a || b, why.WrongPhase) ∷ cs) ≡ or_else (first_refusal ((a, why.WrongPhase) ∷ [])) (or_else (first_refusal ((b, why.WrongPhase) ∷ [])) (first_refusal cs))
-start_due true b cs = refl
-start_due false true cs = refl
-start_due false false cs = refl
-
--- nobody is waited for
-move_due : (a full : Bool) (n : ℕ) → (a ≡ false → n ≡ 0) →
-    first_refusal ((a, why.WrongPhase) ∷ (full, why.LogFull) ∷ []) ≡ or_else (first_refusal ((a, why.WrongPhase) ∷ [])) (or_else (not_yet n) (first_refusal ((full, why.LogFull) ∷ [])))
-move_due true full n none = refl
-move_due false full n none = rw (none refl) refl
+yet_idle : (event : Event) (n : ℕ) → IfSome (not_yet n) (λ d. effect_of event d ≡ Nothing)
+yet_idle event n = by_none (eqb n 0) (not_yet_does_nothing event n)
+  where
+    by_none : (b : Bool) → effect_of event (told.NotYet n) ≡ Nothing → IfSome (cond b None (Some (told.NotYet n))) (λ d. effect_of event d ≡ Nothing)
+    by_none true e = tt
+    by_none false e = e
 
 idle_or : (event : Event) (a b : Option Reply) → IfSome a (λ d. effect_of event d ≡ Nothing) → IfSome b (λ d. effect_of event d ≡ Nothing) → IfSome (or_else a b) (λ d. effect_of event d ≡ Nothing)
 idle_or event None b p q = q
@@ -96,7 +90,7 @@ module _ (old new : Store) (h : History) (reply : Reply) (stands : Stands old h)
   st = setting_of old
 
   legal_before : HasLegalEffects st h
-  legal_before = legal_for_now_has_legal_effects st h stands.legal
+  legal_before = legal_has_legal_effects st h stands.legal
 
   in_phase : (p : Phase) → same_phase old.cycle.phase p ≡ is_in p h
   in_phase p = ap (λ x. same_phase x p) stands.parts.cycle.phase
@@ -107,48 +101,62 @@ module _ (old new : Store) (h : History) (reply : Reply) (stands : Stands old h)
   is_phase : (p : Phase) → is_in p h ≡ true → phase_of h ≡ p
   is_phase p e = one_phase (phase_of h) p e
 
-  shut_in : (p : Phase) → same_phase p Rest ≡ false → is_in p h ≡ true → some_active st h ≡ false
-  shut_in p apart e = none_outside old h stands (ap (λ x. same_phase x Rest) (is_phase p e) ∙ apart)
-
   pub starts_follows : StartsPoint old reply new → Follows st h asked.StartPoint reply new
   starts_follows step =
-      let late : List (Bool × Refusal) = (eqb old.cycle.point 65535, why.PointsFull) ∷ (eqb (length old.log) 16777216, why.LogFull) ∷ [] in
       owes_follows old new h asked.StartPoint reply _ (first_refusal (start_causes old)) stands
-      (start_due (list_any is_some old.sessions) (not (same_phase old.cycle.phase Rest)) late
-      ∙ ap (λ b. or_else (first_refusal ((b, why.WrongPhase) ∷ [])) (or_else (first_refusal ((not (same_phase old.cycle.phase Rest), why.WrongPhase) ∷ [])) (first_refusal late))) (some_now old.sessions h stands.parts.sessions)
-      ∙ ap (λ b. or_else (first_refusal ((some_active st h, why.WrongPhase) ∷ [])) (or_else (first_refusal ((not b, why.WrongPhase) ∷ [])) (first_refusal late))) (in_phase Rest)
-      ∙ ap (λ n. or_else (first_refusal ((some_active st h, why.WrongPhase) ∷ [])) (or_else (first_refusal ((not (is_in Rest h), why.WrongPhase) ∷ [])) (first_refusal ((eqb n 65535, why.PointsFull) ∷ (eqb (length old.log) 16777216, why.LogFull) ∷ [])))) stands.parts.cycle.point
-      ∙ ap (λ b. or_else (first_refusal ((some_active st h, why.WrongPhase) ∷ [])) (or_else (first_refusal ((not (is_in Rest h), why.WrongPhase) ∷ [])) (first_refusal ((eqb (point_of h) 65535, why.PointsFull) ∷ (b, why.LogFull) ∷ [])))) log_full)
+      (start_due (not (same_phase old.cycle.phase Rest)) ((eqb old.cycle.point 65535, why.PointsFull) ∷ (eqb (length old.log) 16777216, why.LogFull) ∷ [])
+      ∙ ap (λ b. or_else (first_refusal ((not b, why.WrongPhase) ∷ [])) (first_refusal ((eqb old.cycle.point 65535, why.PointsFull) ∷ (eqb (length old.log) 16777216, why.LogFull) ∷ []))) (in_phase Rest)
+      ∙ ap (λ n. or_else (first_refusal ((not (is_in Rest h), why.WrongPhase) ∷ [])) (first_refusal ((eqb n 65535, why.PointsFull) ∷ (eqb (length old.log) 16777216, why.LogFull) ∷ []))) stands.parts.cycle.point
+      ∙ ap (λ b. or_else (first_refusal ((not (is_in Rest h), why.WrongPhase) ∷ [])) (first_refusal ((eqb (point_of h) 65535, why.PointsFull) ∷ (b, why.LogFull) ∷ []))) log_full)
       (refused_idle asked.StartPoint (start_causes old)) step
       (λ none d. d.0 ∙ ap (λ n. told.Phase Prepare (n + 1)) stands.parts.cycle.point)
       (λ none d legal.
       let now = rw d.0 at legal in
       rw (d.0, d.1) (refl, moved_off old h (record { event = asked.StartPoint; reply = told.Phase Prepare (old.cycle.point + 1) }) Prepare (old.cycle.point + 1) now refl refl (λ t. cc) stands.parts, tt))
+    where
+      start_due : (a : Bool) (cs : List (Bool × Refusal)) → first_refusal ((a, why.WrongPhase) ∷ cs) ≡ or_else (first_refusal ((a, why.WrongPhase) ∷ [])) (first_refusal cs)
+      start_due true cs = refl
+      start_due false cs = refl
 
   -- what is due to a change of the phase
-  moves_due : (from : Phase) (class : Class) → same_phase from Rest ≡ false →
-      first_refusal (move_causes from old) ≡ or_else (first_refusal ((not (is_in from h), why.WrongPhase) ∷ [])) (or_else (not_yet (active_in st class h)) (first_refusal ((log_is_full h, why.LogFull) ∷ [])))
-  moves_due from class apart =
-      ap (λ b. first_refusal ((not b, why.WrongPhase) ∷ (eqb (length old.log) 16777216, why.LogFull) ∷ [])) (in_phase from)
-      ∙ ap (λ b. first_refusal ((not (is_in from h), why.WrongPhase) ∷ (b, why.LogFull) ∷ [])) log_full
-      ∙ move_due (not (is_in from h)) (log_is_full h) (active_in st class h) (λ e. none_active st class h (shut_in from apart (not_not (is_in from h) e)))
+  moves_due : (from : Phase) (class : Class) → move_due from class old ≡ or_else (first_refusal ((not (is_in from h), why.WrongPhase) ∷ [])) (or_else (not_yet (active_in st class h)) (first_refusal ((log_is_full h, why.LogFull) ∷ [])))
+  moves_due from class =
+      ap (λ b. or_else (first_refusal ((not b, why.WrongPhase) ∷ [])) (or_else (not_yet (count_of class old.sessions)) (first_refusal ((eqb (length old.log) 16777216, why.LogFull) ∷ [])))) (in_phase from)
+      ∙ ap (λ n. or_else (first_refusal ((not (is_in from h), why.WrongPhase) ∷ [])) (or_else (not_yet n) (first_refusal ((eqb (length old.log) 16777216, why.LogFull) ∷ [])))) (count_now old.sessions h class stands.parts.sessions)
+      ∙ ap (λ b. or_else (first_refusal ((not (is_in from h), why.WrongPhase) ∷ [])) (or_else (not_yet (active_in st class h)) (first_refusal ((b, why.LogFull) ∷ [])))) log_full
 
-  -- where no refusal is due the phase is the right one
-  right_phase : (from : Phase) → first_refusal (move_causes from old) ≡ None → is_in from h ≡ true
-  right_phase from none = sym (in_phase from) ∙ not_not _ (not_first (not (same_phase old.cycle.phase from)) why.WrongPhase ((eqb (length old.log) 16777216, why.LogFull) ∷ []) none).0
+  -- it does nothing
+  move_idle : (event : Event) (from : Phase) (class : Class) → IfSome (move_due from class old) (λ d. effect_of event d ≡ Nothing)
+  move_idle event from class =
+      let full : List (Bool × Refusal) = (eqb (length old.log) 16777216, why.LogFull) ∷ [] in
+      let other : List (Bool × Refusal) = (not (same_phase old.cycle.phase from), why.WrongPhase) ∷ [] in
+      idle_or event (first_refusal other) (or_else (not_yet (count_of class old.sessions)) (first_refusal full)) (refused_idle event other)
+      (idle_or event (not_yet (count_of class old.sessions)) (first_refusal full) (yet_idle event (count_of class old.sessions)) (refused_idle event full))
+
+  -- where nothing else is due at first, the phase is the right one
+  first_phase : (p : Phase) (rest : Option Reply) → or_else (first_refusal ((not (same_phase old.cycle.phase p), why.WrongPhase) ∷ [])) rest ≡ None → is_in p h ≡ true
+  first_phase p rest none = sym (in_phase p) ∙ by_test (same_phase old.cycle.phase p) none
+    where
+      by_test : (b : Bool) → or_else (first_refusal ((not b, why.WrongPhase) ∷ [])) rest ≡ None → b ≡ true
+      by_test true e = refl
+      by_test false e = cc
+
+  -- and so it is where no refusal is due
+  right_phase : (from : Phase) (class : Class) → move_due from class old ≡ None → is_in from h ≡ true
+  right_phase from class none = first_phase from (or_else (not_yet (count_of class old.sessions)) (first_refusal ((eqb (length old.log) 16777216, why.LogFull) ∷ []))) none
 
   pub seals_follows : Seals old reply new → Follows st h asked.Seal reply new
   seals_follows step =
-      owes_follows old new h asked.Seal reply _ (first_refusal (move_causes Prepare old)) stands (moves_due Prepare Before refl) (refused_idle asked.Seal (move_causes Prepare old)) step
+      owes_follows old new h asked.Seal reply _ (move_due Prepare Before old) stands (moves_due Prepare Before) (move_idle asked.Seal Prepare Before) step
       (λ none d. d.0 ∙ ap (told.Phase Resolve) stands.parts.cycle.point)
-      (λ none d legal. rw (d.0, d.1) (sealed_off (is_phase Prepare (right_phase Prepare none)) (rw d.0 at legal)))
+      (λ none d legal. rw (d.0, d.1) (sealed_off (is_phase Prepare (right_phase Prepare Before none)) (rw d.0 at legal)))
     where
       sealed_off : phase_of h ≡ Prepare → HasLegalEffects st (with_step h asked.Seal (told.Phase Resolve old.cycle.point)) → IsLeft old (sealed (moved Resolve old.cycle.point old)) h asked.Seal (told.Phase Resolve old.cycle.point)
       sealed_off prepares legal =
           let closes = seal_closes st h (record { event = asked.Seal; reply = told.Phase Resolve old.cycle.point }) legal old.cycle.point refl in (
             refl,
             record {
-              records = closed_records old.base.pairs old.kept.rows h _ (none_left st h legal_before (ap is_taking prepares)) (after-append old.base.pairs (log_of h) (Token Resolve old.cycle.point ∷ [])) (λ q. refl) refl (closes.0 ∙ closes.1) stands.parts.records;
+              records = closed_records old.base.pairs old.kept.rows h _ (none_left st h legal_before (ap is_taking prepares)) (after-append old.base.pairs (log_of h) (Token Resolve old.cycle.point ∷ [])) (λ q. refl) refl (closes.0 ∙ closes.1) (λ q. ap (λ db. map_of.get db q) (sealed_state st h (record { event = asked.Seal; reply = told.Phase Resolve old.cycle.point }) legal old.cycle.point refl)) stands.parts.records;
               log = ap (λ l. l ++ Token Resolve old.cycle.point ∷ []) stands.parts.log;
               begun = stands.parts.begun;
               sessions = λ t there. stands.parts.sessions t there;
@@ -165,22 +173,22 @@ module _ (old new : Store) (h : History) (reply : Reply) (stands : Stands old h)
             tt,
           )
 
-  pub opens_follows : MovesOn Resolve Capture old reply new → Follows st h asked.OpenCapture reply new
+  pub opens_follows : MovesOn Resolve During Capture old reply new → Follows st h asked.OpenCapture reply new
   opens_follows step =
-      owes_follows old new h asked.OpenCapture reply _ (first_refusal (move_causes Resolve old)) stands (moves_due Resolve During refl) (refused_idle asked.OpenCapture (move_causes Resolve old)) step
+      owes_follows old new h asked.OpenCapture reply _ (move_due Resolve During old) stands (moves_due Resolve During) (move_idle asked.OpenCapture Resolve During) step
       (λ none d. d.0 ∙ ap (told.Phase Capture) stands.parts.cycle.point)
       (λ none d legal.
       let now = rw d.0 at legal in
-      let resolves = is_phase Resolve (right_phase Resolve none) in
+      let resolves = is_phase Resolve (right_phase Resolve During none) in
       rw (d.0, d.1) (
         refl,
         moved_off old h (record { event = asked.OpenCapture; reply = told.Phase Capture old.cycle.point }) Capture old.cycle.point now refl refl (λ t. stands.parts.cycle.taken (ap is_taking resolves)) stands.parts,
         tt,
       ))
 
-  pub rests_follows : MovesOn Complete Rest old reply new → Follows st h asked.Rest reply new
+  pub rests_follows : MovesOn Complete After Rest old reply new → Follows st h asked.Rest reply new
   rests_follows step =
-      owes_follows old new h asked.Rest reply _ (first_refusal (move_causes Complete old)) stands (moves_due Complete After refl) (refused_idle asked.Rest (move_causes Complete old)) step
+      owes_follows old new h asked.Rest reply _ (move_due Complete After old) stands (moves_due Complete After) (move_idle asked.Rest Complete After) step
       (λ none d. d.0 ∙ ap (told.Phase Rest) stands.parts.cycle.point)
       (λ none d legal.
       let now = rw d.0 at legal in
@@ -189,14 +197,6 @@ module _ (old new : Store) (h : History) (reply : Reply) (stands : Stands old h)
         moved_off old h (record { event = asked.Rest; reply = told.Phase Rest old.cycle.point }) Rest old.cycle.point now refl refl (λ t. cc) stands.parts,
         tt,
       ))
-
-  -- where nothing else is due at first, the phase is the right one
-  first_phase : (p : Phase) (rest : Option Reply) → or_else (first_refusal ((not (same_phase old.cycle.phase p), why.WrongPhase) ∷ [])) rest ≡ None → is_in p h ≡ true
-  first_phase p rest none = sym (in_phase p) ∙ by_test (same_phase old.cycle.phase p) none
-    where
-      by_test : (b : Bool) → or_else (first_refusal ((not b, why.WrongPhase) ∷ [])) rest ≡ None → b ≡ true
-      by_test true e = refl
-      by_test false e = cc
 
   pub takes_follows : Takes old reply new → Follows st h asked.Take reply new
   takes_follows step =
@@ -214,12 +214,12 @@ module _ (old new : Store) (h : History) (reply : Reply) (stands : Stands old h)
 
       answers : (keys : List (List ℕ)) → keys ≡ closed_set h → TakesFirst keys old reply new → AnswersFirst (closed_set h) reply
       answers [] is d = absurd d
-      answers (k ∷ ks) is d = subst (λ keys. AnswersFirst keys reply) is (stored (record_of old.kept.rows k), d.0)
+      answers (k ∷ ks) is d = subst (λ keys. AnswersFirst keys reply) is (at_point (record_of old.kept.rows k), d.0)
 
       leaves : (keys : List (List ℕ)) → keys ≡ closed_set h → phase_of h ≡ Capture → TakesFirst keys old reply new → HasLegalEffects st (with_step h asked.Take reply) → IsLeft old new h asked.Take reply
       leaves [] is captures d legal = absurd d
       leaves (k ∷ ks) is captures d legal =
-          let content = stored (record_of old.kept.rows k) in
+          let content = at_point (record_of old.kept.rows k) in
           let now = rw d.0 at legal in
           let taking : is_taking (phase_of h) ≡ true = ap is_taking captures in
           let past : is_past_token (phase_of h) ≡ true = ap is_past_token captures in
@@ -230,7 +230,7 @@ module _ (old new : Store) (h : History) (reply : Reply) (stands : Stands old h)
           rw (d.0, d.1) (
             refl,
             record {
-              records = left_records old.base.pairs old.kept.rows h _ k ks (sym is) once (ap (after old.base.pairs) (append-nil (log_of h))) (λ q. refl) refl closed stands.parts.records;
+              records = left_records old.base.pairs old.kept.rows h _ k ks (sym is) once (ap (after old.base.pairs) (append-nil (log_of h))) (λ q. refl) refl closed (states_stay st h (record { event = asked.Take; reply = told.Took k content }) now) stands.parts.records;
               log = rw append-nil stands.parts.log;
               begun = stands.parts.begun;
               sessions = λ t there. stands.parts.sessions t there;
@@ -244,7 +244,7 @@ module _ (old new : Store) (h : History) (reply : Reply) (stands : Stands old h)
                 shelved = stands.parts.cycle.shelved ∙ sym (append-nil (shelf old.base.run h));
               };
             },
-            stands.parts.records.stored k ∙ ap (λ db. map_of.get db k) (quiet_contents st h legal_before (for_now_is_quiet st h stands.legal) past),
+            taken_value old.base.pairs old.kept.rows h k ks (sym is) stands.parts.records,
           )
 
   pub shelves_follows : Shelves old reply new → Follows st h asked.Done reply new
@@ -264,13 +264,10 @@ module _ (old new : Store) (h : History) (reply : Reply) (stands : Stands old h)
           ∙ ap (λ (fs : List File). or_else (first_refusal ((not (is_in Capture h), why.WrongPhase) ∷ [])) (or_else (not_yet (length (closed_set h))) (first_refusal ((eqb (length fs) 65536, why.ShelfFull) ∷ (eqb (length old.log) 16777216, why.LogFull) ∷ [])))) stands.parts.cycle.shelved
           ∙ ap (λ b. or_else (first_refusal ((not (is_in Capture h), why.WrongPhase) ∷ [])) (or_else (not_yet (length (closed_set h))) (first_refusal ((eqb (length (shelf st.run h)) 65536, why.ShelfFull) ∷ (b, why.LogFull) ∷ [])))) log_full
 
-      yet_idle : (n : ℕ) → IfSome (not_yet n) (λ d. effect_of asked.Done d ≡ Nothing)
-      yet_idle n = elim (eqb n 0) as (λ b. IfSome (cond b None (Some (told.NotYet n))) (λ d. effect_of asked.Done d ≡ Nothing)) [ true ↦ tt | false ↦ refl ]
-
       idle : IfSome (done_due old) (λ d. effect_of asked.Done d ≡ Nothing)
       idle =
           idle_or asked.Done (first_refusal ((not (same_phase old.cycle.phase Capture), why.WrongPhase) ∷ [])) (or_else (not_yet (length old.cycle.closed)) (first_refusal late)) (refused_idle asked.Done ((not (same_phase old.cycle.phase Capture), why.WrongPhase) ∷ []))
-          (idle_or asked.Done (not_yet (length old.cycle.closed)) (first_refusal late) (yet_idle (length old.cycle.closed)) (refused_idle asked.Done late))
+          (idle_or asked.Done (not_yet (length old.cycle.closed)) (first_refusal late) (yet_idle asked.Done (length old.cycle.closed)) (refused_idle asked.Done late))
 
       shelved_off : is_in Capture h ≡ true → HasLegalEffects st (with_step h asked.Done (told.PartDone old.cycle.point (length old.shelf + 1) (length old.cycle.taken))) →
           IsLeft old (record old { log = old.log ++ Token Complete old.cycle.point ∷ []; cycle = record old.cycle { phase = Complete; taken = [] }; shelf = old.shelf ++ part_taken old ∷ [] }) h asked.Done (told.PartDone old.cycle.point (length old.shelf + 1) (length old.cycle.taken))
@@ -280,7 +277,7 @@ module _ (old new : Store) (h : History) (reply : Reply) (stands : Stands old h)
           let takes : old.cycle.taken ≡ taken h = stands.parts.cycle.taken (ap is_taking (is_phase Capture captures)) in (
             refl,
             record {
-              records = same_records old.base.pairs old.kept.rows h (done ∷ h) (after-append old.base.pairs (log_of h) (Token Complete old.cycle.point ∷ [])) (λ q. refl) refl closed stands.parts.records;
+              records = same_records old.base.pairs old.kept.rows h (done ∷ h) (after-append old.base.pairs (log_of h) (Token Complete old.cycle.point ∷ [])) (λ q. refl) refl closed (states_stay st h done legal) stands.parts.records;
               log = ap (λ l. l ++ Token Complete old.cycle.point ∷ []) stands.parts.log;
               begun = stands.parts.begun;
               sessions = λ t there. stands.parts.sessions t there;
@@ -313,7 +310,7 @@ module _ (old new : Store) (h : History) (reply : Reply) (stands : Stands old h)
           let closed : closed_set (done ∷ h) ≡ closed_set h = closed_stays st h done legal refl in (
             refl,
             record {
-              records = same_records old.base.pairs old.kept.rows h (done ∷ h) (ap (after old.base.pairs) (append-nil (log_of h))) (λ q. refl) refl closed stands.parts.records;
+              records = same_records old.base.pairs old.kept.rows h (done ∷ h) (ap (after old.base.pairs) (append-nil (log_of h))) (λ q. refl) refl closed (states_stay st h done legal) stands.parts.records;
               log = rw append-nil stands.parts.log;
               begun = stands.parts.begun;
               sessions = λ t there. stands.parts.sessions t there;

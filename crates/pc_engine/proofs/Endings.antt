@@ -10,14 +10,12 @@ use Rattle.pc_types.specs.declared.Refusal.TheVariants as why
 use Rattle.pc_types.specs.declared.Step.{Step}
 use Rattle.pc_types.specs.declared.Entry.{Entry}
 use Rattle.pc_types.specs.declared.Entry.TheVariants.{Commit}
-use Rattle.pc_types.specs.declared.Phase.TheVariants.{Rest}
 use Rattle.pc_model.specs.Log.{after}
 use Rattle.pc_model.specs.Files.{shelf}
-use Rattle.pc_model.specs.History.{History, effect_of, log_of, begun, is_open, number_of, writes_of}
+use Rattle.pc_model.specs.History.{History, class_in, effect_of, log_of, begun, is_open, number_of, writes_of}
 use Rattle.pc_model.specs.History.Effect.{Begins, Commits, Aborts, Nothing}
 use Rattle.pc_model.specs.Headline.{HasLegalEffects}
-use Rattle.pc_model.specs.QuietPoints.{IsLegalForNow}
-use Rattle.pc_model.specs.Replies.{Setting, first_refusal, or_else, same_phase, is_in, no_session, written_since_token}
+use Rattle.pc_model.specs.Replies.{Setting, IsLegal, first_refusal, or_else, no_session, written_since_token}
 use Rattle.pc_model.proofs.Logs.{after-append}
 use Rattle.pc_model.proofs.Standing.{closed_stays}
 use Rattle.pc_records.specs.Rows.{released_rows, written_row}
@@ -33,8 +31,8 @@ use Rattle.pc_engine.specs.Store.{Store, setting_of, active, open_causes, begin_
 use Rattle.pc_engine.specs.Store.{Begins as BeginsIn, Commits as CommitsIn, Aborts as AbortsIn}
 use Rattle.pc_engine.specs.Stands.{Stands, Follows}
 use Rattle.pc_engine.proofs.ActiveSessions.{is_past, active_now, active_by, same_number, one_session}
-use Rattle.pc_engine.proofs.LocalSteps.{same_setting, IsLocal, local_left, log_stays, keys_stay, closed_set_stays}
-use Rattle.pc_engine.proofs.Owing.{with_step, IsLeft, IsOpenIn, open_in, open_then, owes_follows, goes_on, unmoved, legal_then, legal_by_due, refused_idle, same_cycle, not_first, by_session, in_transaction, locked_now}
+use Rattle.pc_engine.proofs.LocalSteps.{same_setting, IsLocal, local_left, log_stays, keys_stay, closed_set_stays, state_stays_at}
+use Rattle.pc_engine.proofs.Owing.{states_stay, with_step, IsLeft, IsOpenIn, open_in, open_then, owes_follows, goes_on, unmoved, legal_then, refused_idle, same_cycle, not_first, by_session, in_transaction, locked_now}
 
 -- whether a session has a transaction is told by the history
 some_of : (b : Bool) (a : Active) → is_some (cond b (Some a) None) ≡ b
@@ -44,12 +42,6 @@ some_of false a = refl
 none_of : (b : Bool) (a : Active) → is_none (cond b (Some a) None) ≡ not b
 none_of true a = refl
 none_of false a = refl
-
--- the refusals of a begin, and those of the quiet case before them
-begin_due : (a r : Bool) (cs : List (Bool × Refusal)) → first_refusal ((a, why.NoSession) ∷ (r, why.WrongPhase) ∷ cs) ≡ or_else (first_refusal ((a, why.NoSession) ∷ (r, why.WrongPhase) ∷ [])) (first_refusal ((a, why.NoSession) ∷ cs))
-begin_due true r cs = refl
-begin_due false true cs = refl
-begin_due false false cs = refl
 
 -- one session has changed, so what is said of the others stays
 sessions_with : (w : Store) (s : ℕ) (x : Option Active) (fact : (t : ℕ) → Option Active) → ((t : ℕ) → is_past w.sessions t ≡ false → session_at (with_session w.sessions s x) t ≡ fact t) →
@@ -73,28 +65,27 @@ module _ (old new : Store) (h : History) (s : ℕ) (reply : Reply) (stands : Sta
       let full : List (Bool × Refusal) = (eqb old.begun 1099511627776, why.LogFull) ∷ [] in
       let mine : List (Bool × Refusal) = (is_some (active old s), why.AlreadyBegun) ∷ full in
       let theirs : List (Bool × Refusal) = (is_open s h, why.AlreadyBegun) ∷ (eqb (begun h) 1099511627776, why.LogFull) ∷ [] in
-      let resting : same_phase old.cycle.phase Rest ≡ is_in Rest h = ap (λ p. same_phase p Rest) stands.parts.cycle.phase in
       owes_follows old new h (asked.Begin s) reply _ (first_refusal (begin_causes old s)) stands
-      (ap (λ b. first_refusal ((no_session st s, why.NoSession) ∷ (not b, why.WrongPhase) ∷ mine)) resting
-      ∙ by_session st s ((not (is_in Rest h), why.WrongPhase) ∷ mine) ((not (is_in Rest h), why.WrongPhase) ∷ theirs)
-      (λ there. ap (cond (not (is_in Rest h)) (Some (told.Refused why.WrongPhase)))
-      (ap (λ b. first_refusal ((b, why.AlreadyBegun) ∷ full)) (ap is_some (stands.parts.sessions s there) ∙ some_of (is_open s h) (active_now s h)) ∙ ap (λ n. first_refusal ((is_open s h, why.AlreadyBegun) ∷ (eqb n 1099511627776, why.LogFull) ∷ [])) stands.parts.begun))
-      ∙ begin_due (no_session st s) (not (is_in Rest h)) theirs)
+      (by_session st s mine theirs
+      (λ there.
+      ap (λ b. first_refusal ((b, why.AlreadyBegun) ∷ full)) (ap is_some (stands.parts.sessions s there) ∙ some_of (is_open s h) (active_now s h)) ∙ ap (λ n. first_refusal ((is_open s h, why.AlreadyBegun) ∷ (eqb n 1099511627776, why.LogFull) ∷ [])) stands.parts.begun))
       (refused_idle (asked.Begin s) (begin_causes old s)) step
       (λ none d. d.0 ∙ ap (λ n. told.Begun (n + 1)) stands.parts.begun)
       (λ none d legal.
       let now = rw d.0 at legal in
-      rw (d.0, d.1) (begun_off (not_first (no_session st s) why.NoSession ((not (same_phase old.cycle.phase Rest), why.WrongPhase) ∷ mine) none).0 now))
+      rw (d.0, d.1) (begun_off (not_first (no_session st s) why.NoSession mine none).0 now))
     where
       begun_off : no_session st s ≡ false → HasLegalEffects st (with_step h (asked.Begin s) (told.Begun (old.begun + 1))) →
-          IsLeft old (record old { begun = old.begun + 1; sessions = with_session old.sessions s (Some (record { number = old.begun + 1; has_died = false; writes = [] })) }) h (asked.Begin s) (told.Begun (old.begun + 1))
+          IsLeft old (record old { begun = old.begun + 1; sessions = with_session old.sessions s (Some (record { number = old.begun + 1; class = class_in old.cycle.phase; has_died = false; writes = [] })) }) h (asked.Begin s) (told.Begun (old.begun + 1))
       begun_off there legal =
           let step : Step = record { event = asked.Begin s; reply = told.Begun (old.begun + 1) } in
-          let first : Option Active = Some (record { number = old.begun + 1; has_died = false; writes = [] }) in
-          let is : first ≡ active_by s (Begins s) h = ap (λ n. let a : Active = record { number = n + 1; has_died = false; writes = [] } in Some a) stands.parts.begun ∙ rw (same_number s) refl in (
+          let first : Option Active = Some (record { number = old.begun + 1; class = class_in old.cycle.phase; has_died = false; writes = [] }) in
+          let is : first ≡ active_by s (Begins s) h =
+          ap (λ n. let a : Active = record { number = n + 1; class = class_in old.cycle.phase; has_died = false; writes = [] } in Some a) stands.parts.begun
+          ∙ ap (λ p. let a : Active = record { number = begun h + 1; class = class_in p; has_died = false; writes = [] } in Some a) stands.parts.cycle.phase ∙ rw (same_number s) refl in (
             same_setting old _ (length-set old.sessions _ _),
             record {
-              records = same_records old.base.pairs old.kept.rows h (step ∷ h) (ap (after old.base.pairs) (append-nil (log_of h))) (λ q. refl) refl (closed_stays st h step legal refl) stands.parts.records;
+              records = same_records old.base.pairs old.kept.rows h (step ∷ h) (ap (after old.base.pairs) (append-nil (log_of h))) (λ q. refl) refl (closed_stays st h step legal refl) (states_stay st h step legal) stands.parts.records;
               log = rw append-nil stands.parts.log;
               begun = ap (λ n. n + 1) stands.parts.begun;
               sessions = sessions_with old s first (λ t. active_by t (Begins s) h) (one_session old.sessions s first (Begins s) h there is (λ t other. rw other refl) stands.parts.sessions);
@@ -136,7 +127,7 @@ module _ (old new : Store) (h : History) (s : ℕ) (reply : Reply) (stands : Sta
             same_setting old _ (length-set old.sessions _ _),
             record {
               records = released_records old.base.pairs old.kept.rows h (step ∷ h) (writes_of s h) (number_of s h) (distinct_writes s h) locks.settled (held_writes h s locks at.opened)
-                  (after-append old.base.pairs (log_of h) (Commit s (writes_of s h) ∷ [])) (λ q. refl) refl closed stands.parts.records;
+                  (after-append old.base.pairs (log_of h) (Commit s (writes_of s h) ∷ [])) (λ q. refl) refl closed (states_stay st h step legal) stands.parts.records;
               log = ap (λ (log : List Entry). log ++ Commit s (writes_of s h) ∷ []) stands.parts.log;
               begun = stands.parts.begun;
               sessions = sessions_with old s None (λ t. active_by t (Commits s) h) (one_session old.sessions s None (Commits s) h at.there (rw (same_number s) refl) (λ t other. rw other refl) stands.parts.sessions);
@@ -160,8 +151,8 @@ module _ (old new : Store) (h : History) (s : ℕ) (reply : Reply) (stands : Sta
       causes_are = by_session st s ((is_none (active old s), why.NoTransaction) ∷ []) ((not (is_open s h), why.NoTransaction) ∷ [])
           (λ there. ap (λ b. first_refusal ((b, why.NoTransaction) ∷ [])) (ap is_none (stands.parts.sessions s there) ∙ none_of (is_open s h) (active_now s h)))
 
-      legal_by : (o : Option Reply) → first_refusal (abort_causes old s) ≡ o → MatchOption o (reply ≡ told.Aborted) (λ due. reply ≡ due) → IsLegalForNow st h (asked.Abort s) reply
-      legal_by o is fact = legal_by_due st h (asked.Abort s) reply (subst (ToldOfAbort reply) (sym is ∙ causes_are) (told_of_abort o reply fact))
+      legal_by : (o : Option Reply) → first_refusal (abort_causes old s) ≡ o → MatchOption o (reply ≡ told.Aborted) (λ due. reply ≡ due) → IsLegal st h (asked.Abort s) reply
+      legal_by o is fact = subst (ToldOfAbort reply) (sym is ∙ causes_are) (told_of_abort o reply fact)
 
       aborted_off : IsOpenIn old h s → HasLegalEffects st (with_step h (asked.Abort s) told.Aborted) →
           IsLeft old (record old { kept = record old.kept { rows = released_rows (number_of s h) old.kept.rows }; sessions = with_session old.sessions s None }) h (asked.Abort s) told.Aborted
@@ -169,7 +160,7 @@ module _ (old new : Store) (h : History) (s : ℕ) (reply : Reply) (stands : Sta
           let stays : IsLocal old.base.run h (Aborts s) = record { no_entry = refl; no_begin = refl; same_phase = refl; same_point = refl; no_key = refl; same_closed = refl; none_taken = refl; none_shelved = refl } in
           local_left old h (asked.Abort s) told.Aborted (Aborts s) refl stays legal (released_rows (number_of s h) old.kept.rows) (with_session old.sessions s None) (length-set old.sessions _ _)
           (let_go_records old.base.pairs old.kept.rows h (with_step h (asked.Abort s) told.Aborted) (number_of s h) (locked_now old h stands).settled (ap (after old.base.pairs) (log_stays old h (asked.Abort s) told.Aborted (Aborts s) refl stays legal)) (λ q. refl)
-          (keys_stay old h (asked.Abort s) told.Aborted (Aborts s) refl stays legal) (closed_set_stays old h (asked.Abort s) told.Aborted (Aborts s) refl stays legal) stands.parts.records)
+          (keys_stay old h (asked.Abort s) told.Aborted (Aborts s) refl stays legal) (closed_set_stays old h (asked.Abort s) told.Aborted (Aborts s) refl stays legal) (state_stays_at old h (asked.Abort s) told.Aborted (Aborts s) refl stays legal) stands.parts.records)
           (one_session old.sessions s None (Aborts s) h at.there (rw (same_number s) refl) (λ t other. rw other refl) stands.parts.sessions) tt stands.parts
 
       by_due : (o : Option Reply) → first_refusal (abort_causes old s) ≡ o → IfSome o (λ d. effect_of (asked.Abort s) d ≡ Nothing) →
@@ -177,7 +168,7 @@ module _ (old new : Store) (h : History) (s : ℕ) (reply : Reply) (stands : Sta
           Follows st h (asked.Abort s) reply new
       by_due (Some due) is idle step = unmoved old new h (asked.Abort s) reply stands (ap (effect_of (asked.Abort s)) step.0 ∙ idle) step.1 (legal_by (Some due) is step.0)
       by_due None is idle step =
-          let legal : IsLegalForNow st h (asked.Abort s) reply = legal_by None is step.0 in
+          let legal : IsLegal st h (asked.Abort s) reply = legal_by None is step.0 in
           let first = not_first (no_session st s) why.NoSession ((is_none (active old s), why.NoTransaction) ∷ []) is in
           let at = open_in old h s stands first.0 (not_first (is_none (active old s)) why.NoTransaction [] first.1).0 in
           let effects : HasLegalEffects st (with_step h (asked.Abort s) reply) = legal_then old h (asked.Abort s) reply stands legal in

@@ -1,11 +1,13 @@
 -- Steps of one session that leave the log, the phase and the shelf as they are.
-use Rattle.std.proofs.Common.{◌≡◌, ℕ, List, [], ◌++◌, length, append-nil, subst, Option, sym, ap, ◌∙◌, false, eqb, nat_lt, ◌||◌}
+use Rattle.std.proofs.Common.{◌≡◌, ℕ, List, [], ◌++◌, length, append-nil, subst, Option, sym, ap, ◌∙◌, true, false, eqb, nat_lt, ◌||◌}
 use Rattle.pc_types.specs.declared.Event.{Event}
 use Rattle.pc_types.specs.declared.Reply.{Reply}
 use Rattle.pc_types.specs.declared.Step.{Step}
 use Rattle.pc_model.specs.Files.{shelf, shelved_by}
 use Rattle.pc_model.specs.History.{History, Effect, effect_of, log_of, begun, phase_of, point_of, entries_by, begun_by, phase_by, point_by}
-use Rattle.pc_model.specs.Points.{taken, taken_by}
+use Rattle.pc_model.specs.Maps as map_of
+use Rattle.pc_model.specs.Log.{state_at}
+use Rattle.pc_model.specs.Points.{is_among, taken, taken_by}
 use Rattle.pc_model.specs.Replies.{Setting, written_since_token, written_by, closed_set}
 use Rattle.pc_model.specs.Headline.{HasLegalEffects, ValueBy}
 use Rattle.pc_model.proofs.Standing.{closed_stays, changes_closed}
@@ -16,7 +18,7 @@ use Rattle.pc_engine.specs.Sessions.{active_in as session_at}
 use Rattle.pc_engine.specs.Store.{Store, setting_of}
 use Rattle.pc_engine.specs.Stands.{IsReadOff}
 use Rattle.pc_engine.proofs.ActiveSessions.{is_past, active_by}
-use Rattle.pc_engine.proofs.Owing.{with_step, IsLeft, same_cycle}
+use Rattle.pc_engine.proofs.Owing.{with_step, IsLeft, same_cycle, states_stay}
 
 -- the setting stays where there are as many sessions
 pub same_setting : (w : Store) (n : ℕ) → n ≡ length w.sessions → (let st : Setting = record { run = w.base.run; base = w.base.pairs; sessions = n; capacity = w.kept.capacity } in st) ≡ setting_of w
@@ -45,6 +47,9 @@ module _ (w : Store) (h : History) (event : Event) (reply : Reply) (e : Effect) 
 
   closed_by : changes_closed (effect_of event reply) ≡ false
   closed_by = ap changes_closed is ∙ stays.same_closed
+
+  pub state_stays_at : (q : List ℕ) → is_among (closed_set h) q ≡ true → map_of.get (state_at w.base.pairs (log_of (with_step h event reply)) (point_of (with_step h event reply))) q ≡ map_of.get (state_at w.base.pairs (log_of h) (point_of h)) q
+  state_stays_at = states_stay (setting_of w) h step legal
 
   pub closed_set_stays : closed_set (with_step h event reply) ≡ closed_set h
   closed_set_stays = closed_stays (setting_of w) h step legal closed_by

@@ -1,29 +1,27 @@
 -- What is owed to an event, and what follows once it is paid.
-use Rattle.std.proofs.Common.{◌≡◌, ℕ, List, [], ◌∷◌, ◌++◌, append-nil, subst, Option, Some, None, is_none, refl, sym, ap, ◌∙◌, cond, true, false, Bool, not, ◌⊎◌, ◌||◌, ◌&&◌, inl, inr}
+use Rattle.std.proofs.Common.{◌≡◌, ℕ, List, [], ◌∷◌, ◌++◌, append-nil, subst, Option, Some, None, is_none, refl, sym, ap, ◌∙◌, cond, true, false, Bool, not, ◌⊎◌, inl, inr}
 use Rattle.std.specs.Prelude.{MatchOption, IfSome}
 use Rattle.pc_types.specs.declared.Event.{Event}
 use Rattle.pc_types.specs.declared.Reply.{Reply}
 use Rattle.pc_types.specs.declared.Reply.TheVariants as told
 use Rattle.pc_types.specs.declared.Refusal.{Refusal}
 use Rattle.pc_types.specs.declared.Refusal.TheVariants as why
-use Rattle.pc_types.specs.declared.Phase.TheVariants.{Rest}
 use Rattle.pc_types.specs.declared.Step.{Step}
-use Rattle.pc_model.specs.Log.{after}
+use Rattle.pc_model.specs.Maps as map_of
+use Rattle.pc_model.specs.Log.{after, state_at}
 use Rattle.pc_model.specs.Files.{File, shelf, shelved_by}
 use Rattle.pc_model.specs.History.{History, effect, effect_of, log_of, is_open, number_of, has_died, entries_by, begun_by, phase_by, point_by, begun, phase_of, point_of}
 use Rattle.pc_model.specs.History.Effect.{Nothing}
-use Rattle.pc_model.specs.Points.{taken, taken_by}
+use Rattle.pc_model.specs.Points.{is_among, taken, taken_by}
 use Rattle.pc_model.specs.Locks.{queue_of, queue_by, is_waiting}
-use Rattle.pc_model.specs.Replies.{Setting, IsLegal, certain, Answers, first_refusal, or_else, no_session, is_in, some_active, written_since_token, written_by}
-use Rattle.pc_model.specs.Reads.{IsQuiet, is_quiet}
-use Rattle.pc_model.specs.QuietPoints.{quiet_refusal, IsLegalForNow, IsLegalHistoryForNow}
-use Rattle.pc_model.specs.Headline.{HasLegalEffects, TakesPointValue, ValueBy}
+use Rattle.pc_model.specs.Replies.{Setting, IsLegal, IsLegalHistory, certain, Answers, first_refusal, no_session, written_since_token, written_by, closed_set}
+use Rattle.pc_model.specs.Headline.{HasLegalEffects, TakesPointValue, ValueBy, is_taking}
 use Rattle.pc_model.proofs.Effects.{refused_does_nothing, first_refusal_refuses}
-use Rattle.pc_model.proofs.LegalEffects.{legal_for_now_has_legal_effects}
-use Rattle.pc_model.proofs.QuietHistories.{for_now_is_quiet}
+use Rattle.pc_model.proofs.LegalEffects.{legal_has_legal_effects}
+use Rattle.pc_model.proofs.PointsStay.{state_stays}
 use Rattle.pc_model.proofs.RightReads.{locked}
 use Rattle.pc_model.proofs.SessionLocks.{Locked}
-use Rattle.pc_model.proofs.Standing.{closed_stays, changes_closed, each_key_once}
+use Rattle.pc_model.proofs.Standing.{closed_stays, changes_closed, each_key_once, none_left}
 use Rattle.pc_model.proofs.ShelfFiles.{headline}
 use Rattle.pc_records.specs.Rows.{is_waiting as waits_in_rows}
 use Rattle.pc_records.proofs.Following.{same_records}
@@ -38,18 +36,20 @@ use Rattle.pc_engine.proofs.Serial.{is_serial}
 abbrev pub with_step : History → Event → Reply → History
 with_step h event reply = record { event = event; reply = reply } ∷ h
 
--- what is due to an event whatever memory there is
-abbrev pub due_for_now : Setting → History → Event → Option Reply
-due_for_now st h event = or_else (quiet_refusal st h event) (certain st h event)
-
--- what is due is legal, and where nothing is due the answer is
-pub legal_by_due : (st : Setting) (h : History) (event : Event) (reply : Reply) →
-    MatchOption (due_for_now st h event) (Answers st h event reply ⊎ (reply ≡ told.Refused why.OutOfMemory)) (λ due. reply ≡ due) → IsLegalForNow st h event reply
-legal_by_due st h event reply fact = by_quiet (quiet_refusal st h event) fact
+-- a step leaves what each key that is left to take has at the point
+pub states_stay : (st : Setting) (h : History) (step : Step) → HasLegalEffects st (step ∷ h) → (q : List ℕ) → is_among (closed_set h) q ≡ true →
+    map_of.get (state_at st.base (log_of (step ∷ h)) (point_of (step ∷ h))) q ≡ map_of.get (state_at st.base (log_of h) (point_of h)) q
+states_stay st h step legal q there = by_taking (is_taking (phase_of h)) refl
   where
-    by_quiet : (q : Option Reply) → MatchOption (or_else q (certain st h event)) (Answers st h event reply ⊎ (reply ≡ told.Refused why.OutOfMemory)) (λ due. reply ≡ due) → MatchOption q (IsLegal st h event reply) (λ due. reply ≡ due)
-    by_quiet None fact = fact
-    by_quiet (Some due) fact = fact
+    empty_has_none : (ks : List (List ℕ)) → ks ≡ [] → is_among ks q ≡ true → ⊥
+    empty_has_none ks none there = cc_of (ap (λ ks. is_among ks q) none) there
+      where
+        cc_of : {b : Bool} → b ≡ false → b ≡ true → ⊥
+        cc_of e f = cc
+
+    by_taking : (b : Bool) → is_taking (phase_of h) ≡ b → map_of.get (state_at st.base (log_of (step ∷ h)) (point_of (step ∷ h))) q ≡ map_of.get (state_at st.base (log_of h) (point_of h)) q
+    by_taking true e = ap (λ db. map_of.get db q) (state_stays st h step legal e)
+    by_taking false e = absurd (empty_has_none (closed_set h) (none_left st h legal.1 e) there)
 
 -- where the step does nothing to it the cycle stays
 pub same_cycle : (st : Setting) (c : Cycle) (files : List File) (h : History) (step : Step) → HasLegalEffects st (step ∷ h) → phase_of (step ∷ h) ≡ phase_of h → point_of (step ∷ h) ≡ point_of h → written_since_token (step ∷ h) ≡ written_since_token h →
@@ -70,7 +70,7 @@ still w h step legal e parts =
     let written : written_since_token (step ∷ h) ≡ written_since_token h = ap (λ d. written_by d h (written_since_token h)) e in
     let closed : changes_closed (effect step) ≡ false = ap changes_closed e in
     record {
-      records = same_records w.base.pairs w.kept.rows h (step ∷ h) (ap (after w.base.pairs) same) (λ q. ap (λ d. queue_by q d h (queue_of q h)) e) written (closed_stays (setting_of w) h step legal closed) parts.records;
+      records = same_records w.base.pairs w.kept.rows h (step ∷ h) (ap (after w.base.pairs) same) (λ q. ap (λ d. queue_by q d h (queue_of q h)) e) written (closed_stays (setting_of w) h step legal closed) (states_stay (setting_of w) h step legal) parts.records;
       log = parts.log ∙ sym same;
       begun = parts.begun ∙ sym (ap (λ d. begun_by d (begun h)) e);
       sessions = λ t there. parts.sessions t there ∙ sym (ap (λ d. active_by t d h) e);
@@ -82,46 +82,33 @@ still w h step legal e parts =
 -- a world that stands keeps what checkpoints promise
 pub keeps_points : (w : Store) (h : History) → Stands w h → KeepsPoints w h
 keeps_points w h stands =
-    let legal : HasLegalEffects (setting_of w) h = legal_for_now_has_legal_effects (setting_of w) h stands.legal in
+    let legal : HasLegalEffects (setting_of w) h = legal_has_legal_effects (setting_of w) h stands.legal in
     record { once = each_key_once (setting_of w) h legal; values = stands.values; headline = headline (setting_of w) h legal stands.values }
 
 -- and what locking keeps
 pub locked_now : (w : Store) (h : History) → Stands w h → Locked h
-locked_now w h stands = locked (setting_of w) h (legal_for_now_has_legal_effects (setting_of w) h stands.legal)
-
--- outside rest no transaction is active
-pub none_outside : (w : Store) (h : History) → Stands w h → is_in Rest h ≡ false → some_active (setting_of w) h ≡ false
-none_outside w h stands out = by_head h out (for_now_is_quiet (setting_of w) h stands.legal)
-  where
-    by_rest : (a b c : Bool) → a ≡ false → ((a || not b) && c) ≡ true → b ≡ false
-    by_rest true b c e quiet = cc
-    by_rest false true c e quiet = cc
-    by_rest false false c e quiet = refl
-
-    by_head : (h : History) → is_in Rest h ≡ false → IsQuiet (setting_of w) h → some_active (setting_of w) h ≡ false
-    by_head [] out quiet = cc
-    by_head (step ∷ h) out quiet = by_rest (is_in Rest (step ∷ h)) (some_active (setting_of w) (step ∷ h)) (is_quiet (setting_of w) h) out quiet
+locked_now w h stands = locked (setting_of w) h (legal_has_legal_effects (setting_of w) h stands.legal)
 
 -- what an event leaves where it is done
 abbrev pub IsLeft : Store → Store → History → Event → Reply → Type 0
 IsLeft old new h event reply = (setting_of new ≡ setting_of old) × IsReadOff new (with_step h event reply) × ValueBy old.base.pairs (effect_of event reply) h
 
 -- the history with the step has legal effects
-pub legal_then : (w : Store) (h : History) (event : Event) (reply : Reply) → Stands w h → IsLegalForNow (setting_of w) h event reply → HasLegalEffects (setting_of w) (with_step h event reply)
-legal_then w h event reply stands legal = legal_for_now_has_legal_effects (setting_of w) (with_step h event reply) (legal, stands.legal)
+pub legal_then : (w : Store) (h : History) (event : Event) (reply : Reply) → Stands w h → IsLegal (setting_of w) h event reply → HasLegalEffects (setting_of w) (with_step h event reply)
+legal_then w h event reply stands legal = legal_has_legal_effects (setting_of w) (with_step h event reply) (legal, stands.legal)
 
 -- a legal reply, given what it leaves
-pub goes_on : (old new : Store) (h : History) (event : Event) (reply : Reply) → Stands old h → IsLegalForNow (setting_of old) h event reply → IsLeft old new h event reply → Follows (setting_of old) h event reply new
+pub goes_on : (old new : Store) (h : History) (event : Event) (reply : Reply) → Stands old h → IsLegal (setting_of old) h event reply → IsLeft old new h event reply → Follows (setting_of old) h event reply new
 goes_on old new h event reply stands legal left =
     let then : Stands new (with_step h event reply) = record {
-      legal = subst (λ st. IsLegalHistoryForNow st (with_step h event reply)) (sym left.0) (legal, stands.legal);
+      legal = subst (λ st. IsLegalHistory st (with_step h event reply)) (sym left.0) (legal, stands.legal);
       values = subst (λ (st : Setting). TakesPointValue st.base (with_step h event reply)) (sym left.0) (left.2, stands.values);
       parts = left.1;
     } in
     record { legal = legal; stands = then; serial = is_serial new (with_step h event reply) then; points = keeps_points new (with_step h event reply) then }
 
 -- a legal reply that does nothing
-pub unmoved : (old new : Store) (h : History) (event : Event) (reply : Reply) → Stands old h → effect_of event reply ≡ Nothing → new ≡ old → IsLegalForNow (setting_of old) h event reply → Follows (setting_of old) h event reply new
+pub unmoved : (old new : Store) (h : History) (event : Event) (reply : Reply) → Stands old h → effect_of event reply ≡ Nothing → new ≡ old → IsLegal (setting_of old) h event reply → Follows (setting_of old) h event reply new
 unmoved old new h event reply stands none unchanged legal =
     goes_on old new h event reply stands legal (
       ap setting_of unchanged,
@@ -130,20 +117,20 @@ unmoved old new h event reply stands none unchanged legal =
     )
 
 -- what an event leaves, given what it leaves where it is done
-pub owes_follows : (old new : Store) (h : History) (event : Event) (reply : Reply) (Done : Type 0) (due : Option Reply) → Stands old h → due ≡ due_for_now (setting_of old) h event → IfSome due (λ d. effect_of event d ≡ Nothing) → Owes due old reply new Done →
+pub owes_follows : (old new : Store) (h : History) (event : Event) (reply : Reply) (Done : Type 0) (due : Option Reply) → Stands old h → due ≡ certain (setting_of old) h event → IfSome due (λ d. effect_of event d ≡ Nothing) → Owes due old reply new Done →
     (due ≡ None → Done → Answers (setting_of old) h event reply) → (due ≡ None → Done → HasLegalEffects (setting_of old) (with_step h event reply) → IsLeft old new h event reply) → Follows (setting_of old) h event reply new
 owes_follows old new h event reply Done due stands same idle step answers leaves = by_due due refl idle step
   where
     st : Setting
     st = setting_of old
 
-    legal_by : (o : Option Reply) → due ≡ o → MatchOption o (Answers st h event reply ⊎ (reply ≡ told.Refused why.OutOfMemory)) (λ d. reply ≡ d) → IsLegalForNow st h event reply
-    legal_by o is fact = legal_by_due st h event reply (subst (λ o. MatchOption o (Answers st h event reply ⊎ (reply ≡ told.Refused why.OutOfMemory)) (λ d. reply ≡ d)) (sym is ∙ same) fact)
+    legal_by : (o : Option Reply) → due ≡ o → MatchOption o (Answers st h event reply ⊎ (reply ≡ told.Refused why.OutOfMemory)) (λ d. reply ≡ d) → IsLegal st h event reply
+    legal_by o is fact = (subst (λ o. MatchOption o (Answers st h event reply ⊎ (reply ≡ told.Refused why.OutOfMemory)) (λ d. reply ≡ d)) (sym is ∙ same) fact)
 
     by_due : (o : Option Reply) → due ≡ o → IfSome o (λ d. effect_of event d ≡ Nothing) → Owes o old reply new Done → Follows st h event reply new
     by_due (Some d) is none owes = unmoved old new h event reply stands (ap (effect_of event) owes.0 ∙ none) owes.1 (legal_by (Some d) is owes.0)
     by_due None is none (inl d) =
-        let legal : IsLegalForNow st h event reply = legal_by None is (inl (answers is d)) in
+        let legal : IsLegal st h event reply = legal_by None is (inl (answers is d)) in
         goes_on old new h event reply stands legal (leaves is d (legal_then old h event reply stands legal))
     by_due None is none (inr out) = unmoved old new h event reply stands (ap (effect_of event) out.0 ∙ refused_does_nothing event why.OutOfMemory) out.1 (legal_by None is (inr out.0))
 

@@ -25,7 +25,7 @@ use Rattle.pc_engine.specs.Sessions.{active_in as session_at}
 use Rattle.pc_engine.specs.Store.{Store, setting_of, active, open_causes, write_causes, asked, outcome_in, Gets, WritesKey}
 use Rattle.pc_engine.specs.Stands.{IsReadOff, Stands, Follows}
 use Rattle.pc_engine.proofs.ActiveSessions.{is_past, active_now, active_by, same_number, one_session}
-use Rattle.pc_engine.proofs.LocalSteps.{IsLocal, local_left, log_stays, keys_stay, closed_set_stays}
+use Rattle.pc_engine.proofs.LocalSteps.{IsLocal, local_left, log_stays, keys_stay, closed_set_stays, state_stays_at}
 use Rattle.pc_engine.proofs.Owing.{with_step, IsLeft, IsOpenIn, open_then, owes_follows, refused_idle, in_transaction}
 
 -- the effect of a request, by its outcome and the effect that it has where it is granted
@@ -64,7 +64,7 @@ asked_rows : (w : Store) (h : History) (s : ℕ) (key : List ℕ) (exclusive : B
 asked_rows w h s key exclusive event reply e o is stays legal queues at parts =
     subst (λ n. AreRecords w.base.pairs (rows_after w.kept.rows key n exclusive o) (with_step h event reply)) (sym (ap number_in at.same))
     (asked_records w.base.pairs w.kept.rows h (with_step h event reply) key (number_of s h) exclusive o (ap (after w.base.pairs) (log_stays w h event reply e is stays legal)) (λ q. ap (λ d. queue_by q d h (queue_of q h)) is ∙ queues q)
-    (keys_stay w h event reply e is stays legal) (closed_set_stays w h event reply e is stays legal) parts.records)
+    (keys_stay w h event reply e is stays legal) (closed_set_stays w h event reply e is stays legal) (state_stays_at w h event reply e is stays legal) parts.records)
 
 -- after a request, by its outcome
 asked_left : (w : Store) (h : History) (s : ℕ) (key : List ℕ) (exclusive : Bool) (event : Event) (reply : Reply) (granted : Effect) (sessions : List (Option Active)) (o : Outcome) → effect_of event reply ≡ asked_effect s key exclusive granted o →

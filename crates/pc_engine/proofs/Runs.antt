@@ -5,12 +5,9 @@ use Rattle.std.proofs.lemmas.Grind.{common_steps}
 use Rattle.pc_types.specs.declared.Event.{Event}
 use Rattle.pc_types.specs.declared.Reply.{Reply}
 use Rattle.pc_model.specs.History.{History}
-use Rattle.pc_model.specs.Replies.{Setting}
-use Rattle.pc_model.specs.QuietPoints.{IsLegalHistoryForNow}
-use Rattle.pc_model.specs.Reads.{IsQuiet}
+use Rattle.pc_model.specs.Replies.{IsLegalHistory, Setting}
 use Rattle.pc_engine.proofs.Owing.{keeps_points}
 use Rattle.pc_engine.proofs.Serial.{is_serial}
-use Rattle.pc_model.proofs.QuietHistories.{for_now_is_quiet}
 use Rattle.pc_engine.specs.Store.{Store, setting_of}
 use Rattle.pc_engine.specs.Stands.{Stands, Follows}
 use Rattle.pc_engine.specs.Runs.{IsRun, history_after}
@@ -46,8 +43,7 @@ ended st w events i replies le same even stands =
     record {
       answered = rw all at even;
       setting = same;
-      legal = subst (λ s. IsLegalHistoryForNow s (history_after [] events replies)) same then.legal;
-      quiet = subst (λ s. IsQuiet s (history_after [] events replies)) same (for_now_is_quiet (setting_of w) (history_after [] events replies) then.legal);
+      legal = subst (λ s. IsLegalHistory s (history_after [] events replies)) same then.legal;
       stands = then;
       serial = is_serial w (history_after [] events replies) then;
       points = keeps_points w (history_after [] events replies) then;

@@ -4,12 +4,12 @@ use Rattle.pc_model.specs.Maps as map_of
 use Rattle.pc_model.specs.History.{History}
 use Rattle.pc_model.specs.Log.{after}
 use Rattle.pc_model.proofs.RightReads.{effects_read_right}
-use Rattle.pc_model.proofs.LegalEffects.{legal_for_now_has_legal_effects}
+use Rattle.pc_model.proofs.LegalEffects.{legal_has_legal_effects}
 use Rattle.pc_engine.specs.Store.{Store, setting_of}
 use Rattle.pc_engine.specs.Stands.{Stands, IsSerial}
 
 pub is_serial : (w : Store) (history : History) → Stands w history → IsSerial w history
 is_serial w history stands = record {
   contents = λ key. stands.parts.records.stored key ∙ ap (λ log. map_of.get (after w.base.pairs log) key) (sym stands.parts.log);
-  reads = effects_read_right (setting_of w) history (legal_for_now_has_legal_effects (setting_of w) history stands.legal);
+  reads = effects_read_right (setting_of w) history (legal_has_legal_effects (setting_of w) history stands.legal);
 }

@@ -14,6 +14,7 @@ use Rattle.pc_model.specs.Replies.{IsFileReply, first_refusal, read_reply, by_ou
 use Rattle.pc_records.specs.Rows.{committed_row}
 use Rattle.pc_records.proofs.First.{first_records}
 use Rattle.pc_engine.specs.Sessions.{Active, active_in, with_session, wrote, died, if_died, if_granted}
+use Rattle.pc_model.specs.History.{Class}
 use Rattle.pc_engine.specs.Store.{Store, setting_of, active, outcome_in, abort_causes, Owes, Begins, Gets, WritesKey, Commits, Aborts, StartsPoint, Seals, Moves, TakesFirst, Takes, Shelves, Joins}
 use Rattle.pc_engine.specs.Stands.{Stands, IfRefused}
 use Rattle.pc_engine.proofs.LocalSteps.{same_setting}
@@ -87,8 +88,8 @@ starts_keeps old reply new = owes_keeps _ old reply new _ (λ d. (ap setting_of 
 pub seals_keeps : (old : Store) (reply : Reply) (new : Store) → Seals old reply new → Keeps old reply new
 seals_keeps old reply new = owes_keeps _ old reply new _ (λ d. (ap setting_of d.1, rw d.0 tt))
 
-pub moves_keeps : (from to : Phase) (old : Store) (reply : Reply) (new : Store) → Moves from to old reply new → Keeps old reply new
-moves_keeps from to old reply new = owes_keeps _ old reply new _ (λ d. (ap setting_of d.1, rw d.0 tt))
+pub moves_keeps : (from : Phase) (class : Class) (to : Phase) (old : Store) (reply : Reply) (new : Store) → Moves from class to old reply new → Keeps old reply new
+moves_keeps from class to old reply new = owes_keeps _ old reply new _ (λ d. (ap setting_of d.1, rw d.0 tt))
 
 pub takes_keeps : (old : Store) (reply : Reply) (new : Store) → Takes old reply new → Keeps old reply new
 takes_keeps old reply new = owes_keeps _ old reply new _ (by_keys old.cycle.closed)

@@ -3,9 +3,7 @@ use Rattle.std.specs.Prelude.{◌≡◌, List, [], ◌∷◌, length}
 use Rattle.pc_types.specs.declared.Event.{Event}
 use Rattle.pc_types.specs.declared.Reply.{Reply}
 use Rattle.pc_model.specs.History.{History}
-use Rattle.pc_model.specs.Replies.{Setting}
-use Rattle.pc_model.specs.QuietPoints.{IsLegalHistoryForNow}
-use Rattle.pc_model.specs.Reads.{IsQuiet}
+use Rattle.pc_model.specs.Replies.{Setting, IsLegalHistory}
 use Rattle.pc_engine.specs.Store.{Store, setting_of}
 use Rattle.pc_engine.specs.Stands.{Stands, IsSerial, KeepsPoints}
 
@@ -14,13 +12,12 @@ abbrev pub history_after : History → List Event → List Reply → History
 history_after history (event ∷ events) (reply ∷ replies) = history_after (record { event = event; reply = reply } ∷ history) events replies
 history_after history events replies = history
 
--- A run of the events gave each its reply, and left this world: the whole history is legal and quiet, serial truth holds of
--- it, and so does what checkpoints promise.
+-- A run of the events gave each its reply, and left this world: the whole history is legal, serial truth holds of it, and
+-- so does what checkpoints promise.
 pub record IsRun (st : Setting) (events : List Event) (replies : List Reply) (w : Store) : Type 0 where
   pub answered : length replies ≡ length events
   pub setting : setting_of w ≡ st
-  pub legal : IsLegalHistoryForNow st (history_after [] events replies)
-  pub quiet : IsQuiet st (history_after [] events replies)
+  pub legal : IsLegalHistory st (history_after [] events replies)
   pub stands : Stands w (history_after [] events replies)
   pub serial : IsSerial w (history_after [] events replies)
   pub points : KeepsPoints w (history_after [] events replies)

@@ -1,21 +1,33 @@
 -- The sessions: each has an open transaction, or none.
-use Rattle.std.specs.Prelude.{ℕ, ◌-◌, ◌≤◌, Bool, true, false, List, [], map, length, Option, Some, None, option_map, slice_index_or, slice_set}
+use Rattle.std.specs.Prelude.{ℕ, ◌-◌, ◌≤◌, Bool, true, false, List, [], map, filter, length, Option, Some, None, option_map, slice_index_or, slice_set}
 use Rattle.pc_types.specs.declared.Write.{Write}
 use Rattle.pc_model.specs.Database.{with_write}
 use Rattle.pc_model.specs.Locks.{Outcome}
 use Rattle.pc_model.specs.Locks.Outcome.{Granted, Queued, Died}
+use Rattle.pc_model.specs.History.{Class}
+use Rattle.pc_model.specs.History.Class.{Before, During, After}
+use Rattle.pc_model.specs.Replies.{same_class}
+use Rattle.pc_engine.specs.declared.sessions.Class.{Class as Told}
+use Rattle.pc_engine.specs.declared.sessions.Class.TheVariants as told
 use Rattle.pc_engine.specs.declared.sessions.Transaction.{Transaction}
 
--- an open transaction: its number, whether a request of it has died, and the final write of each key, in the order of first
--- writes
+-- an open transaction: its number, the class of the phase in which it began, whether a request of it has died, and the final
+-- write of each key, in the order of first writes
 pub record Active : Type 0 where
   pub number : ℕ
+  pub class : Class
   pub has_died : Bool
   pub writes : List Write
 
+-- a class as the definitions have it
+abbrev pub class_seen : Told → Class
+class_seen told.Before = Before
+class_seen told.During = During
+class_seen told.After = After
+
 -- what a transaction is seen as
 abbrev pub active_of : Transaction → Active
-active_of t = record { number = t.number; has_died = t.has_died; writes = t.writes.items }
+active_of t = record { number = t.number; class = class_seen t.class; has_died = t.has_died; writes = t.writes.items }
 
 -- what the sessions are seen as
 abbrev pub actives_of : List (Option Transaction) → List (Option Active)
@@ -38,6 +50,15 @@ number_in (Some t) = t.number
 abbrev pub has_died_in : Option Active → Bool
 has_died_in None = false
 has_died_in (Some t) = t.has_died
+
+-- there is one, and it is of the class
+abbrev pub is_of : Class → Option Active → Bool
+is_of class None = false
+is_of class (Some t) = same_class t.class class
+
+-- how many open transactions are of the class
+abbrev pub count_of : Class → List (Option Active) → ℕ
+count_of class sessions = length (filter (is_of class) sessions)
 
 -- its writes
 abbrev pub writes_in : Option Active → List Write

@@ -6,10 +6,9 @@ use Rattle.pc_types.specs.declared.Reply.TheVariants as told
 use Rattle.pc_model.specs.Maps as map_of
 use Rattle.pc_model.specs.Points.{taken}
 use Rattle.pc_model.specs.Log.{after}
-use Rattle.pc_model.specs.History.{History, log_of, begun, is_open, number_of, has_died, writes_of, phase_of, point_of}
+use Rattle.pc_model.specs.History.{History, log_of, begun, is_open, number_of, class_of, has_died, writes_of, phase_of, point_of}
 use Rattle.pc_model.specs.Files.{File, shelf}
-use Rattle.pc_model.specs.Replies.{Setting, no_session, written_since_token, closed_set}
-use Rattle.pc_model.specs.QuietPoints.{IsLegalForNow, IsLegalHistoryForNow}
+use Rattle.pc_model.specs.Replies.{Setting, IsLegal, IsLegalHistory, no_session, written_since_token, closed_set}
 use Rattle.pc_model.specs.Headline.{is_taking, TakesEachKeyOnce, TakesPointValue, HasHeadline}
 use Rattle.pc_model.specs.Reads.{HasRightReads}
 use Rattle.pc_records.specs.Rows.{record_of, stored}
@@ -28,7 +27,7 @@ pub record IsCycle (run : ℕ) (c : Cycle) (files : List File) (history : Histor
 
 -- the session's open transaction, by the history
 abbrev pub active_after : ℕ → History → Option Active
-active_after s history = if is_open s history then Some (record { number = number_of s history; has_died = has_died s history; writes = writes_of s history }) else None
+active_after s history = if is_open s history then Some (record { number = number_of s history; class = class_of s history; has_died = has_died s history; writes = writes_of s history }) else None
 
 -- each part of the world is what is read off the history
 pub record IsReadOff (w : Store) (history : History) : Type 0 where
@@ -42,7 +41,7 @@ pub record IsReadOff (w : Store) (history : History) : Type 0 where
 -- The world stands after the history: the history is legal, each Take has carried what its key has at the point, and each
 -- part of the world is read off the history.
 pub record Stands (w : Store) (history : History) : Type 0 where
-  pub legal : IsLegalHistoryForNow (setting_of w) history
+  pub legal : IsLegalHistory (setting_of w) history
   pub values : TakesPointValue w.base.pairs history
   pub parts : IsReadOff w history
 
@@ -61,7 +60,7 @@ pub record KeepsPoints (w : Store) (history : History) : Type 0 where
 -- Legal steps: the reply is legal, and the world stands after the history with this event and reply; of that history serial
 -- truth holds, and so does what checkpoints promise.
 pub record Follows (st : Setting) (history : History) (event : Event) (reply : Reply) (new : Store) : Type 0 where
-  pub legal : IsLegalForNow st history event reply
+  pub legal : IsLegal st history event reply
   pub stands : Stands new (record { event = event; reply = reply } ∷ history)
   pub serial : IsSerial new (record { event = event; reply = reply } ∷ history)
   pub points : KeepsPoints new (record { event = event; reply = reply } ∷ history)

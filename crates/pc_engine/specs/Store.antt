@@ -1,6 +1,5 @@
 -- What a world is seen as, and what one event does to it.
-use Rattle.std.specs.Prelude.{◌≡◌, ℕ, ◌+◌, ◌-◌, ◌<◌, ◌==◌, ◌||◌, not, Bool, true, false, List, [], ◌∷◌, ◌++◌, length, map, Option, Some, None, ◌⊎◌, is_some, is_none, if◌then◌else◌, MatchOption}
-use Rattle.std.specs.List.{list_any}
+use Rattle.std.specs.Prelude.{◌≡◌, ℕ, ◌+◌, ◌-◌, ◌<◌, ◌==◌, not, Bool, true, false, List, [], ◌∷◌, ◌++◌, length, map, Option, Some, None, ◌⊎◌, is_some, is_none, if◌then◌else◌, MatchOption}
 use Rattle.pc_types.specs.declared.Entry.{Entry}
 use Rattle.pc_types.specs.declared.Entry.TheVariants.{Commit, Token}
 use Rattle.pc_types.specs.declared.Phase.{Phase}
@@ -14,9 +13,11 @@ use Rattle.pc_model.specs.Sets as set
 use Rattle.pc_model.specs.Files.{BaseFile, File, file_at, join_of, triples_taken}
 use Rattle.pc_model.specs.Replies.{Setting, first_refusal, or_else, not_yet, no_session, read_reply, value_read, by_outcome, same_phase, is_empty, join_refusal, IsFileReply}
 use Rattle.pc_model.specs.Locks.{Outcome, outcome}
-use Rattle.pc_records.specs.Rows.{Kept, record_of, stored, requests_on, is_full_for, is_waiting, rows_after, released_rows, written_row, closed_row, left_rows}
+use Rattle.pc_model.specs.History.{Class, class_in}
+use Rattle.pc_model.specs.History.Class.{Before}
+use Rattle.pc_records.specs.Rows.{Kept, record_of, stored, at_point, requests_on, is_full_for, is_waiting, rows_after, released_rows, written_row, closed_row, left_rows}
 use Rattle.pc_records.specs.NewKeys.{new_keys, is_one_too_many}
-use Rattle.pc_engine.specs.Sessions.{Active, active_in, with_session, number_in, has_died_in, writes_in, wrote, died, if_died, if_granted}
+use Rattle.pc_engine.specs.Sessions.{Active, active_in, with_session, number_in, has_died_in, writes_in, count_of, wrote, died, if_died, if_granted}
 
 -- Where the cycle of a checkpoint stands: its phase and point; the open set, the keys that commits wrote since the last
 -- resolve token; the closed set, the keys of the point that are left to take; and what was taken of it, in this order.
@@ -82,13 +83,13 @@ OpenCause w s (Some r) = (causes : List (Bool × Refusal)) → first_refusal (op
 
 -- the causes of a begin's refusals
 abbrev pub begin_causes : Store → ℕ → List (Bool × Refusal)
-begin_causes w s = (no_session (setting_of w) s, why.NoSession) ∷ (not (is_in phase.Rest w), why.WrongPhase) ∷ (is_some (active w s), why.AlreadyBegun) ∷ (w.begun == 1099511627776, why.LogFull) ∷ []
+begin_causes w s = (no_session (setting_of w) s, why.NoSession) ∷ (is_some (active w s), why.AlreadyBegun) ∷ (w.begun == 1099511627776, why.LogFull) ∷ []
 
--- a transaction begins, and has written nothing
+-- a transaction begins, of the class of the phase, and has written nothing
 abbrev pub Begins : Store → ℕ → Reply → Store → Type 0
 Begins old s reply new =
     Owes (first_refusal (begin_causes old s)) old reply new
-    ((reply ≡ told.Begun (old.begun + 1)) × (new ≡ record old { begun = old.begun + 1; sessions = with_session old.sessions s (Some (record { number = old.begun + 1; has_died = false; writes = [] })) }))
+    ((reply ≡ told.Begun (old.begun + 1)) × (new ≡ record old { begun = old.begun + 1; sessions = with_session old.sessions s (Some (record { number = old.begun + 1; class = class_in old.cycle.phase; has_died = false; writes = [] })) }))
 
 -- the world once the request of the session's transaction is answered, where it dies or leaves these sessions
 abbrev pub asked : Store → ℕ → List ℕ → Bool → Outcome → List (Option Active) → Store
@@ -151,20 +152,21 @@ moved phase point w = record w { log = w.log ++ Token phase point ∷ []; cycle 
 
 -- the causes of the refusals of a start of a cycle
 abbrev pub start_causes : Store → List (Bool × Refusal)
-start_causes w = (list_any is_some w.sessions || not (is_in phase.Rest w), why.WrongPhase) ∷ (w.cycle.point == 65535, why.PointsFull) ∷ (is_log_full w, why.LogFull) ∷ []
+start_causes w = (not (is_in phase.Rest w), why.WrongPhase) ∷ (w.cycle.point == 65535, why.PointsFull) ∷ (is_log_full w, why.LogFull) ∷ []
 
 -- the cycle of the next point starts
 abbrev pub StartsPoint : Store → Reply → Store → Type 0
 StartsPoint old reply new =
     Owes (first_refusal (start_causes old)) old reply new ((reply ≡ told.Phase phase.Prepare (old.cycle.point + 1)) × (new ≡ moved phase.Prepare (old.cycle.point + 1) old))
 
--- the causes of the refusals of a change from the phase
-abbrev pub move_causes : Phase → Store → List (Bool × Refusal)
-move_causes from w = (not (is_in from w), why.WrongPhase) ∷ (is_log_full w, why.LogFull) ∷ []
+-- what is answered where the phase is not changed: it is another one, transactions of this class are open, or the log is full
+abbrev pub move_due : Phase → Class → Store → Option Reply
+move_due from class w =
+    or_else (first_refusal ((not (is_in from w), why.WrongPhase) ∷ [])) (or_else (not_yet (count_of class w.sessions)) (first_refusal ((is_log_full w, why.LogFull) ∷ [])))
 
--- the phase changes from one to another
-abbrev pub Moves : Phase → Phase → Store → Reply → Store → Type 0
-Moves from to old reply new = Owes (first_refusal (move_causes from old)) old reply new ((reply ≡ told.Phase to old.cycle.point) × (new ≡ moved to old.cycle.point old))
+-- the phase changes from one to another, once no transaction of the class is open
+abbrev pub Moves : Phase → Class → Phase → Store → Reply → Store → Type 0
+Moves from class to old reply new = Owes (move_due from class old) old reply new ((reply ≡ told.Phase to old.cycle.point) × (new ≡ moved to old.cycle.point old))
 
 -- the point of consistency: the open set is closed, and another one begins
 abbrev pub sealed : Store → Store
@@ -173,17 +175,17 @@ sealed w = record w { kept = record w.kept { rows = map closed_row w.kept.rows }
 -- the phase changes to resolve
 abbrev pub Seals : Store → Reply → Store → Type 0
 Seals old reply new =
-    Owes (first_refusal (move_causes phase.Prepare old)) old reply new ((reply ≡ told.Phase phase.Resolve old.cycle.point) × (new ≡ sealed (moved phase.Resolve old.cycle.point old)))
+    Owes (move_due phase.Prepare Before old) old reply new ((reply ≡ told.Phase phase.Resolve old.cycle.point) × (new ≡ sealed (moved phase.Resolve old.cycle.point old)))
 
 -- what is answered to a Take where no key is taken
 abbrev pub take_due : Store → Option Reply
 take_due w = or_else (first_refusal ((not (is_in phase.Capture w), why.WrongPhase) ∷ [])) (if is_empty w.cycle.closed then Some told.NoneLeft else None)
 
--- the first of these keys is taken with what is committed
+-- the first of these keys is taken with what it has at the point
 abbrev pub TakesFirst : List (List ℕ) → Store → Reply → Store → Type 0
 TakesFirst [] old reply new = ⊥
 TakesFirst (key ∷ keys) old reply new =
-    let content = stored (record_of old.kept.rows key) in
+    let content = at_point (record_of old.kept.rows key) in
     (reply ≡ told.Took key content)
     × (new ≡ record old { kept = record old.kept { rows = left_rows old.kept.rows key }; cycle = record old.cycle { closed = keys; taken = old.cycle.taken ++ (key, content) ∷ [] } })
 

@@ -105,7 +105,6 @@ fn dies_beside_an_older_one(rt: HostRuntime) -> Result<(), Fail> {
         (Ask::Del(2, b"l"), MUST_ABORT),
         (Ask::Commit(2), MUST_ABORT),
         (Ask::Begin(2), Told::Refused(Refusal::AlreadyBegun)),
-        (Ask::StartPoint, Told::Refused(Refusal::WrongPhase)),
         // What the dead one holds is held until it aborts.
         (Ask::Get(1, b"l"), Told::Wait),
         (Ask::Abort(2), Told::Aborted),

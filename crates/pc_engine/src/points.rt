@@ -2,10 +2,12 @@
 ghost use Rattle.std.specs.Prelude.{◌≡◌, ◌<◌, ◌==◌, ◌||◌, ◌-◌, false, IfOk, Some, None};
 ghost use Rattle.pc_types.specs.declared.Phase.TheVariants.{Rest};
 ghost use Rattle.pc_model.specs.Replies.{same_phase};
-ghost use Rattle.pc_records.specs.Rows.{record_of, stored};
+ghost use Rattle.pc_records.specs.Rows.{record_of, at_point};
+ghost use Rattle.pc_engine.specs.Sessions.{class_seen};
 ghost use Rattle.pc_engine.specs.Store.{StartsPoint, Seals, Moves, Takes, Shelves, Joins};
 
 use crate::sessions;
+use crate::sessions::Class;
 use crate::shelving::{MOST_FILES, Shelvable, joined, part_of};
 use crate::transactions::{MOST_ENTRIES, is_same};
 use crate::world::World;
@@ -22,7 +24,7 @@ impl World {
     pub(crate) fn start_point(&mut self) -> Reply
         ensures { StartsPoint self.old result self.new }
     {
-        if sessions::is_some_active(&self.sessions) || !is_same(self.phase, Phase::Rest) {
+        if !is_same(self.phase, Phase::Rest) {
             return Reply::Refused(Refusal::WrongPhase);
         }
         if self.point.0 == MOST_POINTS {
@@ -46,6 +48,10 @@ impl World {
         if !is_same(self.phase, Phase::Prepare) {
             return Reply::Refused(Refusal::WrongPhase);
         }
+        let open = sessions::active_in(&self.sessions, Class::Before);
+        if open > 0 {
+            return Reply::NotYet(open);
+        }
         if self.log.len() == MOST_ENTRIES {
             return Reply::Refused(Refusal::LogFull);
         }
@@ -60,13 +66,17 @@ impl World {
         Reply::Phase(self.phase, self.point)
     }
 
-    // The phase changes from one to another.
-    pub(crate) fn advance(&mut self, from: Phase, to: Phase) -> Reply
+    // The phase changes from one to another, once no transaction of the class is open.
+    pub(crate) fn advance(&mut self, from: Phase, class: Class, to: Phase) -> Reply
         requires { same_phase from Rest ≡ false }
-        ensures { Moves from to self.old result self.new }
+        ensures { Moves from (class_seen class) to self.old result self.new }
     {
         if !is_same(self.phase, from) {
             return Reply::Refused(Refusal::WrongPhase);
+        }
+        let open = sessions::active_in(&self.sessions, class);
+        if open > 0 {
+            return Reply::NotYet(open);
         }
         if self.log.len() == MOST_ENTRIES {
             return Reply::Refused(Refusal::LogFull);
@@ -154,11 +164,11 @@ impl World {
     }
 }
 
-// The key with what is committed of it.
+// The key with what it has at the point.
 fn pair_of(alloc: Global, records: &Records, key: &Key) -> Result<(Key, Option<Value>), AllocError>
-    ensures { IfOk result (λ pair. pair ≡ (key.now, stored (record_of records.now.rows key.now))) }
+    ensures { IfOk result (λ pair. pair ≡ (key.now, at_point (record_of records.now.rows key.now))) }
 {
-    let content = match records.value(key) {
+    let content = match records.at_point(key) {
         Some(value) => Some(value.copy(alloc)?),
         None => None,
     };

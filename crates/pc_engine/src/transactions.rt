@@ -11,7 +11,7 @@ ghost use Rattle.pc_engine.specs.Sessions.{actives_of, active_in, with_session, 
 ghost use Rattle.pc_engine.specs.Store.{OpenCause, WriteCause, Begins, Gets, WritesKey, Commits, Aborts};
 
 use crate::sessions;
-use crate::sessions::Transaction;
+use crate::sessions::{Transaction, class_in};
 use crate::world::World;
 use crate::writes::{is_one_too_many, new_keys, note_write, write_of, written_at};
 use pc_locks::{Mode, Outcome};
@@ -32,9 +32,6 @@ impl World {
         if is_no_session(self.sessions.len(), session) {
             return Reply::Refused(Refusal::NoSession);
         }
-        if !is_same(self.phase, Phase::Rest) {
-            return Reply::Refused(Refusal::WrongPhase);
-        }
         if sessions::active(&self.sessions, session).is_some() {
             return Reply::Refused(Refusal::AlreadyBegun);
         }
@@ -44,6 +41,7 @@ impl World {
         self.begun += 1;
         let transaction = Transaction {
             number: TxnNo(self.begun),
+            class: class_in(self.phase),
             has_died: false,
             writes: Vec::new(self.alloc),
         };

@@ -12,7 +12,7 @@ ghost use Rattle.pc_engine.specs.Runs.{IsRun};
 
 use crate::checks::is_sound;
 use crate::sessions;
-use crate::sessions::Transaction;
+use crate::sessions::{Class, Transaction};
 use crate::shelving::file_at;
 use pc_part::{Base, Part};
 use pc_records::Records;
@@ -103,8 +103,7 @@ impl World {
     /// replayed on the base, and committed transactions have read right. Each key that was written since the point
     /// before was taken once, with what it had at the point. Files of the shelf, and joins of them, that cover the same
     /// points are one file, and one of the points 1 to n, laid on the base, is the database after what was committed
-    /// before point n's token. A refused event changes nothing. Until points are taken beside open transactions, a
-    /// begin outside rest and a start of a cycle with a transaction open are answered `WrongPhase`.
+    /// before point n's token. A refused event changes nothing.
     pub fn step(&mut self, event: &Event) -> Reply
         ensures follows { (history : History) → Stands self.old history → Follows (setting_of self.old) history event.now result self.new }
         ensures setting { setting_of self.new ≡ setting_of self.old }
@@ -119,10 +118,10 @@ impl World {
             Event::Abort(session) => self.abort(*session),
             Event::StartPoint => self.start_point(),
             Event::Seal => self.seal(),
-            Event::OpenCapture => self.advance(Phase::Resolve, Phase::Capture),
+            Event::OpenCapture => self.advance(Phase::Resolve, Class::During, Phase::Capture),
             Event::Take => self.take(),
             Event::Done => self.shelve(),
-            Event::Rest => self.advance(Phase::Complete, Phase::Rest),
+            Event::Rest => self.advance(Phase::Complete, Class::After, Phase::Rest),
             Event::Join(first, second) => self.join_files(*first, *second),
         }
     }
@@ -187,7 +186,7 @@ impl World {
 }
 
 /// Runs the events, in order, on a new store that starts from the base, and gives the store and the replies. The whole
-/// history is legal and quiet, the committed contents are those of the replayed log, and files and points keep what
+/// history is legal, the committed contents are those of the replayed log, and files and points keep what
 /// `step` says of them. Refuses with `Full` exactly where the base has more pairs than the capacity, and else only with
 /// `OutOfMemory`.
 pub fn run(

@@ -19,7 +19,6 @@ use Rattle.pc_model.specs.History.Class.{Before, During, After}
 use Rattle.pc_model.specs.Locks.{is_waiting}
 use Rattle.pc_model.specs.Files.{shelf, numbers_to}
 use Rattle.pc_model.specs.Replies.{Setting, same_phase, is_in, some_active, active_in, closed_set, is_empty, first_refusal, or_else, no_session, log_is_full, transaction_causes, not_yet, wrong_phase, held_back, TakesFirst, certain, Answers, IsLegal, IsLegalHistory}
-use Rattle.pc_model.specs.QuietPoints.{quiet_refusal, IsLegalHistoryForNow}
 use Rattle.pc_model.specs.Headline.{HasLegalEffects}
 use Rattle.pc_model.proofs.Effects.{refused_does_nothing, first_refusal_refuses, no_first, no_other}
 
@@ -49,7 +48,7 @@ IsIdleIfAny o = IfSome o IsIdle
 refused_idle : (w : Refusal) → IsIdle (told.Refused w)
 refused_idle w event = refused_does_nothing event w
 
-not_yet_does_nothing : (event : Event) (n : ℕ) → effect_of event (told.NotYet n) ≡ Nothing
+pub not_yet_does_nothing : (event : Event) (n : ℕ) → effect_of event (told.NotYet n) ≡ Nothing
 not_yet_does_nothing (asked.Begin s) n = refl
 not_yet_does_nothing (asked.Get s key) n = refl
 not_yet_does_nothing (asked.Put s key value) n = refl
@@ -279,19 +278,3 @@ module _ (st : Setting) (h : History) where
 pub legal_has_legal_effects : (st : Setting) (h : History) → IsLegalHistory st h → HasLegalEffects st h
 legal_has_legal_effects st [] legal = tt
 legal_has_legal_effects st (step ∷ h) legal = (inl legal.0, legal_has_legal_effects st h legal.1)
-
--- the refusals of quiet points
-pub quiet_refusal_refuses : (st : Setting) (h : History) (event : Event) → IsIdleIfAny (quiet_refusal st h event)
-quiet_refusal_refuses st h (asked.Begin s) = causes_idle ((no_session st s, why.NoSession) ∷ (not (is_in Rest h), why.WrongPhase) ∷ [])
-quiet_refusal_refuses st h asked.StartPoint = causes_idle ((some_active st h, why.WrongPhase) ∷ [])
-quiet_refusal_refuses st h other = tt
-
-for_now : (o : Option Reply) (Legal : Type 0) (event : Event) (reply : Reply) → IsIdleIfAny o → MatchOption o Legal (λ due. reply ≡ due) → Legal ⊎ (effect_of event reply ≡ Nothing)
-for_now None Legal event reply idle legal = inl legal
-for_now (Some due) Legal event reply idle same = inr (ap (effect_of event) same ∙ idle event)
-
--- a history that is legal for now has legal effects
-pub legal_for_now_has_legal_effects : (st : Setting) (h : History) → IsLegalHistoryForNow st h → HasLegalEffects st h
-legal_for_now_has_legal_effects st [] legal = tt
-legal_for_now_has_legal_effects st (step ∷ h) legal =
-    (for_now (quiet_refusal st h step.event) (IsLegal st h step.event step.reply) step.event step.reply (quiet_refusal_refuses st h step.event) legal.0, legal_for_now_has_legal_effects st h legal.1)

@@ -17,7 +17,7 @@ pub mod LegalEffects
 pub mod Tokens
 pub mod Standing
 pub mod QuietContents
-pub mod QuietHistories
+pub mod PointsStay
 pub mod Latest
 pub mod Contents
 pub mod TakenValues

@@ -39,7 +39,7 @@ active_in_rest st h quiet active = one_phase (phase_of h) Rest (by_rest (is_in R
     by_rest false e = cc
 
 -- at its token the state of the point is what was committed
-at_token : (base : Database) (n : ℕ) (log : List Entry) → 1 ≤ n → has_token n log ≡ false → after base (log ++ Token Resolve n ∷ []) ≡ state_at base (log ++ Token Resolve n ∷ []) n
+pub at_token : (base : Database) (n : ℕ) (log : List Entry) → 1 ≤ n → has_token n log ≡ false → after base (log ++ Token Resolve n ∷ []) ≡ state_at base (log ++ Token Resolve n ∷ []) n
 at_token base n log low lacks =
     let other : eqb n 0 ≡ false = grind (arith, nat_tests) in
     let own : eqb n n ≡ true = grind (arith, nat_tests) in

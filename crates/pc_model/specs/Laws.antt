@@ -1,8 +1,9 @@
 -- Laws of the definitions: of replay, of points, of replies and of reads.
-use Rattle.std.specs.Prelude.{◌≡◌, ℕ, ◌+◌, List, ◌++◌, IsTrue, IsFalse, Contains}
+use Rattle.std.specs.Prelude.{◌≡◌, ℕ, ◌+◌, List, ◌∷◌, ◌++◌, IsTrue, IsFalse, Contains}
 use Rattle.pc_types.specs.declared.Entry.{Entry}
 use Rattle.pc_types.specs.declared.Event.{Event}
 use Rattle.pc_types.specs.declared.Reply.{Reply}
+use Rattle.pc_types.specs.declared.Step.{Step}
 use Rattle.pc_model.specs.Maps.{get}
 use Rattle.pc_model.specs.Database.{Database}
 use Rattle.pc_model.specs.Log.{after, state_at, PrecedesNext}
@@ -12,10 +13,9 @@ use Rattle.pc_model.specs.Sets as set
 use Rattle.pc_model.specs.Sets.{Set, number_order}
 use Rattle.pc_model.specs.Files.{File, shelf}
 use Rattle.pc_model.specs.Replies.{Setting, IsLegal, IsLegalHistory}
-use Rattle.pc_model.specs.QuietPoints.{IsLegalHistoryForNow}
 use Rattle.pc_model.specs.Locks.{IsLegalQueue, queue_of}
 use Rattle.pc_model.specs.Reads.{HasRightReads, IsQuiet}
-use Rattle.pc_model.specs.Headline.{HasLegalEffects, HasTokensInOrder, TakesEachKeyOnce, TakesPointValue, IsOfItsPoints, IsMade, JoinsWell, HasHeadline, is_past_token}
+use Rattle.pc_model.specs.Headline.{HasLegalEffects, HasTokensInOrder, TakesEachKeyOnce, TakesPointValue, IsOfItsPoints, IsMade, JoinsWell, HasHeadline, is_taking, is_past_token}
 
 -- Replay of a log in two pieces is replay of the second on the replay of the first.
 abbrev pub ReplaysInPieces : Type 0
@@ -50,14 +50,6 @@ LocksNeverConflict = (st : Setting) (history : History) (key : List ℕ) → IsL
 abbrev pub LegalHistoriesHaveLegalEffects : Type 0
 LegalHistoriesHaveLegalEffects = (st : Setting) (history : History) → IsLegalHistory st history → HasLegalEffects st history
 
--- And so has each step of a history that is legal until points are taken beside open transactions.
-abbrev pub HistoriesForNowHaveLegalEffects : Type 0
-HistoriesForNowHaveLegalEffects = (st : Setting) (history : History) → IsLegalHistoryForNow st history → HasLegalEffects st history
-
--- Such a history is quiet.
-abbrev pub HistoriesForNowAreQuiet : Type 0
-HistoriesForNowAreQuiet = (st : Setting) (history : History) → IsLegalHistoryForNow st history → IsQuiet st history
-
 -- The tokens of points stand in the log in order, and none is left out.
 abbrev pub TokensStandInOrder : Type 0
 TokensStandInOrder = (st : Setting) (history : History) → HasLegalEffects st history → HasTokensInOrder history
@@ -65,6 +57,12 @@ TokensStandInOrder = (st : Setting) (history : History) → HasLegalEffects st h
 -- Each touched key is taken once.
 abbrev pub EachKeyIsTakenOnce : Type 0
 EachKeyIsTakenOnce = (st : Setting) (history : History) → HasLegalEffects st history → TakesEachKeyOnce history
+
+-- In resolve and capture, while keys may be left to take, every step leaves the state of the point as it is.
+abbrev pub PointStatesStay : Type 0
+PointStatesStay =
+    (st : Setting) (history : History) (step : Step) → HasLegalEffects st (step ∷ history) → IsTrue (is_taking (phase_of history)) →
+    state_at st.base (log_of (step ∷ history)) (point_of (step ∷ history)) ≡ state_at st.base (log_of history) (point_of history)
 
 -- In a quiet run the committed contents are those of the point, from its token to the end of its cycle.
 abbrev pub QuietContentsStay : Type 0

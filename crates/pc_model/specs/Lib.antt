@@ -9,7 +9,6 @@ pub mod Points
 pub mod Files
 pub mod Ranges
 pub mod Replies
-pub mod QuietPoints
 pub mod Reads
 pub mod Headline
 pub mod Laws

@@ -1,6 +1,6 @@
 //! Laws of the definitions. Each function does nothing, and its contract is a law.
 ghost use Rattle.pc_model.specs.Laws.{ReplaysInPieces, CyclesMakeStates, UntouchedKeysStay, PartsMakeStates, EveryEventHasALegalReply, CommittedReadsAreRight, LocksNeverConflict};
-ghost use Rattle.pc_model.specs.Laws.{LegalHistoriesHaveLegalEffects, HistoriesForNowHaveLegalEffects, HistoriesForNowAreQuiet, TokensStandInOrder, EachKeyIsTakenOnce, QuietContentsStay};
+ghost use Rattle.pc_model.specs.Laws.{LegalHistoriesHaveLegalEffects, TokensStandInOrder, EachKeyIsTakenOnce, PointStatesStay, QuietContentsStay};
 ghost use Rattle.pc_model.specs.Laws.{JoinsAreContents, FilesAreOfTheirPoints, FilesJoinWell, FilesAreStates};
 
 /// Replay of a log in two pieces is replay of the second on the replay of the first.
@@ -43,16 +43,6 @@ pub fn legal_histories_have_legal_effects()
     ensures { LegalHistoriesHaveLegalEffects }
 {}
 
-/// And so has each step of a history that is legal until points are taken beside open transactions.
-pub fn histories_for_now_have_legal_effects()
-    ensures { HistoriesForNowHaveLegalEffects }
-{}
-
-/// Until points are taken beside open transactions every history is quiet.
-pub fn histories_for_now_are_quiet()
-    ensures { HistoriesForNowAreQuiet }
-{}
-
 /// The tokens of points stand in the log in order, and none is left out.
 pub fn tokens_stand_in_order()
     ensures { TokensStandInOrder }
@@ -61,6 +51,11 @@ pub fn tokens_stand_in_order()
 /// Each key that was touched in a point's cycle is taken once.
 pub fn each_key_is_taken_once()
     ensures { EachKeyIsTakenOnce }
+{}
+
+/// While keys may be left to take, no step but the next point of consistency changes the state of the point.
+pub fn point_states_stay()
+    ensures { PointStatesStay }
 {}
 
 /// In a quiet run the committed contents are those of the point, from its token to the end of its cycle.

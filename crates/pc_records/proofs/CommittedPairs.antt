@@ -51,7 +51,7 @@ find_pairs queues (slot ∷ slots) q h =
     by_value slot.value (same_bytes q slot.key) refl (lacks queues slot.key slots parts.0) (find_pairs queues slots q parts.1)
   where
     by_value : (v : Option (List ℕ)) (b : Bool) → same_bytes q slot.key ≡ b → find key_cmp slot.key (committed_pairs slots) ≡ None → find key_cmp q (committed_pairs slots) ≡ stored (record_of (rows_of queues slots) q) →
-        find key_cmp q (with_pair slot.key v (committed_pairs slots)) ≡ stored (cond b (Some (record { value = v; is_recent = slot.is_recent; is_closed = slot.is_closed; requests = queue_at queues slot.number })) (record_of (rows_of queues slots) q))
+        find key_cmp q (with_pair slot.key v (committed_pairs slots)) ≡ stored (cond b (Some (record { value = v; is_recent = slot.is_recent; is_closed = slot.is_closed; saved = slot.saved; requests = queue_at queues slot.number })) (record_of (rows_of queues slots) q))
     by_value None true same none later = ap (λ k. find key_cmp k (committed_pairs slots)) (one_key q slot.key same) ∙ none
     by_value None false same none later = later
     by_value (Some value) true same none later = rw same refl

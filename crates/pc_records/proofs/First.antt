@@ -38,5 +38,6 @@ first_records base pairs rise is =
       requests = unrequested pairs;
       recent = not_recent pairs;
       closed = not_closed pairs;
+      point = λ q closed. absurd (let no : false ≡ true = sym (not_closed pairs q) ∙ closed in cc);
       kept = all_kept pairs;
     }

@@ -6,27 +6,30 @@ use Rattle.std.proofs.lemmas.Cmp.{eq_by_cmp_equiv}
 use Rattle.pc_model.specs.Maps as map_of
 use Rattle.pc_model.specs.Database.{Database, key_cmp, key_order, same_bytes}
 use Rattle.pc_model.specs.Points.{is_among}
-use Rattle.pc_model.specs.History.{History, contents}
+use Rattle.pc_model.specs.Log.{state_at}
+use Rattle.pc_model.specs.History.{History, contents, log_of, point_of}
 use Rattle.pc_model.specs.Locks.{Queue, Request, Outcome, queue_of, queue_after, with_request}
 use Rattle.pc_model.specs.Locks.Outcome.{Granted, Queued, Died}
 use Rattle.pc_model.specs.Replies.{is_empty, written_since_token, closed_set}
 use Rattle.pc_model.proofs.Joins.{one_key}
 use Rattle.pc_model.proofs.PairMaps.{computes, tested}
-use Rattle.pc_records.specs.Rows.{Row, Record, record_of, stored, is_recent, is_closed, requests_on, with_requests, rows_after}
+use Rattle.pc_records.specs.Rows.{Row, Record, record_of, stored, is_recent, is_closed, at_point, requests_on, with_requests, rows_after}
 use Rattle.pc_records.specs.Following.{AreRecords, stands_kept}
 
 pub turned_key : (a b : List ℕ) → same_bytes a b ≡ same_bytes b a
 turned_key a b = (eq_by_cmp_equiv key_order.total).symm a b
 
--- where the database, the queues and the written keys stay, so do the records
-pub same_records : (base : Database) (rows : List Row) (h after : History) → contents base after ≡ contents base h → ((q : List ℕ) → queue_of q after ≡ queue_of q h) → written_since_token after ≡ written_since_token h → closed_set after ≡ closed_set h → AreRecords base rows h → AreRecords base rows after
-same_records base rows h after cs qs ws ls are =
+-- where the database, the queues, the written keys and what the point's keys have at the point stay, so do the records
+pub same_records : (base : Database) (rows : List Row) (h after : History) → contents base after ≡ contents base h → ((q : List ℕ) → queue_of q after ≡ queue_of q h) → written_since_token after ≡ written_since_token h → closed_set after ≡ closed_set h →
+    ((q : List ℕ) → is_among (closed_set h) q ≡ true → map_of.get (state_at base (log_of after) (point_of after)) q ≡ map_of.get (state_at base (log_of h) (point_of h)) q) → AreRecords base rows h → AreRecords base rows after
+same_records base rows h after cs qs ws ls ps are =
     record {
       sorted = are.sorted;
       stored = λ q. are.stored q ∙ ap (λ db. map_of.get db q) (sym cs);
       requests = λ q. are.requests q ∙ sym (qs q);
       recent = λ q. are.recent q ∙ ap (λ ks. is_among ks q) (sym ws);
       closed = λ q. are.closed q ∙ ap (λ ks. is_among ks q) (sym ls);
+      point = λ q closed. are.point q closed ∙ sym (ps q (sym (are.closed q) ∙ closed));
       kept = are.kept;
     }
 
@@ -42,6 +45,10 @@ recent-with (Some r) queue = refl
 closed-with : (r : Option Record) (queue : Queue) → is_closed (Some (with_requests r queue)) ≡ is_closed r
 closed-with None queue = refl
 closed-with (Some r) queue = refl
+
+point-with : (r : Option Record) (queue : Queue) → at_point (Some (with_requests r queue)) ≡ at_point r
+point-with None queue = refl
+point-with (Some r) queue = refl
 
 requests-with : (r : Option Record) (queue : Queue) → requests_on (Some (with_requests r queue)) ≡ queue
 requests-with None queue = refl
@@ -59,14 +66,16 @@ kept-with (Some r) queue some = by_value (is_some r.value) (is_empty queue) (r.i
 -- a request that stands, granted or waiting
 placed_records : (base : Database) (rows : List Row) (h after : History) (k : List ℕ) (n : ℕ) (exclusive : Bool) (o : Outcome) → ((queue : Queue) → is_empty (queue_after queue n exclusive o) ≡ false) → contents base after ≡ contents base h →
     ((q : List ℕ) → queue_of q after ≡ cond (same_bytes k q) (queue_after (queue_of q h) n exclusive o) (queue_of q h)) → written_since_token after ≡ written_since_token h →
-    closed_set after ≡ closed_set h → AreRecords base rows h → AreRecords base (put_entry key_cmp k (with_requests (record_of rows k) (queue_after (requests_on (record_of rows k)) n exclusive o)) rows) after
-placed_records base rows h after k n x o stands cs qs ws ls are =
+    closed_set after ≡ closed_set h → ((q : List ℕ) → is_among (closed_set h) q ≡ true → map_of.get (state_at base (log_of after) (point_of after)) q ≡ map_of.get (state_at base (log_of h) (point_of h)) q) →
+    AreRecords base rows h → AreRecords base (put_entry key_cmp k (with_requests (record_of rows k) (queue_after (requests_on (record_of rows k)) n exclusive o)) rows) after
+placed_records base rows h after k n x o stands cs qs ws ls ps are =
     record {
       sorted = tested (is_sorted-put key_cmp key_order.total k new rows (computes are.sorted));
       stored = λ q. ap stored (found q) ∙ by stored q (stored-with (record_of rows k) now) ∙ are.stored q ∙ ap (λ db. map_of.get db q) (sym cs);
       requests = λ q. ap requests_on (found q) ∙ requests_by q (same_bytes q k) refl ∙ sym (qs q);
       recent = λ q. ap is_recent (found q) ∙ by is_recent q (recent-with (record_of rows k) now) ∙ are.recent q ∙ ap (λ ks. is_among ks q) (sym ws);
       closed = λ q. ap is_closed (found q) ∙ by is_closed q (closed-with (record_of rows k) now) ∙ are.closed q ∙ ap (λ ks. is_among ks q) (sym ls);
+      point = λ q closed. ap at_point (found q) ∙ by at_point q (point-with (record_of rows k) now) ∙ are.point q (was_closed q closed) ∙ sym (ps q (sym (are.closed q) ∙ was_closed q closed));
       kept = λ q. ap is_some (found q) ∙ kept_by q (same_bytes q k) ∙ ap stands_kept (sym (found q));
     }
   where
@@ -85,6 +94,9 @@ placed_records base rows h after k n x o stands cs qs ws ls are =
         by_test : (b : Bool) → same_bytes q k ≡ b → f (cond b (Some new) (record_of rows q)) ≡ f (record_of rows q)
         by_test true is = e ∙ ap (λ x. f (record_of rows x)) (sym (one_key q k is))
         by_test false is = refl
+
+    was_closed : (q : List ℕ) → is_closed (record_of (put_entry key_cmp k new rows) q) ≡ true → is_closed (record_of rows q) ≡ true
+    was_closed q closed = sym (ap is_closed (found q) ∙ by is_closed q (closed-with (record_of rows k) now)) ∙ closed
 
     requests_by : (q : List ℕ) (b : Bool) → same_bytes q k ≡ b → requests_on (cond b (Some new) (record_of rows q)) ≡ cond (same_bytes k q) (queue_after (queue_of q h) n x o) (queue_of q h)
     requests_by q true e = requests-with (record_of rows k) now ∙ rw (turned_key k q ∙ e) (ap (λ u. queue_after u n x o) (are.requests k ∙ ap (λ u. queue_of u h) (sym (one_key q k e))))
@@ -109,10 +121,11 @@ queued_stands (r ∷ rs) n x = refl
 -- the transaction's request of a key was answered
 pub asked_records : (base : Database) (rows : List Row) (h after : History) (k : List ℕ) (n : ℕ) (exclusive : Bool) (o : Outcome) → contents base after ≡ contents base h →
     ((q : List ℕ) → queue_of q after ≡ cond (same_bytes k q) (queue_after (queue_of q h) n exclusive o) (queue_of q h)) → written_since_token after ≡ written_since_token h →
-    closed_set after ≡ closed_set h → AreRecords base rows h → AreRecords base (rows_after rows k n exclusive o) after
-asked_records base rows h after k n x Granted cs qs ws ls are = placed_records base rows h after k n x Granted (λ queue. granted_stands queue (record { transaction = n; exclusive = x; granted = true })) cs qs ws ls are
-asked_records base rows h after k n x Queued cs qs ws ls are = placed_records base rows h after k n x Queued (λ queue. queued_stands queue n x) cs qs ws ls are
-asked_records base rows h after k n x Died cs qs ws ls are = same_records base rows h after cs (λ q. qs q ∙ either (same_bytes k q) (queue_of q h)) ws ls are
+    closed_set after ≡ closed_set h → ((q : List ℕ) → is_among (closed_set h) q ≡ true → map_of.get (state_at base (log_of after) (point_of after)) q ≡ map_of.get (state_at base (log_of h) (point_of h)) q) →
+    AreRecords base rows h → AreRecords base (rows_after rows k n exclusive o) after
+asked_records base rows h after k n x Granted cs qs ws ls ps are = placed_records base rows h after k n x Granted (λ queue. granted_stands queue (record { transaction = n; exclusive = x; granted = true })) cs qs ws ls ps are
+asked_records base rows h after k n x Queued cs qs ws ls ps are = placed_records base rows h after k n x Queued (λ queue. queued_stands queue n x) cs qs ws ls ps are
+asked_records base rows h after k n x Died cs qs ws ls ps are = same_records base rows h after cs (λ q. qs q ∙ either (same_bytes k q) (queue_of q h)) ws ls ps are
   where
     either : (b : Bool) (queue : Queue) → cond b queue queue ≡ queue
     either true queue = refl

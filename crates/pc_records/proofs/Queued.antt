@@ -9,7 +9,7 @@ use Rattle.pc_records.specs.Slots.{row_of, rows_of, numbers_of, times}
 
 -- the slot's row with this queue
 abbrev pub with_queue : Slot → Queue → Row
-with_queue slot queue = (slot.key, record { value = slot.value; is_recent = slot.is_recent; is_closed = slot.is_closed; requests = queue })
+with_queue slot queue = (slot.key, record { value = slot.value; is_recent = slot.is_recent; is_closed = slot.is_closed; saved = slot.saved; requests = queue })
 
 pub length-set : (queues : List Queue) (n : ℕ) (q : Queue) → length (set queues n q) ≡ length queues
 length-set [] n q = refl

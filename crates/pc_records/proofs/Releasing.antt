@@ -1,5 +1,5 @@
 -- What the end of a transaction leaves of the records.
-use Rattle.std.proofs.Common.{◌≡◌, ℕ, ◌==◌, List, [], ◌∷◌, ◌++◌, map, Option, Some, None, is_some, refl, sym, ap, subst, ◌∙◌, cond, true, false, Bool, not, ◌||◌, ◌&&◌}
+use Rattle.std.proofs.Common.{◌≡◌, ℕ, ◌==◌, List, [], ◌∷◌, ◌++◌, map, Option, Some, None, is_some, unwrap_or, refl, sym, ap, subst, ◌∙◌, cond, true, false, Bool, not, ◌||◌, ◌&&◌}
 use Rattle.std.specs.Prelude.{MatchBool, filter}
 use Rattle.std.specs.List.{list_all}
 use Rattle.std.specs.FinMap.{is_sorted}
@@ -9,16 +9,17 @@ use Rattle.pc_types.specs.declared.Write.{Write}
 use Rattle.pc_model.specs.Maps as map_of
 use Rattle.pc_model.specs.Database.{Database, KeysRise, key_cmp, same_bytes, applied_all, written}
 use Rattle.pc_model.specs.Points.{is_among, with_keys}
-use Rattle.pc_model.specs.History.{History, contents}
+use Rattle.pc_model.specs.Log.{state_at}
+use Rattle.pc_model.specs.History.{History, contents, log_of, point_of}
 use Rattle.pc_model.specs.Locks.{Queue, Request, are_compatible, queue_of, queue_without, granted_behind}
 use Rattle.pc_model.specs.Queues.{AllWait, IsSettledBehind, IsSettled, stands_in}
 use Rattle.pc_model.specs.Replies.{is_empty, written_since_token, closed_set, value_read}
 use Rattle.pc_model.proofs.Counts.{below_apart, and_both}
 use Rattle.pc_model.proofs.Joins.{one_key}
 use Rattle.pc_model.proofs.QueueLaws.{grant}
-use Rattle.pc_records.specs.Rows.{Row, Record, record_of, stored, is_recent, is_closed, requests_on, if_kept, with_row, released, released_rows, given, written_row}
+use Rattle.pc_records.specs.Rows.{Row, Record, record_of, stored, is_recent, is_closed, at_point, requests_on, if_kept, with_row, released, released_rows, given, written_row}
 use Rattle.pc_records.specs.Following.{AreRecords, stands_kept}
-use Rattle.pc_records.proofs.Keeping.{stored-if, requests-if, recent-if, closed-if, kept-if}
+use Rattle.pc_records.proofs.Keeping.{stored-if, requests-if, recent-if, closed-if, point-if, kept-if}
 use Rattle.pc_records.proofs.Distinct.{AreDistinct, get-applied_all, among_with_keys}
 
 -- a queue in which the transaction has no request stays as it is without it
@@ -45,17 +46,19 @@ settled_stays before (r ∷ rs) s = by_grant r.granted refl s (settled_stays (be
 pub without_absent : (queue : Queue) (t : ℕ) → IsSettled queue → stands_in queue t ≡ false → queue_without queue t ≡ queue
 without_absent queue t settled none = ap (granted_behind []) (none_removed queue t none) ∙ settled_stays [] queue settled.0
 
--- The records say this of each key: its value, its requests, and whether it is in the open and in the closed set.
-record AreRead (rows : List Row) (content : List ℕ → Option (List ℕ)) (queue : List ℕ → Queue) (in_open in_closed : List ℕ → Bool) : Type 0 where
+-- The records say this of each key: its value, what it has at the point, its requests, and whether it is in the open and in
+-- the closed set.
+record AreRead (rows : List Row) (content past : List ℕ → Option (List ℕ)) (queue : List ℕ → Queue) (in_open in_closed : List ℕ → Bool) : Type 0 where
   sorted : KeysRise rows
   stored : (key : List ℕ) → stored (record_of rows key) ≡ content key
   requests : (key : List ℕ) → requests_on (record_of rows key) ≡ queue key
   recent : (key : List ℕ) → is_recent (record_of rows key) ≡ in_open key
   closed : (key : List ℕ) → is_closed (record_of rows key) ≡ in_closed key
+  point : (key : List ℕ) → is_closed (record_of rows key) ≡ true → at_point (record_of rows key) ≡ past key
   kept : (key : List ℕ) → is_some (record_of rows key) ≡ stands_kept (record_of rows key)
 
-read_records : (base : Database) (rows : List Row) (h : History) → AreRecords base rows h → AreRead rows (map_of.get (contents base h)) (λ q. queue_of q h) (is_among (written_since_token h)) (is_among (closed_set h))
-read_records base rows h are = record { sorted = are.sorted; stored = are.stored; requests = are.requests; recent = are.recent; closed = are.closed; kept = are.kept }
+read_records : (base : Database) (rows : List Row) (h : History) → AreRecords base rows h → AreRead rows (map_of.get (contents base h)) (map_of.get (state_at base (log_of h) (point_of h))) (λ q. queue_of q h) (is_among (written_since_token h)) (is_among (closed_set h))
+read_records base rows h are = record { sorted = are.sorted; stored = are.stored; requests = are.requests; recent = are.recent; closed = are.closed; point = are.point; kept = are.kept }
 
 -- the record once the transaction's request is removed, where there is one
 abbrev released_at : ℕ → Option Record → Option Record
@@ -133,6 +136,14 @@ module _ (t : ℕ) where
       by_own true = closed-if (record r { requests = queue_without r.requests t })
       by_own false = refl
 
+  point-released : (o : Option Record) → is_closed o ≡ true → at_point (released_at t o) ≡ at_point o
+  point-released None closed = refl
+  point-released (Some r) closed = by_own (stands_in r.requests t)
+    where
+      by_own : (b : Bool) → at_point (cond b (if_kept (record r { requests = queue_without r.requests t })) (Some r)) ≡ unwrap_or r.saved r.value
+      by_own true = point-if (record r { requests = queue_without r.requests t }) closed
+      by_own false = refl
+
   requests-released : (o : Option Record) → IsSettled (requests_on o) → requests_on (released_at t o) ≡ queue_without (requests_on o) t
   requests-released None settled = refl
   requests-released (Some r) settled = by_own (stands_in r.requests t) refl
@@ -149,20 +160,24 @@ module _ (t : ℕ) where
       by_own true = kept-if (record r { requests = queue_without r.requests t })
       by_own false = kept
 
-released_read : (t : ℕ) (rows : List Row) (content : List ℕ → Option (List ℕ)) (queue : List ℕ → Queue) (in_open in_closed : List ℕ → Bool) → ((q : List ℕ) → IsSettled (queue q)) → AreRead rows content queue in_open in_closed →
-    AreRead (released_rows t rows) content (λ q. queue_without (queue q) t) in_open in_closed
-released_read t rows content queue in_open in_closed settled are =
+released_read : (t : ℕ) (rows : List Row) (content past : List ℕ → Option (List ℕ)) (queue : List ℕ → Queue) (in_open in_closed : List ℕ → Bool) → ((q : List ℕ) → IsSettled (queue q)) → AreRead rows content past queue in_open in_closed →
+    AreRead (released_rows t rows) content past (λ q. queue_without (queue q) t) in_open in_closed
+released_read t rows content past queue in_open in_closed settled are =
     record {
       sorted = rise_released t rows are.sorted;
       stored = λ q. ap stored (found q) ∙ stored-released t (record_of rows q) ∙ are.stored q;
       requests = λ q. ap requests_on (found q) ∙ requests-released t (record_of rows q) (subst IsSettled (sym (are.requests q)) (settled q)) ∙ ap (λ u. queue_without u t) (are.requests q);
       recent = λ q. ap is_recent (found q) ∙ recent-released t (record_of rows q) ∙ are.recent q;
       closed = λ q. ap is_closed (found q) ∙ closed-released t (record_of rows q) ∙ are.closed q;
+      point = λ q closed. ap at_point (found q) ∙ point-released t (record_of rows q) (was_closed q closed) ∙ are.point q (was_closed q closed);
       kept = λ q. ap is_some (found q) ∙ kept-released t (record_of rows q) (are.kept q) ∙ ap stands_kept (sym (found q));
     }
   where
     found : (q : List ℕ) → record_of (released_rows t rows) q ≡ released_at t (record_of rows q)
     found q = found_released t rows q are.sorted
+
+    was_closed : (q : List ℕ) → is_closed (record_of (released_rows t rows) q) ≡ true → is_closed (record_of rows q) ≡ true
+    was_closed q closed = sym (ap is_closed (found q) ∙ closed-released t (record_of rows q)) ∙ closed
 
 -- the record once this is committed of its key, where there is one
 abbrev given_at : Option (Option (List ℕ)) → Option Record → Option Record
@@ -212,6 +227,15 @@ closed-given o None = refl
 closed-given None (Some r) = refl
 closed-given (Some v) (Some r) = refl
 
+point-given : (o : Option (Option (List ℕ))) (r : Option Record) → is_closed r ≡ true → at_point (given_at o r) ≡ at_point r
+point-given o None closed = refl
+point-given None (Some r) closed = refl
+point-given (Some v) (Some r) closed = by_saved r.saved
+  where
+    by_saved : (s : Option (Option (List ℕ))) → unwrap_or (cond (is_some s) s (cond r.is_closed (Some r.value) None)) v ≡ unwrap_or s r.value
+    by_saved None = rw closed refl
+    by_saved (Some x) = refl
+
 kept-given : (o : Option (Option (List ℕ))) (r : Option Record) → is_some r ≡ stands_kept r → is_some (given_at o r) ≡ stands_kept (given_at o r)
 kept-given o None kept = refl
 kept-given None (Some r) kept = kept
@@ -222,32 +246,38 @@ kept-given (Some v) (Some r) kept = by_value (is_some v) (not (is_empty r.reques
     by_value false true = refl
     by_value false false = refl
 
-written_read : (ws : List Write) (rows : List Row) (content : List ℕ → Option (List ℕ)) (queue : List ℕ → Queue) (in_open in_closed : List ℕ → Bool) → ((q : List ℕ) → is_some (written ws q) ≡ true → is_some (record_of rows q) ≡ true) →
-    AreRead rows content queue in_open in_closed → AreRead (map (written_row ws) rows) (λ q. value_read (written ws q) (content q)) queue (λ q. in_open q || is_some (written ws q)) in_closed
-written_read ws rows content queue in_open in_closed there are =
+written_read : (ws : List Write) (rows : List Row) (content past : List ℕ → Option (List ℕ)) (queue : List ℕ → Queue) (in_open in_closed : List ℕ → Bool) → ((q : List ℕ) → is_some (written ws q) ≡ true → is_some (record_of rows q) ≡ true) →
+    AreRead rows content past queue in_open in_closed → AreRead (map (written_row ws) rows) (λ q. value_read (written ws q) (content q)) past queue (λ q. in_open q || is_some (written ws q)) in_closed
+written_read ws rows content past queue in_open in_closed there are =
     record {
       sorted = rise_written ws rows are.sorted;
       stored = λ q. ap stored (found q) ∙ stored-given (written ws q) (record_of rows q) (there q) ∙ ap (value_read (written ws q)) (are.stored q);
       requests = λ q. ap requests_on (found q) ∙ requests-given (written ws q) (record_of rows q) ∙ are.requests q;
       recent = λ q. ap is_recent (found q) ∙ recent-given (written ws q) (record_of rows q) (there q) ∙ ap (λ b. b || is_some (written ws q)) (are.recent q);
       closed = λ q. ap is_closed (found q) ∙ closed-given (written ws q) (record_of rows q) ∙ are.closed q;
+      point = λ q closed. ap at_point (found q) ∙ point-given (written ws q) (record_of rows q) (was_closed q closed) ∙ are.point q (was_closed q closed);
       kept = λ q. ap is_some (found q) ∙ kept-given (written ws q) (record_of rows q) (are.kept q) ∙ ap stands_kept (sym (found q));
     }
   where
     found : (q : List ℕ) → record_of (map (written_row ws) rows) q ≡ given_at (written ws q) (record_of rows q)
     found q = found_written ws rows q
 
+    was_closed : (q : List ℕ) → is_closed (record_of (map (written_row ws) rows) q) ≡ true → is_closed (record_of rows q) ≡ true
+    was_closed q closed = sym (ap is_closed (found q) ∙ closed-given (written ws q) (record_of rows q)) ∙ closed
+
 -- the transaction with these writes was committed
 pub released_records : (base : Database) (rows : List Row) (h after : History) (ws : List Write) (n : ℕ) → AreDistinct ws → ((q : List ℕ) → IsSettled (queue_of q h)) → ((q : List ℕ) → is_some (written ws q) ≡ true → stands_in (queue_of q h) n ≡ true) →
     contents base after ≡ applied_all (contents base h) ws → ((q : List ℕ) → queue_of q after ≡ queue_without (queue_of q h) n) → written_since_token after ≡ with_keys (written_since_token h) ws →
-    closed_set after ≡ closed_set h → AreRecords base rows h → AreRecords base (released_rows n (map (written_row ws) rows)) after
-released_records base rows h after ws n distinct settled held cs qs keys ls are =
+    closed_set after ≡ closed_set h → ((q : List ℕ) → is_among (closed_set h) q ≡ true → map_of.get (state_at base (log_of after) (point_of after)) q ≡ map_of.get (state_at base (log_of h) (point_of h)) q) →
+    AreRecords base rows h → AreRecords base (released_rows n (map (written_row ws) rows)) after
+released_records base rows h after ws n distinct settled held cs qs keys ls ps are =
     record {
       sorted = read.sorted;
       stored = λ q. read.stored q ∙ sym (get-applied_all (contents base h) ws q distinct) ∙ ap (λ db. map_of.get db q) (sym cs);
       requests = λ q. read.requests q ∙ sym (qs q);
       recent = λ q. read.recent q ∙ sym (among_with_keys (written_since_token h) ws q) ∙ ap (λ ks. is_among ks q) (sym keys);
       closed = λ q. read.closed q ∙ ap (λ ks. is_among ks q) (sym ls);
+      point = λ q closed. read.point q closed ∙ sym (ps q (sym (read.closed q) ∙ closed));
       kept = read.kept;
     }
   where
@@ -258,21 +288,23 @@ released_records base rows h after ws n distinct settled held cs qs keys ls are 
     there : (q : List ℕ) → is_some (written ws q) ≡ true → is_some (record_of rows q) ≡ true
     there q e = some_then (record_of rows q) (ap (λ u. stands_in u n) (are.requests q) ∙ held q e)
 
-    read : AreRead (released_rows n (map (written_row ws) rows)) (λ q. value_read (written ws q) (map_of.get (contents base h) q)) (λ q. queue_without (queue_of q h) n) (λ q. is_among (written_since_token h) q || is_some (written ws q)) (is_among (closed_set h))
-    read = released_read n (map (written_row ws) rows) _ _ _ _ settled (written_read ws rows _ _ _ _ there (read_records base rows h are))
+    read : AreRead (released_rows n (map (written_row ws) rows)) (λ q. value_read (written ws q) (map_of.get (contents base h) q)) (map_of.get (state_at base (log_of h) (point_of h))) (λ q. queue_without (queue_of q h) n) (λ q. is_among (written_since_token h) q || is_some (written ws q)) (is_among (closed_set h))
+    read = released_read n (map (written_row ws) rows) _ _ _ _ _ settled (written_read ws rows _ _ _ _ _ there (read_records base rows h are))
 
 -- the transaction was aborted
 pub let_go_records : (base : Database) (rows : List Row) (h after : History) (n : ℕ) → ((q : List ℕ) → IsSettled (queue_of q h)) → contents base after ≡ contents base h → ((q : List ℕ) → queue_of q after ≡ queue_without (queue_of q h) n) →
-    written_since_token after ≡ written_since_token h → closed_set after ≡ closed_set h → AreRecords base rows h → AreRecords base (released_rows n rows) after
-let_go_records base rows h after n settled cs qs ws ls are =
+    written_since_token after ≡ written_since_token h → closed_set after ≡ closed_set h → ((q : List ℕ) → is_among (closed_set h) q ≡ true → map_of.get (state_at base (log_of after) (point_of after)) q ≡ map_of.get (state_at base (log_of h) (point_of h)) q) →
+    AreRecords base rows h → AreRecords base (released_rows n rows) after
+let_go_records base rows h after n settled cs qs ws ls ps are =
     record {
       sorted = read.sorted;
       stored = λ q. read.stored q ∙ ap (λ db. map_of.get db q) (sym cs);
       requests = λ q. read.requests q ∙ sym (qs q);
       recent = λ q. read.recent q ∙ ap (λ ks. is_among ks q) (sym ws);
       closed = λ q. read.closed q ∙ ap (λ ks. is_among ks q) (sym ls);
+      point = λ q closed. read.point q closed ∙ sym (ps q (sym (read.closed q) ∙ closed));
       kept = read.kept;
     }
   where
-    read : AreRead (released_rows n rows) (map_of.get (contents base h)) (λ q. queue_without (queue_of q h) n) (is_among (written_since_token h)) (is_among (closed_set h))
-    read = released_read n rows _ _ _ _ settled (read_records base rows h are)
+    read : AreRead (released_rows n rows) (map_of.get (contents base h)) (map_of.get (state_at base (log_of h) (point_of h))) (λ q. queue_without (queue_of q h) n) (is_among (written_since_token h)) (is_among (closed_set h))
+    read = released_read n rows _ _ _ _ _ settled (read_records base rows h are)

@@ -74,9 +74,9 @@ module _ {A E : Type 0} (result : Result A E) (told : A → Outcome) (slots : Li
 
 -- a new key's slot goes in
 module _ (slots new : List Slot) (free new_free : List ℕ) (most new_most : ℕ) (queues new_queues : List Queue) (key : List ℕ) (i last n t : ℕ) (exclusive : Bool) (o : Outcome) (kept : AreKept slots free most queues) (count : last + 1 ≡ length free) (is : n ≡ get_or free last n) (gap : IsNewAt slots key i)
-    (answered : o ≡ outcome (queue_at queues n) t exclusive) (changed : new_queues ≡ set queues n (queue_after (queue_at queues n) t exclusive o)) (new_is : new ≡ insert slots i (record { number = n; key = key; value = None; is_recent = false; is_closed = false })) where
+    (answered : o ≡ outcome (queue_at queues n) t exclusive) (changed : new_queues ≡ set queues n (queue_after (queue_at queues n) t exclusive o)) (new_is : new ≡ insert slots i (record { number = n; key = key; value = None; is_recent = false; is_closed = false; saved = None })) where
   abbrev new_slot : Slot
-  new_slot = record { number = n; key = key; value = None; is_recent = false; is_closed = false }
+  new_slot = record { number = n; key = key; value = None; is_recent = false; is_closed = false; saved = None }
 
   bare : queue_at queues n ≡ []
   bare = kept.bare n (free_number slots free most queues last n kept count is)

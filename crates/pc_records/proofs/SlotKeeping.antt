@@ -55,7 +55,7 @@ kept_same slots new free most queues keys numbers kept = record {
 
 pub kept_taken : (slots new : List Slot) (free : List ℕ) (most : ℕ) (queues : List Queue) (i : ℕ) → i < length slots → ((d : Slot) → new ≡ set slots i (taken_slot (get_or slots i d))) → AreKept slots free most queues → AreKept new free most queues
 kept_taken slots new free most queues i lt is kept =
-    let d : Slot = record { number = 0; key = []; value = Rattle.std.specs.Prelude.None; is_recent = false; is_closed = false } in
+    let d : Slot = record { number = 0; key = []; value = Rattle.std.specs.Prelude.None; is_recent = false; is_closed = false; saved = Rattle.std.specs.Prelude.None } in
     let e : Slot = get_or slots i d in
     let is_e : new ≡ set slots i (taken_slot e) = is d in
     kept_same slots new free most queues

@@ -162,15 +162,15 @@ set_parts (x ∷ xs) (suc i) row lt = ap (λ (rs : List Row). x ∷ rs) (set_par
 
 -- a key whose mark of the closed set goes, and whose row is tidied then, is taken
 pub taken_rows : (rows : List Row) (key : List ℕ) (i : ℕ) (d : Row) → KeysRise rows → IsAt rows key i → same_bytes key (get_or rows i d).0 ≡ true →
-    tidied (set rows i ((get_or rows i d).0, record (get_or rows i d).1 { is_closed = false })) i ≡ left_rows rows key
-taken_rows rows key i d rise at here = by_record (if_kept (record (get_or rows i d).1 { is_closed = false })) refl
+    tidied (set rows i ((get_or rows i d).0, record (get_or rows i d).1 { is_closed = false; saved = None })) i ≡ left_rows rows key
+taken_rows rows key i d rise at here = by_record (if_kept (record (get_or rows i d).1 { is_closed = false; saved = None })) refl
   where
-    by_record : (o : Option Record) → if_kept (record (get_or rows i d).1 { is_closed = false }) ≡ o → tidied (set rows i ((get_or rows i d).0, record (get_or rows i d).1 { is_closed = false })) i ≡ left_rows rows key
+    by_record : (o : Option Record) → if_kept (record (get_or rows i d).1 { is_closed = false; saved = None }) ≡ o → tidied (set rows i ((get_or rows i d).0, record (get_or rows i d).1 { is_closed = false; saved = None })) i ≡ left_rows rows key
     by_record None is =
-        tidied_set rows i d ((get_or rows i d).0, record (get_or rows i d).1 { is_closed = false }) None at.in_range is ∙ others_but key rows i d rise at.in_range here
+        tidied_set rows i d ((get_or rows i d).0, record (get_or rows i d).1 { is_closed = false; saved = None }) None at.in_range is ∙ others_but key rows i d rise at.in_range here
         ∙ sym (ap (λ o. with_left (left_of o) key rows) (at.finds d) ∙ ap (λ o. with_left o key rows) is)
     by_record (Some r) is =
-        tidied_set rows i d ((get_or rows i d).0, record (get_or rows i d).1 { is_closed = false }) (Some r) at.in_range is ∙ set_parts rows i ((get_or rows i d).0, r) at.in_range ∙ sym (at.puts d r)
+        tidied_set rows i d ((get_or rows i d).0, record (get_or rows i d).1 { is_closed = false; saved = None }) (Some r) at.in_range is ∙ set_parts rows i ((get_or rows i d).0, r) at.in_range ∙ sym (at.puts d r)
         ∙ sym (ap (λ o. with_left (left_of o) key rows) (at.finds d) ∙ ap (λ o. with_left o key rows) is)
 
 -- and so in the slots
@@ -178,7 +178,7 @@ pub taken_there : (slots marked new : List Slot) (queues : List Queue) (key : Li
     ((d : Slot) → marked ≡ set slots i (taken_slot (get_or slots i d))) → rows_of queues new ≡ tidied (rows_of queues marked) i → rows_of queues new ≡ left_rows (rows_of queues slots) key
 taken_there slots marked new queues key i d rise at here marked_is new_is =
     let row : get_or (rows_of queues slots) i (row_of queues d) ≡ row_of queues (get_or slots i d) = get_or-map (row_of queues) slots i d in
-    let rows : rows_of queues marked ≡ set (rows_of queues slots) i ((get_or (rows_of queues slots) i (row_of queues d)).0, record (get_or (rows_of queues slots) i (row_of queues d)).1 { is_closed = false }) =
-    ap (rows_of queues) (marked_is d) ∙ map-set (row_of queues) slots i (taken_slot (get_or slots i d)) ∙ ap (λ (r : Row). set (rows_of queues slots) i (r.0, record r.1 { is_closed = false })) (sym row) in
+    let rows : rows_of queues marked ≡ set (rows_of queues slots) i ((get_or (rows_of queues slots) i (row_of queues d)).0, record (get_or (rows_of queues slots) i (row_of queues d)).1 { is_closed = false; saved = None }) =
+    ap (rows_of queues) (marked_is d) ∙ map-set (row_of queues) slots i (taken_slot (get_or slots i d)) ∙ ap (λ (r : Row). set (rows_of queues slots) i (r.0, record r.1 { is_closed = false; saved = None })) (sym row) in
     new_is ∙ ap (λ (rs : List Row). tidied rs i) rows
     ∙ taken_rows (rows_of queues slots) key i (row_of queues d) (rise_any [] queues slots rise) (at queues) (ap (λ (r : Row). same_bytes key r.0) row ∙ here)

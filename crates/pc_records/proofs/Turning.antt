@@ -91,7 +91,7 @@ keys-written ws (x ∷ xs) = rw (key-given (written ws x.key) x, keys-written ws
 
 -- a slot that stands for none
 abbrev pub any_slot : Slot
-any_slot = record { number = 0; key = []; value = None; is_recent = false; is_closed = false }
+any_slot = record { number = 0; key = []; value = None; is_recent = false; is_closed = false; saved = None }
 
 pub length-changed : (slots new : List Slot) (i : ℕ) (x : Slot) → new ≡ set slots i x → length new ≡ length slots
 length-changed slots new i x is = ap length is ∙ length-set slots i x

@@ -1,12 +1,13 @@
 -- What the records say of a history.
-use Rattle.std.specs.Prelude.{◌≡◌, ℕ, Bool, false, List, Option, Some, None, is_some}
+use Rattle.std.specs.Prelude.{◌≡◌, ℕ, Bool, true, false, List, Option, Some, None, is_some}
 use Rattle.pc_model.specs.Maps as map_of
 use Rattle.pc_model.specs.Database.{Database, KeysRise}
 use Rattle.pc_model.specs.Points.{is_among}
 use Rattle.pc_model.specs.Locks.{queue_of}
-use Rattle.pc_model.specs.History.{History, contents}
+use Rattle.pc_model.specs.Log.{state_at}
+use Rattle.pc_model.specs.History.{History, contents, log_of, point_of}
 use Rattle.pc_model.specs.Replies.{written_since_token, closed_set}
-use Rattle.pc_records.specs.Rows.{Row, Record, record_of, stored, is_recent, is_closed, requests_on, is_kept}
+use Rattle.pc_records.specs.Rows.{Row, Record, record_of, stored, is_recent, is_closed, at_point, requests_on, is_kept}
 
 -- there is a record, and something keeps it
 abbrev pub stands_kept : Option Record → Bool
@@ -20,4 +21,5 @@ pub record AreRecords (base : Database) (rows : List Row) (history : History) : 
   pub requests : (key : List ℕ) → requests_on (record_of rows key) ≡ queue_of key history
   pub recent : (key : List ℕ) → is_recent (record_of rows key) ≡ is_among (written_since_token history) key
   pub closed : (key : List ℕ) → is_closed (record_of rows key) ≡ is_among (closed_set history) key
+  pub point : (key : List ℕ) → is_closed (record_of rows key) ≡ true → at_point (record_of rows key) ≡ map_of.get (state_at base (log_of history) (point_of history)) key
   pub kept : (key : List ℕ) → is_some (record_of rows key) ≡ stands_kept (record_of rows key)

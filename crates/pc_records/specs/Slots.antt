@@ -1,5 +1,5 @@
 -- Slots: the places of records. Each has a number of its own below the capacity, and the queue of requests at that number.
-use Rattle.std.specs.Prelude.{◌≡◌, ℕ, zero, suc, ◌+◌, ◌<◌, ◌≤◌, nat_lt, ◌==◌, true, false, List, [], ◌∷◌, map, length, Option, Some, None, slice_index_or, if◌then◌else◌}
+use Rattle.std.specs.Prelude.{◌≡◌, ℕ, zero, suc, ◌+◌, ◌<◌, ◌≤◌, nat_lt, ◌==◌, true, false, List, [], ◌∷◌, map, length, Option, Some, None, is_some, slice_index_or, if◌then◌else◌}
 use Rattle.pc_types.specs.declared.Write.{Write}
 use Rattle.pc_model.specs.Database.{KeysRise, written}
 use Rattle.pc_model.specs.Locks.{Queue}
@@ -10,7 +10,7 @@ use Rattle.pc_records.specs.Rows.{Row, if_kept, with_row}
 
 -- the row in a slot, given the queue of each number
 abbrev pub row_of : List Queue → Slot → Row
-row_of queues slot = (slot.key, record { value = slot.value; is_recent = slot.is_recent; is_closed = slot.is_closed; requests = queue_at queues slot.number })
+row_of queues slot = (slot.key, record { value = slot.value; is_recent = slot.is_recent; is_closed = slot.is_closed; saved = slot.saved; requests = queue_at queues slot.number })
 
 -- the rows in the slots
 abbrev pub rows_of : List Queue → List Slot → List Row
@@ -68,7 +68,7 @@ numbers_from n (suc count) = n ∷ numbers_from (n + 1) count
 -- slots of committed pairs, numbered from n on
 abbrev pub slots_from : ℕ → List (List ℕ × List ℕ) → List Slot
 slots_from n [] = []
-slots_from n (pair ∷ pairs) = record { number = n; key = pair.0; value = Some pair.1; is_recent = false; is_closed = false } ∷ slots_from (n + 1) pairs
+slots_from n (pair ∷ pairs) = record { number = n; key = pair.0; value = Some pair.1; is_recent = false; is_closed = false; saved = None } ∷ slots_from (n + 1) pairs
 
 -- the rows without the one at place i where nothing keeps it
 abbrev pub tidied : List Row → ℕ → List Row
@@ -76,10 +76,15 @@ tidied [] i = []
 tidied (row ∷ rows) zero = with_row (if_kept row.1) row.0 rows
 tidied (row ∷ rows) (suc i) = row ∷ tidied rows i
 
+-- what is saved of the slot once another value is committed: what is saved already, or else its value where its key is in
+-- the closed set
+abbrev pub saved_next : Slot → Option (Option (List ℕ))
+saved_next slot = if is_some slot.saved then slot.saved else (if slot.is_closed then Some slot.value else None)
+
 -- the slot once this is committed of its key, where it was written
 abbrev pub given_slot : Option (Option (List ℕ)) → Slot → Slot
 given_slot None slot = slot
-given_slot (Some value) slot = record slot { value = value; is_recent = true }
+given_slot (Some value) slot = record slot { value = value; is_recent = true; saved = saved_next slot }
 
 -- the slot once these writes are committed
 abbrev pub with_writes : List Write → Slot → Slot
@@ -97,11 +102,11 @@ values_given writes (slot ∷ slots) = with_given (written writes slot.key) (val
 
 -- the slot once the open set is closed
 abbrev pub closed_slot : Slot → Slot
-closed_slot slot = record slot { is_recent = false; is_closed = slot.is_recent }
+closed_slot slot = record slot { is_recent = false; is_closed = slot.is_recent; saved = None }
 
 -- the slot once its key is taken
 abbrev pub taken_slot : Slot → Slot
-taken_slot slot = record slot { is_closed = false }
+taken_slot slot = record slot { is_closed = false; saved = None }
 
 -- the pairs with this one before them, where there is a value
 abbrev pub with_pair : List ℕ → Option (List ℕ) → List (List ℕ × List ℕ) → List (List ℕ × List ℕ)

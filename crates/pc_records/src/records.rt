@@ -7,7 +7,7 @@ ghost use Rattle.pc_model.specs.Locks.Outcome.{Granted};
 ghost use Rattle.pc_locks.specs.Queues.{told, is_exclusive};
 ghost use Rattle.pc_locks.specs.States as states;
 ghost use Rattle.pc_locks.specs.States.{slots_of};
-ghost use Rattle.pc_records.specs.Rows.{record_of, stored, is_recent, requests_on, is_full_for, is_waiting, rows_after, released_rows, written_row, closed_row, left_rows, committed_row};
+ghost use Rattle.pc_records.specs.Rows.{record_of, stored, is_recent, at_point, requests_on, is_full_for, is_waiting, rows_after, released_rows, written_row, closed_row, left_rows, committed_row};
 ghost use Rattle.pc_records.specs.Slots.{rows_of, AreKept, IsNewAt};
 
 use crate::slots::Slot;
@@ -74,6 +74,13 @@ impl Records {
         ensures { option_copied result ≡ stored (record_of self.now.rows key.now) }
     {
         slots::value_at(&self.slots, key)
+    }
+
+    /// What a key of the closed set has at the point: what was saved of it, or else its committed value.
+    pub fn at_point(&self, key: &Key) -> Option<&Value>
+        ensures { option_copied result ≡ at_point (record_of self.now.rows key.now) }
+    {
+        slots::value_at_point(&self.slots, key)
     }
 
     /// The committed pairs, rising by key.
@@ -220,6 +227,7 @@ fn request_new(
         value: None,
         is_recent: false,
         is_closed: false,
+        saved: None,
     };
     slots::insert_slot(slots, i, slot);
     free.truncate(last);

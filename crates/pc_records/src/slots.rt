@@ -1,9 +1,9 @@
 //! Slots, which rise by key. Each has a number of its own, and its requests are those of the locks' queue at the number.
-ghost use Rattle.std.specs.Prelude.{◌≡◌, ◌<◌, ◌≤◌, ◌+◌, [], true, insert, map, length, IfOk, IfErr, MatchOption, is_none, option_copied, slice_index_or, slice_set, vec_len, vec_capacity, List, ℕ};
+ghost use Rattle.std.specs.Prelude.{◌≡◌, ◌<◌, ◌≤◌, ◌+◌, [], true, insert, map, length, IfOk, IfErr, MatchOption, is_none, unwrap_or, option_copied, slice_index_or, slice_set, vec_len, vec_capacity, List, ℕ};
 ghost use Rattle.pc_model.specs.Maps.{get};
 ghost use Rattle.pc_model.specs.Database.{KeysRise, database_of, same_bytes};
 ghost use Rattle.pc_model.specs.Locks.{Queue};
-ghost use Rattle.pc_records.specs.Rows.{record_of, stored, is_recent, is_kept};
+ghost use Rattle.pc_records.specs.Rows.{record_of, stored, is_recent, at_point, is_kept};
 ghost use Rattle.pc_records.specs.Slots.{row_of, rows_of, numbers_of, times, AreKept, IsSlotOf, IsNewAt, IsNumbered, numbers_from, slots_from, tidied, given_slot, with_writes, values_given, closed_slot, taken_slot};
 
 use crate::writes::next_value;
@@ -12,6 +12,7 @@ use pc_types::{Key, SlotId, Value, Write};
 use std::alloc::{AllocError, Global};
 use std::cmp::Ordering;
 use std::collections::VecDeque;
+use std::mem;
 
 /// What is kept of a key, but its requests.
 #[derive(Drop)]
@@ -25,6 +26,8 @@ pub(crate) struct Slot {
     pub(crate) is_recent: bool,
     /// The key is in the closed set: it is of the point, and not taken yet.
     pub(crate) is_closed: bool,
+    /// What the key had at the point, where a commit has written it since.
+    pub(crate) saved: Option<Option<Value>>,
 }
 
 // A slot for each pair, numbered from 0.
@@ -43,6 +46,7 @@ pub(crate) fn slots_of(alloc: Global, pairs: &[(Key, Value)]) -> Result<Vec<Slot
             value: Some(value),
             is_recent: false,
             is_closed: false,
+            saved: None,
         })?;
     }
     Ok(slots)
@@ -119,6 +123,27 @@ pub(crate) fn value_at<'a>(slots: &'a [Slot], key: &Key) -> Option<&'a Value>
     }
 }
 
+// What the slot's key has at the point: what is saved of it, or else its committed value.
+fn slot_at_point(slot: &Slot) -> Option<&Value>
+    ensures { option_copied result ≡ unwrap_or slot.now.saved slot.now.value }
+{
+    match &slot.saved {
+        Some(value) => value.as_ref(),
+        None => slot.value.as_ref(),
+    }
+}
+
+// What the key has at the point, where it is in the closed set.
+pub(crate) fn value_at_point<'a>(slots: &'a [Slot], key: &Key) -> Option<&'a Value>
+    requires { KeysRise (rows_of [] slots.now) }
+    ensures { (queues : List Queue) → option_copied result ≡ at_point (record_of (rows_of queues slots.now) key.now) }
+{
+    match place(slots, key) {
+        Ok(i) => slot_at_point(&slots[i]),
+        Err(_) => None,
+    }
+}
+
 // The pairs of the slots that have a value.
 pub(crate) fn committed_pairs(
     alloc: Global,
@@ -150,7 +175,7 @@ pub(crate) fn recent_at(slots: &[Slot], key: &Key) -> bool
     }
 }
 
-// The key of the slot is of the closed set where it was in the open one.
+// The key of the slot is of the closed set where it was in the open one, and nothing is saved of it.
 fn close_slot(slots: &mut Vec<Slot>, i: usize)
     requires { i < length slots.old.items }
     ensures { (d : Slot) → slots.new.items ≡ slice_set slots.old.items i (closed_slot (slice_index_or slots.old.items i d)) }
@@ -158,6 +183,7 @@ fn close_slot(slots: &mut Vec<Slot>, i: usize)
     let slot = &mut slots[i];
     slot.is_closed = slot.is_recent;
     slot.is_recent = false;
+    slot.saved = None;
 }
 
 // The open set is closed.
@@ -169,12 +195,14 @@ pub(crate) fn close_slots(slots: &mut Vec<Slot>)
     }
 }
 
-// The key of the slot is not in the closed set.
+// The key of the slot is not in the closed set, and nothing is saved of it.
 pub(crate) fn mark_taken(slots: &mut Vec<Slot>, i: usize)
     requires { i < length slots.old.items }
     ensures { (d : Slot) → slots.new.items ≡ slice_set slots.old.items i (taken_slot (slice_index_or slots.old.items i d)) }
 {
-    slots[i].is_closed = false;
+    let slot = &mut slots[i];
+    slot.is_closed = false;
+    slot.saved = None;
 }
 
 // The slot goes in at the place.
@@ -209,14 +237,18 @@ pub(crate) fn tidy(slots: &mut Vec<Slot>, free: &mut Vec<SlotId>, locks: &Locks,
     }
 }
 
-// The slot has the value that it is given.
+// The slot has the value that it is given. What it had is saved, where its key is in the closed set and nothing is saved
+// of it yet.
 fn give_slot(slots: &mut Vec<Slot>, i: usize, given: Option<Option<Value>>)
     requires { i < length slots.old.items }
     ensures { (d : Slot) → slots.new.items ≡ slice_set slots.old.items i (given_slot given (slice_index_or slots.old.items i d)) }
 {
     if let Some(value) = given {
         let slot = &mut slots[i];
-        slot.value = value;
+        let old = mem::replace(&mut slot.value, value);
+        if slot.is_closed && slot.saved.is_none() {
+            slot.saved = Some(old);
+        }
         slot.is_recent = true;
     }
 }

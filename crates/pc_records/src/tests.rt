@@ -18,13 +18,15 @@ enum Ask {
     Close,
     Take(u8),
     Value(u8),
+    // What the key has at the point.
+    AtPoint(u8),
     IsRecent(u8),
     IsFullFor(u8),
     // How many keys have a value.
     Values,
 }
 
-use Ask::{Close, Commit, IsFullFor, IsRecent, Read, Release, Take, Values};
+use Ask::{AtPoint, Close, Commit, IsFullFor, IsRecent, Read, Release, Take, Values};
 
 #[derive(Clone, Copy, Debug, PartialEq)]
 enum Told {
@@ -91,8 +93,8 @@ fn commit(
     Ok(Done)
 }
 
-fn value_of(records: &Records, key: &Key) -> Told {
-    match records.value(key) {
+fn content_of(value: Option<&Value>) -> Told {
+    match value {
         Some(value) => match value.as_bytes().first() {
             Some(byte) => Told::Value(*byte),
             None => Absent,
@@ -113,7 +115,8 @@ fn take(alloc: Global, records: &mut Records, key: u8) -> Result<Told, Refusal> 
 // What the records say of the key.
 fn seen(alloc: Global, records: &Records, ask: Ask) -> Result<Told, Refusal> {
     match ask {
-        Ask::Value(key) => Ok(value_of(records, &Key::new(alloc, &[key])?)),
+        Ask::Value(key) => Ok(content_of(records.value(&Key::new(alloc, &[key])?))),
+        AtPoint(key) => Ok(content_of(records.at_point(&Key::new(alloc, &[key])?))),
         IsRecent(key) => Ok(yes(records.is_recent(&Key::new(alloc, &[key])?))),
         IsFullFor(key) => Ok(yes(records.is_full_for(&Key::new(alloc, &[key])?))),
         _ => Ok(Count(records.committed(alloc)?.len())),
@@ -251,5 +254,65 @@ fn sets(rt: HostRuntime) -> Result<(), Fail> {
     let alloc = rt.alloc();
     let mut records = with_value(alloc)?;
     assert_eq!(rt; first_wrong(alloc, &mut records, &SETS)?, None);
+    Ok(())
+}
+
+const POINTS: [(Ask, Told); 43] = [
+    // Outside the closed set it is the committed value, and so it is once the set is closed.
+    (AtPoint(5), Told::Value(50)),
+    (AtPoint(6), Absent),
+    (Commit(5, Some(51)), Done),
+    (AtPoint(5), Told::Value(51)),
+    (Close, Done),
+    (AtPoint(5), Told::Value(51)),
+    // A value is committed, and then a removal: what the key had stays until it is taken.
+    (Ask::Write(1, 5), Granted),
+    (Commit(5, Some(52)), Done),
+    (Release(1), Done),
+    (Ask::Value(5), Told::Value(52)),
+    (AtPoint(5), Told::Value(51)),
+    (Commit(5, None), Done),
+    (Ask::Value(5), Absent),
+    (AtPoint(5), Told::Value(51)),
+    (Take(5), Done),
+    (AtPoint(5), Absent),
+    // Once the key is taken nothing is saved of it.
+    (Commit(5, Some(53)), Done),
+    (AtPoint(5), Told::Value(53)),
+    (Commit(5, Some(54)), Done),
+    (AtPoint(5), Told::Value(54)),
+    (Close, Done),
+    // A removal, and then a value.
+    (Commit(5, None), Done),
+    (AtPoint(5), Told::Value(54)),
+    (Commit(5, Some(55)), Done),
+    (Ask::Value(5), Told::Value(55)),
+    (AtPoint(5), Told::Value(54)),
+    (Take(5), Done),
+    (AtPoint(5), Told::Value(55)),
+    // A key that had no value at the point has none, whatever is committed.
+    (Commit(5, None), Done),
+    (Close, Done),
+    (AtPoint(5), Absent),
+    (Commit(5, Some(56)), Done),
+    (AtPoint(5), Absent),
+    (Commit(5, Some(57)), Done),
+    (Ask::Value(5), Told::Value(57)),
+    (AtPoint(5), Absent),
+    // With the next close what was saved is gone.
+    (Close, Done),
+    (AtPoint(5), Told::Value(57)),
+    (Commit(5, Some(58)), Done),
+    (AtPoint(5), Told::Value(57)),
+    (Take(5), Done),
+    (Ask::Value(5), Told::Value(58)),
+    (AtPoint(5), Told::Value(58)),
+];
+
+#[test]
+fn points(rt: HostRuntime) -> Result<(), Fail> {
+    let alloc = rt.alloc();
+    let mut records = with_value(alloc)?;
+    assert_eq!(rt; first_wrong(alloc, &mut records, &POINTS)?, None);
     Ok(())
 }

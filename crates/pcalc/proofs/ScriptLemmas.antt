@@ -12,8 +12,7 @@ use Rattle.pc_engine.specs.Store.{Store, setting_of}
 use Rattle.pc_engine.specs.Stands.{Stands}
 use Rattle.pc_model.specs.Database.{Database}
 use Rattle.pc_model.specs.History.{History}
-use Rattle.pc_model.specs.Replies.{Setting}
-use Rattle.pc_model.specs.QuietPoints.{IsLegalForNow}
+use Rattle.pc_model.specs.Replies.{Setting, IsLegal}
 use Rattle.pc_types.proofs.Known.{appends_nothing, appends_then, begins_after}
 use Rattle.pcalc.specs.declared.lines.Line.{Line}
 use Rattle.pcalc.specs.declared.lines.Line.TheVariants as line
@@ -30,7 +29,7 @@ use Rattle.pcalc.specs.Scripts.Stage.{Reading, Running, Ended}
 use Rattle.pcalc.specs.Holding.{Holds, IsSaid, IsSaidInPart, is_ended}
 
 -- an event that is answered legally
-pub asks : (st : Setting) (history : History) (l : Line) (event : Event) (reply : Reply) → l ≡ line.Asks event → IsLegalForNow st history event reply
+pub asks : (st : Setting) (history : History) (l : Line) (event : Event) (reply : Reply) → l ≡ line.Asks event → IsLegal st history event reply
     → AnswersLine st history l (answer.Says reply) (record { event = event; reply = reply } ∷ history)
 asks st history l event reply is legal = rw is (reply, legal, refl, refl)
 

@@ -9,8 +9,7 @@ use Rattle.pc_types.specs.declared.Refusal.TheVariants as why
 use Rattle.pc_model.specs.Maps as map_of
 use Rattle.pc_model.specs.Database.{Database}
 use Rattle.pc_model.specs.History.{History}
-use Rattle.pc_model.specs.Replies.{Setting}
-use Rattle.pc_model.specs.QuietPoints.{IsLegalForNow}
+use Rattle.pc_model.specs.Replies.{Setting, IsLegal}
 use Rattle.pcalc.specs.declared.lines.Line.{Line}
 use Rattle.pcalc.specs.declared.lines.Line.TheVariants as line
 use Rattle.pcalc.specs.declared.script.Answer.{Answer}
@@ -57,7 +56,7 @@ AnswersLine st history (line.Sets key value) said next = (said ≡ refused why.W
 AnswersLine st history (line.SetsRefused why) said next = (said ≡ refused why) × (next ≡ history)
 AnswersLine st history (line.AsksRefused why) said next = (said ≡ refused why) × (next ≡ history)
 AnswersLine st history (line.Asks event) said next =
-    (reply : Reply) × IsLegalForNow st history event reply × (said ≡ answer.Says reply) × (next ≡ record { event = event; reply = reply } ∷ history)
+    (reply : Reply) × IsLegal st history event reply × (said ≡ answer.Says reply) × (next ≡ record { event = event; reply = reply } ∷ history)
 AnswersLine st history (line.Shows view) said next = AnswersView st history view said × (next ≡ history)
 
 -- the first line after the base: the store is made and answers it, or memory ran out

@@ -46,7 +46,7 @@ returns-in-Seal c =
 
 pub returns-in-OpenCapture : goal.returns-in-OpenCapture
 returns-in-OpenCapture c =
-    let kept = moves_keeps _ _ _ _ _ c.advance.ensures in
+    let kept = moves_keeps _ _ _ _ _ _ c.advance.ensures in
     record { follows = λ history stands. rw c.in-OpenCapture.is (opens_follows _ _ history _ stands c.advance.ensures); setting = kept.0; refused = kept.1 }
 
 pub returns-in-Take : goal.returns-in-Take
@@ -61,7 +61,7 @@ returns-in-Done c =
 
 pub returns-in-Rest : goal.returns-in-Rest
 returns-in-Rest c =
-    let kept = moves_keeps _ _ _ _ _ c.advance-in-Rest.ensures in
+    let kept = moves_keeps _ _ _ _ _ _ c.advance-in-Rest.ensures in
     record { follows = λ history stands. rw c.in-Rest.is (rests_follows _ _ history _ stands c.advance-in-Rest.ensures); setting = kept.0; refused = kept.1 }
 
 pub returns-in-Join : goal.returns-in-Join
