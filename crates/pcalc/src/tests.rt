@@ -181,8 +181,8 @@ fn answers_scripts(rt: HostRuntime) {
             3,
         ),
         (
-            "seal\ncapture\ntake\ndone\nrest\npoint\npoint\nbegin 1\nseal\nseal\ncapture\ncapture\ntake\ndone\ndone\nrest\nrest\nbegin 1\npoint\n",
-            "refused WrongPhase\nrefused WrongPhase\nrefused WrongPhase\nrefused WrongPhase\nrefused WrongPhase\nphase prepare 1\nrefused WrongPhase\nrefused WrongPhase\nphase resolve 1\nrefused WrongPhase\nphase capture 1\nrefused WrongPhase\nnone left\npart 1 file 1 entries 0\nrefused WrongPhase\nphase rest 1\nrefused WrongPhase\nbegun 1\nrefused WrongPhase\n",
+            "seal\ncapture\ntake\ndone\nrest\npoint\npoint\nseal\nseal\ncapture\ncapture\ntake\ndone\ndone\nbegin 1\nrest\nrest\npoint\nseal\n",
+            "refused WrongPhase\nrefused WrongPhase\nrefused WrongPhase\nrefused WrongPhase\nrefused WrongPhase\nphase prepare 1\nrefused WrongPhase\nphase resolve 1\nrefused WrongPhase\nphase capture 1\nrefused WrongPhase\nnone left\npart 1 file 1 entries 0\nrefused WrongPhase\nbegun 1\nphase rest 1\nrefused WrongPhase\nphase prepare 2\nnot yet 1\n",
             0,
         ),
     ];
@@ -406,4 +406,34 @@ fn counts_its_sessions(rt: HostRuntime) {
     let want =
         "begun 1\nrefused NoSession\nrefused NoSession\nrefused NoTransaction\naborted\nrefused NoSession\n";
     assert!(rt; answers(rt.alloc(), 16, script, want));
+}
+
+// A key that was committed in prepare, and is written by a later transaction, has at the point what was committed.
+#[test]
+fn takes_what_was_committed_in_prepare(rt: HostRuntime) {
+    let script =
+        "begin 1\nput 1 a 1\ncommit 1\npoint\nbegin 1\nput 1 a 2\ncommit 1\nbegin 1\nput 1 a 3\nseal\ncommit 1\ncapture\ntake\ncheck\n";
+    let want =
+        "begun 1\nok\ncommitted 1\nphase prepare 1\nbegun 2\nok\ncommitted 3\nbegun 3\nok\nphase resolve 1\ncommitted 5\nphase capture 1\ntook a 2\ncheck ok\n";
+    assert!(rt; answers(rt.alloc(), 1024, script, want));
+}
+
+// An abort beside a commit of the same key leaves the commit's value to the point.
+#[test]
+fn an_abort_leaves_the_point(rt: HostRuntime) {
+    let script =
+        "base a 1\nbegin 1\npoint\nbegin 2\nput 2 a 5\nabort 2\nput 1 a 7\ncommit 1\nseal\ncapture\ntake\ndone\nstate 1\ncheck\n";
+    let want =
+        "ok\nbegun 1\nphase prepare 1\nbegun 2\nok\naborted\nok\ncommitted 2\nphase resolve 1\nphase capture 1\ntook a 7\npart 1 file 1 entries 1\nstate point 1 pairs 1\na 7\ncheck ok\n";
+    assert!(rt; answers(rt.alloc(), 1024, script, want));
+}
+
+// What is committed after the point belongs to the next one, whose file alone has a gap.
+#[test]
+fn a_late_commit_is_of_the_next_point(rt: HostRuntime) {
+    let script =
+        "point\nbegin 1\nseal\nbegin 2\nput 2 k 3\ncommit 2\nput 1 k 4\ncapture\ncommit 1\ncapture\ntake\ndone\nrest\npoint\nseal\ncapture\ntake\ndone\nstate 2\njoin 1 2\nstate 3\ncheck\n";
+    let want =
+        "phase prepare 1\nbegun 1\nphase resolve 1\nbegun 2\nok\ncommitted 3\nok\nnot yet 1\ncommitted 4\nphase capture 1\nnone left\npart 1 file 1 entries 0\nphase rest 1\nphase prepare 2\nphase resolve 2\nphase capture 2\ntook k 4\npart 2 file 2 entries 1\nrefused Gap 1\nfile 3 points 1-2 entries 1\nstate point 2 pairs 1\nk 4\ncheck ok\n";
+    assert!(rt; answers(rt.alloc(), 1024, script, want));
 }
