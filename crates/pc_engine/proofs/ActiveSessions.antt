@@ -4,7 +4,8 @@ use Rattle.std.specs.Prelude.{filter}
 use Rattle.std.proofs.lemmas.Bool.Decides.{nat_tests}
 use Rattle.std.proofs.lemmas.List.{take_more, take_all, get_or-set_same, get_or-set_other}
 use Rattle.pc_model.specs.Files.{numbers_to}
-use Rattle.pc_model.specs.History.{History, Effect, Class, class_of, class_by, phase_of, begun, is_open, open_by, number_of, number_by, has_died, died_by, writes_of, writes_by}
+use Rattle.pc_model.specs.History.{History, Effect, class_of, class_by, phase_of, begun, is_open, open_by, number_of, number_by, has_died, died_by, writes_of, writes_by}
+use Rattle.pc_types.specs.declared.Class.{Class}
 use Rattle.pc_model.specs.Replies.{same_class}
 use Rattle.pc_engine.specs.Sessions.{Active, with_session, is_of, count_of}
 use Rattle.pc_engine.specs.Sessions.{active_in as session_at}

@@ -17,9 +17,10 @@ use Rattle.pc_model.specs.Maps as map_of
 use Rattle.pc_model.specs.Database.{same_bytes}
 use Rattle.pc_model.specs.Log.{after, is_resolve}
 use Rattle.pc_model.specs.Files.{File, shelf, shelved_by, file_at, join_of, triples_taken}
-use Rattle.pc_model.specs.History.{History, Class, effect, effect_of, log_of, begun, phase_of, point_of, entries_by, begun_by, phase_by, point_by}
+use Rattle.pc_model.specs.History.{History, effect, effect_of, log_of, begun, phase_of, point_of, entries_by, begun_by, phase_by, point_by}
+use Rattle.pc_types.specs.declared.Class.{Class}
 use Rattle.pc_model.specs.History.Effect.{Moves, Nothing}
-use Rattle.pc_model.specs.History.Class.{Before, During, After}
+use Rattle.pc_types.specs.declared.Class.TheVariants.{Before, During, After}
 use Rattle.pc_model.specs.Locks.{queue_of, queue_by}
 use Rattle.pc_model.specs.Points.{is_among, touched, taken, taken_by}
 use Rattle.pc_model.specs.Replies.{Setting, first_refusal, or_else, not_yet, is_in, same_phase, active_in, log_is_full, join_refusal, join_causes, IsFileReply, is_empty, written_since_token, written_by, closed_set}

@@ -14,7 +14,7 @@ use Rattle.pc_model.specs.Replies.{IsFileReply, first_refusal, read_reply, by_ou
 use Rattle.pc_records.specs.Rows.{committed_row}
 use Rattle.pc_records.proofs.First.{first_records}
 use Rattle.pc_engine.specs.Sessions.{Active, active_in, with_session, wrote, died, if_died, if_granted}
-use Rattle.pc_model.specs.History.{Class}
+use Rattle.pc_types.specs.declared.Class.{Class}
 use Rattle.pc_engine.specs.Store.{Store, setting_of, active, outcome_in, abort_causes, Owes, Begins, Gets, WritesKey, Commits, Aborts, StartsPoint, Seals, Moves, TakesFirst, Takes, Shelves, Joins}
 use Rattle.pc_engine.specs.Stands.{Stands, IfRefused}
 use Rattle.pc_engine.proofs.LocalSteps.{same_setting}

@@ -4,11 +4,9 @@ use Rattle.pc_types.specs.declared.Write.{Write}
 use Rattle.pc_model.specs.Database.{with_write}
 use Rattle.pc_model.specs.Locks.{Outcome}
 use Rattle.pc_model.specs.Locks.Outcome.{Granted, Queued, Died}
-use Rattle.pc_model.specs.History.{Class}
-use Rattle.pc_model.specs.History.Class.{Before, During, After}
+use Rattle.pc_types.specs.declared.Class.{Class}
+use Rattle.pc_types.specs.declared.Class.TheVariants.{Before, During, After}
 use Rattle.pc_model.specs.Replies.{same_class}
-use Rattle.pc_engine.specs.declared.sessions.Class.{Class as Told}
-use Rattle.pc_engine.specs.declared.sessions.Class.TheVariants as told
 use Rattle.pc_engine.specs.declared.sessions.Transaction.{Transaction}
 
 -- an open transaction: its number, the class of the phase in which it began, whether a request of it has died, and the final
@@ -19,15 +17,9 @@ pub record Active : Type 0 where
   pub has_died : Bool
   pub writes : List Write
 
--- a class as the definitions have it
-abbrev pub class_seen : Told → Class
-class_seen told.Before = Before
-class_seen told.During = During
-class_seen told.After = After
-
 -- what a transaction is seen as
 abbrev pub active_of : Transaction → Active
-active_of t = record { number = t.number; class = class_seen t.class; has_died = t.has_died; writes = t.writes.items }
+active_of t = record { number = t.number; class = t.class; has_died = t.has_died; writes = t.writes.items }
 
 -- what the sessions are seen as
 abbrev pub actives_of : List (Option Transaction) → List (Option Active)

@@ -13,8 +13,9 @@ use Rattle.pc_model.specs.Sets as set
 use Rattle.pc_model.specs.Files.{BaseFile, File, file_at, join_of, triples_taken}
 use Rattle.pc_model.specs.Replies.{Setting, first_refusal, or_else, not_yet, no_session, read_reply, value_read, by_outcome, same_phase, is_empty, join_refusal, IsFileReply}
 use Rattle.pc_model.specs.Locks.{Outcome, outcome}
-use Rattle.pc_model.specs.History.{Class, class_in}
-use Rattle.pc_model.specs.History.Class.{Before}
+use Rattle.pc_model.specs.History.{class_in}
+use Rattle.pc_types.specs.declared.Class.{Class}
+use Rattle.pc_types.specs.declared.Class.TheVariants.{Before}
 use Rattle.pc_records.specs.Rows.{Kept, record_of, stored, at_point, requests_on, is_full_for, is_waiting, rows_after, released_rows, written_row, closed_row, left_rows}
 use Rattle.pc_records.specs.NewKeys.{new_keys, is_one_too_many}
 use Rattle.pc_engine.specs.Sessions.{Active, active_in, with_session, number_in, has_died_in, writes_in, count_of, wrote, died, if_died, if_granted}

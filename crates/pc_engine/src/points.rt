@@ -3,16 +3,14 @@ ghost use Rattle.std.specs.Prelude.{◌≡◌, ◌<◌, ◌==◌, ◌||◌, ◌-
 ghost use Rattle.pc_types.specs.declared.Phase.TheVariants.{Rest};
 ghost use Rattle.pc_model.specs.Replies.{same_phase};
 ghost use Rattle.pc_records.specs.Rows.{record_of, at_point};
-ghost use Rattle.pc_engine.specs.Sessions.{class_seen};
 ghost use Rattle.pc_engine.specs.Store.{StartsPoint, Seals, Moves, Takes, Shelves, Joins};
 
 use crate::sessions;
-use crate::sessions::Class;
 use crate::shelving::{MOST_FILES, Shelvable, joined, part_of};
 use crate::transactions::{MOST_ENTRIES, is_same};
 use crate::world::World;
 use pc_records::Records;
-use pc_types::{Entry, FileNo, Key, Phase, Point, Refusal, Reply, Value};
+use pc_types::{Class, Entry, FileNo, Key, Phase, Point, Refusal, Reply, Value};
 use std::alloc::{AllocError, Global};
 use std::collections::VecDeque;
 use std::mem;
@@ -69,7 +67,7 @@ impl World {
     // The phase changes from one to another, once no transaction of the class is open.
     pub(crate) fn advance(&mut self, from: Phase, class: Class, to: Phase) -> Reply
         requires { same_phase from Rest ≡ false }
-        ensures { Moves from (class_seen class) to self.old result self.new }
+        ensures { Moves from class to self.old result self.new }
     {
         if !is_same(self.phase, from) {
             return Reply::Refused(Refusal::WrongPhase);

@@ -5,29 +5,18 @@ ghost use Rattle.std.proofs.Common.{replicate};
 ghost use Rattle.pc_model.specs.Locks.{outcome};
 ghost use Rattle.pc_locks.specs.Queues.{told};
 ghost use Rattle.pc_records.specs.Rows.{record_of, requests_on, is_full_for, is_waiting, rows_after};
-ghost use Rattle.pc_engine.specs.Sessions.{actives_of, active_of, active_in, with_session, class_seen, count_of, is_of, number_in, writes_in, wrote, died, if_died, if_granted, AreFew};
+ghost use Rattle.pc_engine.specs.Sessions.{actives_of, active_of, active_in, with_session, count_of, is_of, number_in, writes_in, wrote, died, if_died, if_granted, AreFew};
 ghost use Rattle.pc_records.specs.NewKeys.{is_one_too_many};
 
 use crate::writes::note_write;
 use pc_locks::{Mode, Outcome};
 use pc_records::Records;
-use pc_types::{Phase, SessionNo, TxnNo, Write};
+use pc_types::{Class, Phase, SessionNo, TxnNo, Write};
 use std::alloc::{AllocError, Global};
-
-/// The class of a transaction, by the phase in which it began.
-#[derive(Clone, Copy, Debug, PartialEq, Eq)]
-pub(crate) enum Class {
-    /// It began in rest or complete.
-    Before,
-    /// It began in prepare.
-    During,
-    /// It began in resolve or capture.
-    After,
-}
 
 /// The class of a transaction that begins in the phase.
 pub(crate) fn class_in(phase: Phase) -> Class
-    ensures { class_seen result ≡ class_in phase }
+    ensures { result ≡ class_in phase }
 {
     match phase {
         Phase::Rest | Phase::Complete => Class::Before,
@@ -96,7 +85,7 @@ pub(crate) fn writes(sessions: &[Option<Transaction>], session: SessionNo) -> &[
 /// How many sessions have a transaction of the class open.
 pub(crate) fn active_in(sessions: &[Option<Transaction>], class: Class) -> u32
     requires { length sessions.now ≤ 64 }
-    ensures { result ≡ count_of (class_seen class) (actives_of sessions.now) }
+    ensures { result ≡ count_of class (actives_of sessions.now) }
 {
     let mut count = 0;
     for session in sessions {
@@ -109,7 +98,7 @@ pub(crate) fn active_in(sessions: &[Option<Transaction>], class: Class) -> u32
 
 // Whether there is a transaction, of the class.
 fn is_of(session: &Option<Transaction>, class: Class) -> bool
-    ensures { result ≡ is_of (class_seen class) (option_map active_of session.now) }
+    ensures { result ≡ is_of class (option_map active_of session.now) }
 {
     match session {
         Some(transaction) => transaction.class == class,

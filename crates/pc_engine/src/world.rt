@@ -12,11 +12,11 @@ ghost use Rattle.pc_engine.specs.Runs.{IsRun};
 
 use crate::checks::is_sound;
 use crate::sessions;
-use crate::sessions::{Class, Transaction};
+use crate::sessions::Transaction;
 use crate::shelving::file_at;
 use pc_part::{Base, Part};
 use pc_records::Records;
-use pc_types::{Entry, Event, FileNo, Key, Phase, Point, Refusal, Reply, Value};
+use pc_types::{Class, Entry, Event, FileNo, Key, Phase, Point, Refusal, Reply, Value};
 use std::alloc::Global;
 use std::collections::VecDeque;
 use std::marker::Model;

@@ -14,8 +14,8 @@ use Rattle.pc_types.specs.declared.Refusal.{Refusal}
 use Rattle.pc_types.specs.declared.Refusal.TheVariants as why
 use Rattle.pc_model.specs.History.{History, Effect, effect_of, is_open, phase_of, point_of, has_died}
 use Rattle.pc_model.specs.History.Effect.{Moves, Takes, Shelves, Commits, Nothing}
-use Rattle.pc_model.specs.History.{Class}
-use Rattle.pc_model.specs.History.Class.{Before, During, After}
+use Rattle.pc_types.specs.declared.Class.{Class}
+use Rattle.pc_types.specs.declared.Class.TheVariants.{Before, During, After}
 use Rattle.pc_model.specs.Locks.{is_waiting}
 use Rattle.pc_model.specs.Files.{shelf, numbers_to}
 use Rattle.pc_model.specs.Replies.{Setting, same_phase, is_in, some_active, active_in, closed_set, is_empty, first_refusal, or_else, no_session, log_is_full, transaction_causes, not_yet, wrong_phase, held_back, TakesFirst, certain, Answers, IsLegal, IsLegalHistory}

@@ -1,6 +1,8 @@
 -- Histories, and what is read off them: the log, the commits' writes, the phase and the point, the transactions and
 -- their classes. Nothing else is known of a run: what the store may answer is said of its history alone.
 use Rattle.std.specs.Prelude.{ℕ, ◌+◌, ◌==◌, Bool, true, false, List, [], ◌∷◌, ◌++◌, Option, Some, None, if◌then◌else◌}
+use Rattle.pc_types.specs.declared.Class.{Class}
+use Rattle.pc_types.specs.declared.Class.TheVariants.{Before, During, After}
 use Rattle.pc_types.specs.declared.Write.{Write}
 use Rattle.pc_types.specs.declared.Phase.{Phase}
 use Rattle.pc_types.specs.declared.Phase.TheVariants.{Rest, Prepare, Resolve, Capture, Complete}
@@ -192,12 +194,6 @@ point_by other was = was
 abbrev pub point_of : History → ℕ
 point_of [] = 0
 point_of (step ∷ history) = point_by (effect step) (point_of history)
-
--- the classes of transactions
-pub data Class : Type 0 where
-  Before : Class
-  During : Class
-  After : Class
 
 -- the class of a transaction that begins in the phase
 abbrev pub class_in : Phase → Class

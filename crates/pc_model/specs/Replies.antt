@@ -13,9 +13,10 @@ use Rattle.pc_types.specs.declared.Refusal.{Refusal}
 use Rattle.pc_types.specs.declared.Refusal.TheVariants as why
 use Rattle.pc_model.specs.Database.{Database, key_order, written}
 use Rattle.pc_model.specs.Log.{has_token, is_resolve}
-use Rattle.pc_model.specs.History.{History, Effect, effect, is_open, writes_of, log_of, contents, begun, number_of, phase_of, point_of, Class, class_of, has_died}
+use Rattle.pc_model.specs.History.{History, Effect, effect, is_open, writes_of, log_of, contents, begun, number_of, phase_of, point_of, class_of, has_died}
+use Rattle.pc_types.specs.declared.Class.{Class}
 use Rattle.pc_model.specs.History.Effect.{Moves, Commits}
-use Rattle.pc_model.specs.History.Class.{Before, During, After}
+use Rattle.pc_types.specs.declared.Class.TheVariants.{Before, During, After}
 use Rattle.pc_model.specs.Locks.{Outcome, outcome, queue_of, is_waiting}
 use Rattle.pc_model.specs.Locks.Outcome.{Granted, Queued, Died}
 use Rattle.pc_model.specs.Points.{is_among, with_key, with_keys, touched, taken}

@@ -15,6 +15,17 @@ pub enum Phase {
     Complete,
 }
 
+/// The class of a transaction, by the phase in which it began.
+#[derive(Clone, Copy, Debug, PartialEq, Eq)]
+pub enum Class {
+    /// It began in rest or complete.
+    Before,
+    /// It began in prepare.
+    During,
+    /// It began in resolve or capture.
+    After,
+}
+
 /// A write of one key: a value, or absence.
 #[derive(Drop)]
 pub struct Write {

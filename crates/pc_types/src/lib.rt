@@ -10,7 +10,7 @@ mod refusal;
 mod tally;
 mod values;
 
-pub use events::{Entry, Event, Phase, Reply, Step, Write};
+pub use events::{Class, Entry, Event, Phase, Reply, Step, Write};
 pub use keys::Key;
 pub use lists::Items;
 pub use numbers::{FileNo, Lsn, Point, ReqId, SessionNo, SlotId, TxnNo};
