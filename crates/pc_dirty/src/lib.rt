@@ -1,0 +1,10 @@
+//! Which slots changed: an open set, which takes more, and a closed one, which is emptied from the front.
+#![tactic(auto)]
+
+mod dirty;
+mod row;
+mod side;
+#[cfg(test)]
+mod tests;
+
+pub use dirty::Dirty;
