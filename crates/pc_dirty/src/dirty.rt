@@ -79,7 +79,7 @@ impl Dirty {
     pub fn closed_is_empty(&self) -> bool
         ensures { IsTrue result ↔ (self.now.closed ≡ []) }
     {
-        self.closed.len() == 0
+        self.closed.first().is_none()
     }
 
     /// How many slots are in the closed set.

@@ -1,5 +1,5 @@
 use Rattle.std.proofs.Common.{◌≤◌}
 use Rattle.pc_dirty.proofs.tests.rows.Given as goal
 
-abbrev pub invariant-loop : goal.invariant-loop
-invariant-loop g l = 12 ≤ l.sets.slots
+abbrev pub invariant-loop-ask : goal.invariant-loop-ask
+invariant-loop-ask g l = 12 ≤ l.sets.slots
