@@ -1,7 +1,7 @@
 //! One of the two sets.
 ghost use Rattle.std.specs.Prelude.{◌≡◌, ◌<◌, ◌≤◌, ◌++◌, ◌∷◌, [], false, length, IfOk};
 ghost use Rattle.pc_chain.specs.Chains.{first_of, rest_of, AllHave};
-ghost use Rattle.pc_dirty.specs.Sets.{is_in, with_slot, HasNoRepeats};
+ghost use Rattle.pc_dirty.specs.Sets.{is_in, HasNoRepeats};
 
 use crate::row::Row;
 use pc_chain::Chain;
