@@ -27,7 +27,11 @@ pub neither : (a b : Bool) → (a || b) ≡ false → (a ≡ false) × (b ≡ fa
 neither true b e = absurd cc
 neither false b e = (refl, e)
 
--- what is in none of the list
+or_true : (b : Bool) → (b || true) ≡ true
+or_true true = refl
+or_true false = refl
+
+-- what isn't in the list
 pub avoids_unlisted : (slot : ℕ) (xs : List ℕ) → is_in xs slot ≡ false → Avoids slot xs
 avoids_unlisted slot [] e = tt
 avoids_unlisted slot (x ∷ xs) e =
@@ -76,10 +80,6 @@ in_is (x ∷ xs) slot e = elim (either_true (slot == x) (list_any (λ y. slot ==
   | inl f ↦ let g = same_is x slot (sym (is_same slot x f)) in rw g refl
   | inr f ↦ rw (in_is xs slot f) (or_true (x == slot))
 ]
-  where
-    or_true : (b : Bool) → (b || true) ≡ true
-    or_true true = refl
-    or_true false = refl
 
 -- each slot of the set has a mark
 pub side_below : (links : List (Option ℕ)) (marks : List Bool) (chain : Chain ℕ) (count : ℕ) (xs : List ℕ) → IsSide links marks chain count xs → (slot : ℕ) → is_in xs slot ≡ true → slot < length marks
@@ -137,10 +137,6 @@ decide a b = by (a == b) refl
 in_push_same : (xs : List ℕ) (slot : ℕ) → is_in (xs ++ slot ∷ []) slot ≡ true
 in_push_same [] slot = rw (same_is slot slot refl) refl
 in_push_same (x ∷ xs) slot = rw (in_push_same xs slot) (or_true (x == slot))
-  where
-    or_true : (b : Bool) → (b || true) ≡ true
-    or_true true = refl
-    or_true false = refl
 
 in_push_other : (xs : List ℕ) (slot other : ℕ) → other ≢ slot → is_in (xs ++ slot ∷ []) other ≡ is_in xs other
 in_push_other [] slot other n = rw (other_is slot other (λ e. n (sym e))) refl

@@ -10,7 +10,7 @@ use std::marker::Model;
 use std::mem;
 
 /// Two sets of slots, the open one and the closed one; a slot can be in both. Each is seen as a list without repeats, in the
-/// order of first addition. All memory is taken when the sets are made.
+/// order of first addition. All memory is taken when the sets are made, and no later call goes over all slots.
 #[derive(Drop)]
 pub struct Dirty {
     opened: Side,
@@ -29,7 +29,7 @@ impl Model for Dirty {
 }
 
 impl Dirty {
-    /// Two empty sets of the slots 0 to `slots` - 1. It fails only where memory ran out.
+    /// Two empty sets of the slots 0 to `slots` - 1, of which there are at most 2^20. It fails only where memory ran out.
     pub fn new(alloc: Global, slots: u32) -> Result<Dirty, AllocError>
         requires { slots ≤ 1048576 }
         ensures { IfOk result (λ sets. sets ≡ record { slots = slots; opened = []; closed = [] }) }
@@ -82,14 +82,14 @@ impl Dirty {
         self.closed.first().is_none()
     }
 
-    /// How many slots are in the closed set.
+    /// How many slots are in the closed set; a count that is kept.
     pub fn closed_len(&self) -> u32
         ensures { result ≡ length self.now.closed }
     {
         self.closed.len()
     }
 
-    /// How many slots are in the open set.
+    /// How many slots are in the open set; a count that is kept.
     pub fn open_len(&self) -> u32
         ensures { result ≡ length self.now.opened }
     {
