@@ -1,0 +1,11 @@
+//! The phases of a checkpoint's cycle, with how many transactions of each class are active, and the changes from phase to
+//! phase.
+#![tactic(auto)]
+
+mod change;
+mod phases;
+#[cfg(test)]
+mod tests;
+
+pub use change::{Change, Held};
+pub use phases::Phases;

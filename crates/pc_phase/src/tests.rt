@@ -1,0 +1,1 @@
+//! Tests: the table of changes, a whole cycle, and begins in each phase.
