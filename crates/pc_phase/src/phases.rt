@@ -148,7 +148,9 @@ impl Phases {
         ensures fits { Fits self.now }
         ensures point { first_point self.now.phase ≤ self.now.point }
         ensures limit { self.now.point ≤ 65535 }
-    {}
+    {
+        let _ = &self.phase;
+    }
 }
 
 // Whether the phases are the same.
