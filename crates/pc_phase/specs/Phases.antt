@@ -1,5 +1,5 @@
 -- The phases of a checkpoint's cycle, with how many transactions of each class are active, and the table of changes.
-use Rattle.std.specs.Prelude.{◌≡◌, ℕ, ◌+◌, ◌-◌, ◌==◌, ◌≤◌, Bool, true, false, Option, Some, None, if◌then◌else◌}
+use Rattle.std.specs.Prelude.{◌≡◌, ℕ, ◌+◌, ◌-◌, ◌==◌, ◌≤◌, Bool, false, Option, Some, None, if◌then◌else◌}
 use Rattle.pc_types.specs.declared.Phase.{Phase}
 use Rattle.pc_types.specs.declared.Phase.TheVariants as phase
 use Rattle.pc_types.specs.declared.Class.{Class}

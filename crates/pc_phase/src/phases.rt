@@ -13,6 +13,7 @@ use std::marker::Model;
 /// A transaction's class is fixed by the phase in which it begins. In each phase only certain classes may be active: in
 /// rest Before, in prepare Before and During, in resolve During and After, in capture After, and in complete Before and
 /// After. A point is a number from 1 to 65,535; in rest there may be none yet, which is 0.
+#[derive(Drop)]
 pub struct Phases {
     phase: Phase,
     point: Point,
