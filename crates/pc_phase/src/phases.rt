@@ -50,14 +50,16 @@ impl Phases {
     pub fn phase(&self) -> Phase
         ensures { result ≡ self.now.phase }
     {
-        self.phase
+        let Phases { phase, .. } = self;
+        *phase
     }
 
     /// The last point that was begun, from 1 to 65,535; 0 where none was.
     pub fn point(&self) -> Point
         ensures { result ≡ self.now.point }
     {
-        self.point
+        let Phases { point, .. } = self;
+        *point
     }
 
     /// How many transactions of the class are active.
