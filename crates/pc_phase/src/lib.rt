@@ -3,9 +3,11 @@
 #![tactic(auto)]
 
 mod change;
+mod laws;
 mod phases;
 #[cfg(test)]
 mod tests;
 
 pub use change::{Change, Held};
+pub use laws::held_back_is_certain;
 pub use phases::Phases;

@@ -210,3 +210,9 @@ fn cycles_up_to_the_last_point(rt: HostRuntime) -> Result<(), Fail> {
     assert_eq!(rt; phases.point(), Point(65_535));
     Ok(())
 }
+
+// The law does nothing.
+#[test]
+fn law(_rt: HostRuntime) {
+    crate::laws::held_back_is_certain();
+}

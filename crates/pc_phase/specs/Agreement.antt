@@ -1,0 +1,48 @@
+-- How the table of changes agrees with the rules of replies.
+use Rattle.std.specs.Prelude.{◌≡◌, ◌==◌, Bool, List, [], ◌∷◌, length, option_map}
+use Rattle.pc_types.specs.declared.Class.{Class}
+use Rattle.pc_types.specs.declared.Event.{Event}
+use Rattle.pc_types.specs.declared.Event.TheVariants as asked
+use Rattle.pc_types.specs.declared.Reply.{Reply}
+use Rattle.pc_types.specs.declared.Reply.TheVariants as told
+use Rattle.pc_types.specs.declared.Refusal.{Refusal}
+use Rattle.pc_types.specs.declared.Refusal.TheVariants as why
+use Rattle.pc_model.specs.History.{History, phase_of, point_of}
+use Rattle.pc_model.specs.Files.{shelf}
+use Rattle.pc_model.specs.Replies.{Setting, active_in, closed_set, log_is_full, first_refusal, or_else, certain}
+use Rattle.pc_phase.specs.declared.change.Change.{Change}
+use Rattle.pc_phase.specs.declared.change.Change.TheVariants as change
+use Rattle.pc_phase.specs.declared.change.Held.{Held}
+use Rattle.pc_phase.specs.declared.change.Held.TheVariants.{WrongPhase, PointsFull, NotYet}
+use Rattle.pc_phase.specs.Phases.{Phases, active_of, held_back}
+
+-- the event that asks for the change
+abbrev pub event_of : Change → Event
+event_of change.StartPoint = asked.StartPoint
+event_of change.Seal = asked.Seal
+event_of change.OpenCapture = asked.OpenCapture
+event_of change.Done = asked.Done
+event_of change.Rest = asked.Rest
+
+-- how it is told what holds a change back
+abbrev pub reply_of : Held → Reply
+reply_of WrongPhase = told.Refused why.WrongPhase
+reply_of PointsFull = told.Refused why.PointsFull
+reply_of (NotYet count) = told.NotYet count
+
+-- the phase, the point and the counts are those of the history
+pub record AreOf (st : Setting) (history : History) (phases : Phases) : Type 0 where
+  pub phase : phases.phase ≡ phase_of history
+  pub point : phases.point ≡ point_of history
+  pub active : (class : Class) → active_of phases class ≡ active_in st class history
+
+-- the causes that are asked for where nothing holds the change back: at Done the shelf's, and then the log's
+abbrev pub later_causes : Setting → Change → History → List (Bool × Refusal)
+later_causes st change.Done history = (length (shelf st.run history) == 65536, why.ShelfFull) ∷ (log_is_full history, why.LogFull) ∷ []
+later_causes st other history = (log_is_full history, why.LogFull) ∷ []
+
+-- where the counts are those of the history, the reply that is certain is what holds the change back, or else a later cause
+abbrev pub HeldBackIsCertain : Type 0
+HeldBackIsCertain =
+    (st : Setting) (history : History) (phases : Phases) (change : Change) → AreOf st history phases →
+    certain st history (event_of change) ≡ or_else (option_map reply_of (held_back phases change (length (closed_set history)))) (first_refusal (later_causes st change history))
