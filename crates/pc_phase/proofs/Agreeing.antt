@@ -1,5 +1,5 @@
 -- The table of changes agrees with the rules of replies.
-use Rattle.std.proofs.Common.{◌≡◌, ℕ, ◌==◌, Bool, true, false, List, [], ◌∷◌, length, Option, Some, None, refl}
+use Rattle.std.proofs.Common.{◌≡◌, ℕ, ◌==◌, Bool, true, false, List, [], ◌∷◌, length, Option, Some, None, refl, sym, ap, subst, ◌∙◌, ◌+◌}
 use Rattle.std.specs.Prelude.{option_map, if◌then◌else◌, not}
 use Rattle.pc_types.specs.declared.Phase.TheVariants as phase
 use Rattle.pc_types.specs.declared.Class.TheVariants.{Before, During, After}
@@ -11,8 +11,11 @@ use Rattle.pc_model.specs.Replies.{first_refusal, or_else, not_yet, closed_set, 
 use Rattle.pc_model.specs.History.{point_of}
 use Rattle.pc_phase.specs.declared.change.Change.TheVariants as change
 use Rattle.pc_phase.specs.declared.change.Held.TheVariants.{WrongPhase, PointsFull, NotYet}
-use Rattle.pc_phase.specs.Phases.{some_left}
-use Rattle.pc_phase.specs.Agreement.{reply_of, later_causes, HeldBackIsCertain}
+use Rattle.pc_phase.specs.Phases.{Phases, active_of, advanced, some_left}
+use Rattle.pc_phase.specs.declared.change.Change.{Change}
+use Rattle.pc_types.specs.declared.Class.{Class}
+use Rattle.pc_types.specs.declared.Event.TheVariants as asked
+use Rattle.pc_phase.specs.Agreement.{reply_of, later_causes, AreOf, HeldBackIsCertain, ChangesStayOf}
 
 -- none or some stand in the way
 some_agree : (none : Bool) (count : ℕ) (later : Option Reply) →
@@ -44,3 +47,26 @@ held_back_is_certain st history phases change.Done are =
     rw are.phase (count_agrees (is_in phase.Capture history) (length (closed_set history)) (first_refusal (later_causes st change.Done history)))
 held_back_is_certain st history phases change.Rest are =
     rw (are.phase, are.active After) (count_agrees (is_in phase.Complete history) (active_in st After history) (first_refusal (later_causes st change.Rest history)))
+
+-- a change leaves the counts alone
+counts_stay : (phases : Phases) (change : Change) (class : Class) → active_of (advanced phases change) class ≡ active_of phases class
+counts_stay phases change Before = refl
+counts_stay phases change During = refl
+counts_stay phases change After = refl
+
+pub changes_stay_of : ChangesStayOf
+changes_stay_of st history phases change.StartPoint reply are answered =
+    subst (λ (r : Reply). AreOf st (record { event = asked.StartPoint; reply = r } ∷ history) (advanced phases change.StartPoint)) (sym answered)
+    (record { phase = refl; point = ap (λ n. n + 1) are.point; active = λ class. counts_stay phases change.StartPoint class ∙ are.active class })
+changes_stay_of st history phases change.Seal reply are answered =
+    subst (λ (r : Reply). AreOf st (record { event = asked.Seal; reply = r } ∷ history) (advanced phases change.Seal)) (sym answered)
+    (record { phase = refl; point = are.point; active = λ class. counts_stay phases change.Seal class ∙ are.active class })
+changes_stay_of st history phases change.OpenCapture reply are answered =
+    subst (λ (r : Reply). AreOf st (record { event = asked.OpenCapture; reply = r } ∷ history) (advanced phases change.OpenCapture)) (sym answered)
+    (record { phase = refl; point = are.point; active = λ class. counts_stay phases change.OpenCapture class ∙ are.active class })
+changes_stay_of st history phases change.Done reply are answered =
+    subst (λ (r : Reply). AreOf st (record { event = asked.Done; reply = r } ∷ history) (advanced phases change.Done)) (sym answered)
+    (record { phase = refl; point = are.point; active = λ class. counts_stay phases change.Done class ∙ are.active class })
+changes_stay_of st history phases change.Rest reply are answered =
+    subst (λ (r : Reply). AreOf st (record { event = asked.Rest; reply = r } ∷ history) (advanced phases change.Rest)) (sym answered)
+    (record { phase = refl; point = are.point; active = λ class. counts_stay phases change.Rest class ∙ are.active class })

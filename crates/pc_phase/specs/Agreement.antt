@@ -9,12 +9,12 @@ use Rattle.pc_types.specs.declared.Refusal.{Refusal}
 use Rattle.pc_types.specs.declared.Refusal.TheVariants as why
 use Rattle.pc_model.specs.History.{History, phase_of, point_of}
 use Rattle.pc_model.specs.Files.{shelf}
-use Rattle.pc_model.specs.Replies.{Setting, active_in, closed_set, log_is_full, first_refusal, or_else, certain}
+use Rattle.pc_model.specs.Replies.{Setting, active_in, closed_set, log_is_full, first_refusal, or_else, certain, Answers}
 use Rattle.pc_phase.specs.declared.change.Change.{Change}
 use Rattle.pc_phase.specs.declared.change.Change.TheVariants as change
 use Rattle.pc_phase.specs.declared.change.Held.{Held}
 use Rattle.pc_phase.specs.declared.change.Held.TheVariants.{WrongPhase, PointsFull, NotYet}
-use Rattle.pc_phase.specs.Phases.{Phases, active_of, held_back}
+use Rattle.pc_phase.specs.Phases.{Phases, active_of, held_back, advanced}
 
 -- the event that asks for the change
 abbrev pub event_of : Change → Event
@@ -46,3 +46,9 @@ abbrev pub HeldBackIsCertain : Type 0
 HeldBackIsCertain =
     (st : Setting) (history : History) (phases : Phases) (change : Change) → AreOf st history phases →
     certain st history (event_of change) ≡ or_else (option_map reply_of (held_back phases change (length (closed_set history)))) (first_refusal (later_causes st change history))
+
+-- once a change was answered by the rules, the phase, the point and the counts are still those of the history
+abbrev pub ChangesStayOf : Type 0
+ChangesStayOf =
+    (st : Setting) (history : History) (phases : Phases) (change : Change) (reply : Reply) → AreOf st history phases → Answers st history (event_of change) reply →
+    AreOf st (record { event = event_of change; reply = reply } ∷ history) (advanced phases change)

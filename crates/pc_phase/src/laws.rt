@@ -1,8 +1,13 @@
-//! A law of the definitions: its function does nothing, and its contract is the law.
-ghost use Rattle.pc_phase.specs.Agreement.{HeldBackIsCertain};
+//! Laws of the definitions. Each function does nothing, and its contract is a law.
+ghost use Rattle.pc_phase.specs.Agreement.{HeldBackIsCertain, ChangesStayOf};
 
 /// Where the phase, the point and the counts are those of a history, the store's certain reply to a change is what holds it
 /// back, or else that the shelf or the log is full.
 pub fn held_back_is_certain()
     ensures { HeldBackIsCertain }
+{}
+
+/// Once the store answered a change as its rules say, the phase, the point and the counts are still those of the history.
+pub fn changes_stay_of_the_history()
+    ensures { ChangesStayOf }
 {}

@@ -9,5 +9,5 @@ mod phases;
 mod tests;
 
 pub use change::{Change, Held};
-pub use laws::held_back_is_certain;
+pub use laws::{changes_stay_of_the_history, held_back_is_certain};
 pub use phases::Phases;

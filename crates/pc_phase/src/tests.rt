@@ -211,8 +211,9 @@ fn cycles_up_to_the_last_point(rt: HostRuntime) -> Result<(), Fail> {
     Ok(())
 }
 
-// The law does nothing.
+// The laws do nothing.
 #[test]
-fn law(_rt: HostRuntime) {
+fn laws(_rt: HostRuntime) {
     crate::laws::held_back_is_certain();
+    crate::laws::changes_stay_of_the_history();
 }
