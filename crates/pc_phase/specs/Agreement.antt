@@ -1,20 +1,21 @@
 -- How the table of changes agrees with the rules of replies.
-use Rattle.std.specs.Prelude.{◌≡◌, ◌==◌, Bool, List, [], ◌∷◌, length, option_map}
+use Rattle.std.specs.Prelude.{◌≡◌, ℕ, ◌==◌, Bool, true, false, List, [], ◌∷◌, length, option_map}
 use Rattle.pc_types.specs.declared.Class.{Class}
 use Rattle.pc_types.specs.declared.Event.{Event}
 use Rattle.pc_types.specs.declared.Event.TheVariants as asked
 use Rattle.pc_types.specs.declared.Reply.{Reply}
 use Rattle.pc_types.specs.declared.Reply.TheVariants as told
+use Rattle.pc_types.specs.declared.Step.{Step}
 use Rattle.pc_types.specs.declared.Refusal.{Refusal}
 use Rattle.pc_types.specs.declared.Refusal.TheVariants as why
-use Rattle.pc_model.specs.History.{History, phase_of, point_of}
+use Rattle.pc_model.specs.History.{History, phase_of, point_of, is_open, class_of, class_in}
 use Rattle.pc_model.specs.Files.{shelf}
-use Rattle.pc_model.specs.Replies.{Setting, active_in, closed_set, log_is_full, first_refusal, or_else, certain, Answers}
+use Rattle.pc_model.specs.Replies.{Setting, active_in, closed_set, log_is_full, first_refusal, or_else, certain, Answers, no_session}
 use Rattle.pc_phase.specs.declared.change.Change.{Change}
 use Rattle.pc_phase.specs.declared.change.Change.TheVariants as change
 use Rattle.pc_phase.specs.declared.change.Held.{Held}
 use Rattle.pc_phase.specs.declared.change.Held.TheVariants.{WrongPhase, PointsFull, NotYet}
-use Rattle.pc_phase.specs.Phases.{Phases, active_of, held_back, advanced}
+use Rattle.pc_phase.specs.Phases.{Phases, active_of, held_back, advanced, entered, left}
 
 -- the event that asks for the change
 abbrev pub event_of : Change → Event
@@ -52,3 +53,19 @@ abbrev pub ChangesStayOf : Type 0
 ChangesStayOf =
     (st : Setting) (history : History) (phases : Phases) (change : Change) (reply : Reply) → AreOf st history phases → Answers st history (event_of change) reply →
     AreOf st (record { event = event_of change; reply = reply } ∷ history) (advanced phases change)
+
+-- a begin that was answered by the rules enters its transaction
+abbrev pub BeginsStayOf : Type 0
+BeginsStayOf =
+    (st : Setting) (history : History) (phases : Phases) (s number : ℕ) → AreOf st history phases → no_session st s ≡ false → is_open s history ≡ false →
+    AreOf st (record { event = asked.Begin s; reply = told.Begun number } ∷ history) (entered phases (class_in phases.phase))
+
+-- by this step the session's transaction leaves
+abbrev pub LeavesBy : Setting → History → Phases → ℕ → Step → Type 0
+LeavesBy st history phases s step = AreOf st history phases → no_session st s ≡ false → is_open s history ≡ true → AreOf st (step ∷ history) (left phases (class_of s history))
+
+-- a commit and an abort that were answered by the rules end their transaction
+abbrev pub EndsStayOf : Type 0
+EndsStayOf =
+    (st : Setting) (history : History) (phases : Phases) (s lsn : ℕ) →
+    LeavesBy st history phases s (record { event = asked.Commit s; reply = told.Committed lsn }) × LeavesBy st history phases s (record { event = asked.Abort s; reply = told.Aborted })

@@ -9,5 +9,8 @@ mod phases;
 mod tests;
 
 pub use change::{Change, Held};
-pub use laws::{changes_stay_of_the_history, held_back_is_certain};
+pub use laws::{
+    begins_stay_of_the_history, changes_stay_of_the_history, ends_stay_of_the_history,
+    held_back_is_certain,
+};
 pub use phases::Phases;

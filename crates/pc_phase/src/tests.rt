@@ -216,4 +216,6 @@ fn cycles_up_to_the_last_point(rt: HostRuntime) -> Result<(), Fail> {
 fn laws(_rt: HostRuntime) {
     crate::laws::held_back_is_certain();
     crate::laws::changes_stay_of_the_history();
+    crate::laws::begins_stay_of_the_history();
+    crate::laws::ends_stay_of_the_history();
 }
