@@ -7,10 +7,13 @@ use Rattle.pc_types.specs.declared.Class.TheVariants.{Before, During, After}
 use Rattle.pc_types.specs.declared.Event.TheVariants as asked
 use Rattle.pc_types.specs.declared.Reply.TheVariants as told
 use Rattle.pc_model.specs.Files.{numbers_to}
-use Rattle.pc_model.specs.History.{History, is_open, class_of, class_in, phase_of}
+use Rattle.pc_model.specs.History.{History, Effect, effect, is_open, open_by, class_of, class_by, class_in, phase_of, phase_by, point_of, point_by}
+use Rattle.pc_model.specs.History.Effect.{Begins, Reads, Writes, Waits, Dies, Commits, Aborts, Moves, Takes, Shelves, Joins, Nothing}
+use Rattle.pc_types.specs.declared.Phase.{Phase}
+use Rattle.pc_types.specs.declared.Phase.TheVariants as phase
 use Rattle.pc_model.specs.Replies.{Setting, same_class, active_in, no_session}
 use Rattle.pc_phase.specs.Phases.{Phases, active_of, with_active, entered, left}
-use Rattle.pc_phase.specs.Agreement.{AreOf, BeginsStayOf, EndsStayOf}
+use Rattle.pc_phase.specs.Agreement.{AreOf, BeginsStayOf, EndsStayOf, StartsOf, OthersStayOf, is_other}
 
 -- how many of the sessions pass the test
 abbrev count : (ℕ → Bool) → ℕ → ℕ
@@ -138,3 +141,54 @@ ends_stay_of st history phases s lsn = (
   λ are there opened. record { phase = phase_stays phases (class_of s history) (active_of phases (class_of s history) - 1) ∙ are.phase; point = point_stays phases (class_of s history) (active_of phases (class_of s history) - 1) ∙ are.point; active = ended_counts st history phases s are there opened },
   λ are there opened. record { phase = phase_stays phases (class_of s history) (active_of phases (class_of s history) - 1) ∙ are.phase; point = point_stays phases (class_of s history) (active_of phases (class_of s history) - 1) ∙ are.point; active = ended_counts st history phases s are there opened },
 )
+
+-- tests that say the same count the same
+same_count : (p q : ℕ → Bool) → ((t : ℕ) → p t ≡ q t) → (n : ℕ) → count p n ≡ count q n
+same_count p q same zero = refl
+same_count p q same (suc n) =
+    push_counts p (numbers_to n) (suc n) ∙ ap (λ m. m + one_if (p (suc n))) (same_count p q same n) ∙ ap (λ b. count q n + one_if b) (same (suc n)) ∙ sym (push_counts q (numbers_to n) (suc n))
+
+none_count : (n : ℕ) → count (λ t. false) n ≡ 0
+none_count zero = refl
+none_count (suc n) = push_counts (λ t. false) (numbers_to n) (suc n) ∙ ap (λ m. m + 0) (none_count n)
+
+none_active : (class : Class) → 0 ≡ active_of (record { phase = phase.Rest; point = 0; before = 0; during = 0; after = 0 }) class
+none_active Before = refl
+none_active During = refl
+none_active After = refl
+
+pub starts_of : StartsOf
+starts_of st = record { phase = refl; point = refl; active = λ class. sym (none_active class) ∙ sym (none_count st.sessions) }
+
+-- what another effect leaves
+record Leaves (e : Effect) : Type 0 where
+  phase : (was : Phase) → phase_by e was ≡ was
+  point : (was : ℕ) → point_by e was ≡ was
+  opened : (s : ℕ) (was : Bool) → open_by s e was ≡ was
+  class : (s : ℕ) (at : Phase) (was : Class) → class_by s e at was ≡ was
+
+leaves : (e : Effect) → is_other e ≡ true → Leaves e
+leaves (Begins s) is = absurd cc
+leaves (Commits s) is = absurd cc
+leaves (Aborts s) is = absurd cc
+leaves (Moves phase point) is = absurd cc
+leaves (Shelves point) is = absurd cc
+leaves (Reads s key value) is = record { phase = λ _. refl; point = λ _. refl; opened = λ _ _. refl; class = λ _ _ _. refl }
+leaves (Writes s key value) is = record { phase = λ _. refl; point = λ _. refl; opened = λ _ _. refl; class = λ _ _ _. refl }
+leaves (Waits s key exclusive) is = record { phase = λ _. refl; point = λ _. refl; opened = λ _ _. refl; class = λ _ _ _. refl }
+leaves (Dies s key exclusive) is = record { phase = λ _. refl; point = λ _. refl; opened = λ _ _. refl; class = λ _ _ _. refl }
+leaves (Takes key value) is = record { phase = λ _. refl; point = λ _. refl; opened = λ _ _. refl; class = λ _ _ _. refl }
+leaves (Joins a b) is = record { phase = λ _. refl; point = λ _. refl; opened = λ _ _. refl; class = λ _ _ _. refl }
+leaves Nothing is = record { phase = λ _. refl; point = λ _. refl; opened = λ _ _. refl; class = λ _ _ _. refl }
+
+pub others_stay_of : OthersStayOf
+others_stay_of st history phases step are is =
+    let stays = leaves (effect step) is in
+    let same : (class : Class) (t : ℕ) → is_of history class t ≡ is_of (step ∷ history) class t = λ class t.
+    ap (λ b. b && same_class (class_of t history) class) (sym (stays.opened t (is_open t history)))
+    ∙ ap (λ c. open_by t (effect step) (is_open t history) && same_class c class) (sym (stays.class t (phase_of history) (class_of t history))) in
+    record {
+      phase = are.phase ∙ sym (stays.phase (phase_of history));
+      point = are.point ∙ sym (stays.point (point_of history));
+      active = λ class. are.active class ∙ same_count (is_of history class) (is_of (step ∷ history) class) (same class) st.sessions;
+    }

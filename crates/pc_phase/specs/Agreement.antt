@@ -8,7 +8,9 @@ use Rattle.pc_types.specs.declared.Reply.TheVariants as told
 use Rattle.pc_types.specs.declared.Step.{Step}
 use Rattle.pc_types.specs.declared.Refusal.{Refusal}
 use Rattle.pc_types.specs.declared.Refusal.TheVariants as why
-use Rattle.pc_model.specs.History.{History, phase_of, point_of, is_open, class_of, class_in}
+use Rattle.pc_model.specs.History.{History, Effect, effect, phase_of, point_of, is_open, class_of, class_in}
+use Rattle.pc_model.specs.History.Effect.{Begins, Commits, Aborts, Moves, Shelves}
+use Rattle.pc_types.specs.declared.Phase.TheVariants as phase
 use Rattle.pc_model.specs.Files.{shelf}
 use Rattle.pc_model.specs.Replies.{Setting, active_in, closed_set, log_is_full, first_refusal, or_else, certain, Answers, no_session}
 use Rattle.pc_phase.specs.declared.change.Change.{Change}
@@ -69,3 +71,20 @@ abbrev pub EndsStayOf : Type 0
 EndsStayOf =
     (st : Setting) (history : History) (phases : Phases) (s lsn : ℕ) →
     LeavesBy st history phases s (record { event = asked.Commit s; reply = told.Committed lsn }) × LeavesBy st history phases s (record { event = asked.Abort s; reply = told.Aborted })
+
+-- before the first step: rest, no point, and no active transaction
+abbrev pub StartsOf : Type 0
+StartsOf = (st : Setting) → AreOf st [] (record { phase = phase.Rest; point = 0; before = 0; during = 0; after = 0 })
+
+-- the effect is neither a begin, nor an end of a transaction, nor a change of the phase
+abbrev pub is_other : Effect → Bool
+is_other (Begins s) = false
+is_other (Commits s) = false
+is_other (Aborts s) = false
+is_other (Moves phase point) = false
+is_other (Shelves point) = false
+is_other other = true
+
+-- every other step leaves the phase, the point and the counts
+abbrev pub OthersStayOf : Type 0
+OthersStayOf = (st : Setting) (history : History) (phases : Phases) (step : Step) → AreOf st history phases → is_other (effect step) ≡ true → AreOf st (step ∷ history) phases

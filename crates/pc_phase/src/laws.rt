@@ -1,5 +1,5 @@
 //! Laws of the definitions. Each function does nothing, and its contract is a law.
-ghost use Rattle.pc_phase.specs.Agreement.{HeldBackIsCertain, ChangesStayOf, BeginsStayOf, EndsStayOf};
+ghost use Rattle.pc_phase.specs.Agreement.{HeldBackIsCertain, ChangesStayOf, BeginsStayOf, EndsStayOf, StartsOf, OthersStayOf};
 
 /// Where the phase, the point and the counts are those of a history, the store's certain reply to a change is what holds it
 /// back, or else that the shelf or the log is full.
@@ -22,4 +22,14 @@ pub fn begins_stay_of_the_history()
 /// transaction are those of the history.
 pub fn ends_stay_of_the_history()
     ensures { EndsStayOf }
+{}
+
+/// Before the first step the history's phase is rest, its point 0, and no transaction is active.
+pub fn starts_of_the_history()
+    ensures { StartsOf }
+{}
+
+/// A step that neither begins nor ends a transaction nor changes the phase leaves the phase, the point and the counts.
+pub fn others_stay_of_the_history()
+    ensures { OthersStayOf }
 {}

@@ -11,6 +11,6 @@ mod tests;
 pub use change::{Change, Held};
 pub use laws::{
     begins_stay_of_the_history, changes_stay_of_the_history, ends_stay_of_the_history,
-    held_back_is_certain,
+    held_back_is_certain, others_stay_of_the_history, starts_of_the_history,
 };
 pub use phases::Phases;

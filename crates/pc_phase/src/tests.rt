@@ -218,4 +218,6 @@ fn laws(_rt: HostRuntime) {
     crate::laws::changes_stay_of_the_history();
     crate::laws::begins_stay_of_the_history();
     crate::laws::ends_stay_of_the_history();
+    crate::laws::starts_of_the_history();
+    crate::laws::others_stay_of_the_history();
 }
