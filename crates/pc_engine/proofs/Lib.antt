@@ -12,3 +12,6 @@ pub mod Standing
 pub mod Runs
 pub mod Soundness
 pub mod Cycles
+pub mod PlacedWrites
+pub mod Together
+pub mod Within

@@ -1,11 +1,11 @@
 -- Sessions and what they are seen as.
-use Rattle.std.proofs.Common.{◌≡◌, ℕ, zero, suc, ◌+◌, ◌-◌, ◌<◌, ◌≤◌, List, [], ◌∷◌, length, drop, get_or, set, Option, Some, None, is_some, refl, sym, ap, ◌∙◌, Bool, true, false, ◌||◌}
+use Rattle.std.proofs.Common.{◌≡◌, ℕ, zero, suc, ◌+◌, ◌-◌, ◌<◌, ◌≤◌, List, [], ◌∷◌, length, drop, get_or, set, Option, Some, None, is_some, is_none, refl, sym, ap, subst, ◌∙◌, Bool, true, false, ◌||◌}
 use Rattle.std.specs.Prelude.{option_map, Result, Ok, Err, IfOk, OnErr}
 use Rattle.pc_types.specs.declared.Write.{Write}
 use Rattle.pc_model.specs.Locks.{Outcome}
 use Rattle.pc_model.specs.Locks.Outcome.{Granted, Queued, Died}
 use Rattle.std.specs.List.{list_any}
-use Rattle.std.proofs.lemmas.List.{map-set, drop_all, get_or_default}
+use Rattle.std.proofs.lemmas.List.{length-map, map-set, drop_all, get_or_default}
 use Rattle.std.proofs.Math.ListN.{get_or-map}
 use Rattle.pc_model.proofs.EntryPlaces.{rest_at}
 use Rattle.pc_engine.specs.declared.sessions.Transaction.{Transaction}
@@ -16,6 +16,19 @@ use Rattle.pc_records.proofs.NewKeys.{few_enough}
 -- one session is set
 pub set_one : (sessions : List (Option Transaction)) (i : ℕ) (t : Option Transaction) → actives_of (set sessions i t) ≡ set (actives_of sessions) i (option_map active_of t)
 set_one sessions i t = map-set (option_map active_of) sessions i t
+
+-- a place of the sessions is one of what they are seen as
+pub as_many_inside : (sessions : List (Option Transaction)) {i : ℕ} → i < length sessions → i < length (actives_of sessions)
+as_many_inside sessions {i} lt = subst (λ n. i < n) (sym (length-map sessions (option_map active_of))) lt
+
+-- a session that has one has a transaction
+pub is_there : (a : Option Active) → is_none a ≡ false → is_some a ≡ true
+is_there None e = absurd (let no : true ≡ false = e in cc)
+is_there (Some a) e = refl
+
+-- the writes of a transaction that was taken out
+pub writes_taken : (a : Option Active) (t : Transaction) (ws : List Write) → option_map active_of (Some t) ≡ a → ws ≡ t.writes.items → ws ≡ writes_in a
+writes_taken a t ws given is = is ∙ ap writes_in given
 
 -- the same active transaction, by the view
 pub seen_at : (sessions : List (Option Transaction)) (i : ℕ) → get_or (actives_of sessions) i None ≡ option_map active_of (get_or sessions i None)
@@ -69,7 +82,7 @@ module _ (sessions : List (Option Transaction)) (s i : ℕ) (found : Option Tran
   abbrev before : List (Option Active)
   before = actives_of sessions
 
-  seen_before : get_or before i None ≡ Some (active_of t)
+  pub seen_before : get_or before i None ≡ Some (active_of t)
   seen_before = seen_at sessions i ∙ ap (option_map active_of) (get_or_default sessions i None found lt ∙ sym is ∙ some)
 
   unchanged : active_of new ≡ active_of t → actives_of (set sessions i (Some new)) ≡ before

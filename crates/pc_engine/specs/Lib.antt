@@ -3,6 +3,7 @@ pub mod Store
 pub mod Limits
 pub mod Shelves
 pub mod Writes
+pub mod InPlace
 pub mod Stands
 pub mod Runs
 pub mod Checks

@@ -5,7 +5,7 @@ use Rattle.pc_model.specs.Database.{with_write}
 use Rattle.pc_model.specs.Locks.{Outcome}
 use Rattle.pc_model.specs.Locks.Outcome.{Granted, Queued, Died}
 use Rattle.pc_types.specs.declared.Class.{Class}
-use Rattle.pc_types.specs.declared.Class.TheVariants.{Before, During, After}
+use Rattle.pc_types.specs.declared.Class.TheVariants.{After}
 use Rattle.pc_model.specs.Replies.{same_class}
 use Rattle.pc_engine.specs.declared.sessions.Transaction.{Transaction}
 
@@ -37,6 +37,11 @@ with_session sessions s transaction = slice_set sessions (s - 1) transaction
 abbrev pub number_in : Option Active → ℕ
 number_in None = 0
 number_in (Some t) = t.number
+
+-- its class
+abbrev pub class_at : Option Active → Class
+class_at None = After
+class_at (Some t) = t.class
 
 -- whether a request of it has died
 abbrev pub has_died_in : Option Active → Bool

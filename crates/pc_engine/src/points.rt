@@ -1,8 +1,10 @@
 //! What each event of the checkpointer does.
-ghost use Rattle.std.specs.Prelude.{◌≡◌, ◌<◌, ◌==◌, ◌||◌, ◌-◌, false, IfOk, Some, None};
-ghost use Rattle.pc_types.specs.declared.Phase.TheVariants.{Rest};
-ghost use Rattle.pc_model.specs.Replies.{same_phase};
+ghost use Rattle.std.specs.Prelude.{◌≡◌, ◌<◌, ◌==◌, ◌||◌, ◌-◌, false, true, IfOk, Some, None};
+ghost use Rattle.pc_types.specs.declared.Phase.TheVariants.{Rest, Prepare};
+ghost use Rattle.pc_model.specs.Replies.{same_class, same_phase};
 ghost use Rattle.pc_records.specs.Rows.{record_of, at_point};
+ghost use Rattle.pc_types.specs.declared.Class.{Class};
+ghost use Rattle.pc_engine.specs.InPlace.{is_open_point, may_be_active};
 ghost use Rattle.pc_engine.specs.Store.{StartsPoint, Seals, Moves, Takes, Shelves, Joins};
 
 use crate::sessions;
@@ -60,13 +62,16 @@ impl World {
         self.log.push_reserved(Entry::Token(self.phase, self.point));
         self.closed = mem::replace(&mut self.recent, VecDeque::new(self.alloc));
         self.taken.clear();
-        self.records.close();
+        self.records.close(self.point);
         Reply::Phase(self.phase, self.point)
     }
 
     // The phase changes from one to another, once no transaction of the class is open.
     pub(crate) fn advance(&mut self, from: Phase, class: Class, to: Phase) -> Reply
-        requires { same_phase from Rest ≡ false }
+        requires after { same_phase from Rest ≡ false }
+        requires may { (c : Class) → may_be_active from c ≡ true → same_class c class ≡ false → may_be_active to c ≡ true }
+        requires over { is_open_point to ≡ false → is_open_point from ≡ false }
+        requires later { same_phase to Prepare ≡ false }
         ensures { Moves from class to self.old result self.new }
     {
         if !is_same(self.phase, from) {

@@ -1,17 +1,23 @@
 //! The sessions' open transactions.
-ghost use Rattle.std.specs.Prelude.{◌≡◌, ◌<◌, ◌≤◌, ◌-◌, ◌==◌, length, option_map, option_copied, None, Some, IfOk, OnErr, is_none, true, false};
+ghost use Rattle.std.specs.Prelude.{◌≡◌, ◌<◌, ◌≤◌, ◌-◌, ◌==◌, length, [], ◌+◌, option_map, option_copied, None, Some, List, ℕ, IfOk, OnErr, is_none, true, false};
 ghost use Rattle.pc_model.specs.History.{class_in};
 ghost use Rattle.std.proofs.Common.{replicate};
+ghost use Rattle.pc_model.specs.Database.{written};
 ghost use Rattle.pc_model.specs.Locks.{outcome};
+ghost use Rattle.pc_model.specs.Replies.{by_outcome, read_reply, value_read};
 ghost use Rattle.pc_locks.specs.Queues.{told};
-ghost use Rattle.pc_records.specs.Rows.{record_of, requests_on, is_full_for, is_waiting, rows_after};
-ghost use Rattle.pc_engine.specs.Sessions.{actives_of, active_of, active_in, with_session, count_of, is_of, number_in, writes_in, wrote, died, if_died, if_granted, AreFew};
+ghost use Rattle.pc_records.specs.Rows.{record_of, stored, requests_on, is_closed, is_full_for, is_waiting, rows_after};
+ghost use Rattle.pc_records.specs.Tables.{Pending, Table, kept_of, pending_at, pending_after, IsClearFor};
+ghost use Rattle.pc_types.specs.declared.Class.TheVariants.{Before};
+ghost use Rattle.pc_model.specs.Locks.Outcome.{Granted};
+ghost use Rattle.pc_engine.specs.Sessions.{actives_of, active_of, active_in, with_session, count_of, is_of, number_in, class_at, writes_in, wrote, died, if_died, if_granted, AreFew};
+ghost use Rattle.pc_engine.specs.InPlace.{AreOpen, HoldTogether, StayTogether};
 ghost use Rattle.pc_records.specs.NewKeys.{is_one_too_many};
 
-use crate::writes::note_write;
-use pc_locks::{Mode, Outcome};
+use crate::writes::{copied, note_write};
+use pc_locks::Outcome;
 use pc_records::Records;
-use pc_types::{Class, Phase, SessionNo, TxnNo, Write};
+use pc_types::{Class, Key, Phase, Reply, SessionNo, TxnNo, Value, Write};
 use std::alloc::{AllocError, Global};
 
 /// The class of a transaction that begins in the phase.
@@ -118,6 +124,30 @@ pub(crate) fn set(
     sessions[place(session)] = transaction;
 }
 
+/// A transaction of this number begins in the session, which has none open; it is of the class of the phase.
+pub(crate) fn begin(
+    alloc: Global,
+    sessions: &mut Vec<Option<Transaction>>,
+    session: SessionNo,
+    number: TxnNo,
+    phase: Phase,
+)
+    requires place { session - 1 < length sessions.old.items }
+    requires idle { is_none (active_in (actives_of sessions.old.items) session) ≡ true }
+    ensures sessions { actives_of sessions.new.items ≡ with_session (actives_of sessions.old.items) session (Some (record { number = number; class = class_in phase; has_died = false; writes = [] })) }
+    ensures few { AreFew (actives_of sessions.old.items) → AreFew (actives_of sessions.new.items) }
+    ensures together { (t : Table) (begun : ℕ) (point : ℕ) (recent closed : List (List ℕ)) → begun + 1 ≡ number → HoldTogether t (actives_of sessions.old.items) begun phase point recent closed → HoldTogether t (actives_of sessions.new.items) number phase point recent closed }
+    ensures count { length sessions.new.items ≡ length sessions.old.items }
+{
+    let transaction = Transaction {
+        number,
+        class: class_in(phase),
+        has_died: false,
+        writes: Vec::new(alloc),
+    };
+    set(sessions, session, Some(transaction));
+}
+
 /// A request of the session's transaction has died.
 pub(crate) fn note_death(sessions: &mut Vec<Option<Transaction>>, session: SessionNo)
     requires { session - 1 < length sessions.old.items }
@@ -140,6 +170,42 @@ pub(crate) fn end(
     sessions[place(session)].take()
 }
 
+/// The session's transaction requests to read the key, and reads it where the request is granted: what it has written
+/// itself, or else what is committed. Or memory ran out and nothing changed.
+pub(crate) fn read(
+    alloc: Global,
+    records: &mut Records,
+    sessions: &mut Vec<Option<Transaction>>,
+    session: SessionNo,
+    key: &Key,
+) -> Result<Reply, AllocError>
+    requires place { session - 1 < length sessions.old.items }
+    requires opened { is_none (active_in (actives_of sessions.old.items) session) ≡ false }
+    requires room { is_full_for (kept_of records.old) key.now ≡ false }
+    requires few { AreFew (actives_of sessions.old.items) }
+    requires ready { is_waiting records.old.rows (number_in (active_in (actives_of sessions.old.items) session)) ≡ false }
+    requires placed { (begun : ℕ) × AreOpen records.old (actives_of sessions.old.items) begun }
+    ensures reply { IfOk result (λ reply. reply ≡ by_outcome (outcome (requests_on (record_of records.old.rows key.now)) (number_in (active_in (actives_of sessions.old.items) session)) false)
+        (read_reply (value_read (written (writes_in (active_in (actives_of sessions.old.items) session)) key.now) (stored (record_of records.old.rows key.now))))) }
+    ensures records { IfOk result (λ reply. kept_of records.new ≡ record (kept_of records.old) { rows = rows_after records.old.rows key.now (number_in (active_in (actives_of sessions.old.items) session)) false (outcome (requests_on (record_of records.old.rows key.now)) (number_in (active_in (actives_of sessions.old.items) session)) false) }) }
+    ensures sessions { IfOk result (λ reply. actives_of sessions.new.items ≡ if_died (outcome (requests_on (record_of records.old.rows key.now)) (number_in (active_in (actives_of sessions.old.items) session)) false) (with_session (actives_of sessions.old.items) session (died (active_in (actives_of sessions.old.items) session))) (actives_of sessions.old.items)) }
+    ensures same_records { OnErr result (kept_of records.new ≡ kept_of records.old) }
+    ensures same { OnErr result (actives_of sessions.new.items ≡ actives_of sessions.old.items) }
+    ensures together { StayTogether records.old (actives_of sessions.old.items) records.new (actives_of sessions.new.items) }
+    ensures few { AreFew (actives_of sessions.new.items) }
+    ensures count { length sessions.new.items ≡ length sessions.old.items }
+{
+    let found = answer(alloc, records.latest(key))?;
+    match records.share(alloc, number(sessions, session), key)? {
+        Outcome::Granted => Ok(found),
+        Outcome::Queued => Ok(Reply::Wait),
+        Outcome::Died => {
+            note_death(sessions, session);
+            Ok(Reply::Died)
+        }
+    }
+}
+
 /// The session's transaction requests the write, and makes it where the request is granted; or memory ran out and nothing
 /// changed.
 pub(crate) fn request(
@@ -151,16 +217,19 @@ pub(crate) fn request(
 ) -> Result<Outcome, AllocError>
     requires place { session - 1 < length sessions.old.items }
     requires open { is_none (active_in (actives_of sessions.old.items) session) ≡ false }
-    requires room { is_full_for records.old write.key ≡ false }
+    requires room { is_full_for (kept_of records.old) write.key ≡ false }
     requires few { AreFew (actives_of sessions.old.items) }
     requires one { is_one_too_many (writes_in (active_in (actives_of sessions.old.items) session)) write.key ≡ false }
     requires ready { is_waiting records.old.rows (number_in (active_in (actives_of sessions.old.items) session)) ≡ false }
+    requires outside { class_at (active_in (actives_of sessions.old.items) session) ≡ Before → is_closed (record_of records.old.rows write.key) ≡ false }
+    requires again { (p : Pending) → pending_at records.old write.key ≡ Some p → p.by ≡ number_in (active_in (actives_of sessions.old.items) session) → p.class ≡ class_at (active_in (actives_of sessions.old.items) session) }
     ensures told { IfOk result (λ answer. told answer ≡ outcome (requests_on (record_of records.old.rows write.key)) (number_in (active_in (actives_of sessions.old.items) session)) true) }
-    ensures records { IfOk result (λ answer. records.new ≡ record records.old { rows = rows_after records.old.rows write.key (number_in (active_in (actives_of sessions.old.items) session)) true (told answer) }) }
+    ensures records { IfOk result (λ answer. kept_of records.new ≡ record (kept_of records.old) { rows = rows_after records.old.rows write.key (number_in (active_in (actives_of sessions.old.items) session)) true (told answer) }) }
     ensures sessions { IfOk result (λ answer. actives_of sessions.new.items ≡ if_died (told answer) (with_session (actives_of sessions.old.items) session (died (active_in (actives_of sessions.old.items) session)))
         (if_granted (told answer) (with_session (actives_of sessions.old.items) session (wrote (active_in (actives_of sessions.old.items) session) write)) (actives_of sessions.old.items))) }
-    ensures same_records { OnErr result (records.new ≡ records.old) }
+    ensures same_records { OnErr result (kept_of records.new ≡ kept_of records.old) }
     ensures same { OnErr result (actives_of sessions.new.items ≡ actives_of sessions.old.items) }
+    ensures together { StayTogether records.old (actives_of sessions.old.items) records.new (actives_of sessions.new.items) }
     ensures few { AreFew (actives_of sessions.new.items) }
     ensures count { length sessions.new.items ≡ length sessions.old.items }
 {
@@ -177,20 +246,42 @@ fn request_write(
     transaction: &mut Transaction,
     write: Write,
 ) -> Result<Outcome, AllocError>
-    requires room { is_full_for records.old write.key ≡ false }
+    requires room { is_full_for (kept_of records.old) write.key ≡ false }
     requires ready { is_waiting records.old.rows transaction.old.number ≡ false }
+    requires outside { transaction.old.class ≡ Before → is_closed (record_of records.old.rows write.key) ≡ false }
+    requires again { (p : Pending) → pending_at records.old write.key ≡ Some p → p.by ≡ transaction.old.number → p.class ≡ transaction.old.class }
     ensures told { IfOk result (λ answer. told answer ≡ outcome (requests_on (record_of records.old.rows write.key)) transaction.old.number true) }
-    ensures records { IfOk result (λ answer. records.new ≡ record records.old { rows = rows_after records.old.rows write.key transaction.old.number true (told answer) }) }
+    ensures records { IfOk result (λ answer. kept_of records.new ≡ record (kept_of records.old) { rows = rows_after records.old.rows write.key transaction.old.number true (told answer) }) }
+    ensures pending { IfOk result (λ answer. (q : List ℕ) → pending_at records.new q ≡ pending_after (told answer) records.old write.key (record { by = transaction.old.number; class = transaction.old.class; value = write.value }) q) }
+    ensures clear { IfOk result (λ answer. told answer ≡ Granted → IsClearFor records.old write.key transaction.old.number) }
+    ensures point { IfOk result (λ answer. records.new.point ≡ records.old.point) }
     ensures transaction { IfOk result (λ answer. Some (active_of transaction.new) ≡ if_granted (told answer) (wrote (Some (active_of transaction.old)) write) (if_died (told answer) (died (Some (active_of transaction.old))) (Some (active_of transaction.old)))) }
     ensures same_records { OnErr result (records.new ≡ records.old) }
     ensures same { OnErr result (active_of transaction.new ≡ active_of transaction.old) }
 {
     transaction.writes.reserve(1)?;
-    let answer = records.request(alloc, transaction.number, &write.key, Mode::Exclusive)?;
+    let value = copied(alloc, &write.value)?;
+    let answer = records.write(
+        alloc,
+        transaction.number,
+        transaction.class,
+        &write.key,
+        value,
+    )?;
     match answer {
         Outcome::Granted => note_write(&mut transaction.writes, write),
         Outcome::Queued => {}
         Outcome::Died => transaction.has_died = true,
     }
     Ok(answer)
+}
+
+// The reply to a read that gives this.
+fn answer(alloc: Global, found: Option<&Value>) -> Result<Reply, AllocError>
+    ensures { IfOk result (λ r. r ≡ read_reply (option_copied found.entry)) }
+{
+    match found {
+        None => Ok(Reply::Absent),
+        Some(value) => Ok(Reply::Found(value.copy(alloc)?)),
+    }
 }

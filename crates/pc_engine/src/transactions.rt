@@ -1,20 +1,22 @@
 //! What each event of a session does.
-ghost use Rattle.std.specs.Prelude.{◌≡◌, ◌<◌, ◌==◌, ◌||◌, ◌-◌, nat_lt, ◌++◌, [], ◌∷◌, false, length, IfOk, Some, None, is_none, option_copied, vec_len, vec_capacity};
+ghost use Rattle.std.specs.Prelude.{◌≡◌, ◌<◌, ◌==◌, ◌||◌, ◌-◌, nat_lt, ◌++◌, [], ◌∷◌, false, length, map, IfOk, Some, None, is_none, List, ℕ, option_copied, vec_len, vec_capacity};
 ghost use Rattle.pc_model.specs.Maps.{get};
-ghost use Rattle.pc_model.specs.Database.{written};
-ghost use Rattle.pc_model.specs.Replies.{read_reply, value_read};
+ghost use Rattle.pc_model.specs.Replies.{read_reply};
 ghost use Rattle.pc_model.specs.Replies.{same_phase};
 ghost use Rattle.pc_types.specs.declared.Entry.TheVariants.{Commit};
-ghost use Rattle.pc_records.specs.Rows.{record_of, stored, released_rows};
-ghost use Rattle.pc_records.specs.NewKeys.{is_one_too_many};
+ghost use Rattle.pc_types.specs.declared.Phase.{Phase};
+ghost use Rattle.pc_records.specs.Rows.{released_rows, written_row};
+ghost use Rattle.pc_engine.specs.InPlace.{AreOpen, HoldTogether, StayTogether};
+ghost use Rattle.pc_records.specs.NewKeys.{is_one_too_many, new_keys};
+ghost use Rattle.pc_records.specs.Tables.{kept_of};
 ghost use Rattle.pc_engine.specs.Sessions.{actives_of, active_in, with_session, number_in, writes_in};
 ghost use Rattle.pc_engine.specs.Store.{OpenCause, WriteCause, Begins, Gets, WritesKey, Commits, Aborts};
 
 use crate::sessions;
-use crate::sessions::{Transaction, class_in};
+use crate::sessions::Transaction;
 use crate::world::World;
-use crate::writes::{is_one_too_many, new_keys, note_write, write_of, written_at};
-use pc_locks::{Mode, Outcome};
+use crate::writes::{is_one_too_many, new_keys, write_of};
+use pc_locks::Outcome;
 use pc_records::Records;
 use pc_types::{Entry, Items, Key, Lsn, Phase, Refusal, Reply, SessionNo, TxnNo, Value, Write};
 use std::alloc::{AllocError, Global};
@@ -39,13 +41,13 @@ impl World {
             return Reply::Refused(Refusal::LogFull);
         }
         self.begun += 1;
-        let transaction = Transaction {
-            number: TxnNo(self.begun),
-            class: class_in(self.phase),
-            has_died: false,
-            writes: Vec::new(self.alloc),
-        };
-        sessions::set(&mut self.sessions, session, Some(transaction));
+        sessions::begin(
+            self.alloc,
+            &mut self.sessions,
+            session,
+            TxnNo(self.begun),
+            self.phase,
+        );
         Reply::Begun(TxnNo(self.begun))
     }
 
@@ -77,18 +79,14 @@ impl World {
         if self.records.is_full_for(key) {
             return Reply::Refused(Refusal::Full);
         }
-        let writes = sessions::writes(&self.sessions, session);
-        let Ok(reply) = read(self.alloc, &self.records, writes, key) else {
-            return Reply::Refused(Refusal::OutOfMemory);
-        };
-        let number = sessions::number(&self.sessions, session);
-        match self.records.request(self.alloc, number, key, Mode::Shared) {
-            Ok(Outcome::Granted) => reply,
-            Ok(Outcome::Queued) => Reply::Wait,
-            Ok(Outcome::Died) => {
-                sessions::note_death(&mut self.sessions, session);
-                Reply::Died
-            }
+        match sessions::read(
+            self.alloc,
+            &mut self.records,
+            &mut self.sessions,
+            session,
+            key,
+        ) {
+            Ok(reply) => reply,
             Err(_) => Reply::Refused(Refusal::OutOfMemory),
         }
     }
@@ -164,11 +162,8 @@ impl World {
         if self.recent.reserve(keys.len()).is_err() {
             return Reply::Refused(Refusal::OutOfMemory);
         }
-        if self.records.install(self.alloc, writes).is_err() {
-            return Reply::Refused(Refusal::OutOfMemory);
-        }
         let _ = self.recent.append(&mut keys);
-        log_commit(
+        commit_open(
             &mut self.sessions,
             &mut self.records,
             &mut self.log,
@@ -183,17 +178,17 @@ impl World {
         if is_no_session(self.sessions.len(), session) {
             return Reply::Refused(Refusal::NoSession);
         }
-        let number = sessions::number(&self.sessions, session);
-        if sessions::end(&mut self.sessions, session).is_none() {
+        if sessions::active(&self.sessions, session).is_none() {
             return Reply::Refused(Refusal::NoTransaction);
         }
-        self.records.release(number);
+        abort_open(&mut self.sessions, &mut self.records, session);
         Reply::Aborted
     }
 }
 
-// The session's transaction, whose writes are installed, is logged, and then over: its locks are released.
-fn log_commit(
+// The session's transaction is committed and logged, and then over: its writes are committed where they stand, and its
+// locks are released.
+fn commit_open(
     sessions: &mut Vec<Option<Transaction>>,
     records: &mut Records,
     log: &mut Vec<Entry>,
@@ -202,15 +197,39 @@ fn log_commit(
     requires place { session - 1 < length sessions.old.items }
     requires opened { is_none (active_in (actives_of sessions.old.items) session) ≡ false }
     requires room { vec_len log.old < vec_capacity log.old }
+    requires placed { (begun : ℕ) × AreOpen records.old (actives_of sessions.old.items) begun }
     ensures sessions { actives_of sessions.new.items ≡ with_session (actives_of sessions.old.items) session None }
-    ensures records { records.new ≡ record records.old { rows = released_rows (number_in (active_in (actives_of sessions.old.items) session)) records.old.rows } }
+    ensures records { kept_of records.new ≡ record (kept_of records.old) { rows = released_rows (number_in (active_in (actives_of sessions.old.items) session)) (map (written_row (writes_in (active_in (actives_of sessions.old.items) session))) records.old.rows) } }
     ensures log { log.new.items ≡ log.old.items ++ Commit session (writes_in (active_in (actives_of sessions.old.items) session)) ∷ [] }
+    ensures together { (begun : ℕ) (phase : Phase) (point : ℕ) (recent closed : List (List ℕ)) → HoldTogether records.old (actives_of sessions.old.items) begun phase point recent closed
+        → HoldTogether records.new (actives_of sessions.new.items) begun phase point (recent ++ new_keys records.old.rows (writes_in (active_in (actives_of sessions.old.items) session))) closed }
 {
+    records.rise();
     let number = sessions::number(sessions, session);
     let Some(Transaction { writes, .. }) = sessions::end(sessions, session) else {
         unreachable!();
     };
+    records.commit(writes.as_slice());
     log.push_reserved(Entry::Commit(session, Items::from_vec(writes)));
+    records.release(number);
+}
+
+// The session's transaction is undone, and over: what was committed stands where it has written, and its locks are
+// released.
+fn abort_open(sessions: &mut Vec<Option<Transaction>>, records: &mut Records, session: SessionNo)
+    requires place { session - 1 < length sessions.old.items }
+    requires opened { is_none (active_in (actives_of sessions.old.items) session) ≡ false }
+    requires placed { (begun : ℕ) × AreOpen records.old (actives_of sessions.old.items) begun }
+    ensures sessions { actives_of sessions.new.items ≡ with_session (actives_of sessions.old.items) session None }
+    ensures records { kept_of records.new ≡ record (kept_of records.old) { rows = released_rows (number_in (active_in (actives_of sessions.old.items) session)) records.old.rows } }
+    ensures together { StayTogether records.old (actives_of sessions.old.items) records.new (actives_of sessions.new.items) }
+{
+    records.rise();
+    let number = sessions::number(sessions, session);
+    let Some(Transaction { writes, .. }) = sessions::end(sessions, session) else {
+        unreachable!();
+    };
+    records.undo(writes.as_slice());
     records.release(number);
 }
 
@@ -226,24 +245,4 @@ pub(crate) fn is_same(a: Phase, b: Phase) -> bool
     ensures { result ≡ same_phase a b }
 {
     a == b
-}
-
-// The reply to a read of the key.
-fn read(alloc: Global, records: &Records, writes: &[Write], key: &Key) -> Result<Reply, AllocError>
-    ensures { IfOk result (λ r. r ≡ read_reply (value_read (written writes.now key.now) (stored (record_of records.now.rows key.now)))) }
-{
-    match written_at(writes, key) {
-        Some(i) => answer(alloc, writes[i].value.as_ref()),
-        None => answer(alloc, records.value(key)),
-    }
-}
-
-// The reply to a read that gives this.
-fn answer(alloc: Global, found: Option<&Value>) -> Result<Reply, AllocError>
-    ensures { IfOk result (λ r. r ≡ read_reply (option_copied found.entry)) }
-{
-    match found {
-        None => Ok(Reply::Absent),
-        Some(value) => Ok(Reply::Found(value.copy(alloc)?)),
-    }
 }

@@ -42,6 +42,8 @@ impl Model for World {
     ghost use Rattle.std.specs.Prelude.{◌≤◌, length};
     ghost use Rattle.pc_engine.specs.Limits.{IsWithinLimits};
     ghost use Rattle.pc_engine.specs.Sessions.{actives_of};
+    ghost use Rattle.pc_engine.specs.InPlace.{HoldTogether};
+    ghost use Rattle.pc_records.specs.Tables.{kept_of};
     ghost use Rattle.std.specs.Coded.{codes};
     ghost use Rattle.pc_model.specs.Database.{database_code};
     ghost use Rattle.pc_engine.specs.Store.{Store};
@@ -53,14 +55,15 @@ impl Model for World {
     ghost view = { λ w. record {
       base = w.base;
       sessions = actives_of w.sessions.items;
-      kept = w.records;
+      kept = kept_of w.records;
       log = w.log.items;
       begun = w.begun;
       cycle = record { phase = w.phase; point = w.point; recent = w.recent.items; closed = w.closed.items; taken = w.taken.items };
       shelf = w.shelf.items;
     } };
 
-    ghost invariant = { λ w. IsWithinLimits w.begun w.log.items (actives_of w.sessions.items) w.phase w.point w.recent.items w.closed.items w.taken.items w.shelf.items };
+    ghost invariant = { λ w. IsWithinLimits w.begun w.log.items (actives_of w.sessions.items) w.phase w.point w.recent.items w.closed.items w.taken.items w.shelf.items
+        × HoldTogether w.records (actives_of w.sessions.items) w.begun w.phase w.point w.recent.items w.closed.items };
 }
 
 impl World {

@@ -17,14 +17,14 @@ use Rattle.pc_records.proofs.Keeping.{stored-if, requests-if, recent-if, closed-
 use Rattle.pc_records.proofs.Rising.{rise_closed, rise_left}
 
 -- the record of a key once the open set is closed
-abbrev closed_of : Option Record → Option Record
+abbrev pub closed_of : Option Record → Option Record
 closed_of None = None
-closed_of (Some r) = Some (record r { is_recent = false; is_closed = r.is_recent; saved = None })
+closed_of (Some r) = Some (record r { is_recent = false; is_closed = r.is_recent; pinned = cond r.is_recent r.value None })
 
-found_closed : (rows : List Row) (q : List ℕ) → record_of (map closed_row rows) q ≡ closed_of (record_of rows q)
+pub found_closed : (rows : List Row) (q : List ℕ) → record_of (map closed_row rows) q ≡ closed_of (record_of rows q)
 found_closed [] q = refl
 found_closed (row ∷ rows) q =
-    elim (same_bytes q row.0) as (λ b. cond b (Some (record row.1 { is_recent = false; is_closed = row.1.is_recent; saved = None })) (record_of (map closed_row rows) q) ≡ closed_of (cond b (Some row.1) (record_of rows q))) [ true ↦ refl | false ↦ found_closed rows q ]
+    elim (same_bytes q row.0) as (λ b. cond b (Some (record row.1 { is_recent = false; is_closed = row.1.is_recent; pinned = cond row.1.is_recent row.1.value None })) (record_of (map closed_row rows) q) ≡ closed_of (cond b (Some row.1) (record_of rows q))) [ true ↦ refl | false ↦ found_closed rows q ]
 
 -- the open set was closed, and the closed set was empty before
 pub closed_records : (base : Database) (rows : List Row) (h after : History) → closed_set h ≡ [] → contents base after ≡ contents base h → ((q : List ℕ) → queue_of q after ≡ queue_of q h) → written_since_token after ≡ [] → closed_set after ≡ written_since_token h →
@@ -36,7 +36,7 @@ closed_records base rows h after none cs qs ws ls ps are =
       requests = λ q. ap requests_on (found_closed rows q) ∙ requests_by (record_of rows q) ∙ are.requests q ∙ sym (qs q);
       recent = λ q. ap is_recent (found_closed rows q) ∙ recent_by (record_of rows q) ∙ ap (λ ks. is_among ks q) (sym ws);
       closed = λ q. ap is_closed (found_closed rows q) ∙ closed_by (record_of rows q) ∙ are.recent q ∙ ap (λ ks. is_among ks q) (sym ls);
-      point = λ q closed. ap at_point (found_closed rows q) ∙ point_by (record_of rows q) ∙ are.stored q ∙ sym (ps q);
+      point = λ q closed. ap at_point (found_closed rows q) ∙ point_by (record_of rows q) (sym (ap is_closed (found_closed rows q)) ∙ closed) ∙ are.stored q ∙ sym (ps q);
       kept = λ q. ap is_some (found_closed rows q) ∙ kept_by (record_of rows q) (are.kept q) (are.closed q ∙ ap (λ ks. is_among ks q) none) ∙ ap stands_kept (sym (found_closed rows q));
     }
   where
@@ -44,9 +44,9 @@ closed_records base rows h after none cs qs ws ls ps are =
     stored_by None = refl
     stored_by (Some r) = refl
 
-    point_by : (o : Option Record) → at_point (closed_of o) ≡ stored o
-    point_by None = refl
-    point_by (Some r) = refl
+    point_by : (o : Option Record) → is_closed (closed_of o) ≡ true → at_point (closed_of o) ≡ stored o
+    point_by None recent = refl
+    point_by (Some r) recent = ap (λ b. cond b r.value None) recent
 
     requests_by : (o : Option Record) → requests_on (closed_of o) ≡ requests_on o
     requests_by None = refl
@@ -73,23 +73,23 @@ closed_records base rows h after none cs qs ws ls ps are =
 -- the record that a taken key has left keeps all but the closed set
 stored-left : (o : Option Record) → stored (left_of o) ≡ stored o
 stored-left None = refl
-stored-left (Some r) = stored-if (record r { is_closed = false; saved = None })
+stored-left (Some r) = stored-if (record r { is_closed = false; pinned = None })
 
 requests-left : (o : Option Record) → requests_on (left_of o) ≡ requests_on o
 requests-left None = refl
-requests-left (Some r) = requests-if (record r { is_closed = false; saved = None })
+requests-left (Some r) = requests-if (record r { is_closed = false; pinned = None })
 
-recent-left : (o : Option Record) → is_recent (left_of o) ≡ is_recent o
+pub recent-left : (o : Option Record) → is_recent (left_of o) ≡ is_recent o
 recent-left None = refl
-recent-left (Some r) = recent-if (record r { is_closed = false; saved = None })
+recent-left (Some r) = recent-if (record r { is_closed = false; pinned = None })
 
-closed-left : (o : Option Record) → is_closed (left_of o) ≡ false
+pub closed-left : (o : Option Record) → is_closed (left_of o) ≡ false
 closed-left None = refl
-closed-left (Some r) = closed-if (record r { is_closed = false; saved = None })
+closed-left (Some r) = closed-if (record r { is_closed = false; pinned = None })
 
 kept-left : (o : Option Record) → is_some (left_of o) ≡ stands_kept (left_of o)
 kept-left None = refl
-kept-left (Some r) = kept-if (record r { is_closed = false; saved = None })
+kept-left (Some r) = kept-if (record r { is_closed = false; pinned = None })
 
 -- the first key of the closed set was taken
 pub left_records : (base : Database) (rows : List Row) (h after : History) (k : List ℕ) (ks : List (List ℕ)) → closed_set h ≡ k ∷ ks → is_among ks k ≡ false → contents base after ≡ contents base h → ((q : List ℕ) → queue_of q after ≡ queue_of q h) →

@@ -38,11 +38,11 @@ stored-with : (r : Option Record) (queue : Queue) → stored (Some (with_request
 stored-with None queue = refl
 stored-with (Some r) queue = refl
 
-recent-with : (r : Option Record) (queue : Queue) → is_recent (Some (with_requests r queue)) ≡ is_recent r
+pub recent-with : (r : Option Record) (queue : Queue) → is_recent (Some (with_requests r queue)) ≡ is_recent r
 recent-with None queue = refl
 recent-with (Some r) queue = refl
 
-closed-with : (r : Option Record) (queue : Queue) → is_closed (Some (with_requests r queue)) ≡ is_closed r
+pub closed-with : (r : Option Record) (queue : Queue) → is_closed (Some (with_requests r queue)) ≡ is_closed r
 closed-with None queue = refl
 closed-with (Some r) queue = refl
 

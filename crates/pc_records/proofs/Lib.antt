@@ -5,7 +5,6 @@ pub mod Turning
 pub mod CommittedPairs
 pub mod Queued
 pub mod SlotKeeping
-pub mod WritePlaces
 pub mod Tidying
 pub mod Requesting
 pub mod SlotReleasing
@@ -17,6 +16,15 @@ pub mod Releasing
 pub mod Rising
 pub mod First
 pub mod Cycles
+pub mod Flags
 pub mod Waiting
 pub mod Occupied
 pub mod NewKeys
+pub mod Exclusive
+pub mod Lookups
+pub mod Moments
+pub mod SlotMoments
+pub mod Freeing
+pub mod Clearing
+pub mod Writing
+pub mod Answering

@@ -5,11 +5,11 @@ use Rattle.pc_model.specs.Locks.{Queue}
 use Rattle.pc_locks.specs.States.{queue_at}
 use Rattle.pc_records.specs.declared.slots.Slot.{Slot}
 use Rattle.pc_records.specs.Rows.{Row}
-use Rattle.pc_records.specs.Slots.{row_of, rows_of, numbers_of, times}
+use Rattle.pc_records.specs.Slots.{committed, pinned, row_of, rows_of, numbers_of, times}
 
 -- the slot's row with this queue
 abbrev pub with_queue : Slot → Queue → Row
-with_queue slot queue = (slot.key, record { value = slot.value; is_recent = slot.is_recent; is_closed = slot.is_closed; saved = slot.saved; requests = queue })
+with_queue slot queue = (slot.key, record { value = committed slot; is_recent = slot.is_recent; is_closed = slot.is_closed; pinned = pinned slot; requests = queue })
 
 pub length-set : (queues : List Queue) (n : ℕ) (q : Queue) → length (set queues n q) ≡ length queues
 length-set [] n q = refl

@@ -1,5 +1,5 @@
 -- What the end of a transaction leaves of the records.
-use Rattle.std.proofs.Common.{◌≡◌, ℕ, ◌==◌, List, [], ◌∷◌, ◌++◌, map, Option, Some, None, is_some, unwrap_or, refl, sym, ap, subst, ◌∙◌, cond, true, false, Bool, not, ◌||◌, ◌&&◌}
+use Rattle.std.proofs.Common.{◌≡◌, ℕ, ◌==◌, List, [], ◌∷◌, ◌++◌, map, Option, Some, None, is_some, refl, sym, ap, subst, ◌∙◌, cond, true, false, Bool, not, ◌||◌, ◌&&◌}
 use Rattle.std.specs.Prelude.{MatchBool, filter}
 use Rattle.std.specs.List.{list_all}
 use Rattle.std.specs.FinMap.{is_sorted}
@@ -61,7 +61,7 @@ read_records : (base : Database) (rows : List Row) (h : History) → AreRecords 
 read_records base rows h are = record { sorted = are.sorted; stored = are.stored; requests = are.requests; recent = are.recent; closed = are.closed; point = are.point; kept = are.kept }
 
 -- the record once the transaction's request is removed, where there is one
-abbrev released_at : ℕ → Option Record → Option Record
+abbrev pub released_at : ℕ → Option Record → Option Record
 released_at t None = None
 released_at t (Some r) = released t r
 
@@ -87,7 +87,7 @@ sorted_released t (row ∷ rows) h =
 pub rise_released : (t : ℕ) (rows : List Row) → KeysRise rows → KeysRise (released_rows t rows)
 rise_released t rows rise = sorted_released t rows rise
 
-found_released : (t : ℕ) (rows : List Row) (q : List ℕ) → is_sorted key_cmp rows ≡ true → record_of (released_rows t rows) q ≡ released_at t (record_of rows q)
+pub found_released : (t : ℕ) (rows : List Row) (q : List ℕ) → is_sorted key_cmp rows ≡ true → record_of (released_rows t rows) q ≡ released_at t (record_of rows q)
 found_released t [] q h = refl
 found_released t (row ∷ rows) q h =
     let parts = and_both (below_all key_cmp row.0 rows) (is_sorted key_cmp rows) h in
@@ -120,7 +120,7 @@ module _ (t : ℕ) where
       by_own true = stored-if (record r { requests = queue_without r.requests t })
       by_own false = refl
 
-  recent-released : (o : Option Record) → is_recent (released_at t o) ≡ is_recent o
+  pub recent-released : (o : Option Record) → is_recent (released_at t o) ≡ is_recent o
   recent-released None = refl
   recent-released (Some r) = by_own (stands_in r.requests t)
     where
@@ -128,7 +128,7 @@ module _ (t : ℕ) where
       by_own true = recent-if (record r { requests = queue_without r.requests t })
       by_own false = refl
 
-  closed-released : (o : Option Record) → is_closed (released_at t o) ≡ is_closed o
+  pub closed-released : (o : Option Record) → is_closed (released_at t o) ≡ is_closed o
   closed-released None = refl
   closed-released (Some r) = by_own (stands_in r.requests t)
     where
@@ -140,7 +140,7 @@ module _ (t : ℕ) where
   point-released None closed = refl
   point-released (Some r) closed = by_own (stands_in r.requests t)
     where
-      by_own : (b : Bool) → at_point (cond b (if_kept (record r { requests = queue_without r.requests t })) (Some r)) ≡ unwrap_or r.saved r.value
+      by_own : (b : Bool) → at_point (cond b (if_kept (record r { requests = queue_without r.requests t })) (Some r)) ≡ r.pinned
       by_own true = point-if (record r { requests = queue_without r.requests t }) closed
       by_own false = refl
 
@@ -180,7 +180,7 @@ released_read t rows content past queue in_open in_closed settled are =
     was_closed q closed = sym (ap is_closed (found q) ∙ closed-released t (record_of rows q)) ∙ closed
 
 -- the record once this is committed of its key, where there is one
-abbrev given_at : Option (Option (List ℕ)) → Option Record → Option Record
+abbrev pub given_at : Option (Option (List ℕ)) → Option Record → Option Record
 given_at o None = None
 given_at o (Some r) = Some (given o r)
 
@@ -195,7 +195,7 @@ sorted_written ws (row ∷ rows) = rw (below_written ws row.0 rows, sorted_writt
 pub rise_written : (ws : List Write) (rows : List Row) → KeysRise rows → KeysRise (map (written_row ws) rows)
 rise_written ws rows rise = sorted_written ws rows ∙ rise
 
-found_written : (ws : List Write) (rows : List Row) (q : List ℕ) → record_of (map (written_row ws) rows) q ≡ given_at (written ws q) (record_of rows q)
+pub found_written : (ws : List Write) (rows : List Row) (q : List ℕ) → record_of (map (written_row ws) rows) q ≡ given_at (written ws q) (record_of rows q)
 found_written ws [] q = refl
 found_written ws (row ∷ rows) q = by_match (same_bytes q row.0) refl (found_written ws rows q)
   where
@@ -230,11 +230,7 @@ closed-given (Some v) (Some r) = refl
 point-given : (o : Option (Option (List ℕ))) (r : Option Record) → is_closed r ≡ true → at_point (given_at o r) ≡ at_point r
 point-given o None closed = refl
 point-given None (Some r) closed = refl
-point-given (Some v) (Some r) closed = by_saved r.saved
-  where
-    by_saved : (s : Option (Option (List ℕ))) → unwrap_or (cond (is_some s) s (cond r.is_closed (Some r.value) None)) v ≡ unwrap_or s r.value
-    by_saved None = rw closed refl
-    by_saved (Some x) = refl
+point-given (Some v) (Some r) closed = refl
 
 kept-given : (o : Option (Option (List ℕ))) (r : Option Record) → is_some r ≡ stands_kept r → is_some (given_at o r) ≡ stands_kept (given_at o r)
 kept-given o None kept = refl

@@ -12,7 +12,7 @@ use Rattle.pc_model.proofs.PairMaps.{computes, tested}
 use Rattle.pc_locks.specs.States.{State, queue_at}
 use Rattle.pc_records.specs.declared.slots.Slot.{Slot}
 use Rattle.pc_records.specs.Rows.{Row, record_of, requests_on, with_requests, rows_after, is_full_for}
-use Rattle.pc_records.specs.Slots.{row_of, rows_of, AreKept, IsSlotOf, IsNewAt}
+use Rattle.pc_records.specs.Slots.{new_slot, row_of, rows_of, AreKept, IsSlotOf, IsNewAt}
 use Rattle.pc_records.proofs.SlotRising.{rise_any}
 use Rattle.pc_records.proofs.SlotPlaces.{length-rows, slot_found}
 use Rattle.pc_records.proofs.Numbers.{rows-insert}
@@ -74,9 +74,9 @@ module _ {A E : Type 0} (result : Result A E) (told : A → Outcome) (slots : Li
 
 -- a new key's slot goes in
 module _ (slots new : List Slot) (free new_free : List ℕ) (most new_most : ℕ) (queues new_queues : List Queue) (key : List ℕ) (i last n t : ℕ) (exclusive : Bool) (o : Outcome) (kept : AreKept slots free most queues) (count : last + 1 ≡ length free) (is : n ≡ get_or free last n) (gap : IsNewAt slots key i)
-    (answered : o ≡ outcome (queue_at queues n) t exclusive) (changed : new_queues ≡ set queues n (queue_after (queue_at queues n) t exclusive o)) (new_is : new ≡ insert slots i (record { number = n; key = key; value = None; is_recent = false; is_closed = false; saved = None })) where
-  abbrev new_slot : Slot
-  new_slot = record { number = n; key = key; value = None; is_recent = false; is_closed = false; saved = None }
+    (answered : o ≡ outcome (queue_at queues n) t exclusive) (changed : new_queues ≡ set queues n (queue_after (queue_at queues n) t exclusive o)) (new_is : new ≡ insert slots i (new_slot n key)) where
+  abbrev first : Slot
+  first = new_slot n key
 
   bare : queue_at queues n ≡ []
   bare = kept.bare n (free_number slots free most queues last n kept count is)
@@ -87,17 +87,17 @@ module _ (slots new : List Slot) (free new_free : List ℕ) (most new_most : ℕ
   queues_new : new_queues ≡ set queues n (queue_after [] t exclusive Granted)
   queues_new = changed ∙ ap (λ q. set queues n (queue_after q t exclusive o)) bare ∙ ap (λ o. set queues n (queue_after [] t exclusive o)) told_new
 
-  row_new : row_of (set queues n (queue_after [] t exclusive Granted)) new_slot ≡ (key, with_requests None (queue_after [] t exclusive Granted))
-  row_new = ap (with_queue new_slot) (queue_same queues n (queue_after [] t exclusive Granted) (free_below slots free most queues last n kept count is))
+  row_new : row_of (set queues n (queue_after [] t exclusive Granted)) first ≡ (key, with_requests None (queue_after [] t exclusive Granted))
+  row_new = ap (with_queue first) (queue_same queues n (queue_after [] t exclusive Granted) (free_below slots free most queues last n kept count is))
 
   pub rows_new : rows_of new_queues new ≡ rows_after (rows_of queues slots) key t exclusive Granted
   rows_new =
-      ap (rows_of new_queues) new_is ∙ ap (λ qs. rows_of qs (insert slots i new_slot)) queues_new ∙ rows-insert (set queues n (queue_after [] t exclusive Granted)) slots i new_slot
-      ∙ ap (λ (rows : List Row). insert rows i (row_of (set queues n (queue_after [] t exclusive Granted)) new_slot)) (rows-apart queues n (queue_after [] t exclusive Granted) slots (free_number slots free most queues last n kept count is))
+      ap (rows_of new_queues) new_is ∙ ap (λ qs. rows_of qs (insert slots i first)) queues_new ∙ rows-insert (set queues n (queue_after [] t exclusive Granted)) slots i first
+      ∙ ap (λ (rows : List Row). insert rows i (row_of (set queues n (queue_after [] t exclusive Granted)) first)) (rows-apart queues n (queue_after [] t exclusive Granted) slots (free_number slots free most queues last n kept count is))
       ∙ ap (insert (rows_of queues slots) i) row_new ∙ sym ((gap queues).puts (with_requests None (queue_after [] t exclusive Granted)))
       ∙ ap (λ o. put key_cmp key (with_requests o (queue_after (requests_on o) t exclusive Granted)) (rows_of queues slots)) (sym (gap queues).finds)
 
   pub kept_new : new_free ≡ take last free → i ≤ length slots → new_most ≡ most → AreKept new new_free new_most new_queues
   kept_new free_is behind most_is =
-      kept_inserted slots new free new_free most new_most queues new_queues i last new_slot (queue_after [] t exclusive Granted) kept count is free_is new_is behind queues_new most_is
+      kept_inserted slots new free new_free most new_most queues new_queues i last first (queue_after [] t exclusive Granted) kept count is free_is new_is behind queues_new most_is
       (rw rows_new (tested (is_sorted-put key_cmp key_order.total key _ (rows_of queues slots) (computes (rise_any [] queues slots kept.rise)))))

@@ -9,7 +9,7 @@ use Rattle.pc_locks.specs.States.{queue_at}
 use Rattle.pc_locks.proofs.Rows.{none_at}
 use Rattle.pc_records.specs.declared.slots.Slot.{Slot}
 use Rattle.pc_records.specs.Rows.{committed_row}
-use Rattle.pc_records.specs.Slots.{rows_of, numbers_of, times, uses, AreShared, AreKept, numbers_from, slots_from, taken_slot}
+use Rattle.pc_records.specs.Slots.{rows_of, numbers_of, times, uses, AreShared, AreKept, numbers_from, slots_from, new_slot, taken_slot}
 use Rattle.pc_records.proofs.SlotRising.{keys_of, rise_any, rise_same, rows_rise}
 use Rattle.pc_records.proofs.Numbers.{keeps_shared, same_shared, inserted, removed_shared, times-insert, times-removed, first_shared, rows-first}
 use Rattle.pc_records.proofs.Queued.{length-set, queue_other, times_at}
@@ -53,14 +53,14 @@ kept_same slots new free most queues keys numbers kept = record {
   bare = λ n none. kept.bare n (ap (times n) (sym numbers) ∙ none);
 }
 
-pub kept_taken : (slots new : List Slot) (free : List ℕ) (most : ℕ) (queues : List Queue) (i : ℕ) → i < length slots → ((d : Slot) → new ≡ set slots i (taken_slot (get_or slots i d))) → AreKept slots free most queues → AreKept new free most queues
-kept_taken slots new free most queues i lt is kept =
-    let d : Slot = record { number = 0; key = []; value = Rattle.std.specs.Prelude.None; is_recent = false; is_closed = false; saved = Rattle.std.specs.Prelude.None } in
+pub kept_taken : (point : ℕ) (slots new : List Slot) (free : List ℕ) (most : ℕ) (queues : List Queue) (i : ℕ) → i < length slots → ((d : Slot) → new ≡ set slots i (taken_slot point (get_or slots i d))) → AreKept slots free most queues → AreKept new free most queues
+kept_taken point slots new free most queues i lt is kept =
+    let d : Slot = new_slot 0 [] in
     let e : Slot = get_or slots i d in
-    let is_e : new ≡ set slots i (taken_slot e) = is d in
+    let is_e : new ≡ set slots i (taken_slot point e) = is d in
     kept_same slots new free most queues
-    (ap keys_of (is e) ∙ map-set_same (λ (slot : Slot). slot.key) slots i (taken_slot (get_or slots i e)) e refl)
-    (ap numbers_of (is e) ∙ map-set_same (λ (slot : Slot). slot.number) slots i (taken_slot (get_or slots i e)) e refl) kept
+    (ap keys_of (is e) ∙ map-set_same (λ (slot : Slot). slot.key) slots i (taken_slot point (get_or slots i e)) e refl)
+    (ap numbers_of (is e) ∙ map-set_same (λ (slot : Slot). slot.number) slots i (taken_slot point (get_or slots i e)) e refl) kept
 
 -- another queue at a number that a slot has
 pub kept_queued : (slots : List Slot) (free : List ℕ) (most : ℕ) (queues : List Queue) (n : ℕ) (q : Queue) → 0 < times n (numbers_of slots) → AreKept slots free most queues → AreKept slots free most (set queues n q)

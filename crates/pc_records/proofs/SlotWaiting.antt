@@ -8,7 +8,7 @@ use Rattle.pc_records.specs.declared.slots.Slot.{Slot}
 use Rattle.pc_records.specs.Rows.{is_waiting}
 use Rattle.pc_records.specs.Slots.{rows_of, numbers_of, times, AreKept}
 
-abbrev waits_in : ℕ → Queue → Bool
+abbrev pub waits_in : ℕ → Queue → Bool
 waits_in t q = is_ungranted (request_in q t)
 
 or_false : (a b : Bool) → (a || b) ≡ false → (a ≡ false) × (b ≡ false)
@@ -49,7 +49,7 @@ none_in_rows : (t : ℕ) (queues : List Queue) (slots : List Slot) → ((n : ℕ
 none_in_rows t queues [] f = refl
 none_in_rows t queues (x ∷ xs) f = rw (f x.number) (none_in_rows t queues xs f)
 
-none_of : (t : ℕ) (queues : List Queue) → list_any (waits_in t) queues ≡ false → (n : ℕ) → waits_in t (queue_at queues n) ≡ false
+pub none_of : (t : ℕ) (queues : List Queue) → list_any (waits_in t) queues ≡ false → (n : ℕ) → waits_in t (queue_at queues n) ≡ false
 none_of t [] e n = refl
 none_of t (q ∷ qs) e zero = (or_false (waits_in t q) (list_any (waits_in t) qs) e).0
 none_of t (q ∷ qs) e (suc n) = none_of t qs (or_false (waits_in t q) (list_any (waits_in t) qs) e).1 n

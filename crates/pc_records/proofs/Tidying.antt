@@ -18,7 +18,7 @@ use Rattle.pc_model.proofs.Joins.{one_key}
 use Rattle.pc_locks.specs.States.{queue_at}
 use Rattle.pc_records.specs.declared.slots.Slot.{Slot}
 use Rattle.pc_records.specs.Rows.{Row, Record, record_of, is_kept, if_kept, with_row, left_of, with_left, left_rows}
-use Rattle.pc_records.specs.Slots.{row_of, rows_of, AreKept, IsSlotOf, tidied, taken_slot}
+use Rattle.pc_records.specs.Slots.{committed, row_of, rows_of, AreKept, IsSlotOf, tidied, taken_slot}
 use Rattle.pc_records.proofs.SlotRising.{rise_any}
 use Rattle.pc_records.proofs.SlotPlaces.{length-rows}
 use Rattle.pc_records.proofs.SlotKeeping.{kept_removed}
@@ -67,7 +67,7 @@ rows-without queues [] j = grind (arith, common_steps)
 rows-without queues (x ∷ xs) zero = refl
 rows-without queues (x ∷ xs) (suc j) = ap (λ (rows : List Row). row_of queues x ∷ rows) (rows-without queues xs j)
 
-no_requests : (v r c : Bool) (q : Queue) → (v || (not (is_empty q) || (r || c))) ≡ false → q ≡ []
+pub no_requests : (v r c : Bool) (q : Queue) → (v || (not (is_empty q) || (r || c))) ≡ false → q ≡ []
 no_requests true r c q e = absurd cc
 no_requests false r c [] e = refl
 no_requests false r c (x ∷ xs) e = absurd cc
@@ -88,7 +88,7 @@ module _ (slots new : List Slot) (free new_free : List ℕ) (most new_most : ℕ
 
   pub keeps_without : AreKept slots free most queues → is_kept (row_of queues e).1 ≡ false → new ≡ take i slots ++ drop (suc i) slots → new_free ≡ free ++ e.number ∷ [] → new_most ≡ most → AreKept new new_free new_most queues
   keeps_without kept goes new_is free_is most_is =
-      kept_removed slots new free new_free most new_most queues i e kept lt is new_is free_is most_is (no_requests (is_some e.value) e.is_recent e.is_closed (queue_at queues e.number) goes)
+      kept_removed slots new free new_free most new_most queues i e kept lt is new_is free_is most_is (no_requests (is_some (committed e)) e.is_recent e.is_closed (queue_at queues e.number) goes)
       (rw (slot_goes goes new_is) (rise_tidied (rows_of queues slots) i (rise_any [] queues slots kept.rise)))
 
 -- two readings of one place
@@ -122,7 +122,7 @@ others_all key (row ∷ rows) h = by_test (same_bytes key row.0) refl (others_al
         some_not_none r e = cc
     by_test false is rest = rw is (ap (λ (rows : List Row). row ∷ rows) (rest (rw is at h)))
 
-below_at : (key : List ℕ) (rows : List Row) (i : ℕ) (d : Row) → i < length rows → below_all key_cmp key rows ≡ true → is_lt (key_cmp key (get_or rows i d).0) ≡ true
+pub below_at : (key : List ℕ) (rows : List Row) (i : ℕ) (d : Row) → i < length rows → below_all key_cmp key rows ≡ true → is_lt (key_cmp key (get_or rows i d).0) ≡ true
 below_at key [] i d lt h = absurd (omega (arith, lt))
 below_at key (row ∷ rows) zero d lt h = (and_both (is_lt (key_cmp key row.0)) (below_all key_cmp key rows) h).0
 below_at key (row ∷ rows) (suc i) d lt h = below_at key rows i d (omega (arith, lt)) (and_both (is_lt (key_cmp key row.0)) (below_all key_cmp key rows) h).1
@@ -162,23 +162,23 @@ set_parts (x ∷ xs) (suc i) row lt = ap (λ (rs : List Row). x ∷ rs) (set_par
 
 -- a key whose mark of the closed set goes, and whose row is tidied then, is taken
 pub taken_rows : (rows : List Row) (key : List ℕ) (i : ℕ) (d : Row) → KeysRise rows → IsAt rows key i → same_bytes key (get_or rows i d).0 ≡ true →
-    tidied (set rows i ((get_or rows i d).0, record (get_or rows i d).1 { is_closed = false; saved = None })) i ≡ left_rows rows key
-taken_rows rows key i d rise at here = by_record (if_kept (record (get_or rows i d).1 { is_closed = false; saved = None })) refl
+    tidied (set rows i ((get_or rows i d).0, record (get_or rows i d).1 { is_closed = false; pinned = None })) i ≡ left_rows rows key
+taken_rows rows key i d rise at here = by_record (if_kept (record (get_or rows i d).1 { is_closed = false; pinned = None })) refl
   where
-    by_record : (o : Option Record) → if_kept (record (get_or rows i d).1 { is_closed = false; saved = None }) ≡ o → tidied (set rows i ((get_or rows i d).0, record (get_or rows i d).1 { is_closed = false; saved = None })) i ≡ left_rows rows key
+    by_record : (o : Option Record) → if_kept (record (get_or rows i d).1 { is_closed = false; pinned = None }) ≡ o → tidied (set rows i ((get_or rows i d).0, record (get_or rows i d).1 { is_closed = false; pinned = None })) i ≡ left_rows rows key
     by_record None is =
-        tidied_set rows i d ((get_or rows i d).0, record (get_or rows i d).1 { is_closed = false; saved = None }) None at.in_range is ∙ others_but key rows i d rise at.in_range here
+        tidied_set rows i d ((get_or rows i d).0, record (get_or rows i d).1 { is_closed = false; pinned = None }) None at.in_range is ∙ others_but key rows i d rise at.in_range here
         ∙ sym (ap (λ o. with_left (left_of o) key rows) (at.finds d) ∙ ap (λ o. with_left o key rows) is)
     by_record (Some r) is =
-        tidied_set rows i d ((get_or rows i d).0, record (get_or rows i d).1 { is_closed = false; saved = None }) (Some r) at.in_range is ∙ set_parts rows i ((get_or rows i d).0, r) at.in_range ∙ sym (at.puts d r)
+        tidied_set rows i d ((get_or rows i d).0, record (get_or rows i d).1 { is_closed = false; pinned = None }) (Some r) at.in_range is ∙ set_parts rows i ((get_or rows i d).0, r) at.in_range ∙ sym (at.puts d r)
         ∙ sym (ap (λ o. with_left (left_of o) key rows) (at.finds d) ∙ ap (λ o. with_left o key rows) is)
 
 -- and so in the slots
-pub taken_there : (slots marked new : List Slot) (queues : List Queue) (key : List ℕ) (i : ℕ) (d : Slot) → KeysRise (rows_of [] slots) → IsSlotOf slots key i → same_bytes key (get_or slots i d).key ≡ true →
-    ((d : Slot) → marked ≡ set slots i (taken_slot (get_or slots i d))) → rows_of queues new ≡ tidied (rows_of queues marked) i → rows_of queues new ≡ left_rows (rows_of queues slots) key
-taken_there slots marked new queues key i d rise at here marked_is new_is =
+pub taken_there : (point : ℕ) (slots marked new : List Slot) (queues : List Queue) (key : List ℕ) (i : ℕ) (d : Slot) → KeysRise (rows_of [] slots) → IsSlotOf slots key i → same_bytes key (get_or slots i d).key ≡ true →
+    ((d : Slot) → marked ≡ set slots i (taken_slot point (get_or slots i d))) → rows_of queues new ≡ tidied (rows_of queues marked) i → rows_of queues new ≡ left_rows (rows_of queues slots) key
+taken_there point slots marked new queues key i d rise at here marked_is new_is =
     let row : get_or (rows_of queues slots) i (row_of queues d) ≡ row_of queues (get_or slots i d) = get_or-map (row_of queues) slots i d in
-    let rows : rows_of queues marked ≡ set (rows_of queues slots) i ((get_or (rows_of queues slots) i (row_of queues d)).0, record (get_or (rows_of queues slots) i (row_of queues d)).1 { is_closed = false; saved = None }) =
-    ap (rows_of queues) (marked_is d) ∙ map-set (row_of queues) slots i (taken_slot (get_or slots i d)) ∙ ap (λ (r : Row). set (rows_of queues slots) i (r.0, record r.1 { is_closed = false; saved = None })) (sym row) in
+    let rows : rows_of queues marked ≡ set (rows_of queues slots) i ((get_or (rows_of queues slots) i (row_of queues d)).0, record (get_or (rows_of queues slots) i (row_of queues d)).1 { is_closed = false; pinned = None }) =
+    ap (rows_of queues) (marked_is d) ∙ map-set (row_of queues) slots i (taken_slot point (get_or slots i d)) ∙ ap (λ (r : Row). set (rows_of queues slots) i (r.0, record r.1 { is_closed = false; pinned = None })) (sym row) in
     new_is ∙ ap (λ (rs : List Row). tidied rs i) rows
     ∙ taken_rows (rows_of queues slots) key i (row_of queues d) (rise_any [] queues slots rise) (at queues) (ap (λ (r : Row). same_bytes key r.0) row ∙ here)

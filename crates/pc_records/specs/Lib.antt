@@ -1,5 +1,5 @@
 pub mod Rows
 pub mod Following
 pub mod NewKeys
+pub mod Tables
 pub mod Slots
-pub mod Writes

@@ -1,5 +1,5 @@
 -- What the records of keys are seen as: rows that rise by key, each with what is kept of the key.
-use Rattle.std.specs.Prelude.{ℕ, ◌==◌, ◌&&◌, ◌||◌, not, Bool, true, false, List, [], ◌∷◌, length, filter, Option, Some, None, is_some, is_none, unwrap_or, if◌then◌else◌}
+use Rattle.std.specs.Prelude.{ℕ, ◌==◌, ◌&&◌, ◌||◌, not, Bool, true, false, List, [], ◌∷◌, length, filter, Option, Some, None, is_some, is_none, if◌then◌else◌}
 use Rattle.std.specs.List.{list_any}
 use Rattle.std.specs.FinMap.{find}
 use Rattle.std.specs.FinMap.{put as put_entry}
@@ -11,13 +11,13 @@ use Rattle.pc_model.specs.Queues.{stands_in}
 use Rattle.pc_model.specs.Replies.{is_empty}
 
 -- What is kept of a key: the committed value, if it has one; whether it is in the open set, so that a commit since the last
--- resolve token, or since the start, wrote it; whether it is in the closed set; what it had at the point, a value or
--- absence, where it is in the closed set and a commit has written it since; and the requests of its lock.
+-- resolve token, or since the start, wrote it; whether it is in the closed set; the value that it has at the point, if it
+-- has one there and is in the closed set; and the requests of its lock.
 pub record Record : Type 0 where
   pub value : Option (List ℕ)
   pub is_recent : Bool
   pub is_closed : Bool
-  pub saved : Option (Option (List ℕ))
+  pub pinned : Option (List ℕ)
   pub requests : Queue
 
 -- a row: a key with what is kept of it
@@ -48,10 +48,10 @@ abbrev pub is_closed : Option Record → Bool
 is_closed None = false
 is_closed (Some r) = r.is_closed
 
--- what a key of the closed set has at the point: what was saved of it, or else the committed value
+-- what a key of the closed set has at the point
 abbrev pub at_point : Option Record → Option (List ℕ)
 at_point None = None
-at_point (Some r) = unwrap_or r.saved r.value
+at_point (Some r) = r.pinned
 
 -- the requests of the key
 abbrev pub requests_on : Option Record → Queue
@@ -73,7 +73,7 @@ with_row (Some r) key rows = (key, r) ∷ rows
 
 -- a row that keeps a committed value alone
 abbrev pub committed_row : List ℕ × List ℕ → Row
-committed_row pair = (pair.0, record { value = Some pair.1; is_recent = false; is_closed = false; saved = None; requests = [] })
+committed_row pair = (pair.0, record { value = Some pair.1; is_recent = false; is_closed = false; pinned = None; requests = [] })
 
 -- the key has no record, and there are as many as there may be
 abbrev pub is_full_for : Kept → List ℕ → Bool
@@ -85,7 +85,7 @@ is_waiting rows t = list_any (λ (row : Row). is_ungranted (request_in row.1.req
 
 -- a key's record with these requests
 abbrev pub with_requests : Option Record → Queue → Record
-with_requests None queue = record { value = None; is_recent = false; is_closed = false; saved = None; requests = queue }
+with_requests None queue = record { value = None; is_recent = false; is_closed = false; pinned = None; requests = queue }
 with_requests (Some r) queue = record r { requests = queue }
 
 -- the rows once the transaction's request of the key, exclusive or else shared, was answered; one that dies leaves nothing
@@ -103,15 +103,10 @@ abbrev pub released_rows : ℕ → List Row → List Row
 released_rows t [] = []
 released_rows t (row ∷ rows) = with_row (released t row.1) row.0 (released_rows t rows)
 
--- what is saved of a record once another value is committed: what is saved already, or else its value where the key is in
--- the closed set
-abbrev pub saved_then : Record → Option (Option (List ℕ))
-saved_then r = if is_some r.saved then r.saved else (if r.is_closed then Some r.value else None)
-
 -- a record once this is committed of its key, where it was written
 abbrev pub given : Option (Option (List ℕ)) → Record → Record
 given None r = r
-given (Some value) r = record r { value = value; is_recent = true; saved = saved_then r }
+given (Some value) r = record r { value = value; is_recent = true }
 
 -- the row once these writes are committed
 abbrev pub written_row : List Write → Row → Row
@@ -119,12 +114,12 @@ written_row writes row = (row.0, given (written writes row.0) row.1)
 
 -- the row once the open set is closed
 abbrev pub closed_row : Row → Row
-closed_row row = (row.0, record row.1 { is_recent = false; is_closed = row.1.is_recent; saved = None })
+closed_row row = (row.0, record row.1 { is_recent = false; is_closed = row.1.is_recent; pinned = if row.1.is_recent then row.1.value else None })
 
 -- the record of the key once the key is taken, or none where nothing keeps it
 abbrev pub left_of : Option Record → Option Record
 left_of None = None
-left_of (Some r) = if_kept (record r { is_closed = false; saved = None })
+left_of (Some r) = if_kept (record r { is_closed = false; pinned = None })
 
 -- the rows with this record of the key, or without the key
 abbrev pub with_left : Option Record → List ℕ → List Row → List Row

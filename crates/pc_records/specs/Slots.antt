@@ -1,20 +1,78 @@
 -- Slots: the places of records. Each has a number of its own below the capacity, and the queue of requests at that number.
-use Rattle.std.specs.Prelude.{◌≡◌, ℕ, zero, suc, ◌+◌, ◌<◌, ◌≤◌, nat_lt, ◌==◌, true, false, List, [], ◌∷◌, map, length, Option, Some, None, is_some, slice_index_or, if◌then◌else◌}
+use Rattle.std.specs.Prelude.{◌≡◌, ℕ, zero, suc, ◌+◌, ◌<◌, ◌≤◌, nat_lt, ◌==◌, ◌&&◌, ◌||◌, not, Bool, true, false, List, [], ◌∷◌, map, length, insert, All, Option, Some, None, is_some, slice_index_or, if◌then◌else◌}
+use Rattle.std.specs.List.{list_any}
+use Rattle.pc_types.specs.declared.Class.{Class}
+use Rattle.pc_types.specs.declared.Class.TheVariants.{Before, During, After}
 use Rattle.pc_types.specs.declared.Write.{Write}
-use Rattle.pc_model.specs.Database.{KeysRise, written}
-use Rattle.pc_model.specs.Locks.{Queue}
+use Rattle.pc_model.specs.Database.{KeysRise, same_bytes, written}
+use Rattle.pc_model.specs.Locks.{Queue, Outcome, queue_after}
+use Rattle.pc_model.specs.Locks.Outcome.{Granted, Queued, Died}
 use Rattle.pc_model.specs.Places.{IsAt, IsGap}
+use Rattle.pc_model.specs.Replies.{same_class}
 use Rattle.pc_locks.specs.States.{queue_at}
 use Rattle.pc_records.specs.declared.slots.Slot.{Slot}
+use Rattle.pc_records.specs.declared.versions.Stable.{Stable}
+use Rattle.pc_records.specs.declared.versions.Stable.TheVariants.{Empty, Held}
+use Rattle.pc_records.specs.declared.versions.Writer.{Writer}
 use Rattle.pc_records.specs.Rows.{Row, if_kept, with_row}
+use Rattle.pc_records.specs.Tables.{Pending, Table}
+
+-- what is committed of a key: what its writer found, or else what stands in its place
+abbrev pub committed_by : Option Writer → Option (List ℕ) → Option (List ℕ)
+committed_by None live = live
+committed_by (Some w) live = w.before
+
+-- the committed value of the slot's key
+abbrev pub committed : Slot → Option (List ℕ)
+committed slot = committed_by slot.writer slot.live
+
+-- the version that is held, or else what stands in the place
+abbrev pub version_or : Stable → Option (List ℕ) → Option (List ℕ)
+version_or Empty live = live
+version_or (Held value) live = value
+
+-- what the slot's key has at the point, where it is in the closed set
+abbrev pub pinned : Slot → Option (List ℕ)
+pinned slot = if slot.is_closed then version_or slot.stable slot.live else None
+
+-- the write of an open transaction, given what stands in the key's place
+abbrev pub write_of : Option Writer → Option (List ℕ) → Option Pending
+write_of None live = None
+write_of (Some w) live = Some (record { by = w.transaction; class = w.class; value = live })
+
+-- the write of an open transaction in the slot
+abbrev pub pending_in : Slot → Option Pending
+pending_in slot = write_of slot.writer slot.live
 
 -- the row in a slot, given the queue of each number
 abbrev pub row_of : List Queue → Slot → Row
-row_of queues slot = (slot.key, record { value = slot.value; is_recent = slot.is_recent; is_closed = slot.is_closed; saved = slot.saved; requests = queue_at queues slot.number })
+row_of queues slot = (slot.key, record { value = committed slot; is_recent = slot.is_recent; is_closed = slot.is_closed; pinned = pinned slot; requests = queue_at queues slot.number })
 
 -- the rows in the slots
 abbrev pub rows_of : List Queue → List Slot → List Row
 rows_of queues slots = map (row_of queues) slots
+
+-- the entries with this one before them, where there is one
+abbrev pub with_entry : {X : Type 0} → List ℕ → Option X → List (List ℕ × X) → List (List ℕ × X)
+with_entry key None entries = entries
+with_entry key (Some x) entries = (key, x) ∷ entries
+
+-- what the slots have of something, by key
+abbrev pub entries_of : {X : Type 0} → (Slot → Option X) → List Slot → List (List ℕ × X)
+entries_of f [] = []
+entries_of f (slot ∷ slots) = with_entry slot.key (f slot) (entries_of f slots)
+
+-- the committed pairs of the slots
+abbrev pub committed_pairs : List Slot → List (List ℕ × List ℕ)
+committed_pairs slots = entries_of committed slots
+
+-- the writes of open transactions in the slots
+abbrev pub pending_of : List Slot → List (List ℕ × Pending)
+pending_of slots = entries_of pending_in slots
+
+-- what is seen of slots, given the queue of each number and the point of the last closed set
+abbrev pub table_of : ℕ → List Queue → List Slot → ℕ → Table
+table_of capacity queues slots point = record { capacity = capacity; rows = rows_of queues slots; pending = pending_of slots; point = point }
 
 -- the numbers of the slots
 abbrev pub numbers_of : List Slot → List ℕ
@@ -68,7 +126,7 @@ numbers_from n (suc count) = n ∷ numbers_from (n + 1) count
 -- slots of committed pairs, numbered from n on
 abbrev pub slots_from : ℕ → List (List ℕ × List ℕ) → List Slot
 slots_from n [] = []
-slots_from n (pair ∷ pairs) = record { number = n; key = pair.0; value = Some pair.1; is_recent = false; is_closed = false; saved = None } ∷ slots_from (n + 1) pairs
+slots_from n (pair ∷ pairs) = record { number = n; key = pair.0; live = Some pair.1; stable = Empty; mark = 0; writer = None; is_recent = false; is_closed = false } ∷ slots_from (n + 1) pairs
 
 -- the rows without the one at place i where nothing keeps it
 abbrev pub tidied : List Row → ℕ → List Row
@@ -76,44 +134,131 @@ tidied [] i = []
 tidied (row ∷ rows) zero = with_row (if_kept row.1) row.0 rows
 tidied (row ∷ rows) (suc i) = row ∷ tidied rows i
 
--- what is saved of the slot once another value is committed: what is saved already, or else its value where its key is in
--- the closed set
-abbrev pub saved_next : Slot → Option (Option (List ℕ))
-saved_next slot = if is_some slot.saved then slot.saved else (if slot.is_closed then Some slot.value else None)
+-- what the slot holds is what its key has at the point: the key is in the closed set, and the mark is of the point
+abbrev pub is_available : ℕ → Slot → Bool
+is_available point slot = slot.is_closed && (slot.mark == point)
 
--- the slot once this is committed of its key, where it was written
-abbrev pub given_slot : Option (Option (List ℕ)) → Slot → Slot
-given_slot None slot = slot
-given_slot (Some value) slot = record slot { value = value; is_recent = true; saved = saved_next slot }
+-- a version is held
+abbrev pub is_held : Stable → Bool
+is_held Empty = false
+is_held (Held value) = true
 
--- the slot once these writes are committed
-abbrev pub with_writes : List Write → Slot → Slot
-with_writes writes slot = given_slot (written writes slot.key) slot
+-- what is held beside a writer where the slot isn't available
+abbrev pub held_for : Option Writer → Stable
+held_for None = Empty
+held_for (Some w) = if same_class w.class During then Held w.before else Empty
 
--- the values with this one before them, where the key is written
-abbrev pub with_given : Option (Option (List ℕ)) → List (Option (List ℕ)) → List (Option (List ℕ))
-with_given None values = values
-with_given (Some value) values = value ∷ values
+-- a writer, if there is one, began in prepare
+abbrev pub is_prepared : Option Writer → Bool
+is_prepared None = true
+is_prepared (Some w) = same_class w.class During
 
--- the values that the writes give to the slots, in the slots' order
-abbrev pub values_given : List Write → List Slot → List (Option (List ℕ))
-values_given writes [] = []
-values_given writes (slot ∷ slots) = with_given (written writes slot.key) (values_given writes slots)
+-- the transaction has an exclusive request in the queue that is granted
+abbrev pub has_exclusive : Queue → ℕ → Bool
+has_exclusive queue t = list_any (λ r. (r.transaction == t) && (r.exclusive && r.granted)) queue
+
+-- a writer, if there is one, has the exclusive lock
+abbrev pub is_locked : Queue → Option Writer → Bool
+is_locked queue None = true
+is_locked queue (Some w) = has_exclusive queue w.transaction
+
+-- what a slot keeps, given its queue and the point of the last closed set
+pub record IsSound (point : ℕ) (queue : Queue) (slot : Slot) : Type 0 where
+  -- no mark is of a later point
+  pub passed : slot.mark ≤ point
+  -- an available slot holds a version
+  pub holds : is_available point slot ≡ true → is_held slot.stable ≡ true
+  -- another one holds what is committed where its writer began in prepare, and else nothing
+  pub follows : is_available point slot ≡ false → slot.stable ≡ held_for slot.writer
+  -- a key of the closed set that isn't available is written by no transaction but one that began in prepare
+  pub prepared : slot.is_closed ≡ true → (slot.mark == point) ≡ false → is_prepared slot.writer ≡ true
+  -- a writer has the exclusive lock of the key
+  pub locked : is_locked queue slot.writer ≡ true
+
+-- each of the slots keeps that
+pub record AreSound (point : ℕ) (queues : List Queue) (slots : List Slot) : Type 0 where
+  pub each : All (λ slot. IsSound point (queue_at queues slot.number) slot) slots
+
+-- something keeps the slot, given its queue: a value, a version, a request, or one of the two sets
+abbrev pub is_kept_slot : Queue → Slot → Bool
+is_kept_slot queue slot = is_some slot.live || (is_held slot.stable || (not (length queue == 0) || (slot.is_recent || slot.is_closed)))
+
+-- a slot of a key that has nothing yet
+abbrev pub new_slot : ℕ → List ℕ → Slot
+new_slot number key = record { number = number; key = key; live = None; stable = Empty; mark = 0; writer = None; is_recent = false; is_closed = false }
+
+-- what is held once a transaction that began in prepare wrote the key first: what is held already, or else this copy
+abbrev pub held_or : Stable → Option (List ℕ) → Stable
+held_or Empty copy = Held copy
+held_or (Held value) copy = Held value
+
+-- the slot before the first write of a transaction of the class, given a copy of what stands in the place
+abbrev pub saved : ℕ → Class → Option (List ℕ) → Slot → Slot
+saved point Before copy slot = slot
+saved point During copy slot = record slot { stable = held_or slot.stable copy }
+saved point After copy slot = if slot.is_closed && not (slot.mark == point) then record slot { stable = Held copy; mark = point } else slot
+
+-- the slot once a transaction has written the key for the first time
+abbrev pub first_put : ℕ → ℕ → Class → Option (List ℕ) → Option (List ℕ) → Slot → Slot
+first_put point t class copy value slot = record (saved point class copy slot) { live = value; writer = Some (record { transaction = t; class = class; before = slot.live }) }
+
+-- the slot once a transaction has written the key, which may have a writer
+abbrev pub put_beside : Option Writer → ℕ → ℕ → Class → Option (List ℕ) → Option (List ℕ) → Slot → Slot
+put_beside None point t class copy value slot = first_put point t class copy value slot
+put_beside (Some w) point t class copy value slot = record slot { live = value }
+
+-- the slot once a transaction has written the key
+abbrev pub put_slot : ℕ → ℕ → Class → Option (List ℕ) → Option (List ℕ) → Slot → Slot
+put_slot point t class copy value slot = put_beside slot.writer point t class copy value slot
+
+-- the slot once the transaction's request to write the key was answered
+abbrev pub granted_slot : Outcome → ℕ → ℕ → Class → Option (List ℕ) → Option (List ℕ) → Slot → Slot
+granted_slot Granted point t class copy value slot = put_slot point t class copy value slot
+granted_slot Queued point t class copy value slot = slot
+granted_slot Died point t class copy value slot = slot
+
+-- a slot of the key that has nothing yet went in at place i, and the transaction has the granted request in its queue
+pub record IsFirstIn (slots : List Slot) (new : List Slot) (queues : List Queue) (i : ℕ) (key : List ℕ) (t : ℕ) (exclusive : Bool) : Type 0 where
+  pub number : ℕ
+  pub inserted : new ≡ insert slots i (new_slot number key)
+  pub queue : queue_at queues number ≡ queue_after [] t exclusive Granted
+
+-- the slot once its writer, of the class, has committed
+abbrev pub settled_class : Class → ℕ → Slot → Slot
+settled_class Before point slot = record slot { writer = None; is_recent = true }
+settled_class During point slot = if slot.is_closed then record slot { mark = point; writer = None; is_recent = true } else record slot { stable = Empty; writer = None; is_recent = true }
+settled_class After point slot = record slot { writer = None; is_recent = true }
+
+-- the slot once its writer, if there is one, has committed
+abbrev pub settled_from : Option Writer → ℕ → Slot → Slot
+settled_from None point slot = slot
+settled_from (Some w) point slot = settled_class w.class point slot
+
+-- the slot once its write is committed
+abbrev pub settled : ℕ → Slot → Slot
+settled point slot = settled_from slot.writer point slot
+
+-- the slot once its writer, if there is one, is undone
+abbrev pub undone_from : Option Writer → ℕ → Slot → Slot
+undone_from None point slot = slot
+undone_from (Some w) point slot = record slot { live = w.before; writer = None; stable = if same_class w.class During && not (is_available point slot) then Empty else slot.stable }
+
+-- the slot once its write is undone
+abbrev pub undone : ℕ → Slot → Slot
+undone point slot = undone_from slot.writer point slot
+
+-- the slot changed, where it is that of the key
+abbrev pub at_key : (Slot → Slot) → List ℕ → Slot → Slot
+at_key f key slot = if same_bytes key slot.key then f slot else slot
+
+-- the slot changed, where its key is written
+abbrev pub at_writes : (Slot → Slot) → List Write → Slot → Slot
+at_writes f writes slot = if is_some (written writes slot.key) then f slot else slot
 
 -- the slot once the open set is closed
 abbrev pub closed_slot : Slot → Slot
-closed_slot slot = record slot { is_recent = false; is_closed = slot.is_recent; saved = None }
+closed_slot slot = record slot { is_recent = false; is_closed = slot.is_recent }
 
 -- the slot once its key is taken
-abbrev pub taken_slot : Slot → Slot
-taken_slot slot = record slot { is_closed = false; saved = None }
-
--- the pairs with this one before them, where there is a value
-abbrev pub with_pair : List ℕ → Option (List ℕ) → List (List ℕ × List ℕ) → List (List ℕ × List ℕ)
-with_pair key None pairs = pairs
-with_pair key (Some value) pairs = (key, value) ∷ pairs
-
--- the committed pairs of the slots
-abbrev pub committed_pairs : List Slot → List (List ℕ × List ℕ)
-committed_pairs [] = []
-committed_pairs (slot ∷ slots) = with_pair slot.key slot.value (committed_pairs slots)
+abbrev pub taken_slot : ℕ → Slot → Slot
+taken_slot point slot = record slot { is_closed = false; stable = Empty; mark = point }

@@ -1,10 +1,11 @@
-//! The records of keys: committed values, the open and the closed set, and the requests of locks.
+//! The records of keys: values, which open transactions write in place, the open and the closed set,
+//! what is kept for the point, and the requests of locks.
 #![tactic(auto)]
 
 mod records;
 mod slots;
 #[cfg(test)]
 mod tests;
-mod writes;
+mod versions;
 
 pub use records::Records;

@@ -1,18 +1,21 @@
 //! Slots, which rise by key. Each has a number of its own, and its requests are those of the locks' queue at the number.
-ghost use Rattle.std.specs.Prelude.{◌≡◌, ◌<◌, ◌≤◌, ◌+◌, [], true, insert, map, length, IfOk, IfErr, MatchOption, is_none, unwrap_or, option_copied, slice_index_or, slice_set, vec_len, vec_capacity, List, ℕ};
+ghost use Rattle.std.specs.Prelude.{◌≡◌, ◌<◌, ◌≤◌, ◌+◌, [], true, insert, map, length, IfOk, IfErr, MatchOption, is_none, option_copied, slice_index_or, slice_set, vec_len, vec_capacity, List, ℕ};
+ghost use Rattle.std.specs.FinMap.{find};
 ghost use Rattle.pc_model.specs.Maps.{get};
-ghost use Rattle.pc_model.specs.Database.{KeysRise, database_of, same_bytes};
+ghost use Rattle.pc_model.specs.Database.{KeysRise, key_cmp, database_of, same_bytes};
 ghost use Rattle.pc_model.specs.Locks.{Queue};
-ghost use Rattle.pc_records.specs.Rows.{record_of, stored, is_recent, at_point, is_kept};
-ghost use Rattle.pc_records.specs.Slots.{row_of, rows_of, numbers_of, times, AreKept, IsSlotOf, IsNewAt, IsNumbered, numbers_from, slots_from, tidied, given_slot, with_writes, values_given, closed_slot, taken_slot};
+ghost use Rattle.pc_locks.specs.Queues.{told};
+ghost use Rattle.pc_locks.specs.States.{queue_at};
+ghost use Rattle.pc_records.specs.Rows.{record_of, stored, is_recent, at_point};
+ghost use Rattle.pc_records.specs.Tables.{read_of};
+ghost use Rattle.pc_records.specs.Slots.{rows_of, pending_of, numbers_of, times, AreKept, AreSound, is_kept_slot, IsSlotOf, IsNewAt, IsNumbered, numbers_from, slots_from, new_slot, tidied, put_slot, granted_slot, settled, undone, at_key, at_writes, closed_slot, taken_slot};
 
-use crate::writes::next_value;
-use pc_locks::Locks;
-use pc_types::{Key, SlotId, Value, Write};
+use crate::versions;
+use crate::versions::{Stable, Writer};
+use pc_locks::{Locks, Outcome};
+use pc_types::{Class, Key, Point, SlotId, TxnNo, Value, Write};
 use std::alloc::{AllocError, Global};
 use std::cmp::Ordering;
-use std::collections::VecDeque;
-use std::mem;
 
 /// What is kept of a key, but its requests.
 #[derive(Drop)]
@@ -20,14 +23,19 @@ pub(crate) struct Slot {
     /// Of all slots this one alone has the number.
     pub(crate) number: SlotId,
     pub(crate) key: Key,
-    /// The committed value, if the key has one.
-    pub(crate) value: Option<Value>,
+    /// What stands in the key's place, a value or absence: what an open transaction has written last, or else what is
+    /// committed.
+    pub(crate) live: Option<Value>,
+    /// What the key had before, where that is kept for a point.
+    pub(crate) stable: Stable,
+    /// The point that the stable version is known to be of, if the key is in the closed set.
+    pub(crate) mark: Point,
+    /// The open transaction that has written the key.
+    pub(crate) writer: Option<Writer>,
     /// The key is in the open set: a commit since the last resolve token, or since the start, wrote it.
     pub(crate) is_recent: bool,
     /// The key is in the closed set: it is of the point, and not taken yet.
     pub(crate) is_closed: bool,
-    /// What the key had at the point, where a commit has written it since.
-    pub(crate) saved: Option<Option<Value>>,
 }
 
 // A slot for each pair, numbered from 0.
@@ -43,13 +51,31 @@ pub(crate) fn slots_of(alloc: Global, pairs: &[(Key, Value)]) -> Result<Vec<Slot
         slots.push(Slot {
             number: SlotId(i as u32),
             key,
-            value: Some(value),
+            live: Some(value),
+            stable: Stable::Empty,
+            mark: Point(0),
+            writer: None,
             is_recent: false,
             is_closed: false,
-            saved: None,
         })?;
     }
     Ok(slots)
+}
+
+// A slot of a key that has nothing yet.
+pub(crate) fn bare_slot(number: SlotId, key: Key) -> Slot
+    ensures { result ≡ new_slot number key }
+{
+    Slot {
+        number,
+        key,
+        live: None,
+        stable: Stable::Empty,
+        mark: Point(0),
+        writer: None,
+        is_recent: false,
+        is_closed: false,
+    }
 }
 
 // The numbers from the first one to below the last one, with room for as many as the last one says.
@@ -112,24 +138,14 @@ pub(crate) fn is_new(slots: &[Slot], key: &Key) -> bool
     }
 }
 
-// The committed value of the key.
-pub(crate) fn value_at<'a>(slots: &'a [Slot], key: &Key) -> Option<&'a Value>
+// What stands in the key's place.
+pub(crate) fn latest_at<'a>(slots: &'a [Slot], key: &Key) -> Option<&'a Value>
     requires { KeysRise (rows_of [] slots.now) }
-    ensures { (queues : List Queue) → option_copied result ≡ stored (record_of (rows_of queues slots.now) key.now) }
+    ensures { (queues : List Queue) → option_copied result ≡ read_of (find key_cmp key.now (pending_of slots.now)) (stored (record_of (rows_of queues slots.now) key.now)) }
 {
     match place(slots, key) {
-        Ok(i) => slots[i].value.as_ref(),
+        Ok(i) => slots[i].live.as_ref(),
         Err(_) => None,
-    }
-}
-
-// What the slot's key has at the point: what is saved of it, or else its committed value.
-fn slot_at_point(slot: &Slot) -> Option<&Value>
-    ensures { option_copied result ≡ unwrap_or slot.now.saved slot.now.value }
-{
-    match &slot.saved {
-        Some(value) => value.as_ref(),
-        None => slot.value.as_ref(),
     }
 }
 
@@ -139,12 +155,12 @@ pub(crate) fn value_at_point<'a>(slots: &'a [Slot], key: &Key) -> Option<&'a Val
     ensures { (queues : List Queue) → option_copied result ≡ at_point (record_of (rows_of queues slots.now) key.now) }
 {
     match place(slots, key) {
-        Ok(i) => slot_at_point(&slots[i]),
+        Ok(i) => versions::pinned_of(&slots[i]),
         Err(_) => None,
     }
 }
 
-// The pairs of the slots that have a value.
+// The pairs of the slots that have a committed value.
 pub(crate) fn committed_pairs(
     alloc: Global,
     slots: &[Slot],
@@ -155,7 +171,7 @@ pub(crate) fn committed_pairs(
 {
     let mut pairs = Vec::new(alloc);
     for slot in slots {
-        if let Some(value) = &slot.value {
+        if let Some(value) = versions::committed_of(slot) {
             let key = slot.key.copy(alloc)?;
             let value = value.copy(alloc)?;
             pairs.push((key, value))?;
@@ -175,15 +191,12 @@ pub(crate) fn recent_at(slots: &[Slot], key: &Key) -> bool
     }
 }
 
-// The key of the slot is of the closed set where it was in the open one, and nothing is saved of it.
+// The key of the slot is of the closed set where it was in the open one.
 fn close_slot(slots: &mut Vec<Slot>, i: usize)
     requires { i < length slots.old.items }
     ensures { (d : Slot) → slots.new.items ≡ slice_set slots.old.items i (closed_slot (slice_index_or slots.old.items i d)) }
 {
-    let slot = &mut slots[i];
-    slot.is_closed = slot.is_recent;
-    slot.is_recent = false;
-    slot.saved = None;
+    versions::close(&mut slots[i]);
 }
 
 // The open set is closed.
@@ -195,14 +208,103 @@ pub(crate) fn close_slots(slots: &mut Vec<Slot>)
     }
 }
 
-// The key of the slot is not in the closed set, and nothing is saved of it.
-pub(crate) fn mark_taken(slots: &mut Vec<Slot>, i: usize)
+// The key of the slot is taken.
+pub(crate) fn mark_taken(slots: &mut Vec<Slot>, i: usize, point: Point)
     requires { i < length slots.old.items }
-    ensures { (d : Slot) → slots.new.items ≡ slice_set slots.old.items i (taken_slot (slice_index_or slots.old.items i d)) }
+    ensures { (d : Slot) → slots.new.items ≡ slice_set slots.old.items i (taken_slot point (slice_index_or slots.old.items i d)) }
 {
-    let slot = &mut slots[i];
-    slot.is_closed = false;
-    slot.saved = None;
+    versions::take(&mut slots[i], point);
+}
+
+// The transaction writes the slot's key in its place; the copy is one of what stands there.
+pub(crate) fn put_at(
+    slots: &mut Vec<Slot>,
+    i: usize,
+    point: Point,
+    transaction: TxnNo,
+    class: Class,
+    copy: Option<Value>,
+    value: Option<Value>,
+)
+    requires { i < length slots.old.items }
+    ensures { (d : Slot) → slots.new.items ≡ slice_set slots.old.items i (put_slot point transaction class copy value (slice_index_or slots.old.items i d)) }
+{
+    versions::put(&mut slots[i], point, transaction, class, copy, value);
+}
+
+// The transaction writes the slot's key in its place where its request was granted; the copy is one of what stands there.
+pub(crate) fn put_granted(
+    slots: &mut Vec<Slot>,
+    i: usize,
+    point: Point,
+    transaction: TxnNo,
+    class: Class,
+    copy: Option<Value>,
+    value: Option<Value>,
+    answer: Outcome,
+)
+    requires { i < length slots.old.items }
+    ensures { (d : Slot) → slots.new.items ≡ slice_set slots.old.items i (granted_slot (told answer) point transaction class copy value (slice_index_or slots.old.items i d)) }
+{
+    if let Outcome::Granted = answer {
+        put_at(slots, i, point, transaction, class, copy, value);
+    }
+}
+
+// The write that stands in the slot is committed.
+fn settle_slot(slots: &mut Vec<Slot>, i: usize, point: Point)
+    requires { i < length slots.old.items }
+    ensures { (d : Slot) → slots.new.items ≡ slice_set slots.old.items i (settled point (slice_index_or slots.old.items i d)) }
+{
+    versions::settle(&mut slots[i], point);
+}
+
+// The write that stands in the key's place is committed.
+fn settle_key(slots: &mut Vec<Slot>, key: &Key, point: Point)
+    requires { KeysRise (rows_of [] slots.old.items) }
+    ensures { slots.new.items ≡ map (at_key (settled point) key.now) slots.old.items }
+{
+    if let Ok(i) = place(slots, key) {
+        settle_slot(slots, i, point);
+    }
+}
+
+// These writes are committed.
+pub(crate) fn settle_all(slots: &mut Vec<Slot>, writes: &[Write], point: Point)
+    requires { KeysRise (rows_of [] slots.old.items) }
+    ensures { slots.new.items ≡ map (at_writes (settled point) writes.now) slots.old.items }
+{
+    for write in writes {
+        settle_key(slots, &write.key, point);
+    }
+}
+
+// The write that stands in the slot is undone.
+fn undo_slot(slots: &mut Vec<Slot>, i: usize, point: Point)
+    requires { i < length slots.old.items }
+    ensures { (d : Slot) → slots.new.items ≡ slice_set slots.old.items i (undone point (slice_index_or slots.old.items i d)) }
+{
+    versions::undo(&mut slots[i], point);
+}
+
+// The write that stands in the key's place is undone.
+fn undo_key(slots: &mut Vec<Slot>, key: &Key, point: Point)
+    requires { KeysRise (rows_of [] slots.old.items) }
+    ensures { slots.new.items ≡ map (at_key (undone point) key.now) slots.old.items }
+{
+    if let Ok(i) = place(slots, key) {
+        undo_slot(slots, i, point);
+    }
+}
+
+// These writes are undone.
+pub(crate) fn undo_all(slots: &mut Vec<Slot>, writes: &[Write], point: Point)
+    requires { KeysRise (rows_of [] slots.old.items) }
+    ensures { slots.new.items ≡ map (at_writes (undone point) writes.now) slots.old.items }
+{
+    for write in writes {
+        undo_key(slots, &write.key, point);
+    }
 }
 
 // The slot goes in at the place.
@@ -216,54 +318,36 @@ pub(crate) fn insert_slot(slots: &mut Vec<Slot>, i: usize, slot: Slot)
     }
 }
 
-// Whether something keeps the slot's record: a value, a request, or one of the two sets.
+// Whether something keeps the slot: a value, a version, a request, or one of the two sets.
 fn is_kept(slot: &Slot, locks: &Locks) -> bool
     requires { slot.now.number < length locks.now.queues }
-    ensures { result ≡ is_kept (row_of locks.now.queues slot.now).1 }
+    ensures { result ≡ is_kept_slot (queue_at locks.now.queues slot.now.number) slot.now }
 {
-    slot.value.is_some() || locks.has_request(slot.number) || slot.is_recent || slot.is_closed
+    slot.live.is_some()
+        || versions::is_held(&slot.stable)
+        || locks.has_request(slot.number)
+        || slot.is_recent
+        || slot.is_closed
 }
 
-// The slot at the place is free where nothing keeps its record.
-pub(crate) fn tidy(slots: &mut Vec<Slot>, free: &mut Vec<SlotId>, locks: &Locks, i: usize)
+// The slot at the place is free where nothing keeps it.
+pub(crate) fn tidy(
+    slots: &mut Vec<Slot>,
+    free: &mut Vec<SlotId>,
+    locks: &Locks,
+    point: Point,
+    i: usize,
+)
     requires place { i < length slots.old.items }
     requires kept { AreKept slots.old.items free.old.items (vec_capacity free.old) locks.now.queues }
+    requires sound { AreSound point locks.now.queues slots.old.items }
     ensures rows { rows_of locks.now.queues slots.new.items ≡ tidied (rows_of locks.now.queues slots.old.items) i }
+    ensures pending { pending_of slots.new.items ≡ pending_of slots.old.items }
     ensures kept { AreKept slots.new.items free.new.items (vec_capacity free.new) locks.now.queues }
+    ensures sound { AreSound point locks.now.queues slots.new.items }
 {
     if !is_kept(&slots[i], locks) {
         let slot = slots.remove(i);
         free.push_reserved(slot.number);
-    }
-}
-
-// The slot has the value that it is given. What it had is saved, where its key is in the closed set and nothing is saved
-// of it yet.
-fn give_slot(slots: &mut Vec<Slot>, i: usize, given: Option<Option<Value>>)
-    requires { i < length slots.old.items }
-    ensures { (d : Slot) → slots.new.items ≡ slice_set slots.old.items i (given_slot given (slice_index_or slots.old.items i d)) }
-{
-    if let Some(value) = given {
-        let slot = &mut slots[i];
-        let old = mem::replace(&mut slot.value, value);
-        if slot.is_closed && slot.saved.is_none() {
-            slot.saved = Some(old);
-        }
-        slot.is_recent = true;
-    }
-}
-
-// These writes, which give these values, are committed.
-pub(crate) fn give_slots(
-    slots: &mut Vec<Slot>,
-    writes: &[Write],
-    values: &mut VecDeque<Option<Value>>,
-)
-    requires { values.old.items ≡ values_given writes.now slots.old.items }
-    ensures { slots.new.items ≡ map (with_writes writes.now) slots.old.items }
-{
-    for i in 0..slots.len() {
-        let given = next_value(&slots[i].key, writes, values);
-        give_slot(slots, i, given);
     }
 }

@@ -1,153 +1,237 @@
-//! Tests of the records: requests, releases and what keeps a slot.
-ghost use Rattle.std.specs.Prelude.{◌≡◌, ◌≤◌};
+//! Tests of the moments of a slot, and of requests, releases and what keeps a slot.
+ghost use Rattle.std.specs.Prelude.{◌≡◌, []};
 
-use crate::Records;
-use pc_locks::{Mode, Outcome};
-use pc_types::{Key, Refusal, TxnNo, Value, Write};
+use crate::slots::Slot;
+use crate::{Records, slots, versions};
+use pc_locks::Outcome;
+use pc_types::{Class, Key, Point, Refusal, SlotId, TxnNo, Value};
 use std::alloc::Global;
 use std::test::Fail;
 
-// What is asked of records: keys and values of one byte, and transactions by number.
+// What happens to a slot; the point is that of the last closed set.
+#[derive(Clone, Copy)]
+enum Moment {
+    // A transaction of the class writes a value of one byte, or absence.
+    Write(Class, Option<u8>),
+    Commit,
+    Undo,
+    // The open set is closed, as that of the next point.
+    Close,
+    Take,
+}
+
+use Moment::{Close, Commit, Take, Undo, Write};
+
+// What stands in the place, what is committed, and what the key has at the point where it is in the closed set.
+#[derive(Clone, Copy, Debug, PartialEq)]
+struct Seen(Option<u8>, Option<u8>, Option<u8>);
+
+fn value_of(alloc: Global, content: Option<u8>) -> Result<Option<Value>, Refusal> {
+    match content {
+        Some(byte) => Ok(Some(Value::new(alloc, &[byte])?)),
+        None => Ok(None),
+    }
+}
+
+fn content_of(value: Option<&Value>) -> Option<u8> {
+    match value {
+        Some(value) => value.as_bytes().first().copied(),
+        None => None,
+    }
+}
+
+fn look_at(slot: &Slot) -> Seen {
+    Seen(
+        content_of(slot.live.as_ref()),
+        content_of(versions::committed_of(slot)),
+        content_of(versions::pinned_of(slot)),
+    )
+}
+
+// Does it, and gives the point of the last closed set then.
+fn happen(alloc: Global, slot: &mut Slot, point: Point, moment: Moment) -> Result<Point, Refusal> {
+    match moment {
+        Write(class, content) => {
+            let copy = versions::copied(alloc, &slot.live)?;
+            let value = value_of(alloc, content)?;
+            versions::put(slot, point, TxnNo(1), class, copy, value);
+        }
+        Commit => versions::settle(slot, point),
+        Undo => versions::undo(slot, point),
+        Close => {
+            versions::close(slot);
+            return Ok(Point(if point.0 < 9 { point.0 + 1 } else { 9 }));
+        }
+        Take => versions::take(slot, point),
+    }
+    Ok(point)
+}
+
+// A slot of a key that has the value.
+fn slot_with(alloc: Global, content: u8) -> Result<Slot, Refusal> {
+    let mut slot = slots::bare_slot(SlotId(0), Key::new(alloc, &[1])?);
+    slot.live = value_of(alloc, Some(content))?;
+    Ok(slot)
+}
+
+// The first of the rows that came out otherwise.
+fn first_wrong(alloc: Global, rows: &[(Moment, Seen)]) -> Result<Option<usize>, Refusal> {
+    let mut slot = slot_with(alloc, 50)?;
+    let mut point = Point(0);
+    for (i, row) in rows.iter().enumerate() {
+        point = happen(alloc, &mut slot, point, row.0)?;
+        if look_at(&slot) != row.1 {
+            return Ok(Some(i));
+        }
+    }
+    Ok(None)
+}
+
+const BEFORE: Class = Class::Before;
+
+const DURING: Class = Class::During;
+
+const AFTER: Class = Class::After;
+
+const MOMENTS: [(Moment, Seen); 32] = [
+    // An abort puts the committed value back, and a second write replaces the first one.
+    (Write(BEFORE, Some(51)), Seen(Some(51), Some(50), None)),
+    (Write(BEFORE, None), Seen(None, Some(50), None)),
+    (Undo, Seen(Some(50), Some(50), None)),
+    (Write(BEFORE, Some(52)), Seen(Some(52), Some(50), None)),
+    (Commit, Seen(Some(52), Some(52), None)),
+    // A writer of the prepare phase is open when the set is closed: the point has what was committed then.
+    (Write(DURING, Some(53)), Seen(Some(53), Some(52), None)),
+    (Close, Seen(Some(53), Some(52), Some(52))),
+    (Write(DURING, None), Seen(None, Some(52), Some(52))),
+    (Undo, Seen(Some(52), Some(52), Some(52))),
+    (Write(AFTER, Some(54)), Seen(Some(54), Some(52), Some(52))),
+    (Write(AFTER, Some(55)), Seen(Some(55), Some(52), Some(52))),
+    (Commit, Seen(Some(55), Some(55), Some(52))),
+    // Another one after the point, which aborts: what is kept stays.
+    (Write(AFTER, None), Seen(None, Some(55), Some(52))),
+    (Undo, Seen(Some(55), Some(55), Some(52))),
+    (Take, Seen(Some(55), Some(55), None)),
+    // Once the key is taken nothing is kept of it.
+    (Write(AFTER, Some(56)), Seen(Some(56), Some(55), None)),
+    (Commit, Seen(Some(56), Some(56), None)),
+    (Close, Seen(Some(56), Some(56), Some(56))),
+    (Take, Seen(Some(56), Some(56), None)),
+    // A writer of the prepare phase commits after the point of a key that an earlier commit wrote.
+    (Write(BEFORE, None), Seen(None, Some(56), None)),
+    (Commit, Seen(None, None, None)),
+    (Write(DURING, Some(57)), Seen(Some(57), None, None)),
+    (Close, Seen(Some(57), None, None)),
+    (Commit, Seen(Some(57), Some(57), None)),
+    (Write(AFTER, Some(58)), Seen(Some(58), Some(57), None)),
+    (Undo, Seen(Some(57), Some(57), None)),
+    (Take, Seen(Some(57), Some(57), None)),
+    // It commits in prepare: what it found is forgotten.
+    (Write(DURING, Some(59)), Seen(Some(59), Some(57), None)),
+    (Commit, Seen(Some(59), Some(59), None)),
+    (Close, Seen(Some(59), Some(59), Some(59))),
+    (Write(DURING, Some(60)), Seen(Some(60), Some(59), Some(59))),
+    (Commit, Seen(Some(60), Some(60), Some(59))),
+];
+
+#[test]
+fn moments(rt: HostRuntime) -> Result<(), Fail> {
+    assert_eq!(rt; first_wrong(rt.alloc(), &MOMENTS)?, None);
+    Ok(())
+}
+
+// What is asked of records that no open transaction has written: keys of one byte, and transactions by number.
 #[derive(Clone, Copy)]
 enum Ask {
     Read(u64, u8),
-    Write(u64, u8),
     Release(u64),
-    // A commit of the value, or of absence.
-    Commit(u8, Option<u8>),
-    Close,
-    Take(u8),
-    Value(u8),
-    // What the key has at the point.
-    AtPoint(u8),
-    IsRecent(u8),
     IsFullFor(u8),
+    IsWaiting(u64),
+    Latest(u8),
     // How many keys have a value.
     Values,
+    TakeKey(u8),
 }
 
-use Ask::{AtPoint, Close, Commit, IsFullFor, IsRecent, Read, Release, Take, Values};
+use Ask::{IsFullFor, IsWaiting, Latest, Read, Release, TakeKey, Values};
 
 #[derive(Clone, Copy, Debug, PartialEq)]
 enum Told {
     Granted,
-    Queued,
-    Died,
-    // A request of the transaction waits, so that it can't ask.
-    Waits,
-    // There is no room for the key, so that it can't be asked for.
-    Full,
+    // It waits, or has to abort.
+    Refused,
+    // A request of the transaction waits, or there is no room for the key.
+    NotAsked,
     Done,
-    Value(u8),
-    Absent,
-    Yes,
-    No,
+    Is(bool),
+    Content(Option<u8>),
     Count(usize),
 }
 
-use Told::{Absent, Count, Died, Done, Full, Granted, No, Queued, Waits, Yes};
+use Told::{Content, Count, Done, Granted, Is, NotAsked, Refused};
 
-// Asks for the lock of the key.
-fn request(
-    alloc: Global,
-    records: &mut Records,
-    transaction: u64,
-    key: u8,
-    mode: Mode,
-) -> Result<Told, Refusal> {
+fn read(alloc: Global, records: &mut Records, transaction: u64, key: u8) -> Result<Told, Refusal>
+    requires { records.old.pending ≡ [] }
+    ensures { records.new.pending ≡ [] }
+{
     let key = Key::new(alloc, &[key])?;
     let transaction = TxnNo(transaction);
-    if records.is_waiting(transaction) {
-        return Ok(Waits);
+    if records.is_waiting(transaction) || records.is_full_for(&key) {
+        return Ok(NotAsked);
     }
-    if records.is_full_for(&key) {
-        return Ok(Full);
-    }
-    match records.request(alloc, transaction, &key, mode)? {
+    match records.share(alloc, transaction, &key)? {
         Outcome::Granted => Ok(Granted),
-        Outcome::Queued => Ok(Queued),
-        Outcome::Died => Ok(Died),
+        _ => Ok(Refused),
     }
 }
 
-fn write_of(alloc: Global, key: u8, content: Option<u8>) -> Result<Write, Refusal> {
+fn take_key(alloc: Global, records: &mut Records, key: u8) -> Result<Told, Refusal>
+    requires { records.old.pending ≡ [] }
+    ensures { records.new.pending ≡ [] }
+{
     let key = Key::new(alloc, &[key])?;
-    let value = match content {
-        Some(byte) => Some(Value::new(alloc, &[byte])?),
-        None => None,
-    };
-    Ok(Write { key, value })
-}
-
-// Commits a write of the key, before another one of the key, which doesn't count.
-fn commit(
-    alloc: Global,
-    records: &mut Records,
-    key: u8,
-    content: Option<u8>,
-) -> Result<Told, Refusal> {
-    let mut writes = Vec::new(alloc);
-    writes.push(write_of(alloc, key, content)?)?;
-    writes.push(write_of(alloc, key, Some(99))?)?;
-    records.install(alloc, &writes)?;
+    records.take(&key);
     Ok(Done)
 }
 
-fn content_of(value: Option<&Value>) -> Told {
-    match value {
-        Some(value) => match value.as_bytes().first() {
-            Some(byte) => Told::Value(*byte),
-            None => Absent,
-        },
-        None => Absent,
-    }
+fn release(records: &mut Records, transaction: u64) -> Told
+    requires { records.old.pending ≡ [] }
+    ensures { records.new.pending ≡ [] }
+{
+    records.release(TxnNo(transaction));
+    Done
 }
 
-fn yes(is: bool) -> Told {
-    if is { Yes } else { No }
-}
-
-fn take(alloc: Global, records: &mut Records, key: u8) -> Result<Told, Refusal> {
-    records.take(&Key::new(alloc, &[key])?);
-    Ok(Done)
-}
-
-// What the records say of the key.
-fn seen(alloc: Global, records: &Records, ask: Ask) -> Result<Told, Refusal> {
+// What the records say, which changes nothing.
+fn said(alloc: Global, records: &Records, ask: Ask) -> Result<Told, Refusal> {
     match ask {
-        Ask::Value(key) => Ok(content_of(records.value(&Key::new(alloc, &[key])?))),
-        AtPoint(key) => Ok(content_of(records.at_point(&Key::new(alloc, &[key])?))),
-        IsRecent(key) => Ok(yes(records.is_recent(&Key::new(alloc, &[key])?))),
-        IsFullFor(key) => Ok(yes(records.is_full_for(&Key::new(alloc, &[key])?))),
+        IsFullFor(key) => Ok(Is(records.is_full_for(&Key::new(alloc, &[key])?))),
+        IsWaiting(transaction) => Ok(Is(records.is_waiting(TxnNo(transaction)))),
+        Latest(key) => Ok(Content(content_of(records.latest(&Key::new(alloc, &[key])?)))),
         _ => Ok(Count(records.committed(alloc)?.len())),
     }
 }
 
-// Does what is asked.
-fn tell(alloc: Global, records: &mut Records, ask: Ask) -> Result<Told, Refusal> {
+fn tell(alloc: Global, records: &mut Records, ask: Ask) -> Result<Told, Refusal>
+    requires { records.old.pending ≡ [] }
+    ensures { records.new.pending ≡ [] }
+{
     match ask {
-        Read(transaction, key) => request(alloc, records, transaction, key, Mode::Shared),
-        Ask::Write(transaction, key) => request(alloc, records, transaction, key, Mode::Exclusive),
-        Release(transaction) => {
-            records.release(TxnNo(transaction));
-            Ok(Done)
-        }
-        Commit(key, content) => commit(alloc, records, key, content),
-        Close => {
-            records.close();
-            Ok(Done)
-        }
-        Take(key) => take(alloc, records, key),
-        _ => seen(alloc, records, ask),
+        Read(transaction, key) => read(alloc, records, transaction, key),
+        Release(transaction) => Ok(release(records, transaction)),
+        TakeKey(key) => take_key(alloc, records, key),
+        _ => said(alloc, records, ask),
     }
 }
 
 // The first of the rows that came out otherwise.
-fn first_wrong(
+fn first_other(
     alloc: Global,
     records: &mut Records,
     rows: &[(Ask, Told)],
-) -> Result<Option<usize>, Refusal> {
+) -> Result<Option<usize>, Refusal>
+    requires { records.old.pending ≡ [] }
+{
     for (i, row) in rows.iter().enumerate() {
         if tell(alloc, records, row.0)? != row.1 {
             return Ok(Some(i));
@@ -156,163 +240,32 @@ fn first_wrong(
     Ok(None)
 }
 
-const LOCKS: [(Ask, Told); 13] = [
-    // The older one waits for the younger one, and is granted once that one releases; the youngest dies.
-    (Ask::Write(2, 1), Granted),
-    (Read(1, 1), Queued),
-    (Read(3, 1), Died),
-    (Read(1, 2), Waits),
-    (Release(3), Done),
-    (Read(1, 2), Waits),
-    (Release(2), Done),
-    (Ask::Write(1, 1), Granted),
-    // A second key fills the records; what only requests keep is gone with them.
-    (Ask::Write(1, 2), Granted),
-    (Read(3, 1), Died),
-    (Read(3, 3), Full),
-    (Release(1), Done),
-    (Read(3, 3), Granted),
-];
-
-#[test]
-fn locks(rt: HostRuntime) -> Result<(), Fail> {
-    let alloc = rt.alloc();
-    let mut records = Records::of_pairs(alloc, 2, &[])?;
-    assert_eq!(rt; first_wrong(alloc, &mut records, &LOCKS)?, None);
-    Ok(())
-}
-
-const SLOTS: [(Ask, Told); 20] = [
-    // One slot, of two readers in turn: it is free once both have released.
+const SLOTS: [(Ask, Told); 15] = [
+    // A key with a value, and one slot of two readers in turn: it is free once both have released.
+    (Latest(5), Content(Some(50))),
+    (Values, Count(1)),
     (Read(1, 7), Granted),
     (Read(2, 7), Granted),
-    (Read(2, 8), Full),
+    (Read(2, 8), NotAsked),
     (Release(1), Done),
-    (IsFullFor(8), Yes),
+    (IsFullFor(8), Is(true)),
     (Release(2), Done),
-    (IsFullFor(8), No),
-    // A smaller key in the same slot, and one that waits beside the owner's release.
-    (Ask::Write(5, 3), Granted),
-    (Ask::Write(4, 3), Queued),
-    (Release(5), Done),
-    (IsFullFor(8), Yes),
-    (Read(4, 3), Granted),
-    (Release(4), Done),
-    // A key with a value stays, and no request stands on it any more.
-    (Ask::Write(6, 9), Granted),
-    (Commit(9, Some(1)), Done),
-    (Release(6), Done),
-    (IsFullFor(8), Yes),
-    (Ask::Write(7, 9), Granted),
-    (Release(7), Done),
-    (Ask::Value(9), Told::Value(1)),
+    (IsFullFor(8), Is(false)),
+    // A request keeps a slot also where its key is taken.
+    (Read(3, 8), Granted),
+    (TakeKey(8), Done),
+    (IsFullFor(7), Is(true)),
+    (IsFullFor(8), Is(false)),
+    (IsWaiting(3), Is(false)),
+    (Latest(8), Content(None)),
 ];
 
 #[test]
-fn slots(rt: HostRuntime) -> Result<(), Fail> {
+fn slots_kept(rt: HostRuntime) -> Result<(), Fail> {
     let alloc = rt.alloc();
-    let mut records = Records::of_pairs(alloc, 1, &[])?;
-    assert_eq!(rt; first_wrong(alloc, &mut records, &SLOTS)?, None);
-    Ok(())
-}
-
-const SETS: [(Ask, Told); 22] = [
-    // A removed key stays until its set is closed and it is taken.
-    (Ask::Value(5), Told::Value(50)),
-    (Commit(5, None), Done),
-    (Ask::Write(1, 6), Granted),
-    (Commit(6, Some(60)), Done),
-    (Commit(7, Some(70)), Done),
-    (Release(1), Done),
-    (Ask::Value(5), Absent),
-    (Ask::Value(6), Told::Value(60)),
-    (Ask::Value(7), Absent),
-    (Values, Count(1)),
-    (IsRecent(5), Yes),
-    (IsFullFor(7), Yes),
-    (Close, Done),
-    (IsRecent(5), No),
-    (IsFullFor(7), Yes),
-    (Take(6), Done),
-    (IsFullFor(7), Yes),
-    (Take(5), Done),
-    (IsFullFor(7), No),
-    (Read(2, 7), Granted),
-    (Ask::Value(6), Told::Value(60)),
-    (IsFullFor(5), Yes),
-];
-
-// Two slots, one with a key that has a value.
-fn with_value(alloc: Global) -> Result<Records, Refusal> {
     let mut pairs = Vec::new(alloc);
     pairs.push((Key::new(alloc, &[5])?, Value::new(alloc, &[50])?))?;
-    Ok(Records::of_pairs(alloc, 2, &pairs)?)
-}
-
-#[test]
-fn sets(rt: HostRuntime) -> Result<(), Fail> {
-    let alloc = rt.alloc();
-    let mut records = with_value(alloc)?;
-    assert_eq!(rt; first_wrong(alloc, &mut records, &SETS)?, None);
-    Ok(())
-}
-
-const POINTS: [(Ask, Told); 43] = [
-    // Outside the closed set it is the committed value, and so it is once the set is closed.
-    (AtPoint(5), Told::Value(50)),
-    (AtPoint(6), Absent),
-    (Commit(5, Some(51)), Done),
-    (AtPoint(5), Told::Value(51)),
-    (Close, Done),
-    (AtPoint(5), Told::Value(51)),
-    // A value is committed, and then a removal: what the key had stays until it is taken.
-    (Ask::Write(1, 5), Granted),
-    (Commit(5, Some(52)), Done),
-    (Release(1), Done),
-    (Ask::Value(5), Told::Value(52)),
-    (AtPoint(5), Told::Value(51)),
-    (Commit(5, None), Done),
-    (Ask::Value(5), Absent),
-    (AtPoint(5), Told::Value(51)),
-    (Take(5), Done),
-    (AtPoint(5), Absent),
-    // Once the key is taken nothing is saved of it.
-    (Commit(5, Some(53)), Done),
-    (AtPoint(5), Told::Value(53)),
-    (Commit(5, Some(54)), Done),
-    (AtPoint(5), Told::Value(54)),
-    (Close, Done),
-    // A removal, and then a value.
-    (Commit(5, None), Done),
-    (AtPoint(5), Told::Value(54)),
-    (Commit(5, Some(55)), Done),
-    (Ask::Value(5), Told::Value(55)),
-    (AtPoint(5), Told::Value(54)),
-    (Take(5), Done),
-    (AtPoint(5), Told::Value(55)),
-    // A key that had no value at the point has none, whatever is committed.
-    (Commit(5, None), Done),
-    (Close, Done),
-    (AtPoint(5), Absent),
-    (Commit(5, Some(56)), Done),
-    (AtPoint(5), Absent),
-    (Commit(5, Some(57)), Done),
-    (Ask::Value(5), Told::Value(57)),
-    (AtPoint(5), Absent),
-    // With the next close what was saved is gone.
-    (Close, Done),
-    (AtPoint(5), Told::Value(57)),
-    (Commit(5, Some(58)), Done),
-    (AtPoint(5), Told::Value(57)),
-    (Take(5), Done),
-    (Ask::Value(5), Told::Value(58)),
-    (AtPoint(5), Told::Value(58)),
-];
-
-#[test]
-fn points(rt: HostRuntime) -> Result<(), Fail> {
-    let alloc = rt.alloc();
-    let mut records = with_value(alloc)?;
-    assert_eq!(rt; first_wrong(alloc, &mut records, &POINTS)?, None);
+    let mut records = Records::of_pairs(alloc, 2, &pairs)?;
+    assert_eq!(rt; first_other(alloc, &mut records, &SLOTS)?, None);
     Ok(())
 }

@@ -1,5 +1,9 @@
 use Rattle.pc_engine.proofs.Causes.{get_refused}
+use Rattle.pc_engine.proofs.Within.{with_these}
 use Rattle.pc_engine.proofs.world.World.get.Goals as goal
 
 pub returns-in-Some : goal.returns-in-Some
 returns-in-Some c = get_refused c.args.self.now c.args.session c.args.key.now c.in-Some.why c.in-Some.ensures
+
+pub invariant_of-self : goal.invariant_of-self
+invariant_of-self c = (with_these _ _ _ _ _ _ _ _ _ _ c.self.invariant.0 c.read.ensures.few c.read.ensures.count, c.read.ensures.together _ _ _ _ _ c.self.invariant.1)

@@ -1,0 +1,78 @@
+-- What the sessions, the records and the cycle keep together: open transactions have their writes in place.
+use Rattle.std.specs.Prelude.{◌≡◌, ℕ, ◌<◌, ◌≤◌, Bool, true, false, List, [], Option, Some, None, is_some, option_map, slice_index_or, ◌⊎◌}
+use Rattle.pc_types.specs.declared.Class.{Class}
+use Rattle.pc_types.specs.declared.Class.TheVariants.{Before, During, After}
+use Rattle.pc_types.specs.declared.Phase.{Phase}
+use Rattle.pc_types.specs.declared.Phase.TheVariants.{Rest, Prepare, Resolve, Capture, Complete}
+use Rattle.pc_model.specs.Database.{written}
+use Rattle.pc_model.specs.Points.{is_among}
+use Rattle.pc_model.specs.Replies.{same_phase}
+use Rattle.pc_records.specs.Rows.{Row, record_of, is_recent, is_closed}
+use Rattle.pc_records.specs.Tables.{Table, Pending, pending_at}
+use Rattle.pc_engine.specs.Sessions.{Active, number_in}
+
+-- the open transaction at the place, if there is one
+abbrev pub at_place : List (Option Active) → ℕ → Option Active
+at_place sessions i = slice_index_or sessions i None
+
+-- what the transaction has written of the key, as it stands in the key's place
+abbrev pub write_in : Option Active → List ℕ → Option Pending
+write_in None key = None
+write_in (Some t) key = option_map (λ value. record { by = t.number; class = t.class; value = value }) (written t.writes key)
+
+-- each write of an open transaction stands in its key's place, and what stands there is such a write
+pub record AreInPlace (table : Table) (sessions : List (Option Active)) : Type 0 where
+  pub placed : (i : ℕ) (q : List ℕ) → is_some (write_in (at_place sessions i) q) ≡ true → pending_at table q ≡ write_in (at_place sessions i) q
+  pub owned : (q : List ℕ) → (pending_at table q ≡ None) ⊎ ((i : ℕ) × (pending_at table q ≡ write_in (at_place sessions i) q))
+
+-- open transactions have numbers of their own, and none has one that is still to be given
+pub record AreNumbered (begun : ℕ) (sessions : List (Option Active)) : Type 0 where
+  pub apart : (i j : ℕ) → is_some (at_place sessions i) ≡ true → is_some (at_place sessions j) ≡ true → number_in (at_place sessions i) ≡ number_in (at_place sessions j) → i ≡ j
+  pub given : (i : ℕ) → number_in (at_place sessions i) ≤ begun
+
+-- the classes that may be active in a phase
+abbrev pub may_be_active : Phase → Class → Bool
+may_be_active Rest Before = true
+may_be_active Prepare Before = true
+may_be_active Prepare During = true
+may_be_active Resolve During = true
+may_be_active Resolve After = true
+may_be_active Capture After = true
+may_be_active Complete Before = true
+may_be_active Complete After = true
+may_be_active phase class = false
+
+-- the transaction, if there is one, is of such a class
+abbrev pub fits : Phase → Option Active → Bool
+fits phase None = true
+fits phase (Some t) = may_be_active phase t.class
+
+-- the keys of the two sets are in the lists
+pub record AreListed (rows : List Row) (open_keys closed_keys : List (List ℕ)) : Type 0 where
+  pub recent : (q : List ℕ) → is_recent (record_of rows q) ≡ true → is_among open_keys q ≡ true
+  pub closed : (q : List ℕ) → is_closed (record_of rows q) ≡ true → is_among closed_keys q ≡ true
+
+-- a point's keys are taken in resolve and capture alone
+abbrev pub is_open_point : Phase → Bool
+is_open_point Resolve = true
+is_open_point Capture = true
+is_open_point phase = false
+
+-- all this together
+pub record HoldTogether (table : Table) (sessions : List (Option Active)) (begun : ℕ) (phase : Phase) (point : ℕ) (recent closed : List (List ℕ)) : Type 0 where
+  pub writes : AreInPlace table sessions
+  pub numbers : AreNumbered begun sessions
+  pub classes : (i : ℕ) → fits phase (at_place sessions i) ≡ true
+  pub sets : AreListed table.rows recent closed
+  pub idle : is_open_point phase ≡ false → closed ≡ []
+  pub within : table.point ≤ point
+  pub fresh : same_phase phase Prepare ≡ true → table.point < point
+
+-- whatever begun numbers, phase and sets they hold together with, they still do
+abbrev pub StayTogether : Table → List (Option Active) → Table → List (Option Active) → Type 0
+StayTogether table sessions after then = (begun : ℕ) (phase : Phase) (point : ℕ) (recent closed : List (List ℕ)) → HoldTogether table sessions begun phase point recent closed → HoldTogether after then begun phase point recent closed
+
+-- open transactions, with numbers of their own, have their writes in place
+pub record AreOpen (table : Table) (sessions : List (Option Active)) (begun : ℕ) : Type 0 where
+  pub writes : AreInPlace table sessions
+  pub numbers : AreNumbered begun sessions

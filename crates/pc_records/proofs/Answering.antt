@@ -1,0 +1,155 @@
+-- A request to write a key was answered, and the key is written where it was granted.
+use Rattle.std.proofs.Common.{◌≡◌, ℕ, ◌+◌, ◌<◌, ◌≤◌, List, [], length, get_or, set, Option, Some, None, refl, sym, ap, ◌∙◌, subst, arith, Bool, true, false}
+use Rattle.std.specs.Prelude.{insert}
+use Rattle.std.specs.List.{list_any}
+use Rattle.std.specs.FinMap.{find}
+use Rattle.pc_types.specs.declared.Class.{Class}
+use Rattle.pc_types.specs.declared.Class.TheVariants.{Before}
+use Rattle.pc_model.specs.Database.{key_cmp, same_bytes}
+use Rattle.pc_model.specs.Locks.{Queue, Outcome, IsLegalQueue, is_ungranted, request_in, outcome, queue_after}
+use Rattle.pc_model.specs.Locks.Outcome.{Granted}
+use Rattle.pc_locks.specs.States.{queue_at}
+use Rattle.pc_records.specs.declared.slots.Slot.{Slot}
+use Rattle.pc_records.specs.declared.versions.Writer.{Writer}
+use Rattle.pc_records.specs.Rows.{record_of, is_closed, requests_on, rows_after}
+use Rattle.pc_records.specs.Tables.{Pending, pending_after}
+use Rattle.pc_records.specs.Slots.{rows_of, pending_in, write_of, pending_of, table_of, has_exclusive, is_locked, AreSound, AreKept, IsSlotOf, IsFirstIn, put_slot, granted_slot, new_slot}
+use Rattle.pc_records.proofs.SlotPlaces.{slot_found}
+use Rattle.pc_records.proofs.SlotKeeping.{free_number, free_below}
+use Rattle.pc_records.proofs.SlotWaiting.{none_of}
+use Rattle.pc_records.proofs.Queued.{queue_same}
+use Rattle.pc_records.proofs.Requesting.{slot_below, queue_found, rows_asked, kept_asked}
+use Rattle.pc_records.proofs.Exclusive.{has_granted}
+use Rattle.pc_records.proofs.Lookups.{slot_of, of_slot, find_entry, slot_at, same_self}
+use Rattle.pc_records.proofs.Moments.{sound_new}
+use Rattle.pc_records.proofs.SlotMoments.{sound_inserted, entries_insert}
+use Rattle.pc_records.proofs.Freeing.{sound_at, sound_queued}
+use Rattle.pc_records.proofs.Clearing.{IsClear, own_writer, clear_found, sound_asked}
+use Rattle.pc_records.proofs.Writing.{kept_put, rows_put, sound_put, pending_put, get_inserted, length_inserted}
+
+-- a key that has a slot
+module _ (point t : ℕ) (class : Class) (value : Option (List ℕ)) (slots new : List Slot) (key : List ℕ) (i : ℕ) (e : Slot) (free : List ℕ) (most : ℕ) (queues new_queues : List Queue) (o : Outcome) (kept : AreKept slots free most queues) (sound : AreSound point queues slots) (lt : i < length slots) (is : e ≡ get_or slots i e)
+    (at : IsSlotOf slots key i) (at_e : (d : Slot) → same_bytes key (get_or slots i d).key ≡ true) (changed : new_queues ≡ set queues e.number (queue_after (queue_at queues e.number) t true o)) (answered : o ≡ outcome (queue_at queues e.number) t true) (legal : IsLegalQueue (queue_at queues e.number))
+    (ready : list_any (λ queue. is_ungranted (request_in queue t)) queues ≡ false) (outside : class ≡ Before → is_closed (record_of (rows_of queues slots) key) ≡ false) (again : (p : Pending) → find key_cmp key (pending_of slots) ≡ Some p → p.by ≡ t → p.class ≡ class)
+    (new_is : new ≡ set slots i (granted_slot o point t class e.live value e)) where
+  here : same_bytes key e.key ≡ true
+  here = ap (λ (s : Slot). same_bytes key s.key) is ∙ at_e e
+
+  found : slot_of slots key ≡ Some e
+  found = slot_at slots key i e kept.rise lt (at_e e) ∙ ap Some (sym is)
+
+  below : e.number < length queues
+  below = slot_below slots free most queues key i e t true kept lt is
+
+  outside_e : class ≡ Before → e.is_closed ≡ false
+  outside_e before = ap is_closed (sym (slot_found slots key i e lt is queues at)) ∙ outside before
+
+  kept_queues : AreKept slots free most new_queues
+  kept_queues = subst (AreKept slots free most) (sym changed) (kept_asked slots free most queues key i e t true kept lt is (queue_after (queue_at queues e.number) t true o))
+
+  sound_queues_now : AreSound point new_queues slots
+  sound_queues_now = sound_asked point e.number t true o slots free most queues new_queues kept changed sound
+
+  own : o ≡ Granted → (w : Writer) → e.writer ≡ Some w → w.transaction ≡ t
+  own granted = own_writer point t true (queue_at queues e.number) e (sound_at point queues slots i e sound lt is) legal (none_of t queues ready e.number) (sym answered ∙ granted)
+
+  own_both : o ≡ Granted → (w : Writer) → e.writer ≡ Some w → (w.transaction ≡ t) × (w.class ≡ class)
+  own_both granted w writer = (
+    own granted w writer,
+    again (record { by = w.transaction; class = w.class; value = e.live }) (find_entry pending_in slots key kept.rise ∙ ap (of_slot pending_in) found ∙ ap (λ o. write_of o e.live) writer) (own granted w writer),
+  )
+
+  has : o ≡ Granted → has_exclusive (queue_at new_queues e.number) t ≡ true
+  has granted =
+      ap (λ qs. has_exclusive (queue_at qs e.number) t) changed ∙ ap (λ q. has_exclusive q t) (queue_same queues e.number (queue_after (queue_at queues e.number) t true o) below)
+      ∙ ap (λ p. has_exclusive (queue_after (queue_at queues e.number) t true p) t) granted ∙ has_granted (queue_at queues e.number) t (none_of t queues ready e.number)
+
+  pub told_there : o ≡ outcome (requests_on (record_of (rows_of queues slots) key)) t true
+  told_there = answered ∙ ap (λ q. outcome q t true) (sym (queue_found slots free most queues key i e t true kept lt is at))
+
+  pub rows_there : rows_of new_queues new ≡ rows_after (rows_of queues slots) key t true o
+  rows_there =
+      rows_put point t class value slots new i e key free most new_queues kept_queues sound_queues_now lt is o outside_e new_is ∙ ap (λ qs. rows_of qs slots) changed
+      ∙ rows_asked slots free most queues key i e t true kept lt is at o
+
+  pub clear_there : o ≡ Granted → IsClear slots key t
+  clear_there granted = clear_found slots key e t kept.rise found (own granted)
+
+  pub kept_there : AreKept new free most new_queues
+  kept_there = kept_put point t class value slots new i e key free most new_queues kept_queues sound_queues_now lt is o outside_e new_is
+
+  pub sound_there : AreSound point new_queues new
+  sound_there = sound_put point t class value slots new i e key free most new_queues kept_queues sound_queues_now lt is o outside_e new_is has
+
+  pub pending_there : (q : List ℕ) → find key_cmp q (pending_of new) ≡ pending_after o (table_of (length queues) queues slots point) key (record { by = t; class = class; value = value }) q
+  pending_there q = pending_put point t class value slots new i e key free most new_queues kept_queues sound_queues_now lt is o outside_e new_is here own_both (length queues) queues q
+
+-- a key that has no slot: one went in
+module _ (point t : ℕ) (slots new : List Slot) (free : List ℕ) (most : ℕ) (queues new_queues : List Queue) (key : List ℕ) (i last n : ℕ) (exclusive : Bool) (o : Outcome) (kept : AreKept slots free most queues) (sound : AreSound point queues slots) (count : last + 1 ≡ length free) (is : n ≡ get_or free last n)
+    (answered : o ≡ outcome (queue_at queues n) t exclusive) (changed : new_queues ≡ set queues n (queue_after (queue_at queues n) t exclusive o)) (new_is : new ≡ insert slots i (new_slot n key)) where
+  bare_new : queue_at queues n ≡ []
+  bare_new = kept.bare n (free_number slots free most queues last n kept count is)
+
+  queue_new : queue_at new_queues n ≡ queue_after [] t exclusive Granted
+  queue_new =
+      ap (λ qs. queue_at qs n) changed ∙ queue_same queues n (queue_after (queue_at queues n) t exclusive o) (free_below slots free most queues last n kept count is) ∙ ap (λ q. queue_after q t exclusive o) bare_new
+      ∙ ap (λ p. queue_after [] t exclusive p) (answered ∙ ap (λ q. outcome q t exclusive) bare_new)
+
+  pub first_in : IsFirstIn slots new new_queues i key t exclusive
+  first_in = record { number = n; inserted = new_is; queue = queue_new }
+
+  pub sound_in : AreSound point new_queues new
+  sound_in =
+      sound_inserted point new_queues slots new i (new_slot n key) new_is (sound_new point n key (queue_at new_queues n))
+      (sound_queued point n (queue_after (queue_at queues n) t exclusive o) slots free most queues new_queues kept changed (λ k d lt. no_lock (get_or slots k d).writer) sound)
+    where
+      no_lock : (w : Option Writer) → is_locked (queue_at queues n) w ≡ true → is_locked (queue_after (queue_at queues n) t exclusive o) w ≡ true
+      no_lock None locked = refl
+      no_lock (Some w) locked =
+          let z : false ≡ true = ap (λ q. has_exclusive q w.transaction) (sym bare_new) ∙ locked in
+          cc
+
+  pub pending_in_new : pending_of new ≡ pending_of slots
+  pending_in_new = ap pending_of new_is ∙ entries_insert pending_in slots i (new_slot n key) refl
+
+-- and the key is written
+module _ (point t : ℕ) (class : Class) (value : Option (List ℕ)) (slots inserted new : List Slot) (key : List ℕ) (i : ℕ) (free : List ℕ) (most : ℕ) (queues : List Queue) (first : IsFirstIn slots inserted queues i key t true) (le : i ≤ length slots) (kept : AreKept inserted free most queues) (sound : AreSound point queues inserted)
+    (same : pending_of inserted ≡ pending_of slots) (new_is : (d : Slot) → new ≡ set inserted i (put_slot point t class None value (get_or inserted i d))) where
+  abbrev x : Slot
+  x = new_slot first.number key
+
+  is_x : x ≡ get_or inserted i x
+  is_x = sym (ap (λ (ss : List Slot). get_or ss i x) first.inserted ∙ get_inserted slots i x x le)
+
+  lt_x : i < length inserted
+  lt_x = subst (λ (ss : List Slot). i < length ss) (sym first.inserted) (omega (arith, le, length_inserted slots i x))
+
+  put_x : new ≡ set inserted i (granted_slot Granted point t class x.live value x)
+  put_x = new_is x ∙ ap (λ (s : Slot). set inserted i (put_slot point t class None value s)) (sym is_x)
+
+  has_x : has_exclusive (queue_at queues x.number) t ≡ true
+  has_x = ap (λ q. has_exclusive q t) first.queue ∙ has_granted [] t refl
+
+  pub kept_first_put : AreKept new free most queues
+  kept_first_put = kept_put point t class value inserted new i x key free most queues kept sound lt_x is_x Granted (λ e. refl) put_x
+
+  pub rows_first_put : rows_of queues new ≡ rows_of queues inserted
+  rows_first_put = rows_put point t class value inserted new i x key free most queues kept sound lt_x is_x Granted (λ e. refl) put_x
+
+  pub sound_first_put : AreSound point queues new
+  sound_first_put = sound_put point t class value inserted new i x key free most queues kept sound lt_x is_x Granted (λ e. refl) put_x (λ e. has_x)
+
+  pub pending_first_put : (o : Outcome) → o ≡ Granted → (capacity : ℕ) (other : List Queue) (q : List ℕ) → find key_cmp q (pending_of new) ≡ pending_after o (table_of capacity other slots point) key (record { by = t; class = class; value = value }) q
+  pending_first_put o granted capacity other q =
+      pending_put point t class value inserted new i x key free most queues kept sound lt_x is_x Granted (λ e. refl) put_x (same_self key) (λ e w writer. none w writer) capacity other q
+      ∙ ap (λ (ps : List (List ℕ × Pending)). pending_after Granted (record { capacity = capacity; rows = rows_of other slots; pending = ps; point = point }) key (record { by = t; class = class; value = value }) q) same
+      ∙ ap (λ p. pending_after p (table_of capacity other slots point) key (record { by = t; class = class; value = value }) q) (sym granted)
+    where
+      none : (w : Writer) → None ≡ Some w → (w.transaction ≡ t) × (w.class ≡ class)
+      none w e = absurd (let z : None ≡ Some w = e in cc)
+
+-- what was written with a copy of what stands there
+pub granted_is : (o : Outcome) (point t : ℕ) (class : Class) (copy value : Option (List ℕ)) (slots new : List Slot) (i : ℕ) (e : Slot) → ((d : Slot) → new ≡ set slots i (granted_slot o point t class copy value (get_or slots i d))) → copy ≡ e.live → e ≡ get_or slots i e →
+    new ≡ set slots i (granted_slot o point t class e.live value e)
+granted_is o point t class copy value slots new i e new_is copy_is is =
+    new_is e ∙ ap (λ v. set slots i (granted_slot o point t class v value (get_or slots i e))) copy_is ∙ ap (λ (s : Slot). set slots i (granted_slot o point t class e.live value s)) (sym is)

@@ -1,0 +1,19 @@
+use Rattle.std.proofs.Common.{ap, vec_capacity}
+use Rattle.pc_records.proofs.SlotMoments.{kept_undone, sound_undone, pending_undone, rows_undone}
+use Rattle.pc_records.proofs.records.Records.undo.Goals as goal
+
+pub undo_all-requires : goal.undo_all-requires
+undo_all-requires c = c.self.invariant.0.rise
+
+pub invariant_of-self : goal.invariant_of-self
+invariant_of-self c = (
+  kept_undone c.self.inside.point c.args.writes.now c.self.inside.slots.items c.undo_all.new.slots.items c.self.inside.free.items (vec_capacity c.self.inside.free) c.self.inside.locks.queues c.undo_all.ensures c.self.invariant.0 c.self.invariant.1.1,
+  (c.self.invariant.1.0, sound_undone c.self.inside.point c.args.writes.now c.self.inside.slots.items c.undo_all.new.slots.items c.self.inside.free.items (vec_capacity c.self.inside.free) c.self.inside.locks.queues c.undo_all.ensures c.self.invariant.0 c.self.invariant.1.1),
+)
+
+pub returns-clause-rows : goal.returns-clause-rows
+returns-clause-rows c =
+    rw (← c.self.view_is) (ap (λ rows. record { capacity = c.self.inside.capacity; rows = rows }) (rows_undone c.self.inside.point c.args.writes.now c.self.inside.slots.items c.undo_all.new.slots.items c.self.inside.free.items (vec_capacity c.self.inside.free) c.self.inside.locks.queues c.undo_all.ensures c.self.invariant.0 c.self.invariant.1.1))
+
+pub returns-clause-pending : goal.returns-clause-pending
+returns-clause-pending c = rw (← c.self.view_is) (pending_undone c.self.inside.point c.args.writes.now c.self.inside.slots.items c.undo_all.new.slots.items c.self.inside.free.items (vec_capacity c.self.inside.free) c.self.inside.locks.queues c.undo_all.ensures c.self.invariant.0 c.self.invariant.1.1)

@@ -1,0 +1,58 @@
+-- What the records hold beside the rows: the writes of open transactions, each in its key's place, and the point of the
+-- last closed set.
+use Rattle.std.specs.Prelude.{◌≡◌, ℕ, List, Option, Some, None, is_some, if◌then◌else◌, MatchOption}
+use Rattle.std.specs.FinMap.{find}
+use Rattle.pc_types.specs.declared.Class.{Class}
+use Rattle.pc_types.specs.declared.Write.{Write}
+use Rattle.pc_model.specs.Database.{key_cmp, same_bytes, written}
+use Rattle.pc_model.specs.Locks.{Outcome}
+use Rattle.pc_model.specs.Locks.Outcome.{Granted, Queued, Died}
+use Rattle.pc_records.specs.Rows.{Row, Kept, record_of, stored}
+
+-- what an open transaction has put in a key's place: its number and its class, and what it wrote last, a value or absence
+pub record Pending : Type 0 where
+  pub by : ℕ
+  pub class : Class
+  pub value : Option (List ℕ)
+
+-- the records: the rows, the writes of open transactions, rising by key, and the point of the last closed set
+pub record Table : Type 0 where
+  pub capacity : ℕ
+  pub rows : List Row
+  pub pending : List (List ℕ × Pending)
+  pub point : ℕ
+
+-- the rows and their limit alone
+abbrev pub kept_of : Table → Kept
+kept_of t = record { capacity = t.capacity; rows = t.rows }
+
+-- the write of an open transaction in the key's place
+abbrev pub pending_at : Table → List ℕ → Option Pending
+pending_at t key = find key_cmp key t.pending
+
+-- the value of a write
+abbrev pub value_of : Pending → Option (List ℕ)
+value_of p = p.value
+
+-- what stands in a key's place: what an open transaction wrote last, or else the committed value
+abbrev pub read_of : Option Pending → Option (List ℕ) → Option (List ℕ)
+read_of None committed = committed
+read_of (Some p) committed = p.value
+
+-- what stands in the key's place
+abbrev pub latest : Table → List ℕ → Option (List ℕ)
+latest t key = read_of (pending_at t key) (stored (record_of t.rows key))
+
+-- no other transaction has a write in the key's place
+abbrev pub IsClearFor : Table → List ℕ → ℕ → Type 0
+IsClearFor t key transaction = MatchOption (pending_at t key) (Unit {0}) (λ p. p.by ≡ transaction)
+
+-- what stands of the key once this was asked to be written of another one, or of the same
+abbrev pub pending_after : Outcome → Table → List ℕ → Pending → List ℕ → Option Pending
+pending_after Granted t key p q = if same_bytes key q then Some p else pending_at t q
+pending_after Queued t key p q = pending_at t q
+pending_after Died t key p q = pending_at t q
+
+-- what stands of the key once the transaction of these writes is over
+abbrev pub pending_without : List Write → Table → List ℕ → Option Pending
+pending_without writes t q = if is_some (written writes q) then None else pending_at t q

@@ -1,0 +1,177 @@
+//! The moments of one slot: its key is written in its place, the write is committed or undone, the open set is closed, and
+//! the key is taken.
+ghost use Rattle.std.specs.Prelude.{◌≡◌, IfOk, option_copied};
+ghost use Rattle.pc_types.specs.declared.Class.TheVariants as class_of;
+ghost use Rattle.pc_model.specs.Replies.{same_class};
+ghost use Rattle.pc_records.specs.Slots.{committed, pinned, is_held, is_available, saved, put_slot, settled, undone, taken_slot, closed_slot};
+
+use crate::slots::Slot;
+use pc_types::{Class, Point, TxnNo, Value};
+use std::alloc::{AllocError, Global};
+use std::mem;
+
+/// What a key had before, kept for the point.
+#[derive(Drop)]
+pub(crate) enum Stable {
+    /// Nothing is kept.
+    Empty,
+    /// The value that the key had, or absence.
+    Held(Option<Value>),
+}
+
+/// The open transaction that has written a key in its place.
+#[derive(Drop)]
+pub(crate) struct Writer {
+    pub(crate) transaction: TxnNo,
+    pub(crate) class: Class,
+    /// What is committed of the key, which an abort puts back.
+    pub(crate) before: Option<Value>,
+}
+
+// A copy of a value or absence.
+pub(crate) fn copied(alloc: Global, value: &Option<Value>) -> Result<Option<Value>, AllocError>
+    ensures { IfOk result (λ v. v ≡ value.now) }
+{
+    match value {
+        Some(value) => Ok(Some(value.copy(alloc)?)),
+        None => Ok(None),
+    }
+}
+
+// The committed value of the slot's key.
+pub(crate) fn committed_of(slot: &Slot) -> Option<&Value>
+    ensures { option_copied result ≡ committed slot.now }
+{
+    match &slot.writer {
+        Some(writer) => writer.before.as_ref(),
+        None => slot.live.as_ref(),
+    }
+}
+
+// What the slot's key has at the point, where it is in the closed set.
+pub(crate) fn pinned_of(slot: &Slot) -> Option<&Value>
+    ensures { option_copied result ≡ pinned slot.now }
+{
+    if !slot.is_closed {
+        return None;
+    }
+    match &slot.stable {
+        Stable::Held(value) => value.as_ref(),
+        Stable::Empty => slot.live.as_ref(),
+    }
+}
+
+// Whether a version is held.
+pub(crate) fn is_held(stable: &Stable) -> bool
+    ensures { result ≡ is_held stable.now }
+{
+    match stable {
+        Stable::Held(_) => true,
+        Stable::Empty => false,
+    }
+}
+
+// Whether what the slot holds is what its key has at the point.
+fn is_available(slot: &Slot, point: Point) -> bool
+    ensures { result ≡ is_available point slot.now }
+{
+    slot.is_closed && slot.mark.0 == point.0
+}
+
+// Whether the class is that of a transaction that began in prepare.
+fn is_during(class: Class) -> bool
+    ensures { result ≡ same_class class class_of.During }
+{
+    match class {
+        Class::During => true,
+        _ => false,
+    }
+}
+
+// A transaction of the class is about to write the key, which it has not written yet: the slot may keep this copy of what
+// stands there.
+fn save(slot: &mut Slot, point: Point, class: Class, copy: Option<Value>)
+    ensures { slot.new ≡ saved point class copy slot.old }
+{
+    match class {
+        Class::Before => {}
+        Class::During => {
+            if let Stable::Empty = slot.stable {
+                slot.stable = Stable::Held(copy);
+            }
+        }
+        Class::After => {
+            if slot.is_closed && slot.mark.0 != point.0 {
+                slot.stable = Stable::Held(copy);
+                slot.mark = point;
+            }
+        }
+    }
+}
+
+// The transaction writes the key in its place; the copy is one of what stands there.
+pub(crate) fn put(
+    slot: &mut Slot,
+    point: Point,
+    transaction: TxnNo,
+    class: Class,
+    copy: Option<Value>,
+    value: Option<Value>,
+)
+    ensures { slot.new ≡ put_slot point transaction class copy value slot.old }
+{
+    let before = mem::replace(&mut slot.live, value);
+    if slot.writer.is_none() {
+        save(slot, point, class, copy);
+        slot.writer = Some(Writer {
+            transaction,
+            class,
+            before,
+        });
+    }
+}
+
+// The write that stands in the slot, if there is one, is committed.
+pub(crate) fn settle(slot: &mut Slot, point: Point)
+    ensures { slot.new ≡ settled point slot.old }
+{
+    if let Some(writer) = slot.writer.take() {
+        if is_during(writer.class) {
+            if slot.is_closed {
+                slot.mark = point;
+            } else {
+                slot.stable = Stable::Empty;
+            }
+        }
+        slot.is_recent = true;
+    }
+}
+
+// The write that stands in the slot, if there is one, is undone.
+pub(crate) fn undo(slot: &mut Slot, point: Point)
+    ensures { slot.new ≡ undone point slot.old }
+{
+    if let Some(writer) = slot.writer.take() {
+        slot.live = writer.before;
+        if is_during(writer.class) && !is_available(slot, point) {
+            slot.stable = Stable::Empty;
+        }
+    }
+}
+
+// The key of the slot is taken.
+pub(crate) fn take(slot: &mut Slot, point: Point)
+    ensures { slot.new ≡ taken_slot point slot.old }
+{
+    slot.is_closed = false;
+    slot.stable = Stable::Empty;
+    slot.mark = point;
+}
+
+// The key of the slot is of the closed set where it was in the open one.
+pub(crate) fn close(slot: &mut Slot)
+    ensures { slot.new ≡ closed_slot slot.old }
+{
+    slot.is_closed = slot.is_recent;
+    slot.is_recent = false;
+}
