@@ -10,6 +10,8 @@ mod crowd_tests;
 mod list_tests;
 #[cfg(test)]
 mod lock_tests;
+#[cfg(test)]
+mod point_tests;
 mod points;
 mod sessions;
 mod shelving;
