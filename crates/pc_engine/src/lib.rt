@@ -7,6 +7,10 @@ mod checks;
 #[cfg(test)]
 mod crowd_tests;
 #[cfg(test)]
+mod cycle_tests;
+#[cfg(test)]
+mod growth_tests;
+#[cfg(test)]
 mod list_tests;
 #[cfg(test)]
 mod lock_tests;
@@ -16,10 +20,14 @@ mod points;
 mod sessions;
 mod shelving;
 #[cfg(test)]
+mod slow_cycle;
+#[cfg(test)]
 mod slow_store;
 #[cfg(test)]
 mod tests;
 mod transactions;
+#[cfg(test)]
+mod walk_tests;
 mod world;
 mod writes;
 

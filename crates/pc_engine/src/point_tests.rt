@@ -29,7 +29,11 @@ fn entry_told(entries: &[Triple], i: usize) -> (u8, u16, u8) {
 // These of the store's file of this number.
 fn entries_told(world: &World, number: u32) -> Option<TwoEntries> {
     let entries = world.file(FileNo(number))?.entries();
-    Some((entries.len(), entry_told(entries, 0), entry_told(entries, 1)))
+    Some((
+        entries.len(),
+        entry_told(entries, 0),
+        entry_told(entries, 1),
+    ))
 }
 
 // What is told of a store at the end of a row: the first wrong answer, a file's entries, and the base's point and pairs
@@ -340,7 +344,11 @@ fn part_after(alloc: Global, end: Ask, is_before_seal: bool) -> Result<Vec<u8>, 
 }
 
 // Which of two parts are the same bytes, and how many there are of the first.
-fn parts_told(alloc: Global, one: (Ask, bool), other: (Ask, bool)) -> Result<(usize, bool), Refusal> {
+fn parts_told(
+    alloc: Global,
+    one: (Ask, bool),
+    other: (Ask, bool),
+) -> Result<(usize, bool), Refusal> {
     let one = part_after(alloc, one.0, one.1)?;
     let other = part_after(alloc, other.0, other.1)?;
     Ok((one.len(), one.as_slice() == other.as_slice()))

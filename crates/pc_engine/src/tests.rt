@@ -194,7 +194,11 @@ fn compared(alloc: Global, world: &World, one: u32, other: u32) -> Result<(usize
 }
 
 /// The point and the pairs of the base with the store's file of this number laid on it.
-pub(crate) fn state_told(alloc: Global, world: &World, number: u32) -> Result<(u16, TwoPairs), Refusal> {
+pub(crate) fn state_told(
+    alloc: Global,
+    world: &World,
+    number: u32,
+) -> Result<(u16, TwoPairs), Refusal> {
     let laid = laid_at(alloc, world, number)?;
     Ok((laid.point().0, pairs_told(laid.pairs())))
 }
