@@ -8,17 +8,21 @@ use pc_types::{Phase, Refusal};
 use std::alloc::{AllocError, Global};
 use std::test::Fail;
 
-// What two sessions do over two keys, and the checkpointer. The lengths of the values tell the writes apart. Either session
-// is the older one in some start, so only the first reads, and only the second deletes.
-const LETTERS: [Ask; 17] = [
+// What two sessions do over two keys, and the checkpointer. The lengths of the values tell the writes apart. Each session
+// writes both keys, and reads and deletes one of them: with the other one the two sessions have changed places, and either
+// is the older one in some start.
+const LETTERS: [Ask; 20] = [
     Ask::Begin(1),
     Ask::Get(1, b"a"),
     Ask::Put(1, b"a", b"1"),
     Ask::Put(1, b"b", b"22"),
+    Ask::Del(1, b"a"),
     Ask::Commit(1),
     Ask::Abort(1),
     Ask::Begin(2),
+    Ask::Get(2, b"b"),
     Ask::Put(2, b"a", b"333"),
+    Ask::Put(2, b"b", b"4444"),
     Ask::Del(2, b"b"),
     Ask::Commit(2),
     Ask::Abort(2),
@@ -236,47 +240,47 @@ fn told_from(
     first_wrong_list(alloc, Lists { start, most })
 }
 
-// Every list of at most 6 events from there, 481,831 lists.
+// Every list of at most 6 events from there, 2,359,300 lists.
 #[test]
 fn every_short_list_from_rest_is_right(rt: HostRuntime) -> Result<(), Fail> {
     let (count, list) = told_from(rt.alloc(), &AT_REST, 6)?;
     assert!(rt; list.is_empty(), "wrong after {list:?}");
-    assert_eq!(rt; count, 481_831);
+    assert_eq!(rt; count, 2_359_300);
     Ok(())
 }
 
-// Every list of at most 6 events from there, 214,251 lists.
+// Every list of at most 6 events from there, 722,980 lists.
 #[test]
 fn every_short_list_from_prepare_is_right(rt: HostRuntime) -> Result<(), Fail> {
     let (count, list) = told_from(rt.alloc(), &IN_PREPARE, 6)?;
     assert!(rt; list.is_empty(), "wrong after {list:?}");
-    assert_eq!(rt; count, 214_251);
+    assert_eq!(rt; count, 722_980);
     Ok(())
 }
 
-// Every list of at most 6 events from there, 217,634 lists.
+// Every list of at most 6 events from there, 629,320 lists.
 #[test]
 fn every_short_list_from_resolve_is_right(rt: HostRuntime) -> Result<(), Fail> {
     let (count, list) = told_from(rt.alloc(), &IN_RESOLVE, 6)?;
     assert!(rt; list.is_empty(), "wrong after {list:?}");
-    assert_eq!(rt; count, 217_634);
+    assert_eq!(rt; count, 629_320);
     Ok(())
 }
 
-// Every list of at most 6 events from there, 559,266 lists.
+// Every list of at most 6 events from there, 2,592,140 lists.
 #[test]
 fn every_short_list_from_capture_is_right(rt: HostRuntime) -> Result<(), Fail> {
     let (count, list) = told_from(rt.alloc(), &IN_CAPTURE, 6)?;
     assert!(rt; list.is_empty(), "wrong after {list:?}");
-    assert_eq!(rt; count, 559_266);
+    assert_eq!(rt; count, 2_592_140);
     Ok(())
 }
 
-// Every list of at most 6 events from there, 247,673 lists.
+// Every list of at most 6 events from there, 1,039,940 lists.
 #[test]
 fn every_short_list_from_complete_is_right(rt: HostRuntime) -> Result<(), Fail> {
     let (count, list) = told_from(rt.alloc(), &IN_COMPLETE, 6)?;
     assert!(rt; list.is_empty(), "wrong after {list:?}");
-    assert_eq!(rt; count, 247_673);
+    assert_eq!(rt; count, 1_039_940);
     Ok(())
 }

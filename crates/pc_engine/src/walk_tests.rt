@@ -263,7 +263,7 @@ fn a_long_walk_is_right(rt: HostRuntime) -> Result<(), Fail> {
         ("joins", counts.joins, 200),
         ("commits", counts.commits, 3_000),
         ("aborts", counts.aborts, 2_000),
-        ("deaths", counts.deaths, 1_000),
+        ("deaths", counts.deaths, 500),
         ("waits", counts.waits, 200),
         ("held back", counts.held_back, 5_000),
     ] {
