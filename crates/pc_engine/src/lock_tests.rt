@@ -415,8 +415,8 @@ const LONG_ROWS: [(Ask, Told); 31] = [
     (Ask::Seal, Told::Phase(Phase::Resolve, 1)),
 ];
 
-// Whether the store is right; where memory is wanting it is asked again.
-fn is_right(world: &World) -> Result<bool, Refusal> {
+/// Whether the store is right; where memory is wanting it is asked again.
+pub(crate) fn is_right(world: &World) -> Result<bool, Refusal> {
     match world.check() {
         Ok(is_right) => Ok(is_right),
         Err(_) => world.check(),

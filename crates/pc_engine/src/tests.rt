@@ -21,8 +21,8 @@ fn text_of(alloc: Global, part: &Part) -> Result<Vec<u8>, Refusal> {
     Ok(out.into_inner())
 }
 
-// The text of the store's file of this number.
-fn text_at(alloc: Global, world: &World, number: u32) -> Result<Vec<u8>, Refusal> {
+/// The text of the store's file of this number.
+pub(crate) fn text_at(alloc: Global, world: &World, number: u32) -> Result<Vec<u8>, Refusal> {
     match world.file(FileNo(number)) {
         Some(part) => text_of(alloc, part),
         None => Err(Refusal::NoFile),
@@ -193,8 +193,12 @@ fn compared(alloc: Global, world: &World, one: u32, other: u32) -> Result<(usize
     Ok((one.len(), one.as_slice() == other.as_slice()))
 }
 
-// The point and the pairs of the base with the store's file of this number laid on it.
-fn state_told(alloc: Global, world: &World, number: u32) -> Result<(u16, TwoPairs), Refusal> {
+/// The point and the pairs of the base with the store's file of this number laid on it.
+pub(crate) fn state_told(
+    alloc: Global,
+    world: &World,
+    number: u32,
+) -> Result<(u16, TwoPairs), Refusal> {
     let laid = laid_at(alloc, world, number)?;
     Ok((laid.point().0, pairs_told(laid.pairs())))
 }
