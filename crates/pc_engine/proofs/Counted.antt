@@ -1,5 +1,5 @@
--- That the phases count the sessions' open transactions, and what is due where a change is held back.
-use Rattle.std.proofs.Common.{◌≡◌, ℕ, zero, suc, ◌+◌, ◌-◌, ◌<◌, ◌≤◌, ◌==◌, List, [], ◌∷◌, length, set, replicate, Option, Some, None, is_some, is_none, refl, sym, ap, subst, ◌∙◌, arith, Bool, true, false, cond, inl, inr}
+-- That the phases count the open transactions of the sessions.
+use Rattle.std.proofs.Common.{◌≡◌, ℕ, zero, suc, ◌+◌, ◌-◌, ◌<◌, ◌≤◌, List, [], ◌∷◌, length, set, replicate, Option, Some, None, is_some, is_none, refl, sym, ap, subst, ◌∙◌, arith, Bool, true, false, cond, inl, inr}
 use Rattle.std.specs.Prelude.{◌⊎◌, filter, Result, Ok, Err, IfOk, OnErr}
 use Rattle.pc_types.specs.declared.Class.{Class}
 use Rattle.pc_types.specs.declared.Class.TheVariants.{Before, During, After}

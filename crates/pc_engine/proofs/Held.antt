@@ -38,6 +38,7 @@ pub record IsFree (phases : Phases) (change : Change) (left : ℕ) : Type 0 wher
   pub point : lacks_point change phases.point ≡ false
   pub none : count_of change phases left ≡ 0
 
+-- it is known where nothing holds it back
 pub is_free : (phases : Phases) (change : Change) (left : ℕ) → held_back phases change left ≡ None → IsFree phases change left
 is_free phases change left none = by_tests (same_phase phases.phase (from_of change)) (lacks_point change phases.point) (count_of change phases left == 0) refl refl refl none
   where

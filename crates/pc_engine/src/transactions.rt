@@ -18,7 +18,9 @@ use crate::world::World;
 use crate::writes::{is_one_too_many, new_keys, write_of};
 use pc_locks::Outcome;
 use pc_records::Records;
-use pc_types::{Class, Entry, Items, Key, Lsn, Phase, Refusal, Reply, SessionNo, TxnNo, Value, Write};
+use pc_types::{
+    Class, Entry, Items, Key, Lsn, Phase, Refusal, Reply, SessionNo, TxnNo, Value, Write,
+};
 use std::alloc::{AllocError, Global};
 
 // How many transactions a run may begin.
