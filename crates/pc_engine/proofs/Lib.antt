@@ -15,3 +15,5 @@ pub mod Cycles
 pub mod PlacedWrites
 pub mod Together
 pub mod Within
+pub mod Counted
+pub mod Held

@@ -23,6 +23,10 @@ use Rattle.pc_records.proofs.Flags.{HaveSameSets, asked_sets, released_sets, wri
 use Rattle.pc_records.proofs.Releasing.{rise_written}
 use Rattle.pc_engine.specs.Sessions.{Active, number_in, class_at, writes_in, wrote, died, if_died, if_granted, is_of, count_of}
 use Rattle.pc_engine.specs.InPlace.{at_place, write_in, may_be_active, fits, AreListed, is_open_point, HoldTogether, StayTogether, AreOpen}
+use Rattle.pc_phase.specs.declared.change.Change.{Change}
+use Rattle.pc_phase.specs.declared.change.Change.TheVariants as changes
+use Rattle.pc_phase.specs.Phases.{from_of, to_of}
+use Rattle.pc_engine.specs.Counts.{holders}
 use Rattle.pc_engine.proofs.PlacedWrites.{by_place, number_of, own_write, same_writes, same_places, wrote_in_place, ended_in_place, begun_numbers, same_numbers, values_stand, none_by, reads_right}
 
 all_idle : (n i : ℕ) → at_place (replicate n None) i ≡ None
@@ -103,7 +107,8 @@ none_counted class (a ∷ rest) none i = by_head (is_of class a) refl none i (λ
     by_head false e none zero later = e
     by_head false e none (suc i) later = later none i
 
-is_this : (a b : Phase) → same_phase a b ≡ true → a ≡ b
+-- what is the same phase is equal
+pub is_this : (a b : Phase) → same_phase a b ≡ true → a ≡ b
 is_this Rest Rest e = refl
 is_this Prepare Prepare e = refl
 is_this Resolve Resolve e = refl
@@ -471,9 +476,9 @@ request_together (Ok r) told t after ss then j a key value inside own done undon
 request_together (Err e) told t after ss then j a key value inside own done undone rows pending clear still same = λ begun phase point recent closed hold. rw (undone, same) hold
 
 -- a transaction begins
-pub begun_together : (ss : List (Option Active)) (j : ℕ) (a : Active) (phase : Phase) → j < length ss → a.class ≡ class_in phase → a.writes ≡ [] → is_none (at_place ss j) ≡ true → (t : Table) (begun : ℕ) (point : ℕ) (recent closed : List (List ℕ)) → begun + 1 ≡ a.number →
+pub begun_together : (ss : List (Option Active)) (j : ℕ) (a : Active) → j < length ss → a.writes ≡ [] → is_none (at_place ss j) ≡ true → (t : Table) (begun : ℕ) (phase : Phase) (point : ℕ) (recent closed : List (List ℕ)) → begun + 1 ≡ a.number → a.class ≡ class_in phase →
     HoldTogether t ss begun phase point recent closed → HoldTogether t (set ss j (Some a)) a.number phase point recent closed
-begun_together ss j a phase inside class bare idle t begun point recent closed next hold =
+begun_together ss j a inside bare idle t begun phase point recent closed next class hold =
     subst (λ n. HoldTogether t (set ss j (Some a)) n phase point recent closed) next (hold_begun t ss begun phase point recent closed hold j a inside (sym next) class bare idle)
 
 -- what is read where the request was granted is what the transaction has written, or else what is committed
@@ -498,3 +503,13 @@ same_recent t ss begun phase point recent now closed is hold = rw is hold
 -- a new world holds together
 pub first_together : (t : Table) (ss : List (Option Active)) (recent closed : List (List ℕ)) (capacity n : ℕ) (pairs : List (List ℕ × List ℕ)) → t ≡ (let first : Table = record { capacity = capacity; rows = map committed_row pairs; pending = []; point = 0 } in first) → ss ≡ replicate n None → recent ≡ [] → closed ≡ [] → HoldTogether t ss 0 Rest 0 recent closed
 first_together t ss recent closed capacity n pairs is idle bare none = rw (is, idle, bare, none) (hold_first capacity n pairs)
+
+-- the phase has changed to capture or to rest
+pub changed_together : (t : Table) (ss : List (Option Active)) (begun : ℕ) (phase : Phase) (point : ℕ) (recent closed : List (List ℕ)) (change : Change) → (change ≡ changes.OpenCapture) ⊎ (change ≡ changes.Rest) → HoldTogether t ss begun phase point recent closed → same_phase phase (from_of change) ≡ true →
+    count_of (holders change) ss ≡ 0 → HoldTogether t ss begun (to_of change) point recent closed
+changed_together t ss begun phase point recent closed change (inl e) hold =
+    subst (λ c. same_phase phase (from_of c) ≡ true → count_of (holders c) ss ≡ 0 → HoldTogether t ss begun (to_of c) point recent closed) (sym e)
+    (λ is none. hold_moved t ss begun phase point recent closed hold Resolve Capture During is none opens_capture (λ over. over) refl)
+changed_together t ss begun phase point recent closed change (inr e) hold =
+    subst (λ c. same_phase phase (from_of c) ≡ true → count_of (holders c) ss ≡ 0 → HoldTogether t ss begun (to_of c) point recent closed) (sym e)
+    (λ is none. hold_moved t ss begun phase point recent closed hold Complete Rest After is none goes_to_rest (λ over. refl) refl)

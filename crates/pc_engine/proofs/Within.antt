@@ -1,5 +1,5 @@
 -- That a world stays within its limits where a session changes.
-use Rattle.std.proofs.Common.{◌≡◌, ℕ, ◌+◌, ◌≤◌, ◌<◌, zero, suc, List, [], ◌∷◌, ◌++◌, length, get_or, replicate, refl, inl, set, Option, None, sym, ap, subst, ◌∙◌, arith}
+use Rattle.std.proofs.Common.{◌≡◌, ℕ, ◌+◌, ◌≤◌, ◌<◌, zero, suc, List, [], ◌∷◌, ◌++◌, length, get_or, replicate, refl, inl, set, true, Option, None, sym, ap, subst, ◌∙◌, arith}
 use Rattle.std.proofs.lemmas.List.{length-append, length-map, length-replicate, length-set}
 use Rattle.pc_types.specs.declared.Entry.{Entry}
 use Rattle.pc_types.specs.declared.Phase.{Phase}
@@ -9,8 +9,9 @@ use Rattle.pc_model.specs.Files.{File}
 use Rattle.pc_engine.specs.declared.sessions.Transaction.{Transaction}
 use Rattle.pc_engine.specs.Sessions.{Active, active_of, actives_of, writes_in, AreFew}
 use Rattle.pc_engine.specs.Limits.{IsWithinLimits}
+use Rattle.pc_model.specs.Replies.{same_phase}
 use Rattle.pc_engine.proofs.SessionLemmas.{few_set}
-use Rattle.std.specs.Prelude.{option_map}
+use Rattle.std.specs.Prelude.{option_map, ◌⊎◌}
 
 -- a transaction has few keys that are new
 pub few_keys : (keys : List (List ℕ)) (ws : List Write) (a : Option Active) → length keys ≤ length ws → ws ≡ writes_in a → length (writes_in a) ≤ 256 → length keys ≤ 256
@@ -77,3 +78,18 @@ module _ (begun : ℕ) (log : List Entry) (phase : Phase) (point : ℕ) (recent 
   pub committed_within : (old new : List (Option Active)) (j : ℕ) (entry : Entry) (keys now : List (List ℕ)) (then : List Entry) → IsWithinLimits begun log old phase point recent closed taken shelf → length log < 16777216 → length keys ≤ 256 → then ≡ log ++ entry ∷ [] → new ≡ set old j None → now ≡ recent ++ keys →
       IsWithinLimits begun then new phase point now closed taken shelf
   committed_within old new j entry keys now then limits more few a b c = rw (a, b, c) (with_commit old j entry keys limits more few)
+
+  -- the phase has changed, and its token is logged
+  pub moved_within : (ss : List (Option Active)) (next : Phase) (at : ℕ) (entry : Entry) (now : List Entry) → IsWithinLimits begun log ss phase point recent closed taken shelf → length log < 16777216 → (same_phase next Rest ≡ true) ⊎ (1 ≤ at) → now ≡ log ++ entry ∷ [] →
+      IsWithinLimits begun now ss next at recent closed taken shelf
+  moved_within ss next at entry now limits more has is =
+      let one : length now ≡ length log + 1 = ap (λ (l : List Entry). length l) is ∙ length-append log (entry ∷ []) in record {
+        most_begun = limits.most_begun;
+        most_entries = omega (arith, one, more);
+        most_writes = limits.most_writes;
+        most_sessions = limits.most_sessions;
+        has_point = has;
+        most_recent = omega (arith, one, limits.most_recent);
+        most_closed = limits.most_closed;
+        most_files = limits.most_files;
+      }

@@ -1,4 +1,5 @@
 pub mod Sessions
+pub mod Counts
 pub mod Store
 pub mod Limits
 pub mod Shelves

@@ -1,34 +1,27 @@
 //! What each event of the checkpointer does.
-ghost use Rattle.std.specs.Prelude.{◌≡◌, ◌<◌, ◌==◌, ◌||◌, ◌-◌, false, true, IfOk, Some, None};
-ghost use Rattle.pc_types.specs.declared.Phase.TheVariants.{Rest, Prepare};
-ghost use Rattle.pc_model.specs.Replies.{same_class, same_phase};
+ghost use Rattle.std.specs.Prelude.{◌≡◌, IfOk, None, ◌⊎◌};
 ghost use Rattle.pc_records.specs.Rows.{record_of, at_point};
-ghost use Rattle.pc_types.specs.declared.Class.{Class};
-ghost use Rattle.pc_engine.specs.InPlace.{is_open_point, may_be_active};
+ghost use Rattle.pc_phase.specs.Phases.{held_back, advanced, from_of, to_of};
+ghost use Rattle.pc_phase.specs.Agreement.{reply_of};
+ghost use Rattle.pc_engine.specs.Counts.{holders};
 ghost use Rattle.pc_engine.specs.Store.{StartsPoint, Seals, Moves, Takes, Shelves, Joins};
 
-use crate::sessions;
 use crate::shelving::{MOST_FILES, Shelvable, joined, part_of};
 use crate::transactions::{MOST_ENTRIES, is_same};
 use crate::world::World;
+use pc_phase::{Change, Held, Phases};
 use pc_records::Records;
-use pc_types::{Class, Entry, FileNo, Key, Phase, Point, Refusal, Reply, Value};
+use pc_types::{Entry, FileNo, Key, Phase, Refusal, Reply, Value};
 use std::alloc::{AllocError, Global};
 use std::collections::VecDeque;
 use std::mem;
-
-// The last point that may be taken.
-const MOST_POINTS: u16 = 65_535;
 
 impl World {
     pub(crate) fn start_point(&mut self) -> Reply
         ensures { StartsPoint self.old result self.new }
     {
-        if !is_same(self.phase, Phase::Rest) {
-            return Reply::Refused(Refusal::WrongPhase);
-        }
-        if self.point.0 == MOST_POINTS {
-            return Reply::Refused(Refusal::PointsFull);
+        if let Some(held) = self.phases.held_back(Change::StartPoint, 0) {
+            return reply_of(held);
         }
         if self.log.len() == MOST_ENTRIES {
             return Reply::Refused(Refusal::LogFull);
@@ -36,21 +29,17 @@ impl World {
         if self.log.reserve(1).is_err() {
             return Reply::Refused(Refusal::OutOfMemory);
         }
-        self.point = Point(self.point.0 + 1);
-        self.phase = Phase::Prepare;
-        self.log.push_reserved(Entry::Token(self.phase, self.point));
-        Reply::Phase(self.phase, self.point)
+        change_phase(&mut self.phases, Change::StartPoint, 0);
+        let (phase, point) = (self.phases.phase(), self.phases.point());
+        self.log.push_reserved(Entry::Token(phase, point));
+        Reply::Phase(phase, point)
     }
 
     pub(crate) fn seal(&mut self) -> Reply
         ensures { Seals self.old result self.new }
     {
-        if !is_same(self.phase, Phase::Prepare) {
-            return Reply::Refused(Refusal::WrongPhase);
-        }
-        let open = sessions::active_in(&self.sessions, Class::Before);
-        if open > 0 {
-            return Reply::NotYet(open);
+        if let Some(held) = self.phases.held_back(Change::Seal, 0) {
+            return reply_of(held);
         }
         if self.log.len() == MOST_ENTRIES {
             return Reply::Refused(Refusal::LogFull);
@@ -58,28 +47,22 @@ impl World {
         if self.log.reserve(1).is_err() {
             return Reply::Refused(Refusal::OutOfMemory);
         }
-        self.phase = Phase::Resolve;
-        self.log.push_reserved(Entry::Token(self.phase, self.point));
+        change_phase(&mut self.phases, Change::Seal, 0);
+        let (phase, point) = (self.phases.phase(), self.phases.point());
+        self.log.push_reserved(Entry::Token(phase, point));
         self.closed = mem::replace(&mut self.recent, VecDeque::new(self.alloc));
         self.taken.clear();
-        self.records.close(self.point);
-        Reply::Phase(self.phase, self.point)
+        self.records.close(point);
+        Reply::Phase(phase, point)
     }
 
-    // The phase changes from one to another, once no transaction of the class is open.
-    pub(crate) fn advance(&mut self, from: Phase, class: Class, to: Phase) -> Reply
-        requires after { same_phase from Rest ≡ false }
-        requires may { (c : Class) → may_be_active from c ≡ true → same_class c class ≡ false → may_be_active to c ≡ true }
-        requires over { is_open_point to ≡ false → is_open_point from ≡ false }
-        requires later { same_phase to Prepare ≡ false }
-        ensures { Moves from class to self.old result self.new }
+    // The phase changes to capture or to rest, once no transaction of the class that holds it back is open.
+    pub(crate) fn advance(&mut self, change: Change) -> Reply
+        requires { (change ≡ Change.OpenCapture) ⊎ (change ≡ Change.Rest) }
+        ensures { Moves (from_of change) (holders change) (to_of change) self.old result self.new }
     {
-        if !is_same(self.phase, from) {
-            return Reply::Refused(Refusal::WrongPhase);
-        }
-        let open = sessions::active_in(&self.sessions, class);
-        if open > 0 {
-            return Reply::NotYet(open);
+        if let Some(held) = self.phases.held_back(change, 0) {
+            return reply_of(held);
         }
         if self.log.len() == MOST_ENTRIES {
             return Reply::Refused(Refusal::LogFull);
@@ -87,15 +70,16 @@ impl World {
         if self.log.reserve(1).is_err() {
             return Reply::Refused(Refusal::OutOfMemory);
         }
-        self.phase = to;
-        self.log.push_reserved(Entry::Token(self.phase, self.point));
-        Reply::Phase(self.phase, self.point)
+        change_phase(&mut self.phases, change, 0);
+        let (phase, point) = (self.phases.phase(), self.phases.point());
+        self.log.push_reserved(Entry::Token(phase, point));
+        Reply::Phase(phase, point)
     }
 
     pub(crate) fn take(&mut self) -> Reply
         ensures { Takes self.old result self.new }
     {
-        if !is_same(self.phase, Phase::Capture) {
+        if !is_same(self.phases.phase(), Phase::Capture) {
             return Reply::Refused(Refusal::WrongPhase);
         }
         let Some(first) = self.closed.front() else {
@@ -119,11 +103,9 @@ impl World {
     pub(crate) fn shelve(&mut self) -> Reply
         ensures { Shelves self.old result self.new }
     {
-        if !is_same(self.phase, Phase::Capture) {
-            return Reply::Refused(Refusal::WrongPhase);
-        }
-        if !self.closed.is_empty() {
-            return Reply::NotYet(self.closed.len() as u32);
+        let left = self.closed.len() as u32;
+        if let Some(held) = self.phases.held_back(Change::Done, left) {
+            return reply_of(held);
         }
         if self.shelf.len() == MOST_FILES {
             return Reply::Refused(Refusal::ShelfFull);
@@ -131,18 +113,19 @@ impl World {
         if self.log.len() == MOST_ENTRIES {
             return Reply::Refused(Refusal::LogFull);
         }
-        let Ok(part) = part_of(self.alloc, self.base.run(), self.point, &self.taken) else {
+        let point = self.phases.point();
+        let Ok(part) = part_of(self.alloc, self.base.run(), point, &self.taken) else {
             return Reply::Refused(Refusal::OutOfMemory);
         };
         if self.shelf.reserve(1).is_err() || self.log.reserve(1).is_err() {
             return Reply::Refused(Refusal::OutOfMemory);
         }
         let entries = self.taken.len() as u32;
-        self.phase = Phase::Complete;
-        self.log.push_reserved(Entry::Token(self.phase, self.point));
+        change_phase(&mut self.phases, Change::Done, left);
+        self.log.push_reserved(Entry::Token(Phase::Complete, point));
         self.shelf.push_reserved(part);
         self.taken.clear();
-        Reply::PartDone(self.point, FileNo(self.shelf.len() as u32), entries)
+        Reply::PartDone(point, FileNo(self.shelf.len() as u32), entries)
     }
 
     pub(crate) fn join_files(&mut self, first: FileNo, second: FileNo) -> Reply
@@ -164,6 +147,27 @@ impl World {
             }
             Err(why) => Reply::Refused(why),
         }
+    }
+}
+
+// How it is answered what holds a change back.
+fn reply_of(held: Held) -> Reply
+    ensures { result ≡ reply_of held }
+{
+    match held {
+        Held::WrongPhase => Reply::Refused(Refusal::WrongPhase),
+        Held::PointsFull => Reply::Refused(Refusal::PointsFull),
+        Held::NotYet(count) => Reply::NotYet(count),
+    }
+}
+
+// Changes the phase. Nothing holds the change back.
+fn change_phase(phases: &mut Phases, change: Change, left: u32)
+    requires { held_back phases.old change left ≡ None }
+    ensures { phases.new ≡ advanced phases.old change }
+{
+    if phases.advance(change, left).is_err() {
+        unreachable!();
     }
 }
 

@@ -9,27 +9,17 @@ ghost use Rattle.pc_locks.specs.Queues.{told};
 ghost use Rattle.pc_records.specs.Rows.{record_of, stored, requests_on, is_closed, is_full_for, is_waiting, rows_after};
 ghost use Rattle.pc_records.specs.Tables.{Pending, Table, kept_of, pending_at, pending_after, IsClearFor};
 ghost use Rattle.pc_types.specs.declared.Class.TheVariants.{Before};
+ghost use Rattle.pc_types.specs.declared.Phase.{Phase};
 ghost use Rattle.pc_model.specs.Locks.Outcome.{Granted};
-ghost use Rattle.pc_engine.specs.Sessions.{actives_of, active_of, active_in, with_session, count_of, is_of, number_in, class_at, writes_in, wrote, died, if_died, if_granted, AreFew};
+ghost use Rattle.pc_engine.specs.Sessions.{actives_of, active_of, active_in, with_session, number_in, class_at, writes_in, wrote, died, if_died, if_granted, AreFew};
 ghost use Rattle.pc_engine.specs.InPlace.{AreOpen, HoldTogether, StayTogether};
 ghost use Rattle.pc_records.specs.NewKeys.{is_one_too_many};
 
 use crate::writes::{copied, note_write};
 use pc_locks::Outcome;
 use pc_records::Records;
-use pc_types::{Class, Key, Phase, Reply, SessionNo, TxnNo, Value, Write};
+use pc_types::{Class, Key, Reply, SessionNo, TxnNo, Value, Write};
 use std::alloc::{AllocError, Global};
-
-/// The class of a transaction that begins in the phase.
-pub(crate) fn class_in(phase: Phase) -> Class
-    ensures { result ≡ class_in phase }
-{
-    match phase {
-        Phase::Rest | Phase::Complete => Class::Before,
-        Phase::Prepare => Class::During,
-        Phase::Resolve | Phase::Capture => Class::After,
-    }
-}
 
 /// An open transaction.
 #[derive(Drop)]
@@ -88,30 +78,6 @@ pub(crate) fn writes(sessions: &[Option<Transaction>], session: SessionNo) -> &[
     }
 }
 
-/// How many sessions have a transaction of the class open.
-pub(crate) fn active_in(sessions: &[Option<Transaction>], class: Class) -> u32
-    requires { length sessions.now ≤ 64 }
-    ensures { result ≡ count_of class (actives_of sessions.now) }
-{
-    let mut count = 0;
-    for session in sessions {
-        if is_of(session, class) {
-            count += 1;
-        }
-    }
-    count
-}
-
-// Whether there is a transaction, of the class.
-fn is_of(session: &Option<Transaction>, class: Class) -> bool
-    ensures { result ≡ is_of class (option_map active_of session.now) }
-{
-    match session {
-        Some(transaction) => transaction.class == class,
-        None => false,
-    }
-}
-
 /// The session has this transaction now, or none.
 pub(crate) fn set(
     sessions: &mut Vec<Option<Transaction>>,
@@ -124,24 +90,24 @@ pub(crate) fn set(
     sessions[place(session)] = transaction;
 }
 
-/// A transaction of this number begins in the session, which has none open; it is of the class of the phase.
+/// A transaction of this number and class begins in the session, which has none open.
 pub(crate) fn begin(
     alloc: Global,
     sessions: &mut Vec<Option<Transaction>>,
     session: SessionNo,
     number: TxnNo,
-    phase: Phase,
+    class: Class,
 )
     requires place { session - 1 < length sessions.old.items }
     requires idle { is_none (active_in (actives_of sessions.old.items) session) ≡ true }
-    ensures sessions { actives_of sessions.new.items ≡ with_session (actives_of sessions.old.items) session (Some (record { number = number; class = class_in phase; has_died = false; writes = [] })) }
+    ensures sessions { actives_of sessions.new.items ≡ with_session (actives_of sessions.old.items) session (Some (record { number = number; class = class; has_died = false; writes = [] })) }
     ensures few { AreFew (actives_of sessions.old.items) → AreFew (actives_of sessions.new.items) }
-    ensures together { (t : Table) (begun : ℕ) (point : ℕ) (recent closed : List (List ℕ)) → begun + 1 ≡ number → HoldTogether t (actives_of sessions.old.items) begun phase point recent closed → HoldTogether t (actives_of sessions.new.items) number phase point recent closed }
+    ensures together { (t : Table) (begun : ℕ) (phase : Phase) (point : ℕ) (recent closed : List (List ℕ)) → begun + 1 ≡ number → class ≡ class_in phase → HoldTogether t (actives_of sessions.old.items) begun phase point recent closed → HoldTogether t (actives_of sessions.new.items) number phase point recent closed }
     ensures count { length sessions.new.items ≡ length sessions.old.items }
 {
     let transaction = Transaction {
         number,
-        class: class_in(phase),
+        class,
         has_died: false,
         writes: Vec::new(alloc),
     };

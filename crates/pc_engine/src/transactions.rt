@@ -9,7 +9,7 @@ ghost use Rattle.pc_records.specs.Rows.{released_rows, written_row};
 ghost use Rattle.pc_engine.specs.InPlace.{AreOpen, HoldTogether, StayTogether};
 ghost use Rattle.pc_records.specs.NewKeys.{is_one_too_many, new_keys};
 ghost use Rattle.pc_records.specs.Tables.{kept_of};
-ghost use Rattle.pc_engine.specs.Sessions.{actives_of, active_in, with_session, number_in, writes_in};
+ghost use Rattle.pc_engine.specs.Sessions.{actives_of, active_in, with_session, number_in, class_at, writes_in};
 ghost use Rattle.pc_engine.specs.Store.{OpenCause, WriteCause, Begins, Gets, WritesKey, Commits, Aborts};
 
 use crate::sessions;
@@ -18,7 +18,9 @@ use crate::world::World;
 use crate::writes::{is_one_too_many, new_keys, write_of};
 use pc_locks::Outcome;
 use pc_records::Records;
-use pc_types::{Entry, Items, Key, Lsn, Phase, Refusal, Reply, SessionNo, TxnNo, Value, Write};
+use pc_types::{
+    Class, Entry, Items, Key, Lsn, Phase, Refusal, Reply, SessionNo, TxnNo, Value, Write,
+};
 use std::alloc::{AllocError, Global};
 
 // How many transactions a run may begin.
@@ -41,12 +43,13 @@ impl World {
             return Reply::Refused(Refusal::LogFull);
         }
         self.begun += 1;
+        let class = self.phases.enter();
         sessions::begin(
             self.alloc,
             &mut self.sessions,
             session,
             TxnNo(self.begun),
-            self.phase,
+            class,
         );
         Reply::Begun(TxnNo(self.begun))
     }
@@ -163,12 +166,13 @@ impl World {
             return Reply::Refused(Refusal::OutOfMemory);
         }
         let _ = self.recent.append(&mut keys);
-        commit_open(
+        let class = commit_open(
             &mut self.sessions,
             &mut self.records,
             &mut self.log,
             session,
         );
+        self.phases.leave(class);
         Reply::Committed(Lsn(self.log.len() as u32))
     }
 
@@ -181,23 +185,25 @@ impl World {
         if sessions::active(&self.sessions, session).is_none() {
             return Reply::Refused(Refusal::NoTransaction);
         }
-        abort_open(&mut self.sessions, &mut self.records, session);
+        let class = abort_open(&mut self.sessions, &mut self.records, session);
+        self.phases.leave(class);
         Reply::Aborted
     }
 }
 
 // The session's transaction is committed and logged, and then over: its writes are committed where they stand, and its
-// locks are released.
+// locks are released. It gives its class.
 fn commit_open(
     sessions: &mut Vec<Option<Transaction>>,
     records: &mut Records,
     log: &mut Vec<Entry>,
     session: SessionNo,
-)
+) -> Class
     requires place { session - 1 < length sessions.old.items }
     requires opened { is_none (active_in (actives_of sessions.old.items) session) ≡ false }
     requires room { vec_len log.old < vec_capacity log.old }
     requires placed { (begun : ℕ) × AreOpen records.old (actives_of sessions.old.items) begun }
+    ensures class { result ≡ class_at (active_in (actives_of sessions.old.items) session) }
     ensures sessions { actives_of sessions.new.items ≡ with_session (actives_of sessions.old.items) session None }
     ensures records { kept_of records.new ≡ record (kept_of records.old) { rows = released_rows (number_in (active_in (actives_of sessions.old.items) session)) (map (written_row (writes_in (active_in (actives_of sessions.old.items) session))) records.old.rows) } }
     ensures log { log.new.items ≡ log.old.items ++ Commit session (writes_in (active_in (actives_of sessions.old.items) session)) ∷ [] }
@@ -206,31 +212,38 @@ fn commit_open(
 {
     records.rise();
     let number = sessions::number(sessions, session);
-    let Some(Transaction { writes, .. }) = sessions::end(sessions, session) else {
+    let Some(Transaction { class, writes, .. }) = sessions::end(sessions, session) else {
         unreachable!();
     };
     records.commit(writes.as_slice());
     log.push_reserved(Entry::Commit(session, Items::from_vec(writes)));
     records.release(number);
+    class
 }
 
 // The session's transaction is undone, and over: what was committed stands where it has written, and its locks are
 // released.
-fn abort_open(sessions: &mut Vec<Option<Transaction>>, records: &mut Records, session: SessionNo)
+fn abort_open(
+    sessions: &mut Vec<Option<Transaction>>,
+    records: &mut Records,
+    session: SessionNo,
+) -> Class
     requires place { session - 1 < length sessions.old.items }
     requires opened { is_none (active_in (actives_of sessions.old.items) session) ≡ false }
     requires placed { (begun : ℕ) × AreOpen records.old (actives_of sessions.old.items) begun }
+    ensures class { result ≡ class_at (active_in (actives_of sessions.old.items) session) }
     ensures sessions { actives_of sessions.new.items ≡ with_session (actives_of sessions.old.items) session None }
     ensures records { kept_of records.new ≡ record (kept_of records.old) { rows = released_rows (number_in (active_in (actives_of sessions.old.items) session)) records.old.rows } }
     ensures together { StayTogether records.old (actives_of sessions.old.items) records.new (actives_of sessions.new.items) }
 {
     records.rise();
     let number = sessions::number(sessions, session);
-    let Some(Transaction { writes, .. }) = sessions::end(sessions, session) else {
+    let Some(Transaction { class, writes, .. }) = sessions::end(sessions, session) else {
         unreachable!();
     };
     records.undo(writes.as_slice());
     records.release(number);
+    class
 }
 
 // Whether a store of so many sessions has none of this number.

@@ -15,8 +15,9 @@ use crate::sessions;
 use crate::sessions::Transaction;
 use crate::shelving::file_at;
 use pc_part::{Base, Part};
+use pc_phase::{Change, Phases};
 use pc_records::Records;
-use pc_types::{Class, Entry, Event, FileNo, Key, Phase, Point, Refusal, Reply, Value};
+use pc_types::{Entry, Event, FileNo, Key, Refusal, Reply, Value};
 use std::alloc::Global;
 use std::collections::VecDeque;
 use std::marker::Model;
@@ -30,8 +31,7 @@ pub struct World {
     pub(crate) records: Records,
     pub(crate) log: Vec<Entry>,
     pub(crate) begun: u64,
-    pub(crate) phase: Phase,
-    pub(crate) point: Point,
+    pub(crate) phases: Phases,
     pub(crate) recent: VecDeque<Key>,
     pub(crate) closed: VecDeque<Key>,
     pub(crate) taken: Vec<(Key, Option<Value>)>,
@@ -43,6 +43,7 @@ impl Model for World {
     ghost use Rattle.pc_engine.specs.Limits.{IsWithinLimits};
     ghost use Rattle.pc_engine.specs.Sessions.{actives_of};
     ghost use Rattle.pc_engine.specs.InPlace.{HoldTogether};
+    ghost use Rattle.pc_engine.specs.Counts.{AreCounted};
     ghost use Rattle.pc_records.specs.Tables.{kept_of};
     ghost use Rattle.std.specs.Coded.{codes};
     ghost use Rattle.pc_model.specs.Database.{database_code};
@@ -58,12 +59,13 @@ impl Model for World {
       kept = kept_of w.records;
       log = w.log.items;
       begun = w.begun;
-      cycle = record { phase = w.phase; point = w.point; recent = w.recent.items; closed = w.closed.items; taken = w.taken.items };
+      cycle = record { phase = w.phases.phase; point = w.phases.point; recent = w.recent.items; closed = w.closed.items; taken = w.taken.items };
       shelf = w.shelf.items;
     } };
 
-    ghost invariant = { λ w. IsWithinLimits w.begun w.log.items (actives_of w.sessions.items) w.phase w.point w.recent.items w.closed.items w.taken.items w.shelf.items
-        × HoldTogether w.records (actives_of w.sessions.items) w.begun w.phase w.point w.recent.items w.closed.items };
+    ghost invariant = { λ w. IsWithinLimits w.begun w.log.items (actives_of w.sessions.items) w.phases.phase w.phases.point w.recent.items w.closed.items w.taken.items w.shelf.items
+        × HoldTogether w.records (actives_of w.sessions.items) w.begun w.phases.phase w.phases.point w.recent.items w.closed.items
+        × AreCounted w.phases (actives_of w.sessions.items) };
 }
 
 impl World {
@@ -92,8 +94,7 @@ impl World {
             records,
             log: Vec::new(alloc),
             begun: 0,
-            phase: Phase::Rest,
-            point: Point(0),
+            phases: Phases::new(),
             recent: VecDeque::new(alloc),
             closed: VecDeque::new(alloc),
             taken: Vec::new(alloc),
@@ -121,10 +122,10 @@ impl World {
             Event::Abort(session) => self.abort(*session),
             Event::StartPoint => self.start_point(),
             Event::Seal => self.seal(),
-            Event::OpenCapture => self.advance(Phase::Resolve, Class::During, Phase::Capture),
+            Event::OpenCapture => self.advance(Change::OpenCapture),
             Event::Take => self.take(),
             Event::Done => self.shelve(),
-            Event::Rest => self.advance(Phase::Complete, Class::After, Phase::Rest),
+            Event::Rest => self.advance(Change::Rest),
             Event::Join(first, second) => self.join_files(*first, *second),
         }
     }

@@ -9,4 +9,4 @@ pub returns-clause-few : goal.returns-clause-few
 returns-clause-few c = λ few. rw c.set.ensures (few_set (actives_of c.args.sessions.now.items) (c.args.session - 1) _ few (omega (arith, ap (λ (ws : List Write). length ws) c.new.ensures.items)))
 
 pub returns-clause-together : goal.returns-clause-together
-returns-clause-together c = rw c.set.ensures (begun_together (actives_of c.args.sessions.now.items) (c.args.session - 1) _ c.args.phase (as_many_inside c.args.sessions.now.items c.requires.place) c.class_in.ensures c.new.ensures.items c.requires.idle)
+returns-clause-together c = rw c.set.ensures (begun_together (actives_of c.args.sessions.now.items) (c.args.session - 1) _ (as_many_inside c.args.sessions.now.items c.requires.place) c.new.ensures.items c.requires.idle)

@@ -1,0 +1,18 @@
+use Rattle.std.proofs.Common.{rules, ap}
+use Rattle.pc_phase.specs.declared.change.Change.TheVariants as change
+use Rattle.pc_phase.specs.Phases.{Phases}
+use Rattle.pc_engine.proofs.Held.{is_free, none_left}
+use Rattle.pc_engine.specs.Sessions.{actives_of}
+use Rattle.pc_engine.proofs.Counted.{advanced_counted}
+use Rattle.pc_engine.proofs.Together.{hold_shelved}
+use Rattle.pc_engine.proofs.world.World.shelve.Goals as goal
+
+pub invariant_of-self-2 : goal.invariant_of-self-2
+invariant_of-self-2 c =
+    let free = is_free c.self.inside.phases change.Done c.len-left.result (search rules) in
+    let at_phase = ap (λ (p : Phases). p.phase) c.change_phase.ensures in
+    let at_point = ap (λ (p : Phases). p.point) c.change_phase.ensures in (
+      rw (at_phase, at_point) (search rules),
+      rw (at_phase, at_point) (hold_shelved _ _ _ _ _ _ _ c.self.invariant.1 free.in_phase (none_left c.self.inside.closed.items (search (rules, free.none)))),
+      advanced_counted c.self.inside.phases c.change_phase.new.phases change.Done (actives_of c.self.inside.sessions.items) c.change_phase.ensures c.self.invariant.2,
+    )
