@@ -71,20 +71,30 @@ pub fn measure_commits(
 {
     let base = Base::start(1, Vec::new(alloc));
     let mut world = World::new(alloc, base, 1, rounds.keys)?;
-    let mut committed = 0;
-    let mut asked = none_asked();
     let start = Instant::now(clock)?;
-    for number in 0..rounds.commits {
-        commit_one(alloc, &mut world, number % rounds.keys)?;
-        committed += 1;
-        asked = ask_beside(&mut world, asked, rounds.has_points)?;
-    }
+    let (committed, asked) = commit_all(alloc, &mut world, rounds)?;
     let time = start.elapsed(clock)?;
     Ok(Committed {
         committed,
         asked,
         time,
     })
+}
+
+// Commits the transactions, and counts them and what was asked.
+fn commit_all(alloc: Global, world: &mut World, rounds: Rounds) -> Result<(u32, Asked), Refusal>
+    ensures committed { IfOk result (λ done. done.0 ≡ rounds.commits) }
+    ensures points { rounds.has_points ≡ true → IfOk result (λ done. events_of done.1 ≡ rounds.commits) }
+    ensures none { rounds.has_points ≡ false → IfOk result (λ done. events_of done.1 ≡ 0) }
+{
+    let mut committed = 0;
+    let mut asked = none_asked();
+    for number in 0..rounds.commits {
+        commit_one(alloc, world, number % rounds.keys)?;
+        committed += 1;
+        asked = ask_beside(world, asked, rounds.has_points)?;
+    }
+    Ok((committed, asked))
 }
 
 // A checkpointer that asked nothing yet.
