@@ -6,6 +6,8 @@
     bench/calls.py locks 10000000 1000 7  so many pairs of a request and a release, over so many slots, beside so many other
                                           requests in each queue: the time for a pair
     bench/calls.py writes 20000 256       so many transactions of so many keys, all written twice: the time for a write
+    bench/calls.py commits 500000 1000    so many transactions of one write each, over so many keys, without checkpoints and with
+                                          checkpoints back to back: committed transactions a second, and the ratio
 
 Build the program first, by `rt run` in the folder crates/pc_bench.
 """
@@ -78,8 +80,21 @@ def measure_writes(words):
     measure_one(["writes", *words], "writes", "write_us", "ns a write:")
 
 
+def measure_commits(words):
+    """The rate of commits without checkpoints and with checkpoints, in turn, and the ratio of the best of each."""
+    told = {"without points": [], "with points": []}
+    for _ in range(RUNS):
+        for name, flags in (("without points", []), ("with points", ["--points"])):
+            told[name].append(dict(line.split() for line in run(["commits", *flags, *words])[0]))
+    for name, runs in told.items():
+        print("%s: %s, %d runs" % (name, ", ".join("%s %s" % count for count in runs[0].items() if count[0] != "commit_us"), RUNS))
+        print(spread("committed a second, thousands:", [int(t["committed"]) * 1e3 / int(t["commit_us"]) for t in runs]))
+    least = {name: min(int(t["commit_us"]) for t in runs) for name, runs in told.items()}
+    print("ratio of the greatest rates %.3f" % (least["without points"] / least["with points"]))
+
+
 def main():
-    measures = {"join": measure_join, "points": measure_points, "locks": measure_locks, "writes": measure_writes}
+    measures = {"join": measure_join, "points": measure_points, "locks": measure_locks, "writes": measure_writes, "commits": measure_commits}
     if len(sys.argv) < 3 or sys.argv[1] not in measures:
         sys.exit(__doc__)
     if not os.access(PROGRAM, os.X_OK):

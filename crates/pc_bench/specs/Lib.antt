@@ -1,2 +1,3 @@
+pub mod Commits
 pub mod Joins
 pub mod Writes

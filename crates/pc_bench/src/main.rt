@@ -1,6 +1,7 @@
 //! Measures calls of the libraries: each sub-command does so much work, and tells what came of it.
 #![tactic(auto)]
 
+mod commits;
 mod failure;
 mod joins;
 mod locks;
@@ -11,10 +12,11 @@ mod tests;
 mod writes;
 
 use clap::error::ErrorKind;
+use commits::{Committed, measure_commits};
 use failure::Failure;
 use joins::measure_join;
 use locks::{Paired, measure_locks};
-use options::{Batches, Cycles, Options, Pairs, Work, options_of};
+use options::{Batches, Cycles, Options, Pairs, Rounds, Work, options_of};
 use points::measure_points;
 use std::process::ExitCode;
 use std::{env, io};
@@ -55,6 +57,7 @@ fn run_work(rt: &HostRuntime, options: &Options) -> io::Result<u8> {
         Work::Points(cycles) => run_points(rt, cycles, options.is_timed),
         Work::Locks(pairs) => run_locks(rt, pairs, options.is_timed),
         Work::Writes(batches) => run_writes(rt, batches, options.is_timed),
+        Work::Commits(rounds) => run_commits(rt, rounds, options.is_timed),
     };
     match done {
         Ok(()) => Ok(0),
@@ -116,6 +119,23 @@ fn tell_writes(rt: &HostRuntime, done: &Written, is_timed: bool) -> io::Result<(
     println!(rt; "rows {}", done.rows)?;
     if is_timed {
         println!(rt; "write_us {}", done.time.as_micros())?;
+    }
+    Ok(())
+}
+
+fn run_commits(rt: &HostRuntime, rounds: Rounds, is_timed: bool) -> Result<(), Failure> {
+    match measure_commits(rt.alloc(), rt, rounds) {
+        Ok(done) => Ok(tell_commits(rt, &done, is_timed)?),
+        Err(why) => Err(why),
+    }
+}
+
+fn tell_commits(rt: &HostRuntime, done: &Committed, is_timed: bool) -> io::Result<()> {
+    println!(rt; "committed {}", done.committed)?;
+    println!(rt; "points {}", done.asked.points)?;
+    println!(rt; "taken {}", done.asked.taken)?;
+    if is_timed {
+        println!(rt; "commit_us {}", done.time.as_micros())?;
     }
     Ok(())
 }

@@ -15,6 +15,8 @@ pub enum Work {
     Locks(Pairs),
     /// Transactions that write keys, and end.
     Writes(Batches),
+    /// Commits of one write each, with or without checkpoints beside them.
+    Commits(Rounds),
 }
 
 /// How many cycles a store goes through, and how many keys it has, 1 to 1,048,576.
@@ -41,6 +43,16 @@ pub struct Batches {
     pub transactions: u32,
     pub keys: u16,
     ghost in_range: { keys ≤ 256 },
+}
+
+/// How many transactions commit, each with one write, how many keys they go round, 1 to 1,048,576, and whether
+/// checkpoints are taken beside them.
+#[derive(Clone, Copy, Debug)]
+pub struct Rounds {
+    pub commits: u32,
+    pub keys: u32,
+    pub has_points: bool,
+    ghost in_range: { (1 ≤ keys) × (keys ≤ 1048576) },
 }
 
 /// What the program is asked to do.
@@ -70,7 +82,8 @@ fn command<'a>(alloc: Global) -> Result<Command<'a>, Error> {
             .subcommand(join_command(alloc)?)?
             .subcommand(points_command(alloc)?)?
             .subcommand(locks_command(alloc)?)?
-            .subcommand(writes_command(alloc)?)?,
+            .subcommand(writes_command(alloc)?)?
+            .subcommand(commits_command(alloc)?)?,
     )
 }
 
@@ -142,6 +155,30 @@ fn writes_command<'a>(alloc: Global) -> Result<Command<'a>, Error> {
     )
 }
 
+fn commits_command<'a>(alloc: Global) -> Result<Command<'a>, Error> {
+    let commits = Arg::new(alloc, "COUNT")
+        .help("How many transactions of one write each commit, 1 to 10000000")
+        .required(true)
+        .value_parser(clap::value_parser!(u32).range(1..=10_000_000));
+    let keys = Arg::new(alloc, "KEYS")
+        .help("How many keys they go round, 1 to 1048576")
+        .required(true)
+        .value_parser(clap::value_parser!(u32).range(1..=1_048_576));
+    let points = Arg::new(alloc, "points")
+        .long("points")
+        .help("Takes checkpoints back to back, an event after each commit")
+        .action(ArgAction::SetTrue);
+    Ok(
+        Command::new(alloc, "commits")
+            .about(
+                "Commits transactions of one write each, with or without checkpoints beside them",
+            )
+            .arg(commits)?
+            .arg(keys)?
+            .arg(points)?,
+    )
+}
+
 fn asked(matches: &ArgMatches) -> Option<Options> {
     let is_timed = matches.get_flag("times");
     let (name, matches) = matches.subcommand()?;
@@ -150,6 +187,7 @@ fn asked(matches: &ArgMatches) -> Option<Options> {
         "points" => points_of(matches)?,
         "locks" => locks_of(matches)?,
         "writes" => writes_of(matches)?,
+        "commits" => commits_of(matches)?,
         _ => return None,
     };
     Some(Options { work, is_timed })
@@ -190,4 +228,18 @@ fn writes_of(matches: &ArgMatches) -> Option<Work> {
         return None;
     }
     Some(Work::Writes(Batches { transactions, keys }))
+}
+
+fn commits_of(matches: &ArgMatches) -> Option<Work> {
+    let commits = matches.get_one::<u32>("COUNT")?;
+    let keys = matches.get_one::<u32>("KEYS")?;
+    if keys == 0 || keys > 1_048_576 {
+        return None;
+    }
+    let has_points = matches.get_flag("points");
+    Some(Work::Commits(Rounds {
+        commits,
+        keys,
+        has_points,
+    }))
 }

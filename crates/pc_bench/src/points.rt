@@ -92,7 +92,7 @@ fn take_all(world: &mut World, keys: u32) -> Result<u32, Refusal>
 }
 
 // The store's answer to the event, where it isn't refused.
-fn ask(world: &mut World, event: &Event) -> Result<Reply, Refusal> {
+pub(crate) fn ask(world: &mut World, event: &Event) -> Result<Reply, Refusal> {
     match world.step(event) {
         Reply::Refused(why) => Err(why),
         reply => Ok(reply),

@@ -1,8 +1,9 @@
 //! Each measurement with few entries or keys.
+use crate::commits::measure_commits;
 use crate::failure::Failure;
 use crate::joins::measure_join;
 use crate::locks::measure_locks;
-use crate::options::{Batches, Cycles, Pairs};
+use crate::options::{Batches, Cycles, Pairs, Rounds};
 use crate::points::measure_points;
 use crate::writes::measure_writes;
 use std::test::Fail;
@@ -59,6 +60,35 @@ fn writes_each_key_twice(rt: HostRuntime) -> Result<(), Fail> {
         let batches = Batches { transactions, keys };
         match measure_writes(rt.alloc(), &rt, batches) {
             Ok(done) => assert_eq!(rt; (done.rows, done.writes), (rows, rows * 2), "{keys}"),
+            Err(Failure::Refused(why)) => return Err(why.into()),
+            Err(Failure::System(e)) => return Err(e.into()),
+        }
+    }
+    Ok(())
+}
+
+// A cycle over one key has seven events. Over three keys the first has eight, since two commits stand before its seal,
+// and the second nine. The count of points rises with the last event of a cycle, and not before. Without points no event
+// is asked.
+#[test]
+fn takes_points_beside_commits(rt: HostRuntime) -> Result<(), Fail> {
+    for (commits, keys, has_points, points, taken) in [
+        (13u32, 1u32, true, 1u32, 2u32),
+        (14, 1, true, 2, 2),
+        (17, 3, true, 2, 5),
+        (17, 3, false, 0, 0),
+    ] {
+        let rounds = Rounds {
+            commits,
+            keys,
+            has_points,
+        };
+        match measure_commits(rt.alloc(), &rt, rounds) {
+            Ok(done) => assert_eq!(rt;
+                (done.committed, done.asked.points, done.asked.taken),
+                (commits, points, taken),
+                "{keys}"
+            ),
             Err(Failure::Refused(why)) => return Err(why.into()),
             Err(Failure::System(e)) => return Err(e.into()),
         }
