@@ -1,5 +1,6 @@
 pub mod SlotRising
 pub mod SlotPlaces
+pub mod Halving
 pub mod Numbers
 pub mod Turning
 pub mod CommittedPairs

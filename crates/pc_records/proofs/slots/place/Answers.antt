@@ -1,12 +1,20 @@
-use Rattle.std.proofs.Common.{sym}
-use Rattle.pc_records.proofs.SlotPlaces.{slot_hit, slot_gap, slot_passed}
+use Rattle.std.proofs.Common.{rules}
+use Rattle.std.proofs.lemmas.Fn.{always_returns_same}
+use Rattle.pc_records.proofs.Halving.{against, found_at, found_here, found_gap}
 use Rattle.pc_records.proofs.slots.place.Goals as goal
 
-pub returns-in-Equal-clause-at : goal.returns-in-Equal-clause-at
-returns-in-Equal-clause-at c = slot_hit c.args.slots.now c.args.key.now c.loop-i.i c.index-slots-i.result c.loop-i-test.true c.index-slots-i.is c.loop-i.invariant (sym c.in-Equal.ensures)
+-- the closure compares a slot's key with this one
+pub returns-clause-at : goal.returns-clause-at
+returns-clause-at c =
+    let searched = c.binary_search_by.ensures in
+    found_at c.args.slots.now c.args.key.now _ c.requires searched.bound (searched.position (against c.args.key.now) (always_returns_same _ _ _ (λ a r f' called. search rules)))
 
-pub returns-in-Less-clause-gap : goal.returns-in-Less-clause-gap
-returns-in-Less-clause-gap c = slot_gap c.args.slots.now c.args.key.now c.loop-i.i c.index-slots-i.result c.loop-i-test.true c.index-slots-i.is c.requires c.loop-i.invariant (sym c.in-Less.ensures)
+pub returns-clause-here : goal.returns-clause-here
+returns-clause-here c =
+    let searched = c.binary_search_by.ensures in
+    found_here c.args.slots.now c.args.key.now _ (searched.position (against c.args.key.now) (always_returns_same _ _ _ (λ a r f' called. search rules)))
 
-pub loop-i-preserved : goal.loop-i-preserved
-loop-i-preserved c = slot_passed c.args.slots.now c.args.key.now c.loop-i.i c.index-slots-i.result c.loop-i-test.true c.index-slots-i.is c.loop-i.invariant (sym c.in-Greater.ensures)
+pub returns-clause-gap : goal.returns-clause-gap
+returns-clause-gap c =
+    let searched = c.binary_search_by.ensures in
+    found_gap c.args.slots.now c.args.key.now _ c.requires searched.bound (searched.position (against c.args.key.now) (always_returns_same _ _ _ (λ a r f' called. search rules)))
