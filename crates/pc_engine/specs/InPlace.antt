@@ -47,18 +47,19 @@ abbrev pub fits : Phase → Option Active → Bool
 fits phase None = true
 fits phase (Some t) = may_be_active phase t.class
 
--- the keys of the two sets are in the lists
+-- each key of the open set, and each of the closed set, is in its list
 pub record AreListed (rows : List Row) (open_keys closed_keys : List (List ℕ)) : Type 0 where
   pub recent : (q : List ℕ) → is_recent (record_of rows q) ≡ true → is_among open_keys q ≡ true
   pub closed : (q : List ℕ) → is_closed (record_of rows q) ≡ true → is_among closed_keys q ≡ true
 
--- a point's keys are taken in resolve and capture alone
+-- the phases in which keys of a point may be left to take
 abbrev pub is_open_point : Phase → Bool
 is_open_point Resolve = true
 is_open_point Capture = true
 is_open_point phase = false
 
--- all this together
+-- All this together; in other phases no key is left to take, the last closed set is of no later point than the cycle, and in
+-- prepare of an earlier one.
 pub record HoldTogether (table : Table) (sessions : List (Option Active)) (begun : ℕ) (phase : Phase) (point : ℕ) (recent closed : List (List ℕ)) : Type 0 where
   pub writes : AreInPlace table sessions
   pub numbers : AreNumbered begun sessions
@@ -68,7 +69,8 @@ pub record HoldTogether (table : Table) (sessions : List (Option Active)) (begun
   pub within : table.point ≤ point
   pub fresh : same_phase phase Prepare ≡ true → table.point < point
 
--- whatever begun numbers, phase and sets they hold together with, they still do
+-- whatever number was given last, and whatever phase, point and sets these held together with, the others hold together with
+-- the same
 abbrev pub StayTogether : Table → List (Option Active) → Table → List (Option Active) → Type 0
 StayTogether table sessions after then = (begun : ℕ) (phase : Phase) (point : ℕ) (recent closed : List (List ℕ)) → HoldTogether table sessions begun phase point recent closed → HoldTogether after then begun phase point recent closed
 
