@@ -1,4 +1,5 @@
 pub mod Counted
+pub mod Fields
 pub mod Limits
 pub mod Names
 pub mod Tallies

@@ -3,6 +3,7 @@
 #![tactic(auto)]
 
 mod events;
+mod fields;
 mod keys;
 mod lists;
 mod numbers;
@@ -11,6 +12,10 @@ mod tally;
 mod values;
 
 pub use events::{Class, Entry, Event, Phase, Reply, Step, Write};
+pub use fields::{
+    read_bytes, read_content, read_key, read_magic, read_sized_key, read_u16, read_u32, read_u64,
+    read_value,
+};
 pub use keys::Key;
 pub use lists::Items;
 pub use numbers::{FileNo, Lsn, Point, ReqId, SessionNo, SlotId, TxnNo};

@@ -1,0 +1,132 @@
+//! The fields of a text, read from left to right. A field is its value and the bytes after it; where the bytes end
+//! inside it, the fault is the one that the caller gives.
+ghost use Rattle.std.specs.Prelude.{◌≡◌, ◌≤◌, length, IfOk};
+ghost use Rattle.std.specs.Int.{w16, w32, w64};
+ghost use Rattle.pc_types.specs.Limits.{IsKey};
+ghost use Rattle.pc_types.specs.Fields.{Reads, Gives, bytes_at, number_at, magic_at, sized_key_at, key_at, value_at, content_at};
+
+use crate::keys::Key;
+use crate::refusal::Refusal;
+use crate::values::Value;
+use std::alloc::Global;
+
+/// So many bytes. Refuses with `missing` exactly where there are fewer.
+pub fn read_bytes(bytes: &[u8], count: usize, missing: Refusal) -> Result<(&[u8], &[u8]), Refusal>
+    ensures read { Reads (λ x. (x.0.now, x.1.now)) result (bytes_at missing count bytes.now) }
+    ensures length { IfOk result (λ x. length x.0.now ≡ count) }
+{
+    if bytes.len() < count {
+        return Err(missing);
+    }
+    Ok(bytes.split_at(count))
+}
+
+/// A number of 2 bytes, the higher one first. Refuses with `missing` exactly where there are fewer.
+pub fn read_u16(bytes: &[u8], missing: Refusal) -> Result<(u16, &[u8]), Refusal>
+    ensures { Reads (λ x. (x.0, x.1.now)) result (number_at missing w16 bytes.now) }
+{
+    if bytes.len() < 2 {
+        return Err(missing);
+    }
+    let (front, rest) = bytes.split_at(2);
+    Ok((u16::from_be_bytes([front[0], front[1]]), rest))
+}
+
+/// A number of 4 bytes, the highest one first. Refuses with `missing` exactly where there are fewer.
+pub fn read_u32(bytes: &[u8], missing: Refusal) -> Result<(u32, &[u8]), Refusal>
+    ensures { Reads (λ x. (x.0, x.1.now)) result (number_at missing w32 bytes.now) }
+{
+    if bytes.len() < 4 {
+        return Err(missing);
+    }
+    let (front, rest) = bytes.split_at(4);
+    let number = u32::from_be_bytes([front[0], front[1], front[2], front[3]]);
+    Ok((number, rest))
+}
+
+/// A number of 8 bytes, the highest one first. Refuses with `missing` exactly where there are fewer.
+pub fn read_u64(bytes: &[u8], missing: Refusal) -> Result<(u64, &[u8]), Refusal>
+    ensures { Reads (λ x. (x.0, x.1.now)) result (number_at missing w64 bytes.now) }
+{
+    if bytes.len() < 8 {
+        return Err(missing);
+    }
+    let (front, rest) = bytes.split_at(8);
+    let number = u64::from_be_bytes([
+        front[0], front[1], front[2], front[3], front[4], front[5], front[6], front[7],
+    ]);
+    Ok((number, rest))
+}
+
+/// The bytes after the magic of 8 bytes. Refuses with `Short` exactly where there are fewer than 8, else with `BadMagic`
+/// exactly where the first 8 are others.
+#[tactic(auto, unfolding(crate::specs::Fields::magic_at))]
+pub fn read_magic<'a>(bytes: &'a [u8], magic: &[u8]) -> Result<&'a [u8], Refusal>
+    ensures { Reads (λ x. x.now) result (magic_at magic.now bytes.now) }
+{
+    let (first, rest) = read_bytes(bytes, 8, Refusal::Short)?;
+    if first != magic {
+        return Err(Refusal::BadMagic);
+    }
+    Ok(rest)
+}
+
+/// The bytes of a key whose length was read. Refuses with `BadLength` exactly where the length isn't 1 to 255, else with
+/// `missing` exactly where there are fewer bytes.
+#[tactic(auto, unfolding(crate::specs::Fields::sized_key_at))]
+pub fn read_sized_key(bytes: &[u8], count: u16, missing: Refusal) -> Result<(&[u8], &[u8]), Refusal>
+    ensures read { Reads (λ x. (x.0.now, x.1.now)) result (sized_key_at missing count bytes.now) }
+    ensures in_limits { IfOk result (λ x. IsKey x.0.now) }
+{
+    if count == 0 || 255 < count {
+        return Err(Refusal::BadLength);
+    }
+    read_bytes(bytes, count as usize, missing)
+}
+
+/// A key, its length before it. Refuses with `BadLength` where the length isn't 1 to 255, with `missing` where the bytes
+/// end inside it, and with `OutOfMemory` only where a growth was refused.
+#[tactic(auto, unfolding(crate::specs::Fields::key_at))]
+pub fn read_key(alloc: Global, bytes: &[u8], missing: Refusal) -> Result<(Key, &[u8]), Refusal>
+    ensures { Gives (λ x. (x.0, x.1.now)) result (key_at missing bytes.now) }
+{
+    let (count, rest) = read_u16(bytes, missing)?;
+    let (key, rest) = read_sized_key(rest, count, missing)?;
+    Ok((Key::new(alloc, key)?, rest))
+}
+
+/// A value, its length before it. Refuses with `BadLength` where it is longer than a value may be, with `missing` where
+/// the bytes end inside it, and with `OutOfMemory` only where a growth was refused.
+#[tactic(auto, unfolding(crate::specs::Fields::value_at))]
+pub fn read_value(alloc: Global, bytes: &[u8], missing: Refusal) -> Result<(Value, &[u8]), Refusal>
+    ensures { Gives (λ x. (x.0, x.1.now)) result (value_at missing bytes.now) }
+{
+    let (count, rest) = read_u32(bytes, missing)?;
+    if 65_535 < count {
+        return Err(Refusal::BadLength);
+    }
+    let (value, rest) = read_bytes(rest, count as usize, missing)?;
+    Ok((Value::new(alloc, value)?, rest))
+}
+
+/// What a key has: a kind of 0 and nothing, or a kind of 1 and a value. Refuses with `BadKind` at another kind, with
+/// `BadLength` where the value is longer than a value may be, with `missing` where the bytes end inside a field, and with
+/// `OutOfMemory` only where a growth was refused.
+#[tactic(auto, unfolding(crate::specs::Fields::content_at))]
+pub fn read_content(
+    alloc: Global,
+    bytes: &[u8],
+    missing: Refusal,
+) -> Result<(Option<Value>, &[u8]), Refusal>
+    ensures { Gives (λ x. (x.0, x.1.now)) result (content_at missing bytes.now) }
+{
+    match bytes {
+        [] => Err(missing),
+        [0, rest @ ..] => Ok((None, rest)),
+        [1, rest @ ..] => {
+            let (value, rest) = read_value(alloc, rest, missing)?;
+            Ok((Some(value), rest))
+        }
+        [_, ..] => Err(Refusal::BadKind),
+    }
+}
