@@ -1,5 +1,5 @@
 -- The content of a set of points: what it has at a key, joins of contents, and laying the points 1 to n on the base.
-use Rattle.std.proofs.Common.{◌≡◌, ℕ, zero, suc, ◌+◌, ◌<◌, List, [], ◌∷◌, ◌++◌, eqb, not, ◌||◌, ◌&&◌, refl, sym, ap, ◌∙◌, cond, Bool, true, false, Option, Some, None, is_some, arith}
+use Rattle.std.proofs.Common.{◌≡◌, ◌≤◌, ℕ, zero, suc, ◌+◌, ◌<◌, List, [], ◌∷◌, ◌++◌, eqb, not, ◌||◌, ◌&&◌, refl, sym, ap, ◌∙◌, cond, Bool, true, false, Option, Some, None, is_some, arith}
 use Rattle.std.specs.Prelude.{nat_lt, nat_le, IsTrue}
 use Rattle.std.specs.List.{list_any}
 use Rattle.std.specs.Ordering.{nat_cmp, eq_by_cmp}
@@ -23,7 +23,7 @@ use Rattle.pc_model.proofs.LaidInTurn.{none_below, both}
 use Rattle.pc_model.proofs.SetLaws.{some_or}
 use Rattle.pc_model.proofs.States.{untouched_stays}
 use Rattle.pc_model.proofs.LogPieces.{part_of_kept}
-use Rattle.pc_model.proofs.Latest.{IsLatest, triple_at, latest_of_one, latest_of_both, latest_same, laid_is}
+use Rattle.pc_model.proofs.Latest.{IsLatest, triple_at, latest_of_one, latest_of_both, latest_same, laid_is, laid_is_from}
 
 -- two numbers are the same
 abbrev pub same_number : ℕ → ℕ → Bool
@@ -141,6 +141,14 @@ laid_content base log n order = same_database _ _ (λ key.
     let latest = latest_of_content base log key (numbers_to n) in
     get-laid base 0 (content base log (numbers_to n)) key ∙ ap (laid_at (get base key) 0) latest.2
     ∙ laid_is (touches_of log key) (states_of base log key) n (λ p. is_one_of p (numbers_to n)) latest.0 (λ p below none. untouched_stays base log p key (order p below) none) (one_of_numbers n) latest.1)
+
+-- the content of points, all from b + 1 to n among them and none above, laid on the state of b, is the state of n
+pub laid_content_from : (base : Database) (log : List Entry) (b n : ℕ) (points : List ℕ) → b ≤ n → ((p : ℕ) → p < n → PrecedesNext p log) → ((p : ℕ) → is_one_of p points ≡ true → p ≤ n)
+    → ((p : ℕ) → b < p → p ≤ n → is_one_of p points ≡ true) → laid (state_at base log b) b (content base log points) ≡ state_at base log n
+laid_content_from base log b n points le order most all = same_database _ _ (λ key.
+    let latest = latest_of_content base log key points in
+    get-laid (state_at base log b) b (content base log points) key ∙ ap (laid_at (get (state_at base log b) key) b) latest.2
+    ∙ laid_is_from (touches_of log key) (states_of base log key) b n (λ p. is_one_of p points) latest.0 le (λ p below none. untouched_stays base log p key (order p below) none) most all latest.1)
 
 -- a content has no conflict with another of the same log
 same_content_refl : (c : Option (List ℕ)) → same_content c c ≡ true

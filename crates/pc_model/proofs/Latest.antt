@@ -94,3 +94,23 @@ module _ (touches : ℕ → Bool) (states : ℕ → Option (List ℕ)) where
       none_above : (p : ℕ) (b : Bool) → touches p ≡ b → (touches p ≡ true → p ≤ m) → m < p → touches p ≡ false
       none_above p true is most more = absurd (let less = most is in omega arith)
       none_above p false is most more = is
+
+  -- what points say of the key, all from b + 1 to n among them and none above, laid over what the key has at b, is what
+  -- it has at n
+  pub laid_is_from : (b n : ℕ) (points : ℕ → Bool) (o : Option ℕ) → b ≤ n → ((p : ℕ) → p < n → touches (p + 1) ≡ false → states (p + 1) ≡ states p) → ((p : ℕ) → points p ≡ true → p ≤ n)
+      → ((p : ℕ) → b < p → p ≤ n → points p ≡ true) → IsLatest touches points o → laid_at (states b) b (triple_at states o) ≡ states n
+  laid_is_from b n points None le steps most all latest = sym (ap states (omega arith) ∙ unchanged n b (n - b) steps (omega arith) (λ p low high. latest p (all p low (omega arith))))
+  laid_is_from b n points (Some m) le steps most all latest = by_order (nat_lt b m) refl
+    where
+      none_above : (p : ℕ) (t : Bool) → touches p ≡ t → (touches p ≡ true → p ≤ m) → m < p → touches p ≡ false
+      none_above p true is most more = absurd (let less = most is in omega arith)
+      none_above p false is most more = is
+
+      by_order : (t : Bool) → nat_lt b m ≡ t → cond t (states m) (states b) ≡ states n
+      by_order true above =
+          let low : b < m = grind (arith, nat_tests) in
+          let high : m ≤ n = most m latest.inside in
+          sym (ap states (omega arith) ∙ unchanged n m (n - m) steps (omega arith) (λ p more less. none_above p (touches p) refl (latest.greatest p (all p (omega arith) (omega arith))) more))
+      by_order false below =
+          let low : m ≤ b = grind (arith, nat_tests) in
+          sym (ap states (omega arith) ∙ unchanged n b (n - b) steps (omega arith) (λ p more less. none_above p (touches p) refl (latest.greatest p (all p more (omega arith))) (omega arith)))

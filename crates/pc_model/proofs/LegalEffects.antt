@@ -79,14 +79,14 @@ none_left_does_nothing asked.Rest = refl
 none_left_does_nothing (asked.Join a b) = refl
 
 -- what the first cause gives is idle
-causes_idle : (causes : List (Bool × Refusal)) → IsIdleIfAny (first_refusal causes)
+pub causes_idle : (causes : List (Bool × Refusal)) → IsIdleIfAny (first_refusal causes)
 causes_idle causes = by_cause (first_refusal causes) (first_refusal_refuses causes)
   where
     by_cause : (o : Option Reply) → IfSome o (λ due. (r : Refusal) × (due ≡ told.Refused r)) → IsIdleIfAny o
     by_cause None refuses = tt
     by_cause (Some due) refuses = λ event. ap (effect_of event) refuses.1 ∙ refused_idle refuses.0 event
 
-or_else_idle : (o p : Option Reply) → IsIdleIfAny o → IsIdleIfAny p → IsIdleIfAny (or_else o p)
+pub or_else_idle : (o p : Option Reply) → IsIdleIfAny o → IsIdleIfAny p → IsIdleIfAny (or_else o p)
 or_else_idle None p first second = second
 or_else_idle (Some due) p first second = first
 
@@ -111,7 +111,7 @@ settled (Some due) Answer reply idle same = inr (λ event. ap (effect_of event) 
 idle_fits : (st : Setting) (h : History) (event : Event) (reply : Reply) → IsIdle reply → Fits st h (effect_of event reply)
 idle_fits st h event reply idle = let P : Effect → Type 0 = Fits st h in subst P (sym (idle event)) tt
 
-or_else_none : (o p : Option Reply) → or_else o p ≡ None → (o ≡ None) × (p ≡ None)
+pub or_else_none : (o p : Option Reply) → or_else o p ≡ None → (o ≡ None) × (p ≡ None)
 or_else_none None p none = (refl, none)
 or_else_none (Some due) p none = cc
 
@@ -165,7 +165,7 @@ among_numbers p (suc n) s low high is = list_any-append p (numbers_to n) (suc n 
         ap (λ b. b || list_any p (suc n ∷ [])) (later below is)
 
 module _ (st : Setting) (h : History) where
-  is_a_session : (s : ℕ) → no_session st s ≡ false → (1 ≤ s) × (s ≤ st.sessions)
+  pub is_a_session : (s : ℕ) → no_session st s ≡ false → (1 ≤ s) × (s ≤ st.sessions)
   is_a_session s none = (grind (arith, nat_tests), grind (arith, nat_tests))
 
   -- a commit is of an active transaction

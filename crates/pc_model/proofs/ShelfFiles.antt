@@ -69,10 +69,10 @@ module _ (run : ℕ) (base : Database) where
   }
 
   -- the triples of a file are the content of its points
-  triples_is : (log : List Entry) (f : File) → IsOfItsPoints run base log f → f.triples ≡ content base log (set.items f.points)
+  pub triples_is : (log : List Entry) (f : File) → IsOfItsPoints run base log f → f.triples ≡ content base log (set.items f.points)
   triples_is log f of = ap (λ g. g.triples) of.is
 
-  run_is : (log : List Entry) (f : File) → IsOfItsPoints run base log f → f.run ≡ run
+  pub run_is : (log : List Entry) (f : File) → IsOfItsPoints run base log f → f.run ≡ run
   run_is log f of = ap (λ g. g.run) of.is
 
   joined_is : (log : List Entry) (a b : File) → IsOfItsPoints run base log a → IsOfItsPoints run base log b → joined_file a b ≡ file_of run base log (set.union a.points b.points)

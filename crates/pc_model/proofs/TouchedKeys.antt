@@ -16,7 +16,7 @@ use Rattle.pc_model.specs.Replies.{without}
 key_laws : IsEquivalence same_bytes
 key_laws = eq_by_cmp_equiv key_order.total
 
-with_key_distinct : (keys : List (List ℕ)) (key : List ℕ) → IsDistinct same_bytes keys → IsDistinct same_bytes (with_key keys key)
+pub with_key_distinct : (keys : List (List ℕ)) (key : List ℕ) → IsDistinct same_bytes keys → IsDistinct same_bytes (with_key keys key)
 with_key_distinct keys key once = by_there (is_among keys key) refl
   where
     by_there : (b : Bool) → is_among keys key ≡ b → IsDistinct same_bytes (cond b keys (keys ++ key ∷ []))
@@ -32,7 +32,7 @@ with_written_distinct keys [] once = once
 with_written_distinct keys (Commit s ws ∷ log) once = with_written_distinct (with_keys keys ws) log (with_keys_distinct keys ws once)
 with_written_distinct keys (Token phase point ∷ log) once = with_written_distinct keys log once
 
-none_distinct : IsDistinct same_bytes []
+pub none_distinct : IsDistinct same_bytes []
 unfolding IsDistinct
 none_distinct = tt
 

@@ -1,5 +1,5 @@
 -- Laws of the definitions: of replay, of points, of replies and of reads.
-use Rattle.std.specs.Prelude.{◌≡◌, ℕ, ◌+◌, List, ◌∷◌, ◌++◌, IsTrue, IsFalse, Contains}
+use Rattle.std.specs.Prelude.{◌≡◌, ℕ, ◌+◌, ◌≤◌, ◌<◌, List, ◌∷◌, ◌++◌, IsTrue, IsFalse, Contains}
 use Rattle.pc_types.specs.declared.Entry.{Entry}
 use Rattle.pc_types.specs.declared.Event.{Event}
 use Rattle.pc_types.specs.declared.Reply.{Reply}
@@ -33,6 +33,12 @@ UntouchedKeysStay = (base : Database) (log : List Entry) (point : ℕ) (key : Li
 -- The state of the next point is the state of this point with the next point's part laid on it.
 abbrev pub PartsMakeStates : Type 0
 PartsMakeStates = (base : Database) (log : List Entry) (point : ℕ) → PrecedesNext point log → laid (state_at base log point) point (part_of base log (point + 1)) ≡ state_at base log (point + 1)
+
+-- The content of a set of points, all from b + 1 to n among them and none above n, laid on the state of b, is the state of n.
+abbrev pub ContentsMakeStates : Type 0
+ContentsMakeStates = (base : Database) (log : List Entry) (b n : ℕ) (points : Set number_order) → b ≤ n → ((p : ℕ) → p < n → PrecedesNext p log) →
+    ((p : ℕ) → IsTrue (set.contains points p) → p ≤ n) → ((p : ℕ) → b < p → p ≤ n → IsTrue (set.contains points p)) →
+    laid (state_at base log b) b (content base log (set.items points)) ≡ state_at base log n
 
 -- After every history every event has a legal reply.
 abbrev pub EveryEventHasALegalReply : Type 0

@@ -1,5 +1,5 @@
 //! Laws of the definitions. Each function does nothing, and its contract is a law.
-ghost use Rattle.pc_model.specs.Laws.{ReplaysInPieces, CyclesMakeStates, UntouchedKeysStay, PartsMakeStates, EveryEventHasALegalReply, CommittedReadsAreRight, LocksNeverConflict};
+ghost use Rattle.pc_model.specs.Laws.{ReplaysInPieces, CyclesMakeStates, UntouchedKeysStay, PartsMakeStates, ContentsMakeStates, EveryEventHasALegalReply, CommittedReadsAreRight, LocksNeverConflict};
 ghost use Rattle.pc_model.specs.Laws.{LegalHistoriesHaveLegalEffects, TokensStandInOrder, EachKeyIsTakenOnce, PointStatesStay, QuietContentsStay};
 ghost use Rattle.pc_model.specs.Laws.{JoinsAreContents, FilesAreOfTheirPoints, FilesJoinWell, FilesAreStates};
 
@@ -21,6 +21,12 @@ pub fn untouched_keys_stay()
 /// The state of a point is the state of the point before with its part laid on it.
 pub fn parts_make_states()
     ensures { PartsMakeStates }
+{}
+
+/// The state of a point is that of an earlier one with the content of points laid on it, where all points between are
+/// among them and none is later.
+pub fn contents_make_states()
+    ensures { ContentsMakeStates }
 {}
 
 /// After every history every event has a legal reply.
