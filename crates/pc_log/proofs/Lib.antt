@@ -1,0 +1,9 @@
+pub mod Steps
+pub mod Loops
+pub mod CommitTexts
+pub mod Turns
+pub mod TokenOrders
+pub mod EntryTexts
+pub mod EntriesAgain
+pub mod LogTexts
+pub mod CutTexts

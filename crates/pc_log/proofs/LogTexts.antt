@@ -1,0 +1,128 @@
+-- What is read of a log's text are its whole entries, and what was written is read again.
+use Rattle.std.proofs.Common.{◌≡◌, ℕ, zero, suc, ◌^◌, ◌<◌, eqb, List, [], ◌++◌, length, take, None, Result, Ok, Err, refl, sym, ap, subst, ◌∙◌, append_assoc, arith}
+use Rattle.std.specs.Prelude.{All, IfOk}
+use Rattle.std.specs.List.{flat_map, AllByRecursion}
+use Rattle.std.specs.Int.{w32, w64, to_be_bytes}
+use Rattle.std.proofs.lemmas.Bool.{eqb-true}
+use Rattle.std.proofs.lemmas.List.{append-nil, take_at}
+use Rattle.std.proofs.lemmas.List.Elements.{All-from_recursion, recursion_from_All}
+use Rattle.pc_types.specs.declared.refusal.Refusal.{Refusal}
+use Rattle.pc_types.specs.declared.refusal.Refusal.TheVariants.{Short, BadRanges}
+use Rattle.pc_types.specs.declared.Entry.{Entry}
+use Rattle.pc_types.specs.Fields.{◌>>=◌, where_true, number_at, magic_at, Gives}
+use Rattle.pc_types.proofs.FieldLemmas.{IsBytes, bind_ok, ok_is, Takes, Takes-then, wide32, wide64, number_takes, magic_takes}
+use Rattle.pc_log.specs.declared.order.LastToken.{LastToken}
+use Rattle.pc_log.specs.Texts.{log_magic, header_text, entry_text, log_text, IsEntry}
+use Rattle.pc_log.specs.Orders.{token_after, no_token, FollowFrom, InOrder}
+use Rattle.pc_log.specs.Reading.{entry_at, entries_at, log_at, Found, none_more, with_entry, of_run, text_of, LogRead}
+use Rattle.pc_log.specs.declared.reading.LogText.{LogText}
+use Rattle.pc_log.specs.Laws.{IsWhole}
+use Rattle.pc_log.proofs.TokenOrders.{HasBegun, begun_after, follow_more}
+use Rattle.pc_log.proofs.EntryTexts.{EntryTakes, entry_takes}
+use Rattle.pc_log.proofs.Steps.{where_then}
+use Rattle.pc_log.proofs.EntriesAgain.{last_after, all_again, header_again}
+use Rattle.pc_log.proofs.Turns.{all_at, turn_is, with_front, read_as}
+
+-- what was found in the bytes, behind the last token
+record FoundTakes (last : LastToken) (bytes : List ℕ) (found : Found) : Type 0 where
+  left : List ℕ
+  parts : bytes ≡ flat_map entry_text found.entries ++ left
+  counted : length left ≡ found.rest
+  lawful : AllByRecursion IsEntry found.entries
+  order : FollowFrom last.phase last.point found.entries
+
+none_take : (last : LastToken) (bytes : List ℕ) (fault : Refusal) → FoundTakes last bytes (none_more bytes fault)
+none_take last bytes fault = record { left = bytes; parts = refl; counted = refl; lawful = tt; order = tt }
+
+one_takes : (last : LastToken) (bytes : List ℕ) (entry : Entry) (rest : List ℕ) (found : Found) → EntryTakes last bytes entry rest → FoundTakes (token_after last entry) rest found → FoundTakes last bytes (with_entry entry found)
+one_takes last bytes entry rest found first others = record {
+  left = others.left;
+  parts = first.taken.parts ∙ ap (λ (t : List ℕ). entry_text entry ++ t) others.parts ∙ sym (append_assoc (entry_text entry) (flat_map entry_text found.entries) others.left);
+  counted = others.counted;
+  lawful = (first.lawful, others.lawful);
+  order = follow_more last entry found.entries first.next others.order;
+}
+
+entries_take : (turns : ℕ) (last : LastToken) (bytes : List ℕ) → IsBytes bytes → HasBegun last → FoundTakes last bytes (entries_at turns last bytes)
+unfolding entries_at
+entries_take zero last bytes fits begun = none_take last bytes Short
+entries_take (suc turns) last bytes fits begun = by_read (entry_at last bytes) refl (λ entry rest fits begun. entries_take turns (token_after last entry) rest fits begun)
+  where
+    by_read : (read : Result (Entry × List ℕ) Refusal) → entry_at last bytes ≡ read
+        → ((entry : Entry) (rest : List ℕ) → IsBytes rest → HasBegun (token_after last entry) → FoundTakes (token_after last entry) rest (entries_at turns (token_after last entry) rest))
+        → FoundTakes last bytes (entries_at (suc turns) last bytes)
+    by_read (Ok x) e others =
+        let first = entry_takes last bytes x.0 x.1 fits begun e in
+        subst (λ (found : Found). FoundTakes last bytes found) (sym (turn_is turns last bytes (Ok x) e))
+        (one_takes last bytes x.0 x.1 (entries_at turns (token_after last x.0) x.1) first (others x.0 x.1 first.taken.rest_fits (begun_after last x.0 begun first.lawful)))
+    by_read (Err fault) e others = subst (λ (found : Found). FoundTakes last bytes found) (sym (turn_is turns last bytes (Err fault) e)) (none_take last bytes fault)
+
+-- ---- the header
+
+record HeaderTakes (bytes : List ℕ) (read : LogRead) : Type 0 where
+  rest : List ℕ
+  taken : Takes bytes (header_text read.run) rest
+  run_fits : read.run < 2 ^ 64
+  read_is : read ≡ of_run read.run (all_at no_token rest)
+
+header_takes : (bytes : List ℕ) (read : LogRead) → IsBytes bytes → log_at bytes ≡ Ok read → HeaderTakes bytes read
+unfolding log_at
+header_takes bytes read fits e =
+    let a = bind_ok (magic_at log_magic bytes) (λ start. number_at Short w64 start >>= λ run. number_at Short w32 run.1 >>= λ base. where_true (eqb base.0 0) BadRanges base.1 >>= λ rest. read_as run.0 (all_at no_token rest)) read e in
+    let r = bind_ok (number_at Short w64 a.0) (λ run. number_at Short w32 run.1 >>= λ base. where_true (eqb base.0 0) BadRanges base.1 >>= λ rest. read_as run.0 (all_at no_token rest)) read a.2 in
+    let b = bind_ok (number_at Short w32 r.0.1) (λ base. where_true (eqb base.0 0) BadRanges base.1 >>= λ rest. read_as r.0.0 (all_at no_token rest)) read r.2 in
+    let g = where_then (eqb b.0.0 0) BadRanges b.0.1 (λ rest. read_as r.0.0 (all_at no_token rest)) read b.2 in
+    let m = magic_takes log_magic bytes a.0 fits a.1 in
+    let n = number_takes Short w64 (2 ^ 64) wide64 a.0 r.0.0 r.0.1 m.rest_fits r.1 in
+    let z = number_takes Short w32 (2 ^ 32) wide32 r.0.1 b.0.0 b.0.1 n.0.rest_fits b.1 in
+    let base : Takes r.0.1 (to_be_bytes w32 0) b.0.1 = subst (λ (k : ℕ). Takes r.0.1 (to_be_bytes w32 k) b.0.1) (eqb-true _ _ g.0) z.0 in
+    let numbers = Takes-then a.0 (to_be_bytes w64 r.0.0) r.0.1 (to_be_bytes w32 0) b.0.1 n.0 base in
+    let taken = Takes-then bytes log_magic a.0 (to_be_bytes w64 r.0.0 ++ to_be_bytes w32 0) b.0.1 m numbers in
+    subst (λ (x : LogRead). HeaderTakes bytes x) (ok_is (of_run r.0.0 (all_at no_token b.0.1)) read g.1) (record { rest = b.0.1; taken = taken; run_fits = n.1; read_is = refl })
+
+-- ---- whole entries
+
+-- the beginning of what was put together
+front_of : (front : List Entry) (found : Found) (entries : List Entry) → entries ≡ (with_front front found).entries → front ≡ take (length front) entries
+front_of front found entries e = sym (ap (take (length front)) e ∙ take_at front found.entries (length front) refl)
+
+pub whole_entries : (bytes : List ℕ) (read : LogRead) → IsBytes bytes → log_at bytes ≡ Ok read → IsWhole bytes read.run read.entries read.rest
+whole_entries bytes read fits e =
+    let h = header_takes bytes read fits e in
+    let found = entries_take (length h.rest) no_token h.rest h.taken.rest_fits (omega arith) in
+    let entries_are : read.entries ≡ (all_at no_token h.rest).entries = ap (λ (x : LogRead). x.entries) h.read_is in
+    let rest_is : read.rest ≡ (all_at no_token h.rest).rest = ap (λ (x : LogRead). x.rest) h.read_is in
+    record {
+      run_fits = h.run_fits;
+      is_log = record {
+        lawful = subst (λ (es : List Entry). All IsEntry es) (sym entries_are) (All-from_recursion IsEntry (all_at no_token h.rest).entries found.lawful);
+        in_order = subst (λ (es : List Entry). InOrder es) (sym entries_are) found.order;
+      };
+      parts = (
+        found.left,
+        h.taken.parts ∙ ap (λ (t : List ℕ). header_text read.run ++ t) (found.parts ∙ ap (λ (es : List Entry). flat_map entry_text es ++ found.left) (sym entries_are))
+            ∙ sym (append_assoc (header_text read.run) (flat_map entry_text read.entries) found.left),
+        found.counted ∙ sym rest_is,
+      );
+      longest = λ others is_log begins.
+          let behind = flat_map entry_text others ++ begins.0 in
+          let again : log_at bytes ≡ Ok (of_run read.run (all_at no_token behind)) =
+          ap log_at (begins.1 ∙ append_assoc (header_text read.run) (flat_map entry_text others) begins.0) ∙ header_again read.run behind h.run_fits in
+          let same : read ≡ of_run read.run (all_at no_token behind) = ok_is read (of_run read.run (all_at no_token behind)) (sym e ∙ again) in
+          front_of others (all_at (last_after no_token others) begins.0) read.entries
+          (ap (λ (x : LogRead). x.entries) same ∙ ap (λ (f : Found). f.entries) (all_again others no_token begins.0 (recursion_from_All IsEntry others is_log.lawful) is_log.in_order));
+    }
+
+-- what a call has read are the whole entries
+pub is_whole : (bytes : List ℕ) (result : Result LogText Refusal) → IsBytes bytes → Gives text_of result (log_at bytes) → IfOk result (λ text. IsWhole bytes text.run text.entries.items text.rest)
+is_whole bytes (Ok text) fits given = whole_entries bytes (text_of text) fits given
+is_whole bytes (Err e) fits given = tt
+
+-- ---- texts that were written
+
+pub log_again : (run : ℕ) (entries : List Entry) → run < 2 ^ 64 → All IsEntry entries → InOrder entries → log_at (log_text run entries) ≡ Ok (record { run = run; entries = entries; rest = 0; fault = None })
+unfolding entries_at
+log_again run entries fits lawful order =
+    let all : all_at no_token (flat_map entry_text entries) ≡ with_front entries (all_at (last_after no_token entries) []) =
+    ap (all_at no_token) (sym (append-nil (flat_map entry_text entries))) ∙ all_again entries no_token [] (recursion_from_All IsEntry entries lawful) order in
+    header_again run (flat_map entry_text entries) fits ∙ ap (read_as run) (all ∙ ap (λ (es : List Entry). record { entries = es; rest = 0; fault = None }) (append-nil entries))

@@ -1,0 +1,60 @@
+-- What is read of a text, and what was written is read again.
+use Rattle.std.specs.Prelude.{◌≡◌, ℕ, ◌+◌, ◌-◌, ◌<◌, ◌≤◌, ◌^◌, ◌==◌, List, ◌++◌, length, take, Some, None, Ok, Err, All, slice_index, if◌then◌else◌}
+use Rattle.pc_types.specs.declared.refusal.Refusal.TheVariants.{Short}
+use Rattle.pc_types.specs.declared.Entry.{Entry}
+use Rattle.pc_log.specs.Texts.{log_text, IsEntry}
+use Rattle.pc_log.specs.Orders.{InOrder}
+use Rattle.pc_log.specs.Reading.{LogRead, log_at}
+
+-- each number of the list is a byte
+abbrev pub AreBytes : List ℕ → Type 0
+AreBytes bytes = (i : ℕ) → slice_index bytes i < 256
+
+-- the entries have texts, and their tokens keep their order
+pub record IsLog (entries : List Entry) : Type 0 where
+  pub lawful : All IsEntry entries
+  pub in_order : InOrder entries
+
+-- the bytes begin with the text of these entries
+abbrev pub BeginsWith : List ℕ → ℕ → List Entry → Type 0
+BeginsWith bytes run entries = (left : List ℕ) × (bytes ≡ log_text run entries ++ left)
+
+-- The whole entries of the bytes: their text and so many bytes more are the bytes, and any other log whose text begins the
+-- bytes is a beginning of theirs.
+pub record IsWhole (bytes : List ℕ) (run : ℕ) (entries : List Entry) (rest : ℕ) : Type 0 where
+  pub run_fits : run < 2 ^ 64
+  pub is_log : IsLog entries
+  pub parts : (left : List ℕ) × (bytes ≡ log_text run entries ++ left) × (length left ≡ rest)
+  pub longest : (others : List Entry) → IsLog others → BeginsWith bytes run others → others ≡ take (length others) entries
+
+-- what is read of bytes are their whole entries
+abbrev pub WholeEntriesAreLongest : Type 0
+WholeEntriesAreLongest = (bytes : List ℕ) (read : LogRead) → AreBytes bytes → log_at bytes ≡ Ok read → IsWhole bytes read.run read.entries read.rest
+
+-- a log's text is read as its entries, and nothing is left
+abbrev pub LogTextsAreRead : Type 0
+LogTextsAreRead =
+    (run : ℕ) (entries : List Entry) → run < 2 ^ 64 → All IsEntry entries → InOrder entries → log_at (log_text run entries) ≡ Ok (record { run = run; entries = entries; rest = 0; fault = None })
+
+-- how many bytes of the first c are behind the text of the first p entries
+abbrev pub left_behind : ℕ → List Entry → ℕ → ℕ → ℕ
+left_behind run entries c p = length (take c (log_text run entries)) - length (log_text run (take p entries))
+
+-- the first p entries are those that are whole in the first c bytes
+pub record AreCut (run : ℕ) (entries : List Entry) (c p : ℕ) : Type 0 where
+  pub some : p ≤ length entries
+  pub there : length (log_text run (take p entries)) ≤ c
+  pub next : p < length entries → c < length (log_text run (take (p + 1) entries))
+
+-- what is read of the first c bytes, where the first p entries are whole in them
+abbrev pub cut_read : ℕ → List Entry → ℕ → ℕ → LogRead
+cut_read run entries c p =
+    record { run = run; entries = take p entries; rest = left_behind run entries c p; fault = if left_behind run entries c p == 0 then None else Some Short }
+
+-- A log's text that is cut off within its header, which has 20 bytes, is short. Else the entries are read that are whole, and
+-- the rest is short, where there is one.
+abbrev pub CutLogsAreRead : Type 0
+CutLogsAreRead =
+    (run : ℕ) (entries : List Entry) (c : ℕ) → run < 2 ^ 64 → All IsEntry entries → InOrder entries →
+    (c < 20 → log_at (take c (log_text run entries)) ≡ Err Short) ×
+    (20 ≤ c → (p : ℕ) × AreCut run entries c p × (log_at (take c (log_text run entries)) ≡ Ok (cut_read run entries c p)))

@@ -1,0 +1,5 @@
+pub mod Logs
+pub mod Texts
+pub mod Orders
+pub mod Reading
+pub mod Laws

@@ -1,0 +1,52 @@
+-- The order of a log's tokens: prepare 1, resolve 1, capture 1, complete 1, rest 1, prepare 2, and so on up to rest 65,535.
+use Rattle.std.specs.Prelude.{◌≡◌, ℕ, ◌+◌, ◌==◌, Bool, true, false, ◌&&◌, nat_le, List, [], ◌∷◌, ⊤}
+use Rattle.pc_types.specs.declared.Entry.{Entry}
+use Rattle.pc_types.specs.declared.Entry.TheVariants.{Commit, Token}
+use Rattle.pc_types.specs.declared.Phase.{Phase}
+use Rattle.pc_types.specs.declared.Phase.TheVariants.{Rest, Prepare, Resolve, Capture, Complete}
+use Rattle.pc_log.specs.declared.order.LastToken.{LastToken}
+
+-- the phase after this one in the cycles
+abbrev pub next_phase : Phase → Phase
+next_phase Rest = Prepare
+next_phase Prepare = Resolve
+next_phase Resolve = Capture
+next_phase Capture = Complete
+next_phase Complete = Rest
+
+-- the point of the next phase: that of a new cycle after rest
+abbrev pub next_point : Phase → ℕ → ℕ
+next_point Rest point = point + 1
+next_point phase point = point
+
+-- from this phase and point on, each token is the next one
+abbrev pub FollowFrom : Phase → ℕ → List Entry → Type 0
+FollowFrom last n [] = ⊤
+FollowFrom last n (Commit session writes ∷ entries) = FollowFrom last n entries
+FollowFrom last n (Token phase point ∷ entries) = (phase ≡ next_phase last) × (point ≡ next_point last n) × FollowFrom phase point entries
+
+-- the tokens keep their order
+abbrev pub InOrder : List Entry → Type 0
+InOrder entries = FollowFrom Rest 0 entries
+
+-- whether two phases are the same
+abbrev pub same_phase : Phase → Phase → Bool
+same_phase Rest Rest = true
+same_phase Prepare Prepare = true
+same_phase Resolve Resolve = true
+same_phase Capture Capture = true
+same_phase Complete Complete = true
+same_phase a b = false
+
+-- whether a token of this phase and point comes next after the last one
+abbrev pub comes_next : LastToken → Phase → ℕ → Bool
+comes_next last phase point = same_phase phase (next_phase last.phase) && (point == next_point last.phase last.point) && nat_le point 65535
+
+-- the last token after one more entry
+abbrev pub token_after : LastToken → Entry → LastToken
+token_after last (Commit session writes) = last
+token_after last (Token phase point) = record { phase = phase; point = point }
+
+-- before the first token
+abbrev pub no_token : LastToken
+no_token = record { phase = Rest; point = 0 }

@@ -1,0 +1,144 @@
+-- Reading a log's text from left to right, with the first fault that is met.
+use Rattle.std.specs.Prelude.{ℕ, zero, suc, Bool, not, List, [], ◌∷◌, ◌++◌, length, Option, Some, None, Result, Ok, Err, nat_le, ◌==◌, ◌&&◌}
+use Rattle.std.specs.List.{list_any}
+use Rattle.std.specs.Int.{w16, w32, w64}
+use Rattle.pc_types.specs.declared.refusal.Refusal.{Refusal}
+use Rattle.pc_types.specs.declared.refusal.Refusal.TheVariants.{Short, BadRanges, KeyOrder, BadKind, BadLength, Trailing, TokenOrder}
+use Rattle.pc_types.specs.declared.Entry.{Entry}
+use Rattle.pc_types.specs.declared.Entry.TheVariants.{Commit, Token}
+use Rattle.pc_types.specs.declared.Phase.{Phase}
+use Rattle.pc_types.specs.declared.Phase.TheVariants.{Rest, Prepare, Resolve, Capture, Complete}
+use Rattle.pc_types.specs.declared.Write.{Write}
+use Rattle.pc_types.specs.Fields.{◌>>=◌, where_true, bytes_at, number_at, magic_at, key_at, content_at}
+use Rattle.pc_log.specs.declared.order.LastToken.{LastToken}
+use Rattle.pc_log.specs.declared.reading.LogText.{LogText}
+use Rattle.pc_log.specs.Texts.{log_magic, same_key}
+use Rattle.pc_log.specs.Orders.{comes_next, token_after, no_token}
+
+-- A field is its value and the bytes after it. In a body the fault of a missing byte is BadLength.
+
+-- a byte of a body
+abbrev pub byte_at : List ℕ → Result (ℕ × List ℕ) Refusal
+byte_at [] = Err BadLength
+byte_at (byte ∷ rest) = Ok (byte, rest)
+
+-- one of the writes has this key
+abbrev pub is_written : List Write → List ℕ → Bool
+is_written writes key = list_any (λ (write : Write). same_key key write.key) writes
+
+-- a write whose key none of the earlier ones has
+unfoldable pub write_at : List Write → List ℕ → Result (Write × List ℕ) Refusal
+write_at earlier bytes = do
+  key ← key_at BadLength bytes
+  first ← where_true (not (is_written earlier key.0)) KeyOrder key
+  content ← content_at BadLength first.1
+  Ok (record { key = first.0; value = content.0 }, content.1)
+
+-- the earlier writes, and so many more
+unfoldable pub writes_at : ℕ → List Write → List ℕ → Result (List Write × List ℕ) Refusal
+writes_at zero earlier bytes = Ok (earlier, bytes)
+writes_at (suc count) earlier bytes = do
+  write ← write_at earlier bytes
+  writes_at count (earlier ++ write.0 ∷ []) write.1
+
+-- what a commit has behind its kind
+unfoldable pub commit_at : List ℕ → Result (Entry × List ℕ) Refusal
+commit_at bytes = do
+  session ← byte_at bytes
+  lawful ← where_true (nat_le 1 session.0 && nat_le session.0 64) BadLength session
+  count ← number_at BadLength w16 lawful.1
+  few ← where_true (nat_le count.0 256) BadLength count
+  writes ← writes_at few.0 [] few.1
+  Ok (Commit lawful.0 writes.0, writes.1)
+
+-- the phase for which a number stands
+abbrev pub phase_numbered : ℕ → Result Phase Refusal
+phase_numbered zero = Ok Rest
+phase_numbered (suc zero) = Ok Prepare
+phase_numbered (suc (suc zero)) = Ok Resolve
+phase_numbered (suc (suc (suc zero))) = Ok Capture
+phase_numbered (suc (suc (suc (suc zero)))) = Ok Complete
+phase_numbered (suc (suc (suc (suc (suc number))))) = Err BadKind
+
+-- what a token has behind its kind; it comes next after the last one
+unfoldable pub token_at : LastToken → List ℕ → Result (Entry × List ℕ) Refusal
+token_at last bytes = do
+  number ← byte_at bytes
+  phase ← phase_numbered number.0
+  point ← number_at BadLength w32 number.1
+  where_true (comes_next last phase point.0) TokenOrder (Token phase point.0, point.1)
+
+-- what an entry of this kind has behind its kind
+unfoldable pub kind_at : ℕ → LastToken → List ℕ → Result (Entry × List ℕ) Refusal
+kind_at (suc zero) last bytes = commit_at bytes
+kind_at (suc (suc zero)) last bytes = token_at last bytes
+kind_at other last bytes = Err BadKind
+
+-- the body of an entry, all of the bytes
+unfoldable pub body_at : LastToken → List ℕ → Result Entry Refusal
+body_at last bytes = do
+  kind ← byte_at bytes
+  entry ← kind_at kind.0 last kind.1
+  where_true (length entry.1 == 0) Trailing entry.0
+
+-- an entry, its length before it; the body is read once all its bytes are there
+unfoldable pub entry_at : LastToken → List ℕ → Result (Entry × List ℕ) Refusal
+entry_at last bytes = do
+  size ← number_at Short w32 bytes
+  lawful ← where_true (nat_le 1 size.0 && nat_le size.0 16844036) BadLength size
+  body ← bytes_at Short lawful.0 lawful.1
+  entry ← body_at last body.0
+  Ok (entry, body.1)
+
+-- the entries that can be read one after the other, how many bytes are left, and the fault of the entry that would begin there
+pub record Found : Type 0 where
+  pub entries : List Entry
+  pub rest : ℕ
+  pub fault : Option Refusal
+
+-- this is the fault of the bytes, where there are any
+abbrev pub fault_of : List ℕ → Refusal → Option Refusal
+fault_of [] fault = None
+fault_of (byte ∷ bytes) fault = Some fault
+
+-- no entry can be read: the bytes are left
+abbrev pub none_more : List ℕ → Refusal → Found
+none_more bytes fault = record { entries = []; rest = length bytes; fault = fault_of bytes fault }
+
+-- one entry more, in front
+abbrev pub with_entry : Entry → Found → Found
+with_entry entry found = record found { entries = entry ∷ found.entries }
+
+-- the entry that was read and what is found behind it, or none more
+abbrev pub found_by : List ℕ → Result (Entry × List ℕ) Refusal → (Entry × List ℕ → Found) → Found
+found_by bytes (Ok entry) behind = with_entry entry.0 (behind entry)
+found_by bytes (Err fault) behind = none_more bytes fault
+
+-- As many entries as can be read. Each takes some of the bytes, so that as many turns as there are bytes are enough.
+unfoldable pub entries_at : ℕ → LastToken → List ℕ → Found
+entries_at zero last bytes = none_more bytes Short
+entries_at (suc turns) last bytes = found_by bytes (entry_at last bytes) (λ entry. entries_at turns (token_after last entry.0) entry.1)
+
+-- what is read of a log's text
+pub record LogRead : Type 0 where
+  pub run : ℕ
+  pub entries : List Entry
+  pub rest : ℕ
+  pub fault : Option Refusal
+
+-- the same with its run
+abbrev pub of_run : ℕ → Found → LogRead
+of_run run found = record { run = run; entries = found.entries; rest = found.rest; fault = found.fault }
+
+-- all of the bytes: the header, and the entries behind it
+unfoldable pub log_at : List ℕ → Result LogRead Refusal
+log_at bytes = do
+  start ← magic_at log_magic bytes
+  run ← number_at Short w64 start
+  base ← number_at Short w32 run.1
+  rest ← where_true (base.0 == 0) BadRanges base.1
+  Ok (of_run run.0 (entries_at (length rest) no_token rest))
+
+-- what a call has read, without where it lies in memory
+abbrev pub text_of : LogText → LogRead
+text_of text = record { run = text.run; entries = text.entries.items; rest = text.rest; fault = text.fault }

@@ -1,0 +1,86 @@
+-- The text of a log: the bytes that stand for it. Numbers stand with their highest byte first.
+use Rattle.std.specs.Prelude.{ℕ, ◌≤◌, Bool, List, ◌∷◌, ◌++◌, length, map, codes, IfSome, ⊤}
+use Rattle.std.specs.List.{flat_map, IsDistinct, AllByRecursion}
+use Rattle.std.specs.Int.{w8, w16, w32, w64, to_be_bytes}
+use Rattle.std.specs.Ordering.{nat_cmp, eq_by_cmp}
+use Rattle.std.specs.Cmp.Lexicographic.{slice_cmp}
+use Rattle.pc_types.specs.declared.Entry.{Entry}
+use Rattle.pc_types.specs.declared.Entry.TheVariants.{Commit, Token}
+use Rattle.pc_types.specs.declared.Phase.{Phase}
+use Rattle.pc_types.specs.declared.Phase.TheVariants.{Rest, Prepare, Resolve, Capture, Complete}
+use Rattle.pc_types.specs.declared.Write.{Write}
+use Rattle.pc_types.specs.Fields.{key_text, content_text}
+use Rattle.pc_types.specs.Limits.{IsKey, IsValue}
+
+-- the bytes that tell a log
+abbrev pub log_magic : List ℕ
+log_magic = codes "PCALCL01"
+
+-- what stands first: the magic, the run, and the base point, which is 0
+abbrev pub header_text : ℕ → List ℕ
+header_text run = log_magic ++ (to_be_bytes w64 run ++ to_be_bytes w32 0)
+
+-- a write: its key, and what the key has after it
+abbrev pub write_text : Write → List ℕ
+write_text write = key_text write.key ++ content_text write.value
+
+-- the number that stands for a phase
+abbrev pub phase_number : Phase → ℕ
+phase_number Rest = 0
+phase_number Prepare = 1
+phase_number Resolve = 2
+phase_number Capture = 3
+phase_number Complete = 4
+
+-- what stands of an entry behind its length: of a commit its kind, its session, and its writes with their count before them;
+-- of a token its kind, its phase and its point
+abbrev pub body_text : Entry → List ℕ
+body_text (Commit session writes) = 1 ∷ (to_be_bytes w8 session ++ (to_be_bytes w16 (length writes) ++ flat_map write_text writes))
+body_text (Token phase point) = 2 ∷ (phase_number phase ∷ to_be_bytes w32 point)
+
+-- what stands of a commit before its writes
+abbrev pub commit_head_text : ℕ → List Write → List ℕ
+commit_head_text session writes = to_be_bytes w32 (length (body_text (Commit session writes))) ++ (1 ∷ (to_be_bytes w8 session ++ to_be_bytes w16 (length writes)))
+
+-- an entry: the length of its body, and its body
+abbrev pub entry_text : Entry → List ℕ
+entry_text entry = to_be_bytes w32 (length (body_text entry)) ++ body_text entry
+
+-- the text of a run's entries
+abbrev pub log_text : ℕ → List Entry → List ℕ
+log_text run entries = header_text run ++ flat_map entry_text entries
+
+-- whether two keys have the same bytes
+abbrev pub same_key : List ℕ → List ℕ → Bool
+same_key = eq_by_cmp (slice_cmp nat_cmp)
+
+-- the keys that are written, in order
+abbrev pub keys_of : List Write → List (List ℕ)
+keys_of writes = map (λ (write : Write). write.key) writes
+
+-- a commit has at most 256 writes
+abbrev pub HasFewWrites : Entry → Type 0
+HasFewWrites (Commit session writes) = length writes ≤ 256
+HasFewWrites (Token phase point) = ⊤
+
+-- a write within the limits of keys and values
+abbrev pub IsWrite : Write → Type 0
+IsWrite write = IsKey write.key × IfSome write.value IsValue
+
+-- a commit that has a text: of a session from 1 to 64, of at most 256 writes within their limits, and of no key twice
+pub record IsCommit (session : ℕ) (writes : List Write) : Type 0 where
+  pub first_session : 1 ≤ session
+  pub last_session : session ≤ 64
+  pub count : length writes ≤ 256
+  pub in_limits : AllByRecursion IsWrite writes
+  pub once : IsDistinct same_key (keys_of writes)
+
+-- a token's point is 1 to 65,535
+pub record IsPoint (point : ℕ) : Type 0 where
+  pub first : 1 ≤ point
+  pub last : point ≤ 65535
+
+-- what has a text
+abbrev pub IsEntry : Entry → Type 0
+IsEntry (Commit session writes) = IsCommit session writes
+IsEntry (Token phase point) = IsPoint point

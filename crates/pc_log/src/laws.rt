@@ -1,0 +1,19 @@
+//! Laws of texts. Each function does nothing, and its contract is a law.
+ghost use Rattle.pc_log.specs.Laws.{CutLogsAreRead, LogTextsAreRead, WholeEntriesAreLongest};
+
+/// What is read of a text are its whole entries: their texts begin the bytes after the header, they have what an entry's text
+/// asks, their tokens keep their order, and each such list of entries is a beginning of theirs.
+pub fn whole_entries_are_longest()
+    ensures { WholeEntriesAreLongest }
+{}
+
+/// A text that was written is read again, whole.
+pub fn log_texts_are_read()
+    ensures { LogTextsAreRead }
+{}
+
+/// A text that was cut off in its header is short, and else as many entries are read as are there as a whole; the rest is
+/// short, where there is one.
+pub fn cut_logs_are_read()
+    ensures { CutLogsAreRead }
+{}

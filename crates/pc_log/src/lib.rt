@@ -1,0 +1,20 @@
+//! The log: the commits and the changes of the phase, in their order; its text, and what can be read of a text that may have
+//! been cut off.
+#![tactic(auto)]
+
+mod encoding;
+mod entries;
+mod laws;
+mod log;
+mod order;
+mod phases;
+mod reading;
+#[cfg(test)]
+mod slow_reader;
+#[cfg(test)]
+mod tests;
+
+pub use encoding::{encode_entry, encode_header, encode_log};
+pub use laws::{cut_logs_are_read, log_texts_are_read, whole_entries_are_longest};
+pub use log::Log;
+pub use reading::{LogText, read_log};

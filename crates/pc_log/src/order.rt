@@ -1,0 +1,76 @@
+//! The order of a log's tokens: prepare 1, resolve 1, capture 1, complete 1, rest 1, prepare 2, and so on up to rest 65,535.
+ghost use Rattle.std.specs.Prelude.{◌≡◌, ◌≤◌, true};
+ghost use Rattle.pc_log.specs.Orders.{comes_next, next_phase, next_point, no_token, same_phase, token_after};
+
+use pc_types::{Entry, Phase, Point};
+
+// The last token of the entries so far.
+#[derive(Clone, Copy)]
+pub(crate) struct LastToken {
+    pub(crate) phase: Phase,
+    pub(crate) point: Point,
+}
+
+impl LastToken {
+    // There is no token yet: the first cycle is about to begin.
+    pub(crate) fn none() -> LastToken
+        ensures { result ≡ no_token }
+    {
+        LastToken {
+            phase: Phase::Rest,
+            point: Point(0),
+        }
+    }
+
+    // Whether a token of this phase and point comes next.
+    pub(crate) fn is_before(self, phase: Phase, point: u32) -> bool
+        ensures next { result ≡ comes_next self phase point }
+        ensures limit { result ≡ true → point ≤ 65535 }
+    {
+        is_same(phase, phase_after(self.phase))
+            && point == point_after(self.phase, self.point)
+            && point <= 65_535
+    }
+
+    // The last token once this entry stands behind the others.
+    pub(crate) fn after(&self, entry: &Entry) -> LastToken
+        ensures { result ≡ token_after self.now entry.now }
+    {
+        match entry {
+            Entry::Commit(_, _) => *self,
+            Entry::Token(phase, point) => LastToken {
+                phase: *phase,
+                point: *point,
+            },
+        }
+    }
+}
+
+// The phase that follows in the cycles.
+fn phase_after(phase: Phase) -> Phase
+    ensures { result ≡ next_phase phase }
+{
+    match phase {
+        Phase::Rest => Phase::Prepare,
+        Phase::Prepare => Phase::Resolve,
+        Phase::Resolve => Phase::Capture,
+        Phase::Capture => Phase::Complete,
+        Phase::Complete => Phase::Rest,
+    }
+}
+
+// The point of the next token: a new one after rest.
+fn point_after(phase: Phase, point: Point) -> u32
+    ensures { result ≡ next_point phase point }
+{
+    match phase {
+        Phase::Rest => u32::from(point.0) + 1,
+        _ => u32::from(point.0),
+    }
+}
+
+fn is_same(a: Phase, b: Phase) -> bool
+    ensures { result ≡ same_phase a b }
+{
+    a == b
+}

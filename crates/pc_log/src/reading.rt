@@ -1,0 +1,208 @@
+//! A log is read from its text, which may have been cut off.
+ghost use Rattle.std.specs.Prelude.{◌≡◌, ◌<◌, [], length, IfOk, Ok, Err, Some};
+ghost use Rattle.pc_types.specs.Fields.{Gives, Reads};
+ghost use Rattle.pc_log.specs.Reading.{byte_at, write_at, writes_at, commit_at, token_at, kind_at, body_at, entry_at, entries_at, log_at, text_of, of_run, is_written};
+ghost use Rattle.pc_log.specs.Orders.{no_token};
+ghost use Rattle.pc_log.specs.Laws.{IsWhole};
+
+use crate::order::LastToken;
+use crate::phases;
+use pc_types::{
+    Entry, Items, Key, Point, Refusal, SessionNo, Write, read_bytes, read_content, read_key,
+    read_magic, read_u16, read_u32, read_u64,
+};
+use std::alloc::Global;
+
+/// What was read of a log's text: its whole entries, which are the longest list of entries whose texts begin the bytes after
+/// the header and whose tokens keep their order, and what is left behind them.
+#[derive(Drop)]
+pub struct LogText {
+    /// The number of the run.
+    pub run: u64,
+    /// The whole entries, the oldest first.
+    pub entries: Vec<Entry>,
+    /// How many bytes are left behind the whole entries.
+    pub rest: usize,
+    /// None where no byte is left, else the fault of the entry that would begin there.
+    pub fault: Option<Refusal>,
+}
+
+/// Reads a log's text. Refuses with `Short`, `BadMagic` or `BadRanges` where the header of 20 bytes has that fault, and with
+/// `OutOfMemory` only where a growth was refused. It takes memory for the entries alone.
+pub fn read_log(alloc: Global, bytes: &[u8]) -> Result<LogText, Refusal>
+    ensures exact { Gives text_of result (log_at bytes.now) }
+    ensures whole { IfOk result (λ text. IsWhole bytes.now text.run text.entries.items text.rest) }
+{
+    read_text(alloc, bytes)
+}
+
+// The header, and then the entries.
+#[tactic(auto, unfolding(crate::specs::Reading::log_at))]
+fn read_text(alloc: Global, bytes: &[u8]) -> Result<LogText, Refusal>
+    ensures { Gives text_of result (log_at bytes.now) }
+{
+    let rest = read_magic(bytes, b"PCALCL01")?;
+    let (run, rest) = read_u64(rest, Refusal::Short)?;
+    let (base, rest) = read_u32(rest, Refusal::Short)?;
+    if base != 0 {
+        return Err(Refusal::BadRanges);
+    }
+    read_entries(alloc, run, rest)
+}
+
+// As many entries as can be read one after the other.
+fn read_entries(alloc: Global, run: u64, bytes: &[u8]) -> Result<LogText, Refusal>
+    ensures { Gives text_of result (Ok (of_run run (entries_at (length bytes.now) no_token bytes.now))) }
+{
+    let mut entries = Vec::new(alloc);
+    let mut last = LastToken::none();
+    let mut rest = bytes;
+    while !rest.is_empty() {
+        match read_entry(alloc, last, rest) {
+            Ok((entry, after)) => {
+                last = last.after(&entry);
+                entries.push(entry)?;
+                rest = after;
+            }
+            Err(fault) => return stopped(run, entries, rest, fault),
+        }
+    }
+    Ok(LogText {
+        run,
+        entries,
+        rest: 0,
+        fault: None,
+    })
+}
+
+// What was read where the rest has this fault, or memory ran out.
+fn stopped(run: u64, entries: Vec<Entry>, rest: &[u8], fault: Refusal) -> Result<LogText, Refusal>
+    ensures read { Gives text_of result (Ok (record { run = run; entries = entries.items; rest = length rest.now; fault = Some fault })) }
+    ensures memory { fault ≡ Refusal.OutOfMemory → result ≡ Err Refusal.OutOfMemory }
+{
+    if fault == Refusal::OutOfMemory {
+        return Err(Refusal::OutOfMemory);
+    }
+    Ok(LogText {
+        run,
+        entries,
+        rest: rest.len(),
+        fault: Some(fault),
+    })
+}
+
+#[tactic(auto, unfolding(crate::specs::Reading::entry_at))]
+fn read_entry(alloc: Global, last: LastToken, bytes: &[u8]) -> Result<(Entry, &[u8]), Refusal>
+    ensures { Gives (λ x. (x.0, x.1.now)) result (entry_at last bytes.now) }
+{
+    let (size, rest) = read_u32(bytes, Refusal::Short)?;
+    if size == 0 || 16_844_036 < size {
+        return Err(Refusal::BadLength);
+    }
+    let (body, rest) = read_bytes(rest, size as usize, Refusal::Short)?;
+    Ok((read_body(alloc, last, body)?, rest))
+}
+
+#[tactic(auto, unfolding(crate::specs::Reading::body_at, crate::specs::Reading::kind_at))]
+fn read_body(alloc: Global, last: LastToken, bytes: &[u8]) -> Result<Entry, Refusal>
+    ensures { Gives (λ entry. entry) result (body_at last bytes.now) }
+{
+    let (kind, rest) = read_byte(bytes)?;
+    let (entry, rest) = read_kind(alloc, kind, last, rest)?;
+    if !rest.is_empty() {
+        return Err(Refusal::Trailing);
+    }
+    Ok(entry)
+}
+
+#[tactic(auto, unfolding(crate::specs::Reading::kind_at))]
+fn read_kind(
+    alloc: Global,
+    kind: u8,
+    last: LastToken,
+    bytes: &[u8],
+) -> Result<(Entry, &[u8]), Refusal>
+    ensures { Gives (λ x. (x.0, x.1.now)) result (kind_at kind last bytes.now) }
+{
+    match kind {
+        1 => read_commit(alloc, bytes),
+        2 => read_token(last, bytes),
+        _ => Err(Refusal::BadKind),
+    }
+}
+
+#[tactic(auto, unfolding(crate::specs::Reading::token_at))]
+fn read_token(last: LastToken, bytes: &[u8]) -> Result<(Entry, &[u8]), Refusal>
+    ensures { Reads (λ x. (x.0, x.1.now)) result (token_at last bytes.now) }
+{
+    let (number, rest) = read_byte(bytes)?;
+    let phase = phases::numbered(number)?;
+    let (point, rest) = read_u32(rest, Refusal::BadLength)?;
+    if !last.is_before(phase, point) {
+        return Err(Refusal::TokenOrder);
+    }
+    Ok((Entry::Token(phase, Point(point as u16)), rest))
+}
+
+#[tactic(auto, unfolding(crate::specs::Reading::commit_at))]
+fn read_commit(alloc: Global, bytes: &[u8]) -> Result<(Entry, &[u8]), Refusal>
+    ensures { Gives (λ x. (x.0, x.1.now)) result (commit_at bytes.now) }
+{
+    let (session, rest) = read_byte(bytes)?;
+    if session == 0 || 64 < session {
+        return Err(Refusal::BadLength);
+    }
+    let (count, rest) = read_u16(rest, Refusal::BadLength)?;
+    if 256 < count {
+        return Err(Refusal::BadLength);
+    }
+    let (writes, rest) = read_writes(alloc, count, rest)?;
+    let session = SessionNo(u32::from(session));
+    Ok((Entry::Commit(session, writes), rest))
+}
+
+// So many writes, of which no two have the same key.
+fn read_writes(alloc: Global, count: u16, bytes: &[u8]) -> Result<(Items<Write>, &[u8]), Refusal>
+    ensures { Gives (λ x. (x.0, x.1.now)) result (writes_at count [] bytes.now) }
+{
+    let mut writes = Items::new(alloc);
+    let mut rest = bytes;
+    for _ in 0..count {
+        let (write, after) = read_write(alloc, writes.as_slice(), rest)?;
+        writes.push(write)?;
+        rest = after;
+    }
+    Ok((writes, rest))
+}
+
+#[tactic(auto, unfolding(crate::specs::Reading::write_at))]
+fn read_write<'a>(
+    alloc: Global,
+    earlier: &[Write],
+    bytes: &'a [u8],
+) -> Result<(Write, &'a [u8]), Refusal>
+    ensures { Gives (λ x. (x.0, x.1.now)) result (write_at earlier.now bytes.now) }
+{
+    let (key, rest) = read_key(alloc, bytes, Refusal::BadLength)?;
+    if is_written(earlier, &key) {
+        return Err(Refusal::KeyOrder);
+    }
+    let (value, rest) = read_content(alloc, rest, Refusal::BadLength)?;
+    Ok((Write { key, value }, rest))
+}
+
+// Whether one of the writes has this key.
+fn is_written(writes: &[Write], key: &Key) -> bool
+    ensures { result ≡ is_written writes.now key.now }
+{
+    writes.iter().any(|write| key.is(&write.key))
+}
+
+fn read_byte(bytes: &[u8]) -> Result<(u8, &[u8]), Refusal>
+    ensures { Reads (λ x. (x.0, x.1.now)) result (byte_at bytes.now) }
+{
+    match bytes {
+        [] => Err(Refusal::BadLength),
+        [byte, rest @ ..] => Ok((*byte, rest)),
+    }
+}
