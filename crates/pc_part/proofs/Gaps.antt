@@ -51,10 +51,10 @@ fold_max_reached a (x ∷ xs) = by (nat_le x a) refl (fold_max_reached (max a x)
     by false le (inl e) = inr (or_left _ _ (unsigned_tied (fold max (max a x) xs) x ∙ grind (arith, nat_tests, e, le)))
     by t le (inr among) = inr (or_right _ _ among)
 
-greatest_bound : (s : Set number_order) (q : ℕ) → set.contains s q ≡ true → q ≤ greatest s
+pub greatest_bound : (s : Set number_order) (q : ℕ) → set.contains s q ≡ true → q ≤ greatest s
 greatest_bound s q there = fold_max_bound 0 q (set.items s) (contains-items s q ∙ there)
 
-greatest_reached : (s : Set number_order) → (greatest s ≡ 0) ⊎ (set.contains s (greatest s) ≡ true)
+pub greatest_reached : (s : Set number_order) → (greatest s ≡ 0) ⊎ (set.contains s (greatest s) ≡ true)
 greatest_reached s = elim (fold_max_reached 0 (set.items s)) [ inl none ↦ inl none | inr among ↦ inr (sym (contains-items s (greatest s)) ∙ among) ]
 
 -- the greatest end of ranges is not below their points, and one of them or 0

@@ -1,7 +1,10 @@
 pub mod Bases
 pub mod Joins
+pub mod Lawful
 pub mod Layings
 pub mod Merges
 pub mod Parts
+pub mod Reading
+pub mod RoundTrips
 pub mod Texts
 pub mod Unions

@@ -1,6 +1,6 @@
 -- Part files: the points and the triples that a part stands for, and how both are stored.
-use Rattle.std.specs.Prelude.{◌≡◌, ℕ, zero, suc, ◌+◌, ◌-◌, ◌≤◌, ◌==◌, List, [], ◌∷◌, ◌++◌, Option, Some, None, if◌then◌else◌, length, map, IsTrue}
-use Rattle.std.specs.List.{All}
+use Rattle.std.specs.Prelude.{◌≡◌, ℕ, zero, suc, ◌+◌, ◌-◌, ◌≤◌, ◌==◌, nat_le, ◌&&◌, Bool, List, [], ◌∷◌, ◌++◌, Option, Some, None, if◌then◌else◌, length, map, IsTrue}
+use Rattle.std.specs.List.{All, list_any}
 use Rattle.std.specs.Coded.{Coded, code_by, coded×, coded_ℕ, coded_list, coded_option}
 use base.Stored.{coded_unit}
 use mathlib.Core.Path.{refl}
@@ -35,6 +35,10 @@ RangesFrom least (r ∷ ranges) = (least ≤ r.low) × (r.low ≤ r.high) × (r.
 -- the ranges of a part: there is one, and they rise with gaps between them
 abbrev pub AreRanges : List Range → Type 0
 AreRanges ranges = (1 ≤ length ranges) × RangesFrom 1 ranges
+
+-- the point is in one of the ranges
+abbrev pub covers : List Range → ℕ → Bool
+covers ranges point = list_any (λ range. nat_le range.low point && nat_le point range.high) ranges
 
 -- a range as its first and its last point
 abbrev pub bounds : Range → ℕ × ℕ

@@ -1,10 +1,11 @@
--- The text of a part file: the bytes that stand for it. Numbers stand with their highest byte first.
-use Rattle.std.specs.Prelude.{ℕ, List, [], ◌∷◌, ◌++◌, length, Option, Some, None, codes}
+-- The texts of part files and base files: the bytes that stand for them. Numbers stand with their highest byte first.
+use Rattle.std.specs.Prelude.{ℕ, List, ◌++◌, length, codes}
 use Rattle.std.specs.List.{flat_map}
 use Rattle.std.specs.Int.{w16, w32, w64, to_be_bytes}
 use Rattle.pc_model.specs.Maps as map
 use Rattle.pc_model.specs.Sets as set
-use Rattle.pc_model.specs.Files.{File}
+use Rattle.pc_types.specs.Fields.{key_text, value_text, content_text}
+use Rattle.pc_model.specs.Files.{File, BaseFile}
 use Rattle.pc_model.specs.Points.{AtPoint, Triples}
 use Rattle.pc_model.specs.Ranges.{ranges_of}
 use Rattle.pc_model.specs.Laying.{entry_of}
@@ -28,14 +29,9 @@ range_text bounds = to_be_bytes w32 bounds.0 ++ to_be_bytes w32 bounds.1
 abbrev pub bounds_text : Range → List ℕ
 bounds_text range = range_text (bounds range)
 
--- a tombstone, or a value with its length before it
-abbrev pub content_text : Option (List ℕ) → List ℕ
-content_text None = 0 ∷ []
-content_text (Some value) = 1 ∷ (to_be_bytes w32 (length value) ++ value)
-
 -- an entry: its key with its length before it, its point, and what the key had there
 abbrev pub entry_text : List ℕ × AtPoint → List ℕ
-entry_text entry = to_be_bytes w16 (length entry.0) ++ (entry.0 ++ (to_be_bytes w32 entry.1.point ++ content_text entry.1.content))
+entry_text entry = key_text entry.0 ++ (to_be_bytes w32 entry.1.point ++ content_text entry.1.content)
 
 -- the same of a triple of a part
 abbrev pub triple_text : Triple → List ℕ
@@ -52,3 +48,19 @@ text_of run ranges triples = head_text run (length ranges) ++ (flat_map range_te
 -- the one text of a file
 unfoldable pub part_text : File → List ℕ
 part_text file = text_of file.run (ranges_of (set.items file.points)) file.triples
+
+-- the bytes that tell a base file
+abbrev pub base_magic : List ℕ
+base_magic = codes "PCALCB01"
+
+-- what stands first in a base file: the magic, the run, the point, and how many pairs there are
+abbrev pub base_head_text : ℕ → ℕ → ℕ → List ℕ
+base_head_text run point count = base_magic ++ (to_be_bytes w64 run ++ (to_be_bytes w32 point ++ to_be_bytes w32 count))
+
+-- a pair: its key and its value, each with its length before it
+abbrev pub pair_text : List ℕ × List ℕ → List ℕ
+pair_text pair = key_text pair.0 ++ value_text pair.1
+
+-- the one text of a base
+unfoldable pub base_text : BaseFile → List ℕ
+base_text base = base_head_text base.run base.point (map.len base.pairs) ++ flat_map pair_text base.pairs.entries

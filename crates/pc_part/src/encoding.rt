@@ -1,6 +1,8 @@
 //! The text of a part file goes out.
-ghost use Rattle.std.specs.List.{flat_map};
+ghost use Rattle.std.specs.Prelude.{OnOk};
+ghost use Rattle.std.specs.List.{All, flat_map};
 ghost use Rattle.pc_types.specs.Tallies.{Puts};
+ghost use Rattle.pc_part.specs.Lawful.{HasLimits, IsPartFile};
 ghost use Rattle.pc_part.specs.Texts.{head_text, bounds_text, triple_text, end_text, part_text};
 
 use crate::part::Part;
@@ -22,10 +24,11 @@ const TOMBSTONE: u8 = 0;
 const VALUE: u8 = 1;
 
 impl Part {
-    /// Writes the one text of the part. It takes no memory, and refuses with `Device` exactly where the device failed;
-    /// then a beginning of the text went out.
+    /// Writes the one text of the part, from which `decode` reads the same part. It takes no memory, and refuses with
+    /// `Device` exactly where the device failed; then a beginning of the text went out.
     pub fn encode<W: Write>(&self, out: &mut Tally<W>) -> Result<(), Refusal>
-        ensures { Puts W.contents out.old out.new result (part_text self.now) }
+        ensures text { Puts W.contents out.old out.new result (part_text self.now) }
+        ensures lawful { OnOk result (IsPartFile self.now) }
     {
         let run = self.run();
         let ranges = self.ranges();
@@ -69,7 +72,8 @@ fn put_range<W: Write>(out: &mut Tally<W>, range: &Range) -> Result<(), Refusal>
 
 // One entry after the other.
 fn put_entries<W: Write>(out: &mut Tally<W>, entries: &[Triple]) -> Result<(), Refusal>
-    ensures { Puts W.contents out.old out.new result (flat_map triple_text entries.now) }
+    ensures text { Puts W.contents out.old out.new result (flat_map triple_text entries.now) }
+    ensures lawful { OnOk result (All HasLimits entries.now) }
 {
     for entry in entries {
         put_entry(out, entry)?;
@@ -78,7 +82,8 @@ fn put_entries<W: Write>(out: &mut Tally<W>, entries: &[Triple]) -> Result<(), R
 }
 
 fn put_entry<W: Write>(out: &mut Tally<W>, entry: &Triple) -> Result<(), Refusal>
-    ensures { Puts W.contents out.old out.new result (triple_text entry.now) }
+    ensures text { Puts W.contents out.old out.new result (triple_text entry.now) }
+    ensures lawful { HasLimits entry.now }
 {
     let key = entry.key.as_bytes();
     let mut key_len = [0u8; 2];

@@ -1,5 +1,6 @@
-//! Laws of the join. Each function does nothing, and its contract is a law.
+//! Laws of the join, and of reading. Each function does nothing, and its contract is a law.
 ghost use Rattle.pc_part.specs.Joins.{ConflictsAreMutual, JoinsAreIdempotent, JoinsAssociate, JoinsCommute, JoinsMakeNoConflict};
+ghost use Rattle.pc_part.specs.RoundTrips.{BaseTextsAreRead, PartTextsAreRead, ReadBasesAreTexts, ReadPartsAreTexts};
 
 /// Two files of one run without conflict are joined to one file, whichever comes first.
 pub fn joins_commute()
@@ -24,4 +25,24 @@ pub fn conflicts_are_mutual()
 /// The join of two files conflicts with no file with which neither of them does.
 pub fn joins_make_no_conflict()
     ensures { JoinsMakeNoConflict }
+{}
+
+/// The text of a part file is read as the file.
+pub fn part_texts_are_read()
+    ensures { PartTextsAreRead }
+{}
+
+/// Bytes that are read as a part file are the text of that file.
+pub fn read_parts_are_texts()
+    ensures { ReadPartsAreTexts }
+{}
+
+/// The text of a base file is read as the base.
+pub fn base_texts_are_read()
+    ensures { BaseTextsAreRead }
+{}
+
+/// Bytes that are read as a base file are the text of that base.
+pub fn read_bases_are_texts()
+    ensures { ReadBasesAreTexts }
 {}

@@ -3,19 +3,27 @@
 #![tactic(auto)]
 
 mod base;
+mod base_decoding;
+mod base_encoding;
+mod decoding;
 mod encoding;
 mod joining;
 mod laws;
 mod laying;
 mod part;
 mod ranges;
+#[cfg(test)]
+mod reading_tests;
+#[cfg(test)]
+mod slow_reader;
 mod uniting;
 
 pub use base::Base;
 pub use joining::join;
 pub use laws::{
-    conflicts_are_mutual, joins_are_idempotent, joins_associate, joins_commute,
-    joins_make_no_conflict,
+    base_texts_are_read, conflicts_are_mutual, joins_are_idempotent, joins_associate,
+    joins_commute, joins_make_no_conflict, part_texts_are_read, read_bases_are_texts,
+    read_parts_are_texts,
 };
 pub use laying::lay;
 pub use part::Part;

@@ -1,6 +1,7 @@
 use Rattle.std.proofs.Common.{◌≡◌, take}
-use Rattle.std.specs.List.{flat_map}
+use Rattle.std.specs.List.{AllWithin, flat_map}
 use Rattle.std.specs.Io.KnownBytes.{Appends}
+use Rattle.pc_part.specs.Lawful.{HasLimits}
 use Rattle.pc_part.specs.Texts.{triple_text}
 use Rattle.pc_part.proofs.encoding.put_entries.Given as goal
 
@@ -11,4 +12,5 @@ invariant-loop-entry g l =
     record {
       sent : Appends (contents l.fn.out.inner) (contents l.out.inner) (flat_map triple_text (take l.entry-index l.entries));
       counted : l.out.failures ≡ l.fn.out.failures;
+      lawful : AllWithin HasLimits l.entries 0 l.entry-index;
     }

@@ -1,0 +1,230 @@
+-- What is read of ranges, keys, entries and pairs is what was written, and what was written is read again.
+use Rattle.std.proofs.Common.{◌≡◌, ℕ, zero, suc, ◌+◌, ◌^◌, ◌<◌, ◌≤◌, ◌&&◌, nat_le, eqb, true, false, cond, List, [], ◌∷◌, ◌++◌, length, Ok, refl, sym, ap, subst, ◌∙◌, append_assoc, arith}
+use Rattle.std.specs.Prelude.{IfSome}
+use Rattle.std.specs.List.{flat_map}
+use Rattle.std.specs.Ordering.{is_lt}
+use Rattle.std.specs.Int.{w16, w32, to_be_bytes}
+use Rattle.std.proofs.lemmas.Bool.{eqb-true}
+use Rattle.std.proofs.lemmas.Bool.Decides.{nat_tests}
+use Rattle.std.proofs.lemmas.List.{length-append}
+use Rattle.std.proofs.lemmas.List.Concat.{flat_map-cons}
+use Rattle.pc_types.specs.declared.Refusal.TheVariants.{Short, KeyOrder, NotCovered}
+use Rattle.pc_types.specs.Limits.{IsKey, IsValue}
+use Rattle.pc_types.specs.Fields.{◌>>=◌, where_true, number_at, sized_key_at, value_at, content_at, key_text, value_text, content_text}
+use Rattle.pc_types.proofs.FieldLemmas.{IsBytes, bind_ok, where_ok, ok_is, Takes, Takes-then, wide16, wide32, number_takes, number_again, sized_key_takes, sized_key_again, value_takes, value_again, content_takes, content_again}
+use Rattle.pc_model.specs.Database.{key_cmp}
+use Rattle.pc_model.specs.Points.{AtPoint}
+use Rattle.pc_model.specs.declared.laying.Triple.{Triple}
+use Rattle.pc_part.specs.declared.ranges.Range.{Range}
+use Rattle.pc_part.specs.Lawful.{HasLimits, IsPair}
+use Rattle.pc_part.specs.Parts.{RangesFrom, covers}
+use Rattle.pc_part.specs.Reading.{range_at, ranges_at, next_key_at, point_at, entry_at, entries_at, pair_at, pairs_at}
+use Rattle.pc_part.specs.Texts.{bounds_text, triple_text, pair_text}
+use Rattle.pc_part.proofs.ReadLists.{range_steps, covered_fits}
+
+abbrev Pair : Type 0
+Pair = List ℕ × List ℕ
+
+-- ---- ranges
+
+range_takes : (least : ℕ) (bytes : List ℕ) (x : Range × List ℕ) → IsBytes bytes → range_at least bytes ≡ Ok x → Takes bytes (bounds_text x.0) x.1
+range_takes least bytes x fits e =
+    let s = range_steps least bytes x e in
+    let low = number_takes Short w32 (2 ^ 32) wide32 bytes x.0.low s.0 fits s.1 in
+    let high = number_takes Short w32 (2 ^ 32) wide32 s.0 x.0.high x.1 low.0.rest_fits s.2 in
+    Takes-then bytes (to_be_bytes w32 x.0.low) s.0 (to_be_bytes w32 x.0.high) x.1 low.0 high.0
+
+range_again : (least : ℕ) (r : Range) (rest : List ℕ) → least ≤ r.low → r.low ≤ r.high → r.high ≤ 65535 → range_at least (bounds_text r ++ rest) ≡ Ok (r, rest)
+unfolding range_at
+range_again least r rest from ends limit =
+    let parts : bounds_text r ++ rest ≡ to_be_bytes w32 r.low ++ (to_be_bytes w32 r.high ++ rest) = append_assoc (to_be_bytes w32 r.low) (to_be_bytes w32 r.high) rest in
+    let low : number_at Short w32 (bounds_text r ++ rest) ≡ Ok (r.low, to_be_bytes w32 r.high ++ rest) = ap (number_at Short w32) parts ∙ number_again Short w32 (2 ^ 32) wide32 r.low (to_be_bytes w32 r.high ++ rest) (omega arith) in
+    let lawful : (nat_le least r.low && nat_le r.low r.high && nat_le r.high 65535) ≡ true = grind (arith, nat_tests) in
+    rw (low, number_again Short w32 (2 ^ 32) wide32 r.high rest (omega arith), lawful) refl
+
+pub ranges_take : (count least : ℕ) (bytes : List ℕ) (x : List Range × List ℕ) → IsBytes bytes → ranges_at count least bytes ≡ Ok x → Takes bytes (flat_map bounds_text x.0) x.1
+unfolding ranges_at
+ranges_take zero least bytes x fits e = subst (λ (y : List Range × List ℕ). Takes bytes (flat_map bounds_text y.0) y.1) (ok_is ([], bytes) x e) (record { parts = refl; rest_fits = fits })
+ranges_take (suc count) least bytes x fits e =
+    let a = bind_ok (range_at least bytes) (λ first. ranges_at count (first.0.high + 2) first.1 >>= λ others. Ok (first.0 ∷ others.0, others.1)) x e in
+    let b = bind_ok (ranges_at count (a.0.0.high + 2) a.0.1) (λ others. Ok (a.0.0 ∷ others.0, others.1)) x a.2 in
+    let first = range_takes least bytes a.0 fits a.1 in
+    let others = ranges_take count (a.0.0.high + 2) a.0.1 b.0 first.rest_fits b.1 in
+    let made : List Range × List ℕ = (a.0.0 ∷ b.0.0, b.0.1) in
+    subst (λ (y : List Range × List ℕ). Takes bytes (flat_map bounds_text y.0) y.1) {x = made} (ok_is made x b.2)
+    (rw flat_map-cons (Takes-then bytes (bounds_text a.0.0) a.0.1 (flat_map bounds_text b.0.0) b.0.1 first others))
+
+pub ranges_again : (least : ℕ) (ranges : List Range) (rest : List ℕ) → RangesFrom least ranges → ranges_at (length ranges) least (flat_map bounds_text ranges ++ rest) ≡ Ok (ranges, rest)
+unfolding ranges_at
+ranges_again least [] rest h = refl
+ranges_again least (r ∷ ranges) rest h =
+    let parts : flat_map bounds_text (r ∷ ranges) ++ rest ≡ bounds_text r ++ (flat_map bounds_text ranges ++ rest) = ap (λ (t : List ℕ). t ++ rest) (flat_map-cons bounds_text r ranges) ∙ append_assoc (bounds_text r) (flat_map bounds_text ranges) rest in
+    ap (ranges_at (suc (length ranges)) least) parts ∙ rw (range_again least r (flat_map bounds_text ranges ++ rest) h.0 h.1 h.2, ranges_again (r.high + 2) ranges rest h.3) refl
+
+-- ---- keys, entries and pairs
+
+key_takes : (last : List ℕ) (count : ℕ) (bytes : List ℕ) (x : List ℕ × List ℕ) → IsBytes bytes → next_key_at last count bytes ≡ Ok x → Takes bytes x.0 x.1 × (length x.0 ≡ count) × IsKey x.0 × (is_lt (key_cmp last x.0) ≡ true)
+unfolding next_key_at
+key_takes last count bytes x fits e =
+    let a = bind_ok (sized_key_at Short count bytes) (λ key. where_true (is_lt (key_cmp last key.0)) KeyOrder key) x e in
+    let t = sized_key_takes Short count bytes a.0.0 a.0.1 fits a.1 in
+    let g = where_ok (is_lt (key_cmp last a.0.0)) KeyOrder a.0 x a.2 in
+    subst (λ (y : List ℕ × List ℕ). Takes bytes y.0 y.1 × (length y.0 ≡ count) × IsKey y.0 × (is_lt (key_cmp last y.0) ≡ true)) {x = a.0} g.1 (t.0, t.1, t.2, g.0)
+
+key_again : (last key rest : List ℕ) → IsKey key → is_lt (key_cmp last key) ≡ true → next_key_at last (length key) (key ++ rest) ≡ Ok (key, rest)
+unfolding next_key_at
+key_again last key rest is_key above = rw (sized_key_again Short key rest is_key, above) refl
+
+-- what stands in an entry after its key
+abbrev there_text : AtPoint → List ℕ
+there_text there = to_be_bytes w32 there.point ++ content_text there.content
+
+entry_takes : (ranges : List Range) (bytes : List ℕ) (x : AtPoint × List ℕ) → IsBytes bytes → entry_at ranges bytes ≡ Ok x → Takes bytes (there_text x.0) x.1 × (covers ranges x.0.point ≡ true) × IfSome x.0.content IsValue
+unfolding entry_at point_at
+entry_takes ranges bytes x fits e =
+    let a = bind_ok (point_at ranges bytes) (λ point. content_at Short point.1 >>= λ content. Ok (record { point = point.0; content = content.0 }, content.1)) x e in
+    let b = bind_ok (content_at Short a.0.1) (λ content. Ok (record { point = a.0.0; content = content.0 }, content.1)) x a.2 in
+    let n = bind_ok (number_at Short w32 bytes) (λ point. where_true (covers ranges point.0) NotCovered point) a.0 a.1 in
+    let g = where_ok (covers ranges n.0.0) NotCovered n.0 a.0 n.2 in
+    let first = number_takes Short w32 (2 ^ 32) wide32 bytes n.0.0 n.0.1 fits n.1 in
+    let point = subst (λ (y : ℕ × List ℕ). Takes bytes (to_be_bytes w32 y.0) y.1 × (covers ranges y.0 ≡ true)) {x = n.0} g.1 (first.0, g.0) in
+    let content = content_takes Short a.0.1 b.0.0 b.0.1 point.0.rest_fits b.1 in
+    let made : AtPoint × List ℕ = (record { point = a.0.0; content = b.0.0 }, b.0.1) in
+    subst (λ (y : AtPoint × List ℕ). Takes bytes (there_text y.0) y.1 × (covers ranges y.0.point ≡ true) × IfSome y.0.content IsValue) {x = made} (ok_is made x b.2)
+    (Takes-then bytes (to_be_bytes w32 a.0.0) a.0.1 (content_text b.0.0) b.0.1 point.0 content.0, point.1, content.1)
+
+entry_again : (ranges : List Range) (there : AtPoint) (rest : List ℕ) → there.point ≤ 65535 → covers ranges there.point ≡ true → IfSome there.content IsValue → entry_at ranges (there_text there ++ rest) ≡ Ok (there, rest)
+unfolding entry_at point_at
+entry_again ranges there rest limit covered is_value =
+    let parts : there_text there ++ rest ≡ to_be_bytes w32 there.point ++ (content_text there.content ++ rest) = append_assoc (to_be_bytes w32 there.point) (content_text there.content) rest in
+    let point : number_at Short w32 (there_text there ++ rest) ≡ Ok (there.point, content_text there.content ++ rest) = ap (number_at Short w32) parts ∙ number_again Short w32 (2 ^ 32) wide32 there.point (content_text there.content ++ rest) (omega arith) in
+    rw (point, covered, content_again Short there.content rest is_value) refl
+
+-- entries of the ranges' points, whose keys rise, the first above this one
+abbrev pub EntriesFrom : List Range → List ℕ → List Triple → Type 0
+EntriesFrom ranges last [] = Unit {0}
+EntriesFrom ranges last (t ∷ triples) = (is_lt (key_cmp last t.key) ≡ true) × HasLimits t × (covers ranges t.point ≡ true) × EntriesFrom ranges t.key triples
+
+-- the end mark
+abbrev pub end_mark : List ℕ
+end_mark = to_be_bytes w16 0
+
+-- a length, a key and what stands after it, before other texts
+grouped : (len key there others rest : List ℕ) → ((((len ++ key) ++ there) ++ others) ++ rest) ≡ len ++ (key ++ (there ++ (others ++ rest)))
+grouped len key there others rest = simp append_assoc
+
+-- an entry before others, as its pieces are taken
+entry_more : (bytes after_len after_key after_there rest key : List ℕ) (there : AtPoint) (others : List Triple) → Takes bytes (to_be_bytes w16 (length key)) after_len → Takes after_len key after_key → Takes after_key (there_text there) after_there
+    → Takes after_there (flat_map triple_text others ++ end_mark) rest → Takes bytes (flat_map triple_text (record { key = key; point = there.point; content = there.content } ∷ others) ++ end_mark) rest
+entry_more bytes after_len after_key after_there rest key there others t0 t1 t2 t3 =
+    let entry : Triple = record { key = key; point = there.point; content = there.content } in
+    let all = Takes-then bytes (to_be_bytes w16 (length key)) after_len (key ++ (there_text there ++ (flat_map triple_text others ++ end_mark))) rest t0
+    (Takes-then after_len key after_key (there_text there ++ (flat_map triple_text others ++ end_mark)) rest t1
+    (Takes-then after_key (there_text there) after_there (flat_map triple_text others ++ end_mark) rest t2 t3)) in
+    let text : to_be_bytes w16 (length key) ++ (key ++ (there_text there ++ (flat_map triple_text others ++ end_mark))) ≡ flat_map triple_text (entry ∷ others) ++ end_mark =
+    sym (grouped (to_be_bytes w16 (length key)) key (there_text there) (flat_map triple_text others) end_mark) ∙ ap (λ (s : List ℕ). s ++ end_mark) (sym (flat_map-cons triple_text entry others)) in
+    subst (λ (s : List ℕ). Takes bytes s rest) text all
+
+pub entries_take : (turns : ℕ) (ranges : List Range) (last bytes : List ℕ) (x : List Triple × List ℕ) → IsBytes bytes → entries_at turns ranges last bytes ≡ Ok x → Takes bytes (flat_map triple_text x.0 ++ end_mark) x.1 × EntriesFrom ranges last x.0
+unfolding entries_at
+entries_take zero ranges last bytes x fits e = absurd cc
+entries_take (suc turns) ranges last bytes x fits e =
+    let a = bind_ok (number_at Short w16 bytes) (λ count. cond (eqb count.0 0) (Ok ([], count.1))
+    (next_key_at last count.0 count.1 >>= λ key. entry_at ranges key.1 >>= λ there. entries_at turns ranges key.0 there.1 >>= λ others. Ok (record { key = key.0; point = there.0.point; content = there.0.content } ∷ others.0, others.1))) x e in
+    let len = number_takes Short w16 (2 ^ 16) wide16 bytes a.0.0 a.0.1 fits a.1 in
+    elim (eqb a.0.0 0) as (λ b. eqb a.0.0 0 ≡ b → cond b (Ok ([], a.0.1))
+    (next_key_at last a.0.0 a.0.1 >>= λ key. entry_at ranges key.1 >>= λ there. entries_at turns ranges key.0 there.1 >>= λ others. Ok (record { key = key.0; point = there.0.point; content = there.0.content } ∷ others.0, others.1)) ≡ Ok x
+    → Takes bytes (flat_map triple_text x.0 ++ end_mark) x.1 × EntriesFrom ranges last x.0) [
+      | true ↦ λ none is.
+          let made : List Triple × List ℕ = ([], a.0.1) in
+          subst (λ (y : List Triple × List ℕ). Takes bytes (flat_map triple_text y.0 ++ end_mark) y.1 × EntriesFrom ranges last y.0) {x = made} (ok_is made x is)
+          (subst (λ (n : ℕ). Takes bytes (to_be_bytes w16 n) a.0.1) (eqb-true _ _ none) len.0, tt)
+      | false ↦ λ some is.
+          let k = bind_ok (next_key_at last a.0.0 a.0.1) (λ key. entry_at ranges key.1 >>= λ there. entries_at turns ranges key.0 there.1 >>= λ others. Ok (record { key = key.0; point = there.0.point; content = there.0.content } ∷ others.0, others.1)) x is in
+          let t = bind_ok (entry_at ranges k.0.1) (λ there. entries_at turns ranges k.0.0 there.1 >>= λ others. Ok (record { key = k.0.0; point = there.0.point; content = there.0.content } ∷ others.0, others.1)) x k.2 in
+          let o = bind_ok (entries_at turns ranges k.0.0 t.0.1) (λ others. Ok (record { key = k.0.0; point = t.0.0.point; content = t.0.0.content } ∷ others.0, others.1)) x t.2 in
+          let key = key_takes last a.0.0 a.0.1 k.0 len.0.rest_fits k.1 in
+          let there = entry_takes ranges k.0.1 t.0 key.0.rest_fits t.1 in
+          let others = entries_take turns ranges k.0.0 t.0.1 o.0 there.0.rest_fits o.1 in
+          let entry : Triple = record { key = k.0.0; point = t.0.0.point; content = t.0.0.content } in
+          let made : List Triple × List ℕ = (entry ∷ o.0.0, o.0.1) in
+          let length_text : Takes bytes (to_be_bytes w16 (length k.0.0)) a.0.1 = subst (λ (n : ℕ). Takes bytes (to_be_bytes w16 n) a.0.1) (sym key.1) len.0 in
+          let all = entry_more bytes a.0.1 k.0.1 t.0.1 o.0.1 k.0.0 t.0.0 o.0.0 length_text key.0 there.0 others.0 in
+          subst (λ (y : List Triple × List ℕ). Takes bytes (flat_map triple_text y.0 ++ end_mark) y.1 × EntriesFrom ranges last y.0) {x = made} (ok_is made x o.2)
+          (all, (key.3, (key.2, there.2), there.1, others.1))
+    ] refl a.2
+
+-- an entry takes at least a byte
+pub few_entries : (triples : List Triple) → length triples ≤ length (flat_map triple_text triples)
+few_entries [] = omega arith
+few_entries (t ∷ triples) =
+    let long : length (flat_map triple_text (t ∷ triples)) ≡ length (triple_text t) + length (flat_map triple_text triples) = ap length (flat_map-cons triple_text t triples) ∙ length-append (triple_text t) (flat_map triple_text triples) in
+    let some : 1 ≤ length (triple_text t) = omega arith in
+    omega (arith, long, some, few_entries triples)
+
+pub entries_again : (turns least : ℕ) (ranges : List Range) → RangesFrom least ranges → (last : List ℕ) (triples : List Triple) (rest : List ℕ) → EntriesFrom ranges last triples → length triples < turns
+    → entries_at turns ranges last ((flat_map triple_text triples ++ end_mark) ++ rest) ≡ Ok (triples, rest)
+unfolding entries_at
+entries_again zero least ranges apart last triples rest h more = absurd (omega (arith, more))
+entries_again (suc turns) least ranges apart last [] rest h more = rw (number_again Short w16 (2 ^ 16) wide16 0 rest (omega arith)) refl
+entries_again (suc turns) least ranges apart last (t ∷ triples) rest h more =
+    let there : AtPoint = record { point = t.point; content = t.content } in
+    let after : List ℕ = (flat_map triple_text triples ++ end_mark) ++ rest in
+    let limit = covered_fits least ranges t.point apart h.2 in
+    let text : (flat_map triple_text (t ∷ triples) ++ end_mark) ++ rest ≡ to_be_bytes w16 (length t.key) ++ (t.key ++ (there_text there ++ after)) =
+    ap (λ (s : List ℕ). (s ++ end_mark) ++ rest) (flat_map-cons triple_text t triples) ∙ regrouped (to_be_bytes w16 (length t.key)) t.key (there_text there) (flat_map triple_text triples) end_mark rest in
+    let len = number_again Short w16 (2 ^ 16) wide16 (length t.key) (t.key ++ (there_text there ++ after)) (omega (arith, h.1.0.1)) in
+    let some : eqb (length t.key) 0 ≡ false = grind (arith, h.1.0.0, nat_tests) in
+    ap (entries_at (suc turns) ranges last) text
+    ∙ rw (len, some, key_again last t.key (there_text there ++ after) h.1.0 h.0, entry_again ranges there after limit h.2 h.1.1, entries_again turns least ranges apart t.key triples rest h.3 (omega arith)) refl
+  where
+    regrouped : (len key there others mark rest : List ℕ) → (((((len ++ key) ++ there) ++ others) ++ mark) ++ rest) ≡ len ++ (key ++ (there ++ ((others ++ mark) ++ rest)))
+    regrouped len key there others mark rest = simp append_assoc
+
+-- pairs within their limits, whose keys rise, the first above this one
+abbrev pub PairsFrom : List ℕ → List Pair → Type 0
+PairsFrom last [] = Unit {0}
+PairsFrom last (p ∷ pairs) = (is_lt (key_cmp last p.0) ≡ true) × IsPair p × PairsFrom p.0 pairs
+
+pair_takes : (last bytes : List ℕ) (x : Pair × List ℕ) → IsBytes bytes → pair_at last bytes ≡ Ok x → Takes bytes (pair_text x.0) x.1 × (is_lt (key_cmp last x.0.0) ≡ true) × IsPair x.0
+unfolding pair_at
+pair_takes last bytes x fits e =
+    let a = bind_ok (number_at Short w16 bytes) (λ count. next_key_at last count.0 count.1 >>= λ key. value_at Short key.1 >>= λ value. Ok ((key.0, value.0), value.1)) x e in
+    let k = bind_ok (next_key_at last a.0.0 a.0.1) (λ key. value_at Short key.1 >>= λ value. Ok ((key.0, value.0), value.1)) x a.2 in
+    let v = bind_ok (value_at Short k.0.1) (λ value. Ok ((k.0.0, value.0), value.1)) x k.2 in
+    let len = number_takes Short w16 (2 ^ 16) wide16 bytes a.0.0 a.0.1 fits a.1 in
+    let key = key_takes last a.0.0 a.0.1 k.0 len.0.rest_fits k.1 in
+    let value = value_takes Short k.0.1 v.0.0 v.0.1 key.0.rest_fits v.1 in
+    let length_text : Takes bytes (to_be_bytes w16 (length k.0.0)) a.0.1 = subst (λ (n : ℕ). Takes bytes (to_be_bytes w16 n) a.0.1) (sym key.1) len.0 in
+    let all = Takes-then bytes (key_text k.0.0) k.0.1 (value_text v.0.0) v.0.1 (Takes-then bytes (to_be_bytes w16 (length k.0.0)) a.0.1 k.0.0 k.0.1 length_text key.0) value.0 in
+    let made : Pair × List ℕ = ((k.0.0, v.0.0), v.0.1) in
+    subst (λ (y : Pair × List ℕ). Takes bytes (pair_text y.0) y.1 × (is_lt (key_cmp last y.0.0) ≡ true) × IsPair y.0) {x = made} (ok_is made x v.2) (all, key.3, (key.2, value.1))
+
+pair_again : (last : List ℕ) (pair : Pair) (rest : List ℕ) → is_lt (key_cmp last pair.0) ≡ true → IsPair pair → pair_at last (pair_text pair ++ rest) ≡ Ok (pair, rest)
+unfolding pair_at
+pair_again last pair rest above lawful =
+    let text : pair_text pair ++ rest ≡ to_be_bytes w16 (length pair.0) ++ (pair.0 ++ (value_text pair.1 ++ rest)) = regrouped (to_be_bytes w16 (length pair.0)) pair.0 (value_text pair.1) rest in
+    let len = ap (number_at Short w16) text ∙ number_again Short w16 (2 ^ 16) wide16 (length pair.0) (pair.0 ++ (value_text pair.1 ++ rest)) (omega (arith, lawful.0.1)) in
+    rw (len, key_again last pair.0 (value_text pair.1 ++ rest) lawful.0 above, value_again Short pair.1 rest lawful.1) refl
+  where
+    regrouped : (len key value rest : List ℕ) → (((len ++ key) ++ value) ++ rest) ≡ len ++ (key ++ (value ++ rest))
+    regrouped len key value rest = simp append_assoc
+
+pub pairs_take : (count : ℕ) (last bytes : List ℕ) (x : List Pair × List ℕ) → IsBytes bytes → pairs_at count last bytes ≡ Ok x → Takes bytes (flat_map pair_text x.0) x.1 × (length x.0 ≡ count) × PairsFrom last x.0
+unfolding pairs_at
+pairs_take zero last bytes x fits e = subst (λ (y : List Pair × List ℕ). Takes bytes (flat_map pair_text y.0) y.1 × (length y.0 ≡ 0) × PairsFrom last y.0) (ok_is ([], bytes) x e) (record { parts = refl; rest_fits = fits }, refl, tt)
+pairs_take (suc count) last bytes x fits e =
+    let a = bind_ok (pair_at last bytes) (λ first. pairs_at count first.0.0 first.1 >>= λ others. Ok (first.0 ∷ others.0, others.1)) x e in
+    let b = bind_ok (pairs_at count a.0.0.0 a.0.1) (λ others. Ok (a.0.0 ∷ others.0, others.1)) x a.2 in
+    let first = pair_takes last bytes a.0 fits a.1 in
+    let others = pairs_take count a.0.0.0 a.0.1 b.0 first.0.rest_fits b.1 in
+    let made : List Pair × List ℕ = (a.0.0 ∷ b.0.0, b.0.1) in
+    subst (λ (y : List Pair × List ℕ). Takes bytes (flat_map pair_text y.0) y.1 × (length y.0 ≡ suc count) × PairsFrom last y.0) {x = made} (ok_is made x b.2)
+    (rw flat_map-cons (Takes-then bytes (pair_text a.0.0) a.0.1 (flat_map pair_text b.0.0) b.0.1 first.0 others.0), ap suc others.1, (first.1, first.2, others.2))
+
+pub pairs_again : (last : List ℕ) (pairs : List Pair) (rest : List ℕ) → PairsFrom last pairs → pairs_at (length pairs) last (flat_map pair_text pairs ++ rest) ≡ Ok (pairs, rest)
+unfolding pairs_at
+pairs_again last [] rest h = refl
+pairs_again last (p ∷ pairs) rest h =
+    let parts : flat_map pair_text (p ∷ pairs) ++ rest ≡ pair_text p ++ (flat_map pair_text pairs ++ rest) = ap (λ (t : List ℕ). t ++ rest) (flat_map-cons pair_text p pairs) ∙ append_assoc (pair_text p) (flat_map pair_text pairs) rest in
+    ap (pairs_at (suc (length pairs)) last) parts ∙ rw (pair_again last p (flat_map pair_text pairs ++ rest) h.0 h.1, pairs_again p.0 pairs rest h.2) refl

@@ -1,0 +1,138 @@
+-- What is read of a part file is what was written, and what was written is read again.
+use Rattle.std.proofs.Common.{◌≡◌, ℕ, ◌^◌, ◌<◌, nat_lt, eqb, true, List, [], ◌++◌, length, Result, Ok, refl, sym, ap, subst, ◌∙◌, append_assoc, arith}
+use Rattle.std.specs.List.{flat_map}
+use Rattle.std.specs.Int.{w32, w64, to_be_bytes}
+use Rattle.std.proofs.lemmas.Bool.{eqb-true}
+use Rattle.std.proofs.lemmas.Bool.Decides.{nat_tests}
+use Rattle.std.proofs.lemmas.List.{append-nil, nil_from_length, length-append}
+use Rattle.pc_types.specs.declared.Refusal.{Refusal}
+use Rattle.pc_types.specs.declared.Refusal.TheVariants.{Short, BadRanges, BadLength, Trailing}
+use Rattle.pc_types.specs.Fields.{◌>>=◌, where_true, number_at, magic_at}
+use Rattle.pc_types.proofs.FieldLemmas.{IsBytes, bind_ok, where_ok, Takes, Takes-then, wide32, wide64, number_takes, number_again, magic_takes, magic_again}
+use Rattle.pc_model.specs.declared.laying.Triple.{Triple}
+use Rattle.pc_part.specs.declared.ranges.Range.{Range}
+use Rattle.pc_part.specs.Bases.{IsWithinLimit}
+use Rattle.pc_part.specs.Parts.{AreRanges}
+use Rattle.pc_part.specs.Reading.{ranges_at, entries_at, PartFields, part_fields_at}
+use Rattle.pc_part.specs.Texts.{part_magic, head_text, bounds_text, triple_text, end_text}
+use Rattle.pc_part.proofs.PartTexts.{few_ranges}
+use Rattle.pc_part.proofs.ReadLists.{ranges_rise}
+use Rattle.pc_part.proofs.ReadFields.{EntriesFrom, end_mark, ranges_take, ranges_again, entries_take, entries_again, few_entries}
+
+-- the text of a part's fields
+abbrev pub fields_text : PartFields → List ℕ
+fields_text x = head_text x.run (length x.ranges) ++ (flat_map bounds_text x.ranges ++ (flat_map triple_text x.entries ++ end_text (length x.entries)))
+
+-- the fields of a part
+pub record IsPartFields (x : PartFields) : Type 0 where
+  pub run : x.run < 2 ^ 64
+  pub apart : AreRanges x.ranges
+  pub entries : EntriesFrom x.ranges [] x.entries
+  pub limit : IsWithinLimit x.entries
+
+-- ---- the steps of reading, from the last
+
+abbrev after_rest : ℕ → List Range → List Triple → List ℕ → Result PartFields Refusal
+after_rest run ranges entries rest = where_true (eqb (length rest) 0) Trailing (record { run = run; ranges = ranges; entries = entries })
+
+abbrev after_total : ℕ → List Range → List Triple → ℕ × List ℕ → Result PartFields Refusal
+after_total run ranges entries total = where_true (eqb total.0 (length entries)) BadLength total.1 >>= after_rest run ranges entries
+
+abbrev after_entries : ℕ → List Range → List Triple × List ℕ → Result PartFields Refusal
+after_entries run ranges entries = number_at Short w32 entries.1 >>= after_total run ranges entries.0
+
+abbrev after_ranges : ℕ → List Range × List ℕ → Result PartFields Refusal
+after_ranges run ranges = entries_at (length ranges.1) ranges.0 [] ranges.1 >>= after_entries run ranges.0
+
+abbrev after_some : ℕ → List ℕ → ℕ → Result PartFields Refusal
+after_some run rest some = ranges_at some 1 rest >>= after_ranges run
+
+abbrev after_count : ℕ → ℕ × List ℕ → Result PartFields Refusal
+after_count run count = where_true (nat_lt 0 count.0) BadRanges count.0 >>= after_some run count.1
+
+abbrev after_run : ℕ × List ℕ → Result PartFields Refusal
+after_run run = number_at Short w32 run.1 >>= after_count run.0
+
+abbrev after_magic : List ℕ → Result PartFields Refusal
+after_magic start = number_at Short w64 start >>= after_run
+
+-- ---- what is read was written
+
+-- the pieces of the text, as they are taken
+whole : (x : PartFields) (bytes r0 r1 r2 r3 r4 : List ℕ) → Takes bytes part_magic r0 → Takes r0 (to_be_bytes w64 x.run) r1 → Takes r1 (to_be_bytes w32 (length x.ranges)) r2 → Takes r2 (flat_map bounds_text x.ranges) r3
+    → Takes r3 (flat_map triple_text x.entries ++ end_mark) r4 → Takes r4 (to_be_bytes w32 (length x.entries)) [] → bytes ≡ fields_text x
+whole x bytes r0 r1 r2 r3 r4 t0 t1 t2 t3 t4 t5 =
+    let run = to_be_bytes w64 x.run in
+    let count = to_be_bytes w32 (length x.ranges) in
+    let ranges = flat_map bounds_text x.ranges in
+    let entries = flat_map triple_text x.entries ++ end_mark in
+    let total = to_be_bytes w32 (length x.entries) in
+    let all = Takes-then bytes part_magic r0 (run ++ (count ++ (ranges ++ (entries ++ total)))) [] t0
+    (Takes-then r0 run r1 (count ++ (ranges ++ (entries ++ total))) [] t1
+    (Takes-then r1 count r2 (ranges ++ (entries ++ total)) [] t2
+    (Takes-then r2 ranges r3 (entries ++ total) [] t3
+    (Takes-then r3 entries r4 total [] t4 t5)))) in
+    all.parts ∙ append-nil (part_magic ++ (run ++ (count ++ (ranges ++ (entries ++ total))))) ∙ grouped part_magic run count ranges (flat_map triple_text x.entries) end_mark total
+  where
+    grouped : (m r c rs es k t : List ℕ) → (m ++ (r ++ (c ++ (rs ++ ((es ++ k) ++ t))))) ≡ (m ++ (r ++ c)) ++ (rs ++ (es ++ (k ++ t)))
+    grouped m r c rs es k t = simp append_assoc
+
+pub fields_take : (bytes : List ℕ) (x : PartFields) → IsBytes bytes → part_fields_at bytes ≡ Ok x → IsPartFields x × (bytes ≡ fields_text x)
+unfolding part_fields_at
+fields_take bytes x fits e =
+    let a = bind_ok (magic_at part_magic bytes) after_magic x e in
+    let b = bind_ok (number_at Short w64 a.0) after_run x a.2 in
+    let c = bind_ok (number_at Short w32 b.0.1) (after_count b.0.0) x b.2 in
+    let d = bind_ok (where_true (nat_lt 0 c.0.0) BadRanges c.0.0) (after_some b.0.0 c.0.1) x c.2 in
+    let r = bind_ok (ranges_at d.0 1 c.0.1) (after_ranges b.0.0) x d.2 in
+    let s = bind_ok (entries_at (length r.0.1) r.0.0 [] r.0.1) (after_entries b.0.0 r.0.0) x r.2 in
+    let n = bind_ok (number_at Short w32 s.0.1) (after_total b.0.0 r.0.0 s.0.0) x s.2 in
+    let k = bind_ok (where_true (eqb n.0.0 (length s.0.0)) BadLength n.0.1) (after_rest b.0.0 r.0.0 s.0.0) x n.2 in
+    let made : PartFields = record { run = b.0.0; ranges = r.0.0; entries = s.0.0 } in
+    let some = where_ok (nat_lt 0 c.0.0) BadRanges c.0.0 d.0 d.1 in
+    let counted = where_ok (eqb n.0.0 (length s.0.0)) BadLength n.0.1 k.0 k.1 in
+    let ended = where_ok (eqb (length k.0) 0) Trailing made x k.2 in
+    let magic = magic_takes part_magic bytes a.0 fits a.1 in
+    let run = number_takes Short w64 (2 ^ 64) wide64 a.0 b.0.0 b.0.1 magic.rest_fits b.1 in
+    let count = number_takes Short w32 (2 ^ 32) wide32 b.0.1 c.0.0 c.0.1 run.0.rest_fits c.1 in
+    let ranges = ranges_take d.0 1 c.0.1 r.0 count.0.rest_fits r.1 in
+    let apart = ranges_rise d.0 1 c.0.1 r.0 r.1 in
+    let entries = entries_take (length r.0.1) r.0.0 [] r.0.1 s.0 ranges.rest_fits s.1 in
+    let total = number_takes Short w32 (2 ^ 32) wide32 s.0.1 n.0.0 n.0.1 entries.0.rest_fits n.1 in
+    let many : c.0.0 ≡ length r.0.0 = some.1 ∙ sym apart.1 in
+    let total_is : n.0.0 ≡ length s.0.0 = eqb-true n.0.0 (length s.0.0) counted.0 in
+    let nothing : n.0.1 ≡ [] = counted.1 ∙ nil_from_length k.0 (eqb-true (length k.0) 0 ended.0) in
+    let positive : 0 < c.0.0 = grind (arith, some.0, nat_tests) in
+    subst (λ (y : PartFields). IsPartFields y × (bytes ≡ fields_text y)) {x = made} ended.1 (
+      record { run = run.1; apart = (omega (arith, many, positive), apart.0); entries = entries.1; limit = omega (arith, total_is, total.1) },
+      whole made bytes a.0 b.0.1 c.0.1 r.0.1 s.0.1 magic run.0 (subst (λ (m : ℕ). Takes b.0.1 (to_be_bytes w32 m) c.0.1) many count.0) ranges entries.0
+          (subst (λ (m : ℕ). Takes s.0.1 (to_be_bytes w32 m) []) total_is (subst (λ (l : List ℕ). Takes s.0.1 (to_be_bytes w32 n.0.0) l) nothing total.0)),
+    )
+
+-- ---- what was written is read
+
+pub fields_again : (x : PartFields) → IsPartFields x → part_fields_at (fields_text x) ≡ Ok x
+unfolding part_fields_at
+fields_again x lawful =
+    let total = to_be_bytes w32 (length x.entries) in
+    let marked = flat_map triple_text x.entries ++ end_mark in
+    let from_ranges = flat_map bounds_text x.ranges ++ (marked ++ total) in
+    let from_count = to_be_bytes w32 (length x.ranges) ++ from_ranges in
+    let from_run = to_be_bytes w64 x.run ++ from_count in
+    let few = few_ranges 1 x.ranges lawful.apart.1 in
+    let some : nat_lt 0 (length x.ranges) ≡ true = grind (arith, lawful.apart.0, nat_tests) in
+    let same : eqb (length x.entries) (length x.entries) ≡ true = grind (arith, nat_tests) in
+    let last : number_at Short w32 total ≡ Ok (length x.entries, []) = number_again Short w32 (2 ^ 32) wide32 (length x.entries) [] (omega (arith, lawful.limit)) in
+    let turns : length x.entries < length (marked ++ total) = omega (arith, few_entries x.entries, length-append (flat_map triple_text x.entries) end_mark, length-append marked total) in
+    ap part_fields_at (sym (grouped part_magic (to_be_bytes w64 x.run) (to_be_bytes w32 (length x.ranges)) (flat_map bounds_text x.ranges) (flat_map triple_text x.entries) end_mark total))
+    ∙ rw (
+      magic_again part_magic from_run refl,
+      number_again Short w64 (2 ^ 64) wide64 x.run from_count lawful.run,
+      number_again Short w32 (2 ^ 32) wide32 (length x.ranges) from_ranges (omega (arith, few)),
+      some,
+      ranges_again 1 x.ranges (marked ++ total) lawful.apart.1,
+      entries_again (length (marked ++ total)) 1 x.ranges lawful.apart.1 [] x.entries total lawful.entries turns,
+    ) (ap (λ (r : Result (ℕ × List ℕ) Refusal). r >>= after_total x.run x.ranges x.entries) last ∙ rw same refl)
+  where
+    grouped : (m r c rs es k t : List ℕ) → (m ++ (r ++ (c ++ (rs ++ ((es ++ k) ++ t))))) ≡ (m ++ (r ++ c)) ++ (rs ++ (es ++ (k ++ t)))
+    grouped m r c rs es k t = simp append_assoc

@@ -1,0 +1,5 @@
+use Rattle.pc_part.proofs.PartFiles.{part_again}
+use Rattle.pc_part.proofs.laws.part_texts_are_read.Goals as goal
+
+pub returns : goal.returns
+returns c = part_again

@@ -1,0 +1,43 @@
+-- Which files have a text: numbers, keys and values are within their limits, and entries are of the file's points.
+use Rattle.std.specs.Prelude.{ℕ, ◌≤◌, ◌<◌, ◌^◌, List, IfSome, IsTrue}
+use Rattle.std.specs.List.{All}
+use Rattle.pc_types.specs.Limits.{IsKey, IsValue}
+use Rattle.pc_model.specs.Sets as set
+use Rattle.pc_model.specs.Sets.{Set, number_order}
+use Rattle.pc_model.specs.Points.{AtPoint}
+use Rattle.pc_model.specs.Files.{File, BaseFile}
+use Rattle.pc_model.specs.declared.laying.Triple.{Triple}
+use Rattle.pc_part.specs.Bases.{IsWithinLimit}
+
+-- a point of a part is 1 to 65,535
+abbrev pub IsPoint : ℕ → Type 0
+IsPoint point = (1 ≤ point) × (point ≤ 65535)
+
+-- an entry of one of these points
+pub record IsEntry (points : Set number_order) (entry : List ℕ × AtPoint) : Type 0 where
+  pub key : IsKey entry.0
+  pub covered : IsTrue (set.contains points entry.1.point)
+  pub content : IfSome entry.1.content IsValue
+
+-- the key and the value of a triple are within their limits
+abbrev pub HasLimits : Triple → Type 0
+HasLimits triple = IsKey triple.key × IfSome triple.content IsValue
+
+-- a part file: its run fits, it stands for at least one point, and it has at most 4,294,967,295 entries
+pub record IsPartFile (file : File) : Type 0 where
+  pub run : file.run < 2 ^ 64
+  pub some : 1 ≤ set.len file.points
+  pub points : All IsPoint (set.items file.points)
+  pub entries : All (IsEntry file.points) file.triples.entries
+  pub limit : IsWithinLimit file.triples.entries
+
+-- a key and its value
+abbrev pub IsPair : List ℕ × List ℕ → Type 0
+IsPair pair = IsKey pair.0 × IsValue pair.1
+
+-- a base file: its run and its point fit, and it has at most 4,294,967,295 pairs
+pub record IsBaseFile (base : BaseFile) : Type 0 where
+  pub run : base.run < 2 ^ 64
+  pub point : base.point ≤ 65535
+  pub pairs : All IsPair base.pairs.entries
+  pub limit : IsWithinLimit base.pairs.entries

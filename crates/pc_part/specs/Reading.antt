@@ -1,0 +1,129 @@
+-- How part files and base files are read: field by field, from left to right, with the first fault that is met.
+use Rattle.std.specs.Prelude.{ℕ, zero, suc, ◌+◌, ◌==◌, ◌&&◌, nat_lt, nat_le, if◌then◌else◌, List, [], ◌∷◌, length, Result, Ok, Err}
+use Rattle.std.specs.Int.{w16, w32, w64}
+use Rattle.std.specs.Ordering.{is_lt}
+use Rattle.pc_types.specs.declared.Refusal.{Refusal}
+use Rattle.pc_types.specs.declared.Refusal.TheVariants.{Short, BadRanges, KeyOrder, BadLength, Trailing, NotCovered}
+use Rattle.pc_types.specs.Fields.{◌>>=◌, where_true, number_at, magic_at, sized_key_at, value_at, content_at}
+use Rattle.pc_model.specs.Database.{key_cmp, database_of}
+use Rattle.pc_model.specs.Points.{AtPoint}
+use Rattle.pc_model.specs.Files.{File, BaseFile}
+use Rattle.pc_model.specs.declared.laying.Triple.{Triple}
+use Rattle.pc_part.specs.declared.ranges.Range.{Range}
+use Rattle.pc_part.specs.Parts.{covers, points_of, triples_of}
+use Rattle.pc_part.specs.Texts.{part_magic, base_magic}
+
+-- a range that begins at this point or above
+unfoldable pub range_at : ℕ → List ℕ → Result (Range × List ℕ) Refusal
+range_at least bytes = do
+  low ← number_at Short w32 bytes
+  high ← number_at Short w32 low.1
+  where_true (nat_le least low.0 && nat_le low.0 high.0 && nat_le high.0 65535) BadRanges (record { low = low.0; high = high.0 }, high.1)
+
+-- so many ranges, each with at least one point left out before the next, and the first from this point on
+unfoldable pub ranges_at : ℕ → ℕ → List ℕ → Result (List Range × List ℕ) Refusal
+ranges_at zero least bytes = Ok ([], bytes)
+ranges_at (suc count) least bytes = do
+  first ← range_at least bytes
+  others ← ranges_at count (first.0.high + 2) first.1
+  Ok (first.0 ∷ others.0, others.1)
+
+-- a key of so many bytes that comes after the last one
+unfoldable pub next_key_at : List ℕ → ℕ → List ℕ → Result (List ℕ × List ℕ) Refusal
+next_key_at last count bytes = do
+  key ← sized_key_at Short count bytes
+  where_true (is_lt (key_cmp last key.0)) KeyOrder key
+
+-- a point of one of the ranges
+unfoldable pub point_at : List Range → List ℕ → Result (ℕ × List ℕ) Refusal
+point_at ranges bytes = do
+  point ← number_at Short w32 bytes
+  where_true (covers ranges point.0) NotCovered point
+
+-- what a key has in an entry: a point, and what the key had there
+unfoldable pub entry_at : List Range → List ℕ → Result (AtPoint × List ℕ) Refusal
+entry_at ranges bytes = do
+  point ← point_at ranges bytes
+  content ← content_at Short point.1
+  Ok (record { point = point.0; content = content.0 }, content.1)
+
+-- The entries up to the end mark, which is a length of 0 where a key's would stand. Keys rise, the first above this one.
+-- Each entry takes more than one of the bytes, so that no more turns are needed than there are bytes.
+unfoldable pub entries_at : ℕ → List Range → List ℕ → List ℕ → Result (List Triple × List ℕ) Refusal
+entries_at zero ranges last bytes = Err Short
+entries_at (suc turns) ranges last bytes =
+    number_at Short w16 bytes >>= λ count. if count.0 == 0 then Ok ([], count.1) else
+    (next_key_at last count.0 count.1 >>= λ key. entry_at ranges key.1 >>= λ there. entries_at turns ranges key.0 there.1 >>= λ others.
+    Ok (record { key = key.0; point = there.0.point; content = there.0.content } ∷ others.0, others.1))
+
+-- a part file's run, ranges and entries
+pub record PartFields : Type 0 where
+  pub run : ℕ
+  pub ranges : List Range
+  pub entries : List Triple
+
+-- the fields of a part file whose text is all of the bytes
+unfoldable pub part_fields_at : List ℕ → Result PartFields Refusal
+part_fields_at bytes = do
+  start ← magic_at part_magic bytes
+  run ← number_at Short w64 start
+  count ← number_at Short w32 run.1
+  some ← where_true (nat_lt 0 count.0) BadRanges count.0
+  ranges ← ranges_at some 1 count.1
+  entries ← entries_at (length ranges.1) ranges.0 [] ranges.1
+  total ← number_at Short w32 entries.1
+  rest ← where_true (total.0 == length entries.0) BadLength total.1
+  where_true (length rest == 0) Trailing (record { run = run.0; ranges = ranges.0; entries = entries.0 })
+
+-- the file of a part's fields
+abbrev pub part_of_fields : PartFields → File
+part_of_fields part = record { run = part.run; points = points_of part.ranges; triples = triples_of part.entries }
+
+-- the file whose text is all of the bytes
+abbrev pub part_at : List ℕ → Result File Refusal
+part_at bytes = do
+  part ← part_fields_at bytes
+  Ok (part_of_fields part)
+
+-- a pair whose key comes after the last one
+unfoldable pub pair_at : List ℕ → List ℕ → Result ((List ℕ × List ℕ) × List ℕ) Refusal
+pair_at last bytes = do
+  count ← number_at Short w16 bytes
+  key ← next_key_at last count.0 count.1
+  value ← value_at Short key.1
+  Ok ((key.0, value.0), value.1)
+
+-- so many pairs, whose keys rise, the first above this one
+unfoldable pub pairs_at : ℕ → List ℕ → List ℕ → Result (List (List ℕ × List ℕ) × List ℕ) Refusal
+pairs_at zero last bytes = Ok ([], bytes)
+pairs_at (suc count) last bytes = do
+  first ← pair_at last bytes
+  others ← pairs_at count first.0.0 first.1
+  Ok (first.0 ∷ others.0, others.1)
+
+-- a base file's run, point and pairs
+pub record BaseFields : Type 0 where
+  pub run : ℕ
+  pub point : ℕ
+  pub pairs : List (List ℕ × List ℕ)
+
+-- the fields of a base file whose text is all of the bytes
+unfoldable pub base_fields_at : List ℕ → Result BaseFields Refusal
+base_fields_at bytes = do
+  start ← magic_at base_magic bytes
+  run ← number_at Short w64 start
+  point ← number_at Short w32 run.1
+  lawful ← where_true (nat_le point.0 65535) BadRanges point.0
+  count ← number_at Short w32 point.1
+  pairs ← pairs_at count.0 [] count.1
+  where_true (length pairs.1 == 0) Trailing (record { run = run.0; point = lawful; pairs = pairs.0 })
+
+-- the base of a base file's fields
+abbrev pub base_of_fields : BaseFields → BaseFile
+base_of_fields base = record { run = base.run; point = base.point; pairs = database_of base.pairs }
+
+-- the base whose text is all of the bytes
+abbrev pub base_at : List ℕ → Result BaseFile Refusal
+base_at bytes = do
+  base ← base_fields_at bytes
+  Ok (base_of_fields base)

@@ -1,0 +1,226 @@
+//! A part file is read from its text.
+ghost use Rattle.std.specs.Prelude.{◌≡◌, ◌<◌, ◌≤◌, [], length, IfOk, Ok};
+ghost use Rattle.std.specs.List.Sorted.{IsPartitionPoint};
+ghost use Rattle.std.specs.Ordering.{is_lt};
+ghost use Rattle.pc_types.specs.Fields.{Reads, Gives};
+ghost use Rattle.pc_types.specs.Limits.{IsKey};
+ghost use Rattle.pc_model.specs.Database.{key_cmp};
+ghost use Rattle.pc_model.specs.Files.{File};
+ghost use Rattle.pc_part.specs.Lawful.{IsPartFile};
+ghost use Rattle.pc_part.specs.Parts.{RangesFrom, covers};
+ghost use Rattle.pc_part.specs.Reading.{range_at, ranges_at, next_key_at, point_at, entry_at, entries_at, part_fields_at, part_at};
+ghost use Rattle.pc_part.specs.Texts.{part_text};
+
+use crate::part::Part;
+use crate::ranges::Range;
+use pc_model::Triple;
+use pc_types::{
+    Key, Point, Refusal, Value, read_content, read_magic, read_sized_key, read_u16, read_u32,
+    read_u64,
+};
+use std::alloc::Global;
+
+const MAGIC: [u8; 8] = *b"PCALCP01";
+
+impl Part {
+    /// The part whose text is all of the bytes. It takes memory for the ranges, the entries and long keys and values
+    /// alone. Refuses with `OutOfMemory` only where memory ran out, else with the first fault from the left:
+    ///
+    /// - `Short` where the bytes end inside a field;
+    /// - `BadMagic` where the first 8 bytes are others;
+    /// - `BadRanges` where there are no ranges, or one breaks their rule;
+    /// - `BadLength` where the length of a key or value is not within its limits, or the entry count is wrong;
+    /// - `KeyOrder` where a key does not rise;
+    /// - `NotCovered` where an entry's point is in no range;
+    /// - `BadKind` where an entry's kind is neither 0 nor 1;
+    /// - `Trailing` where bytes follow the entry count.
+    pub fn decode(alloc: Global, bytes: &[u8]) -> Result<Part, Refusal>
+        ensures found { IfOk result (λ part. IsPartFile part × (bytes.now ≡ part_text part)) }
+        ensures only { (file : File) → IsPartFile file → bytes.now ≡ part_text file → Gives (λ part. part) result (Ok file) }
+        ensures exact { Gives (λ part. part) result (part_at bytes.now) }
+    {
+        read_part(alloc, bytes)
+    }
+}
+
+// The part whose text is all of the bytes.
+fn read_part(alloc: Global, bytes: &[u8]) -> Result<Part, Refusal>
+    ensures { Gives (λ part. part) result (part_at bytes.now) }
+{
+    let Fields {
+        run,
+        ranges,
+        entries,
+    } = read_fields(alloc, bytes)?;
+    Ok(Part::from_lists(run, ranges, entries))
+}
+
+// What was read of a part.
+#[derive(Drop)]
+struct Fields {
+    run: u64,
+    ranges: Vec<Range>,
+    entries: Vec<Triple>,
+}
+
+// The fields of a part whose text is all of the bytes.
+#[tactic(auto, unfolding(crate::specs::Reading::part_fields_at))]
+fn read_fields(alloc: Global, bytes: &[u8]) -> Result<Fields, Refusal>
+    ensures { Gives (λ f. record { run = f.run; ranges = f.ranges.items; entries = f.entries.items }) result (part_fields_at bytes.now) }
+{
+    let start = read_magic(bytes, &MAGIC)?;
+    let (run, rest) = read_u64(start, Refusal::Short)?;
+    let (range_count, rest) = read_u32(rest, Refusal::Short)?;
+    if range_count == 0 {
+        return Err(Refusal::BadRanges);
+    }
+    let (ranges, rest) = read_ranges(alloc, range_count, rest)?;
+    let (entries, rest) = read_entries(alloc, &ranges, rest)?;
+    let (total, rest) = read_u32(rest, Refusal::Short)?;
+    if entries.len() != total as usize {
+        return Err(Refusal::BadLength);
+    }
+    if !rest.is_empty() {
+        return Err(Refusal::Trailing);
+    }
+    Ok(Fields {
+        run,
+        ranges,
+        entries,
+    })
+}
+
+// So many ranges, one after the other.
+fn read_ranges(alloc: Global, count: u32, bytes: &[u8]) -> Result<(Vec<Range>, &[u8]), Refusal>
+    ensures read { Gives (λ x. (x.0.items, x.1.now)) result (ranges_at count 1 bytes.now) }
+    ensures apart { IfOk result (λ x. RangesFrom 1 x.0.items) }
+{
+    let mut ranges = Vec::new(alloc);
+    let mut least = 1;
+    let mut rest = bytes;
+    for _ in 0..count {
+        let (low, high, after) = read_range(least, rest)?;
+        least = u32::from(high) + 2;
+        let (low, high) = (Point(low), Point(high));
+        ranges.push(Range { low, high })?;
+        rest = after;
+    }
+    Ok((ranges, rest))
+}
+
+// The first and the last point of a range that begins at this point or above.
+#[tactic(auto, unfolding(crate::specs::Reading::range_at))]
+fn read_range(least: u32, bytes: &[u8]) -> Result<(u16, u16, &[u8]), Refusal>
+    ensures { Reads (λ x. (record { low = x.0; high = x.1 }, x.2.now)) result (range_at least bytes.now) }
+{
+    let (low, rest) = read_u32(bytes, Refusal::Short)?;
+    let (high, rest) = read_u32(rest, Refusal::Short)?;
+    if low < least || high < low || 65_535 < high {
+        return Err(Refusal::BadRanges);
+    }
+    Ok((low as u16, high as u16, rest))
+}
+
+// The entries up to the end mark. An entry takes more than one of the bytes, so that the turns are enough.
+fn read_entries<'a>(
+    alloc: Global,
+    ranges: &[Range],
+    bytes: &'a [u8],
+) -> Result<(Vec<Triple>, &'a [u8]), Refusal>
+    requires { RangesFrom 1 ranges.now }
+    ensures { Gives (λ x. (x.0.items, x.1.now)) result (entries_at (length bytes.now) ranges.now [] bytes.now) }
+{
+    let mut entries = Vec::new(alloc);
+    let mut last: &[u8] = &[];
+    let mut rest = bytes;
+    for _ in 0..bytes.len() {
+        let (count, after) = read_u16(rest, Refusal::Short)?;
+        if count == 0 {
+            return Ok((entries, after));
+        }
+        let (key, after) = read_next_key(last, count, after)?;
+        let (point, content, after) = read_entry(alloc, ranges, after)?;
+        entries.push(Triple {
+            key: Key::new(alloc, key)?,
+            point: Point(point),
+            content,
+        })?;
+        last = key;
+        rest = after;
+    }
+    Err(Refusal::Short)
+}
+
+// A key of so many bytes that comes after the last one.
+#[tactic(auto, unfolding(crate::specs::Reading::next_key_at))]
+pub(crate) fn read_next_key<'a>(
+    last: &[u8],
+    count: u16,
+    bytes: &'a [u8],
+) -> Result<(&'a [u8], &'a [u8]), Refusal>
+    ensures read { Reads (λ x. (x.0.now, x.1.now)) result (next_key_at last.now count bytes.now) }
+    ensures in_limits { IfOk result (λ x. IsKey x.0.now) }
+{
+    let (key, rest) = read_sized_key(bytes, count, Refusal::Short)?;
+    if !comes_after(key, last) {
+        return Err(Refusal::KeyOrder);
+    }
+    Ok((key, rest))
+}
+
+// Whether the key comes after the last one.
+fn comes_after(key: &[u8], last: &[u8]) -> bool
+    ensures { result ≡ is_lt (key_cmp last.now key.now) }
+{
+    last.cmp(&key).is_lt()
+}
+
+// The point of a key's entry, and what the key had there.
+#[tactic(auto, unfolding(crate::specs::Reading::entry_at))]
+fn read_entry<'a>(
+    alloc: Global,
+    ranges: &[Range],
+    bytes: &'a [u8],
+) -> Result<(u16, Option<Value>, &'a [u8]), Refusal>
+    requires { RangesFrom 1 ranges.now }
+    ensures { Gives (λ x. (record { point = x.0; content = x.1 }, x.2.now)) result (entry_at ranges.now bytes.now) }
+{
+    let (point, rest) = read_point(ranges, bytes)?;
+    let (content, rest) = read_content(alloc, rest, Refusal::Short)?;
+    Ok((point, content, rest))
+}
+
+// A point of one of the ranges.
+#[tactic(auto, unfolding(crate::specs::Reading::point_at))]
+fn read_point<'a>(ranges: &[Range], bytes: &'a [u8]) -> Result<(u16, &'a [u8]), Refusal>
+    requires { RangesFrom 1 ranges.now }
+    ensures { Reads (λ x. (x.0, x.1.now)) result (point_at ranges.now bytes.now) }
+{
+    let (point, rest) = read_u32(bytes, Refusal::Short)?;
+    if !is_covered(ranges, point) {
+        return Err(Refusal::NotCovered);
+    }
+    Ok((point as u16, rest))
+}
+
+// Whether a range has the point: only the first can that doesn't end before it.
+fn is_covered(ranges: &[Range], point: u32) -> bool
+    requires { RangesFrom 1 ranges.now }
+    ensures { result ≡ covers ranges.now point }
+{
+    let ended = ended_before(ranges, point);
+    if ended == ranges.len() {
+        return false;
+    }
+    let low = ranges[ended].low;
+    u32::from(low.0) <= point
+}
+
+// How many of the ranges end before the point.
+fn ended_before(ranges: &[Range], point: u32) -> usize
+    requires { RangesFrom 1 ranges.now }
+    ensures bound { result ≤ length ranges.now }
+    ensures ends { IsPartitionPoint (λ range. range.high < point) (λ range. point ≤ range.high) ranges.now result }
+{
+    ranges.partition_point(|range| u32::from(range.high.0) < point)
+}
