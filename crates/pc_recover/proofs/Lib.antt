@@ -1,0 +1,11 @@
+pub mod Folded
+pub mod Reaching
+pub mod Summing
+pub mod Walking
+pub mod LawfulLogs
+pub mod LawfulWrites
+pub mod RecoveredFiles
+pub mod RecoveredLogs
+pub mod RecoveredPoints
+pub mod Restarting
+pub mod RunsRestart

@@ -1,0 +1,5 @@
+use Rattle.pc_recover.proofs.RunsRestart.{every_cut}
+use Rattle.pc_recover.proofs.laws.every_cut_is_recovered.Goals as goal
+
+pub returns : goal.returns
+returns c = every_cut

@@ -1,0 +1,25 @@
+-- Joining files one after the other, and laying one on a base.
+use Rattle.std.specs.Prelude.{List, [], ◌∷◌, Option, Some, None, Result, Ok}
+use Rattle.pc_types.specs.declared.refusal.Refusal.{Refusal}
+use Rattle.pc_types.specs.Fields.{◌>>=◌}
+use Rattle.pc_model.specs.Files.{File, BaseFile, joined_file, laid_file}
+use Rattle.pc_model.specs.Replies.{join_causes}
+use Rattle.pc_part.specs.Joins.{first_cause}
+use Rattle.pc_part.specs.Layings.{lay_causes}
+use Rattle.pc_recover.specs.Recovery.{unless}
+
+-- the join of two files, unless it is refused
+abbrev pub join_due : File → File → Result File Refusal
+join_due a b = unless (first_cause (join_causes (Some a) (Some b))) (joined_file a b)
+
+-- the base with the file laid on it, unless that is refused
+abbrev pub lay_due : BaseFile → File → Result BaseFile Refusal
+lay_due base file = unless (first_cause (lay_causes base file)) (laid_file base file)
+
+-- what is joined so far, with the files joined to it
+abbrev pub joined_on : Option File → List File → Result (Option File) Refusal
+joined_on joined [] = Ok joined
+joined_on None (file ∷ files) = joined_on (Some file) files
+joined_on (Some joined) (file ∷ files) = do
+  both ← join_due joined file
+  joined_on (Some both) files

@@ -1,0 +1,32 @@
+-- How far files reach: of each point the least greatest point of the files that stand for it.
+use Rattle.std.specs.Prelude.{ℕ, ◌≡◌, ◌≤◌, min, List, Option, Some, None, fold, slice_index_or, if◌then◌else◌}
+use Rattle.pc_model.specs.Sets as set
+use Rattle.pc_model.specs.Files.{File, greatest}
+use Rattle.pc_recover.specs.Recovery.{recovered_point, first_lack}
+use Rattle.pc_recover.specs.declared.reach.Reach.{Reach}
+
+-- the lesser of two points, the first of which may not be there
+abbrev pub lesser : Option ℕ → ℕ → Option ℕ
+lesser None top = Some top
+lesser (Some other) top = Some (min other top)
+
+-- the same with the greatest point of a file, if it stands for this point
+abbrev pub noted : ℕ → Option ℕ → File → Option ℕ
+noted point top file = if set.contains file.points point then lesser top (greatest file.points) else top
+
+-- the least greatest point of the files that stand for this point
+abbrev pub least_top : List File → ℕ → Option ℕ
+least_top files point = fold (noted point) None files
+
+-- what a table has at the point's place
+abbrev pub top_at : List (Option ℕ) → ℕ → Option ℕ
+top_at tops point = slice_index_or tops point None
+
+-- the table has of each point the least greatest point of the files that stand for it
+abbrev pub AreTops : List (Option ℕ) → List File → Type 0
+AreTops tops files = (point : ℕ) → point ≤ 65535 → top_at tops point ≡ least_top files point
+
+-- how far the files reach from the base: to the recovered point, and the first point that they lack
+pub record IsReach (base : ℕ) (files : List File) (reach : Reach) : Type 0 where
+  pub point : reach.point ≡ recovered_point base files
+  pub lack : reach.lack ≡ first_lack base files

@@ -1,0 +1,19 @@
+//! Recovery: the state that a base, part files and a log are worth after a crash.
+#![tactic(auto)]
+
+mod candidates;
+mod laws;
+mod reach;
+mod recovered;
+mod recovering;
+mod replaying;
+#[cfg(test)]
+mod row_tests;
+#[cfg(test)]
+mod samples;
+mod state;
+mod unused;
+
+pub use laws::{every_cut_is_recovered, every_cut_of_a_run_is_recovered, logs_of_runs_have_texts};
+pub use recovered::{Recovered, Skipped};
+pub use recovering::recover;

@@ -1,0 +1,157 @@
+//! How far files reach from a base.
+ghost use Rattle.std.specs.Prelude.{◌≡◌, ℕ, ◌≤◌, length, nat_le, None, ◌&&◌, IfOk, if◌then◌else◌};
+ghost use Rattle.pc_model.specs.Files.{greatest};
+ghost use Rattle.pc_recover.specs.Recovery.{those_had};
+ghost use Rattle.pc_recover.specs.Reach.{AreTops, IsReach, lesser, noted, top_at};
+
+use crate::candidates::Candidate;
+use pc_part::{Part, Range};
+use pc_types::Point;
+use std::alloc::{AllocError, Global};
+
+/// How far files reach from a base.
+#[derive(Clone, Copy, Debug, PartialEq, Eq)]
+pub(crate) struct Reach {
+    /// The recovered point: the greatest one for which the files without a point above it stand for all points from the
+    /// base's on; the base's where there is none.
+    pub(crate) point: Point,
+    /// The least point above the base's for which no file stands.
+    pub(crate) lack: Option<Point>,
+}
+
+/// How far the files that could be had reach from the base's point. It takes a step for each point of each file and one
+/// for each of the 65,535 points, and memory for as many numbers. It fails only where memory ran out.
+pub(crate) fn reach_from(
+    alloc: Global,
+    base: Point,
+    files: &[Candidate],
+) -> Result<Reach, AllocError>
+    ensures { IfOk result (IsReach base (those_had files.now)) }
+{
+    let tops = least_tops(alloc, files)?;
+    let mut point = base;
+    // The greatest of the tops so far: the files up to it are those that stand for all points so far.
+    let mut needed = 0u16;
+    for below in base.0..65535 {
+        let next = Point(below + 1);
+        let Some(top) = tops[usize::from(next.0)] else {
+            let lack = Some(next);
+            return Ok(Reach { point, lack });
+        };
+        needed = needed.max(top.0);
+        if needed <= next.0 {
+            point = next;
+        }
+    }
+    Ok(Reach { point, lack: None })
+}
+
+// Of each point, at its place, the least greatest point of the files that stand for it.
+fn least_tops(alloc: Global, files: &[Candidate]) -> Result<Vec<Option<Point>>, AllocError>
+    ensures len { IfOk result (λ tops. length tops.items ≡ 65536) }
+    ensures tops { IfOk result (λ tops. AreTops tops.items (those_had files.now)) }
+{
+    let mut tops = no_tops(alloc, 65536)?;
+    for file in files {
+        if let Ok(part) = file {
+            note_part(&mut tops, part);
+        }
+    }
+    Ok(tops)
+}
+
+// So many places with nothing noted.
+fn no_tops(alloc: Global, places: usize) -> Result<Vec<Option<Point>>, AllocError>
+    ensures len { IfOk result (λ tops. length tops.items ≡ places) }
+    ensures none { IfOk result (λ tops. (point : ℕ) → top_at tops.items point ≡ None) }
+{
+    let tops = vec![in alloc; None; places]?;
+    Ok(tops)
+}
+
+// Notes the part's greatest point at its points.
+fn note_part(tops: &mut [Option<Point>], part: &Part)
+    requires { length tops.old ≡ 65536 }
+    ensures len { length tops.new ≡ 65536 }
+    ensures tops { (point : ℕ) → point ≤ 65535 → top_at tops.new point ≡ noted point (top_at tops.old point) part.now }
+{
+    let top = greatest_point(part);
+    for range in part.ranges() {
+        note_range(tops, *range, top);
+    }
+}
+
+// Notes the greatest point at the points of the range.
+fn note_range(tops: &mut [Option<Point>], range: Range, top: Point)
+    requires { length tops.old ≡ 65536 }
+    ensures len { length tops.new ≡ 65536 }
+    ensures tops { (point : ℕ) → point ≤ 65535 → top_at tops.new point ≡ (if nat_le range.low point && nat_le point range.high then lesser (top_at tops.old point) top else top_at tops.old point) }
+{
+    for place in usize::from(range.low.0)..usize::from(range.high.0) + 1 {
+        tops[place] = lesser(tops[place], top);
+    }
+}
+
+// The lesser of two points, the first of which may not be there.
+fn lesser(other: Option<Point>, top: Point) -> Option<Point>
+    ensures { result ≡ lesser other top }
+{
+    match other {
+        Some(other) if other.0 <= top.0 => Some(other),
+        _ => Some(top),
+    }
+}
+
+/// The greatest point of the part.
+pub(crate) fn greatest_point(part: &Part) -> Point
+    ensures { result ≡ greatest part.now.points }
+{
+    match part.ranges().last() {
+        Some(range) => range.high,
+        None => Point(0),
+    }
+}
+
+#[cfg(test)]
+mod tests {
+    use super::*;
+    use crate::samples::candidates_of;
+    use pc_types::Refusal;
+    use std::test::Fail;
+
+    // How far three files reach, as numbers.
+    fn reached(alloc: Global, base: u16, files: [(u16, u16); 3]) -> Result<(u16, u16), Refusal> {
+        let files = candidates_of(alloc, files)?;
+        let Reach { point, lack } = reach_from(alloc, Point(base), &files)?;
+        Ok((number(Some(point)), number(lack)))
+    }
+
+    // The number of a point, or 0 where there is none.
+    fn number(point: Option<Point>) -> u16 {
+        match point {
+            Some(point) => point.0,
+            None => 0,
+        }
+    }
+
+    // From a base's point, with files of two points each, or that could not be read where they are 0.
+    const ROWS: [(u16, [(u16, u16); 3], u16, u16); 8] = [
+        (0, [(0, 0), (0, 0), (0, 0)], 0, 1),
+        (0, [(3, 3), (1, 1), (2, 2)], 3, 4),
+        (0, [(1, 1), (0, 0), (3, 3)], 1, 2),
+        (0, [(1, 3), (0, 0), (2, 2)], 3, 4),
+        (0, [(1, 3), (0, 0), (1, 1)], 1, 2),
+        (2, [(1, 1), (3, 5), (2, 4)], 5, 6),
+        (65534, [(0, 0), (65534, 65535), (1, 1)], 65535, 0),
+        (65535, [(0, 0), (0, 0), (0, 0)], 65535, 0),
+    ];
+
+    #[test]
+    fn reaches_while_no_point_is_lacking(rt: HostRuntime) -> Result<(), Fail> {
+        for (base, files, point, lack) in ROWS {
+            let reached = reached(rt.alloc(), base, files)?;
+            assert_eq!(rt; reached, (point, lack), "from {base}");
+        }
+        Ok(())
+    }
+}

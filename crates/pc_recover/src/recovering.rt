@@ -1,0 +1,59 @@
+//! Recovery by its rules.
+ghost use Rattle.std.specs.Prelude.{map, IfOk};
+ghost use Rattle.pc_types.specs.Fields.{Gives};
+ghost use Rattle.pc_model.specs.Database.{KeysRise};
+ghost use Rattle.pc_recover.specs.Recovery.{recovery, recovery_of};
+
+use crate::candidates::candidates;
+use crate::reach::reach_from;
+use crate::recovered::Recovered;
+use crate::replaying::{log_of_run, replay};
+use crate::state::with_used;
+use crate::unused::unused;
+use pc_part::Base;
+use pc_types::Refusal;
+use std::alloc::Global;
+
+/// What a base, the parts of its run and the run's log are worth after a crash, whatever bytes they are.
+///
+/// A part is read if its bytes are a part of the base's run. The recovered point is the greatest one for which the parts
+/// that were read, without a point above it, stand for all points from the base's on; it is the base's where they reach
+/// none. These parts are joined from the first to the last, and laid on the base. All other parts are skipped, with the
+/// reason. Then the log's commits behind the recovered point's token are applied, in order: those of all its whole entries
+/// where the point is 0, none where the log has no such token. Fewer than the 20 bytes of a log's header count as a log
+/// without entries. Bytes behind the last whole entry are left out, and their fault is told.
+///
+/// Memory is taken for the pairs, the parts that were read, the log's whole entries, and for one number of each point. Of
+/// several refusals the first counts:
+///
+/// - the fault of the base's bytes;
+/// - `Conflict` or `Full`, where the parts that are used can't be joined or laid;
+/// - the fault of the log's header: `BadMagic`, or `BadRanges` where its base point isn't 0; `OtherRun` where it is of
+///   another run;
+/// - `OutOfMemory` only where memory ran out.
+pub fn recover(
+    alloc: Global,
+    base: &[u8],
+    parts: &[&[u8]],
+    log: &[u8],
+) -> Result<Recovered, Refusal>
+    ensures rules { Gives recovery_of result (recovery base.now (map (λ part. part.now) parts.now) log.now) }
+    ensures rise { IfOk result (λ recovered. KeysRise recovered.pairs.items) }
+{
+    let base = Base::decode(alloc, base)?;
+    let run = base.run();
+    let files = candidates(alloc, run, parts)?;
+    let reach = reach_from(alloc, base.point(), &files)?;
+    let skipped = unused(alloc, &reach, &files)?;
+    let state = with_used(alloc, base, reach.point, files)?;
+    let log = log_of_run(alloc, run, log)?;
+    let (entries, fault) = (log.entries.len(), log.fault);
+    let pairs = replay(alloc, reach.point, state.into_pairs(), log.entries)?;
+    Ok(Recovered {
+        pairs,
+        point: reach.point,
+        entries,
+        skipped,
+        fault,
+    })
+}
