@@ -1,5 +1,5 @@
 -- That a world stays within its limits where a session changes.
-use Rattle.std.proofs.Common.{◌≡◌, ℕ, ◌+◌, ◌≤◌, ◌<◌, zero, suc, List, [], ◌∷◌, ◌++◌, length, get_or, replicate, refl, inl, set, true, Option, None, sym, ap, subst, ◌∙◌, arith}
+use Rattle.std.proofs.Common.{◌≡◌, ℕ, ◌+◌, ◌≤◌, zero, suc, List, [], ◌∷◌, ◌++◌, length, get_or, replicate, refl, inl, set, true, Option, None, sym, ap, subst, ◌∙◌, arith}
 use Rattle.std.proofs.lemmas.List.{length-append, length-map, length-replicate, length-set}
 use Rattle.pc_types.specs.declared.Entry.{Entry}
 use Rattle.pc_types.specs.declared.Phase.{Phase}
@@ -24,7 +24,6 @@ no_transaction = None
 pub first_within : (log : List Entry) (ss : List (Option Active)) (recent closed : List (List ℕ)) (taken : List (List ℕ × Option (List ℕ))) (shelf : List File) (n : ℕ) → log ≡ [] → ss ≡ replicate n None → n ≤ 64 → recent ≡ [] → closed ≡ [] → taken ≡ [] → shelf ≡ [] → IsWithinLimits 0 log ss Rest 0 recent closed taken shelf
 first_within log ss recent closed taken shelf n a b few c d e f = rw (a, b, c, d, e, f) (record {
   most_begun = omega arith;
-  most_entries = omega arith;
   most_writes = λ i. idle n i;
   most_sessions = subst (λ k. k ≤ 64) (sym (length-replicate n no_transaction)) few;
   has_point = inl refl;
@@ -43,7 +42,6 @@ module _ (begun : ℕ) (log : List Entry) (phase : Phase) (point : ℕ) (recent 
   pub with_sessions : (old new : List (Option Active)) → IsWithinLimits begun log old phase point recent closed taken shelf → AreFew new → length new ≡ length old → IsWithinLimits begun log new phase point recent closed taken shelf
   with_sessions old new limits few many = record {
     most_begun = limits.most_begun;
-    most_entries = limits.most_entries;
     most_writes = few;
     most_sessions = subst (λ n. n ≤ 64) (sym many) limits.most_sessions;
     has_point = limits.has_point;
@@ -60,13 +58,12 @@ module _ (begun : ℕ) (log : List Entry) (phase : Phase) (point : ℕ) (recent 
   without_one old j limits = with_sessions old (set old j None) limits (few_set old j None limits.most_writes (omega arith)) (length-set old j None)
 
   -- a commit is logged, and its keys are in the open set
-  pub with_commit : (old : List (Option Active)) (j : ℕ) (entry : Entry) (keys : List (List ℕ)) → IsWithinLimits begun log old phase point recent closed taken shelf → length log < 16777216 → length keys ≤ 256 → IsWithinLimits begun (log ++ entry ∷ []) (set old j None) phase point (recent ++ keys) closed taken shelf
-  with_commit old j entry keys limits more few =
+  pub with_commit : (old : List (Option Active)) (j : ℕ) (entry : Entry) (keys : List (List ℕ)) → IsWithinLimits begun log old phase point recent closed taken shelf → length keys ≤ 256 → IsWithinLimits begun (log ++ entry ∷ []) (set old j None) phase point (recent ++ keys) closed taken shelf
+  with_commit old j entry keys limits few =
       let one : length (log ++ entry ∷ []) ≡ length log + 1 = length-append log (entry ∷ []) in
       let all : length (recent ++ keys) ≡ length recent + length keys = length-append recent keys in
       let over = without_one old j limits in record {
         most_begun = limits.most_begun;
-        most_entries = omega (arith, one, more);
         most_writes = over.most_writes;
         most_sessions = over.most_sessions;
         has_point = limits.has_point;
@@ -75,17 +72,16 @@ module _ (begun : ℕ) (log : List Entry) (phase : Phase) (point : ℕ) (recent 
         most_files = limits.most_files;
       }
 
-  pub committed_within : (old new : List (Option Active)) (j : ℕ) (entry : Entry) (keys now : List (List ℕ)) (then : List Entry) → IsWithinLimits begun log old phase point recent closed taken shelf → length log < 16777216 → length keys ≤ 256 → then ≡ log ++ entry ∷ [] → new ≡ set old j None → now ≡ recent ++ keys →
+  pub committed_within : (old new : List (Option Active)) (j : ℕ) (entry : Entry) (keys now : List (List ℕ)) (then : List Entry) → IsWithinLimits begun log old phase point recent closed taken shelf → length keys ≤ 256 → then ≡ log ++ entry ∷ [] → new ≡ set old j None → now ≡ recent ++ keys →
       IsWithinLimits begun then new phase point now closed taken shelf
-  committed_within old new j entry keys now then limits more few a b c = rw (a, b, c) (with_commit old j entry keys limits more few)
+  committed_within old new j entry keys now then limits few a b c = rw (a, b, c) (with_commit old j entry keys limits few)
 
   -- the phase has changed, and its token is logged
-  pub moved_within : (ss : List (Option Active)) (next : Phase) (at : ℕ) (entry : Entry) (now : List Entry) → IsWithinLimits begun log ss phase point recent closed taken shelf → length log < 16777216 → (same_phase next Rest ≡ true) ⊎ (1 ≤ at) → now ≡ log ++ entry ∷ [] →
+  pub moved_within : (ss : List (Option Active)) (next : Phase) (at : ℕ) (entry : Entry) (now : List Entry) → IsWithinLimits begun log ss phase point recent closed taken shelf → (same_phase next Rest ≡ true) ⊎ (1 ≤ at) → now ≡ log ++ entry ∷ [] →
       IsWithinLimits begun now ss next at recent closed taken shelf
-  moved_within ss next at entry now limits more has is =
+  moved_within ss next at entry now limits has is =
       let one : length now ≡ length log + 1 = ap (λ (l : List Entry). length l) is ∙ length-append log (entry ∷ []) in record {
         most_begun = limits.most_begun;
-        most_entries = omega (arith, one, more);
         most_writes = limits.most_writes;
         most_sessions = limits.most_sessions;
         has_point = has;

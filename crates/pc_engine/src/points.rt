@@ -7,7 +7,7 @@ ghost use Rattle.pc_engine.specs.Counts.{holders};
 ghost use Rattle.pc_engine.specs.Store.{StartsPoint, Seals, Moves, Takes, Shelves, Joins};
 
 use crate::shelving::{MOST_FILES, Shelvable, joined, part_of};
-use crate::transactions::{MOST_ENTRIES, is_same};
+use crate::transactions::is_same;
 use crate::world::World;
 use pc_phase::{Change, Held, Phases};
 use pc_records::Records;
@@ -23,15 +23,15 @@ impl World {
         if let Some(held) = self.phases.held_back(Change::StartPoint, 0) {
             return reply_of(held);
         }
-        if self.log.len() == MOST_ENTRIES {
+        if self.log.is_full() {
             return Reply::Refused(Refusal::LogFull);
         }
-        if self.log.reserve(1).is_err() {
+        if self.log.reserve().is_err() {
             return Reply::Refused(Refusal::OutOfMemory);
         }
         change_phase(&mut self.phases, Change::StartPoint, 0);
         let (phase, point) = (self.phases.phase(), self.phases.point());
-        self.log.push_reserved(Entry::Token(phase, point));
+        self.log.append_reserved(Entry::Token(phase, point));
         Reply::Phase(phase, point)
     }
 
@@ -41,15 +41,15 @@ impl World {
         if let Some(held) = self.phases.held_back(Change::Seal, 0) {
             return reply_of(held);
         }
-        if self.log.len() == MOST_ENTRIES {
+        if self.log.is_full() {
             return Reply::Refused(Refusal::LogFull);
         }
-        if self.log.reserve(1).is_err() {
+        if self.log.reserve().is_err() {
             return Reply::Refused(Refusal::OutOfMemory);
         }
         change_phase(&mut self.phases, Change::Seal, 0);
         let (phase, point) = (self.phases.phase(), self.phases.point());
-        self.log.push_reserved(Entry::Token(phase, point));
+        self.log.append_reserved(Entry::Token(phase, point));
         self.closed = mem::replace(&mut self.recent, VecDeque::new(self.alloc));
         self.taken.clear();
         self.records.close(point);
@@ -64,15 +64,15 @@ impl World {
         if let Some(held) = self.phases.held_back(change, 0) {
             return reply_of(held);
         }
-        if self.log.len() == MOST_ENTRIES {
+        if self.log.is_full() {
             return Reply::Refused(Refusal::LogFull);
         }
-        if self.log.reserve(1).is_err() {
+        if self.log.reserve().is_err() {
             return Reply::Refused(Refusal::OutOfMemory);
         }
         change_phase(&mut self.phases, change, 0);
         let (phase, point) = (self.phases.phase(), self.phases.point());
-        self.log.push_reserved(Entry::Token(phase, point));
+        self.log.append_reserved(Entry::Token(phase, point));
         Reply::Phase(phase, point)
     }
 
@@ -110,19 +110,20 @@ impl World {
         if self.shelf.len() == MOST_FILES {
             return Reply::Refused(Refusal::ShelfFull);
         }
-        if self.log.len() == MOST_ENTRIES {
+        if self.log.is_full() {
             return Reply::Refused(Refusal::LogFull);
         }
         let point = self.phases.point();
         let Ok(part) = part_of(self.alloc, self.base.run(), point, &self.taken) else {
             return Reply::Refused(Refusal::OutOfMemory);
         };
-        if self.shelf.reserve(1).is_err() || self.log.reserve(1).is_err() {
+        if self.shelf.reserve(1).is_err() || self.log.reserve().is_err() {
             return Reply::Refused(Refusal::OutOfMemory);
         }
         let entries = self.taken.len() as u32;
         change_phase(&mut self.phases, Change::Done, left);
-        self.log.push_reserved(Entry::Token(Phase::Complete, point));
+        self.log
+            .append_reserved(Entry::Token(Phase::Complete, point));
         self.shelf.push_reserved(part);
         self.taken.clear();
         Reply::PartDone(point, FileNo(self.shelf.len() as u32), entries)

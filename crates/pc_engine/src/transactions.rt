@@ -1,10 +1,11 @@
 //! What each event of a session does.
-ghost use Rattle.std.specs.Prelude.{◌≡◌, ◌<◌, ◌==◌, ◌||◌, ◌-◌, nat_lt, ◌++◌, [], ◌∷◌, false, length, map, IfOk, Some, None, is_none, List, ℕ, option_copied, vec_len, vec_capacity};
+ghost use Rattle.std.specs.Prelude.{◌≡◌, ◌<◌, ◌==◌, ◌||◌, ◌-◌, nat_lt, ◌++◌, [], ◌∷◌, false, length, map, IfOk, Some, None, is_none, List, ℕ, option_copied};
 ghost use Rattle.pc_model.specs.Maps.{get};
 ghost use Rattle.pc_model.specs.Replies.{read_reply};
 ghost use Rattle.pc_model.specs.Replies.{same_phase};
 ghost use Rattle.pc_types.specs.declared.Entry.TheVariants.{Commit};
 ghost use Rattle.pc_types.specs.declared.Phase.{Phase};
+ghost use Rattle.pc_log.specs.Logs.{entries_of, HasRoom};
 ghost use Rattle.pc_records.specs.Rows.{released_rows, written_row};
 ghost use Rattle.pc_engine.specs.InPlace.{AreOpen, HoldTogether, StayTogether};
 ghost use Rattle.pc_records.specs.NewKeys.{is_one_too_many, new_keys};
@@ -17,6 +18,7 @@ use crate::sessions::Transaction;
 use crate::world::World;
 use crate::writes::{is_one_too_many, new_keys, write_of};
 use pc_locks::Outcome;
+use pc_log::Log;
 use pc_records::Records;
 use pc_types::{
     Class, Entry, Items, Key, Lsn, Phase, Refusal, Reply, SessionNo, TxnNo, Value, Write,
@@ -25,9 +27,6 @@ use std::alloc::{AllocError, Global};
 
 // How many transactions a run may begin.
 const MOST_TRANSACTIONS: u64 = 1_099_511_627_776;
-
-// How many entries the log may have.
-pub(crate) const MOST_ENTRIES: usize = 16_777_216;
 
 impl World {
     pub(crate) fn begin(&mut self, session: SessionNo) -> Reply
@@ -152,10 +151,10 @@ impl World {
         if let Some(why) = self.open_cause(session) {
             return Reply::Refused(why);
         }
-        if self.log.len() == MOST_ENTRIES {
+        if self.log.is_full() {
             return Reply::Refused(Refusal::LogFull);
         }
-        if self.log.reserve(1).is_err() {
+        if self.log.reserve().is_err() {
             return Reply::Refused(Refusal::OutOfMemory);
         }
         let writes = sessions::writes(&self.sessions, session);
@@ -166,14 +165,14 @@ impl World {
             return Reply::Refused(Refusal::OutOfMemory);
         }
         let _ = self.recent.append(&mut keys);
-        let class = commit_open(
+        let (class, number) = commit_open(
             &mut self.sessions,
             &mut self.records,
             &mut self.log,
             session,
         );
         self.phases.leave(class);
-        Reply::Committed(Lsn(self.log.len() as u32))
+        Reply::Committed(number)
     }
 
     pub(crate) fn abort(&mut self, session: SessionNo) -> Reply
@@ -192,21 +191,23 @@ impl World {
 }
 
 // The session's transaction is committed and logged, and then over: its writes are committed where they stand, and its
-// locks are released. It gives its class.
+// locks are released. It gives its class, and the number of its entry.
 fn commit_open(
     sessions: &mut Vec<Option<Transaction>>,
     records: &mut Records,
-    log: &mut Vec<Entry>,
+    log: &mut Log,
     session: SessionNo,
-) -> Class
+) -> (Class, Lsn)
     requires place { session - 1 < length sessions.old.items }
     requires opened { is_none (active_in (actives_of sessions.old.items) session) ≡ false }
-    requires room { vec_len log.old < vec_capacity log.old }
+    requires room { HasRoom log.old }
+    requires not_full { length (entries_of log.old) < 16777216 }
     requires placed { (begun : ℕ) × AreOpen records.old (actives_of sessions.old.items) begun }
-    ensures class { result ≡ class_at (active_in (actives_of sessions.old.items) session) }
+    ensures class { result.0 ≡ class_at (active_in (actives_of sessions.old.items) session) }
     ensures sessions { actives_of sessions.new.items ≡ with_session (actives_of sessions.old.items) session None }
     ensures records { kept_of records.new ≡ record (kept_of records.old) { rows = released_rows (number_in (active_in (actives_of sessions.old.items) session)) (map (written_row (writes_in (active_in (actives_of sessions.old.items) session))) records.old.rows) } }
-    ensures log { log.new.items ≡ log.old.items ++ Commit session (writes_in (active_in (actives_of sessions.old.items) session)) ∷ [] }
+    ensures log { entries_of log.new ≡ entries_of log.old ++ Commit session (writes_in (active_in (actives_of sessions.old.items) session)) ∷ [] }
+    ensures number { result.1 ≡ length (entries_of log.new) }
     ensures together { (begun : ℕ) (phase : Phase) (point : ℕ) (recent closed : List (List ℕ)) → HoldTogether records.old (actives_of sessions.old.items) begun phase point recent closed
         → HoldTogether records.new (actives_of sessions.new.items) begun phase point (recent ++ new_keys records.old.rows (writes_in (active_in (actives_of sessions.old.items) session))) closed }
 {
@@ -216,9 +217,9 @@ fn commit_open(
         unreachable!();
     };
     records.commit(writes.as_slice());
-    log.push_reserved(Entry::Commit(session, Items::from_vec(writes)));
+    let entry_number = log.append_reserved(Entry::Commit(session, Items::from_vec(writes)));
     records.release(number);
-    class
+    (class, entry_number)
 }
 
 // The session's transaction is undone, and over: what was committed stands where it has written, and its locks are

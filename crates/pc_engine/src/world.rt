@@ -14,6 +14,7 @@ use crate::checks::is_sound;
 use crate::sessions;
 use crate::sessions::Transaction;
 use crate::shelving::file_at;
+use pc_log::Log;
 use pc_part::{Base, Part};
 use pc_phase::{Change, Phases};
 use pc_records::Records;
@@ -29,7 +30,7 @@ pub struct World {
     pub(crate) base: Base,
     pub(crate) sessions: Vec<Option<Transaction>>,
     pub(crate) records: Records,
-    pub(crate) log: Vec<Entry>,
+    pub(crate) log: Log,
     pub(crate) begun: u64,
     pub(crate) phases: Phases,
     pub(crate) recent: VecDeque<Key>,
@@ -44,6 +45,7 @@ impl Model for World {
     ghost use Rattle.pc_engine.specs.Sessions.{actives_of};
     ghost use Rattle.pc_engine.specs.InPlace.{HoldTogether};
     ghost use Rattle.pc_engine.specs.Counts.{AreCounted};
+    ghost use Rattle.pc_log.specs.Logs.{entries_of};
     ghost use Rattle.pc_records.specs.Tables.{kept_of};
     ghost use Rattle.std.specs.Coded.{codes};
     ghost use Rattle.pc_model.specs.Database.{database_code};
@@ -57,13 +59,13 @@ impl Model for World {
       base = w.base;
       sessions = actives_of w.sessions.items;
       kept = kept_of w.records;
-      log = w.log.items;
+      log = entries_of w.log;
       begun = w.begun;
       cycle = record { phase = w.phases.phase; point = w.phases.point; recent = w.recent.items; closed = w.closed.items; taken = w.taken.items };
       shelf = w.shelf.items;
     } };
 
-    ghost invariant = { λ w. IsWithinLimits w.begun w.log.items (actives_of w.sessions.items) w.phases.phase w.phases.point w.recent.items w.closed.items w.taken.items w.shelf.items
+    ghost invariant = { λ w. IsWithinLimits w.begun (entries_of w.log) (actives_of w.sessions.items) w.phases.phase w.phases.point w.recent.items w.closed.items w.taken.items w.shelf.items
         × HoldTogether w.records (actives_of w.sessions.items) w.begun w.phases.phase w.phases.point w.recent.items w.closed.items
         × AreCounted w.phases (actives_of w.sessions.items) };
 }
@@ -92,7 +94,7 @@ impl World {
             base,
             sessions,
             records,
-            log: Vec::new(alloc),
+            log: Log::new(alloc),
             begun: 0,
             phases: Phases::new(),
             recent: VecDeque::new(alloc),
@@ -142,7 +144,7 @@ impl World {
     pub fn log(&self) -> &[Entry]
         ensures { result.now ≡ self.now.log }
     {
-        self.log.as_slice()
+        self.log.entries()
     }
 
     /// The shelf's file of this number: files are numbered from 1 in the order of shelving.

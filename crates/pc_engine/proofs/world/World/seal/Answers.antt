@@ -28,8 +28,8 @@ returns-in-Some c =
     let due = seal_held c.args.self.now c.self.inside.phases (rw (← c.self.view_is) refl) (rw (← c.self.view_is) refl) (rw (← c.self.view_is) c.self.invariant.2) c.in-Some.held (sym c.held_back.ensures ∙ c.in-Some.is) in
     rw due (search rules)
 
-pub returns-then-len-eq-MOST_ENTRIES : goal.returns-then-len-eq-MOST_ENTRIES
-returns-then-len-eq-MOST_ENTRIES c =
+pub returns-then-is_full : goal.returns-then-is_full
+returns-then-is_full c =
     let due = seal_free c.args.self.now c.self.inside.phases (rw (← c.self.view_is) refl) (rw (← c.self.view_is) refl) (rw (← c.self.view_is) c.self.invariant.2) (search rules) in
     rw due (search rules)
 
