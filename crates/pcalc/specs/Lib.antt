@@ -1,7 +1,9 @@
-pub mod Words
-pub mod Texts
-pub mod Lines
-pub mod Views
-pub mod Scripts
 pub mod Holding
+pub mod Lines
+pub mod Recoveries
+pub mod Reports
 pub mod Runs
+pub mod Scripts
+pub mod Texts
+pub mod Views
+pub mod Words

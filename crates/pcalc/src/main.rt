@@ -1,8 +1,14 @@
-//! Runs a script of transactions against a store.
+//! Runs a script of transactions against a store, or recovers what a folder's files are worth.
 #![tactic(auto)]
 
+mod folder;
+mod late;
 mod lines;
 mod options;
+#[cfg(test)]
+mod recover_tests;
+mod recovery;
+mod reports;
 mod run;
 mod script;
 mod setup;
@@ -13,8 +19,10 @@ mod views;
 mod words;
 
 use clap::error::ErrorKind;
-use options::step_options;
+use folder::open_folder;
+use options::{Task, asked};
 use pc_types::{Refusal, Tally};
+use recovery::run_recover;
 use run::run_script;
 use setup::Setup;
 use std::fs::File;
@@ -39,8 +47,9 @@ fn run_command(rt: &HostRuntime) -> io::Result<u8> {
     for text in &texts {
         words.push(text.as_str())?;
     }
-    match step_options(alloc, &words) {
-        Ok(Some(options)) => run_step(rt, options.script, options.setup),
+    match asked(alloc, &words) {
+        Ok(Some(Task::Step(options))) => run_step(rt, options.script, options.setup),
+        Ok(Some(Task::Recover(dir))) => run_folder(rt, dir),
         Ok(None) => Ok(2),
         Err(e) if e.kind() == ErrorKind::OutOfMemory => Ok(1),
         Err(e) => {
@@ -63,6 +72,15 @@ fn run_step(rt: &HostRuntime, script: &str, setup: Setup) -> io::Result<u8> {
         &mut out,
         &mut errors,
     ))
+}
+
+fn run_folder(rt: &HostRuntime, dir: &str) -> io::Result<u8> {
+    let alloc = rt.alloc();
+    let mut out = Tally::new(BufWriter::new(alloc, io::writer(rt))?);
+    let stderr = rt.stderr();
+    let mut errors = Tally::new(io::writer(&stderr));
+    let folder = open_folder(rt, dir)?;
+    Ok(run_recover(alloc, dir, folder, &mut out, &mut errors))
 }
 
 // The file of the script, or why it can't be opened.

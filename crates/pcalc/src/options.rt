@@ -14,14 +14,23 @@ pub struct StepOptions<'a> {
     pub setup: Setup,
 }
 
-/// The options of `pcalc step`, or what is to be told: a fault, or the help that was asked for.
-pub fn step_options<'a>(
-    alloc: Global,
-    words: &'a [&'a str],
-) -> Result<Option<StepOptions<'a>>, Error> {
+/// What the program is asked to do.
+#[derive(Drop)]
+pub enum Task<'a> {
+    /// `pcalc step`.
+    Step(StepOptions<'a>),
+    /// `pcalc recover` of the files of this folder.
+    Recover(&'a str),
+}
+
+/// What the command line asks for, or what is to be told: a fault, or the help that was asked for.
+pub fn asked<'a>(alloc: Global, words: &'a [&'a str]) -> Result<Option<Task<'a>>, Error> {
     let matches = command(alloc)?.try_get_matches_from(words)?;
-    match matches.subcommand_matches("step") {
-        Some(matches) => Ok(options_of(matches)),
+    if let Some(matches) = matches.subcommand_matches("step") {
+        return Ok(options_of(matches).map(|options| Task::Step(options)));
+    }
+    match matches.subcommand_matches("recover") {
+        Some(matches) => Ok(matches.get_str("DIR").map(|dir| Task::Recover(dir))),
         None => Ok(None),
     }
 }
@@ -31,7 +40,8 @@ fn command<'a>(alloc: Global) -> Result<Command<'a>, Error> {
         Command::new(alloc, "pcalc")
             .about("A transactional key-value store in memory")
             .subcommand_required(true)
-            .subcommand(step_command(alloc)?)?,
+            .subcommand(step_command(alloc)?)?
+            .subcommand(recover_command(alloc)?)?,
     )
 }
 
@@ -65,6 +75,18 @@ fn step_command<'a>(alloc: Global) -> Result<Command<'a>, Error> {
             .arg(sessions)?
             .arg(capacity)?
             .arg(run)?,
+    )
+}
+
+fn recover_command<'a>(alloc: Global) -> Result<Command<'a>, Error> {
+    let dir = Arg::new(alloc, "DIR")
+        .help("The folder of base.pcb, the .pcp files and log.pcl")
+        .required(true)
+        .action(ArgAction::Set);
+    Ok(
+        Command::new(alloc, "recover")
+            .about("Prints the state that a folder's files are worth")
+            .arg(dir)?,
     )
 }
 

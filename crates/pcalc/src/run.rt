@@ -99,7 +99,7 @@ fn answer_opened<R: Read + Drop, W: Write>(
     }
 }
 
-fn read_opened<R: Read + Drop>(
+pub(crate) fn read_opened<R: Read + Drop>(
     alloc: Global,
     opened: Result<R, Refusal>,
 ) -> Result<Vec<u8>, Refusal>
@@ -121,14 +121,25 @@ fn read_opened<R: Read + Drop>(
 fn report<E: Write>(name: &str, why: Refusal, errors: &mut Tally<E>) -> Result<(), Refusal>
     ensures { Puts E.contents errors.old errors.new result (report_text name.now why) }
 {
-    put_script(name, errors)?;
+    report_bytes(name.as_bytes(), why, errors)
+}
+
+/// Tells why there is no result, by the name of a file or of a word of the command line.
+pub(crate) fn report_bytes<E: Write>(
+    name: &[u8],
+    why: Refusal,
+    errors: &mut Tally<E>,
+) -> Result<(), Refusal>
+    ensures { Puts E.contents errors.old errors.new result (report_text name.now why) }
+{
+    put_name(name, errors)?;
     put_why(why, errors)
 }
 
-fn put_script<E: Write>(name: &str, errors: &mut Tally<E>) -> Result<(), Refusal>
+fn put_name<E: Write>(name: &[u8], errors: &mut Tally<E>) -> Result<(), Refusal>
     ensures { Puts E.contents errors.old errors.new result (codes "pcalc: " ++ name.now) }
 {
-    errors.put_all(&[b"pcalc: ", name.as_bytes()])
+    errors.put_all(&[b"pcalc: ", name])
 }
 
 fn put_why<E: Write>(why: Refusal, errors: &mut Tally<E>) -> Result<(), Refusal>

@@ -174,9 +174,17 @@ fn put_range<W: Write>(out: &mut Tally<W>, low: u16, high: u16, end: &[u8]) -> R
 fn put_refusal<W: Write>(out: &mut Tally<W>, why: Refusal) -> Result<(), Refusal>
     ensures { Puts W.contents out.old out.new result (codes "refused " ++ refusal_text why) }
 {
+    out.put(b"refused ")?;
+    put_reason(out, why)
+}
+
+/// Writes why a call was refused.
+pub(crate) fn put_reason<W: Write>(out: &mut Tally<W>, why: Refusal) -> Result<(), Refusal>
+    ensures { Puts W.contents out.old out.new result (refusal_text why) }
+{
     match why {
-        Refusal::Gap(point) => put_number(out, b"refused Gap ", u64::from(point.0)),
-        _ => out.put_all(&[b"refused ", why.name().as_bytes()]),
+        Refusal::Gap(point) => put_number(out, b"Gap ", u64::from(point.0)),
+        _ => out.put(why.name().as_bytes()),
     }
 }
 
@@ -242,7 +250,7 @@ fn put_state_pairs<W: Write>(out: &mut Tally<W>, pairs: &[(Key, Value)]) -> Resu
     put_pairs(out, pairs)
 }
 
-fn put_pairs<W: Write>(out: &mut Tally<W>, pairs: &[(Key, Value)]) -> Result<(), Refusal>
+pub(crate) fn put_pairs<W: Write>(out: &mut Tally<W>, pairs: &[(Key, Value)]) -> Result<(), Refusal>
     ensures { Puts W.contents out.old out.new result (flat_map pair_text pairs.now) }
 {
     for pair in pairs {
