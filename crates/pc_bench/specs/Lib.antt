@@ -1,3 +1,4 @@
 pub mod Commits
 pub mod Joins
+pub mod Restarts
 pub mod Writes

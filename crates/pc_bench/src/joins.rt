@@ -2,6 +2,7 @@
 ghost use Rattle.std.specs.Prelude.{◌≡◌, ◌≤◌, ◌+◌, ◌++◌, [], ◌∷◌, ℕ, List, Option, true, length, IfOk, OnOk};
 ghost use Rattle.std.specs.Ordering.{is_lt};
 ghost use Rattle.pc_model.specs.Database.{KeysRise, key_cmp};
+ghost use Rattle.pc_part.specs.Lawful.{IsPartFile};
 ghost use Rattle.pc_part.specs.Texts.{part_text};
 ghost use Rattle.pc_bench.specs.Joins.{IsOfPoint, IsOfJoin};
 
@@ -47,8 +48,9 @@ pub fn measure_join(alloc: Global, clock: &impl Clock, entries: u32) -> Result<J
 }
 
 // The text of the part.
-fn text_of(alloc: Global, part: &Part) -> Result<Vec<u8>, Refusal>
-    ensures { IfOk result (λ text. text.items ≡ part_text part.now) }
+pub(crate) fn text_of(alloc: Global, part: &Part) -> Result<Vec<u8>, Refusal>
+    ensures text { IfOk result (λ text. text.items ≡ part_text part.now) }
+    ensures lawful { OnOk result (IsPartFile part.now) }
 {
     let mut out = Tally::new(Vec::new(alloc));
     part.encode(&mut out)?;
@@ -56,7 +58,7 @@ fn text_of(alloc: Global, part: &Part) -> Result<Vec<u8>, Refusal>
 }
 
 // The part of the point with so many entries.
-fn part_of(alloc: Global, point: Point, entries: u32) -> Result<Part, Refusal>
+pub(crate) fn part_of(alloc: Global, point: Point, entries: u32) -> Result<Part, Refusal>
     requires { 1 ≤ point }
     ensures { IfOk result (λ part. IsOfPoint point part) }
 {
@@ -88,7 +90,7 @@ fn key_number(point: Point, place: u32) -> u64 {
 }
 
 // Adds an entry with these bytes as its key and its value, where they are above the keys so far.
-fn push_rising(
+pub(crate) fn push_rising(
     alloc: Global,
     entries: &mut Vec<(Key, Option<Value>)>,
     bytes: &[u8],
@@ -115,7 +117,7 @@ fn is_above(entries: &[(Key, Option<Value>)], bytes: &[u8]) -> bool
     }
 }
 
-fn is_below(a: &[u8], b: &[u8]) -> bool
+pub(crate) fn is_below(a: &[u8], b: &[u8]) -> bool
     ensures { result ≡ is_lt (key_cmp a.now b.now) }
 {
     a.cmp(&b).is_lt()

@@ -3,22 +3,28 @@
 
 mod commits;
 mod failure;
+mod files;
 mod joins;
 mod locks;
 mod options;
 mod points;
+mod recoveries;
 #[cfg(test)]
 mod tests;
+mod texts;
 mod writes;
 
 use clap::error::ErrorKind;
 use commits::{Committed, measure_commits};
 use failure::Failure;
+use files::{Filed, measure_files};
 use joins::measure_join;
 use locks::{Paired, measure_locks};
-use options::{Batches, Cycles, Options, Pairs, Rounds, Work, options_of};
+use options::{Batches, Cycles, Options, Pairs, Restart, Rounds, Work, options_of};
 use points::measure_points;
+use recoveries::{Restarted, measure_recovery};
 use std::process::ExitCode;
+use std::time::Duration;
 use std::{env, io};
 use writes::{Written, measure_writes};
 
@@ -58,6 +64,8 @@ fn run_work(rt: &HostRuntime, options: &Options) -> io::Result<u8> {
         Work::Locks(pairs) => run_locks(rt, pairs, options.is_timed),
         Work::Writes(batches) => run_writes(rt, batches, options.is_timed),
         Work::Commits(rounds) => run_commits(rt, rounds, options.is_timed),
+        Work::Recover(restart) => run_recover(rt, restart, options.is_timed),
+        Work::Files { entries } => run_files(rt, entries, options.is_timed),
     };
     match done {
         Ok(()) => Ok(0),
@@ -138,4 +146,60 @@ fn tell_commits(rt: &HostRuntime, done: &Committed, is_timed: bool) -> io::Resul
         println!(rt; "commit_us {}", done.time.as_micros())?;
     }
     Ok(())
+}
+
+fn run_recover(rt: &HostRuntime, restart: Restart, is_timed: bool) -> Result<(), Failure> {
+    match measure_recovery(rt.alloc(), rt, restart) {
+        Ok(done) => Ok(tell_recover(rt, &done, is_timed)?),
+        Err(why) => Err(why),
+    }
+}
+
+fn tell_recover(rt: &HostRuntime, done: &Restarted, is_timed: bool) -> io::Result<()> {
+    println!(rt; "pairs {}", done.pairs)?;
+    println!(rt; "log {}", done.entries)?;
+    println!(rt; "records {}", done.records)?;
+    println!(rt; "bytes {}", done.bytes)?;
+    if is_timed {
+        println!(rt; "recover_us {}", done.time.as_micros())?;
+        println!(rt;
+            "records_a_second {}",
+            a_second(u128::from(done.records), done.time)
+        )?;
+        println!(rt; "bytes_a_second {}", a_second(done.bytes, done.time))?;
+    }
+    Ok(())
+}
+
+fn run_files(rt: &HostRuntime, entries: u32, is_timed: bool) -> Result<(), Failure> {
+    match measure_files(rt.alloc(), rt, entries) {
+        Ok(done) => Ok(tell_files(rt, &done, is_timed)?),
+        Err(why) => Err(why),
+    }
+}
+
+fn tell_files(rt: &HostRuntime, done: &Filed, is_timed: bool) -> io::Result<()> {
+    let (entries, bytes) = (done.entries as u128, done.text.len() as u128);
+    println!(rt; "entries {}", entries)?;
+    println!(rt; "bytes {}", bytes)?;
+    if is_timed {
+        println!(rt; "encode_us {}", done.encoding.as_micros())?;
+        println!(rt;
+            "encoded_entries_a_second {}",
+            a_second(entries, done.encoding)
+        )?;
+        println!(rt; "encoded_bytes_a_second {}", a_second(bytes, done.encoding))?;
+        println!(rt; "decode_us {}", done.decoding.as_micros())?;
+        println!(rt;
+            "decoded_entries_a_second {}",
+            a_second(entries, done.decoding)
+        )?;
+        println!(rt; "decoded_bytes_a_second {}", a_second(bytes, done.decoding))?;
+    }
+    Ok(())
+}
+
+// How many a second these are, where they took at least a microsecond.
+fn a_second(count: u128, time: Duration) -> u128 {
+    count.saturating_mul(1_000_000) / time.as_micros().max(1)
 }

@@ -1,5 +1,5 @@
 //! The command line.
-ghost use Rattle.std.specs.Prelude.{◌≤◌};
+ghost use Rattle.std.specs.Prelude.{◌≤◌, ◌<◌};
 
 use clap::{Arg, ArgAction, ArgMatches, Command, Error};
 use std::alloc::Global;
@@ -17,6 +17,10 @@ pub enum Work {
     Writes(Batches),
     /// Commits of one write each, with or without checkpoints beside them.
     Commits(Rounds),
+    /// Recovery from a base, parts and a log.
+    Recover(Restart),
+    /// A part of so many entries, written and read again.
+    Files { entries: u32 },
 }
 
 /// How many cycles a store goes through, and how many keys it has, 1 to 1,048,576.
@@ -55,6 +59,16 @@ pub struct Rounds {
     ghost in_range: { (1 ≤ keys) × (keys ≤ 1048576) },
 }
 
+/// What is recovered: how many pairs the base has, 1 to 10,000,000, how many commits of one write the log has, at most
+/// 10,000,000, and how many parts there are, fewer than commits and at most 1,000.
+#[derive(Clone, Copy, Debug)]
+pub struct Restart {
+    pub pairs: u32,
+    pub commits: u32,
+    pub parts: u16,
+    ghost in_range: { (1 ≤ pairs) × (pairs ≤ 10000000) × (commits ≤ 10000000) × (parts ≤ 1000) × (parts < commits) },
+}
+
 /// What the program is asked to do.
 #[derive(Clone, Copy, Debug)]
 pub struct Options {
@@ -83,7 +97,9 @@ fn command<'a>(alloc: Global) -> Result<Command<'a>, Error> {
             .subcommand(points_command(alloc)?)?
             .subcommand(locks_command(alloc)?)?
             .subcommand(writes_command(alloc)?)?
-            .subcommand(commits_command(alloc)?)?,
+            .subcommand(commits_command(alloc)?)?
+            .subcommand(recover_command(alloc)?)?
+            .subcommand(files_command(alloc)?)?,
     )
 }
 
@@ -179,6 +195,40 @@ fn commits_command<'a>(alloc: Global) -> Result<Command<'a>, Error> {
     )
 }
 
+fn recover_command<'a>(alloc: Global) -> Result<Command<'a>, Error> {
+    let pairs = Arg::new(alloc, "PAIRS")
+        .help("How many pairs the base has, 1 to 10000000")
+        .required(true)
+        .value_parser(clap::value_parser!(u32).range(1..=10_000_000));
+    let commits = Arg::new(alloc, "COMMITS")
+        .help("How many commits of one write the log has, 1 to 10000000")
+        .required(true)
+        .value_parser(clap::value_parser!(u32).range(1..=10_000_000));
+    let parts = Arg::new(alloc, "PARTS")
+        .help("How many parts there are, 0 to 1000, fewer than commits")
+        .required(true)
+        .value_parser(clap::value_parser!(u16).range(0..=1000));
+    Ok(
+        Command::new(alloc, "recover")
+            .about("Recovers the state of a base, parts and a log")
+            .arg(pairs)?
+            .arg(commits)?
+            .arg(parts)?,
+    )
+}
+
+fn files_command<'a>(alloc: Global) -> Result<Command<'a>, Error> {
+    let entries = Arg::new(alloc, "ENTRIES")
+        .help("How many entries the part has, 1 to 10000000")
+        .required(true)
+        .value_parser(clap::value_parser!(u32).range(1..=10_000_000));
+    Ok(
+        Command::new(alloc, "files")
+            .about("Writes a part to memory and reads it again")
+            .arg(entries)?,
+    )
+}
+
 fn asked(matches: &ArgMatches) -> Option<Options> {
     let is_timed = matches.get_flag("times");
     let (name, matches) = matches.subcommand()?;
@@ -188,6 +238,8 @@ fn asked(matches: &ArgMatches) -> Option<Options> {
         "locks" => locks_of(matches)?,
         "writes" => writes_of(matches)?,
         "commits" => commits_of(matches)?,
+        "recover" => recover_of(matches)?,
+        "files" => files_of(matches)?,
         _ => return None,
     };
     Some(Options { work, is_timed })
@@ -242,4 +294,26 @@ fn commits_of(matches: &ArgMatches) -> Option<Work> {
         keys,
         has_points,
     }))
+}
+
+fn recover_of(matches: &ArgMatches) -> Option<Work> {
+    let pairs = matches.get_one::<u32>("PAIRS")?;
+    let commits = matches.get_one::<u32>("COMMITS")?;
+    let parts = matches.get_one::<u16>("PARTS")?;
+    if pairs < 1 || 10_000_000 < pairs || 10_000_000 < commits || 1000 < parts {
+        return None;
+    }
+    if commits <= u32::from(parts) {
+        return None;
+    }
+    Some(Work::Recover(Restart {
+        pairs,
+        commits,
+        parts,
+    }))
+}
+
+fn files_of(matches: &ArgMatches) -> Option<Work> {
+    let entries = matches.get_one::<u32>("ENTRIES")?;
+    Some(Work::Files { entries })
 }

@@ -1,10 +1,12 @@
 //! Each measurement with few entries or keys.
 use crate::commits::measure_commits;
 use crate::failure::Failure;
+use crate::files::measure_files;
 use crate::joins::measure_join;
 use crate::locks::measure_locks;
-use crate::options::{Batches, Cycles, Pairs, Rounds};
+use crate::options::{Batches, Cycles, Pairs, Restart, Rounds};
 use crate::points::measure_points;
+use crate::recoveries::measure_recovery;
 use crate::writes::measure_writes;
 use std::test::Fail;
 
@@ -89,6 +91,46 @@ fn takes_points_beside_commits(rt: HostRuntime) -> Result<(), Fail> {
                 (commits, points, taken),
                 "{keys}"
             ),
+            Err(Failure::Refused(why)) => return Err(why.into()),
+            Err(Failure::System(e)) => return Err(e.into()),
+        }
+    }
+    Ok(())
+}
+
+// A base has 24 bytes and 22 for each pair of 8 bytes twice, a log has 20 and 31 for each commit and 10 for each token, and a
+// part has 34 and 27 for each entry. The records are all pairs, all commits, and an eighth of the pairs for each part.
+#[test]
+fn recovers_all(rt: HostRuntime) -> Result<(), Fail> {
+    for (pairs, commits, parts, records, bytes) in [
+        (1u32, 1u32, 0u16, 2u64, 97u128),
+        (10, 7, 0, 17, 481),
+        (16, 9, 2, 29, 951),
+    ] {
+        let restart = Restart {
+            pairs,
+            commits,
+            parts,
+        };
+        match measure_recovery(rt.alloc(), &rt, restart) {
+            Ok(done) => assert_eq!(rt;
+                (done.pairs, done.records, done.bytes),
+                (pairs as usize, records, bytes),
+                "{pairs}"
+            ),
+            Err(Failure::Refused(why)) => return Err(why.into()),
+            Err(Failure::System(e)) => return Err(e.into()),
+        }
+    }
+    Ok(())
+}
+
+// A part of one point has 34 bytes and 27 for each entry of 8 bytes twice.
+#[test]
+fn reads_a_part_again(rt: HostRuntime) -> Result<(), Fail> {
+    for (entries, bytes) in [(1u32, 61usize), (4, 142)] {
+        match measure_files(rt.alloc(), &rt, entries) {
+            Ok(done) => assert_eq!(rt; (done.entries, done.text.len()), (entries as usize, bytes)),
             Err(Failure::Refused(why)) => return Err(why.into()),
             Err(Failure::System(e)) => return Err(e.into()),
         }

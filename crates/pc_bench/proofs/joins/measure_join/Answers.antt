@@ -9,4 +9,4 @@ pub returns : goal.returns
 returns g c =
     let is_join = c.in_ok-part.ensures.joined in
     let count = sym (length-map c.entries.result.now entry_of) ∙ ap length c.entries.ensures.entries ∙ ap (λ (f : File). length f.triples.entries) is_join in
-    (c.in_ok-first.first, c.in_ok-second.second, c.in_ok-first.ensures, c.in_ok-second.ensures, count, c.in_ok-text.ensures ∙ ap part_text is_join)
+    (c.in_ok-first.first, c.in_ok-second.second, c.in_ok-first.ensures, c.in_ok-second.ensures, count, c.in_ok-text.ensures.text ∙ ap part_text is_join)
