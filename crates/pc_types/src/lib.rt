@@ -3,6 +3,8 @@
 #![tactic(auto)]
 
 mod events;
+#[cfg(test)]
+mod field_tests;
 mod fields;
 mod keys;
 mod lists;
