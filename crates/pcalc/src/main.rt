@@ -16,6 +16,8 @@ mod setup;
 mod tests;
 mod texts;
 mod views;
+#[cfg(test)]
+mod walk_tests;
 mod words;
 
 use clap::error::ErrorKind;
