@@ -13,7 +13,7 @@ import tempfile
 import time
 
 HERE = os.path.dirname(os.path.abspath(__file__))
-CRATES = ("pc_model", "pc_locks", "pc_part", "pc_engine")
+CRATES = ("pc_model", "pc_locks", "pc_part", "pc_recover", "pc_engine")
 MARK = "at_each_refused_growth"
 TOLD = b"a growth was refused"
 MOST_GROWTHS = 10_000
