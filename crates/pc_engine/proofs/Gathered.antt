@@ -1,5 +1,6 @@
 -- What was taken, as rising entries.
-use Rattle.std.proofs.Common.{◌≡◌, ℕ, ◌+◌, ◌-◌, ◌<◌, ◌≤◌, List, [], ◌∷◌, length, drop, get_or, Option, Some, None, refl, sym, ap, ◌∙◌, arith, cond, Bool, true, false}
+use Rattle.std.proofs.Common.{◌≡◌, ℕ, ◌+◌, ◌≤◌, List, [], ◌∷◌, length, Option, Some, None, refl, sym, ap, ◌∙◌, arith, cond, Bool, true, false}
+use Rattle.std.specs.Prelude.{Result, Ok, Err, IfOk}
 use Rattle.std.specs.FinMap.{find, put}
 use Rattle.std.specs.FinMap.Entries.{length-put}
 use Rattle.pc_model.specs.Maps.{Map, empty, insert, get, from_list}
@@ -8,8 +9,6 @@ use Rattle.pc_model.specs.Points.{AtPoint}
 use Rattle.pc_model.specs.Files.{triples_taken}
 use Rattle.pc_model.proofs.MapLaws.{get-insert, get-empty, get-entries, get-from_list, same_map}
 use Rattle.pc_model.proofs.PairMaps.{tested}
-use Rattle.pc_model.proofs.EntryPlaces.{rest_at}
-use Rattle.std.proofs.lemmas.List.{drop_all}
 
 abbrev Pair : Type 0
 Pair = List ℕ × Option (List ℕ)
@@ -44,14 +43,6 @@ length-insert m k v = by_test _ (length-put key_cmp key_order.total k v m.entrie
     by_test true e = omega (arith, e)
     by_test false e = omega (arith, e)
 
-inserted : (m : Map key_order (Option (List ℕ))) (k : List ℕ) (v : Option (List ℕ)) → (insert m k v).entries ≡ put key_cmp k v m.entries
-unfolding insert
-inserted m k v = refl
-
-no_entries : (let none : Map key_order (Option (List ℕ)) = empty in none).entries ≡ []
-unfolding empty
-no_entries = refl
-
 length-empty : length (let none : Map key_order (Option (List ℕ)) = empty in none).entries ≡ 0
 unfolding empty
 length-empty = refl
@@ -60,22 +51,13 @@ pub no_more : (taken : List Pair) → length (from_list {o = key_order} taken).e
 no_more [] = omega (arith, length-empty)
 no_more (t ∷ ts) = omega (arith, length-insert (from_list {o = key_order} ts) t.0 t.1, no_more ts)
 
--- one more of them, from the last to the first
-pub gathers_next : (taken entries new : List Pair) (n : ℕ) (t : Pair) → n < length taken → t ≡ get_or taken (length taken - 1 - n) t → entries ≡ (from_list {o = key_order} (drop (length taken - n) taken)).entries → new ≡ put key_cmp t.0 t.1 entries →
-    new ≡ (from_list {o = key_order} (drop (length taken - (n + 1)) taken)).entries
-gathers_next taken entries new n t lt is so_far new_is =
-    let i = length taken - 1 - n in
-    let here : drop (length taken - (n + 1)) taken ≡ t ∷ drop (length taken - n) taken =
-    ap (λ j. drop j taken) (omega (arith, lt)) ∙ rest_at taken i t (omega (arith, lt)) is ∙ ap (λ j. t ∷ drop j taken) (omega (arith, lt)) in
-    new_is ∙ ap (put key_cmp t.0 t.1) so_far ∙ sym (inserted (from_list {o = key_order} (drop (length taken - n) taken)) t.0 t.1) ∙ ap (λ ts. (from_list {o = key_order} ts).entries) (sym here)
+module _ {V E : Type 0} (items : V → List Pair) (taken : List Pair) where
+  -- there are no more of them than were taken
+  pub count_of_first : (r : Result V E) → IfOk r (λ v. items v ≡ (from_list {o = key_order} taken).entries) → IfOk r (λ v. length (items v) ≤ length taken)
+  count_of_first (Ok v) is = rw is (no_more taken)
+  count_of_first (Err e) is = tt
 
-pub gathers_none : (taken : List Pair) → [] ≡ (from_list {o = key_order} (drop (length taken - 0) taken)).entries
-gathers_none taken = sym (ap (λ ts. (from_list {o = key_order} ts).entries) (ap (λ j. drop j taken) (omega arith) ∙ drop_all (length taken) taken (omega arith)) ∙ none_yet)
-  where
-    none_yet : (from_list {o = key_order} (let nothing : List Pair = [] in nothing)).entries ≡ []
-    none_yet = no_entries
-
-pub gathered : (taken entries : List Pair) (n : ℕ) → length taken ≤ n → n ≤ length taken → entries ≡ (from_list {o = key_order} (drop (length taken - n) taken)).entries → entries ≡ (from_list {o = key_order} taken).entries
-gathered taken entries n ge le is =
-    let none_left : length taken - n ≡ 0 = omega (arith, ge, le) in
-    is ∙ ap (λ j. (from_list {o = key_order} (drop j taken)).entries) none_left
+  -- they make the same triples
+  pub triples_of_first : (r : Result V E) → IfOk r (λ v. items v ≡ (from_list {o = key_order} taken).entries) → IfOk r (λ v. (point : ℕ) → triples_taken point (items v) ≡ triples_taken point taken)
+  triples_of_first (Ok v) is = λ point. same_triples point (items v) taken is
+  triples_of_first (Err e) is = tt

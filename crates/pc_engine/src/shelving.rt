@@ -5,8 +5,7 @@ ghost use Rattle.pc_model.specs.Database.{KeysRise};
 ghost use Rattle.pc_model.specs.Files.{triples_taken, file_at};
 ghost use Rattle.pc_engine.specs.Shelves.{IsJoin, IsShelvable};
 
-use crate::writes::copied;
-use pc_model::set;
+use pc_model::first_of_each;
 use pc_part::{Part, join};
 use pc_types::{FileNo, Items, Key, Point, Refusal, Value};
 use std::alloc::{AllocError, Global};
@@ -35,14 +34,7 @@ fn rising(
     ensures count { IfOk result (λ entries. length entries.items ≤ length taken.now) }
     ensures same { IfOk result (λ entries. (point : ℕ) → triples_taken point entries.items ≡ triples_taken point taken.now) }
 {
-    let mut entries = Vec::new(alloc);
-    for n in 0..taken.len() {
-        let pair = &taken[taken.len() - 1 - n];
-        let key = pair.0.copy(alloc)?;
-        let content = copied(alloc, &pair.1)?;
-        set(&mut entries, key, content)?;
-    }
-    Ok(entries)
+    first_of_each(alloc, taken)
 }
 
 /// How many files may be on the shelf.

@@ -23,6 +23,7 @@ pub mod Contents
 pub mod TakenValues
 pub mod ShelfFiles
 pub mod TreeLaws
+pub mod FirstOfEach
 pub mod AuditLaws
 pub mod LaidInTurn
 pub mod Taken

@@ -1,0 +1,112 @@
+//! Entries in the order of their keys.
+ghost use Rattle.std.specs.Prelude.{◌≡◌, Some, IfOk, OnOk};
+ghost use Rattle.std.specs.BTreeMap.{Updates, IsOrdered};
+ghost use Rattle.pc_model.specs.Maps.{from_list};
+ghost use Rattle.pc_model.specs.Database.{key_cmp, key_order};
+
+use crate::tree::TreeKey;
+use pc_types::{Key, Value};
+use std::alloc::{AllocError, Global};
+use std::collections::BTreeMap;
+
+/// Copies of the entries, of each key the first one, rising strictly by key. It fails only where memory ran out.
+pub fn first_of_each(
+    alloc: Global,
+    entries: &[(Key, Option<Value>)],
+) -> Result<Vec<(Key, Option<Value>)>, AllocError>
+    ensures { IfOk result (λ out. out.items ≡ (from_list {o = key_order} entries.now).entries) }
+{
+    let mut first = BTreeMap::new(alloc);
+    for i in 0..entries.len() {
+        let (key, content) = &entries[entries.len() - 1 - i];
+        put(alloc, &mut first, key, content)?;
+    }
+    entries_in(alloc, first)
+}
+
+// Sets what the key has, to a copy.
+fn put(
+    alloc: Global,
+    entries: &mut BTreeMap<TreeKey, Option<Value>>,
+    key: &Key,
+    content: &Option<Value>,
+) -> Result<(), AllocError>
+    ensures { OnOk result (Updates key_cmp entries.old entries.new key.now (Some content.now)) }
+{
+    let key = TreeKey(key.copy(alloc)?);
+    let content = copied(alloc, content)?;
+    match entries.insert(key, content) {
+        Ok(_) => Ok(()),
+        Err(_) => Err(AllocError),
+    }
+}
+
+// A copy of the value, if there is one.
+fn copied(alloc: Global, content: &Option<Value>) -> Result<Option<Value>, AllocError>
+    ensures { IfOk result (λ copy. copy ≡ content.now) }
+{
+    match content {
+        Some(value) => Ok(Some(value.copy(alloc)?)),
+        None => Ok(None),
+    }
+}
+
+// The entries, rising by key.
+fn entries_in(
+    alloc: Global,
+    entries: BTreeMap<TreeKey, Option<Value>>,
+) -> Result<Vec<(Key, Option<Value>)>, AllocError>
+    ensures same { IfOk result (λ out. out.items ≡ entries.entries) }
+    ensures ordered { IsOrdered key_cmp entries }
+{
+    let mut out = Vec::with_capacity(alloc, entries.len())?;
+    for (key, content) in entries {
+        let TreeKey(key) = key;
+        out.push((key, content))?;
+    }
+    Ok(out)
+}
+
+#[cfg(test)]
+mod tests {
+    use super::*;
+    use pc_types::Refusal;
+    use std::test::Fail;
+
+    // The entries of these keys and values, of which one without bytes is none, in a row once they rise.
+    fn in_a_row(alloc: Global, rows: &[(&[u8], &[u8])]) -> Result<Vec<u8>, Refusal> {
+        let mut entries = Vec::new(alloc);
+        for (key, value) in rows {
+            let key = Key::new(alloc, key)?;
+            let content = match value {
+                [] => None,
+                bytes => Some(Value::new(alloc, bytes)?),
+            };
+            entries.push((key, content))?;
+        }
+        let mut text = Vec::new(alloc);
+        for (key, content) in first_of_each(alloc, &entries)? {
+            text.extend_from_slice(key.as_bytes())?;
+            if let Some(value) = content {
+                text.extend_from_slice(value.as_bytes())?;
+            }
+        }
+        Ok(text)
+    }
+
+    #[test]
+    fn takes_the_first_of_each_key(rt: HostRuntime) -> Result<(), Fail> {
+        let rows: [(&[u8], &[u8]); 5] = [
+            (b"c", b"1"),
+            (b"a", b""),
+            (b"c", b""),
+            (b"b", b"2"),
+            (b"a", b"3"),
+        ];
+        let text = in_a_row(rt.alloc(), &rows)?;
+        assert_eq!(rt; text.as_slice(), b"ab2c1".as_slice());
+        let text = in_a_row(rt.alloc(), &[])?;
+        assert_eq!(rt; text.len(), 0);
+        Ok(())
+    }
+}
