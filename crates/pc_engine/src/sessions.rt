@@ -15,8 +15,9 @@ ghost use Rattle.pc_engine.specs.Sessions.{actives_of, active_of, active_in, wit
 ghost use Rattle.pc_engine.specs.InPlace.{AreOpen, HoldTogether, StayTogether};
 ghost use Rattle.pc_records.specs.NewKeys.{is_one_too_many};
 
-use crate::writes::{copied, note_write};
+use crate::writes::note_write;
 use pc_locks::Outcome;
+use pc_model::copied;
 use pc_records::Records;
 use pc_types::{Class, Key, Reply, SessionNo, TxnNo, Value, Write};
 use std::alloc::{AllocError, Global};

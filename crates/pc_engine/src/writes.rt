@@ -96,13 +96,3 @@ pub(crate) fn write_of(alloc: Global, key: &Key, value: Option<&Value>) -> Resul
     };
     Ok(Write { key, value })
 }
-
-// A copy of a value or absence.
-pub(crate) fn copied(alloc: Global, value: &Option<Value>) -> Result<Option<Value>, AllocError>
-    ensures { IfOk result (λ v. v ≡ value.now) }
-{
-    match value {
-        Some(value) => Ok(Some(value.copy(alloc)?)),
-        None => Ok(None),
-    }
-}

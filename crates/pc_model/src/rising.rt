@@ -4,6 +4,7 @@ ghost use Rattle.std.specs.BTreeMap.{Updates, IsOrdered};
 ghost use Rattle.pc_model.specs.Maps.{from_list};
 ghost use Rattle.pc_model.specs.Database.{key_cmp, key_order};
 
+use crate::content::copied;
 use crate::tree::TreeKey;
 use pc_types::{Key, Value};
 use std::alloc::{AllocError, Global};
@@ -38,16 +39,6 @@ fn put(
     match entries.insert(key, content) {
         Ok(_) => Ok(()),
         Err(_) => Err(AllocError),
-    }
-}
-
-// A copy of the value, if there is one.
-fn copied(alloc: Global, content: &Option<Value>) -> Result<Option<Value>, AllocError>
-    ensures { IfOk result (λ copy. copy ≡ content.now) }
-{
-    match content {
-        Some(value) => Ok(Some(value.copy(alloc)?)),
-        None => Ok(None),
     }
 }
 

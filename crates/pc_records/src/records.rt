@@ -17,6 +17,7 @@ ghost use Rattle.pc_records.specs.Slots.{rows_of, pending_of, table_of, AreKept,
 use crate::slots::Slot;
 use crate::{slots, versions};
 use pc_locks::{Locks, Mode, Outcome};
+use pc_model::copied;
 use pc_types::{Class, Key, Point, SlotId, TxnNo, Value, Write};
 use std::alloc::{AllocError, Global};
 use std::marker::Model;
@@ -305,7 +306,7 @@ fn write(
         Ok(i) => {
             let slot = &slots[i];
             let number = slot.number;
-            let copy = versions::copied(alloc, &slot.live)?;
+            let copy = copied(alloc, &slot.live)?;
             locks.laws(number);
             let answer = locks.request(transaction, number, mode)?;
             slots::put_granted(slots, i, point, transaction, class, copy, value, answer);

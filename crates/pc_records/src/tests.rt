@@ -4,6 +4,7 @@ ghost use Rattle.std.specs.Prelude.{◌≡◌, []};
 use crate::slots::Slot;
 use crate::{Records, slots, versions};
 use pc_locks::Outcome;
+use pc_model::copied;
 use pc_types::{Class, Key, Point, Refusal, SlotId, TxnNo, Value};
 use std::alloc::Global;
 use std::test::Fail;
@@ -52,7 +53,7 @@ fn look_at(slot: &Slot) -> Seen {
 fn happen(alloc: Global, slot: &mut Slot, point: Point, moment: Moment) -> Result<Point, Refusal> {
     match moment {
         Write(class, content) => {
-            let copy = versions::copied(alloc, &slot.live)?;
+            let copy = copied(alloc, &slot.live)?;
             let value = value_of(alloc, content)?;
             versions::put(slot, point, TxnNo(1), class, copy, value);
         }

@@ -1,13 +1,12 @@
 //! The moments of one slot: its key is written in its place, the write is committed or undone, the open set is closed, and
 //! the key is taken.
-ghost use Rattle.std.specs.Prelude.{◌≡◌, IfOk, option_copied};
+ghost use Rattle.std.specs.Prelude.{◌≡◌, option_copied};
 ghost use Rattle.pc_types.specs.declared.Class.TheVariants as class_of;
 ghost use Rattle.pc_model.specs.Replies.{same_class};
 ghost use Rattle.pc_records.specs.Slots.{committed, pinned, is_held, is_available, saved, put_slot, settled, undone, taken_slot, closed_slot};
 
 use crate::slots::Slot;
 use pc_types::{Class, Point, TxnNo, Value};
-use std::alloc::{AllocError, Global};
 use std::mem;
 
 /// What a key had before, kept for the point.
@@ -26,16 +25,6 @@ pub(crate) struct Writer {
     pub(crate) class: Class,
     /// What is committed of the key, which an abort puts back.
     pub(crate) before: Option<Value>,
-}
-
-// A copy of a value or absence.
-pub(crate) fn copied(alloc: Global, value: &Option<Value>) -> Result<Option<Value>, AllocError>
-    ensures { IfOk result (λ v. v ≡ value.now) }
-{
-    match value {
-        Some(value) => Ok(Some(value.copy(alloc)?)),
-        None => Ok(None),
-    }
 }
 
 // The committed value of the slot's key.
