@@ -16,7 +16,7 @@ use Rattle.pc_types.proofs.FieldLemmas.{wide32, wide64, number_again, magic_agai
 use Rattle.pc_log.specs.declared.order.LastToken.{LastToken}
 use Rattle.pc_log.specs.Texts.{log_magic, header_text, body_text, entry_text, log_text, IsEntry}
 use Rattle.pc_log.specs.Orders.{token_after, no_token, FollowFrom, InOrder}
-use Rattle.pc_log.specs.Reading.{entry_at, entries_at, log_at, Found, none_more, with_entry}
+use Rattle.pc_log.specs.Reading.{entry_at, entries_at, header_at, log_at, Found, none_more, with_entry}
 use Rattle.pc_log.specs.Laws.{AreCut, cut_read, left_behind}
 use Rattle.pc_log.proofs.TokenOrders.{ComesNext, follow_first}
 use Rattle.pc_log.proofs.EntriesAgain.{body_length, body_lawful, entry_again, header_parts, header_again}
@@ -117,7 +117,7 @@ unfolding magic_at
 magic_short magic bytes lt = rw (bytes_short Short 8 bytes lt) refl
 
 pub header_cut : (run : ℕ) (rest : List ℕ) (c : ℕ) → run < 2 ^ 64 → c < 20 → log_at (take c (header_text run ++ rest)) ≡ Err Short
-unfolding log_at
+unfolding log_at header_at
 header_cut run rest c fits cut =
     let base = to_be_bytes w32 0 ++ rest in
     let numbers = to_be_bytes w64 run ++ base in

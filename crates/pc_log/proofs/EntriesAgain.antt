@@ -17,7 +17,7 @@ use Rattle.pc_types.proofs.FieldLemmas.{wide16, wide32, wide64, bytes_again, num
 use Rattle.pc_log.specs.declared.order.LastToken.{LastToken}
 use Rattle.pc_log.specs.Texts.{log_magic, header_text, write_text, phase_number, body_text, entry_text, same_key, keys_of, IsWrite, IsEntry, IsCommit, IsPoint}
 use Rattle.pc_log.specs.Orders.{comes_next, token_after, no_token, FollowFrom}
-use Rattle.pc_log.specs.Reading.{is_written, write_at, writes_at, commit_at, token_at, kind_at, body_at, entry_at, log_at, with_entry, of_run}
+use Rattle.pc_log.specs.Reading.{is_written, write_at, writes_at, commit_at, token_at, kind_at, body_at, entry_at, header_at, log_at, with_entry, of_run}
 use Rattle.pc_log.proofs.TokenOrders.{ComesNext, next_holds, numbered_is, follow_first}
 use Rattle.pc_log.proofs.EntryTexts.{one_byte, same_key_laws}
 use Rattle.pc_log.proofs.Turns.{all_at, all_go_on, with_front}
@@ -126,7 +126,7 @@ pub header_parts : (run : ℕ) (rest : List ℕ) → header_text run ++ rest ≡
 header_parts run rest = append_assoc log_magic (to_be_bytes w64 run ++ to_be_bytes w32 0) rest ∙ ap (λ (t : List ℕ). log_magic ++ t) (append_assoc (to_be_bytes w64 run) (to_be_bytes w32 0) rest)
 
 pub header_again : (run : ℕ) (rest : List ℕ) → run < 2 ^ 64 → log_at (header_text run ++ rest) ≡ Ok (of_run run (all_at no_token rest))
-unfolding log_at
+unfolding log_at header_at
 header_again run rest fits =
     ap log_at (header_parts run rest)
     ∙ rw (magic_again log_magic (to_be_bytes w64 run ++ (to_be_bytes w32 0 ++ rest)) refl, number_again Short w64 (2 ^ 64) wide64 run (to_be_bytes w32 0 ++ rest) fits, number_again Short w32 (2 ^ 32) wide32 0 rest (omega arith)) refl

@@ -10,16 +10,16 @@ use Rattle.pc_types.specs.declared.refusal.Refusal.{Refusal}
 use Rattle.pc_types.specs.declared.refusal.Refusal.TheVariants.{Short, BadRanges}
 use Rattle.pc_types.specs.declared.Entry.{Entry}
 use Rattle.pc_types.specs.Fields.{◌>>=◌, where_true, number_at, magic_at, Gives}
-use Rattle.pc_types.proofs.FieldLemmas.{IsBytes, bind_ok, ok_is, Takes, Takes-then, wide32, wide64, number_takes, magic_takes}
+use Rattle.pc_types.proofs.FieldLemmas.{IsBytes, bind_ok, ok_is, where_ok, Takes, Takes-then, wide32, wide64, number_takes, magic_takes}
 use Rattle.pc_log.specs.declared.order.LastToken.{LastToken}
 use Rattle.pc_log.specs.Texts.{log_magic, header_text, entry_text, log_text, IsEntry}
 use Rattle.pc_log.specs.Orders.{token_after, no_token, FollowFrom, InOrder}
-use Rattle.pc_log.specs.Reading.{entry_at, entries_at, log_at, Found, none_more, with_entry, of_run, text_of, LogRead}
+use Rattle.pc_log.specs.Reading.{entry_at, entries_at, header_at, log_at, Found, none_more, with_entry, of_run, text_of, LogRead}
 use Rattle.pc_log.specs.declared.reading.LogText.{LogText}
 use Rattle.pc_log.specs.Laws.{IsWhole}
 use Rattle.pc_log.proofs.TokenOrders.{HasBegun, begun_after, follow_more}
 use Rattle.pc_log.proofs.EntryTexts.{EntryTakes, entry_takes}
-use Rattle.pc_log.proofs.Steps.{where_then}
+use Rattle.pc_log.proofs.Steps.{made_ok}
 use Rattle.pc_log.proofs.EntriesAgain.{last_after, all_again, header_again}
 use Rattle.pc_log.proofs.Turns.{all_at, turn_is, with_front, read_as}
 
@@ -59,26 +59,38 @@ entries_take (suc turns) last bytes fits begun = by_read (entry_at last bytes) r
 
 -- ---- the header
 
-record HeaderTakes (bytes : List ℕ) (read : LogRead) : Type 0 where
-  rest : List ℕ
-  taken : Takes bytes (header_text read.run) rest
-  run_fits : read.run < 2 ^ 64
-  read_is : read ≡ of_run read.run (all_at no_token rest)
+record HeaderTakes (bytes : List ℕ) (run : ℕ) (rest : List ℕ) : Type 0 where
+  taken : Takes bytes (header_text run) rest
+  run_fits : run < 2 ^ 64
 
-header_takes : (bytes : List ℕ) (read : LogRead) → IsBytes bytes → log_at bytes ≡ Ok read → HeaderTakes bytes read
-unfolding log_at
-header_takes bytes read fits e =
-    let a = bind_ok (magic_at log_magic bytes) (λ start. number_at Short w64 start >>= λ run. number_at Short w32 run.1 >>= λ base. where_true (eqb base.0 0) BadRanges base.1 >>= λ rest. read_as run.0 (all_at no_token rest)) read e in
-    let r = bind_ok (number_at Short w64 a.0) (λ run. number_at Short w32 run.1 >>= λ base. where_true (eqb base.0 0) BadRanges base.1 >>= λ rest. read_as run.0 (all_at no_token rest)) read a.2 in
-    let b = bind_ok (number_at Short w32 r.0.1) (λ base. where_true (eqb base.0 0) BadRanges base.1 >>= λ rest. read_as r.0.0 (all_at no_token rest)) read r.2 in
-    let g = where_then (eqb b.0.0 0) BadRanges b.0.1 (λ rest. read_as r.0.0 (all_at no_token rest)) read b.2 in
+header_takes : (bytes : List ℕ) (run : ℕ) (rest : List ℕ) → IsBytes bytes → header_at bytes ≡ Ok (run, rest) → HeaderTakes bytes run rest
+unfolding header_at
+header_takes bytes run rest fits e =
+    let a = bind_ok (magic_at log_magic bytes) (λ start. number_at Short w64 start >>= λ n. number_at Short w32 n.1 >>= λ base. where_true (eqb base.0 0) BadRanges (n.0, base.1)) (run, rest) e in
+    let r = bind_ok (number_at Short w64 a.0) (λ n. number_at Short w32 n.1 >>= λ base. where_true (eqb base.0 0) BadRanges (n.0, base.1)) (run, rest) a.2 in
+    let b = bind_ok (number_at Short w32 r.0.1) (λ base. where_true (eqb base.0 0) BadRanges (r.0.0, base.1)) (run, rest) r.2 in
+    let g = where_ok (eqb b.0.0 0) BadRanges (r.0.0, b.0.1) (run, rest) b.2 in
     let m = magic_takes log_magic bytes a.0 fits a.1 in
     let n = number_takes Short w64 (2 ^ 64) wide64 a.0 r.0.0 r.0.1 m.rest_fits r.1 in
     let z = number_takes Short w32 (2 ^ 32) wide32 r.0.1 b.0.0 b.0.1 n.0.rest_fits b.1 in
     let base : Takes r.0.1 (to_be_bytes w32 0) b.0.1 = subst (λ (k : ℕ). Takes r.0.1 (to_be_bytes w32 k) b.0.1) (eqb-true _ _ g.0) z.0 in
     let numbers = Takes-then a.0 (to_be_bytes w64 r.0.0) r.0.1 (to_be_bytes w32 0) b.0.1 n.0 base in
     let taken = Takes-then bytes log_magic a.0 (to_be_bytes w64 r.0.0 ++ to_be_bytes w32 0) b.0.1 m numbers in
-    subst (λ (x : LogRead). HeaderTakes bytes x) (ok_is (of_run r.0.0 (all_at no_token b.0.1)) read g.1) (record { rest = b.0.1; taken = taken; run_fits = n.1; read_is = refl })
+    subst (λ (x : ℕ × List ℕ). HeaderTakes bytes x.0 x.1) g.1 (record { taken = taken; run_fits = n.1 })
+
+-- the header, and what is found behind it
+record LogTakes (bytes : List ℕ) (read : LogRead) : Type 0 where
+  rest : List ℕ
+  taken : Takes bytes (header_text read.run) rest
+  run_fits : read.run < 2 ^ 64
+  read_is : read ≡ of_run read.run (all_at no_token rest)
+
+log_takes : (bytes : List ℕ) (read : LogRead) → IsBytes bytes → log_at bytes ≡ Ok read → LogTakes bytes read
+unfolding log_at
+log_takes bytes read fits e =
+    let h = made_ok (header_at bytes) (λ (header : ℕ × List ℕ). of_run header.0 (all_at no_token header.1)) read e in
+    let header = header_takes bytes h.0.0 h.0.1 fits h.1 in
+    subst (λ (x : LogRead). LogTakes bytes x) h.2 (record { rest = h.0.1; taken = header.taken; run_fits = header.run_fits; read_is = refl })
 
 -- ---- whole entries
 
@@ -88,7 +100,7 @@ front_of front found entries e = sym (ap (take (length front)) e ∙ take_at fro
 
 pub whole_entries : (bytes : List ℕ) (read : LogRead) → IsBytes bytes → log_at bytes ≡ Ok read → IsWhole bytes read.run read.entries read.rest
 whole_entries bytes read fits e =
-    let h = header_takes bytes read fits e in
+    let h = log_takes bytes read fits e in
     let found = entries_take (length h.rest) no_token h.rest h.taken.rest_fits (omega arith) in
     let entries_are : read.entries ≡ (all_at no_token h.rest).entries = ap (λ (x : LogRead). x.entries) h.read_is in
     let rest_is : read.rest ≡ (all_at no_token h.rest).rest = ap (λ (x : LogRead). x.rest) h.read_is in

@@ -130,14 +130,19 @@ pub record LogRead : Type 0 where
 abbrev pub of_run : ℕ → Found → LogRead
 of_run run found = record { run = run; entries = found.entries; rest = found.rest; fault = found.fault }
 
--- all of the bytes: the header, and the entries behind it
-unfoldable pub log_at : List ℕ → Result LogRead Refusal
-log_at bytes = do
+-- the header: the run, and the bytes behind it
+unfoldable pub header_at : List ℕ → Result (ℕ × List ℕ) Refusal
+header_at bytes = do
   start ← magic_at log_magic bytes
   run ← number_at Short w64 start
   base ← number_at Short w32 run.1
-  rest ← where_true (base.0 == 0) BadRanges base.1
-  Ok (of_run run.0 (entries_at (length rest) no_token rest))
+  where_true (base.0 == 0) BadRanges (run.0, base.1)
+
+-- all of the bytes: the header, and the entries behind it
+unfoldable pub log_at : List ℕ → Result LogRead Refusal
+log_at bytes = do
+  header ← header_at bytes
+  Ok (of_run header.0 (entries_at (length header.1) no_token header.1))
 
 -- what a call has read, without where it lies in memory
 abbrev pub text_of : LogText → LogRead

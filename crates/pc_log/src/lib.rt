@@ -17,4 +17,5 @@ mod tests;
 pub use encoding::{encode_entry, encode_header, encode_log};
 pub use laws::{cut_logs_are_read, log_texts_are_read, whole_entries_are_longest};
 pub use log::Log;
-pub use reading::{LogText, read_log};
+pub use order::LastToken;
+pub use reading::{LogText, read_entry, read_header, read_log};

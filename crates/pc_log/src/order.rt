@@ -4,16 +4,16 @@ ghost use Rattle.pc_log.specs.Orders.{comes_next, next_phase, next_point, no_tok
 
 use pc_types::{Entry, Phase, Point};
 
-// The last token of the entries so far.
+/// The last token of a log's entries so far. It says which token may come next.
 #[derive(Clone, Copy)]
-pub(crate) struct LastToken {
+pub struct LastToken {
     pub(crate) phase: Phase,
     pub(crate) point: Point,
 }
 
 impl LastToken {
-    // There is no token yet: the first cycle is about to begin.
-    pub(crate) fn none() -> LastToken
+    /// There is no token yet: the first cycle is about to begin.
+    pub fn none() -> LastToken
         ensures { result ≡ no_token }
     {
         LastToken {
@@ -32,8 +32,8 @@ impl LastToken {
             && point <= 65_535
     }
 
-    // The last token once this entry stands behind the others.
-    pub(crate) fn after(&self, entry: &Entry) -> LastToken
+    /// The last token once this entry stands behind the others.
+    pub fn after(&self, entry: &Entry) -> LastToken
         ensures { result ≡ token_after self.now entry.now }
     {
         match entry {

@@ -1,7 +1,7 @@
 //! A log is read from its text, which may have been cut off.
 ghost use Rattle.std.specs.Prelude.{◌≡◌, ◌<◌, [], length, IfOk, Ok, Err, Some};
 ghost use Rattle.pc_types.specs.Fields.{Gives, Reads};
-ghost use Rattle.pc_log.specs.Reading.{byte_at, write_at, writes_at, commit_at, token_at, kind_at, body_at, entry_at, entries_at, log_at, text_of, of_run, is_written};
+ghost use Rattle.pc_log.specs.Reading.{byte_at, write_at, writes_at, commit_at, token_at, kind_at, body_at, entry_at, entries_at, header_at, log_at, text_of, of_run, is_written};
 ghost use Rattle.pc_log.specs.Orders.{no_token};
 ghost use Rattle.pc_log.specs.Laws.{IsWhole};
 
@@ -41,13 +41,24 @@ pub fn read_log(alloc: Global, bytes: &[u8]) -> Result<LogText, Refusal>
 fn read_text(alloc: Global, bytes: &[u8]) -> Result<LogText, Refusal>
     ensures { Gives text_of result (log_at bytes.now) }
 {
+    let (run, rest) = read_header(bytes)?;
+    read_entries(alloc, run, rest)
+}
+
+/// Reads the header of 20 bytes with which a log's text begins: the number of the run, and the bytes behind it. Refuses with
+/// `Short` where there are fewer bytes, with `BadMagic` where the first 8 are others, and with `BadRanges` where the base
+/// point isn't 0; of several faults with the first. It takes no memory.
+#[tactic(auto, unfolding(crate::specs::Reading::header_at))]
+pub fn read_header(bytes: &[u8]) -> Result<(u64, &[u8]), Refusal>
+    ensures { Reads (λ x. (x.0, x.1.now)) result (header_at bytes.now) }
+{
     let rest = read_magic(bytes, b"PCALCL01")?;
     let (run, rest) = read_u64(rest, Refusal::Short)?;
     let (base, rest) = read_u32(rest, Refusal::Short)?;
     if base != 0 {
         return Err(Refusal::BadRanges);
     }
-    read_entries(alloc, run, rest)
+    Ok((run, rest))
 }
 
 // As many entries as can be read one after the other.
@@ -91,8 +102,12 @@ fn stopped(run: u64, entries: Vec<Entry>, rest: &[u8], fault: Refusal) -> Result
     })
 }
 
+/// Reads the entry with which the bytes begin: the entry, and the bytes behind it. A token has to be the one that follows the
+/// last token before these bytes. Refuses with the first fault of the entry: `Short` where the bytes end inside it, else
+/// `BadLength`, `BadKind`, `KeyOrder`, `TokenOrder` or `Trailing`; and with `OutOfMemory` only where a growth was refused. It
+/// takes memory for the entry alone.
 #[tactic(auto, unfolding(crate::specs::Reading::entry_at))]
-fn read_entry(alloc: Global, last: LastToken, bytes: &[u8]) -> Result<(Entry, &[u8]), Refusal>
+pub fn read_entry(alloc: Global, last: LastToken, bytes: &[u8]) -> Result<(Entry, &[u8]), Refusal>
     ensures { Gives (λ x. (x.0, x.1.now)) result (entry_at last bytes.now) }
 {
     let (size, rest) = read_u32(bytes, Refusal::Short)?;
@@ -161,11 +176,12 @@ fn read_commit(alloc: Global, bytes: &[u8]) -> Result<(Entry, &[u8]), Refusal>
     Ok((Entry::Commit(session, writes), rest))
 }
 
-// So many writes, of which no two have the same key.
+// So many writes, of which no two have the same key. Room is taken for just as many.
 fn read_writes(alloc: Global, count: u16, bytes: &[u8]) -> Result<(Items<Write>, &[u8]), Refusal>
     ensures { Gives (λ x. (x.0, x.1.now)) result (writes_at count [] bytes.now) }
 {
-    let mut writes = Items::new(alloc);
+    let room = Vec::with_capacity(alloc, usize::from(count))?;
+    let mut writes = Items::from_vec(room);
     let mut rest = bytes;
     for _ in 0..count {
         let (write, after) = read_write(alloc, writes.as_slice(), rest)?;

@@ -153,6 +153,31 @@ fn an_entry_is_what_was_written(rt: HostRuntime) -> Result<(), Fail> {
     Ok(())
 }
 
+// The run, and how many bytes are left behind each of six entries that are read one by one.
+fn left_behind_each(alloc: Global, bytes: &[u8]) -> Result<(u64, Vec<usize>), Refusal> {
+    let (run, behind) = read_header(bytes)?;
+    let mut last = LastToken::none();
+    let mut rest = behind;
+    let mut left = Vec::new(alloc);
+    for _ in 0..6 {
+        let (entry, after) = read_entry(alloc, last, rest)?;
+        last = last.after(&entry);
+        rest = after;
+        left.push(rest.len())?;
+    }
+    Ok((run, left))
+}
+
+#[test]
+fn entries_are_read_one_by_one(rt: HostRuntime) -> Result<(), Fail> {
+    let (run, left) = left_behind_each(rt.alloc(), &LOG)?;
+    assert_eq!(rt; run, 1);
+    assert_eq!(rt; left.as_slice(), [57usize, 47, 37, 20, 10, 0].as_slice());
+    let cut = left_behind_each(rt.alloc(), &LOG[..93]).err();
+    assert_eq!(rt; cut, Some(Refusal::Short));
+    Ok(())
+}
+
 // A header that was cut off is short, and later the whole entries are read.
 #[test]
 fn a_log_is_cut_at_each_byte(rt: HostRuntime) -> Result<(), Fail> {

@@ -1,3 +1,4 @@
+pub mod EntryReplays
 pub mod Folded
 pub mod Reaching
 pub mod Summing

@@ -10,10 +10,12 @@ use Rattle.pc_model.specs.Log.{after}
 use Rattle.pc_model.specs.Files.{File, BaseFile}
 use Rattle.pc_part.specs.Reading.{base_at}
 use Rattle.pc_log.specs.Reading.{LogRead}
+use Rattle.pc_log.proofs.Steps.{made_ok}
 use Rattle.pc_recover.specs.declared.reach.Reach.{Reach}
 use Rattle.pc_recover.specs.declared.recovered.Recovered.{Recovered}
 use Rattle.pc_recover.specs.declared.recovered.Skipped.{Skipped}
 use Rattle.pc_recover.specs.Reach.{IsReach}
+use Rattle.pc_recover.specs.Replaying.{Replay, replay_of, log_replay}
 use Rattle.pc_recover.specs.Recovery.{Recovery, recovery, recovery_of, recovery_on, recovered_point, first_lack, those_had, files_of, files_to, with_files, log_of_run, entries_after, unused_from}
 
 -- a refusal is that of the rules, or memory ran out
@@ -23,6 +25,15 @@ refused_with e (Err why) read given due = λ other. let same : why ≡ e = given
 
 pub memory_ran_out : (r : Result Recovered Refusal) (read : Result Recovery Refusal) → IsErr r × IsErrAnd r (λ why. why ≡ OutOfMemory) → Gives recovery_of r read
 memory_ran_out r read given = refused_with OutOfMemory r read given (λ other. absurd (other refl))
+
+-- the refusal of what is made of a step is the step's
+made_err : {A B : Type 0} (r : Result A Refusal) (f : A → B) (e : Refusal) → (r >>= λ x. Ok (f x)) ≡ Err e → r ≡ Err e
+made_err (Ok x) f e is = absurd cc
+made_err (Err d) f e is = ap (as_err d) is
+  where
+    as_err : {A B : Type 0} → Refusal → Result B Refusal → Result A Refusal
+    as_err d (Ok x) = Err d
+    as_err d (Err e) = Err e
 
 -- what is recovered of a log on this state
 abbrev pub made_of : ℕ → Option Refusal → Database → ℕ → List Skipped → Result Recovery Refusal
@@ -71,16 +82,21 @@ module _ (bytes : List ℕ) (parts : List (List ℕ)) (log : List ℕ) (base : B
         ∙ ap (λ n. log_of_run n log >>= λ found. made_of reach.point found.fault (after laid.pairs (entries_after reach.point found.entries)) (length found.entries) (unused_from 0 reach.point reach.lack files)) (sym run_is)
 
     -- the log's refusal
-    pub log_refused : (e : Refusal) → log_of_run run log ≡ Err e → recovery bytes parts log ≡ Err e
-    log_refused e is = on_state ∙ ap (λ r. r >>= λ found. made_of reach.point found.fault (after laid.pairs (entries_after reach.point found.entries)) (length found.entries) (unused_from 0 reach.point reach.lack files)) is
+    pub log_refused : (state : Database) (e : Refusal) → log_replay run reach.point state log ≡ Err e → recovery bytes parts log ≡ Err e
+    log_refused state e is =
+        on_state
+        ∙ ap (λ r. r >>= λ found. made_of reach.point found.fault (after laid.pairs (entries_after reach.point found.entries)) (length found.entries) (unused_from 0 reach.point reach.lack files))
+        (made_err (log_of_run run log) (λ (found : LogRead). replay_of reach.point state found.entries found.fault) e is)
 
     -- all that is recovered
-    pub all_recovered : (found : LogRead) → log_of_run run log ≡ Ok found → (skipped : List Skipped) → skipped ≡ unused_from 0 reach.point reach.lack files →
-        (state pairs : Database) → state ≡ laid.pairs → pairs ≡ after state (entries_after reach.point found.entries) → (entries : ℕ) → entries ≡ length found.entries →
-        recovery bytes parts log ≡ made_of reach.point found.fault pairs entries skipped
-    all_recovered found is skipped skipped_are state pairs state_is pairs_are entries entries_are =
+    pub all_recovered : (state : Database) → state ≡ laid.pairs → (replay : Replay) → log_replay run reach.point state log ≡ Ok replay → (skipped : List Skipped) → skipped ≡ unused_from 0 reach.point reach.lack files → (pairs : Database) → pairs ≡ replay.pairs →
+        recovery bytes parts log ≡ made_of reach.point replay.fault pairs replay.entries skipped
+    all_recovered state state_is replay is skipped skipped_are pairs pairs_are =
+        let unused = unused_from 0 reach.point reach.lack files in
+        let found = made_ok (log_of_run run log) (λ (text : LogRead). replay_of reach.point state text.entries text.fault) replay is in
         on_state
-        ∙ ap (λ r. r >>= λ text. made_of reach.point text.fault (after laid.pairs (entries_after reach.point text.entries)) (length text.entries) (unused_from 0 reach.point reach.lack files)) is
-        ∙ ap (λ db. made_of reach.point found.fault db (length found.entries) (unused_from 0 reach.point reach.lack files)) (sym (pairs_are ∙ ap (λ db. after db (entries_after reach.point found.entries)) state_is))
-        ∙ ap (λ n. made_of reach.point found.fault pairs n (unused_from 0 reach.point reach.lack files)) (sym entries_are)
-        ∙ ap (made_of reach.point found.fault pairs entries) (sym skipped_are)
+        ∙ ap (λ r. r >>= λ text. made_of reach.point text.fault (after laid.pairs (entries_after reach.point text.entries)) (length text.entries) unused) found.1
+        ∙ ap (λ db. made_of reach.point found.0.fault (after db (entries_after reach.point found.0.entries)) (length found.0.entries) unused) (sym state_is)
+        ∙ ap (λ (r : Replay). made_of reach.point r.fault r.pairs r.entries unused) found.2
+        ∙ ap (λ db. made_of reach.point replay.fault db replay.entries unused) (sym pairs_are)
+        ∙ ap (made_of reach.point replay.fault pairs replay.entries) (sym skipped_are)

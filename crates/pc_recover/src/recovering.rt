@@ -7,9 +7,10 @@ ghost use Rattle.pc_recover.specs.Recovery.{recovery, recovery_of};
 use crate::candidates::candidates;
 use crate::reach::reach_from;
 use crate::recovered::Recovered;
-use crate::replaying::{log_of_run, replay};
+use crate::replaying::{Replayed, replay_log};
 use crate::state::with_used;
 use crate::unused::unused;
+use pc_model::Tree;
 use pc_part::Base;
 use pc_types::Refusal;
 use std::alloc::Global;
@@ -23,8 +24,8 @@ use std::alloc::Global;
 /// where the point is 0, none where the log has no such token. Fewer than the 20 bytes of a log's header count as a log
 /// without entries. Bytes behind the last whole entry are left out, and their fault is told.
 ///
-/// Memory is taken for the pairs, the parts that were read, the log's whole entries, and for one number of each point. Of
-/// several refusals the first counts:
+/// Memory is taken for the pairs, the parts that were read, one entry of the log at a time, and for one number of each point.
+/// Of several refusals the first counts:
 ///
 /// - the fault of the base's bytes;
 /// - `Conflict` or `Full`, where the parts that are used can't be joined or laid;
@@ -46,11 +47,10 @@ pub fn recover(
     let reach = reach_from(alloc, base.point(), &files)?;
     let skipped = unused(alloc, &reach, &files)?;
     let state = with_used(alloc, base, reach.point, files)?;
-    let log = log_of_run(alloc, run, log)?;
-    let (entries, fault) = (log.entries.len(), log.fault);
-    let pairs = replay(alloc, reach.point, state.into_pairs(), log.entries)?;
+    let mut tree = Tree::from_vec(alloc, state.into_pairs())?;
+    let Replayed { entries, fault } = replay_log(alloc, run, reach.point, &mut tree, log)?;
     Ok(Recovered {
-        pairs,
+        pairs: tree.into_pairs(alloc)?,
         point: reach.point,
         entries,
         skipped,

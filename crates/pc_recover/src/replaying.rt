@@ -1,87 +1,110 @@
-//! What the log has behind the state of the recovered point.
-ghost use Rattle.std.specs.Prelude.{◌≡◌, ◌≤◌, [], ◌∷◌, drop, length, IfOk, OnOk};
+//! What the log has behind the state of the recovered point, read and applied entry by entry.
+ghost use Rattle.std.specs.Prelude.{◌≡◌, ◌∷◌, [], ◌||◌, length, IfOk, OnOk, Ok, Err, Some};
 ghost use Rattle.pc_types.specs.Fields.{Gives};
-ghost use Rattle.pc_model.specs.Database.{KeysRise, database_of};
 ghost use Rattle.pc_model.specs.Log.{after};
-ghost use Rattle.pc_log.specs.Reading.{text_of};
-ghost use Rattle.pc_recover.specs.Recovery.{entries_after, log_of_run};
-ghost use Rattle.pc_recover.specs.Replaying.{is_point_token};
+ghost use Rattle.pc_log.specs.Orders.{no_token};
+ghost use Rattle.pc_log.specs.Reading.{entries_at};
+ghost use Rattle.pc_recover.specs.Replaying.{counting, found_replay, is_point_token, log_replay, replay_with};
 
-use pc_log::{LogText, read_log};
+use pc_log::{LastToken, read_entry, read_header};
 use pc_model::Tree;
-use pc_types::{Entry, Key, Phase, Point, Refusal, Value};
+use pc_types::{Entry, Phase, Point, Refusal};
 use std::alloc::{AllocError, Global};
 
 // A log's text begins with so many bytes, which were written before the first entry.
 const HEADER: usize = 20;
 
-/// What is read of the run's log. Of fewer bytes than its header has no entry is read, and they are no fault: a crash came
-/// before the first entry. Refuses with the fault of the header, or with `OtherRun`.
-pub(crate) fn log_of_run(alloc: Global, run: u64, bytes: &[u8]) -> Result<LogText, Refusal>
-    ensures { Gives text_of result (log_of_run run bytes.now) }
+/// What was seen of a log while it was applied: how many whole entries it has, and the fault of its rest, where there is one.
+pub(crate) struct Replayed {
+    pub(crate) entries: usize,
+    pub(crate) fault: Option<Refusal>,
+}
+
+/// Applies the commits of the run's log that came behind the point's token to the tree, all of them where the point is 0.
+/// Fewer bytes than a log's header has count as a log without entries: a crash came before the first entry. Refuses with the
+/// fault of the header, with `OtherRun`, or with `OutOfMemory` where memory ran out. Of the log one entry at a time is kept.
+#[tactic(auto, unfolding(pc_log::specs::Reading::log_at))]
+pub(crate) fn replay_log(
+    alloc: Global,
+    run: u64,
+    point: Point,
+    tree: &mut Tree,
+    bytes: &[u8],
+) -> Result<Replayed, Refusal>
+    ensures { Gives (replay_with tree.new) result (log_replay run point tree.old bytes.now) }
 {
     if bytes.len() < HEADER {
-        let entries = Vec::new(alloc);
-        let (rest, fault) = (bytes.len(), None);
-        return Ok(LogText {
-            run,
-            entries,
-            rest,
-            fault,
+        return Ok(Replayed {
+            entries: 0,
+            fault: None,
         });
     }
-    let log = read_log(alloc, bytes)?;
-    if log.run != run {
+    let (of_run, entries) = read_header(bytes)?;
+    if of_run != run {
         return Err(Refusal::OtherRun);
     }
-    Ok(log)
+    replay_entries(alloc, point, tree, entries)
 }
 
-/// The pairs after the entries that came behind the point's token, all of them where the point is 0. Keys and values are
-/// taken over, not copied; where there is no such entry the pairs stay as they are. It fails only where memory ran out.
-pub(crate) fn replay(
+// Reads the entries one after the other, as many as can be read, and applies those that count.
+fn replay_entries(
     alloc: Global,
     point: Point,
-    pairs: Vec<(Key, Value)>,
-    entries: Vec<Entry>,
-) -> Result<Vec<(Key, Value)>, AllocError>
-    requires { KeysRise pairs.items }
-    ensures rise { IfOk result (λ out. KeysRise out.items) }
-    ensures pairs { IfOk result (λ out. database_of out.items ≡ after (database_of pairs.items) (entries_after point entries.items)) }
+    tree: &mut Tree,
+    bytes: &[u8],
+) -> Result<Replayed, Refusal>
+    ensures { Gives (replay_with tree.new) result (Ok (found_replay point tree.old (entries_at (length bytes.now) no_token bytes.now))) }
 {
-    let start = first_behind(point, &entries);
-    if start == entries.len() {
-        return Ok(pairs);
-    }
-    let mut tree = Tree::from_vec(alloc, pairs)?;
-    apply_from(&mut tree, start, entries)?;
-    tree.into_pairs(alloc)
-}
-
-// How many entries stand up to the point's token and with it: none where the point is 0, all where the log has no such token.
-fn first_behind(point: Point, entries: &[Entry]) -> usize
-    ensures within { result ≤ length entries.now }
-    ensures behind { drop result entries.now ≡ entries_after point entries.now }
-{
-    if point == Point(0) {
-        return 0;
-    }
-    for (i, entry) in entries.iter().enumerate() {
-        if is_token_of(point, entry) {
-            return i + 1;
+    let mut last = LastToken::none();
+    let mut rest = bytes;
+    let mut entries = 0usize;
+    let mut is_behind = point == Point(0);
+    while !rest.is_empty() {
+        match read_entry(alloc, last, rest) {
+            Ok((entry, after)) => {
+                last = last.after(&entry);
+                rest = after;
+                entries += 1;
+                is_behind = replay_entry(tree, point, is_behind, entry)?;
+            }
+            Err(fault) => return stopped(entries, fault),
         }
     }
-    entries.len()
+    Ok(Replayed {
+        entries,
+        fault: None,
+    })
 }
 
-// Applies the commits among the entries from this place on, in order.
-fn apply_from(tree: &mut Tree, start: usize, entries: Vec<Entry>) -> Result<(), AllocError>
-    ensures { OnOk result (tree.new ≡ after tree.old (drop start entries.items)) }
+// What was replayed where the rest has this fault, or memory ran out.
+fn stopped(entries: usize, fault: Refusal) -> Result<Replayed, Refusal>
+    ensures read { Gives (λ replayed. replayed) result (Ok (record { entries = entries; fault = Some fault })) }
+    ensures memory { fault ≡ Refusal.OutOfMemory → result ≡ Err Refusal.OutOfMemory }
 {
-    for entry in entries.into_iter().skip(start) {
-        apply(tree, entry)?;
+    if fault == Refusal::OutOfMemory {
+        return Err(Refusal::OutOfMemory);
     }
-    Ok(())
+    Ok(Replayed {
+        entries,
+        fault: Some(fault),
+    })
+}
+
+// Applies the entry, if it is a commit behind the point's token, and tells whether what follows it is behind that token.
+fn replay_entry(
+    tree: &mut Tree,
+    point: Point,
+    is_behind: bool,
+    entry: Entry,
+) -> Result<bool, AllocError>
+    ensures applied { OnOk result (tree.new ≡ after tree.old (counting is_behind point (entry ∷ []))) }
+    ensures token { IfOk result (λ next. next ≡ (is_behind || is_point_token point entry)) }
+{
+    if is_behind {
+        apply(tree, entry)?;
+        return Ok(true);
+    }
+    Ok(is_token_of(point, &entry))
 }
 
 // Applies the entry, if it is a commit.
@@ -107,39 +130,34 @@ fn is_token_of(point: Point, entry: &Entry) -> bool
 #[cfg(test)]
 mod tests {
     use super::*;
-    use pc_types::{Items, SessionNo, Write};
+    use pc_types::{Key, Value};
     use std::test::Fail;
 
-    // A commit that sets a key to a value.
-    fn commit(alloc: Global, key: &[u8], value: &[u8]) -> Result<Entry, Refusal> {
-        let key = Key::new(alloc, key)?;
-        let value = Some(Value::new(alloc, value)?);
-        let mut writes = Items::new(alloc);
-        writes.push(Write { key, value })?;
-        Ok(Entry::Commit(SessionNo(1), writes))
-    }
+    // Run 7: a commit of `a` as `1`, the first tokens of point 1, and a commit of `b` as `2`.
+    const LOG: [u8; 74] = *b"PCALCL01\
+        \x00\x00\x00\x00\x00\x00\x00\x07\x00\x00\x00\x00\
+        \x00\x00\x00\x0d\x01\x01\x00\x01\x00\x01a\x01\x00\x00\x00\x011\
+        \x00\x00\x00\x06\x02\x01\x00\x00\x00\x01\
+        \x00\x00\x00\x06\x02\x02\x00\x00\x00\x01\
+        \x00\x00\x00\x0d\x01\x01\x00\x01\x00\x01b\x01\x00\x00\x00\x012";
 
-    // A commit of `a`, the first tokens of point 1, and a commit of `b`.
-    fn entries_over_a_point(alloc: Global) -> Result<Vec<Entry>, Refusal> {
-        let mut entries = Vec::new(alloc);
-        entries.push(commit(alloc, b"a", b"1")?)?;
-        entries.push(Entry::Token(Phase::Prepare, Point(1)))?;
-        entries.push(Entry::Token(Phase::Resolve, Point(1)))?;
-        entries.push(commit(alloc, b"b", b"2")?)?;
-        Ok(entries)
-    }
-
-    // The keys and values in a row after what came behind the point, where there was `c`.
-    fn left_behind(alloc: Global, point: u16) -> Result<Vec<u8>, Refusal> {
+    // How many entries the log of run 7 has, and the fault behind them; and the keys and values in a row after what came
+    // behind the point, where there was `c`.
+    fn replayed(
+        alloc: Global,
+        point: u16,
+        bytes: &[u8],
+    ) -> Result<(usize, Option<Refusal>, Vec<u8>), Refusal> {
         let mut pairs = Vec::new(alloc);
         pairs.push((Key::new(alloc, b"c")?, Value::new(alloc, b"0")?))?;
-        let pairs = replay(alloc, Point(point), pairs, entries_over_a_point(alloc)?)?;
+        let mut tree = Tree::from_vec(alloc, pairs)?;
+        let Replayed { entries, fault } = replay_log(alloc, 7, Point(point), &mut tree, bytes)?;
         let mut text = Vec::new(alloc);
-        for (key, value) in pairs {
+        for (key, value) in tree.into_pairs(alloc)? {
             text.extend_from_slice(key.as_bytes())?;
             text.extend_from_slice(value.as_bytes())?;
         }
-        Ok(text)
+        Ok((entries, fault, text))
     }
 
     // Point 0 has no token, and all entries are behind it; the log has none of point 2.
@@ -147,20 +165,31 @@ mod tests {
     fn replays_from_the_token_on(rt: HostRuntime) -> Result<(), Fail> {
         let rows: [(u16, &[u8]); 3] = [(0, b"a1b2c0"), (1, b"b2c0"), (2, b"c0")];
         for (point, expected) in rows {
-            let text = left_behind(rt.alloc(), point)?;
+            let (entries, fault, text) = replayed(rt.alloc(), point, &LOG)?;
             assert_eq!(rt; text.as_slice(), expected, "from {point}");
+            assert_eq!(rt; entries, 4, "from {point}");
+            assert_eq!(rt; fault, None, "from {point}");
         }
+        Ok(())
+    }
+
+    // What was whole before the cut is applied.
+    #[test]
+    fn replays_a_cut_log(rt: HostRuntime) -> Result<(), Fail> {
+        let (entries, fault, text) = replayed(rt.alloc(), 0, &LOG[..73])?;
+        assert_eq!(rt; text.as_slice(), b"a1c0".as_slice());
+        assert_eq!(rt; entries, 3);
+        assert_eq!(rt; fault, Some(Refusal::Short));
         Ok(())
     }
 
     // A header that was cut has no entry and no fault.
     #[test]
     fn reads_no_entry_of_a_cut_header(rt: HostRuntime) -> Result<(), Fail> {
-        let log = log_of_run(rt.alloc(), 7, b"PCALCL01\0\0\0")?;
-        assert_eq!(rt; log.run, 7);
-        assert_eq!(rt; log.entries.len(), 0);
-        assert_eq!(rt; log.rest, 11);
-        assert_eq!(rt; log.fault, None);
+        let (entries, fault, text) = replayed(rt.alloc(), 0, b"PCALCL01\0\0\0")?;
+        assert_eq!(rt; text.as_slice(), b"c0".as_slice());
+        assert_eq!(rt; entries, 0);
+        assert_eq!(rt; fault, None);
         Ok(())
     }
 }

@@ -1,0 +1,100 @@
+-- Applying entries as they are read, one after the other.
+use Rattle.std.proofs.Common.{◌≡◌, ◌≢◌, ℕ, ◌+◌, Bool, true, false, ◌||◌, List, [], ◌∷◌, length, Option, Some, None, Result, Ok, Err, refl, sym, ap, ◌∙◌, arith}
+use Rattle.std.specs.Prelude.{◌==◌}
+use Rattle.pc_types.specs.declared.refusal.Refusal.{Refusal}
+use Rattle.pc_types.specs.declared.refusal.Refusal.TheVariants.{OutOfMemory}
+use Rattle.pc_types.specs.declared.Entry.{Entry}
+use Rattle.pc_types.specs.declared.Entry.TheVariants.{Commit, Token}
+use Rattle.pc_types.specs.Fields.{Gives}
+use Rattle.pc_model.specs.Database.{Database}
+use Rattle.pc_model.specs.Log.{after, is_token_of}
+use Rattle.pc_log.specs.declared.order.LastToken.{LastToken}
+use Rattle.pc_log.specs.Orders.{token_after}
+use Rattle.pc_log.specs.Reading.{entry_at, entries_at, Found, none_more}
+use Rattle.pc_log.proofs.Turns.{all_at, all_go_on, all_stop}
+use Rattle.pc_recover.specs.Recovery.{entries_after}
+use Rattle.pc_recover.specs.declared.replaying.Replayed.{Replayed}
+use Rattle.pc_recover.specs.Replaying.{is_point_token, counting, Replay, found_replay, replay_with}
+
+-- ---- which entries count
+
+-- of no entries none count
+pub none_count : (is_behind : Bool) (point : ℕ) → counting is_behind point [] ≡ []
+none_count true point = refl
+none_count false point = refl
+
+-- one entry before the token doesn't count, nor does the token
+pub one_before : (point : ℕ) (entry : Entry) → counting false point (entry ∷ []) ≡ []
+one_before point (Commit session writes) = refl
+one_before point (Token phase m) = by (is_token_of point phase m) refl
+  where
+    by : (b : Bool) → is_token_of point phase m ≡ b → counting false point (Token phase m ∷ []) ≡ []
+    by true e = rw e refl
+    by false e = rw e refl
+
+-- what counts of one entry, and then what counts of the others
+pub first_counts : (is_behind : Bool) (point : ℕ) (db : Database) (entry : Entry) (entries : List Entry)
+    → after (after db (counting is_behind point (entry ∷ []))) (counting (is_behind || is_point_token point entry) point entries) ≡ after db (counting is_behind point (entry ∷ entries))
+first_counts true point db (Commit session writes) entries = refl
+first_counts true point db (Token phase m) entries = refl
+first_counts false point db (Commit session writes) entries = refl
+first_counts false point db (Token phase m) entries = by (is_token_of point phase m) refl
+  where
+    by : (b : Bool) → is_token_of point phase m ≡ b
+        → after (after db (counting false point (Token phase m ∷ []))) (counting (is_token_of point phase m) point entries) ≡ after db (counting false point (Token phase m ∷ entries))
+    by true e = rw e refl
+    by false e = rw e refl
+
+-- ---- the loop
+
+-- what comes of it once the entries that were found are applied too, behind so many others
+abbrev pub to_come : Bool → ℕ → Database → ℕ → Found → Replay
+to_come is_behind point db count found = record { pairs = after db (counting is_behind point found.entries); entries = count + length found.entries; fault = found.fault }
+
+-- before the first entry all of it is to come
+pub all_to_come : (is_behind : Bool) (point : ℕ) (db : Database) (found : Found) → is_behind ≡ (point == 0) → to_come is_behind point db 0 found ≡ found_replay point db found
+all_to_come is_behind point db found is =
+    ap (λ (b : Bool). to_come b point db 0 found) is ∙ ap (λ (k : ℕ). record { pairs = after db (entries_after point found.entries); entries = k; fault = found.fault }) (omega arith)
+
+-- no entry is left
+none_left : (is_behind : Bool) (point : ℕ) (db : Database) (count : ℕ) (rest : ℕ) (fault : Option Refusal) → to_come is_behind point db count (record { entries = []; rest = rest; fault = fault }) ≡ record { pairs = db; entries = count; fault = fault }
+none_left is_behind point db count rest fault =
+    ap (λ (es : List Entry). record { pairs = after db es; entries = count + 0; fault = fault }) (none_count is_behind point)
+    ∙ ap (λ (k : ℕ). record { pairs = db; entries = k; fault = fault }) (omega arith)
+
+module _ (is_behind : Bool) (point : ℕ) (db : Database) (count : ℕ) (last : LastToken) (bytes : List ℕ) (total : Replay) (so_far : to_come is_behind point db count (all_at last bytes) ≡ total) where
+  pub replay_goes_on : (entry : Entry) (behind_it : List ℕ) (db' : Database) (next : Bool) → entry_at last bytes ≡ Ok (entry, behind_it) → db' ≡ after db (counting is_behind point (entry ∷ [])) → next ≡ (is_behind || is_point_token point entry)
+      → to_come next point db' (count + 1) (all_at (token_after last entry) behind_it) ≡ total
+  replay_goes_on entry behind_it db' next e db_is next_is =
+      let found = all_at (token_after last entry) behind_it in
+      let n : count + 1 + length found.entries ≡ count + length (entry ∷ found.entries) = omega arith in
+      ap (λ (b : Bool). to_come b point db' (count + 1) found) next_is
+      ∙ ap (λ (d : Database). to_come (is_behind || is_point_token point entry) point d (count + 1) found) db_is
+      ∙ ap (λ (d : Database). record { pairs = d; entries = count + 1 + length found.entries; fault = found.fault }) (first_counts is_behind point db entry found.entries)
+      ∙ ap (λ (k : ℕ). record { pairs = after db (counting is_behind point (entry ∷ found.entries)); entries = k; fault = found.fault }) n
+      ∙ sym (ap (to_come is_behind point db count) (all_go_on last bytes entry behind_it e))
+      ∙ so_far
+
+  pub replay_stops : (fault : Refusal) → entry_at last bytes ≡ Err fault → length bytes ≢ 0 → total ≡ record { pairs = db; entries = count; fault = Some fault }
+  replay_stops fault e some = sym so_far ∙ ap (to_come is_behind point db count) (all_stop last bytes fault e) ∙ left_some bytes some
+    where
+      left_some : (left : List ℕ) → length left ≢ 0 → to_come is_behind point db count (none_more left fault) ≡ record { pairs = db; entries = count; fault = Some fault }
+      left_some [] h = absurd (h refl)
+      left_some (b ∷ bs) h = none_left is_behind point db count (length (b ∷ bs)) (Some fault)
+
+  pub replay_done : bytes ≡ [] → total ≡ record { pairs = db; entries = count; fault = None }
+  unfolding entries_at
+  replay_done none = sym so_far ∙ ap (λ (bs : List ℕ). to_come is_behind point db count (all_at last bs)) none ∙ none_left is_behind point db count 0 None
+
+-- what a stopped loop gives: what was replayed, unless memory ran out
+pub stopped_gives : (db : Database) (result : Result Replayed Refusal) (fault : Refusal) (total : Replay) (entries : ℕ)
+    → Gives (λ (replayed : Replayed). replayed) result (Ok (record { entries = entries; fault = Some fault })) → (fault ≡ OutOfMemory → result ≡ Err OutOfMemory)
+    → (fault ≢ OutOfMemory → total ≡ record { pairs = db; entries = entries; fault = Some fault }) → Gives (replay_with db) result (Ok total)
+stopped_gives db (Ok replayed) fault total entries given memory read =
+    let other : fault ≢ OutOfMemory = λ e. let f = memory e in absurd cc in
+    ap Ok (read other) ∙ ap (λ (r : Result Replayed Refusal). as_replay r) given
+  where
+    as_replay : Result Replayed Refusal → Result Replay Refusal
+    as_replay (Ok x) = Ok (replay_with db x)
+    as_replay (Err e) = Err e
+stopped_gives db (Err e) fault total entries given memory read = λ other. let f = given other in absurd cc

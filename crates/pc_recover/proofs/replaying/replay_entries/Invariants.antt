@@ -1,0 +1,16 @@
+use Rattle.std.proofs.Common.{◌≡◌, ◌+◌, ◌≤◌, length}
+use Rattle.pc_log.specs.Orders.{no_token}
+use Rattle.pc_log.proofs.Turns.{all_at}
+use Rattle.pc_recover.specs.Replaying.{found_replay}
+use Rattle.pc_recover.proofs.EntryReplays.{to_come}
+use Rattle.pc_recover.proofs.replaying.replay_entries.Given as goal
+
+-- what is still to come makes of it what all of the entries do
+abbrev pub invariant-loop-rest : goal.invariant-loop-rest
+invariant-loop-rest l = record {
+  replay : to_come l.is_behind l.fn.point l.tree l.entries (all_at l.last l.rest) ≡ found_replay l.fn.point l.fn.tree (all_at no_token l.bytes);
+  counted : l.entries + length l.rest ≤ length l.bytes;
+}
+
+abbrev pub decreases-loop-rest : goal.decreases-loop-rest
+decreases-loop-rest l = length l.rest
