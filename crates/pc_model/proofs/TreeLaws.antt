@@ -22,7 +22,7 @@ use Rattle.pc_model.proofs.PairMaps.{same_database, entries_of, tested}
 use Rattle.pc_model.proofs.Joins.{get_put, one_key}
 use Rattle.pc_model.proofs.Contents.{none_found}
 
-find-lookup : (es : List (List ℕ × List ℕ)) (q : List ℕ) → find key_cmp q es ≡ lookup (same_bytes q) es
+pub find-lookup : {X : Type 0} (es : List (List ℕ × X)) (q : List ℕ) → find key_cmp q es ≡ lookup (same_bytes q) es
 find-lookup [] q = refl
 find-lookup (e ∷ es) q = ap (cond (same_bytes q e.0) (Some e.1)) (find-lookup es q)
 

@@ -18,7 +18,7 @@ use std::marker::Model;
 
 // A key of a tree, ordered byte by byte.
 #[derive(Drop)]
-struct TreeKey(Key);
+pub(crate) struct TreeKey(pub(crate) Key);
 
 impl Model for TreeKey {
     ghost use Rattle.std.specs.Prelude.{ℕ, List};
