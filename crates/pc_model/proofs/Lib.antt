@@ -2,6 +2,9 @@ pub mod MapLaws
 pub mod SetLaws
 pub mod PairMaps
 pub mod EntryPlaces
+pub mod Halving
+pub mod ChangeLaws
+pub mod Moving
 pub mod Joins
 pub mod Counts
 pub mod Queues

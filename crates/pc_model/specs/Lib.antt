@@ -14,6 +14,7 @@ pub mod Headline
 pub mod Laws
 pub mod Laying
 pub mod Trees
+pub mod Changes
 pub mod Audits
 pub mod Examples
 pub mod ExamplesOfTransactions
