@@ -19,21 +19,12 @@ use Rattle.pc_recover.specs.Replaying.{is_point_token, counting, Replay, found_r
 -- ---- which entries count
 
 -- of no entries none count
-pub none_count : (is_behind : Bool) (point : ℕ) → counting is_behind point [] ≡ []
+none_count : (is_behind : Bool) (point : ℕ) → counting is_behind point [] ≡ []
 none_count true point = refl
 none_count false point = refl
 
--- one entry before the token doesn't count, nor does the token
-pub one_before : (point : ℕ) (entry : Entry) → counting false point (entry ∷ []) ≡ []
-one_before point (Commit session writes) = refl
-one_before point (Token phase m) = by (is_token_of point phase m) refl
-  where
-    by : (b : Bool) → is_token_of point phase m ≡ b → counting false point (Token phase m ∷ []) ≡ []
-    by true e = rw e refl
-    by false e = rw e refl
-
 -- what counts of one entry, and then what counts of the others
-pub first_counts : (is_behind : Bool) (point : ℕ) (db : Database) (entry : Entry) (entries : List Entry)
+first_counts : (is_behind : Bool) (point : ℕ) (db : Database) (entry : Entry) (entries : List Entry)
     → after (after db (counting is_behind point (entry ∷ []))) (counting (is_behind || is_point_token point entry) point entries) ≡ after db (counting is_behind point (entry ∷ entries))
 first_counts true point db (Commit session writes) entries = refl
 first_counts true point db (Token phase m) entries = refl
