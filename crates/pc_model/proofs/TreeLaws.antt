@@ -1,5 +1,5 @@
 -- Trees of keys as databases.
-use Rattle.std.proofs.Common.{◌≡◌, ℕ, List, [], ◌∷◌, Option, Some, None, cond, Bool, true, false, ◌&&◌, ◌||◌, not, ◌↔◌, ◌++◌, refl, sym, ap, ◌∙◌}
+use Rattle.std.proofs.Common.{◌≡◌, ℕ, List, [], ◌∷◌, Option, Some, None, cond, Bool, true, false, ◌&&◌, ◌||◌, not, ◌↔◌, refl, sym, ap, ◌∙◌}
 use Rattle.std.specs.BTreeMap as tree
 use Rattle.std.specs.BTreeMap.{BTreeMap}
 use Rattle.std.specs.Map.{lookup}
@@ -14,9 +14,8 @@ use Rattle.std.proofs.lemmas.Map.Keys.{sorted_head, sorted_tail}
 use Rattle.pc_model.specs.Files.{same_content}
 use Rattle.pc_model.specs.Trees.{has_all}
 use Rattle.std.proofs.lemmas.Cmp.{eq_by_cmp_equiv}
-use Rattle.pc_model.specs.Maps.{get, insert, empty}
-use Rattle.std.specs.Prelude.{Result, Ok, Err, IfOk}
-use Rattle.pc_model.specs.Database.{Database, KeysRise, database_of, key_cmp, key_order, same_bytes, put}
+use Rattle.pc_model.specs.Maps.{get}
+use Rattle.pc_model.specs.Database.{Database, database_of, key_cmp, key_order, same_bytes, put}
 use Rattle.pc_model.proofs.MapLaws.{get-from_list, get-entries}
 use Rattle.pc_model.proofs.PairMaps.{same_database, entries_of, tested}
 use Rattle.pc_model.proofs.Joins.{get_put, one_key}
@@ -99,23 +98,3 @@ same_by_all m n = (
       same_database m n (λ q. same_at (get m q) (get n q) (λ v there. has_too m n q v each.0 there) (λ v there. has_too n m q v each.1 there)),
   λ same. rw same (ap (λ b. b && has_all n n) (has_own n) ∙ has_own n),
 )
-
--- the pairs put into a database, the last one first
-abbrev pub built_on : Database → List (List ℕ × List ℕ) → Database
-built_on db [] = db
-built_on db (e ∷ es) = insert (built_on db es) e.0 e.1
-
--- the last pair is the first one that is put
-pub built_last : (db : Database) (es : List (List ℕ × List ℕ)) (e : List ℕ × List ℕ) → built_on db (es ++ e ∷ []) ≡ built_on (insert db e.0 e.1) es
-built_last db [] e = refl
-built_last db (x ∷ es) e = ap (λ m. insert m x.0 x.1) (built_last db es e)
-
--- on the empty database they make their own
-pub built_all : (es : List (List ℕ × List ℕ)) → built_on empty es ≡ database_of es
-built_all [] = refl
-built_all (e ∷ es) = ap (λ m. insert m e.0 e.1) (built_all es)
-
--- the entries of a tree rise, in whatever they are given
-pub pairs_rise : {V E : Type 0} (items : V → List (List ℕ × List ℕ)) (m : BTreeMap (List ℕ) (List ℕ)) → tree.IsOrdered key_cmp m → (r : Result V E) → IfOk r (λ v. items v ≡ m.entries) → IfOk r (λ v. KeysRise (items v))
-pairs_rise items m rise (Ok v) same = ap (is_sorted key_cmp) same ∙ sorted_is m.entries rise
-pairs_rise items m rise (Err e) same = tt

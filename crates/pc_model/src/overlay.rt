@@ -226,7 +226,7 @@ fn move_back(
 mod tests {
     use super::*;
     use crate::pairs::Pairs;
-    use crate::tree::Tree;
+    use crate::replay::apply_all;
     use pc_types::Refusal;
     use std::test::Fail;
 
@@ -279,11 +279,14 @@ mod tests {
         text_of(alloc, overlay.into_pairs(alloc)?)
     }
 
-    // The same by a tree.
-    fn left_in_tree(alloc: Global, base: &[u8], writes: &[u8]) -> Result<Vec<u8>, Refusal> {
-        let mut tree = Tree::from_vec(alloc, pairs_of(alloc, base)?)?;
-        tree.apply_taken(writes_of(alloc, writes)?)?;
-        text_of(alloc, tree.into_pairs(alloc)?)
+    // The same by the plain form.
+    fn left_plainly(alloc: Global, base: &[u8], writes: &[u8]) -> Result<Vec<u8>, Refusal> {
+        let mut pairs = Pairs::new(alloc);
+        for (key, value) in pairs_of(alloc, base)? {
+            pairs.insert(key, value)?;
+        }
+        apply_all(alloc, &mut pairs, writes_of(alloc, writes)?.as_slice())?;
+        text_of(alloc, pairs.into_vec())
     }
 
     // Rows of a base, of writes, and of what they leave.
@@ -345,17 +348,17 @@ mod tests {
         Ok(text)
     }
 
-    // Whether writes by chance leave the same in place as in a tree.
+    // Whether writes by chance leave the same in place as by the plain form.
     fn agrees(alloc: Global, seed: u64) -> Result<bool, Refusal> {
         let base = rows_by_chance(alloc, seed, 8)?;
         let writes = rows_by_chance(alloc, next(seed), 20)?;
         let in_place = left_in_place(alloc, &base, &writes)?;
-        let in_tree = left_in_tree(alloc, &base, &writes)?;
-        Ok(in_place.as_slice() == in_tree.as_slice())
+        let plain = left_plainly(alloc, &base, &writes)?;
+        Ok(in_place.as_slice() == plain.as_slice())
     }
 
     #[test]
-    fn agrees_with_a_tree(rt: HostRuntime) -> Result<(), Fail> {
+    fn agrees_with_the_plain_form(rt: HostRuntime) -> Result<(), Fail> {
         for seed in 0..30u64 {
             assert!(rt; agrees(rt.alloc(), seed)?, "{seed}");
         }

@@ -3,14 +3,14 @@ ghost use Rattle.std.specs.Prelude.{◌≡◌, ◌↔◌, IsTrue, Some, IfOk, On
 ghost use Rattle.std.specs.List.{list_all};
 ghost use Rattle.std.specs.BTreeMap.{IsOrdered};
 ghost use Rattle.pc_model.specs.Maps as map;
-ghost use Rattle.pc_model.specs.Database.{KeysRise, key_cmp, database_of, put, applied, applied_all};
+ghost use Rattle.pc_model.specs.Database.{key_cmp, database_of, put, applied_all};
 ghost use Rattle.pc_model.specs.Log.{after};
 ghost use Rattle.pc_model.specs.Files.{same_content};
 ghost use Rattle.pc_model.specs.Laying.{laid_in_turn};
 ghost use Rattle.pc_model.specs.Trees.{has_all};
 
 use crate::laying::Triple;
-use pc_types::{Entry, Items, Key, Point, Value, Write};
+use pc_types::{Entry, Key, Point, Value, Write};
 use std::alloc::{AllocError, Global};
 use std::cmp::Ordering;
 use std::collections::BTreeMap;
@@ -85,9 +85,9 @@ impl Ord for TreeKey {
     }
 }
 
-/// A database in memory, ordered by key: a look-up, a write and a removal each cost a logarithm of its size.
+/// A database in memory.
 #[derive(Drop)]
-pub struct Tree {
+pub(crate) struct Tree {
     pairs: BTreeMap<TreeKey, Value>,
 }
 
@@ -160,54 +160,6 @@ impl Tree {
         Ok(tree)
     }
 
-    /// The database of these pairs, of which the first one of a key counts. They are taken over: no key and no value is
-    /// copied. It fails only where memory ran out.
-    pub fn from_vec(alloc: Global, pairs: Vec<(Key, Value)>) -> Result<Tree, AllocError>
-        ensures { IfOk result (λ tree. tree ≡ database_of pairs.items) }
-    {
-        let mut tree = Tree::new(alloc);
-        let mut left = pairs;
-        while let Some((key, value)) = left.pop() {
-            tree.insert(TreeKey(key), value)?;
-        }
-        Ok(tree)
-    }
-
-    /// Its pairs, rising strictly by key. No key and no value is copied. It fails only where memory ran out.
-    pub fn into_pairs(self, alloc: Global) -> Result<Vec<(Key, Value)>, AllocError>
-        ensures rise { IfOk result (λ pairs. KeysRise pairs.items) }
-        ensures pairs { IfOk result (λ pairs. database_of pairs.items ≡ self) }
-    {
-        let Tree { pairs } = self;
-        pairs_in(alloc, pairs)
-    }
-
-    /// Applies the write: sets its key to its value, or removes it. They are taken over, not copied. It fails only where
-    /// memory ran out.
-    pub fn apply(&mut self, write: Write) -> Result<(), AllocError>
-        ensures { OnOk result (self.new ≡ applied self.old write) }
-    {
-        let Write { key, value } = write;
-        let key = TreeKey(key);
-        match value {
-            Some(value) => self.insert(key, value),
-            None => {
-                self.remove(&key);
-                Ok(())
-            }
-        }
-    }
-
-    /// Applies the writes, in order. They are taken over, not copied. It fails only where memory ran out.
-    pub fn apply_taken(&mut self, writes: Items<Write>) -> Result<(), AllocError>
-        ensures { OnOk result (self.new ≡ applied_all self.old writes) }
-    {
-        for write in writes.into_vec() {
-            self.apply(write)?;
-        }
-        Ok(())
-    }
-
     // Applies the writes, in order.
     pub(crate) fn apply_all(&mut self, alloc: Global, writes: &[Write]) -> Result<(), AllocError>
         ensures { OnOk result (self.new ≡ applied_all self.old writes.now) }
@@ -272,19 +224,6 @@ impl Tree {
     }
 }
 
-// The pairs, in the order of their keys.
-fn pairs_in(alloc: Global, pairs: BTreeMap<TreeKey, Value>) -> Result<Vec<(Key, Value)>, AllocError>
-    ensures same { IfOk result (λ out. out.items ≡ pairs.entries) }
-    ensures ordered { IsOrdered key_cmp pairs }
-{
-    let mut out = Vec::new(alloc);
-    for (key, value) in pairs {
-        let TreeKey(key) = key;
-        out.push((key, value))?;
-    }
-    Ok(out)
-}
-
 // Whether the database has each of the pairs.
 fn all_in(pairs: &BTreeMap<TreeKey, Value>, other: &Tree) -> bool
     ensures all { result ≡ list_all (λ e. same_content (Some e.1) (map.get other.now e.0)) pairs.now.entries }
@@ -296,46 +235,4 @@ fn all_in(pairs: &BTreeMap<TreeKey, Value>, other: &Tree) -> bool
         }
     }
     true
-}
-
-#[cfg(test)]
-mod tests {
-    use super::*;
-    use pc_types::Refusal;
-    use std::test::Fail;
-
-    // A write of the key.
-    fn write(alloc: Global, key: &[u8], value: Option<&[u8]>) -> Result<Write, Refusal> {
-        let key = Key::new(alloc, key)?;
-        let value = match value {
-            Some(bytes) => Some(Value::new(alloc, bytes)?),
-            None => None,
-        };
-        Ok(Write { key, value })
-    }
-
-    // The keys and values that are left of `b` and `c` once `b` is removed and `a` is set, in a row.
-    fn left_of_two(alloc: Global) -> Result<Vec<u8>, Refusal> {
-        let mut pairs = Vec::new(alloc);
-        pairs.push((Key::new(alloc, b"b")?, Value::new(alloc, b"1")?))?;
-        pairs.push((Key::new(alloc, b"c")?, Value::new(alloc, b"2")?))?;
-        let mut tree = Tree::from_vec(alloc, pairs)?;
-        let mut writes = Items::new(alloc);
-        writes.push(write(alloc, b"b", None)?)?;
-        writes.push(write(alloc, b"a", Some(b"3".as_slice()))?)?;
-        tree.apply_taken(writes)?;
-        let mut text = Vec::new(alloc);
-        for (key, value) in tree.into_pairs(alloc)? {
-            text.extend_from_slice(key.as_bytes())?;
-            text.extend_from_slice(value.as_bytes())?;
-        }
-        Ok(text)
-    }
-
-    #[test]
-    fn takes_pairs_and_writes_over(rt: HostRuntime) -> Result<(), Fail> {
-        let text = left_of_two(rt.alloc())?;
-        assert_eq!(rt; text.as_slice(), b"a3c2".as_slice());
-        Ok(())
-    }
 }

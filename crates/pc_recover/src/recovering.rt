@@ -10,7 +10,7 @@ use crate::recovered::Recovered;
 use crate::replaying::{Replayed, replay_log};
 use crate::state::with_used;
 use crate::unused::unused;
-use pc_model::Tree;
+use pc_model::Overlay;
 use pc_part::Base;
 use pc_types::Refusal;
 use std::alloc::Global;
@@ -47,10 +47,10 @@ pub fn recover(
     let reach = reach_from(alloc, base.point(), &files)?;
     let skipped = unused(alloc, &reach, &files)?;
     let state = with_used(alloc, base, reach.point, files)?;
-    let mut tree = Tree::from_vec(alloc, state.into_pairs())?;
-    let Replayed { entries, fault } = replay_log(alloc, run, reach.point, &mut tree, log)?;
+    let mut database = Overlay::new(alloc, state.into_pairs());
+    let Replayed { entries, fault } = replay_log(alloc, run, reach.point, &mut database, log)?;
     Ok(Recovered {
-        pairs: tree.into_pairs(alloc)?,
+        pairs: database.into_pairs(alloc)?,
         point: reach.point,
         entries,
         skipped,

@@ -7,7 +7,7 @@ ghost use Rattle.pc_log.specs.Reading.{entries_at};
 ghost use Rattle.pc_recover.specs.Replaying.{counting, found_replay, is_point_token, log_replay, replay_with};
 
 use pc_log::{LastToken, read_entry, read_header};
-use pc_model::Tree;
+use pc_model::Overlay;
 use pc_types::{Entry, Phase, Point, Refusal};
 use std::alloc::{AllocError, Global};
 
@@ -20,7 +20,7 @@ pub(crate) struct Replayed {
     pub(crate) fault: Option<Refusal>,
 }
 
-/// Applies the commits of the run's log that came behind the point's token to the tree, all of them where the point is 0.
+/// Applies the commits of the run's log that came behind the point's token to the database, all of them where the point is 0.
 /// Fewer bytes than a log's header has count as a log without entries: a crash came before the first entry. Refuses with the
 /// fault of the header, with `OtherRun`, or with `OutOfMemory` where memory ran out. Of the log one entry at a time is kept.
 #[tactic(auto, unfolding(pc_log::specs::Reading::log_at))]
@@ -28,10 +28,10 @@ pub(crate) fn replay_log(
     alloc: Global,
     run: u64,
     point: Point,
-    tree: &mut Tree,
+    database: &mut Overlay,
     bytes: &[u8],
 ) -> Result<Replayed, Refusal>
-    ensures { Gives (replay_with tree.new) result (log_replay run point tree.old bytes.now) }
+    ensures { Gives (replay_with database.new) result (log_replay run point database.old bytes.now) }
 {
     if bytes.len() < HEADER {
         return Ok(Replayed {
@@ -43,17 +43,17 @@ pub(crate) fn replay_log(
     if of_run != run {
         return Err(Refusal::OtherRun);
     }
-    replay_entries(alloc, point, tree, entries)
+    replay_entries(alloc, point, database, entries)
 }
 
 // Reads the entries one after the other, as many as can be read, and applies those that count.
 fn replay_entries(
     alloc: Global,
     point: Point,
-    tree: &mut Tree,
+    database: &mut Overlay,
     bytes: &[u8],
 ) -> Result<Replayed, Refusal>
-    ensures { Gives (replay_with tree.new) result (Ok (found_replay point tree.old (entries_at (length bytes.now) no_token bytes.now))) }
+    ensures { Gives (replay_with database.new) result (Ok (found_replay point database.old (entries_at (length bytes.now) no_token bytes.now))) }
 {
     let mut last = LastToken::none();
     let mut rest = bytes;
@@ -65,7 +65,7 @@ fn replay_entries(
                 last = last.after(&entry);
                 rest = after;
                 entries += 1;
-                is_behind = replay_entry(tree, point, is_behind, entry)?;
+                is_behind = replay_entry(database, point, is_behind, entry)?;
             }
             Err(fault) => return stopped(entries, fault),
         }
@@ -92,27 +92,27 @@ fn stopped(entries: usize, fault: Refusal) -> Result<Replayed, Refusal>
 
 // Applies the entry, if it is a commit behind the point's token, and tells whether what follows it is behind that token.
 fn replay_entry(
-    tree: &mut Tree,
+    database: &mut Overlay,
     point: Point,
     is_behind: bool,
     entry: Entry,
 ) -> Result<bool, AllocError>
-    ensures applied { OnOk result (tree.new ≡ after tree.old (counting is_behind point (entry ∷ []))) }
+    ensures applied { OnOk result (database.new ≡ after database.old (counting is_behind point (entry ∷ []))) }
     ensures token { IfOk result (λ next. next ≡ (is_behind || is_point_token point entry)) }
 {
     if is_behind {
-        apply(tree, entry)?;
+        apply(database, entry)?;
         return Ok(true);
     }
     Ok(is_token_of(point, &entry))
 }
 
 // Applies the entry, if it is a commit.
-fn apply(tree: &mut Tree, entry: Entry) -> Result<(), AllocError>
-    ensures { OnOk result (tree.new ≡ after tree.old (entry ∷ [])) }
+fn apply(database: &mut Overlay, entry: Entry) -> Result<(), AllocError>
+    ensures { OnOk result (database.new ≡ after database.old (entry ∷ [])) }
 {
     match entry {
-        Entry::Commit(_, writes) => tree.apply_taken(writes),
+        Entry::Commit(_, writes) => database.apply_taken(writes),
         Entry::Token(_, _) => Ok(()),
     }
 }
@@ -150,10 +150,10 @@ mod tests {
     ) -> Result<(usize, Option<Refusal>, Vec<u8>), Refusal> {
         let mut pairs = Vec::new(alloc);
         pairs.push((Key::new(alloc, b"c")?, Value::new(alloc, b"0")?))?;
-        let mut tree = Tree::from_vec(alloc, pairs)?;
-        let Replayed { entries, fault } = replay_log(alloc, 7, Point(point), &mut tree, bytes)?;
+        let mut database = Overlay::new(alloc, pairs);
+        let Replayed { entries, fault } = replay_log(alloc, 7, Point(point), &mut database, bytes)?;
         let mut text = Vec::new(alloc);
-        for (key, value) in tree.into_pairs(alloc)? {
+        for (key, value) in database.into_pairs(alloc)? {
             text.extend_from_slice(key.as_bytes())?;
             text.extend_from_slice(value.as_bytes())?;
         }
