@@ -63,6 +63,18 @@ const THIRD: [u8; 42] = *b"PCALCP01\
     \x00\x01b\x00\x00\x00\x03\x00\
     \x00\x00\x00\x00\x00\x01";
 
+// At point 1, a key too long to be kept inline was a value of the same bytes.
+const LONG: [u8; 79] = *b"PCALCP01\
+    \x00\x00\x00\x00\x00\x00\x00\x01\
+    \x00\x00\x00\x01\x00\x00\x00\x01\x00\x00\x00\x01\
+    \x00\x110123456789abcdefg\x00\x00\x00\x01\x01\x00\x00\x00\x110123456789abcdefg\
+    \x00\x00\x00\x00\x00\x01";
+
+// A commit of the same key as such a value.
+const LONG_LOG: [u8; 69] = *b"PCALCL01\
+    \x00\x00\x00\x00\x00\x00\x00\x01\x00\x00\x00\x00\
+    \x00\x00\x00\x2d\x01\x01\x00\x01\x00\x110123456789abcdefg\x01\x00\x00\x00\x11gfedcba9876543210";
+
 // The part of another run.
 const OF_RUN_TWO: [u8; 47] = *b"PCALCP01\
     \x00\x00\x00\x00\x00\x00\x00\x02\
@@ -211,6 +223,20 @@ fn found_of(
     found_in(alloc, base, &[first, second], log)
 }
 
+// The same, asked again where memory was wanting.
+fn found_at_last(
+    alloc: Global,
+    base: &[u8],
+    first: &[u8],
+    second: &[u8],
+    log: &[u8],
+) -> Result<Worth, Refusal> {
+    match found_of(alloc, base, first, second, log) {
+        Err(Refusal::OutOfMemory) => found_of(alloc, base, first, second, log),
+        found => found,
+    }
+}
+
 // The parts, the log, the recovered point, the entries, what was skipped, the log's fault, and the pairs.
 type Row<'a> = (
     [&'a [u8]; 3],
@@ -221,9 +247,10 @@ type Row<'a> = (
     &'a [u8],
 );
 
+// Whichever growth is refused, asked again the files are worth the same.
 #[test]
-fn what_files_are_worth(rt: HostRuntime) -> Result<(), Fail> {
-    let rows: [Row; 14] = [
+fn files_are_worth_the_same_at_each_refused_growth(rt: HostRuntime) -> Result<(), Fail> {
+    let rows: [Row; 16] = [
         ([&PART, b"", &LOG], 1, 6, None, None, b"a3"),
         (
             [&PART, b"", &LOG[..60]],
@@ -308,12 +335,28 @@ fn what_files_are_worth(rt: HostRuntime) -> Result<(), Fail> {
         ),
         ([&SECOND, &TWO_KEYS, b""], 2, 0, None, None, b"a2b1"),
         ([&PART, &PART, &LOG], 1, 6, None, None, b"a3"),
+        (
+            [&LONG, b"", &LONG_LOG],
+            1,
+            1,
+            None,
+            None,
+            b"0123456789abcdefg0123456789abcdefg",
+        ),
+        (
+            [&OF_RUN_TWO, b"", &LONG_LOG],
+            0,
+            1,
+            Some((0, Refusal::OtherRun)),
+            None,
+            b"0123456789abcdefggfedcba9876543210",
+        ),
     ];
     for (i, ([first, second, log], point, entries, skipped, fault, pairs)) in rows
         .iter()
         .enumerate()
     {
-        let found = found_of(rt.alloc(), &BASE, first, second, log)?;
+        let found = found_at_last(rt.alloc(), &BASE, first, second, log)?;
         assert_eq!(rt; found.pairs.as_slice(), *pairs, "row {i}");
         assert_eq!(rt; found.point, *point, "row {i}");
         assert_eq!(rt; found.entries, *entries, "row {i}");
@@ -372,25 +415,5 @@ fn a_cut_header_is_no_fault(rt: HostRuntime) -> Result<(), Fail> {
         assert_eq!(rt; found.entries, 0, "{length}");
         assert_eq!(rt; found.fault, None, "{length}");
     }
-    Ok(())
-}
-
-// What the parts and the log are worth; asked again where memory was wanting.
-fn found_at_last(alloc: Global, parts: &[&[u8]], log: &[u8]) -> Result<Worth, Refusal> {
-    match found_in(alloc, &BASE, parts, log) {
-        Err(Refusal::OutOfMemory) => found_in(alloc, &BASE, parts, log),
-        found => found,
-    }
-}
-
-// Whichever growth is refused, asked again the files are worth the same.
-#[test]
-fn recovers_at_each_refused_growth(rt: HostRuntime) -> Result<(), Fail> {
-    let found = found_at_last(rt.alloc(), &[&PART, &UNMARKED], &LOG)?;
-    assert_eq!(rt; found.pairs.as_slice(), b"a3".as_slice());
-    assert_eq!(rt; found.point, 1);
-    assert_eq!(rt; found.entries, 6);
-    assert_eq!(rt; found.fault, None);
-    assert_eq!(rt; found.skipped, [Some((1, Refusal::BadMagic)), None]);
     Ok(())
 }
