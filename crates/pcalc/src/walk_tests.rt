@@ -350,11 +350,13 @@ fn is_right(
     let whole = whole_in(&texts.ends, length);
     let count = whole.max(before_point(world.log(), point));
     let wanted = after_first(alloc, world, count)?;
-    Ok(are_same(&recovered.pairs, wanted.as_slice())
-        && usize::from(recovered.point.0) == point
-        && recovered.entries == whole
-        && recovered.fault == fault_in(&texts.ends, length)
-        && are_skipped(&recovered, parts.len().saturating_sub(point)))
+    Ok(
+        are_same(&recovered.pairs, wanted.as_slice())
+            && usize::from(recovered.point.0) == point
+            && recovered.entries == whole
+            && recovered.fault == fault_in(&texts.ends, length)
+            && are_skipped(&recovered, parts.len().saturating_sub(point)),
+    )
 }
 
 // Whether there are so many parts as the choice asks for.
@@ -398,10 +400,7 @@ fn wrong_cut(
 }
 
 // Of one walk, how many entries its log has, how many parts there are, and what isn't recovered right.
-fn told_of(
-    alloc: Global,
-    seed: u64,
-) -> Result<(usize, usize, Option<(usize, usize)>), Refusal> {
+fn told_of(alloc: Global, seed: u64) -> Result<(usize, usize, Option<(usize, usize)>), Refusal> {
     let world = walked(alloc, seed)?;
     let texts = texts_of(alloc, &world)?;
     let wrong = wrong_cut(alloc, &world, &texts)?;
