@@ -4,10 +4,10 @@ use Rattle.std.specs.declared.cmp.Ordering.{Ordering}
 use Rattle.std.specs.declared.cmp.Ordering.TheVariants.{Less, Equal, Greater}
 use Rattle.std.specs.FinMap.Entries.{below_all}
 use Rattle.std.specs.List.Sorted.{IsBinarySearchResult, IsPartitionPoint, IsNonDecreasingBy, IsSearchInRange}
-use Rattle.std.specs.Ordering.{is_lt, ordering_reverse, ordering_index}
+use Rattle.std.specs.Ordering.{is_lt, is_eq, ordering_reverse, ordering_index}
 use Rattle.std.proofs.lemmas.List.{get_or_default}
 use Rattle.std.proofs.lemmas.List.Sorted.{searchable_from_sorted}
-use Rattle.pc_model.specs.Database.{key_cmp, key_order, KeysRise}
+use Rattle.pc_model.specs.Database.{key_cmp, key_order, same_bytes, KeysRise}
 use Rattle.pc_model.specs.Places.{IsAt, IsGap}
 use Rattle.pc_model.proofs.EntryPlaces.{IsBehind, at_hit, gap_before, gap_at_end, behind_more}
 use Rattle.pc_model.proofs.LaidInTurn.{both}
@@ -96,3 +96,13 @@ module _ {X : Type 0} where
     pub found_gap : (r : Result ℕ ℕ) → KeysRise es → IsSearchInRange r (length es) → IsBinarySearchResult (against key) es r → IfErr r (IsGap es key)
     found_gap (Ok i) rise bound at = _
     found_gap (Err i) rise bound parted = gap es key i bound rise (parted (answers_rise es key rise))
+
+  -- the entry that was read there has the key
+  pub hit_by : (es : List (List ℕ × X)) (key : List ℕ) (i : ℕ) (e : List ℕ × X) → KeysRise es → i < length es → e ≡ get_or es i e → same_bytes e.0 key ≡ true → IsAt es key i
+  hit_by es key i e rise lt is same =
+      hit es key i lt rise (λ d. ap (λ (x : List ℕ × X). key_cmp x.0 key) (get_or_default es i d e lt ∙ sym is) ∙ is_equal (key_cmp e.0 key) same)
+    where
+      is_equal : (o : Ordering) → is_eq o ≡ true → o ≡ Equal
+      is_equal Less h = cc
+      is_equal Equal h = refl
+      is_equal Greater h = cc

@@ -9,6 +9,7 @@ ghost use Rattle.pc_model.specs.Database.{KeysRise, key_cmp, database_of, put, a
 ghost use Rattle.pc_model.specs.Places.{IsAt};
 
 use crate::pairs::place;
+use crate::samples::Samples;
 use crate::tree::TreeKey;
 use pc_types::{Items, Key, Value, Write};
 use std::alloc::{AllocError, Global};
@@ -22,6 +23,8 @@ use std::marker::Model;
 pub struct Overlay {
     // They rise strictly by key.
     pairs: Vec<(Key, Value)>,
+    // Where the keys may be among them.
+    samples: Samples,
     // Keys that are not, or no longer, as the pairs say: each is set or absent.
     changes: BTreeMap<TreeKey, Option<Value>>,
 }
@@ -43,13 +46,19 @@ impl Model for Overlay {
 }
 
 impl Overlay {
-    /// The database of these pairs, which rise strictly by key. They are taken over, and no memory is taken.
-    pub fn new(alloc: Global, pairs: Vec<(Key, Value)>) -> Overlay
+    /// The database of these pairs, which rise strictly by key. They are taken over; memory is taken for a number of every
+    /// 32 of them. It fails only where memory ran out.
+    pub fn new(alloc: Global, pairs: Vec<(Key, Value)>) -> Result<Overlay, AllocError>
         requires { KeysRise pairs.items }
-        ensures { result ≡ database_of pairs.items }
+        ensures { IfOk result (λ overlay. overlay ≡ database_of pairs.items) }
     {
+        let samples = Samples::of(alloc, &pairs)?;
         let changes = BTreeMap::new(alloc);
-        Overlay { pairs, changes }
+        Ok(Overlay {
+            pairs,
+            samples,
+            changes,
+        })
     }
 
     /// Applies the writes, in order. They are taken over, not copied. It fails only where memory ran out.
@@ -68,7 +77,7 @@ impl Overlay {
         ensures rise { IfOk result (λ pairs. KeysRise pairs.items) }
         ensures pairs { IfOk result (λ pairs. database_of pairs.items ≡ self) }
     {
-        let Overlay { pairs, changes } = self;
+        let Overlay { pairs, changes, .. } = self;
         if changes.is_empty() {
             return Ok(pairs);
         }
@@ -90,7 +99,7 @@ impl Overlay {
     fn insert(&mut self, key: Key, value: Value) -> Result<(), AllocError>
         ensures { OnOk result (self.new ≡ map.insert self.old key value) }
     {
-        match place(&self.pairs, &key) {
+        match self.samples.place(&self.pairs, &key) {
             Ok(i) => {
                 replace(&mut self.pairs, i, &key, value);
                 forget(&mut self.changes, key);
@@ -104,7 +113,7 @@ impl Overlay {
     fn remove(&mut self, key: Key) -> Result<(), AllocError>
         ensures { OnOk result (self.new ≡ map.remove self.old key) }
     {
-        match place(&self.pairs, &key) {
+        match self.samples.place(&self.pairs, &key) {
             Ok(_) => note(&mut self.changes, key, None),
             Err(_) => {
                 forget(&mut self.changes, key);
@@ -274,7 +283,7 @@ mod tests {
 
     // What the writes leave of the pairs, which are written over in place.
     fn left_in_place(alloc: Global, base: &[u8], writes: &[u8]) -> Result<Vec<u8>, Refusal> {
-        let mut overlay = Overlay::new(alloc, pairs_of(alloc, base)?);
+        let mut overlay = Overlay::new(alloc, pairs_of(alloc, base)?)?;
         overlay.apply_taken(writes_of(alloc, writes)?)?;
         text_of(alloc, overlay.into_pairs(alloc)?)
     }

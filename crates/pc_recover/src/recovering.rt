@@ -47,7 +47,7 @@ pub fn recover(
     let reach = reach_from(alloc, base.point(), &files)?;
     let skipped = unused(alloc, &reach, &files)?;
     let state = with_used(alloc, base, reach.point, files)?;
-    let mut database = Overlay::new(alloc, state.into_pairs());
+    let mut database = Overlay::new(alloc, state.into_pairs())?;
     let Replayed { entries, fault } = replay_log(alloc, run, reach.point, &mut database, log)?;
     Ok(Recovered {
         pairs: database.into_pairs(alloc)?,

@@ -150,7 +150,7 @@ mod tests {
     ) -> Result<(usize, Option<Refusal>, Vec<u8>), Refusal> {
         let mut pairs = Vec::new(alloc);
         pairs.push((Key::new(alloc, b"c")?, Value::new(alloc, b"0")?))?;
-        let mut database = Overlay::new(alloc, pairs);
+        let mut database = Overlay::new(alloc, pairs)?;
         let Replayed { entries, fault } = replay_log(alloc, 7, Point(point), &mut database, bytes)?;
         let mut text = Vec::new(alloc);
         for (key, value) in database.into_pairs(alloc)? {

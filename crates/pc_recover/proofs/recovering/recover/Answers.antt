@@ -24,10 +24,10 @@ pub returns-in_err-entries-clause-rules : goal.returns-in_err-entries-clause-rul
 returns-in_err-entries-clause-rules c =
     let parts = map (λ part. part.now) c.args.parts.now in
     refused_with c.in_err-entries.field-0.0 c.from_residual-in_err-entries.result (recovery c.args.base.now parts c.args.log.now) c.from_residual-in_err-entries.ensures
-    (λ other. log_refused c.args.base.now parts c.args.log.now c.in_ok-base.base c.in_ok-base.ensures.exact c.run-run.result c.run-run.ensures c.in_ok-files.files.items c.in_ok-files.ensures.files c.point.result c.point.ensures c.deref.result.now c.deref.ensures.value c.in_ok-reach.reach c.in_ok-reach.ensures c.in_ok-state.state c.in_ok-state.ensures c.new-database.result c.in_err-entries.field-0.0 (c.in_err-entries.ensures other))
+    (λ other. log_refused c.args.base.now parts c.args.log.now c.in_ok-base.base c.in_ok-base.ensures.exact c.run-run.result c.run-run.ensures c.in_ok-files.files.items c.in_ok-files.ensures.files c.point.result c.point.ensures c.deref.result.now c.deref.ensures.value c.in_ok-reach.reach c.in_ok-reach.ensures c.in_ok-state.state c.in_ok-state.ensures c.in_ok-database.database c.in_err-entries.field-0.0 (c.in_err-entries.ensures other))
 
 pub returns-clause-rules : goal.returns-clause-rules
 returns-clause-rules c =
     all_recovered c.args.base.now (map (λ part. part.now) c.args.parts.now) c.args.log.now c.in_ok-base.base c.in_ok-base.ensures.exact c.run-run.result c.run-run.ensures c.in_ok-files.files.items c.in_ok-files.ensures.files c.point.result c.point.ensures c.deref.result.now c.deref.ensures.value c.in_ok-reach.reach c.in_ok-reach.ensures c.in_ok-state.state c.in_ok-state.ensures
-    c.new-database.result (c.new-database.ensures ∙ c.into_pairs.ensures.pairs) (replay_with c.replay_log.new.database c.in_ok-entries.field-0) c.in_ok-entries.ensures c.in_ok-skipped.skipped.items (c.in_ok-skipped.ensures ∙ ap (unused_from 0 c.in_ok-reach.reach.point c.in_ok-reach.reach.lack) c.deref-2.ensures.value)
+    c.in_ok-database.database (c.in_ok-database.ensures ∙ c.into_pairs.ensures.pairs) (replay_with c.replay_log.new.database c.in_ok-entries.field-0) c.in_ok-entries.ensures c.in_ok-skipped.skipped.items (c.in_ok-skipped.ensures ∙ ap (unused_from 0 c.in_ok-reach.reach.point c.in_ok-reach.reach.lack) c.deref-2.ensures.value)
     (database_of c.in_ok-into_pairs.field-0.items) c.in_ok-into_pairs.ensures.pairs

@@ -1,0 +1,125 @@
+//! Where a key may be among many pairs: a guess by some of their keys, which is tried before all of them are searched.
+ghost use Rattle.std.specs.Prelude.{◌≡◌, ℕ, List, slice_index_or, IfOk, IfErr};
+ghost use Rattle.pc_model.specs.Database.{KeysRise};
+ghost use Rattle.pc_model.specs.Places.{IsAt, IsGap};
+
+use crate::pairs::place;
+use pc_types::{Key, Value};
+use std::alloc::{AllocError, Global};
+
+// Of so many pairs one is a sample.
+const STEP: usize = 32;
+
+/// The first bytes of some keys of rising pairs. They lie close together, so that a search by them is quick even where the
+/// pairs are many.
+#[derive(Drop)]
+pub(crate) struct Samples {
+    firsts: Vec<u64>,
+}
+
+impl Samples {
+    /// Samples of the pairs. It fails only where memory ran out.
+    pub(crate) fn of(alloc: Global, pairs: &[(Key, Value)]) -> Result<Samples, AllocError> {
+        let mut firsts = Vec::with_capacity(alloc, pairs.len() / STEP + 1)?;
+        for block in pairs.chunks(STEP) {
+            if let Some(pair) = block.first() {
+                firsts.push(first_bytes(&pair.0))?;
+            }
+        }
+        Ok(Samples { firsts })
+    }
+
+    /// Where the key's pair is, or else where one would go, in pairs that rise strictly by key: the guessed place if the
+    /// key is there, else by a search of all pairs.
+    pub(crate) fn place(&self, pairs: &[(Key, Value)], key: &Key) -> Result<usize, usize>
+        requires { KeysRise pairs.now }
+        ensures at { IfOk result (IsAt pairs.now key.now) }
+        ensures gap { IfErr result (IsGap pairs.now key.now) }
+    {
+        let i = self.guess(pairs, key);
+        match pairs.get(i) {
+            Some(pair) if pair.0.is(key) => Ok(i),
+            _ => place(pairs, key),
+        }
+    }
+
+    // A place where the key's pair may be. Nothing is promised of it.
+    fn guess(&self, pairs: &[(Key, Value)], key: &Key) -> usize {
+        let first = first_bytes(key);
+        let behind = self.firsts.partition_point(|sample| *sample <= first);
+        let low = behind
+            .saturating_sub(1)
+            .saturating_mul(STEP)
+            .min(pairs.len());
+        let high = low.saturating_add(STEP).min(pairs.len());
+        match pairs[low..high].binary_search_by(|pair| pair.0.compare(key)) {
+            Ok(i) => low.saturating_add(i),
+            Err(_) => pairs.len(),
+        }
+    }
+}
+
+// The first eight bytes of a key as a number, with zeros where it is shorter.
+fn first_bytes(key: &Key) -> u64 {
+    let mut first = 0u64;
+    for i in 0..8 {
+        let byte = key.as_bytes().get(i).copied().unwrap_or(0);
+        first = (first << 8) | u64::from(byte);
+    }
+    first
+}
+
+#[cfg(test)]
+mod tests {
+    use super::*;
+    use crate::pairs::Pairs;
+    use pc_types::Refusal;
+    use std::test::Fail;
+
+    // The key of a number below 1,000: these bytes, and then its digits.
+    fn key_of(alloc: Global, front: &[u8], number: u32) -> Result<Key, Refusal> {
+        let mut text = Vec::new(alloc);
+        text.extend_from_slice(front)?;
+        for unit in [100u32, 10, 1] {
+            text.push(b'0' + (number / unit % 10) as u8)?;
+        }
+        Key::new(alloc, &text)
+    }
+
+    // Pairs of the even numbers below 200.
+    fn even_pairs(alloc: Global, front: &[u8]) -> Result<Vec<(Key, Value)>, Refusal>
+        ensures { IfOk result (λ pairs. KeysRise pairs.items) }
+    {
+        let mut pairs = Pairs::new(alloc);
+        for half in 0..100u32 {
+            pairs.insert(key_of(alloc, front, 2 * half)?, Value::new(alloc, b"v")?)?;
+        }
+        Ok(pairs.into_vec())
+    }
+
+    // How many of the numbers up to 200 have no pair, where each place is that of a search of all pairs.
+    fn gaps_behind(alloc: Global, front: &[u8]) -> Result<Option<u32>, Refusal> {
+        let pairs = even_pairs(alloc, front)?;
+        let samples = Samples::of(alloc, &pairs)?;
+        let mut gaps = 0u32;
+        for number in 0..201u32 {
+            let key = key_of(alloc, front, number)?;
+            let found = samples.place(&pairs, &key);
+            if found != place(&pairs, &key) {
+                return Ok(None);
+            }
+            gaps = gaps.saturating_add(u32::from(found.is_err()));
+        }
+        Ok(Some(gaps))
+    }
+
+    // Keys that differ in their first eight bytes, and keys that don't.
+    #[test]
+    fn places_are_found(rt: HostRuntime) -> Result<(), Fail> {
+        for front in [b"".as_slice(), b"four", b"twelve bytes"] {
+            let gaps = gaps_behind(rt.alloc(), front)?;
+            assert_eq!(rt; gaps, Some(101), "{}", front.len());
+        }
+        Ok(())
+    }
+}
