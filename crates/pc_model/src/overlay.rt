@@ -17,8 +17,8 @@ use std::collections::BTreeMap;
 use std::marker::Model;
 
 /// A database that is written over in place: pairs that rise by key, and beside them what writes added and removed. A write
-/// costs a logarithm of its size. A new value of a key that has a pair takes the old one's place; memory is taken for the
-/// keys alone that were added or removed.
+/// costs a logarithm of its size. A new value of a key that has a pair takes the old one's place; a write takes memory for
+/// a key alone that it adds or removes.
 #[derive(Drop)]
 pub struct Overlay {
     // They rise strictly by key.
