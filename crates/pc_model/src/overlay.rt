@@ -61,7 +61,8 @@ impl Overlay {
         })
     }
 
-    /// Applies the writes, in order. They are taken over, not copied. It fails only where memory ran out.
+    /// Applies the writes, in order. They are taken over, not copied. It fails only where memory ran out; some of them may be
+    /// applied then, and no clause says which.
     pub fn apply_taken(&mut self, writes: Items<Write>) -> Result<(), AllocError>
         ensures { OnOk result (self.new ≡ applied_all self.old writes) }
     {
