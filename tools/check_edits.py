@@ -1,5 +1,6 @@
 #!/usr/bin/env python3
-"""Looks over the wrong bodies in crates/*/must-fail, in a second and without a proof: each must be able to change something.
+"""Looks over the wrong bodies in crates/*/must-fail and crates/*/tried, in a second and without a proof: each must be able to
+change something.
 
 An edit is a file of lines `file: PATH`, `old: TEXT` and `new: TEXT`. Each text is one line: what stands on further lines is
 not read, so an edit that is spread over several lines may change nothing, and is then proved. Told are a line of another
@@ -42,7 +43,7 @@ def faults_of(edit):
 
 
 def main():
-    edits = sorted(glob.glob(os.path.join(CRATES, "*", "must-fail", "*.edit")))
+    edits = sorted(it for folder in ("must-fail", "tried") for it in glob.glob(os.path.join(CRATES, "*", folder, "*.edit")))
     told = [(edit, fault) for edit in edits for fault in faults_of(edit)]
     for edit, fault in told:
         print("%s: %s" % (os.path.relpath(edit, CRATES), fault))

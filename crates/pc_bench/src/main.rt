@@ -9,8 +9,6 @@ mod locks;
 mod options;
 mod points;
 mod recoveries;
-#[cfg(test)]
-mod tests;
 mod texts;
 mod writes;
 

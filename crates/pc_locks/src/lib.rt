@@ -8,11 +8,7 @@ mod node;
 mod queues;
 mod request;
 mod row;
-#[cfg(test)]
-mod slow_table;
 mod table;
-#[cfg(test)]
-mod tests;
 
 pub use locks::Locks;
 pub use request::{Mode, Outcome};

@@ -13,18 +13,3 @@ pub fn copied(alloc: Global, content: &Option<Value>) -> Result<Option<Value>, A
         None => Ok(None),
     }
 }
-
-#[cfg(test)]
-mod tests {
-    use super::*;
-    use std::test::Fail;
-
-    #[test]
-    fn copies_a_value_or_nothing(rt: HostRuntime) -> Result<(), Fail> {
-        let value = Value::new(rt.alloc(), b"longer than sixteen bytes")?;
-        let copy = copied(rt.alloc(), &Some(value))?.ok_or("nothing")?;
-        assert_eq!(rt; copy.as_bytes(), b"longer than sixteen bytes".as_slice());
-        assert!(rt; copied(rt.alloc(), &None)?.is_none());
-        Ok(())
-    }
-}

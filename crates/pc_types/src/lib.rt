@@ -3,8 +3,6 @@
 #![tactic(auto)]
 
 mod events;
-#[cfg(test)]
-mod field_tests;
 mod fields;
 mod keys;
 mod lists;

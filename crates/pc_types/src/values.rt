@@ -73,25 +73,3 @@ impl Value {
         Ok(Value { bytes })
     }
 }
-
-#[cfg(test)]
-mod tests {
-    use super::*;
-    use std::test::Fail;
-
-    // Up to 65,535 bytes make a value; 65,536 are refused.
-    #[test]
-    fn lengths(rt: HostRuntime) -> Result<(), Fail> {
-        let alloc = rt.alloc();
-        let bytes = vec![in alloc; 7u8; 65536]?;
-        let refused = Value::new(alloc, bytes.as_slice()).err().ok_or("a value")?;
-        assert_eq!(rt; refused, Refusal::ValueLength);
-        let least = Value::new(alloc, b"")?;
-        assert_eq!(rt; least.as_bytes().len(), 0);
-        let most = Value::new(alloc, &bytes.as_slice()[..65535])?;
-        assert_eq!(rt; most.as_bytes().len(), 65535);
-        assert!(rt; most.copy(alloc)?.is(&most));
-        assert!(rt; !most.is(&least));
-        Ok(())
-    }
-}

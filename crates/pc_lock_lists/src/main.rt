@@ -1,0 +1,57 @@
+//! Goes through every short list of requests and releases of locks, and tells how many there are and what they came to.
+//!
+//! A list isn't gone on with once its last event was not asked: a transaction that waits only releases, and so does one that
+//! died, until it has released all. Of each list the answer to its last event is counted, and who waits then, and at how many
+//! slots a request stands. The checksum is FNV-1a of 64 bits over two bytes a list, in the order of the lists: the answer's
+//! number (0 not asked, 1 granted, 2 queued, 3 died, 4 and 5 released slot 0 and 1, 6 nothing), and what stands then (1, 2 and 4
+//! where the transactions 1, 2 and 3 wait, 8 and 16 where a request stands at the slots 0 and 1).
+#![tactic(auto)]
+
+mod counts;
+mod lists;
+mod table;
+
+use counts::Counts;
+use lists::{Lists, counts_of};
+use pc_types::Refusal;
+use std::io;
+use std::process::ExitCode;
+
+fn main(rt: HostRuntime) -> ExitCode {
+    match tell_all(&rt) {
+        Ok(()) => ExitCode::from(0),
+        Err(_) => ExitCode::from(1),
+    }
+}
+
+// Two transactions at two slots, and three.
+fn tell_all(rt: &HostRuntime) -> io::Result<()> {
+    let two = Lists {
+        letters: 10,
+        most: 7,
+    };
+    tell(rt, "two", counts_of(rt.alloc(), two))?;
+    let three = Lists {
+        letters: 15,
+        most: 6,
+    };
+    tell(rt, "three", counts_of(rt.alloc(), three))
+}
+
+fn tell(rt: &HostRuntime, name: &str, counts: Result<Counts, Refusal>) -> io::Result<()> {
+    let Ok(counts) = counts else {
+        println!(rt; "== {name}: memory ran out")?;
+        return Ok(());
+    };
+    println!(rt; "== {name} transactions")?;
+    println!(rt; "lists {}", counts.lists)?;
+    println!(rt; "not asked {}", counts.not_asked)?;
+    println!(rt; "granted {}", counts.granted)?;
+    println!(rt; "queued {}", counts.queued)?;
+    println!(rt; "died {}", counts.died)?;
+    println!(rt; "released {}", counts.released)?;
+    println!(rt; "nothing {}", counts.nothing)?;
+    println!(rt; "waiting {}", counts.waiting)?;
+    println!(rt; "standing {}", counts.standing)?;
+    println!(rt; "checksum {:016x}", counts.checksum)
+}
