@@ -1,6 +1,4 @@
 //! The texts of pairs, writes, logs and files.
-ghost use Rattle.std.specs.Prelude.{IfOk};
-ghost use Rattle.pc_model.specs.Pairs.{KeysRise};
 
 use pc_model::{CompleteFile, Pairs, Triple};
 use pc_types::{Entry, Items, Key, Phase, Point, Refusal, SessionNo, Value, Write};
