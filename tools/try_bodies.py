@@ -22,6 +22,8 @@ import sys
 import tempfile
 from concurrent.futures import ThreadPoolExecutor
 
+from gate_times import crates_of
+
 ROOT = os.path.join(os.path.dirname(os.path.abspath(__file__)), "..")
 RECORD = os.path.join(ROOT, "tools", "tried")
 CODE = ("src", "specs", "proofs")
@@ -36,11 +38,8 @@ def bodies_of(name):
 
 
 def crates():
-    """The crates of crates.txt that have such bodies, each with itself and those below it, as that file lists them."""
-    with open(os.path.join(ROOT, "crates.txt"), encoding="utf-8") as it:
-        lines = [line.partition("#")[0].partition(":") for line in it]
-    listed = {name.split()[0]: rest.split() for name, colon, rest in lines if colon}
-    return {name: [name, *(it for it in rest if it in listed)] for name, rest in listed.items() if bodies_of(name)}
+    """The crates that have such bodies, lowest first, each with itself and all those of the repository below it."""
+    return {name: [name, *below] for name, below in crates_of().items() if bodies_of(name)}
 
 
 def has_changed(names, commit):
