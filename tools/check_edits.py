@@ -1,32 +1,44 @@
 #!/usr/bin/env python3
 """Looks over the wrong bodies in crates/*/must-fail and crates/*/tried, in a second and without a proof: each must be able to
-change something.
+change something, and docs/PROMISES.md must say where it is.
+
+    check_edits.py            tells what is wrong
+    check_edits.py --mark     sets the names in docs/PROMISES.md as they are to be set
 
 An edit is a file of lines `file: PATH`, `old: TEXT` and `new: TEXT`. Each text is one line: what stands on further lines is
 not read, so an edit that is spread over several lines may change nothing, and is then proved. Told are a line of another
-form, an old text that doesn't stand exactly once in its file, and a new text that is the old one. The status is 1 where
-anything is told.
+form, an old text that doesn't stand exactly once in its file, and a new text that is the old one. In the column of edits in
+docs/PROMISES.md the name of one that the gate tries is bold, and that of another one plain. Told are a name set otherwise, one
+that no edit has, and an edit that no row of its crate names. The status is 1 where anything is told.
 """
 
 import glob
 import os
+import re
 import sys
 
-HERE = os.path.dirname(os.path.abspath(__file__))
-CRATES = os.path.join(HERE, "..", "crates")
+ROOT = os.path.join(os.path.dirname(os.path.abspath(__file__)), "..")
+CRATES = os.path.join(ROOT, "crates")
+PROMISES = os.path.join(ROOT, "docs", "PROMISES.md")
+COLUMN = 2
+
+
+def text_of(path):
+    with open(path, encoding="utf-8") as it:
+        return it.read()
 
 
 def faults_of(edit):
     """What is wrong with the edit, a line each."""
     folder = os.path.dirname(os.path.dirname(edit))
     text, old, changes = "", None, 0
-    for line in open(edit, encoding="utf-8").read().split("\n"):
+    for line in text_of(edit).split("\n"):
         word, _, rest = line.partition(":")
         rest = rest.removeprefix(" ")
         if not line:
             continue
         if word == "file":
-            text = open(os.path.join(folder, rest.strip()), encoding="utf-8").read()
+            text = text_of(os.path.join(folder, rest.strip()))
         elif word == "old":
             old = rest
             if text.count(old) != 1:
@@ -42,13 +54,56 @@ def faults_of(edit):
         yield "nothing is changed"
 
 
-def main():
-    edits = sorted(it for folder in ("must-fail", "tried") for it in glob.glob(os.path.join(CRATES, "*", folder, "*.edit")))
-    told = [(edit, fault) for edit in edits for fault in faults_of(edit)]
-    for edit, fault in told:
-        print("%s: %s" % (os.path.relpath(edit, CRATES), fault))
-    print("%d edits, %d faults" % (len(edits), len(told)))
-    sys.exit(1 if told else 0)
+def edits():
+    return sorted(it for folder in ("must-fail", "tried") for it in glob.glob(os.path.join(CRATES, "*", folder, "*.edit")))
 
 
-main()
+def places():
+    """By the name of an edit, the crates in which it stands, and whether the gate tries it there."""
+    found = {}
+    for edit in edits():
+        folder, file = os.path.split(edit)
+        found.setdefault(file.removesuffix(".edit"), {})[folder.split(os.sep)[-2]] = folder.endswith("must-fail")
+    return found
+
+
+def marked(text, found, told):
+    """The text with each edit's name set as it is to be; what is wrong with the names is told."""
+    crates, named, lines = [], set(), []
+    for line in text.split("\n"):
+        if line.startswith("## "):
+            crates = re.findall(r"`(\w+)`", line)
+        cells = line.split(" | ")
+        if line.startswith("| ") and len(cells) == 4:
+            cells[COLUMN] = re.sub(r"\*{0,2}`([a-z0-9]+(?:_[a-z0-9]+)+)`\*{0,2}", lambda it: set_name(it[1], crates, found, named, told), cells[COLUMN])
+        lines.append(" | ".join(cells))
+    told += [f"{crate}/{name}: no row of its crate names it" for name, where in found.items() for crate in where if (crate, name) not in named]
+    return "\n".join(lines)
+
+
+def set_name(name, crates, found, named, told):
+    if os.path.isdir(os.path.join(CRATES, name)):
+        return f"`{name}`"
+    where = found.get(name, {})
+    here = [it for it in where if it in crates] or [*where]
+    named.update((it, name) for it in here)
+    if not here:
+        told.append(f"docs/PROMISES.md: no edit has the name {name}")
+    return f"**`{name}`**" if any(where[it] for it in here) else f"`{name}`"
+
+
+def main(words):
+    told = ["%s: %s" % (os.path.relpath(edit, CRATES), fault) for edit in edits() for fault in faults_of(edit)]
+    text = text_of(PROMISES)
+    right = marked(text, places(), told)
+    if "--mark" in words:
+        with open(PROMISES, "w", encoding="utf-8") as it:
+            it.write(right)
+    elif right != text:
+        told.append("docs/PROMISES.md: an edit's name is not set as it is to be: tools/check_edits.py --mark")
+    print("\n".join(told + ["%d edits, %d faults" % (len(edits()), len(told))]))
+    return 1 if told else 0
+
+
+if __name__ == "__main__":
+    sys.exit(main(sys.argv[1:]))
