@@ -505,7 +505,7 @@ def recovered_text(files, cut=None):
     """What a recovery of the folder prints, with its status."""
     name = b"base.pcb"
     try:
-        for name in [b"base.pcb", b"parts"] + [it for it in files if it.endswith(b".pcp")] + [b"log.pcl"]:
+        for name in [b"base.pcb", b"."] + [it for it in files if it.endswith(b".pcp")] + [b"log.pcl"]:
             if isinstance(files.get(name), Refused) and (name, files[name].name) != (b"log.pcl", "NoFile"):
                 raise files[name]
             if name == b"base.pcb" and name not in files:
@@ -516,20 +516,19 @@ def recovered_text(files, cut=None):
         parts = [(it, files[it]) for it in files if it.endswith(b".pcp")]
         return recover(files[b"base.pcb"], parts, log).text() + b"status 0\n"
     except Refused as why:
-        name = DIRECTORY if name == b"parts" else name
+        name = DIRECTORY if name == b"." else name
         return b"pcalc: " + name + b": " + why.name.encode() + b"\nstatus 1\n"
 
 
 def cuts_text(files):
-    text, first, before = b"", 0, None
-    length = len(files[b"log.pcl"])
-    for cut in range(length + 1):
+    """What a recovery prints with each beginning of the log, where it is another than that of the one before, behind its length."""
+    text, before = b"", None
+    for cut in range(len(files[b"log.pcl"]) + 1):
         now = recovered_text(files, cut)
-        if before is not None and now != before:
-            text += b"-- %d..%d\n" % (first, cut - 1) + before
         if now != before:
-            first, before = cut, now
-    return text + b"-- %d..%d\n" % (first, length) + before
+            text += b"-- %d\n" % cut + now
+        before = now
+    return text
 
 
 def print_rows(path):
