@@ -1,6 +1,6 @@
 //! The files of a folder that recovery reads.
 use crate::late::LateFile;
-use crate::recovery::{Folder, NamedFile};
+use pc_script::{Folder, NamedFile};
 use pc_types::Refusal;
 use std::alloc::{AllocError, Global};
 use std::string::String;

@@ -3,30 +3,13 @@
 
 mod folder;
 mod late;
-mod lines;
 mod options;
-#[cfg(test)]
-mod recover_tests;
-mod recovery;
-mod reports;
-mod run;
-mod script;
-mod setup;
-#[cfg(test)]
-mod tests;
-mod texts;
-mod views;
-#[cfg(test)]
-mod walk_tests;
-mod words;
 
 use clap::error::ErrorKind;
 use folder::open_folder;
 use options::{Task, asked};
+use pc_script::{Setup, run_recover, run_script};
 use pc_types::{Refusal, Tally};
-use recovery::run_recover;
-use run::run_script;
-use setup::Setup;
 use std::fs::File;
 use std::io::BufWriter;
 use std::process::ExitCode;

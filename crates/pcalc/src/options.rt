@@ -1,8 +1,8 @@
 //! The command line.
 ghost use Rattle.std.specs.Prelude.{◌≤◌};
 
-use crate::setup::Setup;
 use clap::{Arg, ArgAction, ArgMatches, Command, Error};
+use pc_script::Setup;
 use std::alloc::Global;
 
 /// What `pcalc step` is asked to do.

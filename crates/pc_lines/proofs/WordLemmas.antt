@@ -1,0 +1,47 @@
+-- Numerals digit by digit, and texts byte by byte.
+use Rattle.std.proofs.Common.{◌≡◌, ℕ, ◌+◌, ◌*◌, ◌-◌, ◌^◌, ◌<◌, ◌≤◌, true, List, [], ◌∷◌, ◌++◌, length, get_or, take, drop, arith, append_assoc, add-one, length-drop, zero, suc}
+use Rattle.std.specs.Prelude.{Option, Some, None}
+use Rattle.std.specs.Option.{option_map}
+use Rattle.std.specs.List.{list_all}
+use Rattle.std.specs.Char.{digit_value}
+use Rattle.std.proofs.lemmas.Bool.Decides.{nat_tests}
+use Rattle.std.proofs.Math.Nat.{pow-le-pow_right, pow-suc}
+use Rattle.std.proofs.lemmas.List.{take_rest, drop-drop}
+use Rattle.pc_lines.specs.Words.{is_digit, with_byte, unescaped}
+
+-- a digit of a numeral is one of 0 to 9
+pub digit_at : (ds : List ℕ) (i : ℕ) → list_all is_digit ds ≡ true → i < length ds → (47 < get_or ds i 0) × (get_or ds i 0 < 58)
+digit_at [] i h lt = absurd (omega arith)
+digit_at (d ∷ ds) zero h lt = (grind (arith, nat_tests), grind (arith, nat_tests))
+digit_at (d ∷ ds) (suc i) h lt = digit_at ds i (grind (arith, nat_tests)) (omega arith)
+
+-- what a digit is worth
+pub digit_worth : (d : ℕ) → 47 < d → d < 58 → digit_value d ≡ d - 48
+digit_worth d low high = grind (arith, nat_tests)
+
+-- fewer than nine digits so far
+pub room : (i : ℕ) → i < 9 → 10 ^ i ≤ 100000000
+room i h = pow-le-pow_right {n = 10} (omega arith) {i = i} {j = 8} (omega arith)
+
+one_byte : (text : List ℕ) (b : ℕ) (rest whole : Option (List ℕ)) → option_map (λ r. text ++ r) (with_byte b rest) ≡ whole
+    → option_map (λ r. (text ++ b ∷ []) ++ r) rest ≡ whole
+one_byte text b None whole h = h
+one_byte text b (Some r) whole h = rw append_assoc h
+
+-- the bound of one digit more
+pub one_digit_more : (i value d : ℕ) → value < 10 ^ i → d < 10 → value * 10 + d < 10 ^ (i + 1)
+one_digit_more i value d small h =
+    let e : 10 ^ (i + 1) ≡ 10 ^ i * 10 = rw add-one (pow-suc 10 i) in
+    omega arith
+
+-- one more byte of a text, which takes some bytes of its word
+pub one_more : (text pushed word : List ℕ) (at n b : ℕ) → at ≤ length word → pushed ≡ text ++ b ∷ []
+    → (0 < n) × (n ≤ length (take (length word - at) (drop at word))) × (unescaped (take (length word - at) (drop at word)) ≡ with_byte b (unescaped (drop n (take (length word - at) (drop at word)))))
+    → option_map (λ rest. text ++ rest) (unescaped (drop at word)) ≡ unescaped word
+    → (at + n ≤ length word) × (option_map (λ rest. pushed ++ rest) (unescaped (drop (at + n) word)) ≡ unescaped word)
+one_more text pushed word at n b within is_pushed first whole =
+    let f = rw take_rest at first in (
+      omega (arith, f.1, length-drop at word),
+      rw is_pushed (one_byte text b (unescaped (drop (at + n) word)) (unescaped word)
+          (rw (f.2, drop-drop) at whole)),
+    )

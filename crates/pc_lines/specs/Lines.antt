@@ -1,0 +1,108 @@
+-- The words of a script's line, and what a line spells.
+use Rattle.std.specs.Prelude.{ℕ, ◌==◌, ◌&&◌, nat_lt, Bool, false, List, [], ◌∷◌, Option, Some, None, if◌then◌else◌, length, filter, codes}
+use Rattle.std.specs.List.{slice_split}
+use Rattle.std.specs.Str.{bytes_eq}
+use Rattle.pc_types.specs.declared.Event.TheVariants as asked
+use Rattle.pc_types.specs.declared.Refusal.TheVariants as why
+use Rattle.pc_lines.specs.declared.lines.Line.{Line}
+use Rattle.pc_lines.specs.declared.lines.Line.TheVariants as line
+use Rattle.pc_lines.specs.declared.lines.View.TheVariants as view
+use Rattle.pc_lines.specs.Words.{number_of, text_of}
+
+-- the words of a line: the longest runs of bytes other than space
+abbrev pub words_of : List ℕ → List (List ℕ)
+words_of text = filter (λ word. nat_lt 0 (length word)) (slice_split (λ b. b == 32) text)
+
+-- a key has 1 to 255 bytes
+abbrev pub is_key : List ℕ → Bool
+is_key bytes = nat_lt 0 (length bytes) && nat_lt (length bytes) 256
+
+-- a value has at most 65,535 bytes
+abbrev pub is_value : List ℕ → Bool
+is_value bytes = nat_lt (length bytes) 65536
+
+-- a pair of the base, whose key is tested before its value
+abbrev pub base_line : Option (List ℕ) → Option (List ℕ) → Line
+base_line (Some key) (Some value) = if is_key key then (if is_value value then line.Sets key value else line.SetsRefused why.ValueLength) else line.SetsRefused why.KeyLength
+base_line key value = line.Malformed
+
+-- a read
+abbrev pub get_line : Option ℕ → Option (List ℕ) → Line
+get_line (Some session) (Some key) = if is_key key then line.Asks (asked.Get session key) else line.AsksRefused why.KeyLength
+get_line session key = line.Malformed
+
+-- a removal
+abbrev pub del_line : Option ℕ → Option (List ℕ) → Line
+del_line (Some session) (Some key) = if is_key key then line.Asks (asked.Del session key) else line.AsksRefused why.KeyLength
+del_line session key = line.Malformed
+
+-- a put, whose key is tested before its value
+abbrev pub put_line : Option ℕ → Option (List ℕ) → Option (List ℕ) → Line
+put_line (Some session) (Some key) (Some value) =
+    if is_key key then (if is_value value then line.Asks (asked.Put session key value) else line.AsksRefused why.ValueLength) else line.AsksRefused why.KeyLength
+put_line session key value = line.Malformed
+
+-- what a word alone spells
+abbrev pub one_word : List ℕ → Line
+one_word verb =
+    if bytes_eq verb (codes "point") then line.Asks asked.StartPoint
+    else (if bytes_eq verb (codes "seal") then line.Asks asked.Seal
+    else (if bytes_eq verb (codes "capture") then line.Asks asked.OpenCapture
+    else (if bytes_eq verb (codes "take") then line.Asks asked.Take
+    else (if bytes_eq verb (codes "done") then line.Asks asked.Done
+    else (if bytes_eq verb (codes "rest") then line.Asks asked.Rest
+    else (if bytes_eq verb (codes "check") then line.Shows view.Check else line.Malformed))))))
+
+-- what a word and a number spell
+abbrev pub numbered_line : List ℕ → ℕ → Line
+numbered_line verb number =
+    if bytes_eq verb (codes "begin") then line.Asks (asked.Begin number)
+    else (if bytes_eq verb (codes "commit") then line.Asks (asked.Commit number)
+    else (if bytes_eq verb (codes "abort") then line.Asks (asked.Abort number)
+    else (if bytes_eq verb (codes "state") then line.Shows (view.State number)
+    else (if bytes_eq verb (codes "text") then line.Shows (view.Text number) else line.Malformed))))
+
+-- the same where the number may be no number
+abbrev pub numbered : List ℕ → Option ℕ → Line
+numbered verb (Some number) = numbered_line verb number
+numbered verb None = line.Malformed
+
+-- what two words spell
+abbrev pub two_words : List ℕ → List ℕ → Line
+two_words verb number = numbered verb (number_of number)
+
+-- a join of two files
+abbrev pub join_line : Option ℕ → Option ℕ → Line
+join_line (Some first) (Some second) = line.Asks (asked.Join first second)
+join_line first second = line.Malformed
+
+-- what three words spell
+abbrev pub three_words : List ℕ → List ℕ → List ℕ → Line
+three_words verb first second =
+    if bytes_eq verb (codes "get") then get_line (number_of first) (text_of second)
+    else (if bytes_eq verb (codes "del") then del_line (number_of first) (text_of second)
+    else (if bytes_eq verb (codes "base") then base_line (text_of first) (text_of second)
+    else (if bytes_eq verb (codes "join") then join_line (number_of first) (number_of second) else line.Malformed)))
+
+-- what four words spell
+abbrev pub four_words : List ℕ → List ℕ → List ℕ → List ℕ → Line
+four_words verb first second third =
+    if bytes_eq verb (codes "put") then put_line (number_of first) (text_of second) (text_of third) else line.Malformed
+
+-- what the words of a line spell
+abbrev pub spelled_by : List (List ℕ) → Line
+spelled_by [] = line.Silent
+spelled_by (verb ∷ []) = one_word verb
+spelled_by (verb ∷ a ∷ []) = two_words verb a
+spelled_by (verb ∷ a ∷ b ∷ []) = three_words verb a b
+spelled_by (verb ∷ a ∷ b ∷ c ∷ []) = four_words verb a b c
+spelled_by words = line.Malformed
+
+-- a comment: the first byte is a number sign
+abbrev pub is_comment : List ℕ → Bool
+is_comment [] = false
+is_comment (b ∷ text) = b == 35
+
+-- what a line spells
+abbrev pub spelled : List ℕ → Line
+spelled text = if is_comment text then line.Silent else spelled_by (words_of text)

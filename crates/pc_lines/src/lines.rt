@@ -1,0 +1,267 @@
+//! The lines of a script, and what each spells.
+ghost use Rattle.std.specs.Prelude.{◌≡◌, ◌==◌, ℕ, List, Some, map, length, IfOk, IfErr};
+ghost use Rattle.std.specs.List.{slice_split};
+ghost use Rattle.pc_lines.specs.Words.{number_of, text_of};
+ghost use Rattle.pc_lines.specs.Lines.{words_of, is_key, is_value, base_line, get_line, del_line, put_line, one_word, numbered_line, two_words, three_words, four_words, spelled_by, is_comment, spelled};
+
+use crate::words::{number, text_of};
+use pc_types::{Event, FileNo, Key, Refusal, SessionNo, Value};
+use std::alloc::{AllocError, Global};
+
+/// What a line of a script spells.
+#[derive(Drop)]
+pub enum Line {
+    /// No words, or a `#` first: nothing is answered.
+    Silent,
+    /// A form that isn't known.
+    Malformed,
+    /// A pair of the base.
+    Sets(Key, Value),
+    /// A pair of the base with a key or value of a wrong length.
+    SetsRefused(Refusal),
+    /// An event.
+    Asks(Event),
+    /// An event with a key or value of a wrong length.
+    AsksRefused(Refusal),
+    /// Something to be shown, which changes nothing.
+    Shows(View),
+}
+
+/// What a line asks to be shown.
+#[derive(Clone, Copy, Debug, PartialEq, Eq)]
+pub enum View {
+    /// The base with a file laid on it.
+    State(FileNo),
+    /// The bytes of a file.
+    Text(FileNo),
+    /// Whether the store is what its log says.
+    Check,
+}
+
+/// What the line, without its end, spells. Refuses only with `OutOfMemory`.
+pub fn read_line(alloc: Global, text: &[u8]) -> Result<Line, Refusal>
+    ensures line { IfOk result (λ line. line ≡ spelled text.now) }
+    ensures refusals { IfErr result (λ e. e ≡ Refusal.OutOfMemory) }
+{
+    if is_comment(text) {
+        return Ok(Line::Silent);
+    }
+    let words = words(alloc, text)?;
+    spelled_by(alloc, &words)
+}
+
+// What the words of a line spell.
+fn spelled_by(alloc: Global, words: &[&[u8]]) -> Result<Line, Refusal>
+    ensures line { IfOk result (λ line. line ≡ spelled_by (map (λ w. w.now) words.now)) }
+    ensures refusals { IfErr result (λ e. e ≡ Refusal.OutOfMemory) }
+{
+    match words {
+        [] => Ok(Line::Silent),
+        [verb] => Ok(one_word(verb)),
+        [verb, number] => Ok(two_words(verb, number)),
+        [verb, first, second] => three_words(alloc, verb, first, second),
+        [verb, first, second, third] => four_words(alloc, verb, first, second, third),
+        _ => Ok(Line::Malformed),
+    }
+}
+
+fn is_comment(text: &[u8]) -> bool
+    ensures { result ≡ is_comment text.now }
+{
+    !text.is_empty() && text[0] == b'#'
+}
+
+// The pieces between spaces.
+fn pieces<'a>(alloc: Global, text: &'a [u8]) -> Result<Vec<&'a [u8]>, AllocError>
+    ensures { IfOk result (λ v. map (λ w. w.now) v.items ≡ slice_split (λ b. b == 32) text.now) }
+{
+    text.split(|b| *b == b' ').collect(alloc)
+}
+
+fn words<'a>(alloc: Global, text: &'a [u8]) -> Result<Vec<&'a [u8]>, AllocError>
+    ensures { IfOk result (λ v. map (λ w. w.now) v.items ≡ words_of text.now) }
+{
+    let mut words = Vec::new(alloc);
+    let pieces = pieces(alloc, text)?;
+    for piece in &pieces {
+        if !piece.is_empty() {
+            words.push(*piece)?;
+        }
+    }
+    Ok(words)
+}
+
+fn one_word(verb: &[u8]) -> Line
+    ensures { result ≡ one_word verb.now }
+{
+    if verb == b"point".as_slice() {
+        Line::Asks(Event::StartPoint)
+    } else if verb == b"seal".as_slice() {
+        Line::Asks(Event::Seal)
+    } else if verb == b"capture".as_slice() {
+        Line::Asks(Event::OpenCapture)
+    } else if verb == b"take".as_slice() {
+        Line::Asks(Event::Take)
+    } else if verb == b"done".as_slice() {
+        Line::Asks(Event::Done)
+    } else if verb == b"rest".as_slice() {
+        Line::Asks(Event::Rest)
+    } else if verb == b"check".as_slice() {
+        Line::Shows(View::Check)
+    } else {
+        Line::Malformed
+    }
+}
+
+fn two_words(verb: &[u8], number_word: &[u8]) -> Line
+    ensures { result ≡ two_words verb.now number_word.now }
+{
+    match number(number_word) {
+        Some(number) => numbered_line(verb, number),
+        None => Line::Malformed,
+    }
+}
+
+fn numbered_line(verb: &[u8], number: u32) -> Line
+    ensures { result ≡ numbered_line verb.now number }
+{
+    if verb == b"begin".as_slice() {
+        Line::Asks(Event::Begin(SessionNo(number)))
+    } else if verb == b"commit".as_slice() {
+        Line::Asks(Event::Commit(SessionNo(number)))
+    } else if verb == b"abort".as_slice() {
+        Line::Asks(Event::Abort(SessionNo(number)))
+    } else if verb == b"state".as_slice() {
+        Line::Shows(View::State(FileNo(number)))
+    } else if verb == b"text".as_slice() {
+        Line::Shows(View::Text(FileNo(number)))
+    } else {
+        Line::Malformed
+    }
+}
+
+fn three_words(alloc: Global, verb: &[u8], first: &[u8], second: &[u8]) -> Result<Line, Refusal>
+    ensures line { IfOk result (λ line. line ≡ three_words verb.now first.now second.now) }
+    ensures refusals { IfErr result (λ e. e ≡ Refusal.OutOfMemory) }
+{
+    if verb == b"get".as_slice() {
+        let text = text_of(alloc, second)?;
+        match (number(first), text) {
+            (Some(session), Some(key)) => get_line(alloc, session, &key),
+            _ => Ok(Line::Malformed),
+        }
+    } else if verb == b"del".as_slice() {
+        let text = text_of(alloc, second)?;
+        match (number(first), text) {
+            (Some(session), Some(key)) => del_line(alloc, session, &key),
+            _ => Ok(Line::Malformed),
+        }
+    } else if verb == b"base".as_slice() {
+        let key = text_of(alloc, first)?;
+        let value = text_of(alloc, second)?;
+        match (key, value) {
+            (Some(key), Some(value)) => base_line(alloc, &key, &value),
+            _ => Ok(Line::Malformed),
+        }
+    } else if verb == b"join".as_slice() {
+        match (number(first), number(second)) {
+            (Some(first), Some(second)) => {
+                Ok(Line::Asks(Event::Join(FileNo(first), FileNo(second))))
+            }
+            _ => Ok(Line::Malformed),
+        }
+    } else {
+        Ok(Line::Malformed)
+    }
+}
+
+fn four_words(
+    alloc: Global,
+    verb: &[u8],
+    first: &[u8],
+    second: &[u8],
+    third: &[u8],
+) -> Result<Line, Refusal>
+    ensures line { IfOk result (λ line. line ≡ four_words verb.now first.now second.now third.now) }
+    ensures refusals { IfErr result (λ e. e ≡ Refusal.OutOfMemory) }
+{
+    if verb == b"put".as_slice() {
+        put_words(alloc, first, second, third)
+    } else {
+        Ok(Line::Malformed)
+    }
+}
+
+fn put_words(alloc: Global, first: &[u8], second: &[u8], third: &[u8]) -> Result<Line, Refusal>
+    ensures line { IfOk result (λ line. line ≡ put_line (number_of first.now) (text_of second.now) (text_of third.now)) }
+    ensures refusals { IfErr result (λ e. e ≡ Refusal.OutOfMemory) }
+{
+    let key = text_of(alloc, second)?;
+    let value = text_of(alloc, third)?;
+    match (number(first), key, value) {
+        (Some(session), Some(key), Some(value)) => put_line(alloc, session, &key, &value),
+        _ => Ok(Line::Malformed),
+    }
+}
+
+fn base_line(alloc: Global, key: &[u8], value: &[u8]) -> Result<Line, Refusal>
+    ensures line { IfOk result (λ line. line ≡ base_line (Some key.now) (Some value.now)) }
+    ensures refusals { IfErr result (λ e. e ≡ Refusal.OutOfMemory) }
+{
+    if !is_key(key) {
+        return Ok(Line::SetsRefused(Refusal::KeyLength));
+    }
+    if !is_value(value) {
+        return Ok(Line::SetsRefused(Refusal::ValueLength));
+    }
+    Ok(Line::Sets(Key::new(alloc, key)?, Value::new(alloc, value)?))
+}
+
+fn get_line(alloc: Global, session: u32, key: &[u8]) -> Result<Line, Refusal>
+    ensures line { IfOk result (λ line. line ≡ get_line (Some session) (Some key.now)) }
+    ensures refusals { IfErr result (λ e. e ≡ Refusal.OutOfMemory) }
+{
+    if !is_key(key) {
+        return Ok(Line::AsksRefused(Refusal::KeyLength));
+    }
+    let key = Key::new(alloc, key)?;
+    Ok(Line::Asks(Event::Get(SessionNo(session), key)))
+}
+
+fn del_line(alloc: Global, session: u32, key: &[u8]) -> Result<Line, Refusal>
+    ensures line { IfOk result (λ line. line ≡ del_line (Some session) (Some key.now)) }
+    ensures refusals { IfErr result (λ e. e ≡ Refusal.OutOfMemory) }
+{
+    if !is_key(key) {
+        return Ok(Line::AsksRefused(Refusal::KeyLength));
+    }
+    let key = Key::new(alloc, key)?;
+    Ok(Line::Asks(Event::Del(SessionNo(session), key)))
+}
+
+fn put_line(alloc: Global, session: u32, key: &[u8], value: &[u8]) -> Result<Line, Refusal>
+    ensures line { IfOk result (λ line. line ≡ put_line (Some session) (Some key.now) (Some value.now)) }
+    ensures refusals { IfErr result (λ e. e ≡ Refusal.OutOfMemory) }
+{
+    if !is_key(key) {
+        return Ok(Line::AsksRefused(Refusal::KeyLength));
+    }
+    if !is_value(value) {
+        return Ok(Line::AsksRefused(Refusal::ValueLength));
+    }
+    let key = Key::new(alloc, key)?;
+    let value = Value::new(alloc, value)?;
+    Ok(Line::Asks(Event::Put(SessionNo(session), key, value)))
+}
+
+fn is_key(bytes: &[u8]) -> bool
+    ensures { result ≡ is_key bytes.now }
+{
+    !bytes.is_empty() && bytes.len() < 256
+}
+
+fn is_value(bytes: &[u8]) -> bool
+    ensures { result ≡ is_value bytes.now }
+{
+    bytes.len() < 65536
+}

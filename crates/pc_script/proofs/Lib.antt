@@ -1,0 +1,4 @@
+pub mod BaseLemmas
+pub mod FolderParts
+pub mod FolderRecovery
+pub mod ScriptLemmas

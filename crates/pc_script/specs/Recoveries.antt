@@ -1,0 +1,90 @@
+-- A recovery of a folder: what its files hold, what it prints, and why it may fail.
+use Rattle.std.specs.Prelude.{◌≡◌, ◌≢◌, ◌⊎◌, ℕ, List, [], ◌∷◌, Option, Some, map, codes, Ok, Err, ⊤}
+use Rattle.std.specs.declared.result.Result.{Result}
+use Rattle.std.specs.Global.{Vec}
+use Rattle.std.specs.List.{Contains}
+use Rattle.pc_types.specs.declared.refusal.Refusal.{Refusal}
+use Rattle.pc_types.specs.declared.refusal.Refusal.TheVariants.{OutOfMemory, NoFile}
+use Rattle.pc_types.specs.Counted.{HasRisen}
+use Rattle.pc_types.specs.Tallies.{Puts}
+use Rattle.pc_types.specs.declared.tally.Tally.{Tally}
+use Rattle.pc_recover.specs.Recovery.{recovery}
+use Rattle.pc_script.specs.declared.recovery.Folder.{Folder}
+use Rattle.pc_script.specs.declared.recovery.NamedFile.{NamedFile}
+use Rattle.pc_script.specs.declared.recovery.PartBytes.{PartBytes}
+use Rattle.pc_script.specs.declared.recovery.Lost.{Lost}
+use Rattle.pc_script.specs.declared.recovery.Lost.TheVariants as lost
+use Rattle.pc_script.specs.Runs.{IsScriptFault, report_text}
+
+-- the names of the parts, in their order
+abbrev pub names_of : List PartBytes → List (List ℕ)
+names_of parts = map (λ (part : PartBytes). part.name.items) parts
+
+-- the bytes of the parts, in their order
+abbrev pub bytes_of : List PartBytes → List (List ℕ)
+bytes_of parts = map (λ (part : PartBytes). part.bytes.items) parts
+
+-- a file that was opened holds these bytes
+abbrev pub Holds : {R : Type 0} → (R → Option (List ℕ)) → Result R Refusal → List ℕ → Type 0
+Holds remaining (Ok reader) bytes = remaining reader ≡ Some bytes
+Holds remaining (Err why) bytes = ⊥
+
+-- a log holds these bytes; one that isn't there holds none
+abbrev pub HoldsLog : {R : Type 0} → (R → Option (List ℕ)) → Result R Refusal → List ℕ → Type 0
+HoldsLog remaining (Ok reader) bytes = remaining reader ≡ Some bytes
+HoldsLog remaining (Err why) bytes = (why ≡ NoFile) × (bytes ≡ [])
+
+-- files of these names hold these bytes, each its own
+abbrev pub HoldEach : {R : Type 0} → (R → Option (List ℕ)) → List (NamedFile R) → List (List ℕ) → List (List ℕ) → Type 0
+HoldEach remaining [] [] [] = ⊤
+HoldEach remaining (file ∷ files) (name ∷ names) (bytes ∷ parts) = (file.name.items ≡ name) × Holds remaining file.opened bytes × HoldEach remaining files names parts
+HoldEach remaining files names parts = ⊥
+
+-- the parts of a folder that could be listed
+abbrev pub HoldParts : {R : Type 0} → (R → Option (List ℕ)) → Result (Vec (NamedFile R)) Refusal → List (List ℕ) → List (List ℕ) → Type 0
+HoldParts remaining (Ok files) names parts = HoldEach remaining files.items names parts
+HoldParts remaining (Err why) names parts = ⊥
+
+-- the folder holds this base, these parts by their names, and this log
+pub record HoldsAll {R : Type 0} (remaining : R → Option (List ℕ)) (folder : Folder R) (base : List ℕ) (names parts : List (List ℕ)) (log : List ℕ) : Type 0 where
+  pub base_holds : Holds remaining folder.base base
+  pub parts_hold : HoldParts remaining folder.parts names parts
+  pub log_holds : HoldsLog remaining folder.log log
+
+-- why a log can't be had: it can't be opened or read; that it isn't there is no fault
+abbrev pub IsLogFault : {R : Type 0} → Result R Refusal → Refusal → Type 0
+IsLogFault opened why = IsScriptFault opened why × (why ≢ NoFile)
+
+-- reading the files fails for one of them, or for want of memory
+abbrev pub IsEachLost : {R : Type 0} → List (NamedFile R) → Lost → Type 0
+IsEachLost files (lost.Part name why) = (file : NamedFile _) × Contains files file × (file.name.items ≡ name.items) × IsScriptFault file.opened why
+IsEachLost files (lost.Folder why) = why ≡ OutOfMemory
+IsEachLost files other = ⊥
+
+-- the same of files that may not have been listed
+abbrev pub IsListLost : {R : Type 0} → Result (Vec (NamedFile R)) Refusal → Lost → Type 0
+IsListLost (Ok files) cause = IsEachLost files.items cause
+IsListLost (Err why) cause = cause ≡ lost.Folder why
+
+-- Why nothing was recovered, where the output's failures were this many before and this many after: a file can't be opened or
+-- read; or the folder can't be listed, or memory ran out, or the rules refuse what the files hold; or the output failed.
+abbrev pub IsLost : {R : Type 0} → (R → Option (List ℕ)) → Folder R → ℕ → ℕ → Lost → Type 0
+IsLost remaining folder old new (lost.Base why) = IsScriptFault folder.base why
+IsLost remaining folder old new (lost.Part name why) = IsListLost folder.parts (lost.Part name why)
+IsLost remaining folder old new (lost.Log why) = IsLogFault folder.log why
+IsLost remaining folder old new (lost.Folder why) =
+    (why ≡ OutOfMemory) ⊎ ((folder.parts ≡ Err why) ⊎ ((base : List ℕ) (names parts : List (List ℕ)) (log : List ℕ) → HoldsAll remaining folder base names parts log → recovery base parts log ≡ Err why))
+IsLost remaining folder old new lost.Output = HasRisen old new
+
+-- a name and a reason are told, as far as the writer takes them
+abbrev pub TellsOf : {T : Type 0} → (T → Option (List ℕ)) → Tally T → Tally T → List ℕ → Refusal → Type 0
+TellsOf contents old new name why = (told : Result (Unit {0}) Refusal) × Puts contents old new told (report_text name why)
+
+-- what is told on the error writer, where the folder has this name: the name of the file or the folder, and the reason; of a
+-- fault of the output nothing
+abbrev pub IsTold : {T : Type 0} → (T → Option (List ℕ)) → Tally T → Tally T → List ℕ → Lost → Type 0
+IsTold contents old new dir (lost.Base why) = TellsOf contents old new (codes "base.pcb") why
+IsTold contents old new dir (lost.Part name why) = TellsOf contents old new name.items why
+IsTold contents old new dir (lost.Log why) = TellsOf contents old new (codes "log.pcl") why
+IsTold contents old new dir (lost.Folder why) = TellsOf contents old new dir why
+IsTold contents old new dir lost.Output = new ≡ old

@@ -1,0 +1,53 @@
+-- What `pcalc recover` prints.
+use Rattle.std.specs.Prelude.{ℕ, Bool, true, false, if◌then◌else◌, List, [], ◌++◌, Option, Some, None, slice_get, codes, decimal}
+use Rattle.std.specs.List.{flat_map}
+use Rattle.pc_types.specs.Names.{name_of}
+use Rattle.pc_types.specs.declared.refusal.Refusal.{Refusal}
+use Rattle.pc_types.specs.declared.refusal.Refusal.TheVariants as why
+use Rattle.pc_model.specs.Maps.{len}
+use Rattle.pc_recover.specs.Recovery.{Recovery}
+use Rattle.pc_recover.specs.declared.recovered.Skipped.{Skipped}
+use Rattle.pc_texts.specs.Texts.{refusal_text, pair_text}
+
+-- a line of a word and a number
+abbrev pub count_line : List ℕ → ℕ → List ℕ
+count_line word number = word ++ (decimal number ++ codes "\n")
+
+-- a log's rest was only cut off
+abbrev pub is_cut : Refusal → Bool
+is_cut why.Short = true
+is_cut other = false
+
+-- the line of the fault of the log's rest; none where it was only cut off
+abbrev pub log_line : Option Refusal → List ℕ
+log_line None = []
+log_line (Some fault) = if is_cut fault then [] else codes "log " ++ (name_of fault ++ codes "\n")
+
+-- the name of a place
+abbrev pub name_at : Option (List ℕ) → List ℕ
+name_at None = []
+name_at (Some name) = name
+
+-- the line of a part that was skipped
+abbrev pub skipped_line : List (List ℕ) → Skipped → List ℕ
+skipped_line names skipped = (codes "skipped " ++ (name_at (slice_get names skipped.place) ++ codes " ")) ++ (refusal_text skipped.reason ++ codes "\n")
+
+-- the counts: the point, and how many whole entries the log has
+abbrev pub counts_text : ℕ → ℕ → List ℕ
+counts_text point entries = count_line (codes "point ") point ++ count_line (codes "entries ") entries
+
+-- the pairs, and how many there are before them
+abbrev pub pairs_text : List (List ℕ × List ℕ) → ℕ → List ℕ
+pairs_text pairs count = count_line (codes "pairs ") count ++ flat_map pair_text pairs
+
+-- the parts that were skipped, by their names, and the pairs
+abbrev pub parts_and_pairs_text : List (List ℕ) → Recovery → List ℕ
+parts_and_pairs_text names found = flat_map (skipped_line names) found.skipped ++ pairs_text found.pairs.entries (len found.pairs)
+
+-- what stands behind the counts
+abbrev pub details_text : List (List ℕ) → Recovery → List ℕ
+details_text names found = log_line found.fault ++ parts_and_pairs_text names found
+
+-- all that is printed of what was recovered, where the parts have these names
+abbrev pub recovery_text : List (List ℕ) → Recovery → List ℕ
+recovery_text names found = counts_text found.point found.entries ++ details_text names found

@@ -1,0 +1,14 @@
+//! Runs a script of transactions against a store, and recovers what a folder's files are worth; over any readers and writers.
+#![tactic(auto)]
+
+mod recovery;
+mod reports;
+mod run;
+mod script;
+mod setup;
+mod views;
+
+pub use recovery::{Folder, Lost, NamedFile, run_recover};
+pub use run::run_script;
+pub use script::Status;
+pub use setup::Setup;

@@ -1,0 +1,149 @@
+//! A run of a script, from its reader to the status.
+ghost use Rattle.std.specs.Prelude.{◌≡◌, ◌⊎◌, ◌++◌, ℕ, List, codes, IsOk, IfOk, IfErr, IfSome, OnOk};
+ghost use Rattle.std.specs.declared.result.Result.{Result};
+ghost use Rattle.std.specs.Io.KnownBytes.{Appends, Keeps};
+ghost use Rattle.pc_types.specs.declared.refusal.Refusal.{Refusal};
+ghost use Rattle.pc_types.specs.Names.{name_of};
+ghost use Rattle.pc_types.specs.Tallies.{inner_of, failures_of, Puts};
+ghost use Rattle.pc_types.specs.Counted.{HasRisen};
+ghost use Rattle.pc_script.specs.declared.script.Status.{Status};
+ghost use Rattle.pc_script.specs.declared.script.Status.TheVariants.{NoStore};
+ghost use Rattle.pc_script.specs.Scripts.{IsAnswered};
+ghost use Rattle.pc_script.specs.Runs.{exit_of, report_text, IsScriptFault, IsFault};
+
+use crate::script::{Status, answer_script};
+use crate::setup::Setup;
+use pc_types::{Refusal, Tally, read_all};
+use std::alloc::Global;
+use std::io::{Read, Write};
+
+/// Why a run ended without a status of the script's own.
+#[derive(Drop)]
+enum Fault {
+    /// The script isn't there, can't be read, or is too large for memory.
+    Script(Refusal),
+    /// The output failed.
+    Output,
+}
+
+/// Reads a script, answers its lines and gives the exit status: 0 where each line was answered, 3 where some line is a
+/// bad line, and else 1. Where the script isn't there, can't be read or is too large for memory, a line on the error
+/// writer tells; where the output fails, or the store can't be made for want of memory, nothing is told there. It gives 1
+/// for no other cause: the script's fault is told, the output's failures have risen, or the lines end with the store not
+/// made.
+pub fn run_script<R: Read + Drop, W: Write, E: Write>(
+    alloc: Global,
+    setup: Setup,
+    name: &str,
+    opened: Result<R, Refusal>,
+    out: &mut Tally<W>,
+    errors: &mut Tally<E>,
+) -> u8
+    ensures opened { ¬ (result ≡ 1) → IsOk opened }
+    ensures answered { ¬ (result ≡ 1) → IfOk opened (λ reader. IfSome (R.remaining reader) (λ script.
+        (status : Status) × (text : List ℕ) × (result ≡ exit_of status)
+        × Appends (W.contents (inner_of out.old)) (W.contents (inner_of out.new)) text × IsAnswered setup script status text)) }
+    ensures sound { ¬ (result ≡ 1) → failures_of out.new ≡ failures_of out.old }
+    ensures quiet { ¬ (result ≡ 1) → Keeps (E.contents (inner_of errors.old)) (E.contents (inner_of errors.new)) }
+    ensures told { IfErr opened (λ why. (result ≡ 1)
+        × ((told : Result (Unit {0}) Refusal) × Puts E.contents errors.old errors.new told (report_text name.now why))) }
+    ensures cause { result ≡ 1 → HasRisen (failures_of out.old) (failures_of out.new)
+        ⊎ (((why : Refusal) × IsScriptFault opened why × ((told : Result (Unit {0}) Refusal) × Puts E.contents errors.old errors.new told (report_text name.now why)))
+        ⊎ IfOk opened (λ reader. IfSome (R.remaining reader) (λ script. (text : List ℕ)
+        × Appends (W.contents (inner_of out.old)) (W.contents (inner_of out.new)) text × IsAnswered setup script NoStore text))) }
+{
+    match answer_opened(alloc, setup, opened, out) {
+        Ok(status) => exit_code(status),
+        Err(Fault::Script(why)) => {
+            let _ = report(name, why, errors);
+            1
+        }
+        Err(Fault::Output) => 1,
+    }
+}
+
+fn exit_code(status: Status) -> u8
+    ensures { result ≡ exit_of status }
+{
+    match status {
+        Status::Done => 0,
+        Status::BadLines => 3,
+        Status::NoStore => 1,
+    }
+}
+
+fn answer_opened<R: Read + Drop, W: Write>(
+    alloc: Global,
+    setup: Setup,
+    opened: Result<R, Refusal>,
+    out: &mut Tally<W>,
+) -> Result<Status, Fault>
+    ensures opened { OnOk result (IsOk opened) }
+    ensures answered { IfOk result (λ status. IfOk opened (λ reader. IfSome (R.remaining reader) (λ script. (text : List ℕ)
+        × Appends (W.contents (inner_of out.old)) (W.contents (inner_of out.new)) text × IsAnswered setup script status text))) }
+    ensures sound { OnOk result (failures_of out.new ≡ failures_of out.old) }
+    ensures unopened { IfErr opened (λ why. result ≡ Err (Fault.Script why)) }
+    ensures cause { IfErr result (λ fault. IsFault opened (failures_of out.old) (failures_of out.new) fault) }
+{
+    let script = match read_opened(alloc, opened) {
+        Ok(script) => script,
+        Err(why) => return Err(Fault::Script(why)),
+    };
+    let answered = answer_script(alloc, setup, &script, out);
+    let flushed = out.flush();
+    match answered {
+        Ok(status) if flushed.is_ok() => Ok(status),
+        Ok(_) => Err(Fault::Output),
+        Err(Refusal::Device) => Err(Fault::Output),
+        Err(why) => Err(Fault::Script(why)),
+    }
+}
+
+pub(crate) fn read_opened<R: Read + Drop>(
+    alloc: Global,
+    opened: Result<R, Refusal>,
+) -> Result<Vec<u8>, Refusal>
+    ensures opened { OnOk result (IsOk opened) }
+    ensures script { IfOk result (λ bytes. IfOk opened (λ reader. IfSome (R.remaining reader) (λ script. bytes.items ≡ script))) }
+    ensures unopened { IfErr opened (λ why. result ≡ Err why) }
+    ensures cause { IfErr result (IsScriptFault opened) }
+{
+    match opened {
+        Ok(reader) => {
+            let mut reader = Tally::new(reader);
+            read_all(alloc, &mut reader)
+        }
+        Err(why) => Err(why),
+    }
+}
+
+// Tells why there is no status of the script's own.
+fn report<E: Write>(name: &str, why: Refusal, errors: &mut Tally<E>) -> Result<(), Refusal>
+    ensures { Puts E.contents errors.old errors.new result (report_text name.now why) }
+{
+    report_bytes(name.as_bytes(), why, errors)
+}
+
+/// Tells why there is no result, by the name of a file or of a word of the command line.
+pub(crate) fn report_bytes<E: Write>(
+    name: &[u8],
+    why: Refusal,
+    errors: &mut Tally<E>,
+) -> Result<(), Refusal>
+    ensures { Puts E.contents errors.old errors.new result (report_text name.now why) }
+{
+    put_name(name, errors)?;
+    put_why(why, errors)
+}
+
+fn put_name<E: Write>(name: &[u8], errors: &mut Tally<E>) -> Result<(), Refusal>
+    ensures { Puts E.contents errors.old errors.new result (codes "pcalc: " ++ name.now) }
+{
+    errors.put_all(&[b"pcalc: ", name])
+}
+
+fn put_why<E: Write>(why: Refusal, errors: &mut Tally<E>) -> Result<(), Refusal>
+    ensures { Puts E.contents errors.old errors.new result (codes ": " ++ (name_of why ++ codes "\n")) }
+{
+    errors.put_all(&[b": ", why.name().as_bytes(), b"\n"])
+}

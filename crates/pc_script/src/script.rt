@@ -1,0 +1,262 @@
+//! A script's lines are answered one after the other.
+ghost use Rattle.std.specs.Prelude.{◌≡◌, ◌≤◌, ◌⊎◌, ℕ, List, [], IfOk, IfErr, IfSome, OnErr, MatchResult, if◌then◌else◌};
+ghost use Rattle.std.specs.Io.KnownBytes.{Appends};
+ghost use Rattle.pc_types.specs.Counted.{HasRisen, AppendsBeginning};
+ghost use Rattle.pc_types.specs.Tallies.{inner_of, failures_of, Puts};
+ghost use Rattle.pc_model.specs.Maps.{len};
+ghost use Rattle.pc_model.specs.History.{History};
+ghost use Rattle.pc_engine.specs.Stands.{Stands};
+ghost use Rattle.pc_engine.specs.Store.{setting_of};
+ghost use Rattle.pc_script.specs.Scripts.{Stage, setting, refused, is_base_full, AnswersPair, AnswersLine, AnswersFirst, Answers, answer_text, is_malformed, IsAnswered, IsAnsweredInPart};
+ghost use Rattle.pc_script.specs.Scripts.Stage.{Reading};
+ghost use Rattle.pc_script.specs.Holding.{Holds, HasRoom, IsSaid, IsSaidInPart, is_ended};
+ghost use Rattle.pc_script.specs.declared.script.Status.TheVariants.{BadLines};
+
+use crate::setup::Setup;
+use crate::views::answer_view;
+use bstr::ByteSlice;
+use pc_engine::World;
+use pc_lines::{Line, read_line};
+use pc_model::Pairs;
+use pc_part::Base;
+use pc_texts::{put_check, put_reply, put_state, put_text};
+use pc_types::{Items, Key, Refusal, Reply, Tally, Value};
+use std::alloc::Global;
+use std::io::Write;
+
+/// How a script that was read to its end has ended.
+#[derive(Clone, Copy, Debug, PartialEq, Eq)]
+pub enum Status {
+    /// Each line was answered.
+    Done,
+    /// Each line was answered, some of them as a bad line.
+    BadLines,
+    /// Memory ran out where the store was to be made.
+    NoStore,
+}
+
+/// What is printed for a line.
+#[derive(Drop)]
+pub enum Answer {
+    Nothing,
+    BadLine,
+    Says(Reply),
+    /// The base with a file laid on it.
+    State(Base),
+    /// The bytes of a file.
+    Text(Items<u8>),
+    /// Whether the store is what its log says.
+    Check(bool),
+}
+
+/// What the lines so far have made.
+#[derive(Drop)]
+pub enum Made {
+    /// The pairs of the base.
+    Base(Pairs),
+    /// The store.
+    Store(World),
+    /// Nothing: memory ran out where the store was to be made.
+    Ended,
+}
+
+/// Answers the lines of a script. A bad line doesn't end it. Refuses with `OutOfMemory` where a line can't be read for
+/// want of memory, and with `Device` exactly where the writer failed in this call; then a beginning of what some first
+/// lines print was written.
+pub fn answer_script<W: Write>(
+    alloc: Global,
+    setup: Setup,
+    script: &[u8],
+    out: &mut Tally<W>,
+) -> Result<Status, Refusal>
+    ensures answered { IfOk result (λ status. (text : List ℕ)
+        × Appends (W.contents (inner_of out.old)) (W.contents (inner_of out.new)) text × IsAnswered setup script.now status text) }
+    ensures in_part { IfErr result (λ e. (text : List ℕ)
+        × AppendsBeginning (W.contents (inner_of out.old)) (W.contents (inner_of out.new)) text × IsAnsweredInPart setup script.now text) }
+    ensures refusals { IfErr result (λ e. (e ≡ Refusal.OutOfMemory) ⊎ (e ≡ Refusal.Device)) }
+    ensures device { result ≡ Err Refusal.Device → HasRisen (failures_of out.old) (failures_of out.new) }
+    ensures sound { ¬ (result ≡ Err Refusal.Device) → failures_of out.new ≡ failures_of out.old }
+{
+    let mut made = Made::Base(Pairs::new(alloc));
+    let mut status = Status::Done;
+    for text in script.lines() {
+        let line = read_line(alloc, text)?;
+        status = status_after(status, &line);
+        made = answer_one(alloc, setup, made, line, out)?;
+        if is_ended(&made) {
+            return Ok(Status::NoStore);
+        }
+    }
+    Ok(status)
+}
+
+fn status_after(status: Status, line: &Line) -> Status
+    ensures { result ≡ (if is_malformed line.now then BadLines else status) }
+{
+    match line {
+        Line::Malformed => Status::BadLines,
+        _ => status,
+    }
+}
+
+// Answers a line, and writes the answer.
+fn answer_one<W: Write>(
+    alloc: Global,
+    setup: Setup,
+    made: Made,
+    line: Line,
+    out: &mut Tally<W>,
+) -> Result<Made, Refusal>
+    requires room { HasRoom setup made }
+    ensures room { IfOk result (λ next. HasRoom setup next) }
+    ensures answered { IfOk result (λ next. IsSaid setup made line next
+        (λ text. Appends (W.contents (inner_of out.old)) (W.contents (inner_of out.new)) text)) }
+    ensures in_part { OnErr result (IsSaidInPart setup made line
+        (λ text. AppendsBeginning (W.contents (inner_of out.old)) (W.contents (inner_of out.new)) text)) }
+    ensures counts { MatchResult result (λ next. failures_of out.new ≡ failures_of out.old)
+        (λ e. (e ≡ Refusal.Device) × HasRisen (failures_of out.old) (failures_of out.new)) }
+{
+    let (answer, next) = answer_line(alloc, setup, made, line);
+    say(out, answer)?;
+    Ok(next)
+}
+
+fn is_ended(made: &Made) -> bool
+    ensures { result ≡ is_ended made.now }
+{
+    match made {
+        Made::Ended => true,
+        _ => false,
+    }
+}
+
+// Answers a line with what was made so far, and gives what is made then.
+fn answer_line(alloc: Global, setup: Setup, made: Made, line: Line) -> (Answer, Made)
+    requires room { HasRoom setup made }
+    ensures room { HasRoom setup result.1 }
+    ensures answer { (stage : Stage) → Holds setup made stage → (next : Stage) × Holds setup result.1 next × Answers setup stage line result.0 next }
+{
+    match made {
+        Made::Base(pairs) => answer_base(alloc, setup, pairs, line),
+        Made::Store(mut world) => {
+            let answer = answer_stored(alloc, &mut world, line);
+            (answer, Made::Store(world))
+        }
+        Made::Ended => (Answer::Nothing, Made::Ended),
+    }
+}
+
+// Answers a line of the base, or the first one after it.
+fn answer_base(alloc: Global, setup: Setup, mut pairs: Pairs, line: Line) -> (Answer, Made)
+    requires room { len pairs ≤ setup.capacity }
+    ensures room { HasRoom setup result.1 }
+    ensures answer { (next : Stage) × Holds setup result.1 next × Answers setup (Reading pairs) line result.0 next }
+{
+    match line {
+        Line::Silent => (Answer::Nothing, Made::Base(pairs)),
+        Line::Sets(key, value) => {
+            let answer = add_pair(setup.capacity, &mut pairs, key, value);
+            (answer, Made::Base(pairs))
+        }
+        Line::SetsRefused(why) => (refused(why), Made::Base(pairs)),
+        Line::Malformed => answer_first(alloc, setup, pairs, Line::Malformed),
+        Line::Asks(event) => answer_first(alloc, setup, pairs, Line::Asks(event)),
+        Line::AsksRefused(why) => answer_first(alloc, setup, pairs, Line::AsksRefused(why)),
+        Line::Shows(view) => answer_first(alloc, setup, pairs, Line::Shows(view)),
+    }
+}
+
+// Makes the store, which answers the first line after the base.
+fn answer_first(alloc: Global, setup: Setup, pairs: Pairs, line: Line) -> (Answer, Made)
+    requires room { len pairs ≤ setup.capacity }
+    ensures room { HasRoom setup result.1 }
+    ensures answer { (next : Stage) × Holds setup result.1 next × AnswersFirst setup pairs line result.0 next }
+{
+    match start(alloc, setup, pairs) {
+        Some(mut world) => {
+            let answer = answer_stored(alloc, &mut world, line);
+            (answer, Made::Store(world))
+        }
+        None => (refused(Refusal::OutOfMemory), Made::Ended),
+    }
+}
+
+pub(crate) fn refused(why: Refusal) -> Answer
+    ensures { result ≡ refused why }
+{
+    Answer::Says(Reply::Refused(why))
+}
+
+// Whether the key is new and the base has as many pairs as the capacity.
+fn is_full(capacity: u32, pairs: &Pairs, key: &Key) -> bool
+    ensures { result ≡ is_base_full capacity pairs.now key.now }
+{
+    pairs.get(key).is_none() && pairs.len() >= capacity as usize
+}
+
+// Sets a pair of the base.
+fn add_pair(capacity: u32, pairs: &mut Pairs, key: Key, value: Value) -> Answer
+    requires { len pairs.old ≤ capacity }
+    ensures answer { AnswersPair capacity pairs.old key value result pairs.new }
+    ensures room { len pairs.new ≤ capacity }
+{
+    if is_full(capacity, pairs, &key) {
+        return refused(Refusal::Full);
+    }
+    match pairs.insert(key, value) {
+        Ok(()) => Answer::Says(Reply::Ok),
+        Err(_) => refused(Refusal::OutOfMemory),
+    }
+}
+
+// The store on the base, where memory suffices.
+fn start(alloc: Global, setup: Setup, pairs: Pairs) -> Option<World>
+    requires { len pairs ≤ setup.capacity }
+    ensures { IfSome result (λ world. (setting_of world ≡ setting setup pairs) × Stands world []) }
+{
+    let base = Base::start(u64::from(setup.run), pairs.into_vec());
+    match World::new(alloc, base, setup.sessions, setup.capacity) {
+        Ok(world) => Some(world),
+        Err(_) => None,
+    }
+}
+
+// Answers a line by the store.
+fn answer_stored(alloc: Global, world: &mut World, line: Line) -> Answer
+    ensures setting { setting_of world.new ≡ setting_of world.old }
+    ensures answer { (history : History) → Stands world.old history
+        → (next : History) × Stands world.new next × AnswersLine (setting_of world.old) history line result next }
+{
+    match line {
+        Line::Silent => Answer::Nothing,
+        Line::Malformed => Answer::BadLine,
+        Line::Sets(_, _) => refused(Refusal::WrongPhase),
+        Line::SetsRefused(why) => refused(why),
+        Line::AsksRefused(why) => refused(why),
+        Line::Asks(event) => Answer::Says(world.step(&event)),
+        Line::Shows(view) => answer_view(alloc, world, view),
+    }
+}
+
+// Writes the answer, which is used up.
+fn say<W: Write>(out: &mut Tally<W>, answer: Answer) -> Result<(), Refusal>
+    ensures { Puts W.contents out.old out.new result (answer_text answer) }
+{
+    put_answer(out, &answer)
+}
+
+fn put_answer<W: Write>(out: &mut Tally<W>, answer: &Answer) -> Result<(), Refusal>
+    ensures { Puts W.contents out.old out.new result (answer_text answer.now) }
+{
+    match answer {
+        Answer::Nothing => Ok(()),
+        Answer::BadLine => out.put(b"bad line\n"),
+        Answer::Says(reply) => {
+            put_reply(out, reply)?;
+            out.put(b"\n")
+        }
+        Answer::State(base) => put_state(out, base),
+        Answer::Text(text) => put_text(out, text.as_slice()),
+        Answer::Check(sound) => put_check(out, *sound),
+    }
+}

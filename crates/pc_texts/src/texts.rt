@@ -1,0 +1,317 @@
+//! The texts that are printed. They go out piece by piece and take no memory, so that no reply is lost for want of it.
+ghost use Rattle.std.specs.Prelude.{◌≡◌, ◌<◌, ◌++◌, List, ℕ, codes, decimal};
+ghost use Rattle.std.specs.List.{flat_map};
+ghost use Rattle.std.specs.Char.{digit_char};
+ghost use Rattle.pc_types.specs.Tallies.{Puts};
+ghost use Rattle.pc_model.specs.Ranges.{ranges_of};
+ghost use Rattle.pc_texts.specs.Texts.{printed_byte, printed, printed_value, phase_name, range_text, ranges_text, refusal_text, reply_text, pair_text, state_head, state_text, hex_byte, hex_line, check_line};
+
+use itoa::Buffer;
+use pc_lines::is_plain;
+use pc_part::Base;
+use pc_types::{Key, Phase, Point, Refusal, Reply, Tally, Value};
+use std::io::Write;
+
+/// Writes the text of a reply, without the end of its line.
+pub fn put_reply<W: Write>(out: &mut Tally<W>, reply: &Reply) -> Result<(), Refusal>
+    ensures { Puts W.contents out.old out.new result (reply_text reply.now) }
+{
+    match reply {
+        Reply::Begun(txn) => put_number(out, b"begun ", txn.0),
+        Reply::Found(value) => put_named(out, b"= ", value.as_bytes()),
+        Reply::Absent => out.put(b"absent"),
+        Reply::Ok => out.put(b"ok"),
+        Reply::Wait => out.put(b"wait"),
+        Reply::Died => out.put(b"died"),
+        Reply::Committed(lsn) => put_number(out, b"committed ", u64::from(lsn.0)),
+        Reply::Aborted => out.put(b"aborted"),
+        Reply::Phase(phase, point) => put_phase(out, *phase, *point),
+        Reply::NotYet(count) => put_number(out, b"not yet ", u64::from(*count)),
+        Reply::Took(key, value) => put_taken(out, key.as_bytes(), value),
+        Reply::NoneLeft => out.put(b"none left"),
+        Reply::PartDone(point, file, entries) => put_part(out, *point, file.0, *entries),
+        Reply::File(file, points, entries) => {
+            put_file(
+                out,
+                u64::from(file.0),
+                points.as_slice(),
+                u64::from(*entries),
+            )
+        },
+        Reply::Refused(why) => put_refusal(out, *why),
+    }
+}
+
+// A word and a number.
+fn put_number<W: Write>(out: &mut Tally<W>, word: &[u8], number: u64) -> Result<(), Refusal>
+    ensures { Puts W.contents out.old out.new result (word.now ++ decimal number) }
+{
+    let mut buffer = Buffer::new();
+    out.put_all(&[word, buffer.format(number).as_bytes()])
+}
+
+// A word and the printed form of some bytes.
+fn put_named<W: Write>(out: &mut Tally<W>, word: &[u8], bytes: &[u8]) -> Result<(), Refusal>
+    ensures { Puts W.contents out.old out.new result (word.now ++ printed bytes.now) }
+{
+    out.put(word)?;
+    put_printed(out, bytes)
+}
+
+fn put_phase<W: Write>(out: &mut Tally<W>, phase: Phase, point: Point) -> Result<(), Refusal>
+    ensures { Puts W.contents out.old out.new result (codes "phase " ++ (phase_name phase ++ (codes " " ++ decimal point))) }
+{
+    let mut buffer = Buffer::new();
+    out.put_all(&[
+        b"phase ",
+        phase_name(phase),
+        b" ",
+        buffer.format(point.0).as_bytes(),
+    ])
+}
+
+fn phase_name(phase: Phase) -> &'static [u8]
+    ensures { result.now ≡ phase_name phase }
+{
+    match phase {
+        Phase::Rest => b"rest",
+        Phase::Prepare => b"prepare",
+        Phase::Resolve => b"resolve",
+        Phase::Capture => b"capture",
+        Phase::Complete => b"complete",
+    }
+}
+
+fn put_taken<W: Write>(out: &mut Tally<W>, key: &[u8], value: &Option<Value>) -> Result<(), Refusal>
+    ensures { Puts W.contents out.old out.new result (codes "took " ++ (printed key.now ++ (codes " " ++ printed_value value.now))) }
+{
+    put_named(out, b"took ", key)?;
+    match value {
+        None => out.put(b" tombstone"),
+        Some(value) => put_named(out, b" ", value.as_bytes()),
+    }
+}
+
+fn put_part<W: Write>(
+    out: &mut Tally<W>,
+    point: Point,
+    file: u32,
+    entries: u32,
+) -> Result<(), Refusal>
+    ensures { Puts W.contents out.old out.new result
+        (codes "part " ++ (decimal point ++ (codes " file " ++ (decimal file ++ (codes " entries " ++ decimal entries))))) }
+{
+    let mut point_text = Buffer::new();
+    let mut file_text = Buffer::new();
+    let mut entries_text = Buffer::new();
+    out.put_all(&[
+        b"part ",
+        point_text.format(point.0).as_bytes(),
+        b" file ",
+        file_text.format(file).as_bytes(),
+        b" entries ",
+        entries_text.format(entries).as_bytes(),
+    ])
+}
+
+fn put_file<W: Write>(
+    out: &mut Tally<W>,
+    file: u64,
+    points: &[Point],
+    entries: u64,
+) -> Result<(), Refusal>
+    ensures { Puts W.contents out.old out.new result
+        (codes "file " ++ (decimal file ++ (codes " points " ++ (ranges_text (ranges_of points.now) ++ (codes " entries " ++ decimal entries))))) }
+{
+    put_number(out, b"file ", file)?;
+    put_points(out, points)?;
+    put_number(out, b" entries ", entries)
+}
+
+fn put_points<W: Write>(out: &mut Tally<W>, points: &[Point]) -> Result<(), Refusal>
+    ensures { Puts W.contents out.old out.new result (codes " points " ++ ranges_text (ranges_of points.now)) }
+{
+    out.put(b" points ")?;
+    put_ranges(out, points)
+}
+
+// The ranges of points that rise.
+fn put_ranges<W: Write>(out: &mut Tally<W>, points: &[Point]) -> Result<(), Refusal>
+    ensures { Puts W.contents out.old out.new result (ranges_text (ranges_of points.now)) }
+{
+    let Some((first, others)) = points.split_first() else {
+        return Ok(());
+    };
+    let mut low = first.0;
+    let mut high = first.0;
+    for point in others {
+        if u32::from(point.0) != u32::from(high) + 1 {
+            put_range(out, low, high, b",")?;
+            low = point.0;
+        }
+        high = point.0;
+    }
+    put_range(out, low, high, b"")
+}
+
+// A range, and what ends it.
+fn put_range<W: Write>(out: &mut Tally<W>, low: u16, high: u16, end: &[u8]) -> Result<(), Refusal>
+    ensures { Puts W.contents out.old out.new result (range_text (low, high) ++ end.now) }
+{
+    let mut low_text = Buffer::new();
+    let mut high_text = Buffer::new();
+    if low == high {
+        return out.put_all(&[low_text.format(low).as_bytes(), end]);
+    }
+    out.put_all(&[
+        low_text.format(low).as_bytes(),
+        b"-",
+        high_text.format(high).as_bytes(),
+        end,
+    ])
+}
+
+fn put_refusal<W: Write>(out: &mut Tally<W>, why: Refusal) -> Result<(), Refusal>
+    ensures { Puts W.contents out.old out.new result (codes "refused " ++ refusal_text why) }
+{
+    out.put(b"refused ")?;
+    put_reason(out, why)
+}
+
+/// Writes why a call was refused.
+pub fn put_reason<W: Write>(out: &mut Tally<W>, why: Refusal) -> Result<(), Refusal>
+    ensures { Puts W.contents out.old out.new result (refusal_text why) }
+{
+    match why {
+        Refusal::Gap(point) => put_number(out, b"Gap ", u64::from(point.0)),
+        _ => out.put(why.name().as_bytes()),
+    }
+}
+
+// A key or value: no bytes as a hyphen, the hyphen alone as an escape.
+fn put_printed<W: Write>(out: &mut Tally<W>, bytes: &[u8]) -> Result<(), Refusal>
+    ensures { Puts W.contents out.old out.new result (printed bytes.now) }
+{
+    if bytes.is_empty() {
+        return out.put(b"-");
+    }
+    if bytes == b"-".as_slice() {
+        return out.put(b"\\x2d");
+    }
+    put_bytes(out, bytes)
+}
+
+fn put_bytes<W: Write>(out: &mut Tally<W>, bytes: &[u8]) -> Result<(), Refusal>
+    ensures { Puts W.contents out.old out.new result (flat_map printed_byte bytes.now) }
+{
+    for byte in bytes {
+        put_byte(out, *byte)?;
+    }
+    Ok(())
+}
+
+fn put_byte<W: Write>(out: &mut Tally<W>, byte: u8) -> Result<(), Refusal>
+    ensures { Puts W.contents out.old out.new result (printed_byte byte) }
+{
+    if is_plain(byte) {
+        return out.put(&[byte]);
+    }
+    out.put(&[b'\\', b'x', hex_digit(byte / 16), hex_digit(byte % 16)])
+}
+
+fn hex_digit(value: u8) -> u8
+    requires { value < 16 }
+    ensures { result ≡ digit_char value }
+{
+    if value < 10 { 48 + value } else { 87 + value }
+}
+
+/// Writes the lines of a state: its point and the number of its pairs, and each pair.
+pub fn put_state<W: Write>(out: &mut Tally<W>, base: &Base) -> Result<(), Refusal>
+    ensures { Puts W.contents out.old out.new result (state_text base.now) }
+{
+    let pairs = base.pairs();
+    put_state_head(out, base.point(), pairs.len() as u32)?;
+    put_state_pairs(out, pairs)
+}
+
+fn put_state_head<W: Write>(out: &mut Tally<W>, point: Point, count: u32) -> Result<(), Refusal>
+    ensures { Puts W.contents out.old out.new result (state_head point count) }
+{
+    put_number(out, b"state point ", u64::from(point.0))?;
+    put_number(out, b" pairs ", u64::from(count))
+}
+
+// The end of the line, and a line for each pair.
+fn put_state_pairs<W: Write>(out: &mut Tally<W>, pairs: &[(Key, Value)]) -> Result<(), Refusal>
+    ensures { Puts W.contents out.old out.new result (codes "\n" ++ flat_map pair_text pairs.now) }
+{
+    out.put(b"\n")?;
+    put_pairs(out, pairs)
+}
+
+/// Writes a line for each pair.
+pub fn put_pairs<W: Write>(out: &mut Tally<W>, pairs: &[(Key, Value)]) -> Result<(), Refusal>
+    ensures { Puts W.contents out.old out.new result (flat_map pair_text pairs.now) }
+{
+    for pair in pairs {
+        put_pair(out, pair)?;
+    }
+    Ok(())
+}
+
+fn put_pair<W: Write>(out: &mut Tally<W>, pair: &(Key, Value)) -> Result<(), Refusal>
+    ensures { Puts W.contents out.old out.new result (pair_text pair.now) }
+{
+    put_two(out, pair.0.as_bytes(), pair.1.as_bytes())?;
+    out.put(b"\n")
+}
+
+// Two words with a space between them.
+fn put_two<W: Write>(out: &mut Tally<W>, first: &[u8], second: &[u8]) -> Result<(), Refusal>
+    ensures { Puts W.contents out.old out.new result (printed first.now ++ (codes " " ++ printed second.now)) }
+{
+    put_printed(out, first)?;
+    put_named(out, b" ", second)
+}
+
+/// Writes the bytes of a file by their hexadecimal digits, with the end of the line.
+pub fn put_text<W: Write>(out: &mut Tally<W>, bytes: &[u8]) -> Result<(), Refusal>
+    ensures { Puts W.contents out.old out.new result (hex_line bytes.now) }
+{
+    put_hex_words(out, bytes)?;
+    out.put(b"\n")
+}
+
+fn put_hex_words<W: Write>(out: &mut Tally<W>, bytes: &[u8]) -> Result<(), Refusal>
+    ensures { Puts W.contents out.old out.new result (codes "text " ++ flat_map hex_byte bytes.now) }
+{
+    out.put(b"text ")?;
+    put_hex(out, bytes)
+}
+
+fn put_hex<W: Write>(out: &mut Tally<W>, bytes: &[u8]) -> Result<(), Refusal>
+    ensures { Puts W.contents out.old out.new result (flat_map hex_byte bytes.now) }
+{
+    for byte in bytes {
+        put_hex_byte(out, *byte)?;
+    }
+    Ok(())
+}
+
+fn put_hex_byte<W: Write>(out: &mut Tally<W>, byte: u8) -> Result<(), Refusal>
+    ensures { Puts W.contents out.old out.new result (hex_byte byte) }
+{
+    out.put(&[hex_digit(byte / 16), hex_digit(byte % 16)])
+}
+
+/// Writes what a check found, with the end of the line.
+pub fn put_check<W: Write>(out: &mut Tally<W>, sound: bool) -> Result<(), Refusal>
+    ensures { Puts W.contents out.old out.new result (check_line sound) }
+{
+    if sound {
+        out.put(b"check ok\n")
+    } else {
+        out.put(b"check failed\n")
+    }
+}

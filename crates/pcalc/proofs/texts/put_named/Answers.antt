@@ -1,6 +1,0 @@
-use Rattle.pc_types.proofs.PutsLemmas.{puts_then}
-use Rattle.pcalc.specs.Texts.{printed}
-use Rattle.pcalc.proofs.texts.put_named.Goals as goal
-
-pub returns : goal.returns
-returns g c = puts_then g.W.Write.contents c.args.out.now c.put.new.self c.put_printed.new.out c.put_printed.result c.args.word.now (printed c.args.bytes.now) c.in_ok-put.ensures c.put_printed.ensures

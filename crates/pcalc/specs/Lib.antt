@@ -1,9 +1,0 @@
-pub mod Holding
-pub mod Lines
-pub mod Recoveries
-pub mod Reports
-pub mod Runs
-pub mod Scripts
-pub mod Texts
-pub mod Views
-pub mod Words
