@@ -10,8 +10,6 @@ mod order;
 mod phases;
 mod reading;
 #[cfg(test)]
-mod slow_reader;
-#[cfg(test)]
 mod tests;
 
 pub use encoding::{encode_entry, encode_header, encode_log};

@@ -91,26 +91,3 @@ impl Base {
         pairs
     }
 }
-
-#[cfg(test)]
-mod tests {
-    use super::*;
-    use std::test::Fail;
-
-    // A base gives back what it was made of.
-    #[test]
-    fn starts_at_point_zero(rt: HostRuntime) -> Result<(), Fail> {
-        let alloc = rt.alloc();
-        let mut pairs = Vec::new(alloc);
-        pairs.push((Key::new(alloc, b"a")?, Value::new(alloc, b"1")?))?;
-        let base = Base::start(7, pairs);
-        assert_eq!(rt; base.run(), 7);
-        assert_eq!(rt; base.point(), Point(0));
-        assert_eq!(rt; base.pairs().len(), 1);
-        let pairs = base.into_pairs();
-        assert_eq!(rt; pairs.len(), 1);
-        assert_eq!(rt; pairs[0].0.as_bytes(), b"a".as_slice());
-        assert_eq!(rt; pairs[0].1.as_bytes(), b"1".as_slice());
-        Ok(())
-    }
-}

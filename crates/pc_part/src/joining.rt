@@ -180,89 +180,10 @@ mod tests {
         Part::of_point(alloc, run, Point(point), entries)
     }
 
-    // The part of point 1, at which `a` and `b` had `1`.
-    fn first(alloc: Global) -> Result<Part, Refusal> {
-        let mut entries = Vec::new(alloc);
-        entries.push((Key::new(alloc, b"a")?, Some(Value::new(alloc, b"1")?)))?;
-        entries.push((Key::new(alloc, b"b")?, Some(Value::new(alloc, b"1")?)))?;
-        Part::of_point(alloc, 1, Point(1), entries)
-    }
-
-    // The parts of points 3 and 1, point 2 left out.
-    fn apart(alloc: Global, last: Option<&[u8]>) -> Result<Part, Refusal> {
-        let first = first(alloc)?;
-        let third = one(alloc, 1, 3, b"b", last)?;
-        join(alloc, &third, &first)
-    }
-
-    // The parts of points 1 to 3, in their order or the third first.
-    fn of_three(alloc: Global, last: Option<&[u8]>, third_first: bool) -> Result<Part, Refusal> {
-        let second = one(alloc, 1, 2, b"a", Some(b"2".as_slice()))?;
-        if third_first {
-            let some = apart(alloc, last)?;
-            return join(alloc, &some, &second);
-        }
-        let first = first(alloc)?;
-        let third = one(alloc, 1, 3, b"b", last)?;
-        let some = join(alloc, &first, &second)?;
-        join(alloc, &some, &third)
-    }
-
     fn text_of(alloc: Global, part: &Part) -> Result<Vec<u8>, Refusal> {
         let mut out = Tally::new(Vec::new(alloc));
         part.encode(&mut out)?;
         Ok(out.into_inner())
-    }
-
-    const VALUES: [u8; 60] = *b"PCALCP01\
-        \x00\x00\x00\x00\x00\x00\x00\x01\
-        \x00\x00\x00\x01\x00\x00\x00\x01\x00\x00\x00\x03\
-        \x00\x01a\x00\x00\x00\x02\x01\x00\x00\x00\x012\
-        \x00\x01b\x00\x00\x00\x03\x01\x00\x00\x00\x013\
-        \x00\x00\x00\x00\x00\x02";
-
-    const TOMBSTONE: [u8; 55] = *b"PCALCP01\
-        \x00\x00\x00\x00\x00\x00\x00\x01\
-        \x00\x00\x00\x01\x00\x00\x00\x01\x00\x00\x00\x03\
-        \x00\x01a\x00\x00\x00\x02\x01\x00\x00\x00\x012\
-        \x00\x01b\x00\x00\x00\x03\x00\
-        \x00\x00\x00\x00\x00\x02";
-
-    // Of each key the entry of the greatest point stays, in whatever order the parts are joined.
-    #[test]
-    fn keeps_the_greatest_points(rt: HostRuntime) -> Result<(), Fail> {
-        for third_first in [false, true] {
-            let part = of_three(rt.alloc(), Some(b"3".as_slice()), third_first)?;
-            let text = text_of(rt.alloc(), &part)?;
-            assert_eq!(rt; text.as_slice(), VALUES.as_slice(), "{third_first}");
-        }
-        Ok(())
-    }
-
-    #[test]
-    fn keeps_tombstones(rt: HostRuntime) -> Result<(), Fail> {
-        for third_first in [false, true] {
-            let part = of_three(rt.alloc(), None, third_first)?;
-            let text = text_of(rt.alloc(), &part)?;
-            assert_eq!(rt; text.as_slice(), TOMBSTONE.as_slice(), "{third_first}");
-        }
-        Ok(())
-    }
-
-    // A point that is left out parts two ranges.
-    #[test]
-    fn leaves_points_out(rt: HostRuntime) -> Result<(), Fail> {
-        let part = apart(rt.alloc(), None)?;
-        let mut ranges = [(0u16, 0u16); 2];
-        assert_eq!(rt; part.ranges().len(), 2);
-        for (i, range) in part.ranges().iter().enumerate() {
-            if i < 2 {
-                ranges[i] = (range.low.0, range.high.0);
-            }
-        }
-        assert_eq!(rt; ranges, [(1, 1), (3, 3)]);
-        assert_eq!(rt; part.entries().len(), 2);
-        Ok(())
     }
 
     // Takes memory of its own.
@@ -321,36 +242,6 @@ mod tests {
         assert_eq!(rt; text.as_slice(), before.0.as_slice());
         let text = text_at_last(alloc, &b)?;
         assert_eq!(rt; text.as_slice(), before.1.as_slice());
-        Ok(())
-    }
-
-    // Why parts with one key each aren't joined, if they aren't; the first is of run 1 and point 2, and has `1`.
-    fn refused(
-        alloc: Global,
-        run: u64,
-        point: u16,
-        content: Option<&[u8]>,
-    ) -> Result<Option<Refusal>, Refusal>
-        requires { 1 ≤ point }
-    {
-        let a = one(alloc, 1, 2, b"a", Some(b"1".as_slice()))?;
-        let b = one(alloc, run, point, b"a", content)?;
-        Ok(join(alloc, &a, &b).err())
-    }
-
-    // Parts of two runs are not joined, nor parts that differ at one key and point.
-    #[test]
-    fn refuses_in_order(rt: HostRuntime) -> Result<(), Fail> {
-        let one = Some(b"1".as_slice());
-        let two = Some(b"2".as_slice());
-        let alloc = rt.alloc();
-        assert_eq!(rt; refused(alloc, 2, 2, two)?, Some(Refusal::OtherRun));
-        assert_eq!(rt; refused(alloc, 2, 2, one)?, Some(Refusal::OtherRun));
-        assert_eq!(rt; refused(alloc, 1, 2, two)?, Some(Refusal::Conflict));
-        assert_eq!(rt; refused(alloc, 1, 2, None)?, Some(Refusal::Conflict));
-        assert_eq!(rt; refused(alloc, 1, 2, one)?, None);
-        assert_eq!(rt; refused(alloc, 1, 1, two)?, None);
-        assert_eq!(rt; refused(alloc, 1, 3, None)?, None);
         Ok(())
     }
 }

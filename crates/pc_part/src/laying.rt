@@ -194,7 +194,6 @@ fn last_point(ranges: &[Range]) -> Point
 #[cfg(test)]
 mod tests {
     use super::*;
-    use crate::joining::join;
     use std::test::Fail;
 
     // The part of a point at which one key was taken.
@@ -224,13 +223,6 @@ mod tests {
         Ok(Base::start(1, pairs))
     }
 
-    // At point 1 `a` had `1`, at point 2 `b` was removed.
-    fn of_two(alloc: Global) -> Result<Part, Refusal> {
-        let first = one(alloc, 1, 1, b"a", Some(b"1".as_slice()))?;
-        let second = one(alloc, 1, 2, b"b", None)?;
-        join(alloc, &second, &first)
-    }
-
     // The base's point, and its keys and values in a row.
     fn seen(alloc: Global, base: &Base) -> Result<(u16, Vec<u8>), Refusal> {
         let mut text = Vec::new(alloc);
@@ -239,45 +231,6 @@ mod tests {
             text.extend_from_slice(pair.1.as_bytes())?;
         }
         Ok((base.point().0, text))
-    }
-
-    // Keys are set and removed; the others stay.
-    #[test]
-    fn sets_and_removes(rt: HostRuntime) -> Result<(), Fail> {
-        let base = start(rt.alloc())?;
-        let part = of_two(rt.alloc())?;
-        let laid = lay(rt.alloc(), &base, &part)?;
-        let (point, pairs) = seen(rt.alloc(), &laid)?;
-        assert_eq!(rt; point, 2);
-        assert_eq!(rt; pairs.as_slice(), b"a1c0".as_slice());
-        assert_eq!(rt; laid.run(), 1);
-        let (point, pairs) = seen(rt.alloc(), &base)?;
-        assert_eq!(rt; point, 0);
-        assert_eq!(rt; pairs.as_slice(), b"b0c0".as_slice());
-        Ok(())
-    }
-
-    // What is seen once a part of one point, at which `c` had `9`, is laid on a base at point 2.
-    fn laid_later(alloc: Global, point: u16) -> Result<(u16, Vec<u8>), Refusal>
-        requires { 1 ≤ point }
-    {
-        let base = start(alloc)?;
-        let base = lay(alloc, &base, &of_two(alloc)?)?;
-        let part = one(alloc, 1, point, b"c", Some(b"9".as_slice()))?;
-        let laid = lay(alloc, &base, &part)?;
-        seen(alloc, &laid)
-    }
-
-    // What a part has of the base's point or of one below is not laid, and the base never goes back.
-    #[test]
-    fn lays_what_is_above_the_base(rt: HostRuntime) -> Result<(), Fail> {
-        let rows: [(u16, u16, &[u8]); 3] = [(1, 2, b"a1c0"), (2, 2, b"a1c0"), (3, 3, b"a1c9")];
-        for (of, at, expected) in rows {
-            let (point, pairs) = laid_later(rt.alloc(), of.max(1))?;
-            assert_eq!(rt; point, at, "{of}");
-            assert_eq!(rt; pairs.as_slice(), expected, "{of}");
-        }
-        Ok(())
     }
 
     // Takes memory of its own.
@@ -333,40 +286,6 @@ mod tests {
         assert_eq!(rt; pairs.as_slice(), b"b0c0".as_slice());
         assert_eq!(rt; part.entries().len(), 1);
         assert_eq!(rt; part.entries()[0].key.as_bytes(), LONG);
-        Ok(())
-    }
-
-    // Why the part of a point, alone or joined with that of point 1, isn't laid on a base at point 0, if it isn't.
-    fn refused(
-        alloc: Global,
-        run: u64,
-        point: u16,
-        with_first: bool,
-    ) -> Result<Option<Refusal>, Refusal>
-        requires { 1 ≤ point }
-    {
-        let base = start(alloc)?;
-        let mut part = one(alloc, run, point, b"b", None)?;
-        if with_first {
-            let first = one(alloc, run, 1, b"a", None)?;
-            part = join(alloc, &part, &first)?;
-        }
-        Ok(lay(alloc, &base, &part).err())
-    }
-
-    // Parts of another run are not laid, nor parts that leave a point out above the base's.
-    #[test]
-    fn refuses_in_order(rt: HostRuntime) -> Result<(), Fail> {
-        let alloc = rt.alloc();
-        assert_eq!(rt; refused(alloc, 2, 3, true)?, Some(Refusal::OtherRun));
-        assert_eq!(rt; refused(alloc, 2, 1, false)?, Some(Refusal::OtherRun));
-        assert_eq!(rt; refused(alloc, 1, 3, true)?, Some(Refusal::Gap(Point(2))));
-        assert_eq!(rt; refused(alloc, 1, 3, false)?, Some(Refusal::Gap(Point(1))));
-        assert_eq!(rt;
-            refused(alloc, 1, 65535, true)?,
-            Some(Refusal::Gap(Point(2)))
-        );
-        assert_eq!(rt; refused(alloc, 1, 2, true)?, None);
         Ok(())
     }
 }

@@ -12,10 +12,6 @@ mod laws;
 mod laying;
 mod part;
 mod ranges;
-#[cfg(test)]
-mod reading_tests;
-#[cfg(test)]
-mod slow_reader;
 mod uniting;
 
 pub use base::Base;

@@ -9,8 +9,6 @@ mod recovering;
 mod replaying;
 #[cfg(test)]
 mod row_tests;
-#[cfg(test)]
-mod samples;
 mod state;
 mod unused;
 

@@ -37,37 +37,3 @@ fn why_unused(reach: &Reach, file: &Candidate) -> Option<Refusal>
         _ => None,
     }
 }
-
-#[cfg(test)]
-mod tests {
-    use super::*;
-    use crate::samples::candidates_of;
-    use pc_types::Point;
-    use std::test::Fail;
-
-    // What is not used of three files up to a point, where another is lacking.
-    fn left_out(
-        alloc: Global,
-        point: u16,
-        lack: u16,
-        files: [(u16, u16); 3],
-    ) -> Result<Vec<Skipped>, Refusal> {
-        let files = candidates_of(alloc, files)?;
-        let (point, lack) = (Point(point), Some(Point(lack)));
-        let reach = Reach { point, lack };
-        Ok(unused(alloc, &reach, &files)?)
-    }
-
-    #[test]
-    fn says_why(rt: HostRuntime) -> Result<(), Fail> {
-        let skipped = left_out(rt.alloc(), 1, 2, [(1, 3), (1, 1), (0, 0)])?;
-        assert_eq!(rt; skipped.len(), 2);
-        assert_eq!(rt; skipped[0].place, 0);
-        assert_eq!(rt; skipped[0].reason, Refusal::Gap(Point(2)));
-        assert_eq!(rt; skipped[1].place, 2);
-        assert_eq!(rt; skipped[1].reason, Refusal::Short);
-        let skipped = left_out(rt.alloc(), 3, 4, [(1, 3), (1, 1), (2, 2)])?;
-        assert_eq!(rt; skipped.len(), 0);
-        Ok(())
-    }
-}

@@ -1,0 +1,153 @@
+//! What a text holds.
+ghost use Rattle.std.specs.Prelude.{◌≡◌, true};
+ghost use Rattle.pc_log.specs.Texts.{HasFewWrites};
+
+use crate::kinds::Kind;
+use pc_log::{LogText, encode_entry, encode_header, read_log};
+use pc_part::{Base, Part};
+use pc_types::{Entry, Refusal, Tally};
+use std::alloc::Global;
+use std::io::Write;
+
+/// What was read of a text, or why nothing was.
+#[derive(Clone, Copy)]
+pub enum Found {
+    Items(Read),
+    Refused(Refusal),
+}
+
+/// How many entries or pairs were read, where the bytes of the last one end, the fault behind it in a log, and whether what
+/// was read is written again as the bytes up to that end.
+#[derive(Clone, Copy)]
+pub struct Read {
+    count: usize,
+    end: usize,
+    fault: Option<Refusal>,
+    is_same: bool,
+}
+
+impl Found {
+    /// Whether both say the same.
+    pub fn is(&self, other: &Found) -> bool {
+        match (self, other) {
+            (Found::Items(read), Found::Items(other)) => read.is(other),
+            (Found::Refused(refusal), Found::Refused(other)) => *refusal == *other,
+            _ => false,
+        }
+    }
+
+    /// Prints it behind the label, as a line.
+    pub fn put<W: Write>(
+        &self,
+        alloc: Global,
+        label: &[u8],
+        out: &mut Tally<W>,
+    ) -> Result<(), Refusal> {
+        out.put(label)?;
+        match self {
+            Found::Items(read) => read.put(alloc, out),
+            Found::Refused(refusal) => put_refusal(alloc, *refusal, out),
+        }
+    }
+}
+
+impl Read {
+    fn is(&self, other: &Read) -> bool {
+        self.count == other.count
+            && self.end == other.end
+            && self.fault == other.fault
+            && self.is_same == other.is_same
+    }
+
+    fn put<W: Write>(&self, alloc: Global, out: &mut Tally<W>) -> Result<(), Refusal> {
+        let fault = match self.fault {
+            Some(fault) => fault.name(),
+            None => "whole",
+        };
+        let same = if self.is_same { "same" } else { "other" };
+        let text = format!(in alloc; "items {} end {} {fault} {same}\n", self.count, self.end)?;
+        out.put(text.as_bytes())
+    }
+}
+
+/// Prints a refusal as a line, a gap with its point.
+pub fn put_refusal<W: Write>(
+    alloc: Global,
+    refusal: Refusal,
+    out: &mut Tally<W>,
+) -> Result<(), Refusal> {
+    if let Refusal::Gap(point) = refusal {
+        let text = format!(in alloc; "refused Gap {}\n", point.0)?;
+        return out.put(text.as_bytes());
+    }
+    out.put_all(&[b"refused ", refusal.name().as_bytes(), b"\n"])
+}
+
+/// What the text holds as a file of the kind.
+pub fn found_in(alloc: Global, kind: Kind, bytes: &[u8]) -> Found {
+    let read = match kind {
+        Kind::Part => read_part(alloc, bytes),
+        Kind::Base => read_base(alloc, bytes),
+        Kind::Log => read_entries(alloc, bytes),
+    };
+    match read {
+        Ok(read) => Found::Items(read),
+        Err(refusal) => Found::Refused(refusal),
+    }
+}
+
+fn read_part(alloc: Global, bytes: &[u8]) -> Result<Read, Refusal> {
+    let part = Part::decode(alloc, bytes)?;
+    let mut out = Tally::new(Vec::new(alloc));
+    part.encode(&mut out)?;
+    Ok(whole(part.entries().len(), bytes, &out.into_inner()))
+}
+
+fn read_base(alloc: Global, bytes: &[u8]) -> Result<Read, Refusal> {
+    let base = Base::decode(alloc, bytes)?;
+    let mut out = Tally::new(Vec::new(alloc));
+    base.encode(&mut out)?;
+    Ok(whole(base.pairs().len(), bytes, &out.into_inner()))
+}
+
+// So many items in all of the bytes, which are written again so.
+fn whole(count: usize, bytes: &[u8], again: &[u8]) -> Read {
+    Read {
+        count,
+        end: bytes.len(),
+        fault: None,
+        is_same: bytes == again,
+    }
+}
+
+fn read_entries(alloc: Global, bytes: &[u8]) -> Result<Read, Refusal> {
+    let text = read_log(alloc, bytes)?;
+    let mut out = Tally::new(Vec::new(alloc));
+    put_log(&text, &mut out)?;
+    let end = bytes.len().saturating_sub(text.rest);
+    Ok(Read {
+        count: text.entries.len(),
+        end,
+        fault: text.fault,
+        is_same: bytes.get(..end) == Some(out.into_inner().as_slice()),
+    })
+}
+
+fn put_log(text: &LogText, out: &mut Tally<Vec<u8>>) -> Result<(), Refusal> {
+    encode_header(out, text.run)?;
+    for entry in &text.entries {
+        if has_few_writes(entry) {
+            encode_entry(out, entry)?;
+        }
+    }
+    Ok(())
+}
+
+fn has_few_writes(entry: &Entry) -> bool
+    ensures { result ≡ true → HasFewWrites entry.now }
+{
+    match entry {
+        Entry::Commit(_, writes) => writes.len() <= 256,
+        Entry::Token(_, _) => true,
+    }
+}

@@ -1,0 +1,67 @@
+//! Parts that are joined, and laid on a base.
+use crate::found::put_refusal;
+use crate::items::{put_base, put_hex, put_part};
+use pc_part::{Base, Part, join, lay};
+use pc_types::{Refusal, Tally};
+use std::alloc::Global;
+use std::io::Write;
+
+/// Prints the join of the parts that the texts hold, and its text, or why there is none.
+pub fn put_joined<W: Write>(
+    alloc: Global,
+    text: &[u8],
+    others: &[Vec<u8>],
+    out: &mut Tally<W>,
+) -> Result<(), Refusal> {
+    match joined(alloc, text, others) {
+        Ok(part) => {
+            put_part(alloc, &part, out)?;
+            let mut text = Tally::new(Vec::new(alloc));
+            part.encode(&mut text)?;
+            put_text(alloc, &text.into_inner(), out)
+        }
+        Err(refusal) => put_refusal(alloc, refusal, out),
+    }
+}
+
+fn joined(alloc: Global, text: &[u8], others: &[Vec<u8>]) -> Result<Part, Refusal> {
+    let mut part = Part::decode(alloc, text)?;
+    for other in others {
+        let next = Part::decode(alloc, other)?;
+        part = join(alloc, &part, &next)?;
+    }
+    Ok(part)
+}
+
+/// Prints the base that the text holds with the parts that the others hold laid on it, and its text, or why there is none.
+pub fn put_laid<W: Write>(
+    alloc: Global,
+    text: &[u8],
+    others: &[Vec<u8>],
+    out: &mut Tally<W>,
+) -> Result<(), Refusal> {
+    match laid(alloc, text, others) {
+        Ok(base) => {
+            put_base(alloc, &base, out)?;
+            let mut text = Tally::new(Vec::new(alloc));
+            base.encode(&mut text)?;
+            put_text(alloc, &text.into_inner(), out)
+        }
+        Err(refusal) => put_refusal(alloc, refusal, out),
+    }
+}
+
+fn laid(alloc: Global, text: &[u8], others: &[Vec<u8>]) -> Result<Base, Refusal> {
+    let mut base = Base::decode(alloc, text)?;
+    for other in others {
+        let part = Part::decode(alloc, other)?;
+        base = lay(alloc, &base, &part)?;
+    }
+    Ok(base)
+}
+
+fn put_text<W: Write>(alloc: Global, bytes: &[u8], out: &mut Tally<W>) -> Result<(), Refusal> {
+    out.put(b"text ")?;
+    put_hex(alloc, bytes, out)?;
+    out.put(b"\n")
+}

@@ -1,0 +1,90 @@
+//! The line that begins a row.
+ghost use Rattle.std.specs.Prelude.{◌≤◌};
+
+use pc_script::Setup;
+use std::alloc::Global;
+use std::str;
+
+/// What a row is.
+#[derive(Clone, Copy)]
+pub enum Head {
+    /// A script.
+    Step(Step),
+    /// A folder to be recovered.
+    Recover,
+    /// A folder to be recovered with each beginning of its log.
+    Cuts,
+}
+
+/// What a script's store is made with, and whether the end of its last line is left out.
+#[derive(Clone, Copy)]
+pub struct Step {
+    pub setup: Setup,
+    pub is_bare: bool,
+}
+
+/// What the line says; `None` where it has a word that isn't known, or a number out of its range, or memory ran out.
+pub fn head_of(alloc: Global, line: &[u8]) -> Option<Head> {
+    let line = line.strip_suffix(b"\n").unwrap_or(line);
+    let words: Vec<&[u8]> = line.split(|byte| *byte == b' ').collect(alloc).ok()?;
+    match words.as_slice() {
+        [_, _, b"step", options @ ..] => Some(Head::Step(step_of(options)?)),
+        [_, _, b"recover"] => Some(Head::Recover),
+        [_, _, b"cuts"] => Some(Head::Cuts),
+        _ => None,
+    }
+}
+
+// What an option's word is followed by.
+#[derive(Clone, Copy)]
+enum Next {
+    Option,
+    Sessions,
+    Capacity,
+    Run,
+}
+
+fn step_of(options: &[&[u8]]) -> Option<Step> {
+    let (mut run, mut sessions, mut capacity, mut is_bare) = (1u32, 8u32, 1024u32, false);
+    let mut next = Next::Option;
+    for word in options {
+        match next {
+            Next::Sessions => sessions = number(word)?,
+            Next::Capacity => capacity = number(word)?,
+            Next::Run => run = number(word)?,
+            Next::Option => is_bare = is_bare || *word == b"--bare".as_slice(),
+        }
+        next = after(next, word)?;
+    }
+    let setup = setup_of(run, sessions, capacity)?;
+    Some(Step { setup, is_bare })
+}
+
+// What comes behind the word; `None` behind an option that isn't known.
+fn after(next: Next, word: &[u8]) -> Option<Next> {
+    if !matches!(next, Next::Option) {
+        return Some(Next::Option);
+    }
+    match word {
+        b"--sessions" => Some(Next::Sessions),
+        b"--capacity" => Some(Next::Capacity),
+        b"--run" => Some(Next::Run),
+        b"--bare" => Some(Next::Option),
+        _ => None,
+    }
+}
+
+fn setup_of(run: u32, sessions: u32, capacity: u32) -> Option<Setup> {
+    if capacity < 1 || 1_048_576 < capacity || sessions < 1 || 64 < sessions {
+        return None;
+    }
+    Some(Setup {
+        run,
+        sessions: sessions as u8,
+        capacity,
+    })
+}
+
+fn number(word: &[u8]) -> Option<u32> {
+    str::from_utf8(word).ok()?.parse::<u32>().ok()
+}

@@ -1,0 +1,127 @@
+//! Runs the rows of its input, scripts and folders of files, and prints what each prints with its status.
+//!
+//! A row begins with a line `== NAME KIND`, and the lines up to the next such line are its own.
+//!
+//! | kind | lines | what is printed |
+//! |---|---|---|
+//! | `step`, with `--sessions N`, `--capacity N`, `--run N` as for `pcalc step`, and `--bare` | a script; `--bare` drops its last byte, the end of its last line | what it prints against a store of its own |
+//! | `recover` | `FILE HEX`, a file of a folder with its bytes, or `FILE NoFile` and `FILE Device`, why it can't be opened; the folder itself is `.` | what a recovery of the folder prints |
+//! | `cuts` | the same | the same for each beginning of `log.pcl`, by its length, where it is another than that of the one before |
+#![tactic(auto)]
+
+ghost use Rattle.std.specs.Prelude.{◌≤◌};
+
+mod folders;
+mod heads;
+
+use bstr::ByteSlice;
+use folders::{files_of, put_cuts, put_recovery};
+use heads::{Head, Step, head_of};
+use pc_script::run_script;
+use pc_types::{Refusal, Tally, read_all};
+use std::alloc::Global;
+use std::io;
+use std::io::{BufWriter, Write};
+use std::process::ExitCode;
+
+fn main(rt: HostRuntime) -> ExitCode {
+    match run_input(&rt) {
+        Ok(()) => ExitCode::from(0),
+        Err(_) => ExitCode::from(1),
+    }
+}
+
+fn run_input(rt: &HostRuntime) -> io::Result<()> {
+    let alloc = rt.alloc();
+    let text = match read_all(alloc, &mut Tally::new(rt.reader())) {
+        Ok(text) => text,
+        Err(_) => return Err(io::ErrorKind::Other.into()),
+    };
+    let mut out = Tally::new(BufWriter::new(alloc, io::writer(rt))?);
+    match run_rows(alloc, &text, &mut out) {
+        Ok(()) => out.flush(),
+        Err(_) => Err(io::ErrorKind::Other.into()),
+    }
+}
+
+// The line that begins a row, and the lines of the row, each with its end.
+#[derive(Drop)]
+struct Row {
+    head: Vec<u8>,
+    lines: Vec<u8>,
+}
+
+fn run_rows<W: Write>(alloc: Global, text: &[u8], out: &mut Tally<W>) -> Result<(), Refusal> {
+    let mut row = new_row(alloc, b"")?;
+    for line in text.lines_with_terminator() {
+        if line.starts_with(b"== ") {
+            run_row(alloc, &row, out)?;
+            row = new_row(alloc, line)?;
+        } else {
+            row.lines.extend_from_slice(line)?;
+        }
+    }
+    run_row(alloc, &row, out)
+}
+
+fn new_row(alloc: Global, head: &[u8]) -> Result<Row, Refusal> {
+    let head = Vec::from_slice(alloc, head)?;
+    let lines = Vec::new(alloc);
+    Ok(Row { head, lines })
+}
+
+// Lines that no row has are passed over.
+fn run_row<W: Write>(alloc: Global, row: &Row, out: &mut Tally<W>) -> Result<(), Refusal> {
+    if row.head.is_empty() {
+        return Ok(());
+    }
+    out.put(&row.head)?;
+    match head_of(alloc, &row.head) {
+        Some(Head::Step(step)) => run_step(alloc, &step, &row.lines, out),
+        Some(Head::Recover) => run_folder(alloc, &row.lines, false, out),
+        Some(Head::Cuts) => run_folder(alloc, &row.lines, true, out),
+        None => out.put(b"bad head\n"),
+    }
+}
+
+// The folder of the files of these lines, with each beginning of its log where that is asked for.
+fn run_folder<W: Write>(
+    alloc: Global,
+    lines: &[u8],
+    has_cuts: bool,
+    out: &mut Tally<W>,
+) -> Result<(), Refusal> {
+    let Some(files) = files_of(alloc, lines)? else {
+        return out.put(b"bad line\n");
+    };
+    if has_cuts {
+        return put_cuts(alloc, &files, out);
+    }
+    put_recovery(alloc, &files, out)
+}
+
+fn run_step<W: Write>(
+    alloc: Global,
+    step: &Step,
+    lines: &[u8],
+    out: &mut Tally<W>,
+) -> Result<(), Refusal> {
+    let mut script = lines;
+    if step.is_bare {
+        if let Some((_, front)) = lines.split_last() {
+            script = front;
+        }
+    }
+    let mut errors = Tally::new(Vec::new(alloc));
+    let status = run_script(alloc, step.setup, "s", Ok(script), out, &mut errors);
+    out.put(&errors.into_inner())?;
+    put_status(status, out)
+}
+
+fn put_status<W: Write>(status: u8, out: &mut Tally<W>) -> Result<(), Refusal> {
+    match status {
+        0 => out.put(b"status 0\n"),
+        3 => out.put(b"status 3\n"),
+        _ => out.put(b"status 1\n"),
+    }
+}
