@@ -308,49 +308,6 @@ fn commits_of_few_and_of_many_writes(rt: HostRuntime) -> Result<(), Fail> {
     Ok(())
 }
 
-// The writer takes each number of bytes in turn: so many of them go out, and a failure is told.
-#[test]
-fn a_log_goes_out_as_far_as_the_writer_takes_it(rt: HostRuntime) -> Result<(), Fail> {
-    let alloc = rt.alloc();
-    let text = read_log(alloc, &LOG)?;
-    for room in 0..96usize {
-        let (taken, refused) = encoded(alloc, 1, &text.entries, room);
-        assert_eq!(rt; taken.as_slice(), &LOG[..room.min(94)], "{room}");
-        let device = if room < 94 {
-            Some(Refusal::Device)
-        } else {
-            None
-        };
-        assert_eq!(rt; refused, device, "{room}");
-    }
-    Ok(())
-}
-
-// The text of run 258 with one token, and the answer.
-fn one_token(alloc: Global, room: usize) -> (Vec<u8>, Option<Refusal>) {
-    let taken = Vec::new(alloc);
-    let mut out = Tally::new(Sink { taken, room });
-    let entries = [Entry::Token(Phase::Prepare, Point(1))];
-    let refused = encode_log(&mut out, 258, &entries).err();
-    (out.into_inner().taken, refused)
-}
-
-#[test]
-fn a_whole_log_goes_out(rt: HostRuntime) {
-    let text = b"PCALCL01\x00\x00\x00\x00\x00\x00\x01\x02\x00\x00\x00\x00\
-        \x00\x00\x00\x06\x02\x01\x00\x00\x00\x01";
-    for room in 0..32usize {
-        let (taken, refused) = one_token(rt.alloc(), room);
-        assert_eq!(rt; taken.as_slice(), &text[..room.min(30)], "{room}");
-        let device = if room < 30 {
-            Some(Refusal::Device)
-        } else {
-            None
-        };
-        assert_eq!(rt; refused, device, "{room}");
-    }
-}
-
 // The number of an appended entry, and how many there are then.
 fn appended(log: &mut Log, phase: Phase) -> Result<(u32, usize), Refusal> {
     let number = log.append(Entry::Token(phase, Point(1)))?;
