@@ -9,8 +9,6 @@ mod log;
 mod order;
 mod phases;
 mod reading;
-#[cfg(test)]
-mod tests;
 
 pub use encoding::{encode_entry, encode_header, encode_log};
 pub use laws::{cut_logs_are_read, log_texts_are_read, whole_entries_are_longest};

@@ -1,0 +1,207 @@
+//! Recoveries of folders whose files can't be opened or read, or whose output fails.
+use crate::sink::{Sink, went_out};
+use crate::tape::Tape;
+use pc_script::{Folder, NamedFile, run_recover};
+use pc_types::{Refusal, Tally};
+use std::alloc::{AllocError, Global};
+use std::test::Fail;
+
+// Nothing at point 0.
+const BASE: [u8; 24] = *b"PCALCB01\
+    \x00\x00\x00\x00\x00\x00\x00\x01\
+    \x00\x00\x00\x00\x00\x00\x00\x00";
+
+// A commit of `a` as `1`, the tokens of prepare and resolve of point 1, a commit of `a` as `3`, and the tokens of capture and
+// complete.
+const LOG: [u8; 94] = *b"PCALCL01\
+    \x00\x00\x00\x00\x00\x00\x00\x01\x00\x00\x00\x00\
+    \x00\x00\x00\x0d\x01\x01\x00\x01\x00\x01a\x01\x00\x00\x00\x011\
+    \x00\x00\x00\x06\x02\x01\x00\x00\x00\x01\
+    \x00\x00\x00\x06\x02\x02\x00\x00\x00\x01\
+    \x00\x00\x00\x0d\x01\x01\x00\x01\x00\x01a\x01\x00\x00\x00\x013\
+    \x00\x00\x00\x06\x02\x03\x00\x00\x00\x01\
+    \x00\x00\x00\x06\x02\x04\x00\x00\x00\x01";
+
+// The log up to its first token, whose phase there isn't.
+const PHASE_FIVE: [u8; 47] = *b"PCALCL01\
+    \x00\x00\x00\x00\x00\x00\x00\x01\x00\x00\x00\x00\
+    \x00\x00\x00\x0d\x01\x01\x00\x01\x00\x01a\x01\x00\x00\x00\x011\
+    \x00\x00\x00\x06\x02\x05\x00\x00\x00\x01";
+
+// At point 1, `a` was `1`.
+const PART: [u8; 47] = *b"PCALCP01\
+    \x00\x00\x00\x00\x00\x00\x00\x01\
+    \x00\x00\x00\x01\x00\x00\x00\x01\x00\x00\x00\x01\
+    \x00\x01a\x00\x00\x00\x01\x01\x00\x00\x00\x011\
+    \x00\x00\x00\x00\x00\x01";
+
+// At point 1, `a` and `b` were `1`.
+const TWO_KEYS: [u8; 60] = *b"PCALCP01\
+    \x00\x00\x00\x00\x00\x00\x00\x01\
+    \x00\x00\x00\x01\x00\x00\x00\x01\x00\x00\x00\x01\
+    \x00\x01a\x00\x00\x00\x01\x01\x00\x00\x00\x011\
+    \x00\x01b\x00\x00\x00\x01\x01\x00\x00\x00\x011\
+    \x00\x00\x00\x00\x00\x02";
+
+// At point 3, `b` had nothing.
+const THIRD: [u8; 42] = *b"PCALCP01\
+    \x00\x00\x00\x00\x00\x00\x00\x01\
+    \x00\x00\x00\x01\x00\x00\x00\x03\x00\x00\x00\x03\
+    \x00\x01b\x00\x00\x00\x03\x00\
+    \x00\x00\x00\x00\x00\x01";
+
+// What is recovered of the parts of two keys and of the third point, and of the log with an unknown phase.
+const RECOVERED: [u8; 75] = *b"point 1\nentries 1\nlog BadKind\n\
+    skipped part-00003.pcp Gap 2\npairs 2\na 1\nb 1\n";
+
+type Parts<'a> = Vec<NamedFile<Tape<'a>>>;
+
+fn push_part<'a>(
+    alloc: Global,
+    parts: &mut Parts<'a>,
+    name: &str,
+    bytes: &'a [u8],
+    is_torn: bool,
+) -> Result<(), AllocError> {
+    let name = Vec::from_slice(alloc, name.as_bytes())?;
+    let opened = Ok(Tape::new(bytes, is_torn));
+    parts.push(NamedFile { name, opened })?;
+    Ok(())
+}
+
+// Adds a part that can't be opened.
+fn push_closed(
+    alloc: Global,
+    parts: &mut Parts<'static>,
+    name: &str,
+    why: Refusal,
+) -> Result<(), AllocError> {
+    let name = Vec::from_slice(alloc, name.as_bytes())?;
+    let opened = Err(why);
+    parts.push(NamedFile { name, opened })?;
+    Ok(())
+}
+
+// Whether the recovery of the folder `d d` has the status 1, prints nothing and tells this.
+fn is_told<'a>(alloc: Global, folder: Folder<Tape<'a>>, wanted: &str) -> bool {
+    let wanted = wanted.as_bytes();
+    let mut out = Tally::new(Sink::new(b"", 0));
+    let mut errors = Tally::new(Sink::new(wanted, wanted.len()));
+    let status = run_recover(alloc, "d d", folder, &mut out, &mut errors);
+    let is_told = went_out(errors, None, wanted.len(), wanted.len());
+    status == 1 && is_told && went_out(out, None, 0, 0)
+}
+
+// The parts' beginnings of so many bytes, of which the one of the number 2 or 3 is torn.
+fn push_beginnings(
+    alloc: Global,
+    parts: &mut Parts<'static>,
+    length: usize,
+    torn: u8,
+) -> Result<(), AllocError> {
+    let bytes = &PART[..length.min(24)];
+    push_part(alloc, parts, "part-00001.pcp", bytes, torn == 2)?;
+    push_part(alloc, parts, "part-00002.pcp", bytes, torn == 3)
+}
+
+// The folder of files' beginnings of so many bytes, of which one is torn: 1 is the base, and 4 the log.
+fn beginnings(parts: Parts<'static>, length: usize, torn: u8) -> Folder<Tape<'static>> {
+    Folder {
+        base: Ok(Tape::new(&BASE[..length.min(24)], torn == 1)),
+        parts: Ok(parts),
+        log: Ok(Tape::new(&LOG[..length.min(24)], torn == 4)),
+    }
+}
+
+// Each file is read whole, and its bytes before the failure don't count.
+#[test]
+fn tells_of_a_reader_that_fails(rt: HostRuntime) -> Result<(), Fail> {
+    for (torn, wanted) in [
+        (1u8, "pcalc: base.pcb: Device\n"),
+        (2, "pcalc: part-00001.pcp: Device\n"),
+        (3, "pcalc: part-00002.pcp: Device\n"),
+        (4, "pcalc: log.pcl: Device\n"),
+    ] {
+        for length in [0usize, 21] {
+            let mut parts = Vec::new(rt.alloc());
+            push_beginnings(rt.alloc(), &mut parts, length, torn)?;
+            let folder = beginnings(parts, length, torn);
+            assert!(rt; is_told(rt.alloc(), folder, wanted), "{wanted} {length}");
+        }
+    }
+    Ok(())
+}
+
+// The folder with the parts, and nothing wrong else.
+fn listed(parts: Result<Parts<'static>, Refusal>) -> Folder<Tape<'static>> {
+    Folder {
+        base: Ok(Tape::new(&BASE, false)),
+        parts,
+        log: Ok(Tape::new(&LOG, false)),
+    }
+}
+
+#[test]
+fn tells_of_a_folder_that_cannot_be_listed(rt: HostRuntime) {
+    for (why, wanted) in [
+        (Refusal::NoFile, "pcalc: d d: NoFile\n"),
+        (Refusal::Device, "pcalc: d d: Device\n"),
+    ] {
+        assert!(rt; is_told(rt.alloc(), listed(Err(why)), wanted), "{wanted}");
+    }
+}
+
+#[test]
+fn tells_of_a_part_that_cannot_be_opened(rt: HostRuntime) -> Result<(), Fail> {
+    for (why, wanted) in [
+        (Refusal::NoFile, "pcalc: x.pcp: NoFile\n"),
+        (Refusal::Device, "pcalc: x.pcp: Device\n"),
+    ] {
+        let mut parts = Vec::new(rt.alloc());
+        push_closed(rt.alloc(), &mut parts, "x.pcp", why)?;
+        assert!(rt; is_told(rt.alloc(), listed(Ok(parts)), wanted), "{wanted}");
+    }
+    Ok(())
+}
+
+// A log that is there and can't be opened is no missing log.
+#[test]
+fn tells_of_a_log_that_cannot_be_opened(rt: HostRuntime) {
+    let mut folder = listed(Ok(Vec::new(rt.alloc())));
+    folder.log = Err(Refusal::Device);
+    assert!(rt; is_told(rt.alloc(), folder, "pcalc: log.pcl: Device\n"));
+}
+
+fn push_two_keys_and_third(alloc: Global, parts: &mut Parts<'static>) -> Result<(), AllocError> {
+    push_part(alloc, parts, "part-00001.pcp", &TWO_KEYS, false)?;
+    push_part(alloc, parts, "part-00003.pcp", &THIRD, false)
+}
+
+// Whether what is recovered goes out as far as a writer with this much room takes it, and the status alone tells the rest.
+fn is_printed(alloc: Global, parts: Parts<'static>, room: usize) -> bool {
+    let folder = Folder {
+        base: Ok(Tape::new(&BASE, false)),
+        parts: Ok(parts),
+        log: Ok(Tape::new(&PHASE_FIVE, false)),
+    };
+    let mut out = Tally::new(Sink::new(&RECOVERED, room));
+    let mut errors = Tally::new(Sink::new(b"", 0));
+    let status = run_recover(alloc, "d", folder, &mut out, &mut errors);
+    let refused = if status == 0 {
+        None
+    } else {
+        Some(Refusal::Device)
+    };
+    went_out(out, refused, 75, room) && went_out(errors, None, 0, 0)
+}
+
+// Where fewer bytes go out than there are, the status is 1, else it is 0.
+#[test]
+fn stops_where_the_output_fails(rt: HostRuntime) -> Result<(), Fail> {
+    for room in 0..76usize {
+        let mut parts = Vec::new(rt.alloc());
+        push_two_keys_and_third(rt.alloc(), &mut parts)?;
+        assert!(rt; is_printed(rt.alloc(), parts, room), "{room}");
+    }
+    Ok(())
+}

@@ -1,0 +1,94 @@
+//! Scripts whose reader or whose output fails, or for which there is no memory.
+use crate::sink::{Sink, went_out};
+use crate::tape::Tape;
+use pc_script::{Setup, run_script};
+use pc_types::{Refusal, Tally};
+use std::alloc::Global;
+use std::io::{ErrorKind, Read};
+
+const SETUP: Setup = Setup {
+    run: 1,
+    sessions: 8,
+    capacity: 1024,
+};
+
+// Whether the script that can't be read is told so by its name, with the status 1 and nothing else.
+fn is_told<R: Read + Drop>(
+    alloc: Global,
+    name: &str,
+    opened: Result<R, Refusal>,
+    wanted: &[u8],
+) -> bool {
+    let mut out = Tally::new(Sink::new(b"", 0));
+    let mut errors = Tally::new(Sink::new(wanted, wanted.len()));
+    let status = run_script(alloc, SETUP, name, opened, &mut out, &mut errors);
+    let is_told = went_out(errors, None, wanted.len(), wanted.len());
+    status == 1 && is_told && went_out(out, None, 0, 0)
+}
+
+#[test]
+fn tells_of_a_script_that_cannot_be_read(rt: HostRuntime) {
+    let torn = Ok(Tape::new(b"bbb", true));
+    assert!(rt; is_told(rt.alloc(), "a b", torn, b"pcalc: a b: Device\n"));
+    let missing: Result<Tape, Refusal> = Err(Refusal::NoFile);
+    assert!(rt; is_told(rt.alloc(), "c", missing, b"pcalc: c: NoFile\n"));
+}
+
+// Whether what the script prints goes out as far as a writer with this much room takes it, with this status; nothing is told.
+fn is_printed(alloc: Global, room: usize, wanted: u8) -> bool {
+    let text = b"begun 1\nbad line\ncommitted 1\n";
+    let script = b"begin 1\nfrob\ncommit 1\n".as_slice();
+    let mut out = Tally::new(Sink::new(text, room));
+    let mut errors = Tally::new(Sink::new(b"", 0));
+    let status = run_script(alloc, SETUP, "s", Ok(script), &mut out, &mut errors);
+    let refused = if room < 29 {
+        Some(Refusal::Device)
+    } else {
+        None
+    };
+    let is_out = went_out(out, refused, 29, room);
+    status == wanted && is_out && went_out(errors, None, 0, 0)
+}
+
+#[test]
+fn stops_where_the_output_fails(rt: HostRuntime) {
+    for room in 0..29usize {
+        assert!(rt; is_printed(rt.alloc(), room, 1), "{room}");
+    }
+    assert!(rt; is_printed(rt.alloc(), 29, 3));
+}
+
+// The status where the output takes all, and its flush fails; and how many failures are counted.
+fn flushed(alloc: Global) -> (u8, u64) {
+    let mut sink = Sink::new(b"begun 1\n", 8);
+    sink.flush_fault = Some(ErrorKind::Other);
+    let mut out = Tally::new(sink);
+    let mut errors = Tally::new(Sink::new(b"", 0));
+    let script = b"begin 1\n".as_slice();
+    let status = run_script(alloc, SETUP, "s", Ok(script), &mut out, &mut errors);
+    (status, out.failures())
+}
+
+#[test]
+fn tells_of_a_flush_that_fails(rt: HostRuntime) {
+    assert_eq!(rt; flushed(rt.alloc()), (1, 1));
+}
+
+// The status of a script, and how much it prints and tells.
+fn ran(alloc: Global, script: &[u8]) -> (u8, usize, usize) {
+    let mut out = Tally::new(Vec::new(alloc));
+    let mut errors = Tally::new(Vec::new(alloc));
+    let status = run_script(alloc, SETUP, "s", Ok(script), &mut out, &mut errors);
+    (status, out.into_inner().len(), errors.into_inner().len())
+}
+
+// Where memory runs out, each line is answered by its answer or by that refusal, and asking again is allowed.
+#[test]
+fn asks_again_after_want_of_memory(rt: HostRuntime) {
+    let script =
+        "base a 1\nbase a 1\nbegin 1\nput 1 b 2\nput 1 b 2\nget 1 b\nget 1 b\ncommit 1\ncommit 1\n";
+    let (status, printed, told) = ran(rt.alloc(), script.as_bytes());
+    assert!(rt; status == 0 || status == 1);
+    assert!(rt; status == 1 || printed > 40);
+    assert!(rt; told <= 22);
+}

@@ -1,0 +1,157 @@
+//! Walks by chance of three sessions beside the checkpointer.
+ghost use Rattle.std.specs.Prelude.{◌≡◌, IfOk};
+
+use pc_engine::World;
+use pc_part::Base;
+use pc_types::{Event, Key, Phase, Refusal, Reply, SessionNo, Value};
+use std::alloc::Global;
+
+// How many steps a walk has.
+const STEPS: u32 = 250;
+
+const LETTERS: [u8; 5] = *b"abcde";
+
+const WORD: [u8; 40] = *b"0123456789 is longer than what is inline";
+
+/// The next number of a walk. Its higher bits look like chance.
+pub fn next(seed: u64) -> u64 {
+    seed.wrapping_mul(6_364_136_223_846_793_005)
+        .wrapping_add(1_442_695_040_888_963_407)
+}
+
+// A number below the bound, from some of the seed's bits.
+fn drawn(seed: u64, shift: u32, bound: u32) -> u32 {
+    let low = ((seed >> (shift % 64)) & 0xffff_ffff) as u32;
+    if bound == 0 {
+        return 0;
+    }
+    low % bound
+}
+
+fn key_of(seed: u64) -> &'static [u8] {
+    let i = drawn(seed, 29, 5) as usize;
+    &LETTERS[i.min(4)..i.min(4) + 1]
+}
+
+fn value_of(seed: u64) -> &'static [u8] {
+    let from = drawn(seed, 31, 10) as usize;
+    let length = drawn(seed, 35, 28) as usize;
+    &WORD[from.min(9)..from.min(9) + length.min(30)]
+}
+
+// Where the cycle is, whether a key may be left to take, how many parts there are, and the session that must abort, or 0.
+#[derive(Clone, Copy)]
+struct Walk {
+    seed: u64,
+    phase: Phase,
+    has_more: bool,
+    parts: u32,
+    dead: u32,
+}
+
+// What the checkpointer asks next. After three parts it asks for no more.
+fn next_of(walk: &Walk) -> Event {
+    match walk.phase {
+        Phase::Rest if walk.parts >= 3 => Event::Rest,
+        Phase::Rest => Event::StartPoint,
+        Phase::Prepare => Event::Seal,
+        Phase::Resolve => Event::OpenCapture,
+        Phase::Capture if walk.has_more => Event::Take,
+        Phase::Capture => Event::Done,
+        Phase::Complete => Event::Rest,
+    }
+}
+
+fn put_of(alloc: Global, session: SessionNo, seed: u64) -> Result<Event, Refusal> {
+    let key = Key::new(alloc, key_of(seed))?;
+    let value = Value::new(alloc, value_of(seed))?;
+    Ok(Event::Put(session, key, value))
+}
+
+// What a session asks.
+fn session_asks(alloc: Global, session: SessionNo, seed: u64) -> Result<Event, Refusal> {
+    match drawn(seed, 45, 20) {
+        0..=4 => Ok(Event::Begin(session)),
+        5 | 6 => Ok(Event::Get(session, Key::new(alloc, key_of(seed))?)),
+        7..=12 => put_of(alloc, session, seed),
+        13 | 14 => Ok(Event::Del(session, Key::new(alloc, key_of(seed))?)),
+        15 => Ok(Event::Abort(session)),
+        _ => Ok(Event::Commit(session)),
+    }
+}
+
+// The session that asks at this step.
+fn session_of(walk: &Walk) -> u32 {
+    if walk.dead != 0 {
+        return walk.dead;
+    }
+    drawn(walk.seed, 24, 3).wrapping_add(1)
+}
+
+fn next_event(alloc: Global, walk: &Walk) -> Result<Event, Refusal> {
+    if walk.dead != 0 {
+        return Ok(Event::Abort(SessionNo(walk.dead)));
+    }
+    if drawn(walk.seed, 50, 4) == 0 {
+        return Ok(next_of(walk));
+    }
+    session_asks(alloc, SessionNo(session_of(walk)), walk.seed)
+}
+
+// The walk after a reply.
+fn moved(walk: &Walk, reply: &Reply) -> Walk {
+    let mut now = *walk;
+    now.seed = next(walk.seed);
+    now.dead = 0;
+    match reply {
+        Reply::Phase(phase, _) => {
+            now.phase = *phase;
+            now.has_more = true;
+        }
+        Reply::NoneLeft => now.has_more = false,
+        Reply::PartDone(_, _, _) => {
+            now.phase = Phase::Complete;
+            now.parts = walk.parts.wrapping_add(1);
+        }
+        Reply::Died => now.dead = session_of(walk),
+        _ => {}
+    }
+    now
+}
+
+// A base of run 9, in which `b` is `0`.
+fn base_of(alloc: Global) -> Result<Base, Refusal>
+    ensures { IfOk result (λ base. base.point ≡ 0) }
+{
+    let mut pairs = Vec::new(alloc);
+    let key = Key::new(alloc, b"b")?;
+    let value = Value::new(alloc, b"0")?;
+    pairs.push((key, value))?;
+    Ok(Base::start(9, pairs))
+}
+
+// One step after the other.
+fn walk_on(alloc: Global, world: &mut World, seed: u64) -> Result<(), Refusal> {
+    let mut walk = Walk {
+        seed,
+        phase: Phase::Rest,
+        has_more: true,
+        parts: 0,
+        dead: 0,
+    };
+    for _ in 0..STEPS {
+        let event = next_event(alloc, &walk)?;
+        let reply = world.step(&event);
+        walk = moved(&walk, &reply);
+    }
+    Ok(())
+}
+
+/// The store after the walk of this seed: 250 steps of run 9. It refuses only with `OutOfMemory`.
+pub fn walked(alloc: Global, seed: u64) -> Result<World, Refusal> {
+    let mut world = World::new(alloc, base_of(alloc)?, 3, 16)?;
+    match walk_on(alloc, &mut world, seed) {
+        Ok(()) => Ok(world),
+        Err(why) => Err(why),
+    }
+}
