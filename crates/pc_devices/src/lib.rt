@@ -8,6 +8,8 @@ mod folder_tests;
 #[cfg(test)]
 mod log_tests;
 #[cfg(test)]
+mod refusal_tests;
+#[cfg(test)]
 mod script_tests;
 #[cfg(test)]
 mod sink;
