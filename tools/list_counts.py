@@ -1,11 +1,12 @@
 #!/usr/bin/env python3
-"""Prints what the programs pc_lists, pc_crowds and pc_walk must print, by the slow store of plain_store.py.
+"""Prints what the programs pc_lists and pc_crowds must print, by the slow store of plain_store.py.
 
-    list_counts.py lists|crowds|walk [FAMILY..]
+    list_counts.py lists [FAMILY..]     every short list of events, for crates/pc_lists/stdout
+    list_counts.py crowds               crowds of sessions at one key, and a long walk, for crates/pc_crowds/stdout
 
 It goes through the same lists, crowds and walk as the programs, and counts and sums up the replies in the same way (the
-doc comment of `Sums` in crates/pc_lists/src/sums.rt has the sum). It shares no code with them. All lists take about
-10 minutes; families run side by side, as many as there are processors.
+doc comment of `Sums` in crates/pc_asks/src/sums.rt has the sum). It shares no code with them. All lists take about three
+minutes on four processors.
 """
 
 import multiprocessing
@@ -334,7 +335,6 @@ def main(words):
         print_lists(words[1:])
     elif words == ["crowds"]:
         print_crowds()
-    elif words == ["walk"]:
         print_walk()
     else:
         sys.exit(__doc__)

@@ -1,9 +1,9 @@
 #!/usr/bin/env python3
-"""Runs each test that is named for it once for each growth that it asks for, with that growth refused.
+"""Runs each test of pc_growths that is named for it once for each growth that it asks for, with that growth refused.
 
 Such a test's name ends in `at_each_refused_growth`. It asks again where memory was wanting, and wants in the end what it
-would have got with ample memory, so it passes whichever growth is refused. Run `rt test` first in the folders of the
-crates, or of those that are given as arguments; it leaves the tests in out/. A C compiler is needed, as `cc`.
+would have got with ample memory, so it passes whichever growth is refused. Run `rt test` in the folder of pc_growths
+first; it leaves the tests in out/. A C compiler is needed, as `cc`.
 """
 
 import os
@@ -13,7 +13,7 @@ import tempfile
 import time
 
 HERE = os.path.dirname(os.path.abspath(__file__))
-CRATES = ("pc_model", "pc_locks", "pc_part", "pc_recover", "pc_engine")
+CRATE = "pc_growths"
 MARK = "at_each_refused_growth"
 TOLD = b"a growth was refused"
 MOST_GROWTHS = 10_000
@@ -46,21 +46,21 @@ def refuse_each(library, program, test):
     sys.exit("%s: there is no end of growths" % test)
 
 
-def check_crate(library, crate):
-    """Whether each of the crate's tests passes at each growth."""
-    program = os.path.join(HERE, "..", "crates", crate, "out", crate + "_tests")
+def check(library):
+    """Whether each of the tests passes at each growth."""
+    program = os.path.join(HERE, "..", "crates", CRATE, "out", CRATE + "_tests")
     if not os.path.exists(program):
-        sys.exit("%s has no built tests: run `rt test` in its folder first" % crate)
+        sys.exit("%s has no built tests: run `rt test` in its folder first" % CRATE)
     tests = tests_of(program)
     if not tests:
-        sys.exit("%s has no test whose name ends in %s" % (crate, MARK))
+        sys.exit("%s has no test whose name ends in %s" % (CRATE, MARK))
     is_right = True
     for test in tests:
         start = time.monotonic()
         growths, failed = refuse_each(library, program, test)
         is_right = is_right and growths > 0 and not failed
         seconds = time.monotonic() - start
-        print("%s %s: %d growths in %.1f s, failed at %s" % (crate, test, growths, seconds, failed or "none"), flush=True)
+        print("%s: %d growths in %.1f s, failed at %s" % (test, growths, seconds, failed or "none"), flush=True)
     return is_right
 
 
@@ -69,8 +69,7 @@ def main():
         library = os.path.join(folder, "refuse.so")
         source = os.path.join(HERE, "refused_growths", "refuse.c")
         subprocess.run(["cc", "-shared", "-fPIC", "-O1", "-fno-builtin", "-o", library, source], check=True)
-        results = [check_crate(library, crate) for crate in sys.argv[1:] or CRATES]
-    sys.exit(0 if all(results) else 1)
+        sys.exit(0 if check(library) else 1)
 
 
 main()

@@ -1,6 +1,6 @@
 //! The families of lists: what is asked in them, of which store, and how far a list goes.
 
-use crate::asks::Ask;
+use pc_asks::Ask;
 use pc_engine::World;
 use pc_part::Base;
 use pc_types::{Refusal, Reply};

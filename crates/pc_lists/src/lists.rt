@@ -1,20 +1,21 @@
 //! Every list of a family, depth first.
 
-use crate::asks::events_of;
-use crate::families::{Family, new_world};
-use crate::sums::Sums;
+use crate::families::{Family, Rule, new_world};
+use pc_asks::{Sums, events_of};
 use pc_engine::World;
 use pc_types::{Event, Refusal};
 use std::alloc::{AllocError, Global};
 
-// The way through a family: the list, by its letters' places, and the store that it is asked of.
+// The way through a family: the list, by the places of its letters, and the store that it is asked of.
 #[derive(Drop)]
 struct Way {
     start: Vec<Event>,
     letters: Vec<Event>,
-    list: Vec<usize>,
+    // All but the last letter of the list, and that one.
+    before: Vec<usize>,
+    last: usize,
     world: World,
-    // Whether the store stands after all but the list's last event.
+    // Whether the store stands after all but the last.
     is_ready: bool,
     sums: Sums,
 }
@@ -24,7 +25,6 @@ struct Way {
 /// memory ran out.
 pub fn sums_of(alloc: Global, family: &Family) -> Result<Sums, Refusal> {
     let mut way = way_into(alloc, family)?;
-    begin(&mut way)?;
     go_through(alloc, family, &mut way)?;
     let Way { sums, .. } = way;
     Ok(sums)
@@ -33,95 +33,105 @@ pub fn sums_of(alloc: Global, family: &Family) -> Result<Sums, Refusal> {
 fn way_into(alloc: Global, family: &Family) -> Result<Way, Refusal> {
     let start = events_of(alloc, family.start)?;
     let letters = events_of(alloc, family.letters)?;
-    let list = vec![in alloc; 0usize]?;
     let world = new_world(alloc, family.store)?;
     Ok(Way {
         start,
         letters,
-        list,
+        before: Vec::new(alloc),
+        last: 0,
         world,
         is_ready: true,
         sums: Sums::new(alloc),
     })
 }
 
-// Asks the events of the start.
-fn begin(way: &mut Way) -> Result<(), AllocError> {
-    for event in &way.start {
-        let reply = way.world.step(event);
-        way.sums.note(&reply)?;
-    }
-    Ok(())
-}
-
 fn go_through(alloc: Global, family: &Family, way: &mut Way) -> Result<(), Refusal> {
+    begin(&mut way.world, &mut way.sums, &way.start)?;
     for _ in 0..u32::MAX {
-        if way.list.is_empty() {
+        if !visit(alloc, family, way)? {
             return Ok(());
         }
-        visit(alloc, family, way)?;
     }
     Ok(())
 }
 
-// Asks the list's last event, and goes on to the next list.
-fn visit(alloc: Global, family: &Family, way: &mut Way) -> Result<(), Refusal> {
+// Asks the events of the start.
+fn begin(world: &mut World, sums: &mut Sums, start: &[Event]) -> Result<(), AllocError> {
+    for event in start {
+        ask(world, sums, event, Rule::CheckEach)?;
+    }
+    Ok(())
+}
+
+// Asks the event. Whether a list that ends with it is gone on with.
+fn ask(world: &mut World, sums: &mut Sums, event: &Event, rule: Rule) -> Result<bool, AllocError> {
+    let reply = world.step(event);
+    sums.note(&reply)?;
+    Ok(rule.goes_on(&reply))
+}
+
+// Asks the list's last event, and goes on to the next list, if there is one.
+fn visit(alloc: Global, family: &Family, way: &mut Way) -> Result<bool, Refusal> {
     if !way.is_ready {
         way.world = new_world(alloc, family.store)?;
         replay(way);
     }
-    let goes_on = ask_last(family, way)?;
-    let is_longer = goes_on && way.list.len() < family.most;
-    if is_longer {
-        way.list.push(0)?;
-        way.is_ready = true;
-    } else {
-        let depth = way.list.len();
-        turn(&mut way.list, family.letters.len())?;
-        way.is_ready = !goes_on && way.list.len() == depth;
+    let goes_on = ask_last(family.rule, way)?;
+    let depth = way.before.len();
+    let is_longest = depth.wrapping_add(1) == family.most;
+    if family.rule.is_checked(is_longest, goes_on) {
+        way.sums.note_check(way.world.check()?);
     }
-    Ok(())
+    if goes_on && !is_longest {
+        way.before.push(way.last)?;
+        way.last = 0;
+        way.is_ready = true;
+        return Ok(true);
+    }
+    let has_next = turn(way);
+    way.is_ready = !goes_on && way.before.len() == depth;
+    Ok(has_next)
 }
 
 // Asks the new store the start's events, and all but the last of the list's.
 fn replay(way: &mut Way) {
-    for event in &way.start {
-        let _ = way.world.step(event);
+    replay_all(&mut way.world, &way.start);
+    replay_letters(&mut way.world, &way.letters, &way.before);
+}
+
+fn replay_all(world: &mut World, events: &[Event]) {
+    for event in events {
+        let _ = world.step(event);
     }
-    let before = way.list.len().saturating_sub(1);
-    for i in way.list.iter().take(before) {
-        if let Some(event) = way.letters.get(*i) {
-            let _ = way.world.step(event);
+}
+
+fn replay_letters(world: &mut World, letters: &[Event], places: &[usize]) {
+    for place in places {
+        if let Some(event) = letters.get(*place) {
+            let _ = world.step(event);
         }
     }
 }
 
-// Asks the list's last event. Whether the list is to be gone on with.
-fn ask_last(family: &Family, way: &mut Way) -> Result<bool, Refusal> {
-    let place = way.list.last().copied().unwrap_or(0);
-    let Some(event) = way.letters.get(place) else {
-        return Ok(false);
-    };
-    let reply = way.world.step(event);
-    way.sums.note(&reply)?;
-    let goes_on = family.rule.goes_on(&reply);
-    let is_longest = way.list.len() == family.most;
-    if family.rule.is_checked(is_longest, goes_on) {
-        way.sums.note_check(way.world.check()?);
+// Asks the list's last event. Whether the list is gone on with.
+fn ask_last(rule: Rule, way: &mut Way) -> Result<bool, AllocError> {
+    match way.letters.get(way.last) {
+        Some(event) => ask(&mut way.world, &mut way.sums, event, rule),
+        None => Ok(false),
     }
-    Ok(goes_on)
 }
 
-// The next list that isn't longer: with the next letter in the last place that has another. It is empty where none is left.
-fn turn(list: &mut Vec<usize>, letters: usize) -> Result<(), AllocError> {
-    for _ in 0..list.len() {
-        if let Some(i) = list.pop() {
-            let next = i.wrapping_add(1);
-            if next < letters {
-                list.push(next)?;
-                return Ok(());
-            }
+// The next list that isn't longer: with the next letter in the last place that has another, if there is one.
+fn turn(way: &mut Way) -> bool {
+    for _ in 0..=way.before.len() {
+        way.last = way.last.wrapping_add(1);
+        if way.last < way.letters.len() {
+            return true;
+        }
+        match way.before.pop() {
+            Some(place) => way.last = place,
+            None => return false,
         }
     }
-    Ok(())
+    false
 }

@@ -7,8 +7,6 @@ mod reach;
 mod recovered;
 mod recovering;
 mod replaying;
-#[cfg(test)]
-mod row_tests;
 mod state;
 mod unused;
 

@@ -6,7 +6,7 @@ use std::io;
 
 /// Prints `== NAME`, `replies N`, for each kind of reply `KIND COUNT SUM` with the sum in 16 hexadecimal digits, and
 /// `checks N right M`.
-pub fn tell(rt: &HostRuntime, name: &str, sums: &Sums) -> io::Result<()> {
+pub fn tell(rt: &impl Print, name: &str, sums: &Sums) -> io::Result<()> {
     println!(rt; "== {name}")?;
     println!(rt; "replies {}", sums.replies())?;
     for line in sums.lines() {
@@ -16,7 +16,7 @@ pub fn tell(rt: &HostRuntime, name: &str, sums: &Sums) -> io::Result<()> {
     println!(rt; "checks {checks} right {right}")
 }
 
-fn tell_line(rt: &HostRuntime, line: &Line) -> io::Result<()> {
+fn tell_line(rt: &impl Print, line: &Line) -> io::Result<()> {
     match line.kind {
         Kind::Phase(phase) => print!(rt; "phase {}", phase_name(phase))?,
         Kind::Refused(refusal) => print!(rt; "refused {}", refusal.name())?,

@@ -1,11 +1,10 @@
 //! A long walk by chance of eight sessions and the checkpointer over fifty keys, with joins now and then.
 
-use crate::asker::Asker;
-use crate::asks::Ask;
-use crate::sums::Sums;
+use crate::asker::{Asker, Told};
+use pc_asks::{Ask, Kind, Sums};
 use pc_engine::World;
 use pc_part::Base;
-use pc_types::{Phase, Refusal, Reply};
+use pc_types::{Phase, Refusal};
 use std::alloc::Global;
 
 const LETTERS: [u8; 50] = *b"ABCDEFGHIJKLMNOPQRSTUVWXYZabcdefghijklmnopqrstuvwx";
@@ -102,25 +101,25 @@ fn session_of(ask: Ask) -> u32 {
 }
 
 // The cycle after a reply. The first join after a part is that with all the points before it.
-fn moved(cycle: &Cycle, has_part: bool, reply: &Reply) -> Cycle {
+fn moved(cycle: &Cycle, has_part: bool, told: Told) -> Cycle {
     let mut now = *cycle;
-    match reply {
-        Reply::Phase(phase, _) => {
-            now.phase = *phase;
+    match told.kind {
+        Kind::Phase(phase) => {
+            now.phase = phase;
             now.has_more = true;
         }
-        Reply::NoneLeft => now.has_more = false,
-        Reply::PartDone(_, number, _) => {
+        Kind::NoneLeft => now.has_more = false,
+        Kind::PartDone => {
             now.phase = Phase::Complete;
-            now.files = number.0;
-            if number.0 == 1 {
+            now.files = told.file;
+            if told.file == 1 {
                 now.whole = 1;
             }
         }
-        Reply::File(number, _, _) => {
-            now.files = number.0;
+        Kind::File => {
+            now.files = told.file;
             if has_part {
-                now.whole = number.0;
+                now.whole = told.file;
             }
         }
         _ => {}
@@ -155,35 +154,30 @@ fn next_ask(walk: &Walk) -> Ask<'static> {
 }
 
 // The part's number, or 0.
-fn part_of(reply: &Reply) -> u32 {
-    match reply {
-        Reply::PartDone(_, number, _) => number.0,
+fn part_of(told: Told) -> u32 {
+    match told.kind {
+        Kind::PartDone => told.file,
         _ => 0,
     }
 }
 
 // The session, where it must abort, or 0.
-fn dead_of(session: u32, reply: &Reply) -> u32 {
-    match reply {
-        Reply::Refused(Refusal::MustAbort) => session,
+fn dead_of(session: u32, told: Told) -> u32 {
+    match told.kind {
+        Kind::Refused(Refusal::MustAbort) => session,
         _ => 0,
-    }
-}
-
-// The walk after the reply to what was asked.
-fn gone_on(walk: &Walk, ask: Ask, reply: &Reply) -> Walk {
-    Walk {
-        seed: next(walk.seed),
-        cycle: moved(&walk.cycle, walk.part > 1, reply),
-        part: part_of(reply),
-        dead: dead_of(session_of(ask), reply),
     }
 }
 
 fn step(asker: &mut Asker, walk: &Walk) -> Result<Walk, Refusal> {
     let ask = next_ask(walk);
-    let reply = asker.ask(ask)?;
-    Ok(gone_on(walk, ask, &reply))
+    let told = asker.ask(ask)?;
+    Ok(Walk {
+        seed: next(walk.seed),
+        cycle: moved(&walk.cycle, walk.part > 1, told),
+        part: part_of(told),
+        dead: dead_of(session_of(ask), told),
+    })
 }
 
 const START: Walk = Walk {
@@ -198,7 +192,7 @@ const START: Walk = Walk {
     dead: 0,
 };
 
-// Walks so many steps, and checks the store at each tenth of them.
+// Walks so many steps, and checks the store at each tenth of them and at the end.
 fn go(asker: &mut Asker) -> Result<(), Refusal> {
     let mut walk = START;
     for n in 0..STEPS {
@@ -207,7 +201,7 @@ fn go(asker: &mut Asker) -> Result<(), Refusal> {
             asker.check()?;
         }
     }
-    Ok(())
+    asker.check()
 }
 
 /// Walks 100,000 steps. The store is checked at each tenth of them, and at the end. It fails only where memory ran out.
@@ -215,6 +209,5 @@ pub fn sums_of_walk(alloc: Global) -> Result<Sums, Refusal> {
     let world = World::new(alloc, Base::start(1, Vec::new(alloc)), 8, 50)?;
     let mut asker = Asker::new(alloc, world);
     go(&mut asker)?;
-    asker.check()?;
     Ok(asker.into_sums())
 }

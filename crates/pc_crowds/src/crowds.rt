@@ -1,11 +1,10 @@
 //! Sixty-four sessions at one key.
 
 use crate::asker::Asker;
-use crate::asks::Ask;
-use crate::sums::Sums;
+use pc_asks::{Ask, Kind, Sums};
 use pc_engine::World;
 use pc_part::Base;
-use pc_types::{Refusal, Reply};
+use pc_types::Refusal;
 use std::alloc::Global;
 
 const WORD: [u8; 64] = [b'w'; 64];
@@ -51,11 +50,16 @@ fn come(asker: &mut Asker, crowd: Crowd) -> Result<(), Refusal> {
 // The session asks again for what it wishes and commits, or aborts where it has died. Whether its transaction has ended.
 fn turn(asker: &mut Asker, crowd: Crowd, session: u32) -> Result<bool, Refusal> {
     asker.ask(wish(crowd, session))?;
-    let mut reply = asker.ask(Ask::Commit(session))?;
-    if matches!(reply, Reply::Refused(Refusal::MustAbort)) {
-        reply = asker.ask(Ask::Abort(session))?;
+    match asker.ask(Ask::Commit(session))?.kind {
+        Kind::Refused(Refusal::MustAbort) => abort(asker, session),
+        kind => Ok(kind == Kind::Committed),
     }
-    Ok(matches!(reply, Reply::Committed(_) | Reply::Aborted))
+}
+
+// Whether the session aborts.
+fn abort(asker: &mut Asker, session: u32) -> Result<bool, Refusal> {
+    let told = asker.ask(Ask::Abort(session))?;
+    Ok(told.kind == Kind::Aborted)
 }
 
 // Each has a turn. Whether one ends in it.
@@ -84,11 +88,15 @@ fn end(asker: &mut Asker, crowd: Crowd) -> Result<(), Refusal> {
 pub fn sums_of_crowd(alloc: Global, crowd: Crowd) -> Result<Sums, Refusal> {
     let world = World::new(alloc, Base::start(1, Vec::new(alloc)), 64, 2)?;
     let mut asker = Asker::new(alloc, world);
-    begin(&mut asker)?;
-    come(&mut asker, crowd)?;
-    end(&mut asker, crowd)?;
-    asker.check()?;
+    go_to_the_end(&mut asker, crowd)?;
     Ok(asker.into_sums())
+}
+
+fn go_to_the_end(asker: &mut Asker, crowd: Crowd) -> Result<(), Refusal> {
+    begin(asker)?;
+    come(asker, crowd)?;
+    end(asker, crowd)?;
+    asker.check()
 }
 
 const ONE_BY_ONE: Crowd = Crowd {
@@ -130,18 +138,25 @@ fn go_in_turn(asker: &mut Asker) -> Result<(), Refusal> {
     Ok(())
 }
 
-// No session has a transaction open, and the last one's value is committed.
-fn look_around(asker: &mut Asker) -> Result<(), Refusal> {
+// No session has a transaction open then.
+fn commit_all(asker: &mut Asker) -> Result<(), Refusal> {
     for session in 1..=64u32 {
         asker.ask(Ask::Commit(session))?;
     }
-    for ask in [
-        Ask::Begin(64),
-        Ask::Get(64, b"a"),
-        Ask::Commit(64),
-        Ask::StartPoint,
-    ] {
-        asker.ask(ask)?;
+    Ok(())
+}
+
+const LOOK: [Ask<'static>; 4] = [
+    Ask::Begin(64),
+    Ask::Get(64, b"a"),
+    Ask::Commit(64),
+    Ask::StartPoint,
+];
+
+// The last one's value is committed.
+fn look_back(asker: &mut Asker) -> Result<(), Refusal> {
+    for ask in &LOOK {
+        asker.ask(*ask)?;
     }
     Ok(())
 }
@@ -151,11 +166,16 @@ fn look_around(asker: &mut Asker) -> Result<(), Refusal> {
 pub fn sums_one_by_one(alloc: Global) -> Result<Sums, Refusal> {
     let world = World::new(alloc, Base::start(1, Vec::new(alloc)), 64, 1)?;
     let mut asker = Asker::new(alloc, world);
-    begin(&mut asker)?;
-    come_in_pairs(&mut asker)?;
-    hold_back(&mut asker)?;
-    go_in_turn(&mut asker)?;
-    look_around(&mut asker)?;
-    asker.check()?;
+    go_one_by_one(&mut asker)?;
     Ok(asker.into_sums())
+}
+
+fn go_one_by_one(asker: &mut Asker) -> Result<(), Refusal> {
+    begin(asker)?;
+    come_in_pairs(asker)?;
+    hold_back(asker)?;
+    go_in_turn(asker)?;
+    commit_all(asker)?;
+    look_back(asker)?;
+    asker.check()
 }

@@ -1,0 +1,53 @@
+//! Asks stores for crowds of sessions at one key, and for a long walk by chance, and prints how often each kind of reply
+//! was given, with sums over them.
+#![tactic(auto)]
+
+mod asker;
+mod crowds;
+mod walk;
+
+use crowds::{Crowd, sums_of_crowd, sums_one_by_one};
+use pc_asks::{Sums, tell};
+use pc_types::Refusal;
+use std::io;
+use std::process::ExitCode;
+use walk::sums_of_walk;
+
+// From the oldest on, from the youngest on, and in two mixed orders.
+const STRIDES: [u32; 4] = [1, 63, 27, 45];
+
+// The status is 1 where memory or the output failed.
+fn main(rt: HostRuntime) -> ExitCode {
+    match run(&rt) {
+        Ok(()) => ExitCode::from(0),
+        Err(_) => ExitCode::from(1),
+    }
+}
+
+fn run(rt: &HostRuntime) -> io::Result<()> {
+    tell_or_fail(rt, "one by one", sums_one_by_one(rt.alloc()))?;
+    run_crowds(rt)?;
+    tell_or_fail(rt, "a long walk", sums_of_walk(rt.alloc()))
+}
+
+fn run_crowds(rt: &HostRuntime) -> io::Result<()> {
+    for stride in STRIDES {
+        run_crowd(rt, stride, false)?;
+        run_crowd(rt, stride, true)?;
+    }
+    Ok(())
+}
+
+fn run_crowd(rt: &HostRuntime, stride: u32, is_reading: bool) -> io::Result<()> {
+    let most = if is_reading { "read" } else { "write" };
+    let name = format!(in rt.alloc(); "in steps of {stride}, most {most}")?;
+    let crowd = Crowd { stride, is_reading };
+    tell_or_fail(rt, name.as_str(), sums_of_crowd(rt.alloc(), crowd))
+}
+
+fn tell_or_fail(rt: &HostRuntime, name: &str, sums: Result<Sums, Refusal>) -> io::Result<()> {
+    match sums {
+        Ok(sums) => tell(rt, name, &sums),
+        Err(_) => Err(io::ErrorKind::Other.into()),
+    }
+}

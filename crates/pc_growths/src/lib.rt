@@ -1,0 +1,21 @@
+//! Tests of growths of memory that are refused, and of what the store shows: nothing else stands here.
+//!
+//! A test whose name ends in `at_each_refused_growth` asks again where memory was wanting, and wants in the end what it would
+//! have got with ample memory, so it passes whichever growth is refused. `tools/refused_growths.py` runs each such test
+//! once for each growth that it asks for, with that growth refused.
+#![tactic(auto)]
+
+#[cfg(test)]
+mod asked;
+#[cfg(test)]
+mod audits;
+#[cfg(test)]
+mod files;
+#[cfg(test)]
+mod locks;
+#[cfg(test)]
+mod recoveries;
+#[cfg(test)]
+mod shown;
+#[cfg(test)]
+mod stores;

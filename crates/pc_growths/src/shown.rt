@@ -1,0 +1,138 @@
+//! What a store shows beside its answers.
+
+use crate::asked::{Told, answer, first_wrong, tell};
+use crate::files::{Pair, are_pairs};
+use pc_asks::{Ask, event_of};
+use pc_engine::{World, run};
+use pc_part::Base;
+use pc_types::{FileNo, Key, Phase, Refusal, Value};
+use std::alloc::Global;
+use std::test::Fail;
+
+// What two events are told, by a run over both.
+fn told_by_run(alloc: Global) -> Result<(usize, Told), Refusal> {
+    let begin = event_of(alloc, Ask::Begin(1))?;
+    let commit = event_of(alloc, Ask::Commit(1))?;
+    let base = Base::start(1, Vec::new(alloc));
+    let (_, replies) = run(alloc, base, 1, 1024, &[begin, commit])?;
+    let told = match replies.get(1) {
+        Some(reply) => tell(reply),
+        None => Told::Unasked,
+    };
+    Ok((replies.len(), told))
+}
+
+#[test]
+fn runs_to_the_end(rt: HostRuntime) -> Result<(), Fail> {
+    assert_eq!(rt; told_by_run(rt.alloc())?, (2, Told::Committed(1)));
+    Ok(())
+}
+
+// A store of one session that starts from the pair b, 1, with room for so many keys.
+fn world_of_pair(alloc: Global, two_keys: bool) -> Result<World, Refusal> {
+    let key = Key::new(alloc, b"b")?;
+    let value = Value::new(alloc, b"1")?;
+    let pairs = vec![in alloc; (key, value)]?;
+    World::new(
+        alloc,
+        Base::start(7, pairs),
+        1,
+        if two_keys { 2 } else { 1 },
+    )
+}
+
+const ONE_PAIR: [Pair; 1] = [(b"b", b"1")];
+
+const TWO_PAIRS: [Pair; 2] = [(b"a", b"2"), (b"b", b"1")];
+
+// How long the log is, how many files there are, and how many of the numbers 0 to 3 have a file.
+fn shown(world: &World) -> (usize, usize, usize) {
+    let mut found = 0usize;
+    for number in 0..4u32 {
+        if world.file(FileNo(number)).is_some() {
+            found = found.wrapping_add(1);
+        }
+    }
+    (world.log().len(), world.files().len(), found)
+}
+
+// Whether these pairs are committed, and the base is as it was.
+fn is_committed(world: &World, pairs: &[Pair]) -> Result<bool, Refusal> {
+    let committed = world.committed()?;
+    let is_base = world.base().run() == 7 && are_pairs(world.base().pairs(), &ONE_PAIR);
+    Ok(is_base && are_pairs(&committed, pairs))
+}
+
+// An event, what it is told, and the log's length, the number of files and the committed pairs then.
+type Row = (Ask<'static>, Told, usize, usize, &'static [Pair]);
+
+const ROWS: [Row; 9] = [
+    (Ask::Begin(1), Told::Begun(1), 0, 0, &ONE_PAIR),
+    (Ask::Put(1, b"a", b"2"), Told::Ok, 0, 0, &ONE_PAIR),
+    (Ask::Commit(1), Told::Committed(1), 1, 0, &TWO_PAIRS),
+    (
+        Ask::StartPoint,
+        Told::Phase(Phase::Prepare, 1),
+        2,
+        0,
+        &TWO_PAIRS,
+    ),
+    (Ask::Seal, Told::Phase(Phase::Resolve, 1), 3, 0, &TWO_PAIRS),
+    (
+        Ask::OpenCapture,
+        Told::Phase(Phase::Capture, 1),
+        4,
+        0,
+        &TWO_PAIRS,
+    ),
+    (Ask::Take, Told::Took(b'a', b'2'), 4, 0, &TWO_PAIRS),
+    (Ask::Done, Told::PartDone(1, 1, 1), 5, 1, &TWO_PAIRS),
+    (Ask::Join(1, 1), Told::File(2, 1, 1), 5, 2, &TWO_PAIRS),
+];
+
+fn is_shown(alloc: Global, world: &mut World, row: &Row) -> Result<bool, Refusal> {
+    let told = answer(alloc, world, row.0);
+    let is_same = told == row.1 && shown(world) == (row.2, row.3, row.3);
+    Ok(is_same && is_committed(world, row.4)?)
+}
+
+fn first_not_shown(alloc: Global, world: &mut World) -> Result<Option<usize>, Refusal> {
+    for (i, row) in ROWS.iter().enumerate() {
+        if !is_shown(alloc, world, row)? {
+            return Ok(Some(i));
+        }
+    }
+    Ok(None)
+}
+
+fn wrong_of_pair(alloc: Global) -> Result<Option<usize>, Refusal> {
+    let mut world = world_of_pair(alloc, true)?;
+    first_not_shown(alloc, &mut world)
+}
+
+// The store shows its log, its files and what is committed, and its base as it was.
+#[test]
+fn shows_what_it_holds(rt: HostRuntime) -> Result<(), Fail> {
+    assert_eq!(rt; wrong_of_pair(rt.alloc())?, None);
+    Ok(())
+}
+
+// The greatest number of a file has more digits than a number in a script.
+const GREATEST: [(Ask<'static>, Told); 5] = [
+    (Ask::StartPoint, Told::Phase(Phase::Prepare, 1)),
+    (Ask::Seal, Told::Phase(Phase::Resolve, 1)),
+    (Ask::OpenCapture, Told::Phase(Phase::Capture, 1)),
+    (Ask::Done, Told::PartDone(1, 1, 0)),
+    (Ask::Join(u32::MAX, 1), Told::Refused(Refusal::NoFile)),
+];
+
+fn wrong_of_greatest(alloc: Global) -> Result<Option<(usize, Told)>, Refusal> {
+    let mut world = world_of_pair(alloc, false)?;
+    Ok(first_wrong(alloc, &mut world, &GREATEST))
+}
+
+#[test]
+fn the_greatest_number_is_no_file(rt: HostRuntime) -> Result<(), Fail> {
+    assert_eq!(rt; wrong_of_greatest(rt.alloc())?, None);
+    Ok(())
+}
