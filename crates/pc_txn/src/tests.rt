@@ -12,8 +12,7 @@ fn value_of(alloc: Global, byte: u8) -> Result<Option<Value>, Refusal> {
     if byte == 0 {
         return Ok(None);
     }
-    let value = Value::new(alloc, &[byte; 20])?;
-    Ok(Some(value))
+    Ok(Some(Value::new(alloc, &[byte; 20])?))
 }
 
 // The write of the slot's key: 20 bytes, of which the first and the last are those of its number.
