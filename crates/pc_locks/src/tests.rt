@@ -1,4 +1,4 @@
-//! Tests of the locks: worked rows, every short list of events and a crowd at one slot beside a slow table, and growths that are refused.
+//! Tests of the locks: worked rows, and every short list of events and a crowd at one slot beside a slow table.
 ghost use Rattle.std.specs.Prelude.{◌≡◌, ◌<◌, ◌≤◌, length, IfOk};
 
 use crate::slow_table::SlowTable;
@@ -201,35 +201,12 @@ fn two_slots(alloc: Global) -> Result<Locks, AllocError>
     }
 }
 
-// Locks of sixteen slots, in the same way.
-fn sixteen_slots(alloc: Global) -> Result<Locks, AllocError>
-    ensures { IfOk result (λ locks. 16 ≤ length locks.queues) }
-{
-    match Locks::new(alloc, 16) {
-        Ok(locks) => Ok(locks),
-        Err(_) => Locks::new(alloc, 16),
-    }
-}
-
 // A slow table with room for the test; where memory is wanting it is made again.
 fn slow_table(alloc: Global) -> Result<SlowTable, AllocError> {
     match SlowTable::new(alloc, 64) {
         Ok(slow) => Ok(slow),
         Err(_) => SlowTable::new(alloc, 64),
     }
-}
-
-// The first of the rows at which the tables differ or say something else.
-fn first_wrong_row(alloc: Global) -> Result<Option<usize>, AllocError> {
-    let mut locks = two_slots(alloc)?;
-    let mut slow = slow_table(alloc)?;
-    for (i, row) in ROWS.iter().enumerate() {
-        let (transaction, slot, mode, word) = *row;
-        if !is_right(&mut locks, &mut slow, (transaction, slot, mode), word)? {
-            return Ok(Some(i));
-        }
-    }
-    Ok(None)
 }
 
 // The nth of 64 transactions to come to slot 0, and what comes of it. The transactions 63, 61, .. 1 each come before the
@@ -278,71 +255,12 @@ fn first_wrong_of_crowd(alloc: Global, stride: u64) -> Result<Option<u64>, Alloc
     Ok(None)
 }
 
-// Whether the transaction 1 is granted to read the slot; it asks again where memory was wanting.
-fn reads(locks: &mut Locks, slot: u32) -> Result<bool, AllocError>
-    requires { slot < length locks.old.queues }
-    ensures { length locks.new.queues ≡ length locks.old.queues }
-{
-    if let Ok(is_granted) = reads_once(locks, slot) {
-        return Ok(is_granted);
-    }
-    reads_once(locks, slot)
-}
-
-fn reads_once(locks: &mut Locks, slot: u32) -> Result<bool, AllocError>
-    requires { slot < length locks.old.queues }
-    ensures { length locks.new.queues ≡ length locks.old.queues }
-{
-    if locks.is_waiting(TxnNo(1)) {
-        return Ok(false);
-    }
-    let outcome = locks.request(TxnNo(1), SlotId(slot), Mode::Shared)?;
-    Ok(outcome == Outcome::Granted)
-}
-
-// Whether it is granted to read each of 16 slots.
-fn reads_all(locks: &mut Locks) -> Result<bool, AllocError>
-    requires { 16 ≤ length locks.old.queues }
-{
-    for slot in 0..16u32 {
-        if !reads(locks, slot)? {
-            return Ok(false);
-        }
-    }
-    Ok(true)
-}
-
-// Whether it then releases them in that order, and nothing more.
-fn releases_all(locks: &mut Locks) -> bool {
-    for slot in 0..16u32 {
-        if locks.release_one(TxnNo(1)) != Some(SlotId(slot)) {
-            return false;
-        }
-    }
-    locks.release_one(TxnNo(1)).is_none()
-}
-
-// Whether one transaction's long list of slots is right.
-fn is_long_list_right(alloc: Global) -> Result<bool, AllocError> {
-    let mut locks = sixteen_slots(alloc)?;
-    Ok(reads_all(&mut locks)? && releases_all(&mut locks))
-}
-
 // They release from the oldest on, from the youngest on (as they came), and in two mixed orders.
 #[test]
 fn sixty_four_at_one_slot(rt: HostRuntime) -> Result<(), Fail> {
     for stride in [1u64, 63, 27, 45] {
         assert_eq!(rt; first_wrong_of_crowd(rt.alloc(), stride)?, None, "{stride}");
     }
-    Ok(())
-}
-
-// Whichever growth is refused, the locks are as before, and asked again they answer as with ample memory, then and later.
-#[test]
-fn answers_the_same_at_each_refused_growth(rt: HostRuntime) -> Result<(), Fail> {
-    assert_eq!(rt; first_wrong_row(rt.alloc())?, None);
-    assert_eq!(rt; first_wrong_of_crowd(rt.alloc(), 27)?, None);
-    assert!(rt; is_long_list_right(rt.alloc())?);
     Ok(())
 }
 

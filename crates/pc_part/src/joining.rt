@@ -265,65 +265,6 @@ mod tests {
         Ok(())
     }
 
-    // Takes memory of its own.
-    const LONG: &[u8] = b"more than 16 bytes";
-
-    // The join of the part of point 1, at which that key had that value, and the part of point 3, at which `b` had none.
-    const LONG_JOIN: [u8; 97] = *b"PCALCP01\
-        \x00\x00\x00\x00\x00\x00\x00\x01\
-        \x00\x00\x00\x02\x00\x00\x00\x01\x00\x00\x00\x01\x00\x00\x00\x03\x00\x00\x00\x03\
-        \x00\x01b\x00\x00\x00\x03\x00\
-        \x00\x12more than 16 bytes\x00\x00\x00\x01\x01\x00\x00\x00\x12more than 16 bytes\
-        \x00\x00\x00\x00\x00\x02";
-
-    // The part, made once more where memory was refused.
-    fn one_at_last(
-        alloc: Global,
-        point: u16,
-        key: &[u8],
-        content: Option<&[u8]>,
-    ) -> Result<Part, Refusal>
-        requires { 1 ≤ point }
-    {
-        match one(alloc, 1, point, key, content) {
-            Err(_) => one(alloc, 1, point, key, content),
-            part => part,
-        }
-    }
-
-    // The text, written once more where memory was refused.
-    fn text_at_last(alloc: Global, part: &Part) -> Result<Vec<u8>, Refusal> {
-        match text_of(alloc, part) {
-            Err(_) => text_of(alloc, part),
-            text => text,
-        }
-    }
-
-    // The join, asked for once more where memory was refused.
-    fn joined_at_last(alloc: Global, a: &Part, b: &Part) -> Result<Part, Refusal> {
-        match join(alloc, a, b) {
-            Err(Refusal::OutOfMemory) => join(alloc, a, b),
-            other => other,
-        }
-    }
-
-    // Both parts stay as they are, and the join's text is the same, whichever growth is refused.
-    #[test]
-    fn leaves_both_parts_at_each_refused_growth(rt: HostRuntime) -> Result<(), Fail> {
-        let alloc = rt.alloc();
-        let a = one_at_last(alloc, 1, LONG, Some(LONG))?;
-        let b = one_at_last(alloc, 3, b"b", None)?;
-        let before = (text_at_last(alloc, &a)?, text_at_last(alloc, &b)?);
-        let joined = joined_at_last(alloc, &a, &b)?;
-        let text = text_at_last(alloc, &joined)?;
-        assert_eq!(rt; text.as_slice(), LONG_JOIN.as_slice());
-        let text = text_at_last(alloc, &a)?;
-        assert_eq!(rt; text.as_slice(), before.0.as_slice());
-        let text = text_at_last(alloc, &b)?;
-        assert_eq!(rt; text.as_slice(), before.1.as_slice());
-        Ok(())
-    }
-
     // Why parts with one key each aren't joined, if they aren't; the first is of run 1 and point 2, and has `1`.
     fn refused(
         alloc: Global,

@@ -280,62 +280,6 @@ mod tests {
         Ok(())
     }
 
-    // Takes memory of its own.
-    const LONG: &[u8] = b"more than 16 bytes";
-
-    // The base of run 1, made once more where memory was refused.
-    fn start_at_last(alloc: Global) -> Result<Base, Refusal> {
-        match start(alloc) {
-            Err(_) => start(alloc),
-            base => base,
-        }
-    }
-
-    // The part of point 1 with that key and value, made once more where memory was refused.
-    fn long_at_last(alloc: Global) -> Result<Part, Refusal> {
-        match one(alloc, 1, 1, LONG, Some(LONG)) {
-            Err(_) => one(alloc, 1, 1, LONG, Some(LONG)),
-            part => part,
-        }
-    }
-
-    // What is seen of the base, asked for once more where memory was refused.
-    fn seen_at_last(alloc: Global, base: &Base) -> Result<(u16, Vec<u8>), Refusal> {
-        match seen(alloc, base) {
-            Err(_) => seen(alloc, base),
-            seen => seen,
-        }
-    }
-
-    // The base with the part laid on it, asked for once more where memory was refused.
-    fn laid_at_last(alloc: Global, base: &Base, part: &Part) -> Result<Base, Refusal> {
-        match lay(alloc, base, part) {
-            Err(Refusal::OutOfMemory) => lay(alloc, base, part),
-            other => other,
-        }
-    }
-
-    // The base and the part stay as they are, and what is laid is the same, whichever growth is refused.
-    #[test]
-    fn leaves_base_and_part_at_each_refused_growth(rt: HostRuntime) -> Result<(), Fail> {
-        let alloc = rt.alloc();
-        let base = start_at_last(alloc)?;
-        let part = long_at_last(alloc)?;
-        let laid = laid_at_last(alloc, &base, &part)?;
-        let (point, pairs) = seen_at_last(alloc, &laid)?;
-        assert_eq!(rt; point, 1);
-        assert_eq!(rt;
-            pairs.as_slice(),
-            b"b0c0more than 16 bytesmore than 16 bytes".as_slice()
-        );
-        let (point, pairs) = seen_at_last(alloc, &base)?;
-        assert_eq!(rt; point, 0);
-        assert_eq!(rt; pairs.as_slice(), b"b0c0".as_slice());
-        assert_eq!(rt; part.entries().len(), 1);
-        assert_eq!(rt; part.entries()[0].key.as_bytes(), LONG);
-        Ok(())
-    }
-
     // Why the part of a point, alone or joined with that of point 1, isn't laid on a base at point 0, if it isn't.
     fn refused(
         alloc: Global,

@@ -63,32 +63,6 @@ const THIRD: [u8; 42] = *b"PCALCP01\
     \x00\x01b\x00\x00\x00\x03\x00\
     \x00\x00\x00\x00\x00\x01";
 
-// At point 1, a key too long to be kept inline was a value of the same bytes.
-const LONG: [u8; 79] = *b"PCALCP01\
-    \x00\x00\x00\x00\x00\x00\x00\x01\
-    \x00\x00\x00\x01\x00\x00\x00\x01\x00\x00\x00\x01\
-    \x00\x110123456789abcdefg\x00\x00\x00\x01\x01\x00\x00\x00\x110123456789abcdefg\
-    \x00\x00\x00\x00\x00\x01";
-
-// A commit of the same key as such a value.
-const LONG_LOG: [u8; 69] = *b"PCALCL01\
-    \x00\x00\x00\x00\x00\x00\x00\x01\x00\x00\x00\x00\
-    \x00\x00\x00\x2d\x01\x01\x00\x01\x00\x110123456789abcdefg\x01\x00\x00\x00\x11gfedcba9876543210";
-
-// The part of another run.
-const OF_RUN_TWO: [u8; 47] = *b"PCALCP01\
-    \x00\x00\x00\x00\x00\x00\x00\x02\
-    \x00\x00\x00\x01\x00\x00\x00\x01\x00\x00\x00\x01\
-    \x00\x01a\x00\x00\x00\x01\x01\x00\x00\x00\x011\
-    \x00\x00\x00\x00\x00\x01";
-
-// The part with one entry too many in its count.
-const MISCOUNTED: [u8; 47] = *b"PCALCP01\
-    \x00\x00\x00\x00\x00\x00\x00\x01\
-    \x00\x00\x00\x01\x00\x00\x00\x01\x00\x00\x00\x01\
-    \x00\x01a\x00\x00\x00\x01\x01\x00\x00\x00\x011\
-    \x00\x00\x00\x00\x00\x02";
-
 // A part with another first byte.
 const UNMARKED: [u8; 60] = *b"QCALCP01\
     \x00\x00\x00\x00\x00\x00\x00\x01\
@@ -96,16 +70,6 @@ const UNMARKED: [u8; 60] = *b"QCALCP01\
     \x00\x01a\x00\x00\x00\x01\x01\x00\x00\x00\x011\
     \x00\x01b\x00\x00\x00\x01\x01\x00\x00\x00\x019\
     \x00\x00\x00\x00\x00\x02";
-
-// The log whose first token has a phase that there isn't.
-const PHASE_FIVE: [u8; 94] = *b"PCALCL01\
-    \x00\x00\x00\x00\x00\x00\x00\x01\x00\x00\x00\x00\
-    \x00\x00\x00\x0d\x01\x01\x00\x01\x00\x01a\x01\x00\x00\x00\x011\
-    \x00\x00\x00\x06\x02\x05\x00\x00\x00\x01\
-    \x00\x00\x00\x06\x02\x02\x00\x00\x00\x01\
-    \x00\x00\x00\x0d\x01\x01\x00\x01\x00\x01a\x01\x00\x00\x00\x013\
-    \x00\x00\x00\x06\x02\x03\x00\x00\x00\x01\
-    \x00\x00\x00\x06\x02\x04\x00\x00\x00\x01";
 
 // The header of a log of another run.
 const LOG_OF_RUN_TWO: [u8; 20] = *b"PCALCL01\x00\x00\x00\x00\x00\x00\x00\x02\x00\x00\x00\x00";
@@ -221,149 +185,6 @@ fn found_of(
         return found_in(alloc, base, &[first], log);
     }
     found_in(alloc, base, &[first, second], log)
-}
-
-// The same, asked again where memory was wanting.
-fn found_at_last(
-    alloc: Global,
-    base: &[u8],
-    first: &[u8],
-    second: &[u8],
-    log: &[u8],
-) -> Result<Worth, Refusal> {
-    match found_of(alloc, base, first, second, log) {
-        Err(Refusal::OutOfMemory) => found_of(alloc, base, first, second, log),
-        found => found,
-    }
-}
-
-// The parts, the log, the recovered point, the entries, what was skipped, the log's fault, and the pairs.
-type Row<'a> = (
-    [&'a [u8]; 3],
-    u16,
-    usize,
-    Option<(usize, Refusal)>,
-    Option<Refusal>,
-    &'a [u8],
-);
-
-// Whichever growth is refused, asked again the files are worth the same.
-#[test]
-fn files_are_worth_the_same_at_each_refused_growth(rt: HostRuntime) -> Result<(), Fail> {
-    let rows: [Row; 16] = [
-        ([&PART, b"", &LOG], 1, 6, None, None, b"a3"),
-        (
-            [&PART, b"", &LOG[..60]],
-            1,
-            3,
-            None,
-            Some(Refusal::Short),
-            b"a1",
-        ),
-        ([&PART, b"", b""], 1, 0, None, None, b"a1"),
-        (
-            [&PART, b"", &PHASE_FIVE],
-            1,
-            1,
-            None,
-            Some(Refusal::BadKind),
-            b"a1",
-        ),
-        (
-            [&PART, &UNMARKED, &LOG],
-            1,
-            6,
-            Some((1, Refusal::BadMagic)),
-            None,
-            b"a3",
-        ),
-        (
-            [&UNMARKED, &PART, &LOG],
-            1,
-            6,
-            Some((0, Refusal::BadMagic)),
-            None,
-            b"a3",
-        ),
-        (
-            [&MISCOUNTED, b"", &LOG],
-            0,
-            6,
-            Some((0, Refusal::BadLength)),
-            None,
-            b"a3",
-        ),
-        (
-            [&PART[..46], b"", &LOG[..47]],
-            0,
-            2,
-            Some((0, Refusal::Short)),
-            None,
-            b"a1",
-        ),
-        (
-            [&OF_RUN_TWO, b"", &LOG[..20]],
-            0,
-            0,
-            Some((0, Refusal::OtherRun)),
-            None,
-            b"",
-        ),
-        (
-            [&OF_RUN_TWO, &PART, &LOG[..20]],
-            1,
-            0,
-            Some((0, Refusal::OtherRun)),
-            None,
-            b"a1",
-        ),
-        (
-            [&TWO_KEYS, &THIRD, b""],
-            1,
-            0,
-            Some((1, Refusal::Gap(Point(2)))),
-            None,
-            b"a1b1",
-        ),
-        (
-            [&THIRD, &TWO_KEYS, b""],
-            1,
-            0,
-            Some((0, Refusal::Gap(Point(2)))),
-            None,
-            b"a1b1",
-        ),
-        ([&SECOND, &TWO_KEYS, b""], 2, 0, None, None, b"a2b1"),
-        ([&PART, &PART, &LOG], 1, 6, None, None, b"a3"),
-        (
-            [&LONG, b"", &LONG_LOG],
-            1,
-            1,
-            None,
-            None,
-            b"0123456789abcdefg0123456789abcdefg",
-        ),
-        (
-            [&OF_RUN_TWO, b"", &LONG_LOG],
-            0,
-            1,
-            Some((0, Refusal::OtherRun)),
-            None,
-            b"0123456789abcdefggfedcba9876543210",
-        ),
-    ];
-    for (i, ([first, second, log], point, entries, skipped, fault, pairs)) in rows
-        .iter()
-        .enumerate()
-    {
-        let found = found_at_last(rt.alloc(), &BASE, first, second, log)?;
-        assert_eq!(rt; found.pairs.as_slice(), *pairs, "row {i}");
-        assert_eq!(rt; found.point, *point, "row {i}");
-        assert_eq!(rt; found.entries, *entries, "row {i}");
-        assert_eq!(rt; found.fault, *fault, "row {i}");
-        assert_eq!(rt; found.skipped, [*skipped, None], "row {i}");
-    }
-    Ok(())
 }
 
 // Parts at the base's point or before it change nothing; the one behind it is laid on.
