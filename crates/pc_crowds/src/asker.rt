@@ -1,27 +1,9 @@
 //! A store that is asked one event after the other.
 
-use pc_asks::{Ask, Kind, Sums, event_of, kind_of};
+use pc_asks::{Ask, Sums, event_of};
 use pc_engine::World;
 use pc_types::{Refusal, Reply};
 use std::alloc::Global;
-
-/// What an answer has that decides what is asked next: its kind, and the number of the file that it tells of, or 0.
-#[derive(Clone, Copy)]
-pub struct Told {
-    pub kind: Kind,
-    pub file: u32,
-}
-
-fn told(reply: &Reply) -> Told {
-    let file = match reply {
-        Reply::PartDone(_, number, _) | Reply::File(number, _, _) => number.0,
-        _ => 0,
-    };
-    Told {
-        kind: kind_of(reply),
-        file,
-    }
-}
 
 /// A store, and the sums of what it replied.
 #[derive(Drop)]
@@ -42,11 +24,17 @@ impl Asker {
     }
 
     /// Asks the event, and counts the reply.
-    pub fn ask(&mut self, ask: Ask) -> Result<Told, Refusal> {
+    pub fn ask(&mut self, ask: Ask) -> Result<(), Refusal> {
+        self.reply(ask)?;
+        Ok(())
+    }
+
+    /// Asks the event, counts the reply, and gives it.
+    pub fn reply(&mut self, ask: Ask) -> Result<Reply, Refusal> {
         let event = event_of(self.alloc, ask)?;
         let reply = self.world.step(&event);
         self.sums.note(&reply)?;
-        Ok(told(&reply))
+        Ok(reply)
     }
 
     /// Checks the store, and counts the check.

@@ -1,10 +1,10 @@
 //! Sixty-four sessions at one key.
 
 use crate::asker::Asker;
-use pc_asks::{Ask, Kind, Sums};
+use pc_asks::{Ask, Sums};
 use pc_engine::World;
 use pc_part::Base;
-use pc_types::Refusal;
+use pc_types::{Refusal, Reply};
 use std::alloc::Global;
 
 const WORD: [u8; 64] = [b'w'; 64];
@@ -50,16 +50,17 @@ fn come(asker: &mut Asker, crowd: Crowd) -> Result<(), Refusal> {
 // The session asks again for what it wishes and commits, or aborts where it has died. Whether its transaction has ended.
 fn turn(asker: &mut Asker, crowd: Crowd, session: u32) -> Result<bool, Refusal> {
     asker.ask(wish(crowd, session))?;
-    match asker.ask(Ask::Commit(session))?.kind {
-        Kind::Refused(Refusal::MustAbort) => abort(asker, session),
-        kind => Ok(kind == Kind::Committed),
+    match asker.reply(Ask::Commit(session))? {
+        Reply::Refused(Refusal::MustAbort) => abort(asker, session),
+        Reply::Committed(_) => Ok(true),
+        _ => Ok(false),
     }
 }
 
 // Whether the session aborts.
 fn abort(asker: &mut Asker, session: u32) -> Result<bool, Refusal> {
-    let told = asker.ask(Ask::Abort(session))?;
-    Ok(told.kind == Kind::Aborted)
+    let reply = asker.reply(Ask::Abort(session))?;
+    Ok(matches!(reply, Reply::Aborted))
 }
 
 // Each has a turn. Whether one ends in it.

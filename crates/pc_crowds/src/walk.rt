@@ -1,10 +1,10 @@
 //! A long walk by chance of eight sessions and the checkpointer over fifty keys, with joins now and then.
 
-use crate::asker::{Asker, Told};
-use pc_asks::{Ask, Kind, Sums};
+use crate::asker::Asker;
+use pc_asks::{Ask, Sums};
 use pc_engine::World;
 use pc_part::Base;
-use pc_types::{Phase, Refusal};
+use pc_types::{Phase, Refusal, Reply};
 use std::alloc::Global;
 
 const LETTERS: [u8; 50] = *b"ABCDEFGHIJKLMNOPQRSTUVWXYZabcdefghijklmnopqrstuvwx";
@@ -101,25 +101,25 @@ fn session_of(ask: Ask) -> u32 {
 }
 
 // The cycle after a reply. The first join after a part is that with all the points before it.
-fn moved(cycle: &Cycle, has_part: bool, told: Told) -> Cycle {
+fn moved(cycle: &Cycle, has_part: bool, reply: &Reply) -> Cycle {
     let mut now = *cycle;
-    match told.kind {
-        Kind::Phase(phase) => {
-            now.phase = phase;
+    match reply {
+        Reply::Phase(phase, _) => {
+            now.phase = *phase;
             now.has_more = true;
         }
-        Kind::NoneLeft => now.has_more = false,
-        Kind::PartDone => {
+        Reply::NoneLeft => now.has_more = false,
+        Reply::PartDone(_, number, _) => {
             now.phase = Phase::Complete;
-            now.files = told.file;
-            if told.file == 1 {
+            now.files = number.0;
+            if number.0 == 1 {
                 now.whole = 1;
             }
         }
-        Kind::File => {
-            now.files = told.file;
+        Reply::File(number, _, _) => {
+            now.files = number.0;
             if has_part {
-                now.whole = told.file;
+                now.whole = number.0;
             }
         }
         _ => {}
@@ -154,30 +154,35 @@ fn next_ask(walk: &Walk) -> Ask<'static> {
 }
 
 // The part's number, or 0.
-fn part_of(told: Told) -> u32 {
-    match told.kind {
-        Kind::PartDone => told.file,
+fn part_of(reply: &Reply) -> u32 {
+    match reply {
+        Reply::PartDone(_, number, _) => number.0,
         _ => 0,
     }
 }
 
 // The session, where it must abort, or 0.
-fn dead_of(session: u32, told: Told) -> u32 {
-    match told.kind {
-        Kind::Refused(Refusal::MustAbort) => session,
+fn dead_of(session: u32, reply: &Reply) -> u32 {
+    match reply {
+        Reply::Refused(Refusal::MustAbort) => session,
         _ => 0,
+    }
+}
+
+// The walk after the reply to what was asked.
+fn gone_on(walk: &Walk, ask: Ask, reply: &Reply) -> Walk {
+    Walk {
+        seed: next(walk.seed),
+        cycle: moved(&walk.cycle, walk.part > 1, reply),
+        part: part_of(reply),
+        dead: dead_of(session_of(ask), reply),
     }
 }
 
 fn step(asker: &mut Asker, walk: &Walk) -> Result<Walk, Refusal> {
     let ask = next_ask(walk);
-    let told = asker.ask(ask)?;
-    Ok(Walk {
-        seed: next(walk.seed),
-        cycle: moved(&walk.cycle, walk.part > 1, told),
-        part: part_of(told),
-        dead: dead_of(session_of(ask), told),
-    })
+    let reply = asker.reply(ask)?;
+    Ok(gone_on(walk, ask, &reply))
 }
 
 const START: Walk = Walk {
