@@ -46,36 +46,48 @@ fn command<'a>(alloc: Global) -> Result<Command<'a>, Error> {
 }
 
 fn step_command<'a>(alloc: Global) -> Result<Command<'a>, Error> {
-    let script = Arg::new(alloc, "SCRIPT")
+    Ok(
+        Command::new(alloc, "step")
+            .about("Answers the lines of a script")
+            .arg(script_arg(alloc))?
+            .arg(sessions_arg(alloc))?
+            .arg(capacity_arg(alloc))?
+            .arg(run_arg(alloc))?,
+    )
+}
+
+fn script_arg<'a>(alloc: Global) -> Arg<'a> {
+    Arg::new(alloc, "SCRIPT")
         .help("The script's file")
         .required(true)
-        .action(ArgAction::Set);
-    let sessions = Arg::new(alloc, "sessions")
+        .action(ArgAction::Set)
+}
+
+fn sessions_arg<'a>(alloc: Global) -> Arg<'a> {
+    Arg::new(alloc, "sessions")
         .long("sessions")
         .value_name("N")
         .help("How many sessions the store has, 1 to 64")
         .value_parser(clap::value_parser!(u8).range(1..=64))
-        .default_value("8");
-    let capacity = Arg::new(alloc, "capacity")
+        .default_value("8")
+}
+
+fn capacity_arg<'a>(alloc: Global) -> Arg<'a> {
+    Arg::new(alloc, "capacity")
         .long("capacity")
         .value_name("N")
         .help("How many keys the store has room for, 1 to 1048576")
         .value_parser(clap::value_parser!(u32).range(1..=1_048_576))
-        .default_value("1024");
-    let run = Arg::new(alloc, "run")
+        .default_value("1024")
+}
+
+fn run_arg<'a>(alloc: Global) -> Arg<'a> {
+    Arg::new(alloc, "run")
         .long("run")
         .value_name("N")
         .help("The run's number, 1 to 2147483647")
         .value_parser(clap::value_parser!(u32).range(1..=2_147_483_647))
-        .default_value("1");
-    Ok(
-        Command::new(alloc, "step")
-            .about("Answers the lines of a script")
-            .arg(script)?
-            .arg(sessions)?
-            .arg(capacity)?
-            .arg(run)?,
-    )
+        .default_value("1")
 }
 
 fn recover_command<'a>(alloc: Global) -> Result<Command<'a>, Error> {
