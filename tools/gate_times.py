@@ -18,6 +18,7 @@ import re
 import resource
 import subprocess
 import sys
+import tempfile
 import time
 
 ROOT = os.path.join(os.path.dirname(os.path.abspath(__file__)), "..")
@@ -57,14 +58,13 @@ def look(seen):
 
 def measure(file):
     seen, began = {}, time.time()
-    ran = subprocess.Popen(["bash", ".ci/run"], cwd=ROOT, stdout=subprocess.PIPE, stderr=subprocess.STDOUT, text=True)
-    os.set_blocking(ran.stdout.fileno(), False)
-    said = ""
-    while ran.poll() is None:
-        look(seen)
-        said += ran.stdout.read() or ""
-        time.sleep(0.5)
-    said += ran.stdout.read() or ""
+    with tempfile.TemporaryFile("w+", errors="replace") as out:
+        ran = subprocess.Popen(["bash", ".ci/run"], cwd=ROOT, stdin=subprocess.DEVNULL, stdout=out, stderr=subprocess.STDOUT)
+        while ran.poll() is None:
+            look(seen)
+            time.sleep(0.5)
+        out.seek(0)
+        said = out.read()
     used = resource.getrusage(resource.RUSAGE_CHILDREN)
     crates = {it: {**described(it), **dict.fromkeys(PARTS, 0.0)} for it in crates_of()}
     for (_, crate, part), seconds in seen.items():
