@@ -6,7 +6,8 @@
     try_bodies.py --since COMMIT    those of the crates whose code, or that of a crate below, has changed since the commit
     try_bodies.py --list            tells of each crate whether its code is what they were last tried on
 
-They are tried on a copy of the repository, by `rt must-fail`, as many crates side by side as --lanes N says (one where it isn't given). What was
+They are tried on a copy of the repository, by `rt must-fail`, as many crates side by side as --lanes N says (one where it isn't given),
+once the libraries below them are built. What was
 tried is noted in tools/tried: the crate, how many were refused, the date, and the commit. A body stands here, and not in must-fail/, where
 another one in the gate is refused by the same clause, or where it is neither named by a promise nor the one of a public function.
 """
@@ -75,6 +76,12 @@ def try_crate(copy, name):
     return whole
 
 
+def needed_by(names):
+    """The libraries below these crates, lowest first. They are built before the first body is tried, since two lanes must not build one."""
+    below = {it for name in names for it in crates_of()[name]}
+    return [it for it in crates_of() if it in below]
+
+
 def try_all(names, lanes):
     if git("status", "--porcelain", "--", "crates").strip():
         sys.exit("what is not committed can't be named as what was tried: commit it first")
@@ -84,6 +91,8 @@ def try_all(names, lanes):
         for name in crates():
             shutil.rmtree(f"{copy}/crates/{name}/must-fail", ignore_errors=True)
             os.rename(f"{copy}/crates/{name}/tried", f"{copy}/crates/{name}/must-fail")
+        for name in needed_by(names):
+            subprocess.run(["rt", "lib"], cwd=f"{copy}/crates/{name}", check=True, capture_output=True)
         with ThreadPoolExecutor(lanes) as pool:
             done = dict(zip(names, pool.map(lambda name: try_crate(copy, name), names)))
     for name in names:
