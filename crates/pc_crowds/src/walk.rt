@@ -1,7 +1,7 @@
 //! A long walk by chance of eight sessions and the checkpointer over fifty keys, with joins now and then.
 
 use crate::asker::Asker;
-use pc_asks::{Ask, Sums};
+use pc_asks::{Ask, Sums, drawn, drawn_value, following};
 use pc_engine::World;
 use pc_part::Base;
 use pc_types::{Phase, Refusal, Reply};
@@ -9,35 +9,12 @@ use std::alloc::Global;
 
 const LETTERS: [u8; 50] = *b"ABCDEFGHIJKLMNOPQRSTUVWXYZabcdefghijklmnopqrstuvwx";
 
-const WORD: [u8; 40] = *b"0123456789 is longer than what is inline";
-
 // How many steps there are.
 const STEPS: u32 = 100_000;
-
-// The next number of the walk. Its higher bits look like chance.
-fn next(seed: u64) -> u64 {
-    seed.wrapping_mul(6_364_136_223_846_793_005)
-        .wrapping_add(1_442_695_040_888_963_407)
-}
-
-// A number below the bound, from some of the seed's bits.
-fn drawn(seed: u64, shift: u32, bound: u32) -> u32 {
-    let low = ((seed >> (shift % 64)) & 0xffff_ffff) as u32;
-    if bound == 0 {
-        return 0;
-    }
-    low % bound
-}
 
 fn key_of(seed: u64) -> &'static [u8] {
     let i = drawn(seed, 29, 50) as usize;
     &LETTERS[i.min(49)..i.min(49) + 1]
-}
-
-fn value_of(seed: u64) -> &'static [u8] {
-    let from = drawn(seed, 31, 10) as usize;
-    let length = drawn(seed, 35, 28) as usize;
-    &WORD[from.min(9)..from.min(9) + length.min(30)]
 }
 
 // Where the cycle is, as far as the replies have told, how many files there are, and the file of the points from 1 on
@@ -84,7 +61,7 @@ fn session(seed: u64, dead: u32) -> Ask<'static> {
     match drawn(seed, 45, 20) {
         0..=3 => Ask::Begin(session),
         4..=7 => Ask::Get(session, key_of(seed)),
-        8..=12 => Ask::Put(session, key_of(seed), value_of(seed)),
+        8..=12 => Ask::Put(session, key_of(seed), drawn_value(seed)),
         13 | 14 => Ask::Del(session, key_of(seed)),
         15 => Ask::Abort(session),
         _ => Ask::Commit(session),
@@ -172,7 +149,7 @@ fn dead_of(session: u32, reply: &Reply) -> u32 {
 // The walk after the reply to what was asked.
 fn gone_on(walk: &Walk, ask: Ask, reply: &Reply) -> Walk {
     Walk {
-        seed: next(walk.seed),
+        seed: following(walk.seed),
         cycle: moved(&walk.cycle, walk.part > 1, reply),
         part: part_of(reply),
         dead: dead_of(session_of(ask), reply),

@@ -1,54 +1,17 @@
 //! Recoveries of folders whose files can't be opened or read, or whose output fails.
 use crate::sink::{Sink, went_out};
 use crate::tape::Tape;
+use pc_asks::{EMPTY_BASE, ONE_KEY, SIX_ENTRIES, THIRD_POINT, TWO_KEYS};
 use pc_script::{Folder, NamedFile, run_recover};
 use pc_types::{Refusal, Tally};
 use std::alloc::{AllocError, Global};
 use std::test::Fail;
-
-// Nothing at point 0.
-const BASE: [u8; 24] = *b"PCALCB01\
-    \x00\x00\x00\x00\x00\x00\x00\x01\
-    \x00\x00\x00\x00\x00\x00\x00\x00";
-
-// A commit of `a` as `1`, the tokens of prepare and resolve of point 1, a commit of `a` as `3`, and the tokens of capture and
-// complete.
-const LOG: [u8; 94] = *b"PCALCL01\
-    \x00\x00\x00\x00\x00\x00\x00\x01\x00\x00\x00\x00\
-    \x00\x00\x00\x0d\x01\x01\x00\x01\x00\x01a\x01\x00\x00\x00\x011\
-    \x00\x00\x00\x06\x02\x01\x00\x00\x00\x01\
-    \x00\x00\x00\x06\x02\x02\x00\x00\x00\x01\
-    \x00\x00\x00\x0d\x01\x01\x00\x01\x00\x01a\x01\x00\x00\x00\x013\
-    \x00\x00\x00\x06\x02\x03\x00\x00\x00\x01\
-    \x00\x00\x00\x06\x02\x04\x00\x00\x00\x01";
 
 // The log up to its first token, whose phase there isn't.
 const PHASE_FIVE: [u8; 47] = *b"PCALCL01\
     \x00\x00\x00\x00\x00\x00\x00\x01\x00\x00\x00\x00\
     \x00\x00\x00\x0d\x01\x01\x00\x01\x00\x01a\x01\x00\x00\x00\x011\
     \x00\x00\x00\x06\x02\x05\x00\x00\x00\x01";
-
-// At point 1, `a` was `1`.
-const PART: [u8; 47] = *b"PCALCP01\
-    \x00\x00\x00\x00\x00\x00\x00\x01\
-    \x00\x00\x00\x01\x00\x00\x00\x01\x00\x00\x00\x01\
-    \x00\x01a\x00\x00\x00\x01\x01\x00\x00\x00\x011\
-    \x00\x00\x00\x00\x00\x01";
-
-// At point 1, `a` and `b` were `1`.
-const TWO_KEYS: [u8; 60] = *b"PCALCP01\
-    \x00\x00\x00\x00\x00\x00\x00\x01\
-    \x00\x00\x00\x01\x00\x00\x00\x01\x00\x00\x00\x01\
-    \x00\x01a\x00\x00\x00\x01\x01\x00\x00\x00\x011\
-    \x00\x01b\x00\x00\x00\x01\x01\x00\x00\x00\x011\
-    \x00\x00\x00\x00\x00\x02";
-
-// At point 3, `b` had nothing.
-const THIRD: [u8; 42] = *b"PCALCP01\
-    \x00\x00\x00\x00\x00\x00\x00\x01\
-    \x00\x00\x00\x01\x00\x00\x00\x03\x00\x00\x00\x03\
-    \x00\x01b\x00\x00\x00\x03\x00\
-    \x00\x00\x00\x00\x00\x01";
 
 // What is recovered of the parts of two keys and of the third point, and of the log with an unknown phase.
 const RECOVERED: [u8; 75] = *b"point 1\nentries 1\nlog BadKind\n\
@@ -99,7 +62,7 @@ fn push_beginnings(
     length: usize,
     torn: u8,
 ) -> Result<(), AllocError> {
-    let bytes = &PART[..length.min(24)];
+    let bytes = &ONE_KEY[..length.min(24)];
     push_part(alloc, parts, "part-00001.pcp", bytes, torn == 2)?;
     push_part(alloc, parts, "part-00002.pcp", bytes, torn == 3)
 }
@@ -107,9 +70,9 @@ fn push_beginnings(
 // The folder of files' beginnings of so many bytes, of which one is torn: 1 is the base, and 4 the log.
 fn beginnings(parts: Parts<'static>, length: usize, torn: u8) -> Folder<Tape<'static>> {
     Folder {
-        base: Ok(Tape::new(&BASE[..length.min(24)], torn == 1)),
+        base: Ok(Tape::new(&EMPTY_BASE[..length.min(24)], torn == 1)),
         parts: Ok(parts),
-        log: Ok(Tape::new(&LOG[..length.min(24)], torn == 4)),
+        log: Ok(Tape::new(&SIX_ENTRIES[..length.min(24)], torn == 4)),
     }
 }
 
@@ -135,9 +98,9 @@ fn tells_of_a_reader_that_fails(rt: HostRuntime) -> Result<(), Fail> {
 // The folder with the parts, and nothing wrong else.
 fn listed(parts: Result<Parts<'static>, Refusal>) -> Folder<Tape<'static>> {
     Folder {
-        base: Ok(Tape::new(&BASE, false)),
+        base: Ok(Tape::new(&EMPTY_BASE, false)),
         parts,
-        log: Ok(Tape::new(&LOG, false)),
+        log: Ok(Tape::new(&SIX_ENTRIES, false)),
     }
 }
 
@@ -174,13 +137,13 @@ fn tells_of_a_log_that_cannot_be_opened(rt: HostRuntime) {
 
 fn push_two_keys_and_third(alloc: Global, parts: &mut Parts<'static>) -> Result<(), AllocError> {
     push_part(alloc, parts, "part-00001.pcp", &TWO_KEYS, false)?;
-    push_part(alloc, parts, "part-00003.pcp", &THIRD, false)
+    push_part(alloc, parts, "part-00003.pcp", &THIRD_POINT, false)
 }
 
 // Whether what is recovered goes out as far as a writer with this much room takes it, and the status alone tells the rest.
 fn is_printed(alloc: Global, parts: Parts<'static>, room: usize) -> bool {
     let folder = Folder {
-        base: Ok(Tape::new(&BASE, false)),
+        base: Ok(Tape::new(&EMPTY_BASE, false)),
         parts: Ok(parts),
         log: Ok(Tape::new(&PHASE_FIVE, false)),
     };

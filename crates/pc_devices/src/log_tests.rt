@@ -3,19 +3,10 @@ ghost use Rattle.std.specs.Prelude.{◌≡◌, true};
 ghost use Rattle.pc_log.specs.Texts.{HasFewWrites};
 
 use crate::sink::{Sink, went_out};
+use pc_asks::SIX_ENTRIES;
 use pc_log::{encode_entry, encode_header, encode_log, read_log};
 use pc_types::{Entry, Phase, Point, Refusal, Tally};
 use std::test::Fail;
-
-// Run 1: session 1 sets `a` to `1`, prepare 1, resolve 1, session 1 sets `a` to `3`, capture 1, complete 1.
-const LOG: [u8; 94] = *b"PCALCL01\
-    \x00\x00\x00\x00\x00\x00\x00\x01\x00\x00\x00\x00\
-    \x00\x00\x00\x0d\x01\x01\x00\x01\x00\x01a\x01\x00\x00\x00\x011\
-    \x00\x00\x00\x06\x02\x01\x00\x00\x00\x01\
-    \x00\x00\x00\x06\x02\x02\x00\x00\x00\x01\
-    \x00\x00\x00\x0d\x01\x01\x00\x01\x00\x01a\x01\x00\x00\x00\x013\
-    \x00\x00\x00\x06\x02\x03\x00\x00\x00\x01\
-    \x00\x00\x00\x06\x02\x04\x00\x00\x00\x01";
 
 // Run 258, with one token.
 const ONE_TOKEN: [u8; 30] = *b"PCALCL01\x00\x00\x00\x00\x00\x00\x01\x02\x00\x00\x00\x00\
@@ -42,7 +33,7 @@ fn put_entries(out: &mut Tally<Sink>, entries: &[Entry]) -> Result<(), Refusal> 
 
 // Whether the log's entries go out one by one as far as a writer with this much room takes them.
 fn entries_go_out(entries: &[Entry], room: usize) -> bool {
-    let mut out = Tally::new(Sink::new(&LOG, room));
+    let mut out = Tally::new(Sink::new(&SIX_ENTRIES, room));
     let refused = put_entries(&mut out, entries).err();
     went_out(out, refused, 94, room)
 }
@@ -50,7 +41,7 @@ fn entries_go_out(entries: &[Entry], room: usize) -> bool {
 // The writer takes each number of bytes in turn: so many of them go out, and a failure is told.
 #[test]
 fn a_log_goes_out_as_far_as_the_writer_takes_it(rt: HostRuntime) -> Result<(), Fail> {
-    let text = read_log(rt.alloc(), &LOG)?;
+    let text = read_log(rt.alloc(), &SIX_ENTRIES)?;
     for room in 0..96usize {
         assert!(rt; entries_go_out(&text.entries, room), "{room}");
     }

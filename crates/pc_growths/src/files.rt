@@ -1,6 +1,7 @@
 //! Parts that are joined, and laid on a base.
 ghost use Rattle.std.specs.Prelude.{◌≤◌};
 
+use pc_asks::THIRD_POINT;
 use pc_part::{Base, Part, join, lay};
 use pc_types::{Key, Point, Refusal, Tally, Value};
 use std::alloc::Global;
@@ -16,14 +17,7 @@ const FIRST: [u8; 81] = *b"PCALCP01\
     \x00\x12more than 16 bytes\x00\x00\x00\x01\x01\x00\x00\x00\x12more than 16 bytes\
     \x00\x00\x00\x00\x00\x01";
 
-// That of point 3, at which `b` had none.
-const THIRD: [u8; 42] = *b"PCALCP01\
-    \x00\x00\x00\x00\x00\x00\x00\x01\
-    \x00\x00\x00\x01\x00\x00\x00\x03\x00\x00\x00\x03\
-    \x00\x01b\x00\x00\x00\x03\x00\
-    \x00\x00\x00\x00\x00\x01";
-
-// Their join.
+// The join of that one with the part of point 3.
 const JOINED: [u8; 97] = *b"PCALCP01\
     \x00\x00\x00\x00\x00\x00\x00\x01\
     \x00\x00\x00\x02\x00\x00\x00\x01\x00\x00\x00\x01\x00\x00\x00\x03\x00\x00\x00\x03\
@@ -108,7 +102,7 @@ fn wrong_text(
     if !has_text(alloc, first, &FIRST)? {
         return Ok("the first part");
     }
-    if !has_text(alloc, third, &THIRD)? {
+    if !has_text(alloc, third, &THIRD_POINT)? {
         return Ok("the third part");
     }
     Ok("nothing")

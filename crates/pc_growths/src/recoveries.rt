@@ -1,54 +1,17 @@
 //! What a base, parts and a log are worth after a crash.
 
 use crate::files::{Pair, are_pairs};
+use pc_asks::{EMPTY_BASE, ONE_KEY, SIX_ENTRIES, THIRD_POINT, TWO_KEYS};
 use pc_recover::{Recovered, recover};
 use pc_types::{Point, Refusal};
 use std::alloc::Global;
 use std::test::Fail;
-
-// Nothing at point 0.
-const BASE: [u8; 24] = *b"PCALCB01\
-    \x00\x00\x00\x00\x00\x00\x00\x01\
-    \x00\x00\x00\x00\x00\x00\x00\x00";
-
-// A commit of `a` as `1`, the tokens of prepare and resolve of point 1, a commit of `a` as `3`, and the tokens of capture and
-// complete. The entries end at 37, 47, 57, 74, 84 and 94 bytes.
-const LOG: [u8; 94] = *b"PCALCL01\
-    \x00\x00\x00\x00\x00\x00\x00\x01\x00\x00\x00\x00\
-    \x00\x00\x00\x0d\x01\x01\x00\x01\x00\x01a\x01\x00\x00\x00\x011\
-    \x00\x00\x00\x06\x02\x01\x00\x00\x00\x01\
-    \x00\x00\x00\x06\x02\x02\x00\x00\x00\x01\
-    \x00\x00\x00\x0d\x01\x01\x00\x01\x00\x01a\x01\x00\x00\x00\x013\
-    \x00\x00\x00\x06\x02\x03\x00\x00\x00\x01\
-    \x00\x00\x00\x06\x02\x04\x00\x00\x00\x01";
-
-// At point 1, `a` was `1`.
-const PART: [u8; 47] = *b"PCALCP01\
-    \x00\x00\x00\x00\x00\x00\x00\x01\
-    \x00\x00\x00\x01\x00\x00\x00\x01\x00\x00\x00\x01\
-    \x00\x01a\x00\x00\x00\x01\x01\x00\x00\x00\x011\
-    \x00\x00\x00\x00\x00\x01";
-
-// At point 1, `a` and `b` were `1`.
-const TWO_KEYS: [u8; 60] = *b"PCALCP01\
-    \x00\x00\x00\x00\x00\x00\x00\x01\
-    \x00\x00\x00\x01\x00\x00\x00\x01\x00\x00\x00\x01\
-    \x00\x01a\x00\x00\x00\x01\x01\x00\x00\x00\x011\
-    \x00\x01b\x00\x00\x00\x01\x01\x00\x00\x00\x011\
-    \x00\x00\x00\x00\x00\x02";
 
 // At point 2, `a` was `2`.
 const SECOND: [u8; 47] = *b"PCALCP01\
     \x00\x00\x00\x00\x00\x00\x00\x01\
     \x00\x00\x00\x01\x00\x00\x00\x02\x00\x00\x00\x02\
     \x00\x01a\x00\x00\x00\x02\x01\x00\x00\x00\x012\
-    \x00\x00\x00\x00\x00\x01";
-
-// At point 3, `b` had nothing.
-const THIRD: [u8; 42] = *b"PCALCP01\
-    \x00\x00\x00\x00\x00\x00\x00\x01\
-    \x00\x00\x00\x01\x00\x00\x00\x03\x00\x00\x00\x03\
-    \x00\x01b\x00\x00\x00\x03\x00\
     \x00\x00\x00\x00\x00\x01";
 
 // At point 1, a key too long to be kept inline was a value of the same bytes.
@@ -119,8 +82,8 @@ struct Row {
 
 const ROWS: [Row; 16] = [
     Row {
-        parts: &[&PART],
-        log: &LOG,
+        parts: &[&ONE_KEY],
+        log: &SIX_ENTRIES,
         cut: 94,
         point: 1,
         entries: 6,
@@ -129,8 +92,8 @@ const ROWS: [Row; 16] = [
         pairs: &[(b"a", b"3")],
     },
     Row {
-        parts: &[&PART],
-        log: &LOG,
+        parts: &[&ONE_KEY],
+        log: &SIX_ENTRIES,
         cut: 60,
         point: 1,
         entries: 3,
@@ -139,8 +102,8 @@ const ROWS: [Row; 16] = [
         pairs: &[(b"a", b"1")],
     },
     Row {
-        parts: &[&PART],
-        log: &LOG,
+        parts: &[&ONE_KEY],
+        log: &SIX_ENTRIES,
         cut: 0,
         point: 1,
         entries: 0,
@@ -149,7 +112,7 @@ const ROWS: [Row; 16] = [
         pairs: &[(b"a", b"1")],
     },
     Row {
-        parts: &[&PART],
+        parts: &[&ONE_KEY],
         log: &PHASE_FIVE,
         cut: 94,
         point: 1,
@@ -159,8 +122,8 @@ const ROWS: [Row; 16] = [
         pairs: &[(b"a", b"1")],
     },
     Row {
-        parts: &[&PART, &UNMARKED],
-        log: &LOG,
+        parts: &[&ONE_KEY, &UNMARKED],
+        log: &SIX_ENTRIES,
         cut: 94,
         point: 1,
         entries: 6,
@@ -169,8 +132,8 @@ const ROWS: [Row; 16] = [
         pairs: &[(b"a", b"3")],
     },
     Row {
-        parts: &[&UNMARKED, &PART],
-        log: &LOG,
+        parts: &[&UNMARKED, &ONE_KEY],
+        log: &SIX_ENTRIES,
         cut: 94,
         point: 1,
         entries: 6,
@@ -180,7 +143,7 @@ const ROWS: [Row; 16] = [
     },
     Row {
         parts: &[&MISCOUNTED],
-        log: &LOG,
+        log: &SIX_ENTRIES,
         cut: 94,
         point: 0,
         entries: 6,
@@ -190,7 +153,7 @@ const ROWS: [Row; 16] = [
     },
     Row {
         parts: &[&CUT_PART],
-        log: &LOG,
+        log: &SIX_ENTRIES,
         cut: 47,
         point: 0,
         entries: 2,
@@ -200,7 +163,7 @@ const ROWS: [Row; 16] = [
     },
     Row {
         parts: &[&OF_RUN_TWO],
-        log: &LOG,
+        log: &SIX_ENTRIES,
         cut: 20,
         point: 0,
         entries: 0,
@@ -209,8 +172,8 @@ const ROWS: [Row; 16] = [
         pairs: &[],
     },
     Row {
-        parts: &[&OF_RUN_TWO, &PART],
-        log: &LOG,
+        parts: &[&OF_RUN_TWO, &ONE_KEY],
+        log: &SIX_ENTRIES,
         cut: 20,
         point: 1,
         entries: 0,
@@ -219,8 +182,8 @@ const ROWS: [Row; 16] = [
         pairs: &[(b"a", b"1")],
     },
     Row {
-        parts: &[&TWO_KEYS, &THIRD],
-        log: &LOG,
+        parts: &[&TWO_KEYS, &THIRD_POINT],
+        log: &SIX_ENTRIES,
         cut: 0,
         point: 1,
         entries: 0,
@@ -229,8 +192,8 @@ const ROWS: [Row; 16] = [
         pairs: &[(b"a", b"1"), (b"b", b"1")],
     },
     Row {
-        parts: &[&THIRD, &TWO_KEYS],
-        log: &LOG,
+        parts: &[&THIRD_POINT, &TWO_KEYS],
+        log: &SIX_ENTRIES,
         cut: 0,
         point: 1,
         entries: 0,
@@ -240,7 +203,7 @@ const ROWS: [Row; 16] = [
     },
     Row {
         parts: &[&SECOND, &TWO_KEYS],
-        log: &LOG,
+        log: &SIX_ENTRIES,
         cut: 0,
         point: 2,
         entries: 0,
@@ -249,8 +212,8 @@ const ROWS: [Row; 16] = [
         pairs: &[(b"a", b"2"), (b"b", b"1")],
     },
     Row {
-        parts: &[&PART, &PART],
-        log: &LOG,
+        parts: &[&ONE_KEY, &ONE_KEY],
+        log: &SIX_ENTRIES,
         cut: 94,
         point: 1,
         entries: 6,
@@ -281,8 +244,8 @@ const ROWS: [Row; 16] = [
 ];
 
 fn recover_again(alloc: Global, parts: &[&[u8]], log: &[u8]) -> Result<Recovered, Refusal> {
-    match recover(alloc, &BASE, parts, log) {
-        Err(Refusal::OutOfMemory) => recover(alloc, &BASE, parts, log),
+    match recover(alloc, &EMPTY_BASE, parts, log) {
+        Err(Refusal::OutOfMemory) => recover(alloc, &EMPTY_BASE, parts, log),
         recovered => recovered,
     }
 }

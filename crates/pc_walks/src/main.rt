@@ -7,12 +7,13 @@ mod texts;
 mod walk;
 
 use cuts::{Found, recover_cuts};
+use pc_asks::following;
 use pc_types::Refusal;
 use std::alloc::Global;
 use std::io;
 use std::process::ExitCode;
 use texts::texts_of;
-use walk::{next, walked};
+use walk::walked;
 
 // How many walks there are.
 const WALKS: u64 = 200;
@@ -52,7 +53,7 @@ fn run_walks(rt: &HostRuntime) -> io::Result<u8> {
         right: 0,
     };
     for walk in 0..WALKS {
-        let seed = next(next(walk.wrapping_add(20_261_123)));
+        let seed = following(following(walk.wrapping_add(20_261_123)));
         match told_of(rt.alloc(), seed) {
             Ok(told) => {
                 tell_wrong(rt, walk, told.found)?;

@@ -1,6 +1,7 @@
 //! Walks by chance of three sessions beside the checkpointer.
 ghost use Rattle.std.specs.Prelude.{◌≡◌, IfOk};
 
+use pc_asks::{drawn, drawn_value, following};
 use pc_engine::World;
 use pc_part::Base;
 use pc_types::{Event, Key, Phase, Refusal, Reply, SessionNo, Value};
@@ -11,32 +12,9 @@ const STEPS: u32 = 250;
 
 const LETTERS: [u8; 5] = *b"abcde";
 
-const WORD: [u8; 40] = *b"0123456789 is longer than what is inline";
-
-/// The next number of a walk. Its higher bits look like chance.
-pub fn next(seed: u64) -> u64 {
-    seed.wrapping_mul(6_364_136_223_846_793_005)
-        .wrapping_add(1_442_695_040_888_963_407)
-}
-
-// A number below the bound, from some of the seed's bits.
-fn drawn(seed: u64, shift: u32, bound: u32) -> u32 {
-    let low = ((seed >> (shift % 64)) & 0xffff_ffff) as u32;
-    if bound == 0 {
-        return 0;
-    }
-    low % bound
-}
-
 fn key_of(seed: u64) -> &'static [u8] {
     let i = drawn(seed, 29, 5) as usize;
     &LETTERS[i.min(4)..i.min(4) + 1]
-}
-
-fn value_of(seed: u64) -> &'static [u8] {
-    let from = drawn(seed, 31, 10) as usize;
-    let length = drawn(seed, 35, 28) as usize;
-    &WORD[from.min(9)..from.min(9) + length.min(30)]
 }
 
 // Where the cycle is, whether a key may be left to take, how many parts there are, and the session that must abort, or 0.
@@ -64,7 +42,7 @@ fn next_of(walk: &Walk) -> Event {
 
 fn put_of(alloc: Global, session: SessionNo, seed: u64) -> Result<Event, Refusal> {
     let key = Key::new(alloc, key_of(seed))?;
-    let value = Value::new(alloc, value_of(seed))?;
+    let value = Value::new(alloc, drawn_value(seed))?;
     Ok(Event::Put(session, key, value))
 }
 
@@ -101,7 +79,7 @@ fn next_event(alloc: Global, walk: &Walk) -> Result<Event, Refusal> {
 // The walk after a reply.
 fn moved(walk: &Walk, reply: &Reply) -> Walk {
     let mut now = *walk;
-    now.seed = next(walk.seed);
+    now.seed = following(walk.seed);
     now.dead = 0;
     match reply {
         Reply::Phase(phase, _) => {
