@@ -16,6 +16,8 @@ import os
 import sys
 import tempfile
 
+import child
+
 PROGRAM = os.path.join(os.path.dirname(os.path.abspath(__file__)), "..", "crates", "pc_bench", "out", "pc_bench")
 RUNS = 7
 GROUPS = 10
@@ -24,12 +26,9 @@ GROUPS = 10
 def run(words):
     """What one run prints, and its peak memory in bytes."""
     with tempfile.TemporaryFile() as output:
-        child = os.posix_spawn(PROGRAM, [PROGRAM, "--times", *words], os.environ, file_actions=[(os.POSIX_SPAWN_DUP2, output.fileno(), 1)])
-        _, status, usage = os.wait4(child, 0)
-        if status != 0:
-            sys.exit("the program ended with status %d" % os.waitstatus_to_exitcode(status))
+        _, peak = child.measure([PROGRAM, "--times", *words], output)
         output.seek(0)
-        return output.read().decode("ascii").split("\n")[:-1], usage.ru_maxrss * 1024
+        return output.read().decode("ascii").split("\n")[:-1], peak
 
 
 def spread(text, numbers):

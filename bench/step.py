@@ -2,7 +2,8 @@
 
 import os
 import sys
-import time
+
+import child
 
 KEYS = 1000
 LINES_OF_A_TRANSACTION = 10
@@ -28,15 +29,9 @@ def write_script(path, lines):
 
 def measure(program, script, output):
     """Seconds and peak memory in MB of one run, whose output goes to a file."""
-    out = os.open(output, os.O_WRONLY | os.O_CREAT | os.O_TRUNC)
-    start = time.monotonic()
-    child = os.posix_spawn(program, [program, "step", script], os.environ, file_actions=[(os.POSIX_SPAWN_DUP2, out, 1)])
-    _, status, usage = os.wait4(child, 0)
-    seconds = time.monotonic() - start
-    os.close(out)
-    if status != 0:
-        sys.exit("the program ended with status %d" % os.waitstatus_to_exitcode(status))
-    return seconds, usage.ru_maxrss / 1024
+    with open(output, "wb") as file:
+        seconds, peak = child.measure([program, "step", script], file)
+    return seconds, peak / 1e6
 
 
 def check_output(output, lines):

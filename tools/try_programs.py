@@ -4,6 +4,7 @@
     examples/NAME.pcs     `pcalc step` prints NAME.out; the status is that of NAME.status, or 0
     examples/NAME/        a folder: `pcalc recover` prints NAME.out
     bench/counts.txt      a line `$ WORDS` is a command of pc_bench, and the lines up to the next one what it prints
+    program_cases.py      options, files that can't be had, long files, a full output, little memory
 
 What differs is shown, and the last line is 'N passed, M failed'; the status is 1 where one failed.
 """
@@ -11,11 +12,21 @@ What differs is shown, and the last line is 'N passed, M failed'; the status is 
 import difflib
 import glob
 import os
+import resource
+import shutil
 import subprocess
 import sys
+import tempfile
+
+import program_cases
 
 ROOT = os.path.join(os.path.dirname(os.path.abspath(__file__)), "..")
 SECONDS = 60
+NOBODY = 65_534
+
+
+def program_of(crate):
+    return os.path.join(ROOT, "crates", crate, "out", crate)
 
 
 def text_of(path, otherwise=None):
@@ -25,23 +36,22 @@ def text_of(path, otherwise=None):
         return it.read()
 
 
-def ran(crate, *words):
-    """The status, and what was printed."""
-    program = os.path.join(ROOT, "crates", crate, "out", crate)
+def ran(command, **settings):
+    """The status, and what was printed on each of both streams."""
     try:
-        done = subprocess.run([program, *words], cwd=ROOT, stdin=subprocess.DEVNULL, capture_output=True, text=True, errors="replace", timeout=SECONDS)
+        done = subprocess.run(command, stdin=subprocess.DEVNULL, stderr=subprocess.PIPE, timeout=SECONDS, **{"stdout": subprocess.PIPE, **settings})
     except (OSError, subprocess.TimeoutExpired) as error:
-        return -1, str(error)
-    return done.returncode, done.stdout + done.stderr
+        return -1, b"", str(error).encode()
+    return done.returncode, done.stdout or b"", done.stderr
 
 
 def examples():
     """The name, the command, the wanted status and output of each example."""
     for script in sorted(glob.glob(os.path.join(ROOT, "examples", "*.pcs"))):
         name = script.removesuffix(".pcs")
-        yield os.path.relpath(script, ROOT), ("pcalc", "step", script), int(text_of(name + ".status", "0")), text_of(name + ".out")
+        yield os.path.relpath(script, ROOT), (program_of("pcalc"), "step", script), int(text_of(name + ".status", "0")), text_of(name + ".out")
     for folder in sorted(filter(os.path.isdir, glob.glob(os.path.join(ROOT, "examples", "*")))):
-        yield os.path.relpath(folder, ROOT), ("pcalc", "recover", folder), 0, text_of(folder + ".out")
+        yield os.path.relpath(folder, ROOT), (program_of("pcalc"), "recover", folder), 0, text_of(folder + ".out")
 
 
 def counts():
@@ -50,22 +60,74 @@ def counts():
     for line in [*text_of(os.path.join(ROOT, "bench", "counts.txt")).splitlines(), "$ "]:
         if line.startswith("$ "):
             if command:
-                yield f"pc_bench {command}", ("pc_bench", *command.split()), 0, wanted
+                yield f"pc_bench {command}", (program_of("pc_bench"), *command.split()), 0, wanted
             command, wanted = line[2:], ""
         elif not line.startswith("#"):
             wanted += line + "\n"
 
 
+def stored():
+    """What each stored example differs in, by its name."""
+    for name, command, status, wanted in [*examples(), *counts()]:
+        yield name, differences(ran(command, cwd=ROOT), status, wanted.encode(), b"")
+
+
+def settings_of(case, folder):
+    """How a case is run: where, with how much memory, by whom, and where its output goes."""
+    settings = {"cwd": folder}
+    if case.memory is not None:
+        settings["preexec_fn"] = lambda: resource.setrlimit(resource.RLIMIT_AS, (case.memory, case.memory))
+    if case.is_other_user and os.geteuid() == 0:
+        settings.update(user=NOBODY, group=NOBODY, extra_groups=[])
+    return settings
+
+
+def cases():
+    """What each case of `program_cases.py` differs in, by its name. The program is copied, so that any user may run it."""
+    with tempfile.TemporaryDirectory() as folder:
+        os.chmod(folder, 0o755)
+        program = os.path.join(folder, "pcalc")
+        if os.path.exists(program_of("pcalc")):
+            shutil.copy(program_of("pcalc"), program)
+        for case in program_cases.cases(folder):
+            settings = settings_of(case, folder)
+            if case.output is None:
+                told = ran([program, *case.words], **settings)
+            elif os.path.exists(case.output):
+                with open(case.output, "wb") as output:
+                    told = ran([program, *case.words], stdout=output, **settings)
+            else:
+                continue
+            wanted = case.parts if case.parts is not None else case.out
+            yield f"pcalc {' '.join(case.words)}: {case.name}", differences(told, case.status, wanted, case.err)
+
+
+def is_as_wanted(got, wanted):
+    """Whether it is this text, or has each of these."""
+    return all(part in got for part in wanted) if isinstance(wanted, list) else got == wanted
+
+
+def differences(told, status, out, err):
+    """Lines that say in what a call differs from what is wanted."""
+    lines = [] if told[0] == status else [f"status {told[0]} (wanted {status})"]
+    for stream, got, wanted in (("printed", told[1], out), ("told", told[2], err)):
+        if not is_as_wanted(got, wanted):
+            lines.append(f"what it {stream} (+) beside what is wanted (-):")
+            stands = b"\n".join(wanted) if isinstance(wanted, list) else wanted
+            pair = [text.decode(errors="replace").splitlines() for text in (stands, got)]
+            lines += [line[:200] for line in [*difflib.unified_diff(*pair, lineterm="", n=1)][2:22]]
+    return lines
+
+
 def main():
     passed = failed = 0
-    for name, command, status, wanted in [*examples(), *counts()]:
-        got, told = ran(*command)
-        if (got, told) == (status, wanted):
-            passed += 1
-            continue
-        failed += 1
-        print(f"{name}: status {got} (wanted {status}); what it printed (+) beside what is stored (-):")
-        print("\n".join([*difflib.unified_diff(wanted.splitlines(), told.splitlines(), lineterm="", n=1)][2:22]))
+    for some in (stored, cases):
+        for name, lines in some():
+            if lines:
+                failed += 1
+                print(f"{name}:", *lines, sep="\n")
+            else:
+                passed += 1
     print(f"{passed} passed, {failed} failed")
     return 1 if failed else 0
 

@@ -8,8 +8,8 @@ use Rattle.pc_model.specs.Database.{with_write}
 use Rattle.pc_txn.specs.declared.transaction.Undone.{Undone}
 use Rattle.pc_txn.specs.Changes.{row_of_slot, row_of_key, with_saved}
 use Rattle.pc_txn.specs.Keys.{IsAlone}
-use Rattle.pc_txn.proofs.RowLemmas.{saved_again, saved_first}
-use Rattle.pc_txn.proofs.KeyLemmas.{rows_agree, rows_stay_of}
+use Rattle.pc_txn.proofs.RowLaws.{saved_again, saved_first}
+use Rattle.pc_txn.proofs.KeyLaws.{rows_agree, rows_stay_of}
 use Rattle.pc_bench.specs.Writes.{key_of, AreKeyed}
 
 -- numbers of 32 bits that have the same bytes are one

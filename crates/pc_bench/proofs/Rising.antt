@@ -5,7 +5,7 @@ use Rattle.std.specs.Ordering.{is_lt}
 use Rattle.std.specs.FinMap.{is_sorted}
 use Rattle.std.specs.FinMap.Entries.{below_all}
 use Rattle.pc_model.specs.Database.{key_cmp, key_order}
-use Rattle.pc_part.proofs.Merging.{Below, Rise, both_of, and_of, is_less}
+use Rattle.pc_part.proofs.MergeLaws.{Below, Rise, both_of, and_of, is_less}
 
 -- a key that is below the entries, and below one more
 below_more : {X : Type 0} (low : List ℕ) (es : List (List ℕ × X)) (e : List ℕ × X) → Below low es → is_lt (key_cmp low e.0) ≡ true → Below low (es ++ e ∷ [])

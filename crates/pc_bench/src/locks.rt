@@ -4,8 +4,8 @@ ghost use Rattle.pc_locks.specs.States.{is_waiting};
 
 use crate::failure::Failure;
 use crate::options::Pairs;
-use pc_locks::{Locks, Mode, Outcome};
-use pc_types::{Refusal, SlotId, TxnNo};
+use pc_locks::Locks;
+use pc_types::{Mode, Outcome, Refusal, SlotId, TxnNo};
 use std::alloc::Global;
 use std::rt::Clock;
 use std::time::{Duration, Instant};

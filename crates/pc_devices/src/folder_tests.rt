@@ -1,10 +1,11 @@
 //! Recoveries of folders whose files can't be opened or read, or whose output fails.
 use crate::sink::{Sink, went_out};
-use crate::tape::Tape;
+use crate::tape::{Tape, TornOnce};
 use pc_asks::{EMPTY_BASE, ONE_KEY, SIX_ENTRIES, THIRD_POINT, TWO_KEYS};
 use pc_script::{Folder, NamedFile, run_recover};
 use pc_types::{Refusal, Tally};
 use std::alloc::{AllocError, Global};
+use std::io::{ErrorKind, Read};
 use std::test::Fail;
 
 // The log up to its first token, whose phase there isn't.
@@ -46,7 +47,7 @@ fn push_closed(
 }
 
 // Whether the recovery of the folder `d d` has the status 1, prints nothing and tells this.
-fn is_told<'a>(alloc: Global, folder: Folder<Tape<'a>>, wanted: &str) -> bool {
+fn is_told<R: Read + Drop>(alloc: Global, folder: Folder<R>, wanted: &str) -> bool {
     let wanted = wanted.as_bytes();
     let mut out = Tally::new(Sink::new(b"", 0));
     let mut errors = Tally::new(Sink::new(wanted, wanted.len()));
@@ -68,7 +69,7 @@ fn push_beginnings(
 }
 
 // The folder of files' beginnings of so many bytes, of which one is torn: 1 is the base, and 4 the log.
-fn beginnings(parts: Parts<'static>, length: usize, torn: u8) -> Folder<Tape<'static>> {
+fn folder_of_beginnings(parts: Parts<'static>, length: usize, torn: u8) -> Folder<Tape<'static>> {
     Folder {
         base: Ok(Tape::new(&EMPTY_BASE[..length.min(24)], torn == 1)),
         parts: Ok(parts),
@@ -88,7 +89,7 @@ fn tells_of_a_reader_that_fails(rt: HostRuntime) -> Result<(), Fail> {
         for length in [0usize, 21] {
             let mut parts = Vec::new(rt.alloc());
             push_beginnings(rt.alloc(), &mut parts, length, torn)?;
-            let folder = beginnings(parts, length, torn);
+            let folder = folder_of_beginnings(parts, length, torn);
             assert!(rt; is_told(rt.alloc(), folder, wanted), "{wanted} {length}");
         }
     }
@@ -96,7 +97,7 @@ fn tells_of_a_reader_that_fails(rt: HostRuntime) -> Result<(), Fail> {
 }
 
 // The folder with the parts, and nothing wrong else.
-fn listed(parts: Result<Parts<'static>, Refusal>) -> Folder<Tape<'static>> {
+fn folder_with(parts: Result<Parts<'static>, Refusal>) -> Folder<Tape<'static>> {
     Folder {
         base: Ok(Tape::new(&EMPTY_BASE, false)),
         parts,
@@ -110,7 +111,10 @@ fn tells_of_a_folder_that_cannot_be_listed(rt: HostRuntime) {
         (Refusal::NoFile, "pcalc: d d: NoFile\n"),
         (Refusal::Device, "pcalc: d d: Device\n"),
     ] {
-        assert!(rt; is_told(rt.alloc(), listed(Err(why)), wanted), "{wanted}");
+        assert!(rt;
+            is_told(rt.alloc(), folder_with(Err(why)), wanted),
+            "{wanted}"
+        );
     }
 }
 
@@ -122,7 +126,10 @@ fn tells_of_a_part_that_cannot_be_opened(rt: HostRuntime) -> Result<(), Fail> {
     ] {
         let mut parts = Vec::new(rt.alloc());
         push_closed(rt.alloc(), &mut parts, "x.pcp", why)?;
-        assert!(rt; is_told(rt.alloc(), listed(Ok(parts)), wanted), "{wanted}");
+        assert!(rt;
+            is_told(rt.alloc(), folder_with(Ok(parts)), wanted),
+            "{wanted}"
+        );
     }
     Ok(())
 }
@@ -130,7 +137,7 @@ fn tells_of_a_part_that_cannot_be_opened(rt: HostRuntime) -> Result<(), Fail> {
 // A log that is there and can't be opened is no missing log.
 #[test]
 fn tells_of_a_log_that_cannot_be_opened(rt: HostRuntime) {
-    let mut folder = listed(Ok(Vec::new(rt.alloc())));
+    let mut folder = folder_with(Ok(Vec::new(rt.alloc())));
     folder.log = Err(Refusal::Device);
     assert!(rt; is_told(rt.alloc(), folder, "pcalc: log.pcl: Device\n"));
 }
@@ -167,4 +174,47 @@ fn stops_where_the_output_fails(rt: HostRuntime) -> Result<(), Fail> {
         assert!(rt; is_printed(rt.alloc(), parts, room), "{room}");
     }
     Ok(())
+}
+
+// The folder of a base alone, which fails once in its middle.
+fn torn_once(alloc: Global) -> Folder<TornOnce<'static>> {
+    let (before, behind) = EMPTY_BASE.split_at(12);
+    Folder {
+        base: Ok(TornOnce::new(before, behind)),
+        parts: Ok(Vec::new(alloc)),
+        log: Err(Refusal::NoFile),
+    }
+}
+
+// A read that fails isn't tried again, though it would succeed.
+#[test]
+fn tells_of_a_reader_that_fails_once(rt: HostRuntime) {
+    assert!(rt;
+        is_told(
+            rt.alloc(),
+            torn_once(rt.alloc()),
+            "pcalc: base.pcb: Device\n"
+        )
+    );
+}
+
+// The status where the output takes all of a recovery, and its flush fails; how many failures are counted; and whether nothing
+// is told.
+fn recover_with_failing_flush(alloc: Global) -> (u8, u64, bool) {
+    let folder: Folder<Tape<'static>> = Folder {
+        base: Ok(Tape::new(&EMPTY_BASE, false)),
+        parts: Ok(Vec::new(alloc)),
+        log: Err(Refusal::NoFile),
+    };
+    let mut sink = Sink::new(b"point 0\nentries 0\npairs 0\n", 26);
+    sink.flush_fault = Some(ErrorKind::Other);
+    let mut out = Tally::new(sink);
+    let mut errors = Tally::new(Sink::new(b"", 0));
+    let status = run_recover(alloc, "d", folder, &mut out, &mut errors);
+    (status, out.failures(), went_out(errors, None, 0, 0))
+}
+
+#[test]
+fn tells_nothing_of_a_flush_that_fails(rt: HostRuntime) {
+    assert_eq!(rt; recover_with_failing_flush(rt.alloc()), (1, 1, true));
 }

@@ -1,6 +1,6 @@
 //! Scripts whose reader or whose output fails, or for which there is no memory.
 use crate::sink::{Sink, went_out};
-use crate::tape::Tape;
+use crate::tape::{Tape, TornOnce};
 use pc_script::{Setup, run_script};
 use pc_types::{Refusal, Tally};
 use std::alloc::Global;
@@ -58,24 +58,31 @@ fn stops_where_the_output_fails(rt: HostRuntime) {
     assert!(rt; is_printed(rt.alloc(), 29, 3));
 }
 
-// The status where the output takes all, and its flush fails; and how many failures are counted.
-fn flushed(alloc: Global) -> (u8, u64) {
+// The status where the output takes all, and its flush fails; how many failures are counted; and whether nothing is told.
+fn run_with_failing_flush(alloc: Global) -> (u8, u64, bool) {
     let mut sink = Sink::new(b"begun 1\n", 8);
     sink.flush_fault = Some(ErrorKind::Other);
     let mut out = Tally::new(sink);
     let mut errors = Tally::new(Sink::new(b"", 0));
     let script = b"begin 1\n".as_slice();
     let status = run_script(alloc, SETUP, "s", Ok(script), &mut out, &mut errors);
-    (status, out.failures())
+    (status, out.failures(), went_out(errors, None, 0, 0))
 }
 
 #[test]
-fn tells_of_a_flush_that_fails(rt: HostRuntime) {
-    assert_eq!(rt; flushed(rt.alloc()), (1, 1));
+fn tells_nothing_of_a_flush_that_fails(rt: HostRuntime) {
+    assert_eq!(rt; run_with_failing_flush(rt.alloc()), (1, 1, true));
+}
+
+// A read that fails isn't tried again, though it would succeed, and no line is answered.
+#[test]
+fn tells_of_a_reader_that_fails_once(rt: HostRuntime) {
+    let torn = Ok(TornOnce::new(b"begin 1\n", b"begin 2\n"));
+    assert!(rt; is_told(rt.alloc(), "s", torn, b"pcalc: s: Device\n"));
 }
 
 // The status of a script, and how much it prints and tells.
-fn ran(alloc: Global, script: &[u8]) -> (u8, usize, usize) {
+fn outcome_of(alloc: Global, script: &[u8]) -> (u8, usize, usize) {
     let mut out = Tally::new(Vec::new(alloc));
     let mut errors = Tally::new(Vec::new(alloc));
     let status = run_script(alloc, SETUP, "s", Ok(script), &mut out, &mut errors);
@@ -87,7 +94,7 @@ fn ran(alloc: Global, script: &[u8]) -> (u8, usize, usize) {
 fn asks_again_after_want_of_memory(rt: HostRuntime) {
     let script =
         "base a 1\nbase a 1\nbegin 1\nput 1 b 2\nput 1 b 2\nget 1 b\nget 1 b\ncommit 1\ncommit 1\n";
-    let (status, printed, told) = ran(rt.alloc(), script.as_bytes());
+    let (status, printed, told) = outcome_of(rt.alloc(), script.as_bytes());
     assert!(rt; status == 0 || status == 1);
     assert!(rt; status == 1 || printed > 40);
     assert!(rt; told <= 22);

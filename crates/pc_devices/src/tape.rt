@@ -1,4 +1,4 @@
-//! A reader that gives some bytes, and then ends or fails.
+//! Readers that give some bytes, and then end or fail.
 use std::io;
 use std::io::{Error, ErrorKind, Read};
 
@@ -39,5 +39,38 @@ impl<'a> Read for Tape<'a> {
         buf[..count].copy_from_slice(given);
         self.rest = left;
         Ok(count)
+    }
+}
+
+/// Gives the bytes before its failure, fails once, and then gives those behind it.
+#[derive(Drop)]
+pub struct TornOnce<'a> {
+    /// What is read first.
+    pub before: Tape<'a>,
+    /// Whether the failure has come.
+    pub has_failed: bool,
+    /// What is read after the failure.
+    pub behind: Tape<'a>,
+}
+
+impl<'a> TornOnce<'a> {
+    /// Fails between both pieces, and ends behind the second.
+    pub fn new(before: &'a [u8], behind: &'a [u8]) -> TornOnce<'a> {
+        TornOnce {
+            before: Tape::new(before, true),
+            has_failed: false,
+            behind: Tape::new(behind, false),
+        }
+    }
+}
+
+impl<'a> Read for TornOnce<'a> {
+    fn read(&mut self, buf: &mut [u8]) -> io::Result<usize> {
+        if self.has_failed {
+            return self.behind.read(buf);
+        }
+        let answer = self.before.read(buf);
+        self.has_failed = answer.is_err();
+        answer
     }
 }

@@ -1,1 +1,1 @@
-pub mod SideLaws
+mod SideLemmas

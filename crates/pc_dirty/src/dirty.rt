@@ -82,16 +82,24 @@ impl Dirty {
         self.closed.first().is_none()
     }
 
-    /// How many slots are in the closed set; a count that is kept.
+    /// How many slots are in the closed set; a count that is kept. None stands twice in it, and each is one of the slots that
+    /// there are.
     pub fn closed_len(&self) -> u32
-        ensures { result ≡ length self.now.closed }
+        ensures count { result ≡ length self.now.closed }
+        ensures once { HasNoRepeats self.now.closed }
+        ensures below { AllHave (λ slot. slot < self.now.slots) self.now.closed }
+        ensures most { length self.now.closed ≤ self.now.slots }
     {
         self.closed.len()
     }
 
-    /// How many slots are in the open set; a count that is kept.
+    /// How many slots are in the open set; a count that is kept. None stands twice in it, and each is one of the slots that
+    /// there are.
     pub fn open_len(&self) -> u32
-        ensures { result ≡ length self.now.opened }
+        ensures count { result ≡ length self.now.opened }
+        ensures once { HasNoRepeats self.now.opened }
+        ensures below { AllHave (λ slot. slot < self.now.slots) self.now.opened }
+        ensures most { length self.now.opened ≤ self.now.slots }
     {
         self.opened.len()
     }
@@ -110,19 +118,5 @@ impl Dirty {
         ensures { result ≡ is_in self.now.closed slot }
     {
         self.closed.contains(slot.0)
-    }
-
-    /// What holds of both sets at all times; the call does nothing. No slot stands twice in a set, each is one of the slots
-    /// that there are, and so no set has more of them.
-    pub fn distinct(&self)
-        ensures open_once { HasNoRepeats self.now.opened }
-        ensures open_below { AllHave (λ slot. slot < self.now.slots) self.now.opened }
-        ensures open_most { length self.now.opened ≤ self.now.slots }
-        ensures closed_once { HasNoRepeats self.now.closed }
-        ensures closed_below { AllHave (λ slot. slot < self.now.slots) self.now.closed }
-        ensures closed_most { length self.now.closed ≤ self.now.slots }
-    {
-        self.opened.distinct();
-        self.closed.distinct();
     }
 }

@@ -1,6 +1,5 @@
 //! Links, one for each slot.
-ghost use Rattle.std.specs.Prelude.{◌≡◌, ◌≢◌, ◌<◌, ℕ, length, IfOk, None};
-ghost use Rattle.std.proofs.Common.{replicate};
+ghost use Rattle.std.specs.Prelude.{◌≡◌, ◌≢◌, ◌<◌, ℕ, length, replicate, IfOk, None};
 ghost use Rattle.pc_dirty.specs.Sides.{next_in};
 
 use pc_chain::Links;

@@ -81,19 +81,13 @@ impl Side {
         self.chain.first(&self.links)
     }
 
-    /// How many slots are in the set.
+    /// How many slots are in the set. None stands twice in it, and each is one of the slots that there are.
     pub(crate) fn len(&self) -> u32
-        ensures { result ≡ length self.now.items }
-    {
-        self.count
-    }
-
-    /// What holds of the set at all times; the call does nothing.
-    pub(crate) fn distinct(&self)
+        ensures count { result ≡ length self.now.items }
         ensures once { HasNoRepeats self.now.items }
         ensures below { AllHave (λ slot. slot < self.now.slots) self.now.items }
         ensures most { length self.now.items ≤ self.now.slots }
     {
-        let _ = &self.links;
+        self.count
     }
 }

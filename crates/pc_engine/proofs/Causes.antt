@@ -5,8 +5,9 @@ use Rattle.pc_types.specs.declared.Reply.{Reply}
 use Rattle.pc_types.specs.declared.Reply.TheVariants as told
 use Rattle.pc_types.specs.declared.Refusal.{Refusal}
 use Rattle.pc_types.specs.declared.Refusal.TheVariants as why
-use Rattle.pc_engine.specs.Store.{Store, OpenCause, Gets, Commits, is_log_full, Owes}
-use Rattle.pc_records.specs.Rows.{is_full_for}
+use Rattle.pc_engine.specs.Store.{Store}
+use Rattle.pc_engine.specs.Steps.{OpenCause, Gets, Commits, is_log_full, Owes}
+use Rattle.pc_records.specs.RowSteps.{is_full_for}
 
 -- the refusal of an open transaction's event is due, whatever else the event asks
 pub get_refused : (w : Store) (s : ℕ) (key : List ℕ) (r : Refusal) → OpenCause w s (Some r) → Gets w s key (told.Refused r) w

@@ -5,16 +5,17 @@ use Rattle.pc_types.specs.declared.Class.{Class}
 use Rattle.pc_types.specs.declared.Class.TheVariants.{Before, During, After}
 use Rattle.pc_types.specs.declared.Phase.TheVariants as phase
 use Rattle.pc_types.specs.declared.Write.{Write}
-use Rattle.pc_model.specs.Locks.{Outcome}
-use Rattle.pc_model.specs.Locks.Outcome.{Granted, Queued, Died}
-use Rattle.pc_model.specs.Replies.{same_class}
+use Rattle.pc_types.specs.declared.Outcome.{Outcome}
+use Rattle.pc_types.specs.declared.Outcome.TheVariants.{Granted, Queued, Died}
+use Rattle.pc_types.specs.Phases.{same_class}
 use Rattle.pc_phase.specs.declared.change.Change.{Change}
 use Rattle.pc_phase.specs.declared.change.Change.TheVariants as changes
-use Rattle.pc_phase.specs.Phases.{Phases, active_of, with_active, entered, left, advanced}
-use Rattle.pc_phase.specs.Phases.{count_of as in_the_way}
-use Rattle.pc_engine.specs.Sessions.{Active, class_at, is_of, count_of, wrote, died, if_died, if_granted}
+use Rattle.pc_phase.specs.Phases.{Phases, active_of, with_active, entered, left, advanced, count_of as in_the_way}
+use Rattle.pc_engine.specs.Sessions.{class_at, is_of, count_of, after_writing, after_dying, if_died, if_granted}
+use Rattle.pc_engine.specs.Store.{Active}
 use Rattle.pc_engine.specs.InPlace.{at_place}
 use Rattle.pc_engine.specs.Counts.{AreCounted, holders}
+use Rattle.pc_phase.proofs.PhaseLaws.{phase_stays, point_stays}
 
 -- 1 where it is so, else 0
 abbrev one_if : Bool → ℕ
@@ -51,17 +52,7 @@ few_counted class (a ∷ rest) = by_test (is_of class a) (head_counted class a r
     by_test true e few = omega (arith, e, few)
     by_test false e few = omega (arith, e, few)
 
--- a count that is set leaves the phase, the point and the other counts
-phase_stays : (phases : Phases) (class : Class) (n : ℕ) → (with_active phases class n).phase ≡ phases.phase
-phase_stays phases Before n = refl
-phase_stays phases During n = refl
-phase_stays phases After n = refl
-
-point_stays : (phases : Phases) (class : Class) (n : ℕ) → (with_active phases class n).point ≡ phases.point
-point_stays phases Before n = refl
-point_stays phases During n = refl
-point_stays phases After n = refl
-
+-- a count that is set leaves the other counts
 active_then : (phases : Phases) (class c : Class) (n : ℕ) → active_of (with_active phases class n) c ≡ cond (same_class class c) n (active_of phases c)
 active_then phases Before Before n = refl
 active_then phases Before During n = refl
@@ -142,33 +133,33 @@ module _ (phases : Phases) (ss : List (Option Active)) (counted : AreCounted pha
           omega (arith, one, all, ap one_if (of_own (at_place ss j) c there ∙ ap (λ k. same_class k c) (sym own) ∙ same))
       by_same false same all = omega (arith, counted c, all, ap one_if (of_own (at_place ss j) c there ∙ ap (λ k. same_class k c) (sym own) ∙ same))
 
-  died_of : (x : Option Active) (c : Class) → is_of c (died x) ≡ is_of c x
+  died_of : (x : Option Active) (c : Class) → is_of c (after_dying x) ≡ is_of c x
   died_of None c = refl
   died_of (Some x) c = refl
 
-  wrote_of : (x : Option Active) (write : Write) (c : Class) → is_of c (wrote x write) ≡ is_of c x
+  wrote_of : (x : Option Active) (write : Write) (c : Class) → is_of c (after_writing x write) ≡ is_of c x
   wrote_of None write c = refl
   wrote_of (Some x) write c = refl
 
   -- a request to read was answered, or memory ran out
-  pub read_counted : {A E : Type 0} (result : Result A E) (o : Outcome) (after : List (Option Active)) (j : ℕ) → IfOk result (λ r. after ≡ if_died o (set ss j (died (at_place ss j))) ss) → OnErr result (after ≡ ss) → AreCounted phases after
+  pub read_counted : {A E : Type 0} (result : Result A E) (o : Outcome) (after : List (Option Active)) (j : ℕ) → IfOk result (λ r. after ≡ if_died o (set ss j (after_dying (at_place ss j))) ss) → OnErr result (after ≡ ss) → AreCounted phases after
   read_counted (Ok r) o after j is same c = counted c ∙ sym (ap (count_of c) is ∙ by_outcome o)
     where
-      by_outcome : (o : Outcome) → count_of c (if_died o (set ss j (died (at_place ss j))) ss) ≡ count_of c ss
+      by_outcome : (o : Outcome) → count_of c (if_died o (set ss j (after_dying (at_place ss j))) ss) ≡ count_of c ss
       by_outcome Granted = refl
       by_outcome Queued = refl
-      by_outcome Died = same_counted c ss j (died (at_place ss j)) (died_of (at_place ss j) c)
+      by_outcome Died = same_counted c ss j (after_dying (at_place ss j)) (died_of (at_place ss j) c)
   read_counted (Err e) o after j is same c = counted c ∙ sym (ap (count_of c) same)
 
   -- a request to write was
   pub request_counted : {A E : Type 0} (result : Result A E) (told : A → Outcome) (write : Write) (after : List (Option Active)) (j : ℕ) →
-      IfOk result (λ r. after ≡ if_died (told r) (set ss j (died (at_place ss j))) (if_granted (told r) (set ss j (wrote (at_place ss j) write)) ss)) → OnErr result (after ≡ ss) → AreCounted phases after
+      IfOk result (λ r. after ≡ if_died (told r) (set ss j (after_dying (at_place ss j))) (if_granted (told r) (set ss j (after_writing (at_place ss j) write)) ss)) → OnErr result (after ≡ ss) → AreCounted phases after
   request_counted (Ok r) told write after j is same c = counted c ∙ sym (ap (count_of c) is ∙ by_outcome (told r))
     where
-      by_outcome : (o : Outcome) → count_of c (if_died o (set ss j (died (at_place ss j))) (if_granted o (set ss j (wrote (at_place ss j) write)) ss)) ≡ count_of c ss
-      by_outcome Granted = same_counted c ss j (wrote (at_place ss j) write) (wrote_of (at_place ss j) write c)
+      by_outcome : (o : Outcome) → count_of c (if_died o (set ss j (after_dying (at_place ss j))) (if_granted o (set ss j (after_writing (at_place ss j) write)) ss)) ≡ count_of c ss
+      by_outcome Granted = same_counted c ss j (after_writing (at_place ss j) write) (wrote_of (at_place ss j) write c)
       by_outcome Queued = refl
-      by_outcome Died = same_counted c ss j (died (at_place ss j)) (died_of (at_place ss j) c)
+      by_outcome Died = same_counted c ss j (after_dying (at_place ss j)) (died_of (at_place ss j) c)
   request_counted (Err e) told write after j is same c = counted c ∙ sym (ap (count_of c) same)
 
 -- none is counted where no transaction is open

@@ -23,17 +23,20 @@ use Rattle.pc_model.specs.History.Effect.{Moves, Nothing}
 use Rattle.pc_types.specs.declared.Class.TheVariants.{Before, During, After}
 use Rattle.pc_model.specs.Locks.{queue_of, queue_by}
 use Rattle.pc_model.specs.Points.{is_among, touched, taken, taken_by}
-use Rattle.pc_model.specs.Replies.{Setting, first_refusal, or_else, not_yet, is_in, same_phase, active_in, log_is_full, join_refusal, join_causes, IsFileReply, is_empty, written_since_token, written_by, closed_set}
-use Rattle.pc_model.specs.Replies.{TakesFirst as AnswersFirst}
-use Rattle.pc_model.specs.Headline.{HasLegalEffects, is_taking, is_past_token}
-use Rattle.pc_model.proofs.Logs.{after-append}
-use Rattle.pc_model.proofs.LegalEffects.{legal_has_legal_effects, not_yet_does_nothing, one_phase}
-use Rattle.pc_model.proofs.PointsStay.{sealed_state}
-use Rattle.pc_model.proofs.Standing.{closed_stays, changes_closed, each_key_once, none_left, past_token, seal_closes, take_leaves}
-use Rattle.pc_engine.specs.Store.{Store, setting_of, moved, sealed, start_causes, move_due, take_due, done_due, part_taken, StartsPoint, Moves as MovesOn, Seals, TakesFirst, Takes, Shelves, Joins}
+use Rattle.pc_model.specs.Replies.{Setting, first_refusal, or_else, not_yet, is_in, active_in, log_is_full, join_refusal, join_causes, IsFileReply, is_empty, open_set, written_by, closed_set, TakesFirst as AnswersFirst}
+use Rattle.pc_types.specs.Phases.{same_phase}
+use Rattle.pc_model.specs.Headline.{is_taking}
+use Rattle.pc_model.specs.Standing.{HasLegalEffects, is_past_token}
+use Rattle.pc_model.proofs.LogLaws.{after-append}
+use Rattle.pc_model.proofs.LegalEffectLaws.{legal_has_legal_effects, not_yet_does_nothing, one_phase}
+use Rattle.pc_model.proofs.PointStateLaws.{sealed_state}
+use Rattle.pc_model.proofs.StandingLaws.{closed_stays, each_key_once, none_left, past_token, seal_closes, take_leaves}
+use Rattle.pc_model.specs.LegalEffects.{changes_closed}
+use Rattle.pc_engine.specs.Store.{Store, setting_of}
+use Rattle.pc_engine.specs.Steps.{after_moving, after_sealing, start_causes, move_due, take_due, done_due, part_taken, StartsPoint, Moves as MovesOn, Seals, TakesFirst, Takes, Shelves, Joins}
 use Rattle.pc_engine.specs.Stands.{IsReadOff, Stands, Follows}
-use Rattle.pc_records.proofs.Following.{same_records}
-use Rattle.pc_records.proofs.Cycles.{closed_records, left_records, taken_value}
+use Rattle.pc_records.proofs.FollowingLaws.{same_records}
+use Rattle.pc_records.proofs.CycleLaws.{closed_records, left_records, taken_value}
 use Rattle.pc_engine.specs.Sessions.{count_of}
 use Rattle.pc_records.specs.Rows.{record_of, at_point}
 use Rattle.pc_engine.proofs.ActiveSessions.{active_by, count_now}
@@ -41,10 +44,10 @@ use Rattle.pc_engine.proofs.Owing.{with_step, IsLeft, owes_follows, refused_idle
 
 -- the phase has changed, but not to resolve
 moved_off : (w : Store) (h : History) (step : Step) (to : Phase) (n : ℕ) → HasLegalEffects (setting_of w) (step ∷ h) → effect step ≡ Moves to n → is_resolve to ≡ false → (is_taking to ≡ true → w.cycle.taken ≡ taken h) → IsReadOff w h →
-    IsReadOff (moved to n w) (step ∷ h)
+    IsReadOff (after_moving to n w) (step ∷ h)
 moved_off w h step to n legal e other taking parts =
     let log : log_of (step ∷ h) ≡ log_of h ++ Token to n ∷ [] = ap (λ d. log_of h ++ entries_by d h) e in
-    let written : written_since_token (step ∷ h) ≡ written_since_token h = ap (λ d. written_by d h (written_since_token h)) e ∙ ap (λ b. cond b [] (written_since_token h)) other in
+    let written : open_set (step ∷ h) ≡ open_set h = ap (λ d. written_by d h (open_set h)) e ∙ ap (λ b. cond b [] (open_set h)) other in
     let takes : taken (step ∷ h) ≡ taken h = ap (λ d. taken_by d (taken h)) e ∙ ap (λ b. cond b [] (taken h)) other in
     let same : changes_closed (effect step) ≡ false = ap changes_closed e ∙ other in
     let closed : closed_set (step ∷ h) ≡ closed_set h = closed_stays (setting_of w) h step legal same in
@@ -58,8 +61,8 @@ moved_off w h step to n legal e other taking parts =
       cycle = record {
         phase = sym phase;
         point = sym (ap (λ d. point_by d (point_of h)) e);
-        recent = parts.cycle.recent ∙ sym written;
-        closed = parts.cycle.closed ∙ sym closed;
+        open_set = parts.cycle.open_set ∙ sym written;
+        closed_set = parts.cycle.closed_set ∙ sym closed;
         taken = λ t. taking (ap is_taking (sym phase) ∙ t) ∙ sym takes;
         shelved = parts.cycle.shelved ∙ sym (ap (λ d. shelf w.base.run h ++ shelved_by w.base.run d h (shelf w.base.run h)) e ∙ append-nil (shelf w.base.run h));
       };
@@ -104,7 +107,7 @@ module _ (old new : Store) (h : History) (reply : Reply) (stands : Stands old h)
 
   pub starts_follows : StartsPoint old reply new → Follows st h asked.StartPoint reply new
   starts_follows step =
-      owes_follows old new h asked.StartPoint reply _ (first_refusal (start_causes old)) stands
+      owes_follows old new h asked.StartPoint reply _ (first_refusal (start_causes old)) stands tt
       (start_due (not (same_phase old.cycle.phase Rest)) ((eqb old.cycle.point 65535, why.PointsFull) ∷ (eqb (length old.log) 16777216, why.LogFull) ∷ [])
       ∙ ap (λ b. or_else (first_refusal ((not b, why.WrongPhase) ∷ [])) (first_refusal ((eqb old.cycle.point 65535, why.PointsFull) ∷ (eqb (length old.log) 16777216, why.LogFull) ∷ []))) (in_phase Rest)
       ∙ ap (λ n. or_else (first_refusal ((not (is_in Rest h), why.WrongPhase) ∷ [])) (first_refusal ((eqb n 65535, why.PointsFull) ∷ (eqb (length old.log) 16777216, why.LogFull) ∷ []))) stands.parts.cycle.point
@@ -148,11 +151,11 @@ module _ (old new : Store) (h : History) (reply : Reply) (stands : Stands old h)
 
   pub seals_follows : Seals old reply new → Follows st h asked.Seal reply new
   seals_follows step =
-      owes_follows old new h asked.Seal reply _ (move_due Prepare Before old) stands (moves_due Prepare Before) (move_idle asked.Seal Prepare Before) step
+      owes_follows old new h asked.Seal reply _ (move_due Prepare Before old) stands tt (moves_due Prepare Before) (move_idle asked.Seal Prepare Before) step
       (λ none d. d.0 ∙ ap (told.Phase Resolve) stands.parts.cycle.point)
       (λ none d legal. rw (d.0, d.1) (sealed_off (is_phase Prepare (right_phase Prepare Before none)) (rw d.0 at legal)))
     where
-      sealed_off : phase_of h ≡ Prepare → HasLegalEffects st (with_step h asked.Seal (told.Phase Resolve old.cycle.point)) → IsLeft old (sealed (moved Resolve old.cycle.point old)) h asked.Seal (told.Phase Resolve old.cycle.point)
+      sealed_off : phase_of h ≡ Prepare → HasLegalEffects st (with_step h asked.Seal (told.Phase Resolve old.cycle.point)) → IsLeft old (after_sealing (after_moving Resolve old.cycle.point old)) h asked.Seal (told.Phase Resolve old.cycle.point)
       sealed_off prepares legal =
           let closes = seal_closes st h (record { event = asked.Seal; reply = told.Phase Resolve old.cycle.point }) legal old.cycle.point refl in (
             refl,
@@ -165,8 +168,8 @@ module _ (old new : Store) (h : History) (reply : Reply) (stands : Stands old h)
               cycle = record {
                 phase = refl;
                 point = refl;
-                recent = refl;
-                closed = stands.parts.cycle.recent ∙ sym (closes.0 ∙ closes.1);
+                open_set = refl;
+                closed_set = stands.parts.cycle.open_set ∙ sym (closes.0 ∙ closes.1);
                 taken = λ t. refl;
                 shelved = stands.parts.cycle.shelved ∙ sym (append-nil (shelf old.base.run h));
               };
@@ -176,7 +179,7 @@ module _ (old new : Store) (h : History) (reply : Reply) (stands : Stands old h)
 
   pub opens_follows : MovesOn Resolve During Capture old reply new → Follows st h asked.OpenCapture reply new
   opens_follows step =
-      owes_follows old new h asked.OpenCapture reply _ (move_due Resolve During old) stands (moves_due Resolve During) (move_idle asked.OpenCapture Resolve During) step
+      owes_follows old new h asked.OpenCapture reply _ (move_due Resolve During old) stands tt (moves_due Resolve During) (move_idle asked.OpenCapture Resolve During) step
       (λ none d. d.0 ∙ ap (told.Phase Capture) stands.parts.cycle.point)
       (λ none d legal.
       let now = rw d.0 at legal in
@@ -189,7 +192,7 @@ module _ (old new : Store) (h : History) (reply : Reply) (stands : Stands old h)
 
   pub rests_follows : MovesOn Complete After Rest old reply new → Follows st h asked.Rest reply new
   rests_follows step =
-      owes_follows old new h asked.Rest reply _ (move_due Complete After old) stands (moves_due Complete After) (move_idle asked.Rest Complete After) step
+      owes_follows old new h asked.Rest reply _ (move_due Complete After old) stands tt (moves_due Complete After) (move_idle asked.Rest Complete After) step
       (λ none d. d.0 ∙ ap (told.Phase Rest) stands.parts.cycle.point)
       (λ none d legal.
       let now = rw d.0 at legal in
@@ -201,13 +204,13 @@ module _ (old new : Store) (h : History) (reply : Reply) (stands : Stands old h)
 
   pub takes_follows : Takes old reply new → Follows st h asked.Take reply new
   takes_follows step =
-      owes_follows old new h asked.Take reply _ (take_due old) stands
-      (ap (λ b. or_else (first_refusal ((not b, why.WrongPhase) ∷ [])) (cond (is_empty old.cycle.closed) (Some told.NoneLeft) None)) (in_phase Capture)
-      ∙ ap (λ (ks : List (List ℕ)). or_else (first_refusal ((not (is_in Capture h), why.WrongPhase) ∷ [])) (cond (is_empty ks) (Some told.NoneLeft) None)) stands.parts.cycle.closed)
-      (idle_or asked.Take (first_refusal ((not (same_phase old.cycle.phase Capture), why.WrongPhase) ∷ [])) (cond (is_empty old.cycle.closed) (Some told.NoneLeft) None) (refused_idle asked.Take ((not (same_phase old.cycle.phase Capture), why.WrongPhase) ∷ [])) (none_idle (is_empty old.cycle.closed)))
+      owes_follows old new h asked.Take reply _ (take_due old) stands tt
+      (ap (λ b. or_else (first_refusal ((not b, why.WrongPhase) ∷ [])) (cond (is_empty old.cycle.closed_set) (Some told.NoneLeft) None)) (in_phase Capture)
+      ∙ ap (λ (ks : List (List ℕ)). or_else (first_refusal ((not (is_in Capture h), why.WrongPhase) ∷ [])) (cond (is_empty ks) (Some told.NoneLeft) None)) stands.parts.cycle.closed_set)
+      (idle_or asked.Take (first_refusal ((not (same_phase old.cycle.phase Capture), why.WrongPhase) ∷ [])) (cond (is_empty old.cycle.closed_set) (Some told.NoneLeft) None) (refused_idle asked.Take ((not (same_phase old.cycle.phase Capture), why.WrongPhase) ∷ [])) (none_idle (is_empty old.cycle.closed_set)))
       step
-      (λ none d. answers old.cycle.closed stands.parts.cycle.closed d)
-      (λ none d legal. leaves old.cycle.closed stands.parts.cycle.closed (is_phase Capture (first_phase Capture (cond (is_empty old.cycle.closed) (Some told.NoneLeft) None) none)) d legal)
+      (λ none d. answers old.cycle.closed_set stands.parts.cycle.closed_set d)
+      (λ none d legal. leaves old.cycle.closed_set stands.parts.cycle.closed_set (is_phase Capture (first_phase Capture (cond (is_empty old.cycle.closed_set) (Some told.NoneLeft) None) none)) d legal)
     where
       none_idle : (b : Bool) → IfSome (cond b (Some told.NoneLeft) None) (λ d. effect_of asked.Take d ≡ Nothing)
       none_idle true = refl
@@ -239,8 +242,8 @@ module _ (old new : Store) (h : History) (reply : Reply) (stands : Stands old h)
               cycle = record {
                 phase = stands.parts.cycle.phase;
                 point = stands.parts.cycle.point;
-                recent = stands.parts.cycle.recent;
-                closed = sym closed;
+                open_set = stands.parts.cycle.open_set;
+                closed_set = sym closed;
                 taken = λ t. ap (λ ts. ts ++ (k, content) ∷ []) (stands.parts.cycle.taken taking);
                 shelved = stands.parts.cycle.shelved ∙ sym (append-nil (shelf old.base.run h));
               };
@@ -250,7 +253,7 @@ module _ (old new : Store) (h : History) (reply : Reply) (stands : Stands old h)
 
   pub shelves_follows : Shelves old reply new → Follows st h asked.Done reply new
   shelves_follows step =
-      owes_follows old new h asked.Done reply _ (done_due old) stands same idle step
+      owes_follows old new h asked.Done reply _ (done_due old) stands tt same idle step
       (λ none d. d.0 ∙ ap (λ n. told.PartDone n (length old.shelf + 1) (length old.cycle.taken)) stands.parts.cycle.point ∙ ap (λ (fs : List File). told.PartDone (point_of h) (length fs + 1) (length old.cycle.taken)) stands.parts.cycle.shelved
       ∙ ap (λ ts. told.PartDone (point_of h) (length (shelf old.base.run h) + 1) (length ts)) (stands.parts.cycle.taken (ap is_taking (is_phase Capture (first_phase Capture _ none)))))
       (λ none d legal. rw (d.0, d.1) (shelved_off (first_phase Capture _ none) (rw d.0 at legal)))
@@ -260,15 +263,15 @@ module _ (old new : Store) (h : History) (reply : Reply) (stands : Stands old h)
 
       same : done_due old ≡ or_else (first_refusal ((not (is_in Capture h), why.WrongPhase) ∷ [])) (or_else (not_yet (length (closed_set h))) (first_refusal ((eqb (length (shelf st.run h)) 65536, why.ShelfFull) ∷ (log_is_full h, why.LogFull) ∷ [])))
       same =
-          ap (λ b. or_else (first_refusal ((not b, why.WrongPhase) ∷ [])) (or_else (not_yet (length old.cycle.closed)) (first_refusal late))) (in_phase Capture)
-          ∙ ap (λ (ks : List (List ℕ)). or_else (first_refusal ((not (is_in Capture h), why.WrongPhase) ∷ [])) (or_else (not_yet (length ks)) (first_refusal late))) stands.parts.cycle.closed
+          ap (λ b. or_else (first_refusal ((not b, why.WrongPhase) ∷ [])) (or_else (not_yet (length old.cycle.closed_set)) (first_refusal late))) (in_phase Capture)
+          ∙ ap (λ (ks : List (List ℕ)). or_else (first_refusal ((not (is_in Capture h), why.WrongPhase) ∷ [])) (or_else (not_yet (length ks)) (first_refusal late))) stands.parts.cycle.closed_set
           ∙ ap (λ (fs : List File). or_else (first_refusal ((not (is_in Capture h), why.WrongPhase) ∷ [])) (or_else (not_yet (length (closed_set h))) (first_refusal ((eqb (length fs) 65536, why.ShelfFull) ∷ (eqb (length old.log) 16777216, why.LogFull) ∷ [])))) stands.parts.cycle.shelved
           ∙ ap (λ b. or_else (first_refusal ((not (is_in Capture h), why.WrongPhase) ∷ [])) (or_else (not_yet (length (closed_set h))) (first_refusal ((eqb (length (shelf st.run h)) 65536, why.ShelfFull) ∷ (b, why.LogFull) ∷ [])))) log_full
 
       idle : IfSome (done_due old) (λ d. effect_of asked.Done d ≡ Nothing)
       idle =
-          idle_or asked.Done (first_refusal ((not (same_phase old.cycle.phase Capture), why.WrongPhase) ∷ [])) (or_else (not_yet (length old.cycle.closed)) (first_refusal late)) (refused_idle asked.Done ((not (same_phase old.cycle.phase Capture), why.WrongPhase) ∷ []))
-          (idle_or asked.Done (not_yet (length old.cycle.closed)) (first_refusal late) (yet_idle asked.Done (length old.cycle.closed)) (refused_idle asked.Done late))
+          idle_or asked.Done (first_refusal ((not (same_phase old.cycle.phase Capture), why.WrongPhase) ∷ [])) (or_else (not_yet (length old.cycle.closed_set)) (first_refusal late)) (refused_idle asked.Done ((not (same_phase old.cycle.phase Capture), why.WrongPhase) ∷ []))
+          (idle_or asked.Done (not_yet (length old.cycle.closed_set)) (first_refusal late) (yet_idle asked.Done (length old.cycle.closed_set)) (refused_idle asked.Done late))
 
       shelved_off : is_in Capture h ≡ true → HasLegalEffects st (with_step h asked.Done (told.PartDone old.cycle.point (length old.shelf + 1) (length old.cycle.taken))) →
           IsLeft old (record old { log = old.log ++ Token Complete old.cycle.point ∷ []; cycle = record old.cycle { phase = Complete; taken = [] }; shelf = old.shelf ++ part_taken old ∷ [] }) h asked.Done (told.PartDone old.cycle.point (length old.shelf + 1) (length old.cycle.taken))
@@ -286,8 +289,8 @@ module _ (old new : Store) (h : History) (reply : Reply) (stands : Stands old h)
               cycle = record {
                 phase = refl;
                 point = refl;
-                recent = stands.parts.cycle.recent;
-                closed = stands.parts.cycle.closed ∙ sym closed;
+                open_set = stands.parts.cycle.open_set;
+                closed_set = stands.parts.cycle.closed_set ∙ sym closed;
                 taken = λ t. cc;
                 shelved = ap (λ (fs : List File). fs ++ part_taken old ∷ []) stands.parts.cycle.shelved
                     ∙ ap (λ ts. shelf old.base.run h ++ record { run = old.base.run; points = Rattle.pc_model.specs.Sets.insert Rattle.pc_model.specs.Sets.empty old.cycle.point; triples = triples_taken old.cycle.point ts } ∷ []) takes;
@@ -298,7 +301,7 @@ module _ (old new : Store) (h : History) (reply : Reply) (stands : Stands old h)
 
   pub joins_follows : (a b : ℕ) → Joins old a b reply new → Follows st h (asked.Join a b) reply new
   joins_follows a b step =
-      owes_follows old new h (asked.Join a b) reply _ (join_refusal old.shelf (file_at old.shelf a) (file_at old.shelf b)) stands
+      owes_follows old new h (asked.Join a b) reply _ (join_refusal old.shelf (file_at old.shelf a) (file_at old.shelf b)) stands tt
       (ap (λ (fs : List File). join_refusal fs (file_at fs a) (file_at fs b)) stands.parts.cycle.shelved)
       (refused_idle (asked.Join a b) ((is_none (file_at old.shelf a) || is_none (file_at old.shelf b), why.NoFile) ∷ (eqb (length old.shelf) 65536, why.ShelfFull) ∷ join_causes (file_at old.shelf a) (file_at old.shelf b))) step
       (λ none d. subst (λ (fs : List File). IsFileReply (join_of (file_at fs a) (file_at fs b)) (length fs + 1) reply) stands.parts.cycle.shelved d.0)
@@ -319,8 +322,8 @@ module _ (old new : Store) (h : History) (reply : Reply) (stands : Stands old h)
               cycle = record {
                 phase = stands.parts.cycle.phase;
                 point = stands.parts.cycle.point;
-                recent = stands.parts.cycle.recent;
-                closed = stands.parts.cycle.closed ∙ sym closed;
+                open_set = stands.parts.cycle.open_set;
+                closed_set = stands.parts.cycle.closed_set ∙ sym closed;
                 taken = stands.parts.cycle.taken;
                 shelved = ap (λ (fs : List File). fs ++ join_of (file_at fs a) (file_at fs b)) stands.parts.cycle.shelved;
               };

@@ -14,21 +14,20 @@ use Rattle.pc_model.specs.Log.{after}
 use Rattle.pc_model.specs.Files.{shelf}
 use Rattle.pc_model.specs.History.{History, class_in, effect_of, log_of, begun, is_open, number_of, writes_of}
 use Rattle.pc_model.specs.History.Effect.{Begins, Commits, Aborts, Nothing}
-use Rattle.pc_model.specs.Headline.{HasLegalEffects}
-use Rattle.pc_model.specs.Replies.{Setting, IsLegal, first_refusal, or_else, no_session, written_since_token}
-use Rattle.pc_model.proofs.Logs.{after-append}
-use Rattle.pc_model.proofs.Standing.{closed_stays}
-use Rattle.pc_records.specs.Rows.{released_rows, written_row}
+use Rattle.pc_model.specs.Standing.{HasLegalEffects}
+use Rattle.pc_model.specs.Replies.{Setting, IsLegal, first_refusal, or_else, no_session, open_set}
+use Rattle.pc_model.proofs.LogLaws.{after-append}
+use Rattle.pc_model.proofs.StandingLaws.{closed_stays}
+use Rattle.pc_records.specs.RowSteps.{released_rows, written_row}
 use Rattle.pc_records.specs.NewKeys.{new_keys}
-use Rattle.pc_records.proofs.Following.{same_records}
-use Rattle.pc_records.proofs.Distinct.{distinct_writes}
-use Rattle.pc_records.proofs.NewKeys.{with_keys_new}
-use Rattle.pc_records.proofs.Releasing.{released_records, let_go_records}
-use Rattle.pc_records.proofs.Waiting.{held_writes}
-use Rattle.pc_engine.specs.Sessions.{Active, number_in, writes_in, with_session}
-use Rattle.pc_engine.specs.Sessions.{active_in as session_at}
-use Rattle.pc_engine.specs.Store.{Store, setting_of, active, open_causes, begin_causes, abort_causes}
-use Rattle.pc_engine.specs.Store.{Begins as BeginsIn, Commits as CommitsIn, Aborts as AbortsIn}
+use Rattle.pc_records.proofs.FollowingLaws.{same_records}
+use Rattle.pc_records.proofs.DistinctLaws.{distinct_writes}
+use Rattle.pc_records.proofs.NewKeyLaws.{with_keys_new}
+use Rattle.pc_records.proofs.ReleaseLaws.{released_records, let_go_records}
+use Rattle.pc_records.proofs.WaitingLaws.{held_writes}
+use Rattle.pc_engine.specs.Sessions.{number_in, writes_in, with_session}
+use Rattle.pc_engine.specs.Store.{Active, Store, setting_of, active, active_in as session_at}
+use Rattle.pc_engine.specs.Steps.{open_causes, begin_causes, abort_causes, Begins as BeginsIn, Commits as CommitsIn, Aborts as AbortsIn}
 use Rattle.pc_engine.specs.Stands.{Stands, Follows}
 use Rattle.pc_engine.proofs.ActiveSessions.{is_past, active_now, active_by, same_number, one_session}
 use Rattle.pc_engine.proofs.LocalSteps.{same_setting, IsLocal, local_left, log_stays, keys_stay, closed_set_stays, state_stays_at}
@@ -65,7 +64,7 @@ module _ (old new : Store) (h : History) (s : ℕ) (reply : Reply) (stands : Sta
       let full : List (Bool × Refusal) = (eqb old.begun 1099511627776, why.LogFull) ∷ [] in
       let mine : List (Bool × Refusal) = (is_some (active old s), why.AlreadyBegun) ∷ full in
       let theirs : List (Bool × Refusal) = (is_open s h, why.AlreadyBegun) ∷ (eqb (begun h) 1099511627776, why.LogFull) ∷ [] in
-      owes_follows old new h (asked.Begin s) reply _ (first_refusal (begin_causes old s)) stands
+      owes_follows old new h (asked.Begin s) reply _ (first_refusal (begin_causes old s)) stands tt
       (by_session st s mine theirs
       (λ there.
       ap (λ b. first_refusal ((b, why.AlreadyBegun) ∷ full)) (ap is_some (stands.parts.sessions s there) ∙ some_of (is_open s h) (active_now s h)) ∙ ap (λ n. first_refusal ((is_open s h, why.AlreadyBegun) ∷ (eqb n 1099511627776, why.LogFull) ∷ [])) stands.parts.begun))
@@ -98,7 +97,7 @@ module _ (old new : Store) (h : History) (s : ℕ) (reply : Reply) (stands : Sta
   pub commits_follows : CommitsIn old s reply new → Follows (setting_of old) h (asked.Commit s) reply new
   commits_follows step =
       let mine : List (Bool × Refusal) = (eqb (length old.log) 16777216, why.LogFull) ∷ [] in
-      owes_follows old new h (asked.Commit s) reply _ (first_refusal (open_causes old s mine)) stands
+      owes_follows old new h (asked.Commit s) reply _ (first_refusal (open_causes old s mine)) stands tt
       (in_transaction old h s mine ((eqb (length (log_of h)) 16777216, why.LogFull) ∷ []) stands (λ there opened. ap (λ (l : List Entry). first_refusal ((eqb (length l) 16777216, why.LogFull) ∷ [])) stands.parts.log))
       (refused_idle (asked.Commit s) (open_causes old s mine)) step
       (λ none d. d.0 ∙ ap (λ (log : List Entry). told.Committed (length log + 1)) stands.parts.log)
@@ -109,7 +108,7 @@ module _ (old new : Store) (h : History) (s : ℕ) (reply : Reply) (stands : Sta
         kept = record old.kept { rows = released_rows (number_in a) (map (written_row (writes_in a)) old.kept.rows) };
         log = old.log ++ Commit s (writes_in a) ∷ [];
         sessions = with_session old.sessions s None;
-        cycle = record old.cycle { recent = old.cycle.recent ++ new_keys old.kept.rows (writes_in a) };
+        cycle = record old.cycle { open_set = old.cycle.open_set ++ new_keys old.kept.rows (writes_in a) };
       } in
       rw (d.0, d.1) (subst (λ a. IsLeft old (left a) h (asked.Commit s) (told.Committed (length old.log + 1))) (sym at.same) (committed_off at now)))
     where
@@ -118,7 +117,7 @@ module _ (old new : Store) (h : History) (s : ℕ) (reply : Reply) (stands : Sta
             kept = record old.kept { rows = released_rows (number_of s h) (map (written_row (writes_of s h)) old.kept.rows) };
             log = old.log ++ Commit s (writes_of s h) ∷ [];
             sessions = with_session old.sessions s None;
-            cycle = record old.cycle { recent = old.cycle.recent ++ new_keys old.kept.rows (writes_of s h) };
+            cycle = record old.cycle { open_set = old.cycle.open_set ++ new_keys old.kept.rows (writes_of s h) };
           }) h (asked.Commit s) (told.Committed (length old.log + 1))
       committed_off at legal =
           let step : Step = record { event = asked.Commit s; reply = told.Committed (length old.log + 1) } in
@@ -135,8 +134,8 @@ module _ (old new : Store) (h : History) (s : ℕ) (reply : Reply) (stands : Sta
               cycle = record {
                 phase = stands.parts.cycle.phase;
                 point = stands.parts.cycle.point;
-                recent = ap (λ (ks : List (List ℕ)). ks ++ new_keys old.kept.rows (writes_of s h)) stands.parts.cycle.recent ∙ sym (with_keys_new (written_since_token h) old.kept.rows (writes_of s h) (distinct_writes s h) (λ q there. stands.parts.records.recent q));
-                closed = stands.parts.cycle.closed ∙ sym closed;
+                open_set = ap (λ (ks : List (List ℕ)). ks ++ new_keys old.kept.rows (writes_of s h)) stands.parts.cycle.open_set ∙ sym (with_keys_new (open_set h) old.kept.rows (writes_of s h) (distinct_writes s h) (λ q there. stands.parts.records.open_set q));
+                closed_set = stands.parts.cycle.closed_set ∙ sym closed;
                 taken = stands.parts.cycle.taken;
                 shelved = stands.parts.cycle.shelved ∙ sym (append-nil (shelf old.base.run h));
               };
@@ -166,7 +165,7 @@ module _ (old new : Store) (h : History) (s : ℕ) (reply : Reply) (stands : Sta
       by_due : (o : Option Reply) → first_refusal (abort_causes old s) ≡ o → IfSome o (λ d. effect_of (asked.Abort s) d ≡ Nothing) →
           MatchOption o ((reply ≡ told.Aborted) × (new ≡ record old { kept = record old.kept { rows = released_rows (number_in (active old s)) old.kept.rows }; sessions = with_session old.sessions s None })) (λ due. (reply ≡ due) × (new ≡ old)) →
           Follows st h (asked.Abort s) reply new
-      by_due (Some due) is idle step = unmoved old new h (asked.Abort s) reply stands (ap (effect_of (asked.Abort s)) step.0 ∙ idle) step.1 (legal_by (Some due) is step.0)
+      by_due (Some due) is idle step = unmoved old new h (asked.Abort s) reply stands tt (ap (effect_of (asked.Abort s)) step.0 ∙ idle) step.1 (legal_by (Some due) is step.0)
       by_due None is idle step =
           let legal : IsLegal st h (asked.Abort s) reply = legal_by None is step.0 in
           let first = not_first (no_session st s) why.NoSession ((is_none (active old s), why.NoTransaction) ∷ []) is in
@@ -174,4 +173,4 @@ module _ (old new : Store) (h : History) (s : ℕ) (reply : Reply) (stands : Sta
           let effects : HasLegalEffects st (with_step h (asked.Abort s) reply) = legal_then old h (asked.Abort s) reply stands legal in
           let now = rw step.0 at effects in
           let left : Option Active → Store = λ a. record old { kept = record old.kept { rows = released_rows (number_in a) old.kept.rows }; sessions = with_session old.sessions s None } in
-          goes_on old new h (asked.Abort s) reply stands legal (rw (step.0, step.1) (subst (λ a. IsLeft old (left a) h (asked.Abort s) told.Aborted) (sym at.same) (aborted_off at now)))
+          goes_on old new h (asked.Abort s) reply stands tt legal (rw (step.0, step.1) (subst (λ a. IsLeft old (left a) h (asked.Abort s) told.Aborted) (sym at.same) (aborted_off at now)))

@@ -8,7 +8,7 @@ use Rattle.pc_model.specs.Database.{key_cmp, key_order, same_bytes, KeysRise}
 use Rattle.pc_model.specs.Points.{AtPoint}
 use Rattle.pc_model.specs.Files.{triples_taken}
 use Rattle.pc_model.proofs.MapLaws.{get-insert, get-empty, get-entries, get-from_list, same_map}
-use Rattle.pc_model.proofs.PairMaps.{tested}
+use Rattle.pc_model.proofs.PairMapLaws.{tested}
 
 abbrev Pair : Type 0
 Pair = List ℕ × Option (List ℕ)

@@ -9,28 +9,19 @@ use Rattle.pc_types.specs.declared.Reply.{Reply}
 use Rattle.pc_types.specs.declared.Reply.TheVariants as told
 use Rattle.pc_types.specs.declared.Refusal.{Refusal}
 use Rattle.pc_types.specs.declared.Refusal.TheVariants as why
-use Rattle.pc_model.specs.Replies.{first_refusal, or_else, not_yet, same_phase}
+use Rattle.pc_model.specs.Replies.{first_refusal, or_else, not_yet}
+use Rattle.pc_types.specs.Phases.{same_phase}
 use Rattle.pc_phase.specs.declared.change.Change.{Change}
 use Rattle.pc_phase.specs.declared.change.Change.TheVariants as change
 use Rattle.pc_phase.specs.declared.change.Held.{Held}
 use Rattle.pc_phase.specs.declared.change.Held.TheVariants.{WrongPhase, PointsFull, NotYet}
 use Rattle.pc_phase.specs.Phases.{Phases, held_back, some_left, from_of, to_of, lacks_point, point_after, count_of}
 use Rattle.pc_phase.specs.Agreement.{reply_of}
-use Rattle.pc_engine.specs.Store.{Store, is_log_full, move_due}
+use Rattle.pc_engine.specs.Store.{Store}
+use Rattle.pc_engine.specs.Steps.{is_log_full, move_due}
 use Rattle.pc_engine.proofs.Together.{is_this}
 use Rattle.pc_engine.specs.Counts.{AreCounted, holders}
-
--- none or some stand in the way
-some_due : (none : Bool) (count : ℕ) (later : Option Reply) →
-    or_else (if none then None else Some (told.NotYet count)) later ≡ or_else (option_map reply_of (if none then None else Some (NotYet count))) later
-some_due true count later = refl
-some_due false count later = refl
-
--- so many stand in the way
-count_due : (is : Bool) (count : ℕ) (later : Option Reply) →
-    or_else (first_refusal ((not is, why.WrongPhase) ∷ [])) (or_else (not_yet count) later) ≡ or_else (option_map reply_of (if is then some_left count else Some WrongPhase)) later
-count_due false count later = refl
-count_due true count later = some_due (count == 0) count later
+use Rattle.pc_phase.proofs.PhaseLaws.{count_agrees}
 
 -- what is known of a change that nothing holds back
 pub record IsFree (phases : Phases) (change : Change) (left : ℕ) : Type 0 where
@@ -62,13 +53,13 @@ module _ (w : Store) (phases : Phases) (at_phase : w.cycle.phase ≡ phases.phas
   full = (is_log_full w, why.LogFull) ∷ []
 
   seal_due : move_due phase.Prepare Before w ≡ or_else (option_map reply_of (held_back phases change.Seal 0)) (first_refusal full)
-  seal_due = rw (at_phase, ← (counted Before)) (count_due (same_phase phases.phase phase.Prepare) phases.before (first_refusal full))
+  seal_due = rw (at_phase, ← (counted Before)) (count_agrees (same_phase phases.phase phase.Prepare) phases.before (first_refusal full))
 
   capture_due : move_due phase.Resolve During w ≡ or_else (option_map reply_of (held_back phases change.OpenCapture 0)) (first_refusal full)
-  capture_due = rw (at_phase, ← (counted During)) (count_due (same_phase phases.phase phase.Resolve) phases.during (first_refusal full))
+  capture_due = rw (at_phase, ← (counted During)) (count_agrees (same_phase phases.phase phase.Resolve) phases.during (first_refusal full))
 
   rest_due : move_due phase.Complete After w ≡ or_else (option_map reply_of (held_back phases change.Rest 0)) (first_refusal full)
-  rest_due = rw (at_phase, ← (counted After)) (count_due (same_phase phases.phase phase.Complete) phases.after (first_refusal full))
+  rest_due = rw (at_phase, ← (counted After)) (count_agrees (same_phase phases.phase phase.Complete) phases.after (first_refusal full))
 
   advance_due : (c : Change) → (c ≡ change.OpenCapture) ⊎ (c ≡ change.Rest) → move_due (from_of c) (holders c) w ≡ or_else (option_map reply_of (held_back phases c 0)) (first_refusal full)
   advance_due c (inl e) = rw e capture_due

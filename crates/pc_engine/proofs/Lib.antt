@@ -1,19 +1,21 @@
-pub mod WritePlaces
-pub mod Gathered
-pub mod SessionLemmas
-pub mod Causes
-pub mod ActiveSessions
-pub mod Serial
-pub mod Owing
-pub mod LocalSteps
-pub mod Requests
-pub mod Endings
-pub mod Standing
-pub mod Runs
-pub mod Soundness
-pub mod Cycles
-pub mod PlacedWrites
-pub mod Together
-pub mod Within
-pub mod Counted
-pub mod Held
+mod WritePlaces
+mod Gathered
+mod SessionLemmas
+mod Causes
+mod ActiveSessions
+mod Serial
+mod LegalQueues
+mod LoggedTexts
+mod Owing
+mod LocalSteps
+mod Requests
+mod Endings
+mod Standing
+mod Runs
+mod Soundness
+mod Cycles
+mod PlacedWrites
+mod Together
+mod Within
+mod Counted
+mod Held

@@ -8,14 +8,14 @@ use Rattle.pc_model.specs.History.{History, Effect, effect_of, log_of, begun, ph
 use Rattle.pc_model.specs.Maps as map_of
 use Rattle.pc_model.specs.Log.{state_at}
 use Rattle.pc_model.specs.Points.{is_among, taken, taken_by}
-use Rattle.pc_model.specs.Replies.{Setting, written_since_token, written_by, closed_set}
-use Rattle.pc_model.specs.Headline.{HasLegalEffects, ValueBy}
-use Rattle.pc_model.proofs.Standing.{closed_stays, changes_closed}
+use Rattle.pc_model.specs.Replies.{Setting, open_set, written_by, closed_set}
+use Rattle.pc_model.specs.Headline.{ValueBy}
+use Rattle.pc_model.specs.Standing.{HasLegalEffects}
+use Rattle.pc_model.proofs.StandingLaws.{closed_stays}
+use Rattle.pc_model.specs.LegalEffects.{changes_closed}
 use Rattle.pc_records.specs.Rows.{Row}
 use Rattle.pc_records.specs.Following.{AreRecords}
-use Rattle.pc_engine.specs.Sessions.{Active}
-use Rattle.pc_engine.specs.Sessions.{active_in as session_at}
-use Rattle.pc_engine.specs.Store.{Store, setting_of}
+use Rattle.pc_engine.specs.Store.{Active, Store, setting_of, active_in as session_at}
 use Rattle.pc_engine.specs.Stands.{IsReadOff}
 use Rattle.pc_engine.proofs.ActiveSessions.{is_past, active_by}
 use Rattle.pc_engine.proofs.Owing.{with_step, IsLeft, same_cycle, states_stay}
@@ -30,7 +30,7 @@ pub record IsLocal (run : ℕ) (h : History) (e : Effect) : Type 0 where
   pub no_begin : begun_by e (begun h) ≡ begun h
   pub same_phase : phase_by e (phase_of h) ≡ phase_of h
   pub same_point : point_by e (point_of h) ≡ point_of h
-  pub no_key : written_by e h (written_since_token h) ≡ written_since_token h
+  pub no_key : written_by e h (open_set h) ≡ open_set h
   pub same_closed : changes_closed e ≡ false
   pub none_taken : taken_by e (taken h) ≡ taken h
   pub none_shelved : shelved_by run e h (shelf run h) ≡ []
@@ -42,8 +42,8 @@ module _ (w : Store) (h : History) (event : Event) (reply : Reply) (e : Effect) 
   pub log_stays : log_of (with_step h event reply) ≡ log_of h
   log_stays = ap (λ d. log_of h ++ entries_by d h) is ∙ ap (λ l. log_of h ++ l) stays.no_entry ∙ append-nil (log_of h)
 
-  pub keys_stay : written_since_token (with_step h event reply) ≡ written_since_token h
-  keys_stay = ap (λ d. written_by d h (written_since_token h)) is ∙ stays.no_key
+  pub keys_stay : open_set (with_step h event reply) ≡ open_set h
+  keys_stay = ap (λ d. written_by d h (open_set h)) is ∙ stays.no_key
 
   closed_by : changes_closed (effect_of event reply) ≡ false
   closed_by = ap changes_closed is ∙ stays.same_closed

@@ -1,5 +1,5 @@
 -- What is owed to an event, and what follows once it is paid.
-use Rattle.std.proofs.Common.{◌≡◌, ℕ, List, [], ◌∷◌, ◌++◌, append-nil, subst, Option, Some, None, is_none, refl, sym, ap, ◌∙◌, cond, true, false, Bool, not, ◌⊎◌, inl, inr}
+use Rattle.std.proofs.Common.{◌≡◌, ℕ, List, [], ◌∷◌, ◌++◌, append-nil, subst, Option, Some, None, is_none, refl, sym, ap, ◌∙◌, ◌≤◌, cond, true, false, Bool, not, ◌⊎◌, inl, inr}
 use Rattle.std.specs.Prelude.{MatchOption, IfSome}
 use Rattle.pc_types.specs.declared.Event.{Event}
 use Rattle.pc_types.specs.declared.Reply.{Reply}
@@ -14,20 +14,24 @@ use Rattle.pc_model.specs.History.{History, effect, effect_of, log_of, is_open, 
 use Rattle.pc_model.specs.History.Effect.{Nothing}
 use Rattle.pc_model.specs.Points.{is_among, taken, taken_by}
 use Rattle.pc_model.specs.Locks.{queue_of, queue_by, is_waiting}
-use Rattle.pc_model.specs.Replies.{Setting, IsLegal, IsLegalHistory, certain, Answers, first_refusal, no_session, written_since_token, written_by, closed_set}
-use Rattle.pc_model.specs.Headline.{HasLegalEffects, TakesPointValue, ValueBy, is_taking}
-use Rattle.pc_model.proofs.Effects.{refused_does_nothing, first_refusal_refuses}
-use Rattle.pc_model.proofs.LegalEffects.{legal_has_legal_effects}
-use Rattle.pc_model.proofs.PointsStay.{state_stays}
-use Rattle.pc_model.proofs.RightReads.{locked}
-use Rattle.pc_model.proofs.SessionLocks.{Locked}
-use Rattle.pc_model.proofs.Standing.{closed_stays, changes_closed, each_key_once, none_left}
-use Rattle.pc_model.proofs.ShelfFiles.{headline}
-use Rattle.pc_records.specs.Rows.{is_waiting as waits_in_rows}
-use Rattle.pc_records.proofs.Following.{same_records}
-use Rattle.pc_records.proofs.Waiting.{waiting_now}
-use Rattle.pc_engine.specs.Sessions.{Active, number_in, has_died_in}
-use Rattle.pc_engine.specs.Store.{Store, Cycle, setting_of, active, open_causes, Owes}
+use Rattle.pc_model.specs.Replies.{Setting, IsLegal, IsLegalHistory, certain, Answers, first_refusal, no_session, open_set, written_by, closed_set}
+use Rattle.pc_model.specs.Headline.{TakesPointValue, ValueBy, is_taking}
+use Rattle.pc_model.specs.Standing.{HasLegalEffects}
+use Rattle.pc_model.specs.Limits.{IsInLimits}
+use Rattle.pc_model.proofs.EffectLaws.{refused_does_nothing, first_refusal_refuses}
+use Rattle.pc_model.proofs.LegalEffectLaws.{legal_has_legal_effects}
+use Rattle.pc_model.proofs.PointStateLaws.{state_stays}
+use Rattle.pc_model.proofs.RightReadLaws.{locked}
+use Rattle.pc_model.specs.SessionLocks.{Locked}
+use Rattle.pc_model.proofs.StandingLaws.{closed_stays, each_key_once, none_left}
+use Rattle.pc_model.specs.LegalEffects.{changes_closed}
+use Rattle.pc_model.proofs.ShelfFileLaws.{headline}
+use Rattle.pc_records.specs.RowSteps.{is_waiting as waits_in_rows}
+use Rattle.pc_records.proofs.FollowingLaws.{same_records}
+use Rattle.pc_records.proofs.WaitingLaws.{waiting_now}
+use Rattle.pc_engine.specs.Sessions.{number_in, has_died_in}
+use Rattle.pc_engine.specs.Store.{Active, Store, Cycle, setting_of, active}
+use Rattle.pc_engine.specs.Steps.{open_causes, Owes}
 use Rattle.pc_engine.specs.Stands.{IsCycle, IsReadOff, Stands, KeepsPoints, Follows}
 use Rattle.pc_engine.proofs.ActiveSessions.{active_now, active_by}
 use Rattle.pc_engine.proofs.Serial.{is_serial}
@@ -52,13 +56,13 @@ states_stay st h step legal q there = by_taking (is_taking (phase_of h)) refl
     by_taking false e = absurd (empty_has_none (closed_set h) (none_left st h legal.1 e) there)
 
 -- where the step does nothing to it the cycle stays
-pub same_cycle : (st : Setting) (c : Cycle) (files : List File) (h : History) (step : Step) → HasLegalEffects st (step ∷ h) → phase_of (step ∷ h) ≡ phase_of h → point_of (step ∷ h) ≡ point_of h → written_since_token (step ∷ h) ≡ written_since_token h →
+pub same_cycle : (st : Setting) (c : Cycle) (files : List File) (h : History) (step : Step) → HasLegalEffects st (step ∷ h) → phase_of (step ∷ h) ≡ phase_of h → point_of (step ∷ h) ≡ point_of h → open_set (step ∷ h) ≡ open_set h →
     changes_closed (effect step) ≡ false → taken (step ∷ h) ≡ taken h → shelf st.run (step ∷ h) ≡ shelf st.run h → IsCycle st.run c files h → IsCycle st.run c files (step ∷ h)
 same_cycle st c files h step legal phase point written same takes shelved was = record {
   phase = was.phase ∙ sym phase;
   point = was.point ∙ sym point;
-  recent = was.recent ∙ sym written;
-  closed = was.closed ∙ sym (closed_stays st h step legal same);
+  open_set = was.open_set ∙ sym written;
+  closed_set = was.closed_set ∙ sym (closed_stays st h step legal same);
   taken = λ t. was.taken (rw phase at t) ∙ sym takes;
   shelved = was.shelved ∙ sym shelved;
 }
@@ -67,7 +71,7 @@ same_cycle st c files h step legal phase point written same takes shelved was = 
 still : (w : Store) (h : History) (step : Step) → HasLegalEffects (setting_of w) (step ∷ h) → effect step ≡ Nothing → IsReadOff w h → IsReadOff w (step ∷ h)
 still w h step legal e parts =
     let same : log_of (step ∷ h) ≡ log_of h = ap (λ d. log_of h ++ entries_by d h) e ∙ append-nil (log_of h) in
-    let written : written_since_token (step ∷ h) ≡ written_since_token h = ap (λ d. written_by d h (written_since_token h)) e in
+    let written : open_set (step ∷ h) ≡ open_set h = ap (λ d. written_by d h (open_set h)) e in
     let closed : changes_closed (effect step) ≡ false = ap changes_closed e in
     record {
       records = same_records w.base.pairs w.kept.rows h (step ∷ h) (ap (after w.base.pairs) same) (λ q. ap (λ d. queue_by q d h (queue_of q h)) e) written (closed_stays (setting_of w) h step legal closed) (states_stay (setting_of w) h step legal) parts.records;
@@ -98,9 +102,11 @@ pub legal_then : (w : Store) (h : History) (event : Event) (reply : Reply) → S
 legal_then w h event reply stands legal = legal_has_legal_effects (setting_of w) (with_step h event reply) (legal, stands.legal)
 
 -- a legal reply, given what it leaves
-pub goes_on : (old new : Store) (h : History) (event : Event) (reply : Reply) → Stands old h → IsLegal (setting_of old) h event reply → IsLeft old new h event reply → Follows (setting_of old) h event reply new
-goes_on old new h event reply stands legal left =
+pub goes_on : (old new : Store) (h : History) (event : Event) (reply : Reply) → Stands old h → IsInLimits event → IsLegal (setting_of old) h event reply → IsLeft old new h event reply → Follows (setting_of old) h event reply new
+goes_on old new h event reply stands limits legal left =
     let then : Stands new (with_step h event reply) = record {
+      sessions = subst (λ (st : Setting). st.sessions ≤ 64) (sym left.0) stands.sessions;
+      limits = (limits, stands.limits);
       legal = subst (λ st. IsLegalHistory st (with_step h event reply)) (sym left.0) (legal, stands.legal);
       values = subst (λ (st : Setting). TakesPointValue st.base (with_step h event reply)) (sym left.0) (left.2, stands.values);
       parts = left.1;
@@ -108,18 +114,18 @@ goes_on old new h event reply stands legal left =
     record { legal = legal; stands = then; serial = is_serial new (with_step h event reply) then; points = keeps_points new (with_step h event reply) then }
 
 -- a legal reply that does nothing
-pub unmoved : (old new : Store) (h : History) (event : Event) (reply : Reply) → Stands old h → effect_of event reply ≡ Nothing → new ≡ old → IsLegal (setting_of old) h event reply → Follows (setting_of old) h event reply new
-unmoved old new h event reply stands none unchanged legal =
-    goes_on old new h event reply stands legal (
+pub unmoved : (old new : Store) (h : History) (event : Event) (reply : Reply) → Stands old h → IsInLimits event → effect_of event reply ≡ Nothing → new ≡ old → IsLegal (setting_of old) h event reply → Follows (setting_of old) h event reply new
+unmoved old new h event reply stands limits none unchanged legal =
+    goes_on old new h event reply stands limits legal (
       ap setting_of unchanged,
       subst (λ w. IsReadOff w (with_step h event reply)) (sym unchanged) (still old h (record { event = event; reply = reply }) (legal_then old h event reply stands legal) none stands.parts),
       subst (λ e. ValueBy old.base.pairs e h) (sym none) tt,
     )
 
 -- what an event leaves, given what it leaves where it is done
-pub owes_follows : (old new : Store) (h : History) (event : Event) (reply : Reply) (Done : Type 0) (due : Option Reply) → Stands old h → due ≡ certain (setting_of old) h event → IfSome due (λ d. effect_of event d ≡ Nothing) → Owes due old reply new Done →
+pub owes_follows : (old new : Store) (h : History) (event : Event) (reply : Reply) (Done : Type 0) (due : Option Reply) → Stands old h → IsInLimits event → due ≡ certain (setting_of old) h event → IfSome due (λ d. effect_of event d ≡ Nothing) → Owes due old reply new Done →
     (due ≡ None → Done → Answers (setting_of old) h event reply) → (due ≡ None → Done → HasLegalEffects (setting_of old) (with_step h event reply) → IsLeft old new h event reply) → Follows (setting_of old) h event reply new
-owes_follows old new h event reply Done due stands same idle step answers leaves = by_due due refl idle step
+owes_follows old new h event reply Done due stands limits same idle step answers leaves = by_due due refl idle step
   where
     st : Setting
     st = setting_of old
@@ -128,11 +134,11 @@ owes_follows old new h event reply Done due stands same idle step answers leaves
     legal_by o is fact = (subst (λ o. MatchOption o (Answers st h event reply ⊎ (reply ≡ told.Refused why.OutOfMemory)) (λ d. reply ≡ d)) (sym is ∙ same) fact)
 
     by_due : (o : Option Reply) → due ≡ o → IfSome o (λ d. effect_of event d ≡ Nothing) → Owes o old reply new Done → Follows st h event reply new
-    by_due (Some d) is none owes = unmoved old new h event reply stands (ap (effect_of event) owes.0 ∙ none) owes.1 (legal_by (Some d) is owes.0)
+    by_due (Some d) is none owes = unmoved old new h event reply stands limits (ap (effect_of event) owes.0 ∙ none) owes.1 (legal_by (Some d) is owes.0)
     by_due None is none (inl d) =
         let legal : IsLegal st h event reply = legal_by None is (inl (answers is d)) in
-        goes_on old new h event reply stands legal (leaves is d (legal_then old h event reply stands legal))
-    by_due None is none (inr out) = unmoved old new h event reply stands (ap (effect_of event) out.0 ∙ refused_does_nothing event why.OutOfMemory) out.1 (legal_by None is (inr out.0))
+        goes_on old new h event reply stands limits legal (leaves is d (legal_then old h event reply stands legal))
+    by_due None is none (inr out) = unmoved old new h event reply stands limits (ap (effect_of event) out.0 ∙ refused_does_nothing event why.OutOfMemory) out.1 (legal_by None is (inr out.0))
 
 -- a refusal does nothing
 pub refused_idle : (event : Event) (causes : List (Bool × Refusal)) → IfSome (first_refusal causes) (λ d. effect_of event d ≡ Nothing)

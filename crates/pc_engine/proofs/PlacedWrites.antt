@@ -6,9 +6,10 @@ use Rattle.std.proofs.lemmas.List.{get_or-set_same, get_or-set_other}
 use Rattle.pc_types.specs.declared.Write.{Write}
 use Rattle.pc_model.specs.Database.{same_bytes, with_write, written}
 use Rattle.pc_model.specs.Replies.{value_read}
-use Rattle.pc_model.proofs.Joins.{one_key}
+use Rattle.pc_model.proofs.JoinLaws.{one_key}
 use Rattle.pc_records.specs.Tables.{Table, Pending, pending_at, pending_without, value_of, read_of, IsClearFor}
-use Rattle.pc_engine.specs.Sessions.{Active, number_in, class_at, writes_in, wrote}
+use Rattle.pc_engine.specs.Sessions.{number_in, class_at, writes_in, after_writing}
+use Rattle.pc_engine.specs.Store.{Active}
 use Rattle.pc_engine.specs.InPlace.{at_place, write_in, AreInPlace, AreNumbered}
 
 -- what is so of the session that is set, and of the others as they were, is so of each
@@ -127,9 +128,9 @@ module _ (t : Table) (ss : List (Option Active)) (begun : ℕ) (writes : AreInPl
   -- a write goes into a place where no other transaction has one
   pub wrote_in_place : (after : Table) (j : ℕ) (key : List ℕ) (value : Option (List ℕ)) → j < length ss → is_some (at_place ss j) ≡ true → IsClearFor t key (number_in (at_place ss j)) →
       ((q : List ℕ) → pending_at after q ≡ cond (same_bytes key q) (Some (let p : Pending = record { by = number_in (at_place ss j); class = class_at (at_place ss j); value = value } in p)) (pending_at t q)) →
-      AreInPlace after (set ss j (wrote (at_place ss j) (record { key = key; value = value })))
+      AreInPlace after (set ss j (after_writing (at_place ss j) (record { key = key; value = value })))
   wrote_in_place after j key value inside there clear is = record {
-    placed = λ i q. by_place ss j (wrote (at_place ss j) (record { key = key; value = value })) (λ k a. is_some (write_in a q) ≡ true → pending_at after q ≡ write_in a q) inside
+    placed = λ i q. by_place ss j (after_writing (at_place ss j) (record { key = key; value = value })) (λ k a. is_some (write_in a q) ≡ true → pending_at after q ≡ write_in a q) inside
         (λ some. is q ∙ own_by q (same_bytes key q) refl some) (λ k other some. is q ∙ other_by k q other some (same_bytes key q) refl) i;
     owned = λ q. owned_by q (same_bytes key q) refl (writes.owned q);
   }
@@ -137,10 +138,10 @@ module _ (t : Table) (ss : List (Option Active)) (begun : ℕ) (writes : AreInPl
       mine : Pending
       mine = record { by = number_in (at_place ss j); class = class_at (at_place ss j); value = value }
 
-      now : (q : List ℕ) → write_in (wrote (at_place ss j) (record { key = key; value = value })) q ≡ cond (same_bytes key q) (Some mine) (write_in (at_place ss j) q)
+      now : (q : List ℕ) → write_in (after_writing (at_place ss j) (record { key = key; value = value })) q ≡ cond (same_bytes key q) (Some mine) (write_in (at_place ss j) q)
       now q = by_active (at_place ss j) there
         where
-          by_active : (a : Option Active) → is_some a ≡ true → write_in (wrote a (record { key = key; value = value })) q ≡ cond (same_bytes key q) (Some (let p : Pending = record { by = number_in a; class = class_at a; value = value } in p)) (write_in a q)
+          by_active : (a : Option Active) → is_some a ≡ true → write_in (after_writing a (record { key = key; value = value })) q ≡ cond (same_bytes key q) (Some (let p : Pending = record { by = number_in a; class = class_at a; value = value } in p)) (write_in a q)
           by_active None e = absurd (let no : false ≡ true = e in cc)
           by_active (Some a) e = ap (option_map (seen a)) (written_with a.writes key value q) ∙ mapped (same_bytes key q)
             where
@@ -148,11 +149,11 @@ module _ (t : Table) (ss : List (Option Active)) (begun : ℕ) (writes : AreInPl
               mapped true = refl
               mapped false = refl
 
-      own_by : (q : List ℕ) (b : Bool) → same_bytes key q ≡ b → is_some (write_in (wrote (at_place ss j) (record { key = key; value = value })) q) ≡ true →
-          cond b (Some mine) (pending_at t q) ≡ write_in (wrote (at_place ss j) (record { key = key; value = value })) q
+      own_by : (q : List ℕ) (b : Bool) → same_bytes key q ≡ b → is_some (write_in (after_writing (at_place ss j) (record { key = key; value = value })) q) ≡ true →
+          cond b (Some mine) (pending_at t q) ≡ write_in (after_writing (at_place ss j) (record { key = key; value = value })) q
       own_by q true e some = sym (now q ∙ ap (λ b. cond b (Some mine) (write_in (at_place ss j) q)) e)
       own_by q false e some =
-          let was : write_in (wrote (at_place ss j) (record { key = key; value = value })) q ≡ write_in (at_place ss j) q = now q ∙ ap (λ b. cond b (Some mine) (write_in (at_place ss j) q)) e in
+          let was : write_in (after_writing (at_place ss j) (record { key = key; value = value })) q ≡ write_in (at_place ss j) q = now q ∙ ap (λ b. cond b (Some mine) (write_in (at_place ss j) q)) e in
           writes.placed j q (sym (ap is_some was) ∙ some) ∙ sym was
 
       -- another transaction that has written the key would be this one
@@ -175,13 +176,13 @@ module _ (t : Table) (ss : List (Option Active)) (begun : ℕ) (writes : AreInPl
               let both : true ≡ false = sym no ∙ other in cc
 
       owned_by : (q : List ℕ) (b : Bool) → same_bytes key q ≡ b → (pending_at t q ≡ None) ⊎ ((i : ℕ) × (pending_at t q ≡ write_in (at_place ss i) q)) →
-          (pending_at after q ≡ None) ⊎ ((i : ℕ) × (pending_at after q ≡ write_in (at_place (set ss j (wrote (at_place ss j) (record { key = key; value = value }))) i) q))
+          (pending_at after q ≡ None) ⊎ ((i : ℕ) × (pending_at after q ≡ write_in (at_place (set ss j (after_writing (at_place ss j) (record { key = key; value = value }))) i) q))
       owned_by q true e owner = inr (j, is q ∙ ap (λ b. cond b (Some mine) (pending_at t q)) e ∙ sym (ap (λ a. write_in a q) (get_or-set_same ss j _ None inside) ∙ now q ∙ ap (λ b. cond b (Some mine) (write_in (at_place ss j) q)) e))
       owned_by q false e (inl none) = inl (is q ∙ ap (λ b. cond b (Some mine) (pending_at t q)) e ∙ none)
       owned_by q false e (inr owner) = inr (owner.0, is q ∙ ap (λ b. cond b (Some mine) (pending_at t q)) e ∙ owner.1 ∙ sym (still owner.0))
         where
-          still : (i : ℕ) → write_in (at_place (set ss j (wrote (at_place ss j) (record { key = key; value = value }))) i) q ≡ write_in (at_place ss i) q
-          still i = by_place ss j (wrote (at_place ss j) (record { key = key; value = value })) (λ k a. write_in a q ≡ write_in (at_place ss k) q) inside (now q ∙ ap (λ b. cond b (Some mine) (write_in (at_place ss j) q)) e) (λ k other. refl) i
+          still : (i : ℕ) → write_in (at_place (set ss j (after_writing (at_place ss j) (record { key = key; value = value }))) i) q ≡ write_in (at_place ss i) q
+          still i = by_place ss j (after_writing (at_place ss j) (record { key = key; value = value })) (λ k a. write_in a q ≡ write_in (at_place ss k) q) inside (now q ∙ ap (λ b. cond b (Some mine) (write_in (at_place ss j) q)) e) (λ k other. refl) i
 
   -- once a transaction is over, none of its writes stands in a place
   pub ended_in_place : (after : Table) (j : ℕ) → j < length ss → ((q : List ℕ) → pending_at after q ≡ pending_without (writes_in (at_place ss j)) t q) → AreInPlace after (set ss j None)

@@ -3,8 +3,8 @@ use Rattle.std.proofs.Common.{◌∙◌, ap, sym}
 use Rattle.pc_model.specs.Maps as map_of
 use Rattle.pc_model.specs.History.{History}
 use Rattle.pc_model.specs.Log.{after}
-use Rattle.pc_model.proofs.RightReads.{effects_read_right}
-use Rattle.pc_model.proofs.LegalEffects.{legal_has_legal_effects}
+use Rattle.pc_model.proofs.RightReadLaws.{effects_read_right}
+use Rattle.pc_model.proofs.LegalEffectLaws.{legal_has_legal_effects}
 use Rattle.pc_engine.specs.Store.{Store, setting_of}
 use Rattle.pc_engine.specs.Stands.{Stands, IsSerial}
 

@@ -2,28 +2,28 @@
 use Rattle.std.proofs.Common.{◌≡◌, ◌↔◌, ℕ, zero, suc, ◌+◌, ◌<◌, ◌≤◌, List, [], ◌∷◌, ◌++◌, length, take, get_or, All, IsTrue, refl, sym, ap, ◌∙◌, subst, arith}
 use Rattle.std.proofs.lemmas.Grind.{common_steps}
 use Rattle.std.proofs.lemmas.List.{take_more, get_or_append_left}
-use Rattle.std.proofs.lemmas.List.Elements.{All-push}
+use Rattle.std.proofs.lemmas.List.Elements.{All-push, Contains-get_or}
 use Rattle.std.proofs.Math.Seq.{get_or-append_seam}
 use Rattle.pc_types.specs.declared.Entry.{Entry}
 use Rattle.pc_model.specs.Database.{Database, database_of}
 use Rattle.pc_model.specs.Log.{after, has_token, state_at}
 use Rattle.pc_model.specs.Points.{laid}
 use Rattle.pc_model.specs.Files.{BaseFile, File, shelf, numbers_to}
-use Rattle.pc_model.specs.Audits.{IsRight, triples_from}
-use Rattle.pc_model.specs.declared.audits.CompleteFile.{CompleteFile}
+use Rattle.pc_replay.specs.Audits.{IsRight, triples_from}
+use Rattle.pc_replay.specs.declared.audits.CompleteFile.{CompleteFile}
 use Rattle.pc_part.specs.Parts.{CoversTo}
 use Rattle.std.specs.Prelude.{Bool, true, ◌&&◌, nat_lt, nat_le}
 use Rattle.std.specs.List.{Contains}
 use Rattle.std.proofs.lemmas.Bool.Decides.{nat_tests}
-use Rattle.std.proofs.lemmas.List.Elements.{Contains-get_or}
 use Rattle.pc_model.specs.Maps as map_of
 use Rattle.pc_model.specs.Sets as set
 use Rattle.pc_model.specs.Sets.{Set, number_order}
+use Rattle.pc_model.specs.Numbers.{is_one_of}
 use Rattle.pc_model.specs.History.{History}
 use Rattle.pc_model.specs.Headline.{IsMade}
 use Rattle.pc_model.specs.Headline.IsMade.{Shelved}
-use Rattle.pc_model.proofs.PairMaps.{same_database}
-use Rattle.pc_model.proofs.Contents.{is_one_of, contains-items, one_of_numbers}
+use Rattle.pc_model.proofs.PairMapLaws.{same_database}
+use Rattle.pc_model.proofs.ContentLaws.{contains-items, one_of_numbers}
 use Rattle.pc_records.specs.Rows.{record_of, stored}
 use Rattle.pc_engine.specs.Store.{Store}
 use Rattle.pc_engine.specs.Stands.{Stands}

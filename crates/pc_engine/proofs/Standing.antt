@@ -1,21 +1,23 @@
 -- What every event keeps of a world, and that a new world stands after no event.
-use Rattle.std.proofs.Common.{◌≡◌, ℕ, ◌+◌, ◌-◌, zero, suc, List, [], ◌∷◌, length, get_or, replicate, Option, Some, None, refl, ap, ◌∙◌, true, false, inl, inr, map}
+use Rattle.std.proofs.Common.{◌≡◌, ℕ, ◌+◌, ◌-◌, ◌≤◌, zero, suc, List, [], ◌∷◌, length, get_or, replicate, Option, Some, None, refl, sym, ap, subst, ◌∙◌, true, false, inl, inr, map}
 use Rattle.std.specs.Prelude.{MatchOption}
-use Rattle.std.proofs.lemmas.List.{length-set}
+use Rattle.std.proofs.lemmas.List.{length-replicate, length-set}
+use Rattle.pc_types.specs.declared.Mode.TheVariants.{Shared, Exclusive}
 use Rattle.pc_types.specs.declared.Phase.{Phase}
 use Rattle.pc_types.specs.declared.Phase.TheVariants.{Rest}
 use Rattle.pc_types.specs.declared.Reply.{Reply}
 use Rattle.pc_types.specs.declared.Reply.TheVariants as told
 use Rattle.pc_model.specs.Database.{KeysRise, database_of}
 use Rattle.pc_model.specs.Files.{File, file_at, join_of}
-use Rattle.pc_model.specs.Locks.{Outcome}
-use Rattle.pc_model.specs.Locks.Outcome.{Granted, Queued, Died}
+use Rattle.pc_types.specs.declared.Outcome.{Outcome}
+use Rattle.pc_types.specs.declared.Outcome.TheVariants.{Granted, Queued, Died}
 use Rattle.pc_model.specs.Replies.{IsFileReply, first_refusal, read_reply, by_outcome}
-use Rattle.pc_records.specs.Rows.{committed_row}
-use Rattle.pc_records.proofs.First.{first_records}
-use Rattle.pc_engine.specs.Sessions.{Active, active_in, with_session, wrote, died, if_died, if_granted}
+use Rattle.pc_records.specs.RowSteps.{committed_row}
+use Rattle.pc_records.proofs.FirstKeyLaws.{first_records}
+use Rattle.pc_engine.specs.Sessions.{with_session, after_writing, after_dying, if_died, if_granted}
+use Rattle.pc_engine.specs.Store.{Active, active_in, Store, setting_of, active}
 use Rattle.pc_types.specs.declared.Class.{Class}
-use Rattle.pc_engine.specs.Store.{Store, setting_of, active, outcome_in, abort_causes, Owes, Begins, Gets, WritesKey, Commits, Aborts, StartsPoint, Seals, Moves, TakesFirst, Takes, Shelves, Joins}
+use Rattle.pc_engine.specs.Steps.{outcome_in, abort_causes, Owes, Begins, Gets, WritesKey, Commits, Aborts, StartsPoint, Seals, Moves, TakesFirst, Takes, Shelves, Joins}
 use Rattle.pc_engine.specs.Stands.{Stands, IfRefused}
 use Rattle.pc_engine.proofs.LocalSteps.{same_setting}
 
@@ -61,15 +63,15 @@ begins_keeps old s reply new = owes_keeps _ old reply new _ (λ d. (ap setting_o
 
 pub gets_keeps : (old : Store) (s : ℕ) (key : List ℕ) (reply : Reply) (new : Store) → Gets old s key reply new → Keeps old reply new
 gets_keeps old s key reply new =
-    owes_keeps _ old reply new _ (λ d. (ap setting_of d.1 ∙ same_setting old _ (read_length (outcome_in old s key false) old.sessions (with_session old.sessions s (died (active old s))) (length-set old.sessions _ _)), rw d.0 (not_refused (outcome_in old s key false) _ _)))
+    owes_keeps _ old reply new _ (λ d. (ap setting_of d.1 ∙ same_setting old _ (read_length (outcome_in old s key Shared) old.sessions (with_session old.sessions s (after_dying (active old s))) (length-set old.sessions _ _)), rw d.0 (not_refused (outcome_in old s key Shared) _ _)))
 
 pub writes_keeps : (old : Store) (s : ℕ) (key : List ℕ) (content : Option (List ℕ)) (reply : Reply) (new : Store) → WritesKey old s key content reply new → Keeps old reply new
 writes_keeps old s key content reply new =
     owes_keeps _ old reply new _
     (λ d. (
       ap setting_of d.1
-          ∙ same_setting old _ (asked_length (outcome_in old s key true) old.sessions (with_session old.sessions s (died (active old s))) (with_session old.sessions s (wrote (active old s) (record { key = key; value = content }))) (length-set old.sessions _ _) (length-set old.sessions _ _)),
-      rw d.0 (not_refused_write (outcome_in old s key true) _),
+          ∙ same_setting old _ (asked_length (outcome_in old s key Exclusive) old.sessions (with_session old.sessions s (after_dying (active old s))) (with_session old.sessions s (after_writing (active old s) (record { key = key; value = content }))) (length-set old.sessions _ _) (length-set old.sessions _ _)),
+      rw d.0 (not_refused_write (outcome_in old s key Exclusive) _),
     ))
 
 pub commits_keeps : (old : Store) (s : ℕ) (reply : Reply) (new : Store) → Commits old s reply new → Keeps old reply new
@@ -92,7 +94,7 @@ pub moves_keeps : (from : Phase) (class : Class) (to : Phase) (old : Store) (rep
 moves_keeps from class to old reply new = owes_keeps _ old reply new _ (λ d. (ap setting_of d.1, rw d.0 tt))
 
 pub takes_keeps : (old : Store) (reply : Reply) (new : Store) → Takes old reply new → Keeps old reply new
-takes_keeps old reply new = owes_keeps _ old reply new _ (by_keys old.cycle.closed)
+takes_keeps old reply new = owes_keeps _ old reply new _ (by_keys old.cycle.closed_set)
   where
     by_keys : (keys : List (List ℕ)) → TakesFirst keys old reply new → Keeps old reply new
     by_keys [] d = absurd d
@@ -118,8 +120,10 @@ all_idle (suc n) zero = refl
 all_idle (suc n) (suc i) = all_idle n i
 
 -- a world made of a base stands after no step
-pub stands_first : (w : Store) (pairs : List (List ℕ × List ℕ)) (n : ℕ) → KeysRise pairs → database_of pairs ≡ w.base.pairs → w.kept.rows ≡ map committed_row pairs → w.log ≡ [] → w.begun ≡ 0 → w.sessions ≡ replicate n None → w.cycle.phase ≡ Rest → w.cycle.point ≡ 0 → w.cycle.recent ≡ [] → w.cycle.closed ≡ [] → w.shelf ≡ [] → w.base.point ≡ 0 → Stands w []
-stands_first w pairs n rise base rows log begun idle phase point recent closed shelf start = record {
+pub stands_first : (w : Store) (pairs : List (List ℕ × List ℕ)) (n : ℕ) → KeysRise pairs → database_of pairs ≡ w.base.pairs → w.kept.rows ≡ map committed_row pairs → w.log ≡ [] → w.begun ≡ 0 → w.sessions ≡ replicate n None → w.cycle.phase ≡ Rest → w.cycle.point ≡ 0 → w.cycle.open_set ≡ [] → w.cycle.closed_set ≡ [] → w.shelf ≡ [] → w.base.point ≡ 0 → n ≤ 64 → Stands w []
+stands_first w pairs n rise base rows log begun idle phase point open_keys closed shelf start few = record {
+  sessions = subst (λ k. k ≤ 64) (sym (ap (λ (ss : List (Option Active)). length ss) idle ∙ length-replicate n no_transaction)) few;
+  limits = tt;
   legal = tt;
   values = tt;
   parts = record {
@@ -128,6 +132,6 @@ stands_first w pairs n rise base rows log begun idle phase point recent closed s
     begun = begun;
     sessions = λ s there. ap (λ (ss : List (Option Active)). active_in ss s) idle ∙ all_idle n (s - 1);
     start = start;
-    cycle = record { phase = phase; point = point; recent = recent; closed = closed; taken = λ t. cc; shelved = shelf };
+    cycle = record { phase = phase; point = point; open_set = open_keys; closed_set = closed; taken = λ t. cc; shelved = shelf };
   };
 }

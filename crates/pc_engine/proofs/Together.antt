@@ -1,6 +1,7 @@
 -- What each event keeps of the sessions, the records and the cycle together, and what that gives to each.
 use Rattle.std.proofs.Common.{◌≡◌, ℕ, zero, suc, ◌+◌, ◌<◌, ◌≤◌, List, [], ◌∷◌, ◌++◌, length, map, set, replicate, Option, Some, None, is_some, is_none, refl, sym, ap, subst, ◌∙◌, arith, Bool, true, false, cond, eqb, ◌||◌, inl, inr}
 use Rattle.std.specs.Prelude.{◌⊎◌, filter, option_map, Result, Ok, Err, IfOk, OnErr}
+use Rattle.pc_types.specs.declared.Mode.TheVariants.{Shared, Exclusive}
 use Rattle.pc_types.specs.declared.Class.{Class}
 use Rattle.pc_types.specs.declared.Class.TheVariants.{Before, During, After}
 use Rattle.pc_types.specs.declared.Phase.{Phase}
@@ -11,17 +12,21 @@ use Rattle.std.proofs.lemmas.List.Folds.{list_any-append}
 use Rattle.std.proofs.lemmas.Cmp.{eq_by_cmp_equiv}
 use Rattle.pc_model.specs.Database.{KeysRise, key_order, same_bytes, written}
 use Rattle.pc_model.specs.History.{class_in}
-use Rattle.pc_model.specs.Locks.{Outcome}
-use Rattle.pc_model.specs.Locks.Outcome.{Granted, Queued, Died}
+use Rattle.pc_types.specs.declared.Outcome.{Outcome}
+use Rattle.pc_types.specs.declared.Outcome.TheVariants.{Granted, Queued, Died}
 use Rattle.pc_model.specs.Points.{is_among}
-use Rattle.pc_model.specs.Replies.{same_phase, same_class, by_outcome, read_reply, value_read}
-use Rattle.pc_model.proofs.Joins.{one_key}
-use Rattle.pc_records.specs.Rows.{Row, Kept, record_of, is_recent, is_closed, rows_after, released_rows, written_row, closed_row, left_rows, committed_row}
+use Rattle.pc_model.specs.Replies.{by_outcome, read_reply, value_read}
+use Rattle.pc_types.specs.Phases.{same_phase, same_class}
+use Rattle.pc_model.proofs.JoinLaws.{one_key}
+use Rattle.pc_records.specs.Rows.{Row, Kept, record_of, is_in_open_set, is_in_closed_set}
+use Rattle.pc_records.specs.RowSteps.{rows_after, released_rows, written_row, closed_row, left_rows, committed_row}
 use Rattle.pc_records.specs.NewKeys.{new_keys, with_new}
 use Rattle.pc_records.specs.Tables.{Table, Pending, pending_at, pending_without, kept_of, pending_after, value_of, read_of, IsClearFor}
-use Rattle.pc_records.proofs.Flags.{HaveSameSets, asked_sets, released_sets, written_recent, written_closed, closed_sets, left_recent, left_closed}
-use Rattle.pc_records.proofs.Releasing.{rise_written}
-use Rattle.pc_engine.specs.Sessions.{Active, number_in, class_at, writes_in, wrote, died, if_died, if_granted, is_of, count_of}
+use Rattle.pc_records.proofs.SetFlagLaws.{asked_sets, released_sets, written_open, written_closed, closed_sets, left_open, left_closed}
+use Rattle.pc_records.specs.RowSets.{HaveSameSets}
+use Rattle.pc_records.proofs.ReleaseLaws.{rise_written}
+use Rattle.pc_engine.specs.Sessions.{number_in, class_at, writes_in, after_writing, after_dying, if_died, if_granted, is_of, count_of}
+use Rattle.pc_engine.specs.Store.{Active}
 use Rattle.pc_engine.specs.InPlace.{at_place, write_in, may_be_active, fits, AreListed, is_open_point, HoldTogether, StayTogether, AreOpen}
 use Rattle.pc_phase.specs.declared.change.Change.{Change}
 use Rattle.pc_phase.specs.declared.change.Change.TheVariants as changes
@@ -43,19 +48,19 @@ hold_first capacity n pairs = record {
     given = λ i. omega (arith, ap number_in (all_idle n i));
   };
   classes = λ i. ap (fits Rest) (all_idle n i);
-  sets = record { recent = λ q recent. absurd (let no : false ≡ true = sym (none_recent pairs q) ∙ recent in cc); closed = λ q closed. absurd (let no : false ≡ true = sym (none_closed pairs q) ∙ closed in cc) };
+  sets = record { open_set = λ q open_keys. absurd (let no : false ≡ true = sym (none_open pairs q) ∙ open_keys in cc); closed_set = λ q closed. absurd (let no : false ≡ true = sym (none_closed pairs q) ∙ closed in cc) };
   idle = λ at_rest. refl;
   within = omega arith;
   fresh = λ prepare. absurd (let no : false ≡ true = prepare in cc);
 }
   where
-    none_recent : (pairs : List (List ℕ × List ℕ)) (q : List ℕ) → is_recent (record_of (map committed_row pairs) q) ≡ false
-    none_recent [] q = refl
-    none_recent (p ∷ ps) q = elim (same_bytes q p.0) as (λ b. is_recent (cond b (Some (committed_row p).1) (record_of (map committed_row ps) q)) ≡ false) [ true ↦ refl | false ↦ none_recent ps q ]
+    none_open : (pairs : List (List ℕ × List ℕ)) (q : List ℕ) → is_in_open_set (record_of (map committed_row pairs) q) ≡ false
+    none_open [] q = refl
+    none_open (p ∷ ps) q = elim (same_bytes q p.0) as (λ b. is_in_open_set (cond b (Some (committed_row p).1) (record_of (map committed_row ps) q)) ≡ false) [ true ↦ refl | false ↦ none_open ps q ]
 
-    none_closed : (pairs : List (List ℕ × List ℕ)) (q : List ℕ) → is_closed (record_of (map committed_row pairs) q) ≡ false
+    none_closed : (pairs : List (List ℕ × List ℕ)) (q : List ℕ) → is_in_closed_set (record_of (map committed_row pairs) q) ≡ false
     none_closed [] q = refl
-    none_closed (p ∷ ps) q = elim (same_bytes q p.0) as (λ b. is_closed (cond b (Some (committed_row p).1) (record_of (map committed_row ps) q)) ≡ false) [ true ↦ refl | false ↦ none_closed ps q ]
+    none_closed (p ∷ ps) q = elim (same_bytes q p.0) as (λ b. is_in_closed_set (cond b (Some (committed_row p).1) (record_of (map committed_row ps) q)) ≡ false) [ true ↦ refl | false ↦ none_closed ps q ]
 
 -- a transaction of the phase's class may be active in the phase
 begun_fits : (phase : Phase) → may_be_active phase (class_in phase) ≡ true
@@ -66,9 +71,9 @@ begun_fits Capture = refl
 begun_fits Complete = refl
 
 -- a key of the writes is new, or was in the open set
-new_or_recent : (rows : List Row) (ws : List Write) (q : List ℕ) → is_some (written ws q) ≡ true → (is_recent (record_of rows q) ≡ true) ⊎ (is_among (new_keys rows ws) q ≡ true)
-new_or_recent rows [] q some = absurd (let no : false ≡ true = some in cc)
-new_or_recent rows (w ∷ ws) q some = by_match (same_bytes w.key q) refl some (new_or_recent rows ws q)
+new_or_open : (rows : List Row) (ws : List Write) (q : List ℕ) → is_some (written ws q) ≡ true → (is_in_open_set (record_of rows q) ≡ true) ⊎ (is_among (new_keys rows ws) q ≡ true)
+new_or_open rows [] q some = absurd (let no : false ≡ true = some in cc)
+new_or_open rows (w ∷ ws) q some = by_match (same_bytes w.key q) refl some (new_or_open rows ws q)
   where
     same : same_bytes w.key q ≡ true → same_bytes q w.key ≡ true
     same e = ap (λ k. same_bytes q k) (one_key w.key q e) ∙ (eq_by_cmp_equiv key_order.total).refl q
@@ -77,19 +82,19 @@ new_or_recent rows (w ∷ ws) q some = by_match (same_bytes w.key q) refl some (
     later true among = among
     later false among = ap (λ b. same_bytes q w.key || b) among ∙ elim (same_bytes q w.key) as (λ b. (b || true) ≡ true) [ true ↦ refl | false ↦ refl ]
 
-    by_new : (b : Bool) → is_recent (record_of rows w.key) ≡ b → same_bytes w.key q ≡ true → (is_recent (record_of rows q) ≡ true) ⊎ (is_among (with_new b w.key (new_keys rows ws)) q ≡ true)
-    by_new true e m = inl (ap (λ k. is_recent (record_of rows k)) (sym (one_key w.key q m)) ∙ e)
+    by_new : (b : Bool) → is_in_open_set (record_of rows w.key) ≡ b → same_bytes w.key q ≡ true → (is_in_open_set (record_of rows q) ≡ true) ⊎ (is_among (with_new b w.key (new_keys rows ws)) q ≡ true)
+    by_new true e m = inl (ap (λ k. is_in_open_set (record_of rows k)) (sym (one_key w.key q m)) ∙ e)
     by_new false e m = inr (ap (λ b. b || is_among (new_keys rows ws) q) (same m))
 
     by_match : (b : Bool) → same_bytes w.key q ≡ b → is_some (cond b (Some w.value) (written ws q)) ≡ true →
-        (is_some (written ws q) ≡ true → (is_recent (record_of rows q) ≡ true) ⊎ (is_among (new_keys rows ws) q ≡ true)) →
-        (is_recent (record_of rows q) ≡ true) ⊎ (is_among (with_new (is_recent (record_of rows w.key)) w.key (new_keys rows ws)) q ≡ true)
-    by_match true e s rest = by_new (is_recent (record_of rows w.key)) refl e
+        (is_some (written ws q) ≡ true → (is_in_open_set (record_of rows q) ≡ true) ⊎ (is_among (new_keys rows ws) q ≡ true)) →
+        (is_in_open_set (record_of rows q) ≡ true) ⊎ (is_among (with_new (is_in_open_set (record_of rows w.key)) w.key (new_keys rows ws)) q ≡ true)
+    by_match true e s rest = by_new (is_in_open_set (record_of rows w.key)) refl e
     by_match false e s rest = by_rest (rest s)
       where
-        by_rest : (is_recent (record_of rows q) ≡ true) ⊎ (is_among (new_keys rows ws) q ≡ true) → (is_recent (record_of rows q) ≡ true) ⊎ (is_among (with_new (is_recent (record_of rows w.key)) w.key (new_keys rows ws)) q ≡ true)
-        by_rest (inl recent) = inl recent
-        by_rest (inr among) = inr (later (is_recent (record_of rows w.key)) among)
+        by_rest : (is_in_open_set (record_of rows q) ≡ true) ⊎ (is_among (new_keys rows ws) q ≡ true) → (is_in_open_set (record_of rows q) ≡ true) ⊎ (is_among (with_new (is_in_open_set (record_of rows w.key)) w.key (new_keys rows ws)) q ≡ true)
+        by_rest (inl open_keys) = inl open_keys
+        by_rest (inr among) = inr (later (is_in_open_set (record_of rows w.key)) among)
 
 in_first : (keys more : List (List ℕ)) (q : List ℕ) → is_among keys q ≡ true → is_among (keys ++ more) q ≡ true
 in_first keys more q among = list_any-append (same_bytes q) keys more ∙ ap (λ b. b || is_among more q) among
@@ -135,17 +140,17 @@ is_this Complete Prepare e = absurd (let no : false ≡ true = e in cc)
 is_this Complete Resolve e = absurd (let no : false ≡ true = e in cc)
 is_this Complete Capture e = absurd (let no : false ≡ true = e in cc)
 
-module _ (t : Table) (ss : List (Option Active)) (begun : ℕ) (phase : Phase) (point : ℕ) (recent closed : List (List ℕ)) (hold : HoldTogether t ss begun phase point recent closed) where
+module _ (t : Table) (ss : List (Option Active)) (begun : ℕ) (phase : Phase) (point : ℕ) (open_keys closed : List (List ℕ)) (hold : HoldTogether t ss begun phase point open_keys closed) where
   -- no key of a closed set is left where the point is over
-  pub none_closed : is_open_point phase ≡ false → (q : List ℕ) → is_closed (record_of t.rows q) ≡ false
-  none_closed over q = by_flag (is_closed (record_of t.rows q)) refl
+  pub none_closed : is_open_point phase ≡ false → (q : List ℕ) → is_in_closed_set (record_of t.rows q) ≡ false
+  none_closed over q = by_flag (is_in_closed_set (record_of t.rows q)) refl
     where
-      by_flag : (b : Bool) → is_closed (record_of t.rows q) ≡ b → is_closed (record_of t.rows q) ≡ false
+      by_flag : (b : Bool) → is_in_closed_set (record_of t.rows q) ≡ b → is_in_closed_set (record_of t.rows q) ≡ false
       by_flag false e = e
-      by_flag true e = absurd (let no : false ≡ true = ap (λ keys. is_among keys q) (sym (hold.idle over)) ∙ hold.sets.closed q e in cc)
+      by_flag true e = absurd (let no : false ≡ true = ap (λ keys. is_among keys q) (sym (hold.idle over)) ∙ hold.sets.closed_set q e in cc)
 
   -- a transaction of class Before writes no key of a closed set
-  pub outside_closed : (j : ℕ) (q : List ℕ) → class_at (at_place ss j) ≡ Before → is_closed (record_of t.rows q) ≡ false
+  pub outside_closed : (j : ℕ) (q : List ℕ) → class_at (at_place ss j) ≡ Before → is_in_closed_set (record_of t.rows q) ≡ false
   outside_closed j q before = none_closed (by_active (at_place ss j) before (hold.classes j)) q
     where
       by_phase : (p : Phase) → may_be_active p Before ≡ true → is_open_point p ≡ false
@@ -202,7 +207,7 @@ module _ (t : Table) (ss : List (Option Active)) (begun : ℕ) (phase : Phase) (
       by_class During e = absurd (let no : false ≡ true = e in cc)
 
   -- a transaction begins
-  pub hold_begun : (j : ℕ) (a : Active) → j < length ss → a.number ≡ begun + 1 → a.class ≡ class_in phase → a.writes ≡ [] → is_none (at_place ss j) ≡ true → HoldTogether t (set ss j (Some a)) (begun + 1) phase point recent closed
+  pub hold_begun : (j : ℕ) (a : Active) → j < length ss → a.number ≡ begun + 1 → a.class ≡ class_in phase → a.writes ≡ [] → is_none (at_place ss j) ≡ true → HoldTogether t (set ss j (Some a)) (begun + 1) phase point open_keys closed
   hold_begun j a inside number class bare idle = record {
     writes = same_writes t ss begun hold.writes hold.numbers t j (Some a) inside (λ q. refl) (λ q. ap (λ ws. write_in (Some (record a { writes = ws })) q) bare ∙ sym (nothing (at_place ss j) q idle));
     numbers = begun_numbers t ss begun hold.writes hold.numbers j a inside number;
@@ -217,11 +222,11 @@ module _ (t : Table) (ss : List (Option Active)) (begun : ℕ) (phase : Phase) (
       nothing None q e = refl
       nothing (Some x) q e = absurd (let no : false ≡ true = e in cc)
 
-  listed : (rows : List Row) → HaveSameSets t.rows rows → AreListed rows recent closed
-  listed rows same = record { recent = λ q e. hold.sets.recent q (sym (same.recent q) ∙ e); closed = λ q e. hold.sets.closed q (sym (same.closed q) ∙ e) }
+  listed : (rows : List Row) → HaveSameSets t.rows rows → AreListed rows open_keys closed
+  listed rows same = record { open_set = λ q e. hold.sets.open_set q (sym (same.open_set q) ∙ e); closed_set = λ q e. hold.sets.closed_set q (sym (same.closed_set q) ∙ e) }
 
   -- a request was answered
-  pub hold_asked : (after : Table) → HaveSameSets t.rows after.rows → ((q : List ℕ) → pending_at after q ≡ pending_at t q) → after.point ≡ t.point → HoldTogether after ss begun phase point recent closed
+  pub hold_asked : (after : Table) → HaveSameSets t.rows after.rows → ((q : List ℕ) → pending_at after q ≡ pending_at t q) → after.point ≡ t.point → HoldTogether after ss begun phase point open_keys closed
   hold_asked after same stays still = record {
     writes = same_places t ss begun hold.writes hold.numbers after stays;
     numbers = hold.numbers;
@@ -233,41 +238,41 @@ module _ (t : Table) (ss : List (Option Active)) (begun : ℕ) (phase : Phase) (
   }
 
   -- a request has died
-  pub hold_died : (j : ℕ) → j < length ss → HoldTogether t (set ss j (died (at_place ss j))) begun phase point recent closed
+  pub hold_died : (j : ℕ) → j < length ss → HoldTogether t (set ss j (after_dying (at_place ss j))) begun phase point open_keys closed
   hold_died j inside = record {
-    writes = same_writes t ss begun hold.writes hold.numbers t j (died (at_place ss j)) inside (λ q. refl) (λ q. same_write (at_place ss j) q);
-    numbers = same_numbers t ss begun hold.writes hold.numbers j (died (at_place ss j)) inside (λ e. there (at_place ss j) e) (λ e. number (at_place ss j)) (subst (λ n. n ≤ begun) (sym (number (at_place ss j))) (hold.numbers.given j));
-    classes = by_place ss j (died (at_place ss j)) (λ i x. fits phase x ≡ true) inside (class (at_place ss j) (hold.classes j)) (λ i other. hold.classes i);
+    writes = same_writes t ss begun hold.writes hold.numbers t j (after_dying (at_place ss j)) inside (λ q. refl) (λ q. same_write (at_place ss j) q);
+    numbers = same_numbers t ss begun hold.writes hold.numbers j (after_dying (at_place ss j)) inside (λ e. there (at_place ss j) e) (λ e. number (at_place ss j)) (subst (λ n. n ≤ begun) (sym (number (at_place ss j))) (hold.numbers.given j));
+    classes = by_place ss j (after_dying (at_place ss j)) (λ i x. fits phase x ≡ true) inside (class (at_place ss j) (hold.classes j)) (λ i other. hold.classes i);
     sets = hold.sets;
     idle = hold.idle;
     within = hold.within;
     fresh = hold.fresh;
   }
     where
-      same_write : (a : Option Active) (q : List ℕ) → write_in (died a) q ≡ write_in a q
+      same_write : (a : Option Active) (q : List ℕ) → write_in (after_dying a) q ≡ write_in a q
       same_write None q = refl
       same_write (Some a) q = refl
 
-      there : (a : Option Active) → is_some (died a) ≡ true → is_some a ≡ true
+      there : (a : Option Active) → is_some (after_dying a) ≡ true → is_some a ≡ true
       there None e = e
       there (Some a) e = refl
 
-      number : (a : Option Active) → number_in (died a) ≡ number_in a
+      number : (a : Option Active) → number_in (after_dying a) ≡ number_in a
       number None = refl
       number (Some a) = refl
 
-      class : (a : Option Active) → fits phase a ≡ true → fits phase (died a) ≡ true
+      class : (a : Option Active) → fits phase a ≡ true → fits phase (after_dying a) ≡ true
       class None e = e
       class (Some a) e = e
 
   -- a write was made
   pub hold_wrote : (after : Table) (j : ℕ) (key : List ℕ) (value : Option (List ℕ)) → j < length ss → is_some (at_place ss j) ≡ true → HaveSameSets t.rows after.rows → after.point ≡ t.point → IsClearFor t key (number_in (at_place ss j)) →
       ((q : List ℕ) → pending_at after q ≡ cond (same_bytes key q) (Some (let p : Pending = record { by = number_in (at_place ss j); class = class_at (at_place ss j); value = value } in p)) (pending_at t q)) →
-      HoldTogether after (set ss j (wrote (at_place ss j) (record { key = key; value = value }))) begun phase point recent closed
+      HoldTogether after (set ss j (after_writing (at_place ss j) (record { key = key; value = value }))) begun phase point open_keys closed
   hold_wrote after j key value inside there same still clear is = record {
     writes = wrote_in_place t ss begun hold.writes hold.numbers after j key value inside there clear is;
-    numbers = same_numbers t ss begun hold.writes hold.numbers j (wrote (at_place ss j) w) inside (λ e. there) (λ e. number (at_place ss j)) (subst (λ n. n ≤ begun) (sym (number (at_place ss j))) (hold.numbers.given j));
-    classes = by_place ss j (wrote (at_place ss j) w) (λ i x. fits phase x ≡ true) inside (class (at_place ss j) (hold.classes j)) (λ i other. hold.classes i);
+    numbers = same_numbers t ss begun hold.writes hold.numbers j (after_writing (at_place ss j) w) inside (λ e. there) (λ e. number (at_place ss j)) (subst (λ n. n ≤ begun) (sym (number (at_place ss j))) (hold.numbers.given j));
+    classes = by_place ss j (after_writing (at_place ss j) w) (λ i x. fits phase x ≡ true) inside (class (at_place ss j) (hold.classes j)) (λ i other. hold.classes i);
     sets = listed after.rows same;
     idle = hold.idle;
     within = subst (λ n. n ≤ point) (sym still) hold.within;
@@ -277,11 +282,11 @@ module _ (t : Table) (ss : List (Option Active)) (begun : ℕ) (phase : Phase) (
       w : Write
       w = record { key = key; value = value }
 
-      number : (a : Option Active) → number_in (wrote a w) ≡ number_in a
+      number : (a : Option Active) → number_in (after_writing a w) ≡ number_in a
       number None = refl
       number (Some a) = refl
 
-      class : (a : Option Active) → fits phase a ≡ true → fits phase (wrote a w) ≡ true
+      class : (a : Option Active) → fits phase a ≡ true → fits phase (after_writing a w) ≡ true
       class None e = e
       class (Some a) e = e
 
@@ -298,8 +303,8 @@ module _ (t : Table) (ss : List (Option Active)) (begun : ℕ) (phase : Phase) (
 
   -- a transaction is committed
   pub hold_committed : (after : Table) (j n : ℕ) → j < length ss → KeysRise t.rows → after.rows ≡ released_rows n (map (written_row (writes_in (at_place ss j))) t.rows) → ((q : List ℕ) → pending_at after q ≡ pending_without (writes_in (at_place ss j)) t q) → after.point ≡ t.point →
-      HoldTogether after (set ss j None) begun phase point (recent ++ new_keys t.rows (writes_in (at_place ss j))) closed
-  hold_committed after j n inside rise rows is still = over after (recent ++ new_keys t.rows ws) j inside is still (subst (λ rs. AreListed rs (recent ++ new_keys t.rows ws) closed) (sym rows) (record { recent = λ q e. by_recent q (written_recent ws t.rows q (sym (same.recent q) ∙ e)); closed = λ q e. hold.sets.closed q (sym (written_closed ws t.rows q) ∙ sym (same.closed q) ∙ e) }))
+      HoldTogether after (set ss j None) begun phase point (open_keys ++ new_keys t.rows (writes_in (at_place ss j))) closed
+  hold_committed after j n inside rise rows is still = over after (open_keys ++ new_keys t.rows ws) j inside is still (subst (λ rs. AreListed rs (open_keys ++ new_keys t.rows ws) closed) (sym rows) (record { open_set = λ q e. by_open q (written_open ws t.rows q (sym (same.open_set q) ∙ e)); closed_set = λ q e. hold.sets.closed_set q (sym (written_closed ws t.rows q) ∙ sym (same.closed_set q) ∙ e) }))
     where
       ws : List Write
       ws = writes_in (at_place ss j)
@@ -307,21 +312,21 @@ module _ (t : Table) (ss : List (Option Active)) (begun : ℕ) (phase : Phase) (
       same : HaveSameSets (map (written_row ws) t.rows) (released_rows n (map (written_row ws) t.rows))
       same = released_sets n (map (written_row ws) t.rows) (rise_written ws t.rows rise)
 
-      by_new : (q : List ℕ) → (is_recent (record_of t.rows q) ≡ true) ⊎ (is_among (new_keys t.rows ws) q ≡ true) → is_among (recent ++ new_keys t.rows ws) q ≡ true
-      by_new q (inl e) = in_first recent (new_keys t.rows ws) q (hold.sets.recent q e)
-      by_new q (inr e) = in_second recent (new_keys t.rows ws) q e
+      by_new : (q : List ℕ) → (is_in_open_set (record_of t.rows q) ≡ true) ⊎ (is_among (new_keys t.rows ws) q ≡ true) → is_among (open_keys ++ new_keys t.rows ws) q ≡ true
+      by_new q (inl e) = in_first open_keys (new_keys t.rows ws) q (hold.sets.open_set q e)
+      by_new q (inr e) = in_second open_keys (new_keys t.rows ws) q e
 
-      by_recent : (q : List ℕ) → (is_recent (record_of t.rows q) ≡ true) ⊎ (is_some (written ws q) ≡ true) → is_among (recent ++ new_keys t.rows ws) q ≡ true
-      by_recent q (inl e) = by_new q (inl e)
-      by_recent q (inr e) = by_new q (new_or_recent t.rows ws q e)
+      by_open : (q : List ℕ) → (is_in_open_set (record_of t.rows q) ≡ true) ⊎ (is_some (written ws q) ≡ true) → is_among (open_keys ++ new_keys t.rows ws) q ≡ true
+      by_open q (inl e) = by_new q (inl e)
+      by_open q (inr e) = by_new q (new_or_open t.rows ws q e)
 
   -- a transaction is undone
-  pub hold_aborted : (after : Table) (j n : ℕ) → j < length ss → KeysRise t.rows → after.rows ≡ released_rows n t.rows → ((q : List ℕ) → pending_at after q ≡ pending_without (writes_in (at_place ss j)) t q) → after.point ≡ t.point → HoldTogether after (set ss j None) begun phase point recent closed
-  hold_aborted after j n inside rise rows is still = over after recent j inside is still (subst (λ rs. AreListed rs recent closed) (sym rows) (listed (released_rows n t.rows) (released_sets n t.rows rise)))
+  pub hold_aborted : (after : Table) (j n : ℕ) → j < length ss → KeysRise t.rows → after.rows ≡ released_rows n t.rows → ((q : List ℕ) → pending_at after q ≡ pending_without (writes_in (at_place ss j)) t q) → after.point ≡ t.point → HoldTogether after (set ss j None) begun phase point open_keys closed
+  hold_aborted after j n inside rise rows is still = over after open_keys j inside is still (subst (λ rs. AreListed rs open_keys closed) (sym rows) (listed (released_rows n t.rows) (released_sets n t.rows rise)))
 
   -- the phase has changed to one in which the same transactions may be active
-  moved : (to : Phase) (next : ℕ) → ((i : ℕ) → fits to (at_place ss i) ≡ true) → (is_open_point to ≡ false → closed ≡ []) → t.point ≤ next → (same_phase to Prepare ≡ true → t.point < next) → HoldTogether t ss begun to next recent closed
-  moved to next classes idle within fresh = record { writes = hold.writes; numbers = hold.numbers; classes = classes; sets = hold.sets; idle = idle; within = within; fresh = fresh }
+  after_moving : (to : Phase) (next : ℕ) → ((i : ℕ) → fits to (at_place ss i) ≡ true) → (is_open_point to ≡ false → closed ≡ []) → t.point ≤ next → (same_phase to Prepare ≡ true → t.point < next) → HoldTogether t ss begun to next open_keys closed
+  after_moving to next classes idle within fresh = record { writes = hold.writes; numbers = hold.numbers; classes = classes; sets = hold.sets; idle = idle; within = within; fresh = fresh }
 
   fits_then : (to : Phase) → ((c : Class) → may_be_active phase c ≡ true → may_be_active to c ≡ true) → (i : ℕ) → fits to (at_place ss i) ≡ true
   fits_then to may i = by_active (at_place ss i) (hold.classes i)
@@ -337,8 +342,8 @@ module _ (t : Table) (ss : List (Option Active)) (begun : ℕ) (phase : Phase) (
       by_active None e f = refl
       by_active (Some a) e f = may a.class e f
 
-  pub hold_started : same_phase phase Rest ≡ true → HoldTogether t ss begun Prepare (point + 1) recent closed
-  hold_started rest = moved Prepare (point + 1) (fits_then Prepare (λ c e. may c (subst (λ p. may_be_active p c ≡ true) (is_this phase Rest rest) e))) (λ e. hold.idle (ap is_open_point (is_this phase Rest rest))) (omega (arith, hold.within)) (λ e. omega (arith, hold.within))
+  pub hold_started : same_phase phase Rest ≡ true → HoldTogether t ss begun Prepare (point + 1) open_keys closed
+  hold_started rest = after_moving Prepare (point + 1) (fits_then Prepare (λ c e. may c (subst (λ p. may_be_active p c ≡ true) (is_this phase Rest rest) e))) (λ e. hold.idle (ap is_open_point (is_this phase Rest rest))) (omega (arith, hold.within)) (λ e. omega (arith, hold.within))
     where
       may : (c : Class) → may_be_active Rest c ≡ true → may_be_active Prepare c ≡ true
       may Before e = refl
@@ -347,14 +352,14 @@ module _ (t : Table) (ss : List (Option Active)) (begun : ℕ) (phase : Phase) (
 
   -- the phase changes, once no transaction of the class is active
   pub hold_moved : (from to : Phase) (class : Class) → same_phase phase from ≡ true → count_of class ss ≡ 0 → ((c : Class) → may_be_active from c ≡ true → same_class c class ≡ false → may_be_active to c ≡ true) → (is_open_point to ≡ false → is_open_point from ≡ false) → same_phase to Prepare ≡ false →
-      HoldTogether t ss begun to point recent closed
+      HoldTogether t ss begun to point open_keys closed
   hold_moved from to class is none may over later =
       let one = is_this phase from is in
-      moved to point (fits_without to class none (λ c e. may c (subst (λ p. may_be_active p c ≡ true) one e))) (λ e. hold.idle (ap is_open_point one ∙ over e)) hold.within (λ e. absurd (let no : true ≡ false = sym e ∙ later in cc))
+      after_moving to point (fits_without to class none (λ c e. may c (subst (λ p. may_be_active p c ≡ true) one e))) (λ e. hold.idle (ap is_open_point one ∙ over e)) hold.within (λ e. absurd (let no : true ≡ false = sym e ∙ later in cc))
 
   -- the part of the point is shelved
-  pub hold_shelved : same_phase phase Capture ≡ true → closed ≡ [] → HoldTogether t ss begun Complete point recent closed
-  hold_shelved capture none = moved Complete point (fits_then Complete (λ c e. may c (subst (λ p. may_be_active p c ≡ true) (is_this phase Capture capture) e))) (λ e. none) hold.within (λ e. absurd (let no : false ≡ true = e in cc))
+  pub hold_shelved : same_phase phase Capture ≡ true → closed ≡ [] → HoldTogether t ss begun Complete point open_keys closed
+  hold_shelved capture none = after_moving Complete point (fits_then Complete (λ c e. may c (subst (λ p. may_be_active p c ≡ true) (is_this phase Capture capture) e))) (λ e. none) hold.within (λ e. absurd (let no : false ≡ true = e in cc))
     where
       may : (c : Class) → may_be_active Capture c ≡ true → may_be_active Complete c ≡ true
       may After e = refl
@@ -362,12 +367,12 @@ module _ (t : Table) (ss : List (Option Active)) (begun : ℕ) (phase : Phase) (
       may During e = e
 
   -- the open set is closed
-  pub hold_sealed : same_phase phase Prepare ≡ true → count_of Before ss ≡ 0 → HoldTogether (record t { rows = map closed_row t.rows; point = point }) ss begun Resolve point [] recent
+  pub hold_sealed : same_phase phase Prepare ≡ true → count_of Before ss ≡ 0 → HoldTogether (record t { rows = map closed_row t.rows; point = point }) ss begun Resolve point [] open_keys
   hold_sealed prepare none = record {
     writes = same_places t ss begun hold.writes hold.numbers (record t { rows = map closed_row t.rows; point = point }) (λ q. refl);
     numbers = hold.numbers;
     classes = fits_without Resolve Before none (λ c e. may c (subst (λ p. may_be_active p c ≡ true) (is_this phase Prepare prepare) e));
-    sets = record { recent = λ q e. absurd (let no : false ≡ true = sym (closed_sets t.rows q).1 ∙ e in cc); closed = λ q e. hold.sets.recent q (sym (closed_sets t.rows q).0 ∙ e) };
+    sets = record { open_set = λ q e. absurd (let no : false ≡ true = sym (closed_sets t.rows q).1 ∙ e in cc); closed_set = λ q e. hold.sets.open_set q (sym (closed_sets t.rows q).0 ∙ e) };
     idle = λ e. absurd (let no : true ≡ false = e in cc);
     within = omega arith;
     fresh = λ e. absurd (let no : false ≡ true = e in cc);
@@ -379,45 +384,45 @@ module _ (t : Table) (ss : List (Option Active)) (begun : ℕ) (phase : Phase) (
       may After e f = refl
 
   -- the first key of the closed set is taken
-  pub hold_taken : (k : List ℕ) (ks : List (List ℕ)) → closed ≡ k ∷ ks → HoldTogether (record t { rows = left_rows t.rows k }) ss begun phase point recent ks
+  pub hold_taken : (k : List ℕ) (ks : List (List ℕ)) → closed ≡ k ∷ ks → HoldTogether (record t { rows = left_rows t.rows k }) ss begun phase point open_keys ks
   hold_taken k ks is = record {
     writes = same_places t ss begun hold.writes hold.numbers (record t { rows = left_rows t.rows k }) (λ q. refl);
     numbers = hold.numbers;
     classes = hold.classes;
-    sets = record { recent = λ q e. hold.sets.recent q (sym (left_recent t.rows k q) ∙ e); closed = λ q e. by_rest q (left_closed t.rows k q e) };
+    sets = record { open_set = λ q e. hold.sets.open_set q (sym (left_open t.rows k q) ∙ e); closed_set = λ q e. by_rest q (left_closed t.rows k q e) };
     idle = λ e. absurd (let no : k ∷ ks ≡ [] = sym is ∙ hold.idle e in cc);
     within = hold.within;
     fresh = hold.fresh;
   }
     where
-      by_rest : (q : List ℕ) → (is_closed (record_of t.rows q) ≡ true) × (same_bytes q k ≡ false) → is_among ks q ≡ true
-      by_rest q was = sym (ap (λ b. b || is_among ks q) was.1) ∙ ap (λ keys. is_among keys q) (sym is) ∙ hold.sets.closed q was.0
+      by_rest : (q : List ℕ) → (is_in_closed_set (record_of t.rows q) ≡ true) × (same_bytes q k ≡ false) → is_among ks q ≡ true
+      by_rest q was = sym (ap (λ b. b || is_among ks q) was.1) ∙ ap (λ keys. is_among keys q) (sym is) ∙ hold.sets.closed_set q was.0
 
 -- a request to read was answered
-pub shared_together : (t after : Table) (ss : List (Option Active)) (key : List ℕ) (n : ℕ) (o : Outcome) → after ≡ record t { rows = rows_after t.rows key n false o } → StayTogether t ss after ss
-shared_together t after ss key n o is begun phase point recent closed hold =
-    hold_asked t ss begun phase point recent closed hold after (subst (λ rows. HaveSameSets t.rows rows) (sym (ap (λ (a : Table). a.rows) is)) (asked_sets t.rows key n false o)) (λ q. ap (λ (a : Table). pending_at a q) is) (ap (λ (a : Table). a.point) is)
+pub shared_together : (t after : Table) (ss : List (Option Active)) (key : List ℕ) (n : ℕ) (o : Outcome) → after ≡ record t { rows = rows_after t.rows key n Shared o } → StayTogether t ss after ss
+shared_together t after ss key n o is begun phase point open_keys closed hold =
+    hold_asked t ss begun phase point open_keys closed hold after (subst (λ rows. HaveSameSets t.rows rows) (sym (ap (λ (a : Table). a.rows) is)) (asked_sets t.rows key n Shared o)) (λ q. ap (λ (a : Table). pending_at a q) is) (ap (λ (a : Table). a.point) is)
 
 -- a request to read has died
-pub shared_dead : (t after : Table) (ss : List (Option Active)) (j : ℕ) (key : List ℕ) (n : ℕ) (o : Outcome) → j < length ss → after ≡ record t { rows = rows_after t.rows key n false o } → StayTogether t ss after (set ss j (died (at_place ss j)))
-shared_dead t after ss j key n o inside is begun phase point recent closed hold =
-    hold_died after ss begun phase point recent closed (shared_together t after ss key n o is begun phase point recent closed hold) j inside
+pub shared_dead : (t after : Table) (ss : List (Option Active)) (j : ℕ) (key : List ℕ) (n : ℕ) (o : Outcome) → j < length ss → after ≡ record t { rows = rows_after t.rows key n Shared o } → StayTogether t ss after (set ss j (after_dying (at_place ss j)))
+shared_dead t after ss j key n o inside is begun phase point open_keys closed hold =
+    hold_died after ss begun phase point open_keys closed (shared_together t after ss key n o is begun phase point open_keys closed hold) j inside
 
 -- a request to write was answered
 pub written_together : (t after : Table) (ss : List (Option Active)) (j : ℕ) (key : List ℕ) (value : Option (List ℕ)) (o : Outcome) → j < length ss → is_some (at_place ss j) ≡ true →
-    kept_of after ≡ record (kept_of t) { rows = rows_after t.rows key (number_in (at_place ss j)) true o } →
+    kept_of after ≡ record (kept_of t) { rows = rows_after t.rows key (number_in (at_place ss j)) Exclusive o } →
     ((q : List ℕ) → pending_at after q ≡ pending_after o t key (let p : Pending = record { by = number_in (at_place ss j); class = class_at (at_place ss j); value = value } in p) q) → (o ≡ Granted → IsClearFor t key (number_in (at_place ss j))) → after.point ≡ t.point →
-    StayTogether t ss after (if_died o (set ss j (died (at_place ss j))) (if_granted o (set ss j (wrote (at_place ss j) (record { key = key; value = value }))) ss))
-written_together t after ss j key value o inside there rows pending clear still begun phase point recent closed hold = by_outcome o pending (λ e. clear e)
+    StayTogether t ss after (if_died o (set ss j (after_dying (at_place ss j))) (if_granted o (set ss j (after_writing (at_place ss j) (record { key = key; value = value }))) ss))
+written_together t after ss j key value o inside there rows pending clear still begun phase point open_keys closed hold = by_outcome o pending (λ e. clear e)
   where
     same : HaveSameSets t.rows after.rows
-    same = subst (λ rs. HaveSameSets t.rows rs) (sym (ap (λ (k : Kept). k.rows) rows)) (asked_sets t.rows key (number_in (at_place ss j)) true o)
+    same = subst (λ rs. HaveSameSets t.rows rs) (sym (ap (λ (k : Kept). k.rows) rows)) (asked_sets t.rows key (number_in (at_place ss j)) Exclusive o)
 
     by_outcome : (o : Outcome) → ((q : List ℕ) → pending_at after q ≡ pending_after o t key (let p : Pending = record { by = number_in (at_place ss j); class = class_at (at_place ss j); value = value } in p) q) → (o ≡ Granted → IsClearFor t key (number_in (at_place ss j))) →
-        HoldTogether after (if_died o (set ss j (died (at_place ss j))) (if_granted o (set ss j (wrote (at_place ss j) (record { key = key; value = value }))) ss)) begun phase point recent closed
-    by_outcome Granted pending clear = hold_wrote t ss begun phase point recent closed hold after j key value inside there same still (clear refl) pending
-    by_outcome Queued pending clear = hold_asked t ss begun phase point recent closed hold after same pending still
-    by_outcome Died pending clear = hold_died after ss begun phase point recent closed (hold_asked t ss begun phase point recent closed hold after same pending still) j inside
+        HoldTogether after (if_died o (set ss j (after_dying (at_place ss j))) (if_granted o (set ss j (after_writing (at_place ss j) (record { key = key; value = value }))) ss)) begun phase point open_keys closed
+    by_outcome Granted pending clear = hold_wrote t ss begun phase point open_keys closed hold after j key value inside there same still (clear refl) pending
+    by_outcome Queued pending clear = hold_asked t ss begun phase point open_keys closed hold after same pending still
+    by_outcome Died pending clear = hold_died after ss begun phase point open_keys closed (hold_asked t ss begun phase point open_keys closed hold after same pending still) j inside
 
 -- the classes that may be active once the phase has changed
 pub opens_capture : (c : Class) → may_be_active Resolve c ≡ true → same_class c During ≡ false → may_be_active Capture c ≡ true
@@ -432,18 +437,18 @@ goes_to_rest After e f = absurd (let no : true ≡ false = f in cc)
 
 -- a transaction's writes are committed where they stand, and its requests released
 pub committed_together : (t middle after : Table) (ss : List (Option Active)) (j n : ℕ) (ws : List Write) → j < length ss → KeysRise t.rows → ws ≡ writes_in (at_place ss j) → kept_of middle ≡ record (kept_of t) { rows = map (written_row ws) t.rows } → ((q : List ℕ) → pending_at middle q ≡ pending_without ws t q) →
-    middle.point ≡ t.point → after ≡ record middle { rows = released_rows n middle.rows } → (begun : ℕ) (phase : Phase) (point : ℕ) (recent closed : List (List ℕ)) → HoldTogether t ss begun phase point recent closed →
-    HoldTogether after (set ss j None) begun phase point (recent ++ new_keys t.rows (writes_in (at_place ss j))) closed
-committed_together t middle after ss j n ws inside rise mine rows pending still left begun phase point recent closed hold =
-    hold_committed t ss begun phase point recent closed hold after j n inside rise
+    middle.point ≡ t.point → after ≡ record middle { rows = released_rows n middle.rows } → (begun : ℕ) (phase : Phase) (point : ℕ) (open_keys closed : List (List ℕ)) → HoldTogether t ss begun phase point open_keys closed →
+    HoldTogether after (set ss j None) begun phase point (open_keys ++ new_keys t.rows (writes_in (at_place ss j))) closed
+committed_together t middle after ss j n ws inside rise mine rows pending still left begun phase point open_keys closed hold =
+    hold_committed t ss begun phase point open_keys closed hold after j n inside rise
     (ap (λ (a : Table). a.rows) left ∙ ap (released_rows n) (ap (λ (k : Kept). k.rows) rows ∙ ap (λ w. map (written_row w) t.rows) mine))
     (λ q. ap (λ (a : Table). pending_at a q) left ∙ pending q ∙ ap (λ w. pending_without w t q) mine) (ap (λ (a : Table). a.point) left ∙ still)
 
 -- a transaction's writes are undone, and its requests released
 pub aborted_together : (t middle after : Table) (ss : List (Option Active)) (j n : ℕ) (ws : List Write) → j < length ss → KeysRise t.rows → ws ≡ writes_in (at_place ss j) → kept_of middle ≡ kept_of t → ((q : List ℕ) → pending_at middle q ≡ pending_without ws t q) →
     middle.point ≡ t.point → after ≡ record middle { rows = released_rows n middle.rows } → StayTogether t ss after (set ss j None)
-aborted_together t middle after ss j n ws inside rise mine rows pending still left begun phase point recent closed hold =
-    hold_aborted t ss begun phase point recent closed hold after j n inside rise
+aborted_together t middle after ss j n ws inside rise mine rows pending still left begun phase point open_keys closed hold =
+    hold_aborted t ss begun phase point open_keys closed hold after j n inside rise
     (ap (λ (a : Table). a.rows) left ∙ ap (released_rows n) (ap (λ (k : Kept). k.rows) rows))
     (λ q. ap (λ (a : Table). pending_at a q) left ∙ pending q ∙ ap (λ w. pending_without w t q) mine) (ap (λ (a : Table). a.point) left ∙ still)
 
@@ -459,27 +464,27 @@ none_placed t middle ss begun j n ws placed there mine number pending q p stands
 
 -- what a request to write, answered or refused for want of memory, leaves
 pub request_together : {A E : Type 0} (result : Result A E) (told : A → Outcome) (t after : Table) (ss then : List (Option Active)) (j : ℕ) (a : Active) (key : List ℕ) (value : Option (List ℕ)) → j < length ss → at_place ss j ≡ Some a →
-    IfOk result (λ r. then ≡ if_died (told r) (set ss j (died (at_place ss j))) (if_granted (told r) (set ss j (wrote (at_place ss j) (record { key = key; value = value }))) ss)) → OnErr result (then ≡ ss) →
-    IfOk result (λ r. kept_of after ≡ record (kept_of t) { rows = rows_after t.rows key a.number true (told r) }) →
+    IfOk result (λ r. then ≡ if_died (told r) (set ss j (after_dying (at_place ss j))) (if_granted (told r) (set ss j (after_writing (at_place ss j) (record { key = key; value = value }))) ss)) → OnErr result (then ≡ ss) →
+    IfOk result (λ r. kept_of after ≡ record (kept_of t) { rows = rows_after t.rows key a.number Exclusive (told r) }) →
     IfOk result (λ r. (q : List ℕ) → pending_at after q ≡ pending_after (told r) t key (let p : Pending = record { by = a.number; class = a.class; value = value } in p) q) →
     IfOk result (λ r. told r ≡ Granted → IsClearFor t key a.number) → IfOk result (λ r. after.point ≡ t.point) → OnErr result (after ≡ t) → StayTogether t ss after then
 request_together (Ok r) told t after ss then j a key value inside own done undone rows pending clear still same =
     let known = by_own (at_place ss j) own (told r) rows pending clear in
     rw done (written_together t after ss j key value (told r) inside (ap is_some own) known.0 known.1 known.2 still)
   where
-    by_own : (x : Option Active) → x ≡ Some a → (o : Outcome) → kept_of after ≡ record (kept_of t) { rows = rows_after t.rows key a.number true o } →
+    by_own : (x : Option Active) → x ≡ Some a → (o : Outcome) → kept_of after ≡ record (kept_of t) { rows = rows_after t.rows key a.number Exclusive o } →
         ((q : List ℕ) → pending_at after q ≡ pending_after o t key (let p : Pending = record { by = a.number; class = a.class; value = value } in p) q) → (o ≡ Granted → IsClearFor t key a.number) →
-        (kept_of after ≡ record (kept_of t) { rows = rows_after t.rows key (number_in x) true o })
+        (kept_of after ≡ record (kept_of t) { rows = rows_after t.rows key (number_in x) Exclusive o })
         × ((q : List ℕ) → pending_at after q ≡ pending_after o t key (let p : Pending = record { by = number_in x; class = class_at x; value = value } in p) q)
         × (o ≡ Granted → IsClearFor t key (number_in x))
-    by_own x is o k p c = subst (λ y. (kept_of after ≡ record (kept_of t) { rows = rows_after t.rows key (number_in y) true o }) × ((q : List ℕ) → pending_at after q ≡ pending_after o t key (let w : Pending = record { by = number_in y; class = class_at y; value = value } in w) q) × (o ≡ Granted → IsClearFor t key (number_in y))) (sym is) (k, p, c)
-request_together (Err e) told t after ss then j a key value inside own done undone rows pending clear still same = λ begun phase point recent closed hold. rw (undone, same) hold
+    by_own x is o k p c = subst (λ y. (kept_of after ≡ record (kept_of t) { rows = rows_after t.rows key (number_in y) Exclusive o }) × ((q : List ℕ) → pending_at after q ≡ pending_after o t key (let w : Pending = record { by = number_in y; class = class_at y; value = value } in w) q) × (o ≡ Granted → IsClearFor t key (number_in y))) (sym is) (k, p, c)
+request_together (Err e) told t after ss then j a key value inside own done undone rows pending clear still same = λ begun phase point open_keys closed hold. rw (undone, same) hold
 
 -- a transaction begins
-pub begun_together : (ss : List (Option Active)) (j : ℕ) (a : Active) → j < length ss → a.writes ≡ [] → is_none (at_place ss j) ≡ true → (t : Table) (begun : ℕ) (phase : Phase) (point : ℕ) (recent closed : List (List ℕ)) → begun + 1 ≡ a.number → a.class ≡ class_in phase →
-    HoldTogether t ss begun phase point recent closed → HoldTogether t (set ss j (Some a)) a.number phase point recent closed
-begun_together ss j a inside bare idle t begun phase point recent closed next class hold =
-    subst (λ n. HoldTogether t (set ss j (Some a)) n phase point recent closed) next (hold_begun t ss begun phase point recent closed hold j a inside (sym next) class bare idle)
+pub begun_together : (ss : List (Option Active)) (j : ℕ) (a : Active) → j < length ss → a.writes ≡ [] → is_none (at_place ss j) ≡ true → (t : Table) (begun : ℕ) (phase : Phase) (point : ℕ) (open_keys closed : List (List ℕ)) → begun + 1 ≡ a.number → a.class ≡ class_in phase →
+    HoldTogether t ss begun phase point open_keys closed → HoldTogether t (set ss j (Some a)) a.number phase point open_keys closed
+begun_together ss j a inside bare idle t begun phase point open_keys closed next class hold =
+    subst (λ n. HoldTogether t (set ss j (Some a)) n phase point open_keys closed) next (hold_begun t ss begun phase point open_keys closed hold j a inside (sym next) class bare idle)
 
 -- what is read where the request was granted is what the transaction has written, or else what is committed
 pub read_granted : (t : Table) (ss : List (Option Active)) (begun j n : ℕ) (key : List ℕ) (o : Outcome) (found : Reply) (committed : Option (List ℕ)) → AreOpen t ss begun → is_some (at_place ss j) ≡ true → Granted ≡ o → n ≡ number_in (at_place ss j) → IsClearFor t key n →
@@ -488,28 +493,28 @@ read_granted t ss begun j n key o found committed placed there granted number cl
     is ∙ ap read_reply (reads_right t ss begun placed.writes placed.numbers j key committed there (subst (λ k. IsClearFor t key k) number clear)) ∙ ap (λ x. by_outcome x (read_reply (value_read (written (writes_in (at_place ss j)) key) committed))) granted
 
 -- the open set was closed
-pub sealed_together : (t after : Table) (ss : List (Option Active)) (begun : ℕ) (phase : Phase) (point : ℕ) (recent closed opened left : List (List ℕ)) → HoldTogether t ss begun phase point recent closed → same_phase phase Prepare ≡ true → count_of Before ss ≡ 0 → after ≡ record t { rows = map closed_row t.rows; point = point } → opened ≡ [] → left ≡ recent →
+pub sealed_together : (t after : Table) (ss : List (Option Active)) (begun : ℕ) (phase : Phase) (point : ℕ) (open_keys closed opened left : List (List ℕ)) → HoldTogether t ss begun phase point open_keys closed → same_phase phase Prepare ≡ true → count_of Before ss ≡ 0 → after ≡ record t { rows = map closed_row t.rows; point = point } → opened ≡ [] → left ≡ open_keys →
     HoldTogether after ss begun Resolve point opened left
-sealed_together t after ss begun phase point recent closed opened left hold prepare none is bare all = rw (is, bare, all) (hold_sealed t ss begun phase point recent closed hold prepare none)
+sealed_together t after ss begun phase point open_keys closed opened left hold prepare none is bare all = rw (is, bare, all) (hold_sealed t ss begun phase point open_keys closed hold prepare none)
 
 -- the first key was taken
-pub taken_together : (t after : Table) (ss : List (Option Active)) (begun : ℕ) (phase : Phase) (point : ℕ) (recent closed : List (List ℕ)) (k : List ℕ) (ks : List (List ℕ)) → HoldTogether t ss begun phase point recent closed → after ≡ record t { rows = left_rows t.rows k } → closed ≡ k ∷ ks → HoldTogether after ss begun phase point recent ks
-taken_together t after ss begun phase point recent closed k ks hold is first = rw is (hold_taken t ss begun phase point recent closed hold k ks first)
+pub taken_together : (t after : Table) (ss : List (Option Active)) (begun : ℕ) (phase : Phase) (point : ℕ) (open_keys closed : List (List ℕ)) (k : List ℕ) (ks : List (List ℕ)) → HoldTogether t ss begun phase point open_keys closed → after ≡ record t { rows = left_rows t.rows k } → closed ≡ k ∷ ks → HoldTogether after ss begun phase point open_keys ks
+taken_together t after ss begun phase point open_keys closed k ks hold is first = rw is (hold_taken t ss begun phase point open_keys closed hold k ks first)
 
 -- the same list of the open set
-pub same_recent : (t : Table) (ss : List (Option Active)) (begun : ℕ) (phase : Phase) (point : ℕ) (recent now closed : List (List ℕ)) → now ≡ recent → HoldTogether t ss begun phase point recent closed → HoldTogether t ss begun phase point now closed
-same_recent t ss begun phase point recent now closed is hold = rw is hold
+pub same_open : (t : Table) (ss : List (Option Active)) (begun : ℕ) (phase : Phase) (point : ℕ) (open_keys now closed : List (List ℕ)) → now ≡ open_keys → HoldTogether t ss begun phase point open_keys closed → HoldTogether t ss begun phase point now closed
+same_open t ss begun phase point open_keys now closed is hold = rw is hold
 
 -- a new world holds together
-pub first_together : (t : Table) (ss : List (Option Active)) (recent closed : List (List ℕ)) (capacity n : ℕ) (pairs : List (List ℕ × List ℕ)) → t ≡ (let first : Table = record { capacity = capacity; rows = map committed_row pairs; pending = []; point = 0 } in first) → ss ≡ replicate n None → recent ≡ [] → closed ≡ [] → HoldTogether t ss 0 Rest 0 recent closed
-first_together t ss recent closed capacity n pairs is idle bare none = rw (is, idle, bare, none) (hold_first capacity n pairs)
+pub first_together : (t : Table) (ss : List (Option Active)) (open_keys closed : List (List ℕ)) (capacity n : ℕ) (pairs : List (List ℕ × List ℕ)) → t ≡ (let first : Table = record { capacity = capacity; rows = map committed_row pairs; pending = []; point = 0 } in first) → ss ≡ replicate n None → open_keys ≡ [] → closed ≡ [] → HoldTogether t ss 0 Rest 0 open_keys closed
+first_together t ss open_keys closed capacity n pairs is idle bare none = rw (is, idle, bare, none) (hold_first capacity n pairs)
 
 -- the phase has changed to capture or to rest
-pub changed_together : (t : Table) (ss : List (Option Active)) (begun : ℕ) (phase : Phase) (point : ℕ) (recent closed : List (List ℕ)) (change : Change) → (change ≡ changes.OpenCapture) ⊎ (change ≡ changes.Rest) → HoldTogether t ss begun phase point recent closed → same_phase phase (from_of change) ≡ true →
-    count_of (holders change) ss ≡ 0 → HoldTogether t ss begun (to_of change) point recent closed
-changed_together t ss begun phase point recent closed change (inl e) hold =
-    subst (λ c. same_phase phase (from_of c) ≡ true → count_of (holders c) ss ≡ 0 → HoldTogether t ss begun (to_of c) point recent closed) (sym e)
-    (λ is none. hold_moved t ss begun phase point recent closed hold Resolve Capture During is none opens_capture (λ over. over) refl)
-changed_together t ss begun phase point recent closed change (inr e) hold =
-    subst (λ c. same_phase phase (from_of c) ≡ true → count_of (holders c) ss ≡ 0 → HoldTogether t ss begun (to_of c) point recent closed) (sym e)
-    (λ is none. hold_moved t ss begun phase point recent closed hold Complete Rest After is none goes_to_rest (λ over. refl) refl)
+pub changed_together : (t : Table) (ss : List (Option Active)) (begun : ℕ) (phase : Phase) (point : ℕ) (open_keys closed : List (List ℕ)) (change : Change) → (change ≡ changes.OpenCapture) ⊎ (change ≡ changes.Rest) → HoldTogether t ss begun phase point open_keys closed → same_phase phase (from_of change) ≡ true →
+    count_of (holders change) ss ≡ 0 → HoldTogether t ss begun (to_of change) point open_keys closed
+changed_together t ss begun phase point open_keys closed change (inl e) hold =
+    subst (λ c. same_phase phase (from_of c) ≡ true → count_of (holders c) ss ≡ 0 → HoldTogether t ss begun (to_of c) point open_keys closed) (sym e)
+    (λ is none. hold_moved t ss begun phase point open_keys closed hold Resolve Capture During is none opens_capture (λ over. over) refl)
+changed_together t ss begun phase point open_keys closed change (inr e) hold =
+    subst (λ c. same_phase phase (from_of c) ≡ true → count_of (holders c) ss ≡ 0 → HoldTogether t ss begun (to_of c) point open_keys closed) (sym e)
+    (λ is none. hold_moved t ss begun phase point open_keys closed hold Complete Rest After is none goes_to_rest (λ over. refl) refl)

@@ -3,7 +3,7 @@ use Rattle.std.proofs.Common.{◌≡◌, ℕ, ◌+◌, ◌<◌, List, ◌∷◌,
 use Rattle.std.proofs.lemmas.List.{get_or_default, set_split}
 use Rattle.pc_types.specs.declared.Write.{Write}
 use Rattle.pc_model.specs.Database.{with_write, written, same_bytes}
-use Rattle.pc_model.proofs.EntryPlaces.{rest_at}
+use Rattle.pc_model.proofs.PlaceLaws.{rest_at}
 use Rattle.pc_engine.specs.Writes.{IsWrittenAt}
 
 pub written_here : (writes : List Write) (key : List ℕ) (i : ℕ) (w : Write) → i < length writes → w ≡ get_or writes i w → same_bytes w.key key ≡ true →

@@ -10,7 +10,7 @@ use Rattle.pc_part.specs.Parts.{CoversTo}
 use Rattle.pc_records.specs.Rows.{record_of, stored}
 use Rattle.pc_engine.specs.Store.{Store}
 
--- the log has the point's token, and the file, laid on the base, is the state of the point
+-- the token of the file's point stands in the log, and the base with the file laid on it is the state of the point
 abbrev pub IsStateOf : Database → List Entry → File → ℕ → Type 0
 IsStateOf base log file n = IsTrue (has_token n log) × (laid base 0 file.triples ≡ state_at base log n)
 

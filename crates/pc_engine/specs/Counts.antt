@@ -5,7 +5,8 @@ use Rattle.pc_types.specs.declared.Class.TheVariants.{Before, During, After}
 use Rattle.pc_phase.specs.declared.change.Change.{Change}
 use Rattle.pc_phase.specs.declared.change.Change.TheVariants as change
 use Rattle.pc_phase.specs.Phases.{Phases, active_of}
-use Rattle.pc_engine.specs.Sessions.{Active, count_of}
+use Rattle.pc_engine.specs.Sessions.{count_of}
+use Rattle.pc_engine.specs.Store.{Active}
 
 -- for each class, as many transactions are counted as the sessions have open
 abbrev pub AreCounted : Phases → List (Option Active) → Type 0

@@ -6,10 +6,11 @@ use Rattle.pc_types.specs.declared.Phase.{Phase}
 use Rattle.pc_types.specs.declared.Phase.TheVariants.{Rest, Prepare, Resolve, Capture, Complete}
 use Rattle.pc_model.specs.Database.{written}
 use Rattle.pc_model.specs.Points.{is_among}
-use Rattle.pc_model.specs.Replies.{same_phase}
-use Rattle.pc_records.specs.Rows.{Row, record_of, is_recent, is_closed}
+use Rattle.pc_types.specs.Phases.{same_phase}
+use Rattle.pc_records.specs.Rows.{Row, record_of, is_in_open_set, is_in_closed_set}
 use Rattle.pc_records.specs.Tables.{Table, Pending, pending_at}
-use Rattle.pc_engine.specs.Sessions.{Active, number_in}
+use Rattle.pc_engine.specs.Sessions.{number_in}
+use Rattle.pc_engine.specs.Store.{Active}
 
 -- the open transaction at the place, if there is one
 abbrev pub at_place : List (Option Active) → ℕ → Option Active
@@ -49,8 +50,8 @@ fits phase (Some t) = may_be_active phase t.class
 
 -- each key of the open set, and each of the closed set, is in its list
 pub record AreListed (rows : List Row) (open_keys closed_keys : List (List ℕ)) : Type 0 where
-  pub recent : (q : List ℕ) → is_recent (record_of rows q) ≡ true → is_among open_keys q ≡ true
-  pub closed : (q : List ℕ) → is_closed (record_of rows q) ≡ true → is_among closed_keys q ≡ true
+  pub open_set : (q : List ℕ) → is_in_open_set (record_of rows q) ≡ true → is_among open_keys q ≡ true
+  pub closed_set : (q : List ℕ) → is_in_closed_set (record_of rows q) ≡ true → is_among closed_keys q ≡ true
 
 -- the phases in which keys of a point may be left to take
 abbrev pub is_open_point : Phase → Bool
@@ -60,11 +61,11 @@ is_open_point phase = false
 
 -- All this together; in other phases no key is left to take, the last closed set is of no later point than the cycle, and in
 -- prepare of an earlier one.
-pub record HoldTogether (table : Table) (sessions : List (Option Active)) (begun : ℕ) (phase : Phase) (point : ℕ) (recent closed : List (List ℕ)) : Type 0 where
+pub record HoldTogether (table : Table) (sessions : List (Option Active)) (begun : ℕ) (phase : Phase) (point : ℕ) (open_keys closed : List (List ℕ)) : Type 0 where
   pub writes : AreInPlace table sessions
   pub numbers : AreNumbered begun sessions
   pub classes : (i : ℕ) → fits phase (at_place sessions i) ≡ true
-  pub sets : AreListed table.rows recent closed
+  pub sets : AreListed table.rows open_keys closed
   pub idle : is_open_point phase ≡ false → closed ≡ []
   pub within : table.point ≤ point
   pub fresh : same_phase phase Prepare ≡ true → table.point < point
@@ -72,7 +73,7 @@ pub record HoldTogether (table : Table) (sessions : List (Option Active)) (begun
 -- whatever number was given last, and whatever phase, point and sets these held together with, the others hold together with
 -- the same
 abbrev pub StayTogether : Table → List (Option Active) → Table → List (Option Active) → Type 0
-StayTogether table sessions after then = (begun : ℕ) (phase : Phase) (point : ℕ) (recent closed : List (List ℕ)) → HoldTogether table sessions begun phase point recent closed → HoldTogether after then begun phase point recent closed
+StayTogether table sessions after then = (begun : ℕ) (phase : Phase) (point : ℕ) (open_keys closed : List (List ℕ)) → HoldTogether table sessions begun phase point open_keys closed → HoldTogether after then begun phase point open_keys closed
 
 -- open transactions, with numbers of their own, have their writes in place
 pub record AreOpen (table : Table) (sessions : List (Option Active)) (begun : ℕ) : Type 0 where

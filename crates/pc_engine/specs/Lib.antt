@@ -1,6 +1,7 @@
+pub mod Store
 pub mod Sessions
 pub mod Counts
-pub mod Store
+pub mod Steps
 pub mod Limits
 pub mod Shelves
 pub mod Writes
@@ -8,3 +9,4 @@ pub mod InPlace
 pub mod Stands
 pub mod Runs
 pub mod Checks
+pub mod Laws

@@ -1,21 +1,15 @@
--- The sessions: each has an open transaction, or none.
+-- What happens to the sessions' open transactions.
 use Rattle.std.specs.Prelude.{ℕ, ◌-◌, ◌≤◌, Bool, true, false, List, [], map, filter, length, Option, Some, None, option_map, slice_index_or, slice_set}
 use Rattle.pc_types.specs.declared.Write.{Write}
 use Rattle.pc_model.specs.Database.{with_write}
-use Rattle.pc_model.specs.Locks.{Outcome}
-use Rattle.pc_model.specs.Locks.Outcome.{Granted, Queued, Died}
+use Rattle.pc_types.specs.declared.Outcome.{Outcome}
+use Rattle.pc_types.specs.declared.Outcome.TheVariants.{Granted, Queued, Died}
 use Rattle.pc_types.specs.declared.Class.{Class}
 use Rattle.pc_types.specs.declared.Class.TheVariants.{After}
-use Rattle.pc_model.specs.Replies.{same_class}
+use Rattle.pc_types.specs.Phases.{same_class}
+use Rattle.pc_types.specs.declared.limits.TheConstants.{MOST_WRITES}
 use Rattle.pc_engine.specs.declared.sessions.Transaction.{Transaction}
-
--- an open transaction: its number, the class of the phase in which it began, whether a request of it has died, and the final
--- write of each key, in the order of first writes
-pub record Active : Type 0 where
-  pub number : ℕ
-  pub class : Class
-  pub has_died : Bool
-  pub writes : List Write
+use Rattle.pc_engine.specs.Store.{Active}
 
 -- what a transaction is seen as
 abbrev pub active_of : Transaction → Active
@@ -24,10 +18,6 @@ active_of t = record { number = t.number; class = t.class; has_died = t.has_died
 -- what the sessions are seen as
 abbrev pub actives_of : List (Option Transaction) → List (Option Active)
 actives_of sessions = map (option_map active_of) sessions
-
--- the open transaction of the session; sessions are numbered from 1
-abbrev pub active_in : List (Option Active) → ℕ → Option Active
-active_in sessions s = slice_index_or sessions (s - 1) None
 
 -- the sessions, where this one has this transaction, or none
 abbrev pub with_session : List (Option Active) → ℕ → Option Active → List (Option Active)
@@ -63,14 +53,14 @@ writes_in None = []
 writes_in (Some t) = t.writes
 
 -- the transaction once it has written this too
-abbrev pub wrote : Option Active → Write → Option Active
-wrote None write = None
-wrote (Some t) write = Some (record t { writes = with_write t.writes write })
+abbrev pub after_writing : Option Active → Write → Option Active
+after_writing None write = None
+after_writing (Some t) write = Some (record t { writes = with_write t.writes write })
 
 -- the transaction once a request of it has died
-abbrev pub died : Option Active → Option Active
-died None = None
-died (Some t) = Some (record t { has_died = true })
+abbrev pub after_dying : Option Active → Option Active
+after_dying None = None
+after_dying (Some t) = Some (record t { has_died = true })
 
 -- the first where the request died, and else the second
 abbrev pub if_died : {X : Type 0} → Outcome → X → X → X
@@ -86,4 +76,4 @@ if_granted Died a b = b
 
 -- no transaction has written more than 256 keys
 abbrev pub AreFew : List (Option Active) → Type 0
-AreFew sessions = (i : ℕ) → length (writes_in (slice_index_or sessions i None)) ≤ 256
+AreFew sessions = (i : ℕ) → length (writes_in (slice_index_or sessions i None)) ≤ MOST_WRITES

@@ -1,5 +1,5 @@
 -- Which histories a world stands after.
-use Rattle.std.specs.Prelude.{◌≡◌, ℕ, true, false, Option, Some, None, List, ◌∷◌, if◌then◌else◌}
+use Rattle.std.specs.Prelude.{◌≡◌, ℕ, ◌≤◌, true, false, Option, Some, None, List, ◌∷◌, length, if◌then◌else◌}
 use Rattle.pc_types.specs.declared.Event.{Event}
 use Rattle.pc_types.specs.declared.Reply.{Reply}
 use Rattle.pc_types.specs.declared.Reply.TheVariants as told
@@ -8,20 +8,20 @@ use Rattle.pc_model.specs.Points.{taken}
 use Rattle.pc_model.specs.Log.{after}
 use Rattle.pc_model.specs.History.{History, log_of, begun, is_open, number_of, class_of, has_died, writes_of, phase_of, point_of}
 use Rattle.pc_model.specs.Files.{File, shelf}
-use Rattle.pc_model.specs.Replies.{Setting, IsLegal, IsLegalHistory, no_session, written_since_token, closed_set}
+use Rattle.pc_model.specs.Replies.{Setting, IsLegal, IsLegalHistory, no_session, open_set, closed_set}
 use Rattle.pc_model.specs.Headline.{is_taking, TakesEachKeyOnce, TakesPointValue, HasHeadline}
 use Rattle.pc_model.specs.Reads.{HasRightReads}
+use Rattle.pc_model.specs.Limits.{AreInLimits}
 use Rattle.pc_records.specs.Rows.{record_of, stored}
 use Rattle.pc_records.specs.Following.{AreRecords}
-use Rattle.pc_engine.specs.Sessions.{Active}
-use Rattle.pc_engine.specs.Store.{Store, Cycle, setting_of, active}
+use Rattle.pc_engine.specs.Store.{Active, Store, Cycle, setting_of, active}
 
 -- the cycle and the shelf are what the history says
 pub record IsCycle (run : ℕ) (c : Cycle) (files : List File) (history : History) : Type 0 where
   pub phase : c.phase ≡ phase_of history
   pub point : c.point ≡ point_of history
-  pub recent : c.recent ≡ written_since_token history
-  pub closed : c.closed ≡ closed_set history
+  pub open_set : c.open_set ≡ open_set history
+  pub closed_set : c.closed_set ≡ closed_set history
   pub taken : is_taking (phase_of history) ≡ true → c.taken ≡ taken history
   pub shelved : files ≡ shelf run history
 
@@ -38,9 +38,12 @@ pub record IsReadOff (w : Store) (history : History) : Type 0 where
   pub cycle : IsCycle w.base.run w.cycle w.shelf history
   pub start : w.base.point ≡ 0
 
--- The world stands after the history: the history is legal, each Take has carried what its key has at the point, and each
--- part of the world is read off the history.
+-- The world stands after the history: it has at most 64 sessions; what was asked of it was within the limits of keys and
+-- values; the history is legal, each Take has carried what its key has at the point, and each part of the world is read off
+-- the history.
 pub record Stands (w : Store) (history : History) : Type 0 where
+  pub sessions : length w.sessions ≤ 64
+  pub limits : AreInLimits history
   pub legal : IsLegalHistory (setting_of w) history
   pub values : TakesPointValue w.base.pairs history
   pub parts : IsReadOff w history
@@ -57,8 +60,8 @@ pub record KeepsPoints (w : Store) (history : History) : Type 0 where
   pub values : TakesPointValue w.base.pairs history
   pub headline : HasHeadline (setting_of w) history
 
--- Legal steps: the reply is legal, and the world stands after the history with this event and reply; of that history serial
--- truth holds, and so does what checkpoints promise.
+-- Legal steps: the reply is legal, and what the world stands after is then the history and, behind it, the event with its
+-- reply; of all of that serial truth holds, and so does what checkpoints promise.
 pub record Follows (st : Setting) (history : History) (event : Event) (reply : Reply) (new : Store) : Type 0 where
   pub legal : IsLegal st history event reply
   pub stands : Stands new (record { event = event; reply = reply } ∷ history)

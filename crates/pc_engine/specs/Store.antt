@@ -1,32 +1,28 @@
--- What a world is seen as, and what one event does to it.
-use Rattle.std.specs.Prelude.{◌≡◌, ℕ, ◌+◌, ◌-◌, ◌<◌, ◌==◌, not, Bool, true, false, List, [], ◌∷◌, ◌++◌, length, map, Option, Some, None, ◌⊎◌, is_some, is_none, if◌then◌else◌, MatchOption}
-use Rattle.pc_types.specs.declared.Entry.{Entry}
-use Rattle.pc_types.specs.declared.Entry.TheVariants.{Commit, Token}
-use Rattle.pc_types.specs.declared.Phase.{Phase}
-use Rattle.pc_types.specs.declared.Phase.TheVariants as phase
-use Rattle.pc_types.specs.declared.Reply.{Reply}
-use Rattle.pc_types.specs.declared.Reply.TheVariants as told
-use Rattle.pc_types.specs.declared.Refusal.{Refusal}
-use Rattle.pc_types.specs.declared.Refusal.TheVariants as why
-use Rattle.pc_model.specs.Database.{written}
-use Rattle.pc_model.specs.Sets as set
-use Rattle.pc_model.specs.Files.{BaseFile, File, file_at, join_of, triples_taken}
-use Rattle.pc_model.specs.Replies.{Setting, first_refusal, or_else, not_yet, no_session, read_reply, value_read, by_outcome, same_phase, is_empty, join_refusal, IsFileReply}
-use Rattle.pc_model.specs.Locks.{Outcome, outcome}
-use Rattle.pc_model.specs.History.{class_in}
+-- What a world is seen as.
+use Rattle.std.specs.Prelude.{ℕ, ◌-◌, Bool, List, length, Option, None, slice_index_or}
 use Rattle.pc_types.specs.declared.Class.{Class}
-use Rattle.pc_types.specs.declared.Class.TheVariants.{Before}
-use Rattle.pc_records.specs.Rows.{Kept, record_of, stored, at_point, requests_on, is_full_for, is_waiting, rows_after, released_rows, written_row, closed_row, left_rows}
-use Rattle.pc_records.specs.NewKeys.{new_keys, is_one_too_many}
-use Rattle.pc_engine.specs.Sessions.{Active, active_in, with_session, number_in, has_died_in, writes_in, count_of, wrote, died, if_died, if_granted}
+use Rattle.pc_types.specs.declared.Entry.{Entry}
+use Rattle.pc_types.specs.declared.Phase.{Phase}
+use Rattle.pc_types.specs.declared.Write.{Write}
+use Rattle.pc_model.specs.Files.{BaseFile, File}
+use Rattle.pc_model.specs.Replies.{Setting}
+use Rattle.pc_records.specs.Rows.{Kept}
+
+-- an open transaction: its number, the class of the phase in which it began, whether a request of it has died, and the final
+-- write of each key, in the order of first writes
+pub record Active : Type 0 where
+  pub number : ℕ
+  pub class : Class
+  pub has_died : Bool
+  pub writes : List Write
 
 -- Where the cycle of a checkpoint stands: its phase and point; the open set, the keys that commits wrote since the last
 -- resolve token; the closed set, the keys of the point that are left to take; and what was taken of it, in this order.
 pub record Cycle : Type 0 where
   pub phase : Phase
   pub point : ℕ
-  pub recent : List (List ℕ)
-  pub closed : List (List ℕ)
+  pub open_set : List (List ℕ)
+  pub closed_set : List (List ℕ)
   pub taken : List (List ℕ × Option (List ℕ))
 
 -- the parts of a world; a session has its open transaction, if there is one
@@ -47,173 +43,10 @@ setting_of w = record { run = w.base.run; base = w.base.pairs; sessions = length
 abbrev pub starting : BaseFile → ℕ → ℕ → Setting
 starting base sessions capacity = record { run = base.run; base = base.pairs; sessions = sessions; capacity = capacity }
 
+-- the open transaction of the session; sessions are numbered from 1
+abbrev pub active_in : List (Option Active) → ℕ → Option Active
+active_in sessions s = slice_index_or sessions (s - 1) None
+
 -- the open transaction of the session
 abbrev pub active : Store → ℕ → Option Active
 active w s = active_in w.sessions s
-
--- What is certain is answered and changes nothing; where nothing is certain this is done, or memory ran out and nothing changed.
-abbrev pub Owes : Option Reply → Store → Reply → Store → Type 0 → Type 0
-Owes None old reply new Done = Done ⊎ ((reply ≡ told.Refused why.OutOfMemory) × (new ≡ old))
-Owes (Some due) old reply new Done = (reply ≡ due) × (new ≡ old)
-
--- the phase is this one
-abbrev pub is_in : Phase → Store → Bool
-is_in phase w = same_phase w.cycle.phase phase
-
--- the log has as many entries as it may
-abbrev pub is_log_full : Store → Bool
-is_log_full w = length w.log == 16777216
-
--- the causes of an open transaction's refusals, before these
-abbrev pub open_causes : Store → ℕ → List (Bool × Refusal) → List (Bool × Refusal)
-open_causes w s causes =
-    (no_session (setting_of w) s, why.NoSession) ∷ (is_none (active w s), why.NoTransaction) ∷ (is_waiting w.kept.rows (number_in (active w s)), why.StillWaiting) ∷ (has_died_in (active w s), why.MustAbort) ∷ causes
-
--- the session has a transaction open, which may go on: none of its requests waits or has died
-pub record MayGoOn (w : Store) (s : ℕ) : Type 0 where
-  pub known : no_session (setting_of w) s ≡ false
-  pub in_range : s - 1 < length w.sessions
-  pub opened : is_none (active w s) ≡ false
-  pub ready : is_waiting w.kept.rows (number_in (active w s)) ≡ false
-  pub alive : has_died_in (active w s) ≡ false
-
--- the first of those causes that stands, or none does
-abbrev pub OpenCause : Store → ℕ → Option Refusal → Type 0
-OpenCause w s None = MayGoOn w s
-OpenCause w s (Some r) = (causes : List (Bool × Refusal)) → first_refusal (open_causes w s causes) ≡ Some (told.Refused r)
-
--- the causes of a begin's refusals
-abbrev pub begin_causes : Store → ℕ → List (Bool × Refusal)
-begin_causes w s = (no_session (setting_of w) s, why.NoSession) ∷ (is_some (active w s), why.AlreadyBegun) ∷ (w.begun == 1099511627776, why.LogFull) ∷ []
-
--- a transaction begins, of the class of the phase, and has written nothing
-abbrev pub Begins : Store → ℕ → Reply → Store → Type 0
-Begins old s reply new =
-    Owes (first_refusal (begin_causes old s)) old reply new
-    ((reply ≡ told.Begun (old.begun + 1)) × (new ≡ record old { begun = old.begun + 1; sessions = with_session old.sessions s (Some (record { number = old.begun + 1; class = class_in old.cycle.phase; has_died = false; writes = [] })) }))
-
--- the world once the request of the session's transaction is answered, where it dies or leaves these sessions
-abbrev pub asked : Store → ℕ → List ℕ → Bool → Outcome → List (Option Active) → Store
-asked w s key exclusive o sessions = record w { kept = record w.kept { rows = rows_after w.kept.rows key (number_in (active w s)) exclusive o }; sessions = if_died o (with_session w.sessions s (died (active w s))) sessions }
-
--- how the request of the session's transaction is answered
-abbrev pub outcome_in : Store → ℕ → List ℕ → Bool → Outcome
-outcome_in w s key exclusive = outcome (requests_on (record_of w.kept.rows key)) (number_in (active w s)) exclusive
-
--- the transaction's own write is read, or else what is committed, where the request is granted
-abbrev pub Gets : Store → ℕ → List ℕ → Reply → Store → Type 0
-Gets old s key reply new =
-    Owes (first_refusal (open_causes old s ((is_full_for old.kept key, why.Full) ∷ []))) old reply new
-    ((reply ≡ by_outcome (outcome_in old s key false) (read_reply (value_read (written (writes_in (active old s)) key) (stored (record_of old.kept.rows key)))))
-    × (new ≡ asked old s key false (outcome_in old s key false) old.sessions))
-
--- the causes of a write's refusals
-abbrev pub write_causes : Store → ℕ → List ℕ → List (Bool × Refusal)
-write_causes w s key = open_causes w s ((is_one_too_many (writes_in (active w s)) key, why.TooManyWrites) ∷ (is_full_for w.kept key, why.Full) ∷ [])
-
--- the first of them that stands, or none does
-abbrev pub WriteCause : Store → ℕ → List ℕ → Option Refusal → Type 0
-WriteCause w s key None = MayGoOn w s × (is_one_too_many (writes_in (active w s)) key ≡ false) × (is_full_for w.kept key ≡ false)
-WriteCause w s key (Some r) = first_refusal (write_causes w s key) ≡ Some (told.Refused r)
-
--- the key is set to the content or removed by the transaction, where the request is granted
-abbrev pub WritesKey : Store → ℕ → List ℕ → Option (List ℕ) → Reply → Store → Type 0
-WritesKey old s key content reply new =
-    Owes (first_refusal (write_causes old s key)) old reply new
-    ((reply ≡ by_outcome (outcome_in old s key true) told.Ok)
-    × (new ≡ asked old s key true (outcome_in old s key true) (if_granted (outcome_in old s key true) (with_session old.sessions s (wrote (active old s) (record { key = key; value = content }))) old.sessions)))
-
--- the writes are logged and committed, and the transaction is over: none of its requests stands
-abbrev pub Commits : Store → ℕ → Reply → Store → Type 0
-Commits old s reply new =
-    Owes (first_refusal (open_causes old s ((is_log_full old, why.LogFull) ∷ []))) old reply new
-    ((reply ≡ told.Committed (length old.log + 1))
-    × (new ≡ record old {
-      kept = record old.kept { rows = released_rows (number_in (active old s)) (map (written_row (writes_in (active old s))) old.kept.rows) };
-      log = old.log ++ Commit s (writes_in (active old s)) ∷ [];
-      sessions = with_session old.sessions s None;
-      cycle = record old.cycle { recent = old.cycle.recent ++ new_keys old.kept.rows (writes_in (active old s)) };
-    }))
-
--- the causes of an abort's refusals
-abbrev pub abort_causes : Store → ℕ → List (Bool × Refusal)
-abort_causes w s = (no_session (setting_of w) s, why.NoSession) ∷ (is_none (active w s), why.NoTransaction) ∷ []
-
--- The transaction is over, and none of its requests stands; whatever memory there is.
-abbrev pub Aborts : Store → ℕ → Reply → Store → Type 0
-Aborts old s reply new =
-    MatchOption (first_refusal (abort_causes old s))
-    ((reply ≡ told.Aborted)
-    × (new ≡ record old { kept = record old.kept { rows = released_rows (number_in (active old s)) old.kept.rows }; sessions = with_session old.sessions s None }))
-    (λ due. (reply ≡ due) × (new ≡ old))
-
--- the world once the phase has changed, in the cycle of the point: the log has the token
-abbrev pub moved : Phase → ℕ → Store → Store
-moved phase point w = record w { log = w.log ++ Token phase point ∷ []; cycle = record w.cycle { phase = phase; point = point } }
-
--- the causes of the refusals of a start of a cycle
-abbrev pub start_causes : Store → List (Bool × Refusal)
-start_causes w = (not (is_in phase.Rest w), why.WrongPhase) ∷ (w.cycle.point == 65535, why.PointsFull) ∷ (is_log_full w, why.LogFull) ∷ []
-
--- the cycle of the next point starts
-abbrev pub StartsPoint : Store → Reply → Store → Type 0
-StartsPoint old reply new =
-    Owes (first_refusal (start_causes old)) old reply new ((reply ≡ told.Phase phase.Prepare (old.cycle.point + 1)) × (new ≡ moved phase.Prepare (old.cycle.point + 1) old))
-
--- what is answered where the phase is not changed: it is another one, transactions of this class are open, or the log is full
-abbrev pub move_due : Phase → Class → Store → Option Reply
-move_due from class w =
-    or_else (first_refusal ((not (is_in from w), why.WrongPhase) ∷ [])) (or_else (not_yet (count_of class w.sessions)) (first_refusal ((is_log_full w, why.LogFull) ∷ [])))
-
--- the phase changes from one to another, once no transaction of the class is open
-abbrev pub Moves : Phase → Class → Phase → Store → Reply → Store → Type 0
-Moves from class to old reply new = Owes (move_due from class old) old reply new ((reply ≡ told.Phase to old.cycle.point) × (new ≡ moved to old.cycle.point old))
-
--- the point of consistency: the open set is closed, and another one begins
-abbrev pub sealed : Store → Store
-sealed w = record w { kept = record w.kept { rows = map closed_row w.kept.rows }; cycle = record w.cycle { recent = []; closed = w.cycle.recent; taken = [] } }
-
--- the phase changes to resolve
-abbrev pub Seals : Store → Reply → Store → Type 0
-Seals old reply new =
-    Owes (move_due phase.Prepare Before old) old reply new ((reply ≡ told.Phase phase.Resolve old.cycle.point) × (new ≡ sealed (moved phase.Resolve old.cycle.point old)))
-
--- what is answered to a Take where no key is taken
-abbrev pub take_due : Store → Option Reply
-take_due w = or_else (first_refusal ((not (is_in phase.Capture w), why.WrongPhase) ∷ [])) (if is_empty w.cycle.closed then Some told.NoneLeft else None)
-
--- the first of these keys is taken with what it has at the point
-abbrev pub TakesFirst : List (List ℕ) → Store → Reply → Store → Type 0
-TakesFirst [] old reply new = ⊥
-TakesFirst (key ∷ keys) old reply new =
-    let content = at_point (record_of old.kept.rows key) in
-    (reply ≡ told.Took key content)
-    × (new ≡ record old { kept = record old.kept { rows = left_rows old.kept.rows key }; cycle = record old.cycle { closed = keys; taken = old.cycle.taken ++ (key, content) ∷ [] } })
-
--- a key of the closed set is taken
-abbrev pub Takes : Store → Reply → Store → Type 0
-Takes old reply new = Owes (take_due old) old reply new (TakesFirst old.cycle.closed old reply new)
-
--- what is answered to a Done where no part is shelved
-abbrev pub done_due : Store → Option Reply
-done_due w =
-    or_else (first_refusal ((not (is_in phase.Capture w), why.WrongPhase) ∷ [])) (or_else (not_yet (length w.cycle.closed))
-    (first_refusal ((length w.shelf == 65536, why.ShelfFull) ∷ (is_log_full w, why.LogFull) ∷ [])))
-
--- the part of the point, of what was taken
-abbrev pub part_taken : Store → File
-part_taken w = record { run = w.base.run; points = set.insert set.empty w.cycle.point; triples = triples_taken w.cycle.point w.cycle.taken }
-
--- the point's part is shelved, and the phase changes to complete
-abbrev pub Shelves : Store → Reply → Store → Type 0
-Shelves old reply new =
-    Owes (done_due old) old reply new
-    ((reply ≡ told.PartDone old.cycle.point (length old.shelf + 1) (length old.cycle.taken))
-    × (new ≡ record old { log = old.log ++ Token phase.Complete old.cycle.point ∷ []; cycle = record old.cycle { phase = phase.Complete; taken = [] }; shelf = old.shelf ++ part_taken old ∷ [] }))
-
--- the join of two shelved files is shelved
-abbrev pub Joins : Store → ℕ → ℕ → Reply → Store → Type 0
-Joins old a b reply new =
-    let first = file_at old.shelf a in
-    let second = file_at old.shelf b in
-    Owes (join_refusal old.shelf first second) old reply new (IsFileReply (join_of first second) (length old.shelf + 1) reply × (new ≡ record old { shelf = old.shelf ++ join_of first second }))

@@ -3,12 +3,12 @@ ghost use Rattle.std.specs.Prelude.{◌≡◌, ◌↔◌, ◌++◌, All, IsTrue,
 ghost use Rattle.pc_types.specs.declared.Entry.{Entry};
 ghost use Rattle.pc_model.specs.Database.{Database, database_of};
 ghost use Rattle.pc_model.specs.Log.{after};
-ghost use Rattle.pc_model.specs.Audits.{IsRight, TriplesRise};
+ghost use Rattle.pc_replay.specs.Audits.{IsRight, TriplesRise};
 ghost use Rattle.pc_engine.specs.Checks.{IsFileRight};
 
-use pc_model::{CompleteFile, Triple, audit, is_replay};
 use pc_part::{Base, Part};
-use pc_types::{Entry, Key, Value};
+use pc_replay::{CompleteFile, audit, is_replay};
+use pc_types::{Entry, Key, Triple, Value};
 use std::alloc::{AllocError, Global};
 
 // Whether the pairs are the log replayed on the base, and each file of the points 1 to some n, laid on the base, is the

@@ -2,6 +2,7 @@
 #![tactic(auto)]
 
 mod checks;
+mod laws;
 mod points;
 mod sessions;
 mod shelving;
@@ -9,5 +10,8 @@ mod transactions;
 mod world;
 mod writes;
 
+pub use laws::{
+    standing_worlds_are_serial, standing_worlds_have_legal_queues, standing_worlds_keep_points,
+};
 pub use pc_types::{Event, Reply};
 pub use world::{World, run};

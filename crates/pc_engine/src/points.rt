@@ -4,14 +4,13 @@ ghost use Rattle.pc_records.specs.Rows.{record_of, at_point};
 ghost use Rattle.pc_phase.specs.Phases.{held_back, advanced, from_of, to_of};
 ghost use Rattle.pc_phase.specs.Agreement.{reply_of};
 ghost use Rattle.pc_engine.specs.Counts.{holders};
-ghost use Rattle.pc_engine.specs.Store.{StartsPoint, Seals, Moves, Takes, Shelves, Joins};
+ghost use Rattle.pc_engine.specs.Steps.{StartsPoint, Seals, Moves, Takes, Shelves, Joins};
 
-use crate::shelving::{MOST_FILES, Shelvable, joined, part_of};
-use crate::transactions::is_same;
+use crate::shelving::{Shelvable, joined, part_of};
 use crate::world::World;
 use pc_phase::{Change, Held, Phases};
 use pc_records::Records;
-use pc_types::{Entry, FileNo, Key, Phase, Refusal, Reply, Value};
+use pc_types::{Entry, FileNo, Key, MOST_FILES, Phase, Refusal, Reply, Value};
 use std::alloc::{AllocError, Global};
 use std::collections::VecDeque;
 use std::mem;
@@ -50,7 +49,7 @@ impl World {
         change_phase(&mut self.phases, Change::Seal, 0);
         let (phase, point) = (self.phases.phase(), self.phases.point());
         self.log.append_reserved(Entry::Token(phase, point));
-        self.closed = mem::replace(&mut self.recent, VecDeque::new(self.alloc));
+        self.closed_set = mem::replace(&mut self.open_set, VecDeque::new(self.alloc));
         self.taken.clear();
         self.records.close(point);
         Reply::Phase(phase, point)
@@ -79,10 +78,10 @@ impl World {
     pub(crate) fn take(&mut self) -> Reply
         ensures { Takes self.old result self.new }
     {
-        if !is_same(self.phases.phase(), Phase::Capture) {
+        if !self.phases.phase().is(Phase::Capture) {
             return Reply::Refused(Refusal::WrongPhase);
         }
-        let Some(first) = self.closed.front() else {
+        let Some(first) = self.closed_set.front() else {
             return Reply::NoneLeft;
         };
         let Ok((key, content)) = pair_of(self.alloc, &self.records, first) else {
@@ -95,7 +94,7 @@ impl World {
             return Reply::Refused(Refusal::OutOfMemory);
         }
         self.records.take(&key);
-        let _ = self.closed.pop_front();
+        let _ = self.closed_set.pop_front();
         self.taken.push_reserved(pair);
         Reply::Took(key, content)
     }
@@ -103,7 +102,7 @@ impl World {
     pub(crate) fn shelve(&mut self) -> Reply
         ensures { Shelves self.old result self.new }
     {
-        let left = self.closed.len() as u32;
+        let left = self.closed_set.len() as u32;
         if let Some(held) = self.phases.held_back(Change::Done, left) {
             return reply_of(held);
         }

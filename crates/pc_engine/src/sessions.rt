@@ -1,25 +1,24 @@
 //! The sessions' open transactions.
-ghost use Rattle.std.specs.Prelude.{◌≡◌, ◌<◌, ◌≤◌, ◌-◌, ◌==◌, length, [], ◌+◌, option_map, option_copied, None, Some, List, ℕ, IfOk, OnErr, is_none, true, false};
+ghost use Rattle.std.specs.Prelude.{◌≡◌, ◌<◌, ◌≤◌, ◌-◌, ◌==◌, length, [], ◌+◌, option_map, option_copied, None, Some, List, ℕ, IfOk, OnErr, is_none, replicate, true, false};
 ghost use Rattle.pc_model.specs.History.{class_in};
-ghost use Rattle.std.proofs.Common.{replicate};
 ghost use Rattle.pc_model.specs.Database.{written};
 ghost use Rattle.pc_model.specs.Locks.{outcome};
 ghost use Rattle.pc_model.specs.Replies.{by_outcome, read_reply, value_read};
-ghost use Rattle.pc_locks.specs.Queues.{told};
-ghost use Rattle.pc_records.specs.Rows.{record_of, stored, requests_on, is_closed, is_full_for, is_waiting, rows_after};
+ghost use Rattle.pc_records.specs.Rows.{record_of, stored, requests_on, is_in_closed_set};
+ghost use Rattle.pc_records.specs.RowSteps.{is_full_for, is_waiting, rows_after};
 ghost use Rattle.pc_records.specs.Tables.{Pending, Table, kept_of, pending_at, pending_after, IsClearFor};
+ghost use Rattle.pc_types.specs.declared.Mode.TheVariants.{Shared, Exclusive};
 ghost use Rattle.pc_types.specs.declared.Class.TheVariants.{Before};
 ghost use Rattle.pc_types.specs.declared.Phase.{Phase};
-ghost use Rattle.pc_model.specs.Locks.Outcome.{Granted};
-ghost use Rattle.pc_engine.specs.Sessions.{actives_of, active_of, active_in, with_session, number_in, class_at, writes_in, wrote, died, if_died, if_granted, AreFew};
+ghost use Rattle.pc_types.specs.declared.Outcome.TheVariants.{Granted};
+ghost use Rattle.pc_engine.specs.Sessions.{actives_of, active_of, with_session, number_in, class_at, writes_in, after_writing, after_dying, if_died, if_granted, AreFew};
+ghost use Rattle.pc_engine.specs.Store.{active_in};
 ghost use Rattle.pc_engine.specs.InPlace.{AreOpen, HoldTogether, StayTogether};
 ghost use Rattle.pc_records.specs.NewKeys.{is_one_too_many};
 
 use crate::writes::note_write;
-use pc_locks::Outcome;
-use pc_model::copied;
 use pc_records::Records;
-use pc_types::{Class, Key, Reply, SessionNo, TxnNo, Value, Write};
+use pc_types::{Class, Key, Outcome, Reply, SessionNo, TxnNo, Value, Write, copy_content};
 use std::alloc::{AllocError, Global};
 
 /// An open transaction.
@@ -103,7 +102,7 @@ pub(crate) fn begin(
     requires idle { is_none (active_in (actives_of sessions.old.items) session) ≡ true }
     ensures sessions { actives_of sessions.new.items ≡ with_session (actives_of sessions.old.items) session (Some (record { number = number; class = class; has_died = false; writes = [] })) }
     ensures few { AreFew (actives_of sessions.old.items) → AreFew (actives_of sessions.new.items) }
-    ensures together { (t : Table) (begun : ℕ) (phase : Phase) (point : ℕ) (recent closed : List (List ℕ)) → begun + 1 ≡ number → class ≡ class_in phase → HoldTogether t (actives_of sessions.old.items) begun phase point recent closed → HoldTogether t (actives_of sessions.new.items) number phase point recent closed }
+    ensures together { (t : Table) (begun : ℕ) (phase : Phase) (point : ℕ) (open_keys closed : List (List ℕ)) → begun + 1 ≡ number → class ≡ class_in phase → HoldTogether t (actives_of sessions.old.items) begun phase point open_keys closed → HoldTogether t (actives_of sessions.new.items) number phase point open_keys closed }
     ensures count { length sessions.new.items ≡ length sessions.old.items }
 {
     let transaction = Transaction {
@@ -118,7 +117,7 @@ pub(crate) fn begin(
 /// A request of the session's transaction has died.
 pub(crate) fn note_death(sessions: &mut Vec<Option<Transaction>>, session: SessionNo)
     requires { session - 1 < length sessions.old.items }
-    ensures { actives_of sessions.new.items ≡ with_session (actives_of sessions.old.items) session (died (active_in (actives_of sessions.old.items) session)) }
+    ensures { actives_of sessions.new.items ≡ with_session (actives_of sessions.old.items) session (after_dying (active_in (actives_of sessions.old.items) session)) }
 {
     if let Some(transaction) = &mut sessions[place(session)] {
         transaction.has_died = true;
@@ -152,10 +151,10 @@ pub(crate) fn read(
     requires few { AreFew (actives_of sessions.old.items) }
     requires ready { is_waiting records.old.rows (number_in (active_in (actives_of sessions.old.items) session)) ≡ false }
     requires placed { (begun : ℕ) × AreOpen records.old (actives_of sessions.old.items) begun }
-    ensures reply { IfOk result (λ reply. reply ≡ by_outcome (outcome (requests_on (record_of records.old.rows key.now)) (number_in (active_in (actives_of sessions.old.items) session)) false)
+    ensures reply { IfOk result (λ reply. reply ≡ by_outcome (outcome (requests_on (record_of records.old.rows key.now)) (number_in (active_in (actives_of sessions.old.items) session)) Shared)
         (read_reply (value_read (written (writes_in (active_in (actives_of sessions.old.items) session)) key.now) (stored (record_of records.old.rows key.now))))) }
-    ensures records { IfOk result (λ reply. kept_of records.new ≡ record (kept_of records.old) { rows = rows_after records.old.rows key.now (number_in (active_in (actives_of sessions.old.items) session)) false (outcome (requests_on (record_of records.old.rows key.now)) (number_in (active_in (actives_of sessions.old.items) session)) false) }) }
-    ensures sessions { IfOk result (λ reply. actives_of sessions.new.items ≡ if_died (outcome (requests_on (record_of records.old.rows key.now)) (number_in (active_in (actives_of sessions.old.items) session)) false) (with_session (actives_of sessions.old.items) session (died (active_in (actives_of sessions.old.items) session))) (actives_of sessions.old.items)) }
+    ensures records { IfOk result (λ reply. kept_of records.new ≡ record (kept_of records.old) { rows = rows_after records.old.rows key.now (number_in (active_in (actives_of sessions.old.items) session)) Shared (outcome (requests_on (record_of records.old.rows key.now)) (number_in (active_in (actives_of sessions.old.items) session)) Shared) }) }
+    ensures sessions { IfOk result (λ reply. actives_of sessions.new.items ≡ if_died (outcome (requests_on (record_of records.old.rows key.now)) (number_in (active_in (actives_of sessions.old.items) session)) Shared) (with_session (actives_of sessions.old.items) session (after_dying (active_in (actives_of sessions.old.items) session))) (actives_of sessions.old.items)) }
     ensures same_records { OnErr result (kept_of records.new ≡ kept_of records.old) }
     ensures same { OnErr result (actives_of sessions.new.items ≡ actives_of sessions.old.items) }
     ensures together { StayTogether records.old (actives_of sessions.old.items) records.new (actives_of sessions.new.items) }
@@ -188,12 +187,12 @@ pub(crate) fn request(
     requires few { AreFew (actives_of sessions.old.items) }
     requires one { is_one_too_many (writes_in (active_in (actives_of sessions.old.items) session)) write.key ≡ false }
     requires ready { is_waiting records.old.rows (number_in (active_in (actives_of sessions.old.items) session)) ≡ false }
-    requires outside { class_at (active_in (actives_of sessions.old.items) session) ≡ Before → is_closed (record_of records.old.rows write.key) ≡ false }
+    requires outside { class_at (active_in (actives_of sessions.old.items) session) ≡ Before → is_in_closed_set (record_of records.old.rows write.key) ≡ false }
     requires again { (p : Pending) → pending_at records.old write.key ≡ Some p → p.by ≡ number_in (active_in (actives_of sessions.old.items) session) → p.class ≡ class_at (active_in (actives_of sessions.old.items) session) }
-    ensures told { IfOk result (λ answer. told answer ≡ outcome (requests_on (record_of records.old.rows write.key)) (number_in (active_in (actives_of sessions.old.items) session)) true) }
-    ensures records { IfOk result (λ answer. kept_of records.new ≡ record (kept_of records.old) { rows = rows_after records.old.rows write.key (number_in (active_in (actives_of sessions.old.items) session)) true (told answer) }) }
-    ensures sessions { IfOk result (λ answer. actives_of sessions.new.items ≡ if_died (told answer) (with_session (actives_of sessions.old.items) session (died (active_in (actives_of sessions.old.items) session)))
-        (if_granted (told answer) (with_session (actives_of sessions.old.items) session (wrote (active_in (actives_of sessions.old.items) session) write)) (actives_of sessions.old.items))) }
+    ensures told { IfOk result (λ answer. answer ≡ outcome (requests_on (record_of records.old.rows write.key)) (number_in (active_in (actives_of sessions.old.items) session)) Exclusive) }
+    ensures records { IfOk result (λ answer. kept_of records.new ≡ record (kept_of records.old) { rows = rows_after records.old.rows write.key (number_in (active_in (actives_of sessions.old.items) session)) Exclusive answer }) }
+    ensures sessions { IfOk result (λ answer. actives_of sessions.new.items ≡ if_died answer (with_session (actives_of sessions.old.items) session (after_dying (active_in (actives_of sessions.old.items) session)))
+        (if_granted answer (with_session (actives_of sessions.old.items) session (after_writing (active_in (actives_of sessions.old.items) session) write)) (actives_of sessions.old.items))) }
     ensures same_records { OnErr result (kept_of records.new ≡ kept_of records.old) }
     ensures same { OnErr result (actives_of sessions.new.items ≡ actives_of sessions.old.items) }
     ensures together { StayTogether records.old (actives_of sessions.old.items) records.new (actives_of sessions.new.items) }
@@ -215,26 +214,21 @@ fn request_write(
 ) -> Result<Outcome, AllocError>
     requires room { is_full_for (kept_of records.old) write.key ≡ false }
     requires ready { is_waiting records.old.rows transaction.old.number ≡ false }
-    requires outside { transaction.old.class ≡ Before → is_closed (record_of records.old.rows write.key) ≡ false }
+    requires outside { transaction.old.class ≡ Before → is_in_closed_set (record_of records.old.rows write.key) ≡ false }
     requires again { (p : Pending) → pending_at records.old write.key ≡ Some p → p.by ≡ transaction.old.number → p.class ≡ transaction.old.class }
-    ensures told { IfOk result (λ answer. told answer ≡ outcome (requests_on (record_of records.old.rows write.key)) transaction.old.number true) }
-    ensures records { IfOk result (λ answer. kept_of records.new ≡ record (kept_of records.old) { rows = rows_after records.old.rows write.key transaction.old.number true (told answer) }) }
-    ensures pending { IfOk result (λ answer. (q : List ℕ) → pending_at records.new q ≡ pending_after (told answer) records.old write.key (record { by = transaction.old.number; class = transaction.old.class; value = write.value }) q) }
-    ensures clear { IfOk result (λ answer. told answer ≡ Granted → IsClearFor records.old write.key transaction.old.number) }
+    ensures told { IfOk result (λ answer. answer ≡ outcome (requests_on (record_of records.old.rows write.key)) transaction.old.number Exclusive) }
+    ensures records { IfOk result (λ answer. kept_of records.new ≡ record (kept_of records.old) { rows = rows_after records.old.rows write.key transaction.old.number Exclusive answer }) }
+    ensures pending { IfOk result (λ answer. (q : List ℕ) → pending_at records.new q ≡ pending_after answer records.old write.key (record { by = transaction.old.number; class = transaction.old.class; value = write.value }) q) }
+    ensures clear { IfOk result (λ answer. answer ≡ Granted → IsClearFor records.old write.key transaction.old.number) }
     ensures point { IfOk result (λ answer. records.new.point ≡ records.old.point) }
-    ensures transaction { IfOk result (λ answer. Some (active_of transaction.new) ≡ if_granted (told answer) (wrote (Some (active_of transaction.old)) write) (if_died (told answer) (died (Some (active_of transaction.old))) (Some (active_of transaction.old)))) }
+    ensures transaction { IfOk result (λ answer. Some (active_of transaction.new) ≡ if_granted answer (after_writing (Some (active_of transaction.old)) write) (if_died answer (after_dying (Some (active_of transaction.old))) (Some (active_of transaction.old)))) }
     ensures same_records { OnErr result (records.new ≡ records.old) }
     ensures same { OnErr result (active_of transaction.new ≡ active_of transaction.old) }
 {
     transaction.writes.reserve(1)?;
-    let value = copied(alloc, &write.value)?;
-    let answer = records.write(
-        alloc,
-        transaction.number,
-        transaction.class,
-        &write.key,
-        value,
-    )?;
+    let value = copy_content(alloc, &write.value)?;
+    let (number, class) = (transaction.number, transaction.class);
+    let answer = records.write(alloc, number, class, &write.key, value)?;
     match answer {
         Outcome::Granted => note_write(&mut transaction.writes, write),
         Outcome::Queued => {}

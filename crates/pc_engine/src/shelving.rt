@@ -5,9 +5,9 @@ ghost use Rattle.pc_model.specs.Database.{KeysRise};
 ghost use Rattle.pc_model.specs.Files.{triples_taken, file_at};
 ghost use Rattle.pc_engine.specs.Shelves.{IsJoin, IsShelvable};
 
-use pc_model::first_of_each;
 use pc_part::{Part, join};
-use pc_types::{FileNo, Items, Key, Point, Refusal, Value};
+use pc_replay::first_of_each;
+use pc_types::{FileNo, Items, Key, MOST_FILE_ENTRIES, MOST_FILES, Point, Refusal, Value};
 use std::alloc::{AllocError, Global};
 
 /// The part of the point, made of what was taken of it.
@@ -18,7 +18,7 @@ pub(crate) fn part_of(
     taken: &[(Key, Option<Value>)],
 ) -> Result<Part, Refusal>
     requires point { 1 ≤ point }
-    requires limit { length taken.now ≤ 4294967295 }
+    requires limit { length taken.now ≤ MOST_FILE_ENTRIES }
     ensures { IfOk result (λ part. part ≡ record { run = run; points = set.insert set.empty point; triples = triples_taken point taken.now }) }
 {
     let entries = rising(alloc, taken)?;
@@ -36,9 +36,6 @@ fn rising(
 {
     first_of_each(alloc, taken)
 }
-
-/// How many files may be on the shelf.
-pub(crate) const MOST_FILES: usize = 65_536;
 
 /// The shelf's file of this number, from 1 on.
 pub(crate) fn file_at(shelf: &[Part], number: FileNo) -> Option<&Part>

@@ -2,31 +2,29 @@
 ghost use Rattle.std.specs.Prelude.{◌≡◌, ◌<◌, ◌==◌, ◌||◌, ◌-◌, nat_lt, ◌++◌, [], ◌∷◌, false, length, map, IfOk, Some, None, is_none, List, ℕ, option_copied};
 ghost use Rattle.pc_model.specs.Maps.{get};
 ghost use Rattle.pc_model.specs.Replies.{read_reply};
-ghost use Rattle.pc_model.specs.Replies.{same_phase};
+ghost use Rattle.pc_types.specs.Phases.{same_phase};
 ghost use Rattle.pc_types.specs.declared.Entry.TheVariants.{Commit};
 ghost use Rattle.pc_types.specs.declared.Phase.{Phase};
 ghost use Rattle.pc_log.specs.Logs.{entries_of, HasRoom};
-ghost use Rattle.pc_records.specs.Rows.{released_rows, written_row};
+ghost use Rattle.pc_records.specs.RowSteps.{released_rows, written_row};
 ghost use Rattle.pc_engine.specs.InPlace.{AreOpen, HoldTogether, StayTogether};
 ghost use Rattle.pc_records.specs.NewKeys.{is_one_too_many, new_keys};
 ghost use Rattle.pc_records.specs.Tables.{kept_of};
-ghost use Rattle.pc_engine.specs.Sessions.{actives_of, active_in, with_session, number_in, class_at, writes_in};
-ghost use Rattle.pc_engine.specs.Store.{OpenCause, WriteCause, Begins, Gets, WritesKey, Commits, Aborts};
+ghost use Rattle.pc_engine.specs.Sessions.{actives_of, with_session, number_in, class_at, writes_in};
+ghost use Rattle.pc_engine.specs.Store.{active_in};
+ghost use Rattle.pc_engine.specs.Steps.{OpenCause, WriteCause, Begins, Gets, WritesKey, Commits, Aborts};
 
 use crate::sessions;
 use crate::sessions::Transaction;
 use crate::world::World;
 use crate::writes::{is_one_too_many, new_keys, write_of};
-use pc_locks::Outcome;
 use pc_log::Log;
 use pc_records::Records;
 use pc_types::{
-    Class, Entry, Items, Key, Lsn, Phase, Refusal, Reply, SessionNo, TxnNo, Value, Write,
+    Class, Entry, Items, Key, Lsn, MOST_LOG_ENTRIES, MOST_TRANSACTIONS, Outcome, Phase, Refusal,
+    Reply, SessionNo, TxnNo, Value, Write,
 };
 use std::alloc::{AllocError, Global};
-
-// How many transactions a run may begin.
-const MOST_TRANSACTIONS: u64 = 1_099_511_627_776;
 
 impl World {
     pub(crate) fn begin(&mut self, session: SessionNo) -> Reply
@@ -161,10 +159,10 @@ impl World {
         let Ok(mut keys) = new_keys(self.alloc, &self.records, writes) else {
             return Reply::Refused(Refusal::OutOfMemory);
         };
-        if self.recent.reserve(keys.len()).is_err() {
+        if self.open_set.reserve(keys.len()).is_err() {
             return Reply::Refused(Refusal::OutOfMemory);
         }
-        let _ = self.recent.append(&mut keys);
+        let _ = self.open_set.append(&mut keys);
         let (class, number) = commit_open(
             &mut self.sessions,
             &mut self.records,
@@ -201,17 +199,16 @@ fn commit_open(
     requires place { session - 1 < length sessions.old.items }
     requires opened { is_none (active_in (actives_of sessions.old.items) session) ≡ false }
     requires room { HasRoom log.old }
-    requires not_full { length (entries_of log.old) < 16777216 }
+    requires not_full { length (entries_of log.old) < MOST_LOG_ENTRIES }
     requires placed { (begun : ℕ) × AreOpen records.old (actives_of sessions.old.items) begun }
     ensures class { result.0 ≡ class_at (active_in (actives_of sessions.old.items) session) }
     ensures sessions { actives_of sessions.new.items ≡ with_session (actives_of sessions.old.items) session None }
     ensures records { kept_of records.new ≡ record (kept_of records.old) { rows = released_rows (number_in (active_in (actives_of sessions.old.items) session)) (map (written_row (writes_in (active_in (actives_of sessions.old.items) session))) records.old.rows) } }
     ensures log { entries_of log.new ≡ entries_of log.old ++ Commit session (writes_in (active_in (actives_of sessions.old.items) session)) ∷ [] }
     ensures number { result.1 ≡ length (entries_of log.new) }
-    ensures together { (begun : ℕ) (phase : Phase) (point : ℕ) (recent closed : List (List ℕ)) → HoldTogether records.old (actives_of sessions.old.items) begun phase point recent closed
-        → HoldTogether records.new (actives_of sessions.new.items) begun phase point (recent ++ new_keys records.old.rows (writes_in (active_in (actives_of sessions.old.items) session))) closed }
+    ensures together { (begun : ℕ) (phase : Phase) (point : ℕ) (open_keys closed : List (List ℕ)) → HoldTogether records.old (actives_of sessions.old.items) begun phase point open_keys closed
+        → HoldTogether records.new (actives_of sessions.new.items) begun phase point (open_keys ++ new_keys records.old.rows (writes_in (active_in (actives_of sessions.old.items) session))) closed }
 {
-    records.rise();
     let number = sessions::number(sessions, session);
     let Some(Transaction { class, writes, .. }) = sessions::end(sessions, session) else {
         unreachable!();
@@ -237,7 +234,6 @@ fn abort_open(
     ensures records { kept_of records.new ≡ record (kept_of records.old) { rows = released_rows (number_in (active_in (actives_of sessions.old.items) session)) records.old.rows } }
     ensures together { StayTogether records.old (actives_of sessions.old.items) records.new (actives_of sessions.new.items) }
 {
-    records.rise();
     let number = sessions::number(sessions, session);
     let Some(Transaction { class, writes, .. }) = sessions::end(sessions, session) else {
         unreachable!();
@@ -252,11 +248,4 @@ fn is_no_session(sessions: usize, session: SessionNo) -> bool
     ensures { result ≡ ((session == 0) || nat_lt sessions session) }
 {
     session.0 == 0 || sessions < session.0 as usize
-}
-
-// Whether the phases are the same.
-pub(crate) fn is_same(a: Phase, b: Phase) -> bool
-    ensures { result ≡ same_phase a b }
-{
-    a == b
 }

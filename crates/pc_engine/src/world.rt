@@ -1,9 +1,12 @@
 //! The world, and its run over a list of events.
-ghost use Rattle.std.specs.Prelude.{◌≡◌, ◌≤◌, ◌<◌, ◌⊎◌, ◌↔◌, [], List, ℕ, true, IsTrue, IfOk, IfErr, option_copied};
+ghost use Rattle.std.specs.Prelude.{◌≡◌, ◌≤◌, ◌<◌, ◌⊎◌, ◌↔◌, [], List, ℕ, true, IsTrue, All, IfOk, IfErr, option_copied};
 ghost use Rattle.pc_model.specs.Maps.{get, len};
 ghost use Rattle.pc_model.specs.Files.{file_at};
 ghost use Rattle.pc_model.specs.Database.{KeysRise, database_of};
 ghost use Rattle.pc_model.specs.History.{History};
+ghost use Rattle.pc_model.specs.Limits.{HasFewWrites, IsInLimits};
+ghost use Rattle.pc_model.specs.Log.{after};
+ghost use Rattle.pc_log.specs.Laws.{IsLog};
 ghost use Rattle.pc_records.specs.Rows.{record_of, stored};
 ghost use Rattle.pc_engine.specs.Store.{starting, setting_of};
 ghost use Rattle.pc_engine.specs.Stands.{Stands, Follows, IfRefused};
@@ -18,7 +21,7 @@ use pc_log::Log;
 use pc_part::{Base, Part};
 use pc_phase::{Change, Phases};
 use pc_records::Records;
-use pc_types::{Entry, Event, FileNo, Key, Refusal, Reply, Value};
+use pc_types::{Entry, Event, FileNo, Key, MOST_KEYS, MOST_SESSIONS, Refusal, Reply, Value};
 use std::alloc::Global;
 use std::collections::VecDeque;
 use std::marker::Model;
@@ -33,8 +36,8 @@ pub struct World {
     pub(crate) log: Log,
     pub(crate) begun: u64,
     pub(crate) phases: Phases,
-    pub(crate) recent: VecDeque<Key>,
-    pub(crate) closed: VecDeque<Key>,
+    pub(crate) open_set: VecDeque<Key>,
+    pub(crate) closed_set: VecDeque<Key>,
     pub(crate) taken: Vec<(Key, Option<Value>)>,
     pub(crate) shelf: Vec<Part>,
 }
@@ -61,23 +64,23 @@ impl Model for World {
       kept = kept_of w.records;
       log = entries_of w.log;
       begun = w.begun;
-      cycle = record { phase = w.phases.phase; point = w.phases.point; recent = w.recent.items; closed = w.closed.items; taken = w.taken.items };
+      cycle = record { phase = w.phases.phase; point = w.phases.point; open_set = w.open_set.items; closed_set = w.closed_set.items; taken = w.taken.items };
       shelf = w.shelf.items;
     } };
 
-    ghost invariant = { λ w. IsWithinLimits w.begun (entries_of w.log) (actives_of w.sessions.items) w.phases.phase w.phases.point w.recent.items w.closed.items w.taken.items w.shelf.items
-        × HoldTogether w.records (actives_of w.sessions.items) w.begun w.phases.phase w.phases.point w.recent.items w.closed.items
+    ghost invariant = { λ w. IsWithinLimits w.begun (entries_of w.log) (actives_of w.sessions.items) w.phases.phase w.phases.point w.open_set.items w.closed_set.items w.taken.items w.shelf.items
+        × HoldTogether w.records (actives_of w.sessions.items) w.begun w.phases.phase w.phases.point w.open_set.items w.closed_set.items
         × AreCounted w.phases (actives_of w.sessions.items) };
 }
 
 impl World {
     /// A store that starts from the base, with this many sessions and room for as many keys as the capacity: it stands
-    /// after no step. Refuses with `Full` exactly where the base has more pairs than the capacity, and else only with
+    /// after no step. Refuses with `Full` exactly where the base's pairs are more than there is room for, and else only with
     /// `OutOfMemory`. The base stands at point 0.
     pub fn new(alloc: Global, base: Base, sessions: u8, capacity: u32) -> Result<World, Refusal>
         requires start { base.point ≡ 0 }
-        requires sessions { (1 ≤ sessions) × (sessions ≤ 64) }
-        requires capacity { (1 ≤ capacity) × (capacity ≤ 1048576) }
+        requires sessions { (1 ≤ sessions) × (sessions ≤ MOST_SESSIONS) }
+        requires capacity { (1 ≤ capacity) × (capacity ≤ MOST_KEYS) }
         ensures setting { IfOk result (λ w. setting_of w ≡ starting base sessions capacity) }
         ensures stands { IfOk result (λ w. Stands w []) }
         ensures full { capacity < len base.pairs → result ≡ Err Refusal.Full }
@@ -97,24 +100,25 @@ impl World {
             log: Log::new(alloc),
             begun: 0,
             phases: Phases::new(),
-            recent: VecDeque::new(alloc),
-            closed: VecDeque::new(alloc),
+            open_set: VecDeque::new(alloc),
+            closed_set: VecDeque::new(alloc),
             taken: Vec::new(alloc),
             shelf: Vec::new(alloc),
         })
     }
 
-    /// Answers one event. For every history that the world stands after, the reply is legal, and the world then stands
-    /// after the history with this event and reply. Of that history each key's committed value is that of the log
+    /// Answers one event. For every history that the world stands after, the reply is legal, and what the world stands
+    /// after is then that history and, behind it, the event with this reply. Of that history each key's committed value is that of the log
     /// replayed on the base, and committed transactions have read right. Each key that was written since the point
     /// before was taken once, with what it had at the point. Files of the shelf, and joins of them, that cover the same
-    /// points are one file, and one of the points 1 to n, laid on the base, is the database after what was committed
-    /// before point n's token. A refused event changes nothing.
+    /// points are one file, and the base with one of the points 1 to n laid on it is what was committed before point n's
+    /// token. A refused event changes nothing.
     pub fn step(&mut self, event: &Event) -> Reply
         ensures follows { (history : History) → Stands self.old history → Follows (setting_of self.old) history event.now result self.new }
         ensures setting { setting_of self.new ≡ setting_of self.old }
         ensures refused { IfRefused result (self.new ≡ self.old) }
     {
+        in_limits(event);
         match event {
             Event::Begin(session) => self.begin(*session),
             Event::Get(session, key) => self.get(*session, key),
@@ -140,14 +144,17 @@ impl World {
     }
 
     /// The log: a commit's entry for each committed transaction, and a token for each change of the phase, in order; at
-    /// most 16,777,216 entries.
+    /// most 16,777,216 entries, each commit of at most 256 writes. After every history it has a text, which `encode_log` of
+    /// `pc_log` writes: its entries are within the limits of the format, and its tokens keep their order.
     pub fn log(&self) -> &[Entry]
-        ensures { result.now ≡ self.now.log }
+        ensures log { result.now ≡ self.now.log }
+        ensures few { All HasFewWrites result.now }
+        ensures lawful { (history : History) → Stands self.now history → IsLog result.now }
     {
         self.log.entries()
     }
 
-    /// The shelf's file of this number: files are numbered from 1 in the order of shelving.
+    /// The shelf's file of this number; the file that was shelved first has number 1.
     pub fn file(&self, number: FileNo) -> Option<&Part>
         ensures { option_copied result ≡ file_at self.now.shelf number }
     {
@@ -161,10 +168,12 @@ impl World {
         self.shelf.as_slice()
     }
 
-    /// The committed contents, rising strictly by key. It fails only where memory ran out.
+    /// The committed contents, rising strictly by key: after every history those of the log replayed on the base. It fails
+    /// only where memory ran out.
     pub fn committed(&self) -> Result<Vec<(Key, Value)>, Refusal>
         ensures rise { IfOk result (λ pairs. KeysRise pairs.items) }
         ensures contents { IfOk result (λ pairs. (key : List ℕ) → get (database_of pairs.items) key ≡ stored (record_of self.now.kept.rows key)) }
+        ensures replayed { (history : History) → Stands self.now history → IfOk result (λ pairs. database_of pairs.items ≡ after self.now.base.pairs self.now.log) }
         ensures refusals { IfErr result (λ e. e ≡ Refusal.OutOfMemory) }
     {
         let pairs = self.records.committed(self.alloc)?;
@@ -191,10 +200,26 @@ impl World {
     }
 }
 
+// What an event asks to write is within the limits of keys and values: their types say so.
+fn in_limits(event: &Event)
+    ensures { IsInLimits event.now }
+{
+    match event {
+        Event::Put(_, key, value) => {
+            let _ = key.as_bytes();
+            let _ = value.as_bytes();
+        }
+        Event::Del(_, key) => {
+            let _ = key.as_bytes();
+        }
+        _ => {}
+    }
+}
+
 /// Runs the events, in order, on a new store that starts from the base, and gives the store and the replies. The whole
 /// history is legal, the committed contents are those of the replayed log, and files and points keep what
-/// `step` says of them. Refuses with `Full` exactly where the base has more pairs than the capacity, and else only with
-/// `OutOfMemory`.
+/// `step` says of them. Refuses with `Full` exactly where the base's pairs are more than there is room for, and else
+/// only with `OutOfMemory`.
 pub fn run(
     alloc: Global,
     base: Base,
@@ -203,8 +228,8 @@ pub fn run(
     events: &[Event],
 ) -> Result<(World, Vec<Reply>), Refusal>
     requires start { base.point ≡ 0 }
-    requires sessions { (1 ≤ sessions) × (sessions ≤ 64) }
-    requires capacity { (1 ≤ capacity) × (capacity ≤ 1048576) }
+    requires sessions { (1 ≤ sessions) × (sessions ≤ MOST_SESSIONS) }
+    requires capacity { (1 ≤ capacity) × (capacity ≤ MOST_KEYS) }
     ensures run { IfOk result (λ r. IsRun (starting base sessions capacity) events.now r.1.items r.0) }
     ensures full { capacity < len base.pairs → result ≡ Err Refusal.Full }
     ensures refusals { IfErr result (λ e. ((e ≡ Refusal.Full) × (capacity < len base.pairs)) ⊎ (e ≡ Refusal.OutOfMemory)) }

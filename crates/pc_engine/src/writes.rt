@@ -1,17 +1,14 @@
-//! The writes of the open transaction: the final one per key, in the order of first writes.
+//! The writes of the open transaction: of each key the last one, the keys as they were first written.
 ghost use Rattle.std.specs.Prelude.{◌≡◌, ◌<◌, ◌≤◌, ◌==◌, ◌&&◌, ◌++◌, [], length, IfOk, OnOk, MatchOption, Some, is_none, option_copied, vec_len, vec_capacity};
 ghost use Rattle.pc_model.specs.Database.{with_write, written};
-ghost use Rattle.pc_records.specs.Rows.{is_recent, record_of};
+ghost use Rattle.pc_records.specs.Rows.{is_in_open_set, record_of};
 ghost use Rattle.pc_records.specs.NewKeys.{is_one_too_many, new_keys, with_new};
 ghost use Rattle.pc_engine.specs.Writes.{IsWrittenAt, IsUnwritten};
 
 use pc_records::Records;
-use pc_types::{Key, Value, Write};
+use pc_types::{Key, MOST_WRITES, Value, Write};
 use std::alloc::{AllocError, Global};
 use std::collections::VecDeque;
-
-// How many keys a transaction may write.
-const MOST_WRITES: usize = 256;
 
 // Where the key is written.
 pub(crate) fn written_at(writes: &[Write], key: &Key) -> Option<usize>
@@ -76,9 +73,9 @@ fn add_new(
     keys: &mut VecDeque<Key>,
     key: &Key,
 ) -> Result<(), AllocError>
-    ensures { OnOk result (keys.new.items ≡ keys.old.items ++ with_new (is_recent (record_of records.now.rows key.now)) key.now []) }
+    ensures { OnOk result (keys.new.items ≡ keys.old.items ++ with_new (is_in_open_set (record_of records.now.rows key.now)) key.now []) }
 {
-    if !records.is_recent(key) {
+    if !records.is_in_open_set(key) {
         let key = key.copy(alloc)?;
         keys.push_back(key)?;
     }

@@ -4,9 +4,8 @@ ghost use Rattle.std.specs.Prelude.{◌≡◌};
 use crate::found::put_refusal;
 use crate::kinds::Kind;
 use pc_log::{LastToken, Log, read_entry, read_header};
-use pc_model::Triple;
 use pc_part::{Base, Part, Range};
-use pc_types::{Entry, Phase, Refusal, Tally, Value};
+use pc_types::{Entry, Phase, Refusal, Tally, Triple, Value};
 use std::alloc::Global;
 use std::io::Write;
 

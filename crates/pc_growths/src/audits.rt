@@ -1,7 +1,7 @@
 //! An audit of a file against a log.
 
-use pc_model::{CompleteFile, Triple, audit};
-use pc_types::{Entry, Items, Key, Phase, Point, Refusal, SessionNo, Value, Write};
+use pc_replay::{CompleteFile, audit};
+use pc_types::{Entry, Items, Key, Phase, Point, Refusal, SessionNo, Triple, Value, Write};
 use std::alloc::{AllocError, Global};
 use std::test::Fail;
 

@@ -1,8 +1,8 @@
 //! Locks beside a twin: one growth of memory is refused, so at most one of the two is ever asked again for an event.
 ghost use Rattle.std.specs.Prelude.{◌≡◌, ◌<◌, ◌≤◌, length, IfOk};
 
-use pc_locks::{Locks, Mode, Outcome};
-use pc_types::{SlotId, TxnNo};
+use pc_locks::Locks;
+use pc_types::{Mode, Outcome, SlotId, TxnNo};
 use std::alloc::{AllocError, Global};
 use std::test::Fail;
 
@@ -229,6 +229,7 @@ fn reads_once(locks: &mut Locks, slot: u32) -> Result<bool, AllocError>
 // Whether it is granted to read each of 16 slots.
 fn reads_all(locks: &mut Locks) -> Result<bool, AllocError>
     requires { 16 ≤ length locks.old.queues }
+    ensures { length locks.new.queues ≡ length locks.old.queues }
 {
     for slot in 0..16u32 {
         if !reads(locks, slot)? {
@@ -254,11 +255,36 @@ fn is_long_list_right(alloc: Global) -> Result<bool, AllocError> {
     Ok(reads_all(&mut locks)? && releases_all(&mut locks))
 }
 
+// Whether requests with room are granted the first time: a transaction reads each of 16 slots, asking again where memory
+// was wanting, and then gives each back and reads it once more. Its list never becomes empty, and the place that it gave
+// back has its links, so that no growth is asked for and none can be refused.
+fn reads_again_at_once(alloc: Global) -> Result<bool, AllocError> {
+    let mut locks = new_locks(alloc, 16)?;
+    if !reads_all(&mut locks)? {
+        return Ok(false);
+    }
+    for slot in 0..16u32 {
+        if locks.release_one(TxnNo(1)) != Some(SlotId(slot)) || !reads_once(&mut locks, slot)? {
+            return Ok(false);
+        }
+    }
+    Ok(true)
+}
+
 // Whichever growth is refused, the locks are as before, and asked again they answer as with ample memory, then and later.
 #[test]
 fn locks_answer_the_same_at_each_refused_growth(rt: HostRuntime) -> Result<(), Fail> {
     assert_eq!(rt; first_wrong_row(rt.alloc())?, None);
     assert_eq!(rt; first_wrong_of_crowd(rt.alloc())?, None);
     assert!(rt; is_long_list_right(rt.alloc())?);
+    Ok(())
+}
+
+// A request for which there is room asks for no growth: whichever is refused, it is granted the first time.
+#[test]
+fn requests_with_room_ask_for_no_memory_at_each_refused_growth(
+    rt: HostRuntime,
+) -> Result<(), Fail> {
+    assert!(rt; reads_again_at_once(rt.alloc())?);
     Ok(())
 }

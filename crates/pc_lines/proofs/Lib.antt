@@ -1,2 +1,2 @@
-pub mod WordLemmas
-pub mod LineLemmas
+mod WordLemmas
+mod LineLemmas

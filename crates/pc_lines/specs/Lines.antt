@@ -9,7 +9,7 @@ use Rattle.pc_lines.specs.declared.lines.Line.TheVariants as line
 use Rattle.pc_lines.specs.declared.lines.View.TheVariants as view
 use Rattle.pc_lines.specs.Words.{number_of, text_of}
 
--- the words of a line: the longest runs of bytes other than space
+-- the words of a line: what stands between its spaces, without the empty pieces
 abbrev pub words_of : List ℕ → List (List ℕ)
 words_of text = filter (λ word. nat_lt 0 (length word)) (slice_split (λ b. b == 32) text)
 

@@ -17,11 +17,11 @@ pub enum Line {
     Malformed,
     /// A pair of the base.
     Sets(Key, Value),
-    /// A pair of the base with a key or value of a wrong length.
+    /// A pair of the base whose key or value is too long, or a key of no bytes.
     SetsRefused(Refusal),
     /// An event.
     Asks(Event),
-    /// An event with a key or value of a wrong length.
+    /// An event of such a key or value.
     AsksRefused(Refusal),
     /// Something to be shown, which changes nothing.
     Shows(View),

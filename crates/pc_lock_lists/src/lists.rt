@@ -2,8 +2,7 @@
 
 use crate::counts::{Counts, NO_COUNTS};
 use crate::table::{Answer, Event, Table};
-use pc_locks::Mode;
-use pc_types::Refusal;
+use pc_types::{Mode, Refusal};
 use std::alloc::{AllocError, Global};
 
 /// Which lists are gone through: those of so many of the letters, 10 or 15, and at most so long.

@@ -1,8 +1,8 @@
 //! The locks of two slots, with what three transactions know of their own requests.
 ghost use Rattle.std.specs.Prelude.{◌≡◌, ◌≤◌, ◌<◌, length, IfOk};
 
-use pc_locks::{Locks, Mode, Outcome};
-use pc_types::{Refusal, SlotId, TxnNo};
+use pc_locks::Locks;
+use pc_types::{Mode, Outcome, Refusal, SlotId, TxnNo};
 use std::alloc::Global;
 
 /// What an event came to.

@@ -7,7 +7,7 @@ use Rattle.pc_chain.specs.Chains.{Avoids, AreApart, Leads}
 use Rattle.pc_locks.specs.Lines.{most, next_in, ids_of, all_ids, chain_at, no_chain, IsLine, AreLines}
 use Rattle.pc_locks.specs.States.{is_listed, first_of, rest_of, last_of}
 use Rattle.pc_locks.specs.Tables.{ids_at}
-use Rattle.pc_locks.proofs.LineLaws.{Become, become_pushed, become_fewer, avoids_unlisted, ids_same, lines_none, fits, same_first, same_rest, same_last, either_true, right_true}
+use Rattle.pc_locks.proofs.LineLemmas.{Become, become_pushed, become_fewer, avoids_unlisted, ids_same, lines_none, fits, same_first, same_rest, same_last, either_true, right_true}
 
 pub get_within : {A : Type 0} (xs : List A) (i : ℕ) (d e : A) → i < length xs → get_or xs i d ≡ get_or xs i e
 get_within [] i d e h = absurd (omega (arith, h))

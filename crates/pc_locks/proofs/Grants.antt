@@ -5,14 +5,15 @@ use Rattle.std.specs.List.{list_all}
 use Rattle.std.proofs.lemmas.Bool.Decides.{nat_tests}
 use Rattle.std.proofs.lemmas.List.{append_assoc, map-append, length-append}
 use Rattle.std.proofs.lemmas.List.Folds.{list_all-append}
-use Rattle.pc_model.specs.Locks.{Request, Queue, are_compatible, granted_behind}
+use Rattle.pc_types.specs.declared.Request.{Request}
+use Rattle.pc_model.specs.Locks.{Queue, are_compatible, granted_behind, is_exclusive}
 use Rattle.pc_model.specs.Queues.{stands_in, AreOnce}
 use Rattle.pc_locks.specs.declared.node.Node.{Node}
 use Rattle.pc_locks.specs.States.{is_listed, first_of}
 use Rattle.pc_locks.specs.Tables.{Nodes, node_at, request_of, request_at, place_of, requests}
-use Rattle.pc_locks.proofs.LineLaws.{decide, is_same, same_is, not_both}
-use Rattle.pc_locks.proofs.TableLaws.{transaction_same, requests_same}
-use Rattle.pc_locks.proofs.RemovalLaws.{member_stands, once_behind, back_listed}
+use Rattle.pc_locks.proofs.LineLemmas.{decide, is_same, same_is, not_both}
+use Rattle.pc_locks.proofs.TableLemmas.{transaction_same, requests_same}
+use Rattle.pc_locks.proofs.RemovalLemmas.{member_stands, once_behind, back_listed}
 
 abbrev is_nil : {A : Type 0} → List A → Bool
 is_nil [] = true
@@ -30,10 +31,10 @@ flip_other : (a b : ℕ) → (a == b) ≡ false → (b == a) ≡ false
 flip_other a b e = grind (arith, nat_tests)
 
 abbrev all_shared : Queue → Bool
-all_shared q = list_all (λ r. not r.exclusive) q
+all_shared q = list_all (λ r. not (is_exclusive r.mode)) q
 
 -- beside requests of other transactions a request fits where there is none or all are shared
-fits_shared : (r : Request) (q : Queue) → stands_in q r.transaction ≡ false → list_all (are_compatible r) q ≡ (is_nil q || (all_shared q && not r.exclusive))
+fits_shared : (r : Request) (q : Queue) → stands_in q r.transaction ≡ false → list_all (are_compatible r) q ≡ (is_nil q || (all_shared q && not (is_exclusive r.mode)))
 fits_shared r [] e = refl
 fits_shared r (x ∷ xs) e = by (x.transaction == r.transaction) refl e (fits_shared r xs)
   where
@@ -46,10 +47,10 @@ fits_shared r (x ∷ xs) e = by (x.transaction == r.transaction) refl e (fits_sh
         nil_too [] = refl
         nil_too (y ∷ ys) = refl
 
-    by : (b : Bool) → (x.transaction == r.transaction) ≡ b → (b || stands_in xs r.transaction) ≡ false → (stands_in xs r.transaction ≡ false → list_all (are_compatible r) xs ≡ (is_nil xs || (all_shared xs && not r.exclusive))) →
-        (((r.transaction == x.transaction) || (not r.exclusive && not x.exclusive)) && list_all (are_compatible r) xs) ≡ ((not x.exclusive && all_shared xs) && not r.exclusive)
+    by : (b : Bool) → (x.transaction == r.transaction) ≡ b → (b || stands_in xs r.transaction) ≡ false → (stands_in xs r.transaction ≡ false → list_all (are_compatible r) xs ≡ (is_nil xs || (all_shared xs && not (is_exclusive r.mode)))) →
+        (((r.transaction == x.transaction) || (not (is_exclusive r.mode) && not (is_exclusive x.mode))) && list_all (are_compatible r) xs) ≡ ((not (is_exclusive x.mode) && all_shared xs) && not (is_exclusive r.mode))
     by true f g ih = absurd cc
-    by false f g ih = rw (flip_other x.transaction r.transaction f) (parts r.exclusive x.exclusive (ih g))
+    by false f g ih = rw (flip_other x.transaction r.transaction f) (parts (is_exclusive r.mode) (is_exclusive x.mode) (ih g))
 
 -- a request before another is of another transaction
 pub once_before : (nodes : Nodes) (before behind : List ℕ) (x : ℕ) → AreOnce (requests nodes (before ++ x ∷ behind)) → stands_in (requests nodes before) (request_at nodes x).transaction ≡ false
@@ -126,7 +127,7 @@ nil_requests nodes (x ∷ xs) = refl
 
 -- whether the request fits all before it
 fits_here : (was nodes : Nodes) (ids : List ℕ) (is_first are_shared : Bool) (at : Option ℕ) (count id : ℕ) (g : Granting was nodes ids is_first are_shared at count) (h : Here ids g.before g.behind id) →
-    list_all (are_compatible (request_at nodes id)) (requests nodes g.before) ≡ (is_first || (are_shared && not (request_at nodes id).exclusive))
+    list_all (are_compatible (request_at nodes id)) (requests nodes g.before) ≡ (is_first || (are_shared && not (is_exclusive (request_at nodes id).mode)))
 fits_here was nodes ids is_first are_shared at count id g h =
     let o = subst (λ xs. AreOnce (requests was xs)) h.split g.once in
     let s : stands_in (requests nodes g.before) (request_at nodes id).transaction ≡ false =
@@ -138,7 +139,7 @@ behind_here : (q : Queue) (r : Request) (rs : Queue) (b : Bool) → list_all (ar
 behind_here q r rs b e = ap (λ x. cond x (record r { granted = true } ∷ granted_behind (q ++ record r { granted = true } ∷ []) rs) (r ∷ rs)) e
 
 pub grant_stop : (was nodes : Nodes) (ids : List ℕ) (is_first are_shared : Bool) (at : Option ℕ) (count id : ℕ) → Granting was nodes ids is_first are_shared at count → at ≡ Some id →
-    is_first ≡ false → (are_shared && not (request_at nodes id).exclusive) ≡ false → requests nodes ids ≡ granted_behind [] (requests was ids)
+    is_first ≡ false → (are_shared && not (is_exclusive (request_at nodes id).mode)) ≡ false → requests nodes ids ≡ granted_behind [] (requests was ids)
 grant_stop was nodes ids is_first are_shared at count id g e f s =
     let h = grant_here was nodes ids is_first are_shared at count id g e in
     let fit : list_all (are_compatible (request_at nodes id)) (requests nodes g.before) ≡ false = fits_here was nodes ids is_first are_shared at count id g h ∙ rw (f, s) in
@@ -161,7 +162,7 @@ grant_all was nodes ids is_first are_shared at count g h = by g.behind (ap lengt
     by (x ∷ xs) s f = absurd (omega (arith, s, h, g.counted))
 
 module _ (was nodes new_nodes : Nodes) (ids : List ℕ) (is_first are_shared : Bool) (at new_at : Option ℕ) (count id : ℕ) (g : Granting was nodes ids is_first are_shared at count) (e : at ≡ Some id)
-    (fit : (is_first || (are_shared && not (request_at nodes id).exclusive)) ≡ true)
+    (fit : (is_first || (are_shared && not (is_exclusive (request_at nodes id).mode))) ≡ true)
     (written : node_at new_nodes id ≡ option_map (λ (n : Node). record n { request = record (request_at nodes id) { granted = true } }) (node_at nodes id))
     (stay : (other : ℕ) → other ≢ id → node_at new_nodes other ≡ node_at nodes other)
     (next : (before rest : List ℕ) → ids ≡ before ++ id ∷ rest → new_at ≡ first_of rest) where
@@ -204,7 +205,7 @@ module _ (was nodes new_nodes : Nodes) (ids : List ℕ) (is_first are_shared : B
   nil_end [] x = refl
   nil_end (y ∷ ys) x = refl
 
-  pub grant_on : Granting was new_nodes ids false (are_shared && not (request_at nodes id).exclusive) new_at (count + 1)
+  pub grant_on : Granting was new_nodes ids false (are_shared && not (is_exclusive (request_at nodes id).mode)) new_at (count + 1)
   grant_on = record {
     before = g.before ++ id ∷ [];
     behind = at_it.rest;
@@ -217,9 +218,9 @@ module _ (was nodes new_nodes : Nodes) (ids : List ℕ) (is_first are_shared : B
         ∙ (ap (λ xs. requests nodes g.before ++ granted_behind (requests nodes g.before) (requests nodes xs)) (sym at_it.behind_is) ∙ g.to_be));
     first_is = nil_end g.before id;
     shared_is =
-        ap (λ b. b && not (request_at nodes id).exclusive) g.shared_is
-        ∙ sym (ap all_shared before_now ∙ (list_all-append (λ (r : Request). not r.exclusive) (requests nodes g.before) (record (request_at nodes id) { granted = true } ∷ [])
-        ∙ ap (λ b. all_shared (requests nodes g.before) && b) (and_true (not (request_at nodes id).exclusive))));
+        ap (λ b. b && not (is_exclusive (request_at nodes id).mode)) g.shared_is
+        ∙ sym (ap all_shared before_now ∙ (list_all-append (λ (r : Request). not (is_exclusive r.mode)) (requests nodes g.before) (record (request_at nodes id) { granted = true } ∷ [])
+        ∙ ap (λ b. all_shared (requests nodes g.before) && b) (and_true (not (is_exclusive (request_at nodes id).mode)))));
     once = g.once;
     held = g.held;
     places = λ x. place_now x ∙ g.places x;
@@ -227,11 +228,11 @@ module _ (was nodes new_nodes : Nodes) (ids : List ℕ) (is_first are_shared : B
   }
 
 pub grant_step : (was nodes new_nodes : Nodes) (ids : List ℕ) (is_first are_shared shared : Bool) (at new_at : Option ℕ) (count id : ℕ) (r : Request) → Granting was nodes ids is_first are_shared at count → at ≡ Some id →
-    r ≡ request_at nodes id → shared ≡ (are_shared && not r.exclusive) → (is_first || shared) ≡ true →
+    r ≡ request_at nodes id → shared ≡ (are_shared && not (is_exclusive r.mode)) → (is_first || shared) ≡ true →
     node_at new_nodes id ≡ option_map (λ (n : Node). record n { request = record r { granted = true } }) (node_at nodes id) →
     ((other : ℕ) → other ≢ id → node_at new_nodes other ≡ node_at nodes other) → ((before rest : List ℕ) → ids ≡ before ++ id ∷ rest → new_at ≡ first_of rest) → Granting was new_nodes ids false shared new_at (count + 1)
 grant_step was nodes new_nodes ids is_first are_shared shared at new_at count id r g e same s f w o n =
-    let all : shared ≡ (are_shared && not (request_at nodes id).exclusive) = s ∙ ap (λ (x : Request). are_shared && not x.exclusive) same in
+    let all : shared ≡ (are_shared && not (is_exclusive (request_at nodes id).mode)) = s ∙ ap (λ (x : Request). are_shared && not (is_exclusive x.mode)) same in
     subst (λ b. Granting was new_nodes ids false b new_at (count + 1)) (sym all)
     (grant_on was nodes new_nodes ids is_first are_shared at new_at count id g e (sym (ap (λ b. is_first || b) all) ∙ f)
     (w ∙ ap (λ (x : Request). option_map (λ (m : Node). record m { request = record x { granted = true } }) (node_at nodes id)) same) o n)
@@ -241,8 +242,8 @@ or_false true b e = absurd cc
 or_false false b e = (refl, e)
 
 pub grant_halt : (was nodes : Nodes) (ids : List ℕ) (is_first are_shared shared : Bool) (at : Option ℕ) (count id : ℕ) (r : Request) → Granting was nodes ids is_first are_shared at count → at ≡ Some id →
-    r ≡ request_at nodes id → shared ≡ (are_shared && not r.exclusive) → (is_first || shared) ≡ false → requests nodes ids ≡ granted_behind [] (requests was ids)
+    r ≡ request_at nodes id → shared ≡ (are_shared && not (is_exclusive r.mode)) → (is_first || shared) ≡ false → requests nodes ids ≡ granted_behind [] (requests was ids)
 grant_halt was nodes ids is_first are_shared shared at count id r g e same s f =
-    let all : shared ≡ (are_shared && not (request_at nodes id).exclusive) = s ∙ ap (λ (x : Request). are_shared && not x.exclusive) same in
+    let all : shared ≡ (are_shared && not (is_exclusive (request_at nodes id).mode)) = s ∙ ap (λ (x : Request). are_shared && not (is_exclusive x.mode)) same in
     let h = or_false is_first shared f in
     grant_stop was nodes ids is_first are_shared at count id g e h.0 (sym all ∙ h.1)

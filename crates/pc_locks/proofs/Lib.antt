@@ -1,12 +1,12 @@
-pub mod ChainRows
-pub mod Grants
-pub mod LineLaws
-pub mod ListLaws
-pub mod LocksLaws
-pub mod Outcomes
-pub mod RemovalLaws
-pub mod Rows
+mod ChainRows
+mod Grants
+mod LineLemmas
+mod ListLemmas
+mod LocksLemmas
+mod Outcomes
+mod RemovalLemmas
+pub mod QueueRowLaws
 pub mod StateLaws
-pub mod TableLaws
-pub mod Upgrades
-pub mod Walks
+mod TableLemmas
+mod Upgrades
+mod Walks

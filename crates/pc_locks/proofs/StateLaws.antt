@@ -4,12 +4,15 @@ use Rattle.std.specs.Prelude.{filter, Result, Ok, Err, IfOk, OnErr}
 use Rattle.std.specs.List.{list_any, list_all}
 use Rattle.std.proofs.lemmas.List.Folds.{list_any-append}
 use Rattle.std.proofs.lemmas.Bool.Decides.{nat_tests}
-use Rattle.pc_model.specs.Locks.{Request, Queue, are_compatible, request_in, granted_behind, with_request, queue_after, queue_without, outcome_beside, Outcome, is_ungranted}
-use Rattle.pc_model.specs.Locks.Outcome.{Granted, Queued, Died}
-use Rattle.pc_model.specs.Queues.{stands_in}
+use Rattle.pc_types.specs.declared.Mode.{Mode}
+use Rattle.pc_types.specs.declared.Outcome.{Outcome}
+use Rattle.pc_types.specs.declared.Request.{Request}
+use Rattle.pc_model.specs.Locks.{Queue, are_compatible, request_in, granted_behind, with_request, queue_after, queue_without, outcome_beside, is_ungranted, is_exclusive, stronger}
+use Rattle.pc_types.specs.declared.Outcome.TheVariants.{Granted, Queued, Died}
+use Rattle.pc_model.specs.Queues.{stands_in, grant}
 use Rattle.pc_locks.specs.States.{Lists, slots_of, queue_at, first_of, rest_of, last_of, is_listed, slots_after, AreDifferent, AreLinked}
-use Rattle.pc_locks.proofs.Rows.{at_cases, none_at, set_back}
-use Rattle.pc_model.proofs.QueueLaws.{grant, stands_granted, stands_is, with_new}
+use Rattle.pc_locks.proofs.QueueRowLaws.{at_cases, none_at, set_back}
+use Rattle.pc_model.proofs.QueueLaws.{stands_granted, stands_is, with_new}
 
 same_test : (a b : ℕ) → a ≡ b → (a == b) ≡ true
 same_test a b e = grind (arith, nat_tests)
@@ -52,7 +55,7 @@ stands_with [] n u e = absurd cc
 stands_with (r ∷ rs) n u e = by (r.transaction == n.transaction) e (stands_with rs n u)
   where
     by : (b : Bool) → (b || stands_in rs n.transaction) ≡ true → (stands_in rs n.transaction ≡ true → stands_in (with_request rs n) u ≡ stands_in rs u) →
-        stands_in (cond b (record r { exclusive = r.exclusive || n.exclusive } ∷ rs) (r ∷ with_request rs n)) u ≡ ((r.transaction == u) || stands_in rs u)
+        stands_in (cond b (record r { mode = stronger r.mode n.mode } ∷ rs) (r ∷ with_request rs n)) u ≡ ((r.transaction == u) || stands_in rs u)
     by true f ih = refl
     by false f ih = ap (λ b. (r.transaction == u) || b) (ih f)
 
@@ -61,10 +64,10 @@ ungranted_with [] n u e = absurd cc
 ungranted_with (r ∷ rs) n u e = by (r.transaction == n.transaction) e (ungranted_with rs n u)
   where
     by : (b : Bool) → (b || stands_in rs n.transaction) ≡ true → (stands_in rs n.transaction ≡ true → is_ungranted (request_in (with_request rs n) u) ≡ is_ungranted (request_in rs u)) →
-        is_ungranted (request_in (cond b (record r { exclusive = r.exclusive || n.exclusive } ∷ rs) (r ∷ with_request rs n)) u) ≡ is_ungranted (cond (r.transaction == u) (Some r) (request_in rs u))
+        is_ungranted (request_in (cond b (record r { mode = stronger r.mode n.mode } ∷ rs) (r ∷ with_request rs n)) u) ≡ is_ungranted (cond (r.transaction == u) (Some r) (request_in rs u))
     by true f ih = at_front (r.transaction == u)
       where
-        at_front : (b : Bool) → is_ungranted (cond b (Some (record r { exclusive = r.exclusive || n.exclusive })) (request_in rs u)) ≡ is_ungranted (cond b (Some r) (request_in rs u))
+        at_front : (b : Bool) → is_ungranted (cond b (Some (record r { mode = stronger r.mode n.mode })) (request_in rs u)) ≡ is_ungranted (cond b (Some r) (request_in rs u))
         at_front true = refl
         at_front false = refl
     by false f ih = behind (r.transaction == u) (ih f)
@@ -321,20 +324,20 @@ granted_of own e = by own.granted e
     by true f = refl
     by false f = absurd cc
 
-pub again_kind : (q : Queue) (t : ℕ) (exclusive : Bool) (own : Request) (o : Outcome) → o ≡ outcome_beside q t exclusive (Some own) → (o ≡ Granted) ⊎ (o ≡ Died)
-again_kind q t exclusive own o e = by (own.exclusive || not exclusive) (list_any (λ r. r.granted && not (r.transaction == t)) q) e
+pub again_kind : (q : Queue) (t : ℕ) (mode : Mode) (own : Request) (o : Outcome) → o ≡ outcome_beside q t mode (Some own) → (o ≡ Granted) ⊎ (o ≡ Died)
+again_kind q t mode own o e = by (is_exclusive own.mode || not (is_exclusive mode)) (list_any (λ r. r.granted && not (r.transaction == t)) q) e
   where
     by : (a b : Bool) → o ≡ cond a Granted (cond b Died Granted) → (o ≡ Granted) ⊎ (o ≡ Died)
     by true b f = inl f
     by false true f = inr f
     by false false f = inl f
 
-pub linked_again : (queues : List Queue) (lists : Lists) (s t : ℕ) (exclusive : Bool) (own : Request) (o : Outcome) → s < length queues → (o ≡ Granted) ⊎ (o ≡ Died) → request_in (queue_at queues s) t ≡ Some own →
-    AreLinked queues lists → AreLinked (set queues s (queue_after (queue_at queues s) t exclusive o)) lists
-linked_again queues lists s t exclusive own o h c f k = elim c [
-  | inl e ↦ subst (λ x. AreLinked (set queues s (queue_after (queue_at queues s) t exclusive x)) lists) (sym e)
-      (linked_with queues lists s (record { transaction = t; exclusive = exclusive; granted = true }) h (sym (stands_is (queue_at queues s) t) ∙ ap is_some f) k)
-  | inr e ↦ subst (λ x. AreLinked (set queues s (queue_after (queue_at queues s) t exclusive x)) lists) (sym e) (subst (λ x. AreLinked x lists) (sym (set_back queues s)) k)
+pub linked_again : (queues : List Queue) (lists : Lists) (s t : ℕ) (mode : Mode) (own : Request) (o : Outcome) → s < length queues → (o ≡ Granted) ⊎ (o ≡ Died) → request_in (queue_at queues s) t ≡ Some own →
+    AreLinked queues lists → AreLinked (set queues s (queue_after (queue_at queues s) t mode o)) lists
+linked_again queues lists s t mode own o h c f k = elim c [
+  | inl e ↦ subst (λ x. AreLinked (set queues s (queue_after (queue_at queues s) t mode x)) lists) (sym e)
+      (linked_with queues lists s (record { transaction = t; mode = mode; granted = true }) h (sym (stands_is (queue_at queues s) t) ∙ ap is_some f) k)
+  | inr e ↦ subst (λ x. AreLinked (set queues s (queue_after (queue_at queues s) t mode x)) lists) (sym e) (subst (λ x. AreLinked x lists) (sym (set_back queues s)) k)
 ]
 
 pub list_again : (slots : List ℕ) (s : ℕ) (b : Bool) (o : Outcome) → (o ≡ Granted) ⊎ (o ≡ Died) → b ≡ true → slots ≡ slots_after slots s b o
@@ -353,24 +356,24 @@ every t lists new_lists e o u = elim (same_or_other u t) [
   | inr a ↦ o u a
 ]
 
-pub linked_first : (queues : List Queue) (lists new_lists : Lists) (s t : ℕ) (exclusive : Bool) (o : Outcome) → s < length queues → stands_in (queue_at queues s) t ≡ false →
+pub linked_first : (queues : List Queue) (lists new_lists : Lists) (s t : ℕ) (mode : Mode) (o : Outcome) → s < length queues → stands_in (queue_at queues s) t ≡ false →
     ((slot : ℕ) → is_ungranted (request_in (queue_at queues slot) t) ≡ false) →
     slots_of new_lists t ≡ slots_after (slots_of lists t) s false o → ((u : ℕ) → u ≢ t → slots_of new_lists u ≡ slots_of lists u) →
-    AreLinked queues lists → AreLinked (set queues s (queue_after (queue_at queues s) t exclusive o)) new_lists
-linked_first queues lists new_lists s t exclusive Granted h f w e others k =
-    let n : Request = record { transaction = t; exclusive = exclusive; granted = true } in
+    AreLinked queues lists → AreLinked (set queues s (queue_after (queue_at queues s) t mode o)) new_lists
+linked_first queues lists new_lists s t mode Granted h f w e others k =
+    let n : Request = record { transaction = t; mode = mode; granted = true } in
     subst (λ x. AreLinked (set queues s x) new_lists) (sym (with_new (queue_at queues s) n f)) (linked_push queues lists new_lists s n h f w e others k)
-linked_first queues lists new_lists s t exclusive Queued h f w e others k =
-    linked_push queues lists new_lists s (record { transaction = t; exclusive = exclusive; granted = false }) h f w e others k
-linked_first queues lists new_lists s t exclusive Died h f w e others k =
+linked_first queues lists new_lists s t mode Queued h f w e others k =
+    linked_push queues lists new_lists s (record { transaction = t; mode = mode; granted = false }) h f w e others k
+linked_first queues lists new_lists s t mode Died h f w e others k =
     subst (λ x. AreLinked x new_lists) (sym (set_back queues s)) (linked_lists queues lists new_lists (every t lists new_lists e others) k)
 
-pub linked_result : {A E : Type 0} (result : Result A E) (told : A → Outcome) (queues new_queues : List Queue) (lists new_lists : Lists) (s t : ℕ) (exclusive : Bool) → s < length queues → stands_in (queue_at queues s) t ≡ false →
+pub linked_result : {A E : Type 0} (result : Result A E) (told : A → Outcome) (queues new_queues : List Queue) (lists new_lists : Lists) (s t : ℕ) (mode : Mode) → s < length queues → stands_in (queue_at queues s) t ≡ false →
     ((slot : ℕ) → is_ungranted (request_in (queue_at queues slot) t) ≡ false) →
-    IfOk result (λ a. new_queues ≡ set queues s (queue_after (queue_at queues s) t exclusive (told a))) →
+    IfOk result (λ a. new_queues ≡ set queues s (queue_after (queue_at queues s) t mode (told a))) →
     IfOk result (λ a. slots_of new_lists t ≡ slots_after (slots_of lists t) s false (told a)) → ((u : ℕ) → u ≢ t → slots_of new_lists u ≡ slots_of lists u) →
     OnErr result ((new_queues ≡ queues) × (new_lists ≡ lists)) → AreLinked queues lists → AreLinked new_queues new_lists
-linked_result (Ok a) told queues new_queues lists new_lists s t exclusive h f w q e others err k =
-    subst (λ x. AreLinked x new_lists) (sym q) (linked_first queues lists new_lists s t exclusive (told a) h f w e others k)
-linked_result (Err x) told queues new_queues lists new_lists s t exclusive h f w q e others err k =
+linked_result (Ok a) told queues new_queues lists new_lists s t mode h f w q e others err k =
+    subst (λ x. AreLinked x new_lists) (sym q) (linked_first queues lists new_lists s t mode (told a) h f w e others k)
+linked_result (Err x) told queues new_queues lists new_lists s t mode h f w q e others err k =
     subst (λ x. AreLinked x new_lists) (sym err.0) (subst (λ x. AreLinked queues x) (sym err.1) k)

@@ -1,4 +1,3 @@
 pub mod Lines
-pub mod Queues
 pub mod States
 pub mod Tables

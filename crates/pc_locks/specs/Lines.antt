@@ -6,7 +6,7 @@ use Rattle.std.specs.Ordering.{nat_cmp}
 use Rattle.pc_chain.specs.declared.chain.Chain.{Chain}
 use Rattle.pc_chain.specs.Chains.{IsChain}
 use Rattle.pc_locks.specs.declared.ends.Ends.{Ends}
-use Rattle.pc_locks.specs.States.{is_listed, last_of}
+use Rattle.pc_locks.specs.States.{is_listed, last_of, AreFilled}
 
 -- what an id's link leads to
 abbrev pub next_in : List (Option ℕ) → ℕ → Option ℕ
@@ -59,10 +59,11 @@ ends_at entries t = unwrap_or (lookup (is_at (nat_cmp t)) entries) no_ends
 abbrev pub entry_ids : List (Option ℕ) → List (ℕ × Ends) → List (ℕ × List ℕ)
 entry_ids links entries = map (λ e. (e.0, ids_of links e.1.chain)) entries
 
--- what the transactions' lists keep
+-- what the transactions' lists keep; an entry whose list became empty is not kept
 pub record AreLists (links : List (Option ℕ)) (entries : List (ℕ × Ends)) : Type 0 where
   pub lines : AreLines links (λ t. (ends_at entries t).chain)
   pub lasts : (t : ℕ) → (ends_at entries t).last ≡ last_of (ids_of links (ends_at entries t).chain)
+  pub filled : AreFilled (entry_ids links entries)
 
 -- the ids of each slot, and below which number ids fit
 pub record Lines : Type 0 where

@@ -1,13 +1,13 @@
 -- What locks are seen as: each slot's queue, and the slots of each transaction.
-use Rattle.std.specs.Prelude.{◌≡◌, ⊤, ℕ, ◌==◌, Bool, true, false, List, [], ◌∷◌, ◌++◌, Option, Some, None, map, unwrap_or, slice_index_or, slice_set, if◌then◌else◌}
+use Rattle.std.specs.Prelude.{◌≡◌, ⊤, ℕ, ◌==◌, Bool, true, false, List, [], ◌∷◌, ◌++◌, Option, Some, None, is_some, unwrap_or, slice_index_or, slice_set, if◌then◌else◌}
 use Rattle.std.specs.List.{list_any}
 use Rattle.std.specs.Ordering.{nat_cmp}
 use Rattle.std.specs.Map.{lookup}
 use Rattle.std.specs.BTreeMap.{is_at}
-use Rattle.pc_model.specs.Locks.{Queue, Outcome, request_in, queue_without, is_ungranted}
-use Rattle.pc_model.specs.Locks.Outcome.{Granted, Queued, Died}
-use Rattle.pc_model.specs.Queues.{stands_in}
-use Rattle.pc_locks.specs.Queues.{Held}
+use Rattle.pc_types.specs.declared.Outcome.{Outcome}
+use Rattle.pc_model.specs.Locks.{Queue, request_in, queue_without, is_ungranted}
+use Rattle.pc_types.specs.declared.Outcome.TheVariants.{Granted, Queued, Died}
+use Rattle.pc_model.specs.Queues.{stands_in, IsSettled}
 
 -- the slots of the transactions, by number, in the order of first request
 abbrev pub Lists : Type 0
@@ -25,10 +25,6 @@ pub record State : Type 0 where
 -- the queue of a slot
 abbrev pub queue_at : List Queue → ℕ → Queue
 queue_at queues slot = slice_index_or queues slot []
-
--- the requests of each
-abbrev pub requests_of : List Held → List Queue
-requests_of held = map (λ h. h.requests) held
 
 -- the first of the list
 abbrev pub first_of : List ℕ → Option ℕ
@@ -76,3 +72,14 @@ pub record AreLinked (queues : List Queue) (lists : Lists) : Type 0 where
   pub listed : (t slot : ℕ) → is_listed (slots_of lists t) slot ≡ stands_in (queue_at queues slot) t
   pub once : (t : ℕ) → AreDifferent (slots_of lists t)
   pub waits : (t slot : ℕ) → is_ungranted (request_in (queue_at queues slot) t) ≡ true → last_of (slots_of lists t) ≡ Some slot
+
+-- no transaction without a slot has a list
+abbrev pub AreFilled : Lists → Type 0
+AreFilled lists = (t : ℕ) → is_some (lookup (is_at (nat_cmp t)) lists) ≡ true → is_some (first_of (slots_of lists t)) ≡ true
+
+-- what is so of locks at all times: in each queue the granted requests stand in front and fit together, and only waiting
+-- ones stand behind; the lists and the queues say the same; and no transaction without a request has a list
+pub record AreSettled (state : State) : Type 0 where
+  pub settled : (slot : ℕ) → IsSettled (queue_at state.queues slot)
+  pub linked : AreLinked state.queues state.lists
+  pub filled : AreFilled state.lists

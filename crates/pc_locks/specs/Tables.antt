@@ -1,17 +1,19 @@
 -- Requests in a slab, named by ids, and the ids of each slot and of each transaction.
-use Rattle.std.specs.Prelude.{◌≡◌, ◌≤◌, is_some, ℕ, ◌==◌, ◌&&◌, not, nat_lt, Bool, true, false, List, [], ◌∷◌, ◌++◌, map, Option, Some, None, unwrap_or, option_map, slice_index_or, slice_set}
+use Rattle.std.specs.Prelude.{◌≡◌, ◌<◌, is_some, ℕ, ◌==◌, ◌&&◌, not, nat_lt, Bool, true, false, List, [], ◌∷◌, ◌++◌, map, Option, Some, None, unwrap_or, option_map, slice_index_or, slice_set}
 use Rattle.std.specs.List.{list_any}
 use Rattle.std.specs.Map.{lookup}
 use Rattle.std.specs.BTreeMap.{is_at}
 use Rattle.std.specs.Ordering.{nat_cmp}
 use Rattle.slab.specs.Slab.{Slab, HasRoomFor}
 use Rattle.pc_locks.specs.Lines.{Lines, Listed}
-use Rattle.pc_model.specs.Locks.{Request, Queue, are_compatible}
+use Rattle.pc_types.specs.declared.Mode.TheVariants.{Shared}
+use Rattle.pc_types.specs.declared.Request.{Request}
+use Rattle.pc_model.specs.Locks.{Queue, are_compatible}
 use Rattle.pc_model.specs.Queues.{stands_in, IsSettled}
 use Rattle.pc_locks.specs.declared.node.Node.{Node}
 use Rattle.pc_locks.specs.declared.node.Test.{Test}
 use Rattle.pc_locks.specs.declared.node.Test.TheVariants as test
-use Rattle.pc_locks.specs.States.{Lists, AreLinked, queue_at, slots_of, is_listed, last_of}
+use Rattle.pc_locks.specs.States.{Lists, AreLinked, AreFilled, queue_at, slots_of, is_listed, last_of}
 
 -- what a test asks of a request
 abbrev pub passes : Test → Request → Bool
@@ -30,7 +32,7 @@ node_at nodes id = slice_index_or nodes id None
 
 -- the request of a node
 abbrev pub request_of : Option Node → Request
-request_of node = unwrap_or (option_map (λ (n : Node). n.request) node) (record { transaction = 0; exclusive = false; granted = false })
+request_of node = unwrap_or (option_map (λ (n : Node). n.request) node) (record { transaction = 0; mode = Shared; granted = false })
 
 -- the slot of a node
 abbrev pub slot_of : Option Node → ℕ
@@ -69,11 +71,12 @@ abbrev pub lists_in : Nodes → List (ℕ × List ℕ) → Lists
 lists_in nodes entries = map (λ e. (e.0, slots nodes e.1)) entries
 
 -- each id of a slot has a request of it, each id of a transaction has a request of it, which stands with its slot, and each
--- request stands with both
+-- request stands with both; no transaction without an id has an entry
 pub record IsTable (nodes : Nodes) (ids : List (List ℕ)) (entries : List (ℕ × List ℕ)) : Type 0 where
   pub in_queue : (slot id : ℕ) → is_listed (ids_at ids slot) id ≡ true → (t : ℕ) × (place_of (node_at nodes id) ≡ Some (slot, t))
   pub in_list : (t id : ℕ) → is_listed (slots_of entries t) id ≡ true → (slot : ℕ) × (place_of (node_at nodes id) ≡ Some (slot, t)) × (is_listed (ids_at ids slot) id ≡ true)
   pub with_both : (id slot t : ℕ) → place_of (node_at nodes id) ≡ Some (slot, t) → (is_listed (ids_at ids slot) id ≡ true) × (is_listed (slots_of entries t) id ≡ true)
+  pub filled : AreFilled entries
 
 -- the first id of the list whose request passes the test, and the one before it
 pub record IsFound (nodes : Nodes) (ids : List ℕ) (asked : Test) (previous : Option ℕ) (id : ℕ) : Type 0 where
@@ -88,11 +91,12 @@ pub record IsFound (nodes : Nodes) (ids : List ℕ) (asked : Test) (previous : O
 abbrev pub IsOwn : Nodes → List ℕ → ℕ → Option ℕ → ℕ → Type 0
 IsOwn nodes ids t previous id = IsFound nodes ids (test.Of t) previous id
 
--- one more request of the transaction fits without memory
+-- one more request of the transaction fits without memory: there is a free place, which has a link in each of the two
+-- rows, and the transaction has an entry
 pub record HasRoom (nodes : Slab Node) (queues : Lines) (lists : Listed) (t : ℕ) : Type 0 where
   pub nodes_fit : HasRoomFor nodes 1
-  pub queues_fit : nodes.capacity ≤ queues.room
-  pub lists_fit : nodes.capacity ≤ lists.room
+  pub queues_fit : nodes.vacant_key < queues.room
+  pub lists_fit : nodes.vacant_key < lists.room
   pub known : is_some (lookup (is_at (nat_cmp t)) lists.entries) ≡ true
 
 -- of the slot's ids the first whose request is the transaction's was taken out

@@ -6,9 +6,7 @@ mod lists;
 mod locks;
 mod node;
 mod queues;
-mod request;
 mod row;
 mod table;
 
 pub use locks::Locks;
-pub use request::{Mode, Outcome};

@@ -1,13 +1,13 @@
 //! Lists of ids, one for each transaction.
-ghost use Rattle.std.specs.Prelude.{◌≡◌, ◌≢◌, ◌<◌, ◌≤◌, ◌++◌, ◌∷◌, [], ℕ, true, false, is_some, length, OnOk, OnErr, IfNone, None};
+ghost use Rattle.std.specs.Prelude.{◌≡◌, ◌≢◌, ◌<◌, ◌≤◌, ◌++◌, ◌∷◌, [], ℕ, true, false, is_some, length, IsOk, OnOk, OnErr, IfNone, None};
 ghost use Rattle.std.specs.Ordering.{nat_cmp};
 ghost use Rattle.std.specs.Map.{lookup};
 ghost use Rattle.std.specs.BTreeMap.{is_at};
 ghost use Rattle.pc_locks.specs.Lines.{ends_at, no_chain, no_ends};
-ghost use Rattle.pc_locks.specs.States.{slots_of, first_of, rest_of, last_of, is_listed};
+ghost use Rattle.pc_locks.specs.States.{slots_of, first_of, rest_of, last_of, is_listed, AreFilled};
 
 use crate::ends::Ends;
-use crate::row::Row;
+use crate::row::LinkRow;
 use pc_chain::Chain;
 use std::alloc::{AllocError, Global};
 use std::collections::BTreeMap;
@@ -16,7 +16,7 @@ use std::marker::Model;
 /// The lists, each a chain over one row of links. No id stands in two of them.
 #[derive(Drop)]
 pub(crate) struct Lists {
-    links: Row,
+    links: LinkRow,
     ends: BTreeMap<u64, Ends>,
 }
 
@@ -37,34 +37,28 @@ impl Lists {
         ensures { result.entries ≡ [] }
     {
         Lists {
-            links: Row::new(alloc),
+            links: LinkRow::new(alloc),
             ends: BTreeMap::new(alloc),
         }
     }
 
-    /// Makes room for ids below `room`, and for one more id in the transaction's list. The lists stay.
-    pub(crate) fn reserve(&mut self, transaction: u64, room: usize) -> Result<(), AllocError>
-        ensures lists { (other : ℕ) → slots_of self.new.entries other ≡ slots_of self.old.entries other }
-        ensures known { OnOk result (is_some (lookup (is_at (nat_cmp transaction)) self.new.entries) ≡ true) }
-        ensures room { OnOk result (room ≤ self.new.room) }
+    /// Adds an id, which is in none of the lists, at the end of the transaction's. It asks for memory only where the id has
+    /// no link or the transaction no entry. Where memory ran out the lists stay.
+    pub(crate) fn push(&mut self, transaction: u64, id: usize) -> Result<(), AllocError>
+        requires { (other : ℕ) → is_listed (slots_of self.old.entries other) id ≡ false }
+        ensures list { OnOk result (slots_of self.new.entries transaction ≡ slots_of self.old.entries transaction ++ id ∷ []) }
+        ensures others { (other : ℕ) → other ≢ transaction → slots_of self.new.entries other ≡ slots_of self.old.entries other }
+        ensures filled { AreFilled self.new.entries }
+        ensures room { id < self.old.room → is_some (lookup (is_at (nat_cmp transaction)) self.old.entries) ≡ true → IsOk result }
         ensures err { OnErr result (self.new.entries ≡ self.old.entries) }
     {
-        self.links.lengthen(room)?;
-        keep(&mut self.ends, transaction)
-    }
-
-    /// Adds an id, which is in none of the lists, at the end of the transaction's.
-    pub(crate) fn push(&mut self, transaction: u64, id: usize)
-        requires known { is_some (lookup (is_at (nat_cmp transaction)) self.old.entries) ≡ true }
-        requires room { id < self.old.room }
-        requires fresh { (other : ℕ) → is_listed (slots_of self.old.entries other) id ≡ false }
-        ensures list { slots_of self.new.entries transaction ≡ slots_of self.old.entries transaction ++ id ∷ [] }
-        ensures others { (other : ℕ) → other ≢ transaction → slots_of self.new.entries other ≡ slots_of self.old.entries other }
-    {
+        self.links.reserve(id)?;
+        keep(&mut self.ends, transaction)?;
         let mut ends = ends_of(&self.ends, transaction);
         ends.chain.push_back(&mut self.links, id);
         ends.last = Some(id);
         put(&mut self.ends, transaction, ends);
+        Ok(())
     }
 
     /// Takes the first id of the transaction's list.
@@ -72,6 +66,7 @@ impl Lists {
         ensures given { result ≡ first_of (slots_of self.old.entries transaction) }
         ensures rest { slots_of self.new.entries transaction ≡ rest_of (slots_of self.old.entries transaction) }
         ensures others { (other : ℕ) → other ≢ transaction → slots_of self.new.entries other ≡ slots_of self.old.entries other }
+        ensures filled { AreFilled self.new.entries }
         ensures none { IfNone result (self.new ≡ self.old) }
     {
         let mut ends = ends_of(&self.ends, transaction);
@@ -109,6 +104,8 @@ fn ends_of(entries: &BTreeMap<u64, Ends>, transaction: u64) -> Ends
 fn keep(entries: &mut BTreeMap<u64, Ends>, transaction: u64) -> Result<(), AllocError>
     ensures ends { (other : ℕ) → ends_at entries.new.entries other ≡ ends_at entries.old.entries other }
     ensures known { OnOk result (is_some (lookup (is_at (nat_cmp transaction)) entries.new.entries) ≡ true) }
+    ensures others { (other : ℕ) → other ≢ transaction → lookup (is_at (nat_cmp other)) entries.new.entries ≡ lookup (is_at (nat_cmp other)) entries.old.entries }
+    ensures room { is_some (lookup (is_at (nat_cmp transaction)) entries.old.entries) ≡ true → IsOk result }
     ensures err { OnErr result (entries.new.entries ≡ entries.old.entries) }
 {
     if !entries.contains_key(&transaction) {
@@ -125,7 +122,7 @@ fn keep(entries: &mut BTreeMap<u64, Ends>, transaction: u64) -> Result<(), Alloc
 fn put(entries: &mut BTreeMap<u64, Ends>, transaction: u64, ends: Ends)
     requires { is_some (lookup (is_at (nat_cmp transaction)) entries.old.entries) ≡ true }
     ensures this { ends_at entries.new.entries transaction ≡ ends }
-    ensures others { (other : ℕ) → other ≢ transaction → ends_at entries.new.entries other ≡ ends_at entries.old.entries other }
+    ensures others { (other : ℕ) → other ≢ transaction → lookup (is_at (nat_cmp other)) entries.new.entries ≡ lookup (is_at (nat_cmp other)) entries.old.entries }
 {
     if let Some(place) = entries.get_mut(&transaction) {
         *place = ends;
@@ -134,8 +131,8 @@ fn put(entries: &mut BTreeMap<u64, Ends>, transaction: u64, ends: Ends)
 
 // Removes the ends of a transaction.
 fn forget(entries: &mut BTreeMap<u64, Ends>, transaction: u64)
-    ensures this { ends_at entries.new.entries transaction ≡ no_ends }
-    ensures others { (other : ℕ) → other ≢ transaction → ends_at entries.new.entries other ≡ ends_at entries.old.entries other }
+    ensures this { lookup (is_at (nat_cmp transaction)) entries.new.entries ≡ None }
+    ensures others { (other : ℕ) → other ≢ transaction → lookup (is_at (nat_cmp other)) entries.new.entries ≡ lookup (is_at (nat_cmp other)) entries.old.entries }
 {
     entries.remove(&transaction);
 }

@@ -1,10 +1,9 @@
 //! Requests as they stand in the slab.
-ghost use Rattle.std.specs.Prelude.{◌≡◌};
-ghost use Rattle.pc_model.specs.Locks.{are_compatible};
+ghost use Rattle.std.specs.Prelude.{◌≡◌, ◌||◌, not};
+ghost use Rattle.pc_model.specs.Locks.{is_exclusive, are_compatible};
 ghost use Rattle.pc_locks.specs.Tables.{passes};
 
-use crate::request::Request;
-use pc_types::TxnNo;
+use pc_types::{Mode, Request, TxnNo};
 
 /// A request and its slot.
 #[derive(Clone, Copy)]
@@ -44,7 +43,24 @@ impl Test {
 fn are_compatible(a: &Request, b: &Request) -> bool
     ensures { result ≡ are_compatible a.now b.now }
 {
-    a.transaction == b.transaction || (!a.exclusive && !b.exclusive)
+    a.transaction == b.transaction || (!is_exclusive(a.mode) && !is_exclusive(b.mode))
+}
+
+/// Whether the mode is exclusive.
+pub(crate) fn is_exclusive(mode: Mode) -> bool
+    ensures { result ≡ is_exclusive mode }
+{
+    match mode {
+        Mode::Shared => false,
+        Mode::Exclusive => true,
+    }
+}
+
+/// Whether a lock of one mode covers a request of the other.
+pub(crate) fn covers(own: Mode, mode: Mode) -> bool
+    ensures { result ≡ (is_exclusive own || not (is_exclusive mode)) }
+{
+    is_exclusive(own) || !is_exclusive(mode)
 }
 
 /// An id of a list, and the one before it.

@@ -1,11 +1,10 @@
 //! Lists of ids, one for each slot.
-ghost use Rattle.std.specs.Prelude.{◌≡◌, ◌<◌, ◌≤◌, ◌++◌, ◌∷◌, [], ℕ, List, false, length, IfOk, OnOk, slice_set};
-ghost use Rattle.std.proofs.Common.{replicate};
+ghost use Rattle.std.specs.Prelude.{◌≡◌, ◌<◌, ◌≤◌, ◌++◌, ◌∷◌, [], ℕ, List, false, length, IfOk, IsOk, OnOk, replicate, slice_set};
 ghost use Rattle.pc_locks.specs.Lines.{no_chain};
 ghost use Rattle.pc_locks.specs.States.{first_of, rest_of, last_of, is_listed};
 ghost use Rattle.pc_locks.specs.Tables.{ids_at};
 
-use crate::row::Row;
+use crate::row::LinkRow;
 use pc_chain::{Chain, Links};
 use std::alloc::{AllocError, Global};
 use std::marker::Model;
@@ -13,7 +12,7 @@ use std::marker::Model;
 /// The lists, each a chain over one row of links. No id stands in two of them.
 #[derive(Drop)]
 pub(crate) struct Queues {
-    links: Row,
+    links: LinkRow,
     chains: Vec<Chain<usize>>,
 }
 
@@ -35,17 +34,18 @@ impl Queues {
     {
         let chains = chains_of(alloc, slots)?;
         Ok(Queues {
-            links: Row::new(alloc),
+            links: LinkRow::new(alloc),
             chains,
         })
     }
 
-    /// Makes room for ids below `room`. The lists stay.
-    pub(crate) fn reserve(&mut self, room: usize) -> Result<(), AllocError>
+    /// Makes sure that the id has a link, and asks for memory only where it has none. The lists stay.
+    pub(crate) fn reserve(&mut self, id: usize) -> Result<(), AllocError>
         ensures ids { self.new.ids ≡ self.old.ids }
-        ensures room { OnOk result (room ≤ self.new.room) }
+        ensures link { OnOk result (id < self.new.room) }
+        ensures room { id < self.old.room → IsOk result }
     {
-        self.links.lengthen(room)
+        self.links.reserve(id)
     }
 
     /// Adds an id, which is in none of the lists, at the end of the slot's.

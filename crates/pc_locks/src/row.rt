@@ -1,5 +1,5 @@
 //! Links, one for each place of the slab.
-ghost use Rattle.std.specs.Prelude.{◌≡◌, ◌≢◌, ◌<◌, ◌≤◌, [], ℕ, length, OnOk};
+ghost use Rattle.std.specs.Prelude.{◌≡◌, ◌≢◌, ◌<◌, ◌≤◌, [], ℕ, length, IsOk, OnOk};
 ghost use Rattle.pc_locks.specs.Lines.{next_in};
 
 use pc_chain::Links;
@@ -7,11 +7,11 @@ use std::alloc::{AllocError, Global};
 
 /// A link for each number below its length. What stands behind it leads to none.
 #[derive(Drop)]
-pub(crate) struct Row {
+pub(crate) struct LinkRow {
     links: Vec<Option<usize>>,
 }
 
-impl Links for Row {
+impl Links for LinkRow {
     ghost use Rattle.std.specs.Prelude.{◌<◌, length};
     ghost use Rattle.pc_locks.specs.Lines.{next_in};
 
@@ -35,12 +35,12 @@ impl Links for Row {
     }
 }
 
-impl Row {
+impl LinkRow {
     /// No links. It takes no memory.
-    pub(crate) fn new(alloc: Global) -> Row
+    pub(crate) fn new(alloc: Global) -> LinkRow
         ensures { result.links.items ≡ [] }
     {
-        Row {
+        LinkRow {
             links: Vec::new(alloc),
         }
     }
@@ -52,15 +52,20 @@ impl Row {
         self.links.len()
     }
 
-    /// Makes the row at least so long. All links stay.
-    pub(crate) fn lengthen(&mut self, len: usize) -> Result<(), AllocError>
-        ensures links { (id : ℕ) → next_in self.new.links.items id ≡ next_in self.old.links.items id }
-        ensures room { OnOk result (len ≤ length self.new.links.items) }
+    /// Makes sure that the id has a link, and asks for memory only where it has none. All links stay.
+    pub(crate) fn reserve(&mut self, id: usize) -> Result<(), AllocError>
+        ensures links { (other : ℕ) → next_in self.new.links.items other ≡ next_in self.old.links.items other }
+        ensures link { OnOk result (id < length self.new.links.items) }
         ensures has { length self.old.links.items ≤ length self.new.links.items }
+        ensures room { id < length self.old.links.items → IsOk result }
     {
-        if self.links.len() < len {
-            self.links.resize(len, None)?;
+        if id < self.links.len() {
+            return Ok(());
         }
+        let Some(len) = id.checked_add(1) else {
+            return Err(AllocError);
+        };
+        self.links.resize(len, None)?;
         Ok(())
     }
 }

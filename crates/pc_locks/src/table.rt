@@ -1,39 +1,36 @@
 //! The requests of all slots, each linked into its slot's list and into its transaction's.
-ghost use Rattle.std.specs.Prelude.{◌&&◌, ◌||◌, ◌==◌, not, filter, ◌≡◌, ◌≢◌, ◌<◌, ◌≤◌, ◌++◌, ◌∷◌, [], ℕ, true, false, length, option_map, IfOk, OnOk, OnErr, IfSome, IfNone, None, Some, slice_set};
+ghost use Rattle.std.specs.Prelude.{◌&&◌, ◌||◌, ◌==◌, not, filter, ◌≡◌, ◌≢◌, ◌<◌, ◌≤◌, ◌++◌, ◌∷◌, [], ℕ, true, false, length, option_map, IfOk, OnOk, OnErr, IfSome, IfNone, IsOk, None, Some, replicate, slice_set};
 ghost use Rattle.std.specs.List.{list_any};
-ghost use Rattle.std.proofs.Common.{replicate};
-ghost use Rattle.pc_model.specs.Locks.{outcome_of_new, outcome_beside, queue_after, granted_behind};
+ghost use Rattle.pc_model.specs.Locks.{is_exclusive, outcome_of_new, outcome_beside, queue_after, granted_behind};
 ghost use Rattle.pc_model.specs.Queues.{stands_in, AreOnce};
 ghost use Rattle.pc_locks.specs.declared.node.Node.{Node};
-ghost use Rattle.pc_locks.specs.Queues.{told};
 ghost use Rattle.pc_locks.specs.States.{slots_of, slots_after, first_of, rest_of, last_of, queue_at, is_listed, AreDifferent};
 ghost use Rattle.pc_locks.specs.Tables.{passes, node_at, request_at, slot_at, place_of, requests, slots, ids_at, HasRoom, queues_in, lists_in, IsTable, IsFound, IsOwn, IsUnlinked};
 
 use crate::lists::Lists;
-use crate::node::{Found, Node, Test};
+use crate::node::{Found, Node, Test, covers, is_exclusive};
 use crate::queues::Queues;
-use crate::request::{Outcome, Request};
-use pc_types::TxnNo;
+use pc_types::{Mode, Outcome, Request, TxnNo};
 use slab::Slab;
 use std::alloc::{AllocError, Global};
 
 /// The requests in a slab, and the ids of each slot and of each transaction.
 #[derive(Drop)]
-pub(crate) struct Table {
+pub(crate) struct RequestTable {
     nodes: Slab<Node>,
     queues: Queues,
     lists: Lists,
 }
 
-impl Table {
+impl RequestTable {
     /// No requests.
-    pub(crate) fn new(alloc: Global, slots: u32) -> Result<Table, AllocError>
+    pub(crate) fn new(alloc: Global, slots: u32) -> Result<RequestTable, AllocError>
         ensures queues { IfOk result (λ table. table.queues.ids ≡ replicate slots []) }
         ensures lists { IfOk result (λ table. table.lists.entries ≡ []) }
         ensures nodes { IfOk result (λ table. table.nodes.slots ≡ []) }
     {
         let queues = Queues::new(alloc, slots)?;
-        Ok(Table {
+        Ok(RequestTable {
             nodes: Slab::new(alloc),
             queues,
             lists: Lists::new(alloc),
@@ -48,7 +45,7 @@ impl Table {
             Some(node) => node.request,
             None => Request {
                 transaction: TxnNo(0),
-                exclusive: false,
+                mode: Mode::Shared,
                 granted: false,
             },
         }
@@ -94,13 +91,13 @@ impl Table {
     }
 
     /// How a request of a transaction that has none of the slot is answered.
-    pub(crate) fn outcome_of_new(&self, slot: usize, transaction: TxnNo, exclusive: bool) -> Outcome
+    pub(crate) fn outcome_of_new(&self, slot: usize, transaction: TxnNo, mode: Mode) -> Outcome
         requires { slot < length self.now.queues.ids }
-        ensures { told result ≡ outcome_of_new (requests self.now.nodes.slots (ids_at self.now.queues.ids slot)) transaction exclusive }
+        ensures { result ≡ outcome_of_new (requests self.now.nodes.slots (ids_at self.now.queues.ids slot)) transaction mode }
     {
         let request = Request {
             transaction,
-            exclusive,
+            mode,
             granted: true,
         };
         if !self.has(slot, Test::Conflicts(request)) {
@@ -112,58 +109,35 @@ impl Table {
         }
     }
 
-    /// Makes room for one more request of the transaction. The requests and the lists stay.
-    pub(crate) fn reserve(&mut self, transaction: TxnNo) -> Result<(), AllocError>
-        ensures nodes { self.new.nodes.slots ≡ self.old.nodes.slots }
-        ensures ids { self.new.queues.ids ≡ self.old.queues.ids }
-        ensures lists { (other : ℕ) → slots_of self.new.lists.entries other ≡ slots_of self.old.lists.entries other }
-        ensures room { OnOk result (HasRoom self.new.nodes self.new.queues self.new.lists transaction) }
-        ensures err { OnErr result (self.new.lists.entries ≡ self.old.lists.entries) }
-    {
-        self.nodes.reserve(1)?;
-        let room = self.nodes.capacity();
-        self.queues.reserve(room)?;
-        self.lists.reserve(transaction.0, room)
-    }
-
-    /// Adds a request at the end of the slot's and of its transaction's.
-    pub(crate) fn add(&mut self, slot: u32, transaction: TxnNo, exclusive: bool, granted: bool)
-        requires table { IsTable self.old.nodes.slots self.old.queues.ids self.old.lists.entries }
-        requires slot { slot < length self.old.queues.ids }
-        requires room { HasRoom self.old.nodes self.old.queues self.old.lists transaction }
-        ensures table { IsTable self.new.nodes.slots self.new.queues.ids self.new.lists.entries }
-        ensures queues { queues_in self.new.nodes.slots self.new.queues.ids ≡ slice_set (queues_in self.old.nodes.slots self.old.queues.ids) slot (queue_at (queues_in self.old.nodes.slots self.old.queues.ids) slot ++ record { transaction = transaction; exclusive = exclusive; granted = granted } ∷ []) }
-        ensures list { slots_of (lists_in self.new.nodes.slots self.new.lists.entries) transaction ≡ slots_of (lists_in self.old.nodes.slots self.old.lists.entries) transaction ++ slot ∷ [] }
-        ensures others { (other : ℕ) → other ≢ transaction → slots_of (lists_in self.new.nodes.slots self.new.lists.entries) other ≡ slots_of (lists_in self.old.nodes.slots self.old.lists.entries) other }
-    {
-        let request = Request {
-            transaction,
-            exclusive,
-            granted,
-        };
-        let id = self.nodes.insert_reserved(Node { request, slot });
-        self.queues.push(slot as usize, id);
-        self.lists.push(transaction.0, id);
-    }
-
-    /// Adds a request, once there is room. Where memory ran out nothing changed.
+    /// Adds a request at the end of the slot's and of its transaction's. It asks for memory only where there is no room, and
+    /// before the first change: where memory ran out nothing changed.
     pub(crate) fn enter(
         &mut self,
         slot: u32,
         transaction: TxnNo,
-        exclusive: bool,
+        mode: Mode,
         granted: bool,
     ) -> Result<(), AllocError>
         requires table { IsTable self.old.nodes.slots self.old.queues.ids self.old.lists.entries }
         requires slot { slot < length self.old.queues.ids }
         ensures table { IsTable self.new.nodes.slots self.new.queues.ids self.new.lists.entries }
-        ensures queues { OnOk result (queues_in self.new.nodes.slots self.new.queues.ids ≡ slice_set (queues_in self.old.nodes.slots self.old.queues.ids) slot (queue_at (queues_in self.old.nodes.slots self.old.queues.ids) slot ++ record { transaction = transaction; exclusive = exclusive; granted = granted } ∷ [])) }
+        ensures queues { OnOk result (queues_in self.new.nodes.slots self.new.queues.ids ≡ slice_set (queues_in self.old.nodes.slots self.old.queues.ids) slot (queue_at (queues_in self.old.nodes.slots self.old.queues.ids) slot ++ record { transaction = transaction; mode = mode; granted = granted } ∷ [])) }
         ensures list { OnOk result (slots_of (lists_in self.new.nodes.slots self.new.lists.entries) transaction ≡ slots_of (lists_in self.old.nodes.slots self.old.lists.entries) transaction ++ slot ∷ []) }
         ensures others { (other : ℕ) → other ≢ transaction → slots_of (lists_in self.new.nodes.slots self.new.lists.entries) other ≡ slots_of (lists_in self.old.nodes.slots self.old.lists.entries) other }
+        ensures room { HasRoom self.old.nodes self.old.queues self.old.lists transaction → IsOk result }
         ensures err { OnErr result ((queues_in self.new.nodes.slots self.new.queues.ids ≡ queues_in self.old.nodes.slots self.old.queues.ids) × (lists_in self.new.nodes.slots self.new.lists.entries ≡ lists_in self.old.nodes.slots self.old.lists.entries)) }
     {
-        self.reserve(transaction)?;
-        self.add(slot, transaction, exclusive, granted);
+        let request = Request {
+            transaction,
+            mode,
+            granted,
+        };
+        self.nodes.reserve(1)?;
+        let id = self.nodes.vacant_key();
+        self.queues.reserve(id)?;
+        self.lists.push(transaction.0, id)?;
+        self.queues.push(slot as usize, id);
+        self.nodes.insert_reserved(Node { request, slot });
         Ok(())
     }
 
@@ -172,27 +146,27 @@ impl Table {
         &mut self,
         slot: u32,
         transaction: TxnNo,
-        exclusive: bool,
+        mode: Mode,
     ) -> Result<Outcome, AllocError>
         requires table { IsTable self.old.nodes.slots self.old.queues.ids self.old.lists.entries }
         requires slot { slot < length self.old.queues.ids }
         requires fresh { stands_in (queue_at (queues_in self.old.nodes.slots self.old.queues.ids) slot) transaction ≡ false }
         ensures table { IsTable self.new.nodes.slots self.new.queues.ids self.new.lists.entries }
-        ensures told { IfOk result (λ answer. told answer ≡ outcome_of_new (queue_at (queues_in self.old.nodes.slots self.old.queues.ids) slot) transaction exclusive) }
-        ensures queues { IfOk result (λ answer. queues_in self.new.nodes.slots self.new.queues.ids ≡ slice_set (queues_in self.old.nodes.slots self.old.queues.ids) slot (queue_after (queue_at (queues_in self.old.nodes.slots self.old.queues.ids) slot) transaction exclusive (told answer))) }
-        ensures list { IfOk result (λ answer. slots_of (lists_in self.new.nodes.slots self.new.lists.entries) transaction ≡ slots_after (slots_of (lists_in self.old.nodes.slots self.old.lists.entries) transaction) slot false (told answer)) }
+        ensures told { IfOk result (λ answer. answer ≡ outcome_of_new (queue_at (queues_in self.old.nodes.slots self.old.queues.ids) slot) transaction mode) }
+        ensures queues { IfOk result (λ answer. queues_in self.new.nodes.slots self.new.queues.ids ≡ slice_set (queues_in self.old.nodes.slots self.old.queues.ids) slot (queue_after (queue_at (queues_in self.old.nodes.slots self.old.queues.ids) slot) transaction mode answer)) }
+        ensures list { IfOk result (λ answer. slots_of (lists_in self.new.nodes.slots self.new.lists.entries) transaction ≡ slots_after (slots_of (lists_in self.old.nodes.slots self.old.lists.entries) transaction) slot false answer) }
         ensures others { (other : ℕ) → other ≢ transaction → slots_of (lists_in self.new.nodes.slots self.new.lists.entries) other ≡ slots_of (lists_in self.old.nodes.slots self.old.lists.entries) other }
         ensures err { OnErr result ((queues_in self.new.nodes.slots self.new.queues.ids ≡ queues_in self.old.nodes.slots self.old.queues.ids) × (lists_in self.new.nodes.slots self.new.lists.entries ≡ lists_in self.old.nodes.slots self.old.lists.entries)) }
     {
-        let answer = self.outcome_of_new(slot as usize, transaction, exclusive);
+        let answer = self.outcome_of_new(slot as usize, transaction, mode);
         match answer {
             Outcome::Died => Ok(answer),
             Outcome::Granted => {
-                self.enter(slot, transaction, exclusive, true)?;
+                self.enter(slot, transaction, mode, true)?;
                 Ok(answer)
             }
             Outcome::Queued => {
-                self.enter(slot, transaction, exclusive, false)?;
+                self.enter(slot, transaction, mode, false)?;
                 Ok(answer)
             }
         }
@@ -204,28 +178,28 @@ impl Table {
         slot: usize,
         found: Found,
         transaction: TxnNo,
-        exclusive: bool,
+        mode: Mode,
     ) -> Outcome
         requires slot { slot < length self.old.queues.ids }
         requires table { IsTable self.old.nodes.slots self.old.queues.ids self.old.lists.entries }
         requires once { AreOnce (requests self.old.nodes.slots (ids_at self.old.queues.ids slot)) }
         requires own { IsOwn self.old.nodes.slots (ids_at self.old.queues.ids slot) transaction found.previous found.id }
-        ensures told { told result ≡ outcome_beside (requests self.old.nodes.slots (ids_at self.old.queues.ids slot)) transaction exclusive (Some (request_at self.old.nodes.slots found.id)) }
-        ensures queue { requests self.new.nodes.slots (ids_at self.old.queues.ids slot) ≡ queue_after (requests self.old.nodes.slots (ids_at self.old.queues.ids slot)) transaction exclusive (told result) }
+        ensures told { result ≡ outcome_beside (requests self.old.nodes.slots (ids_at self.old.queues.ids slot)) transaction mode (Some (request_at self.old.nodes.slots found.id)) }
+        ensures queue { requests self.new.nodes.slots (ids_at self.old.queues.ids slot) ≡ queue_after (requests self.old.nodes.slots (ids_at self.old.queues.ids slot)) transaction mode result }
         ensures places { (id : ℕ) → place_of (node_at self.new.nodes.slots id) ≡ place_of (node_at self.old.nodes.slots id) }
         ensures others { (id : ℕ) → is_listed (ids_at self.old.queues.ids slot) id ≡ false → node_at self.new.nodes.slots id ≡ node_at self.old.nodes.slots id }
         ensures queues { self.new.queues ≡ self.old.queues }
         ensures lists { self.new.lists ≡ self.old.lists }
     {
         let own = self.request(found.id);
-        if own.exclusive || !exclusive {
+        if covers(own.mode, mode) {
             return Outcome::Granted;
         }
         if self.has(slot, Test::HeldBeside(transaction)) {
             return Outcome::Died;
         }
         let upgraded = Request {
-            exclusive: true,
+            mode: Mode::Exclusive,
             ..own
         };
         self.write(found.id, upgraded);
@@ -259,7 +233,7 @@ impl Table {
         }
     }
 
-    /// Grants from the front of the slot's requests, while each is compatible with all before it.
+    /// Grants requests from the front of the slot's queue, up to the first that conflicts with one before it.
     pub(crate) fn grant(&mut self, slot: usize)
         requires slot { slot < length self.old.queues.ids }
         requires table { IsTable self.old.nodes.slots self.old.queues.ids self.old.lists.entries }
@@ -278,7 +252,7 @@ impl Table {
                 return;
             };
             let request = self.request(id);
-            are_shared = stay_shared(are_shared, request.exclusive);
+            are_shared = stay_shared(are_shared, request.mode);
             if !fits(is_first, are_shared) {
                 return;
             }
@@ -327,10 +301,10 @@ impl Table {
 }
 
 // Whether requests are all shared, with one more.
-fn stay_shared(are_shared: bool, exclusive: bool) -> bool
-    ensures { result ≡ (are_shared && not exclusive) }
+fn stay_shared(are_shared: bool, mode: Mode) -> bool
+    ensures { result ≡ (are_shared && not (is_exclusive mode)) }
 {
-    are_shared && !exclusive
+    are_shared && !is_exclusive(mode)
 }
 
 // Whether a request fits all before it: it is the first, or all are shared with it.

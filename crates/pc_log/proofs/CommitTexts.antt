@@ -7,7 +7,7 @@ use Rattle.pc_types.specs.declared.refusal.Refusal.{Refusal}
 use Rattle.pc_types.specs.declared.Entry.{Entry}
 use Rattle.pc_types.specs.declared.Entry.TheVariants.{Commit}
 use Rattle.pc_types.specs.declared.Write.{Write}
-use Rattle.pc_types.proofs.PutsLemmas.{puts_then, puts_stop}
+use Rattle.pc_types.proofs.PutsLaws.{puts_then, puts_stop}
 use Rattle.pc_log.specs.Texts.{write_text, commit_head_text, entry_text}
 
 module _ {T : Type 0} (contents : T → Option (List ℕ)) (entry : Entry) (session : ℕ) (writes here : List Write) (is_commit : entry ≡ Commit session writes) (same : here ≡ writes) where

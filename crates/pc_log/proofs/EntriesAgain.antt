@@ -13,14 +13,14 @@ use Rattle.pc_types.specs.declared.Phase.{Phase}
 use Rattle.pc_types.specs.declared.Write.{Write}
 use Rattle.pc_types.specs.Limits.{IsValue}
 use Rattle.pc_types.specs.Fields.{◌>>=◌, where_true, number_at, key_text, content_text}
-use Rattle.pc_types.proofs.FieldLemmas.{wide16, wide32, wide64, bytes_again, number_again, magic_again, key_again, content_again}
+use Rattle.pc_types.proofs.FieldLaws.{wide16, wide32, wide64, bytes_again, number_again, magic_again, key_again, content_again}
 use Rattle.pc_log.specs.declared.order.LastToken.{LastToken}
 use Rattle.pc_log.specs.Texts.{log_magic, header_text, write_text, phase_number, body_text, entry_text, same_key, keys_of, IsWrite, IsEntry, IsCommit, IsPoint}
 use Rattle.pc_log.specs.Orders.{comes_next, token_after, no_token, FollowFrom}
-use Rattle.pc_log.specs.Reading.{is_written, write_at, writes_at, commit_at, token_at, kind_at, body_at, entry_at, header_at, log_at, with_entry, of_run}
+use Rattle.pc_log.specs.Reading.{is_written, write_at, writes_at, commit_at, token_at, kind_at, body_at, entry_at, header_at, log_at, with_entry, of_run, all_at}
 use Rattle.pc_log.proofs.TokenOrders.{ComesNext, next_holds, numbered_is, follow_first}
 use Rattle.pc_log.proofs.EntryTexts.{one_byte, same_key_laws}
-use Rattle.pc_log.proofs.Turns.{all_at, all_go_on, with_front}
+use Rattle.pc_log.proofs.TurnLaws.{all_go_on, with_front}
 
 -- ---- writes
 

@@ -16,14 +16,16 @@ use Rattle.pc_types.specs.declared.Entry.{Entry}
 use Rattle.pc_types.specs.declared.Entry.TheVariants.{Commit, Token}
 use Rattle.pc_types.specs.declared.Write.{Write}
 use Rattle.pc_types.specs.Fields.{◌>>=◌, where_true, bytes_at, number_at, key_at, content_at, key_text, content_text}
-use Rattle.pc_types.proofs.FieldLemmas.{IsBytes, IsBytes-take, IsBytes-rest, bind_ok, guard_ok, where_ok, ok_is, Takes, Takes-then, bytes_take, wide16, wide32, number_takes, key_takes, content_takes}
+use Rattle.pc_types.proofs.FieldLaws.{IsBytes-take, IsBytes-rest, bind_ok, guard_ok, where_ok, ok_is, Takes-then, bytes_take, wide16, wide32, number_takes, key_takes, content_takes}
+use Rattle.pc_types.specs.FieldForms.{IsBytes, Takes}
 use Rattle.pc_log.specs.declared.order.LastToken.{LastToken}
-use Rattle.pc_log.specs.Texts.{write_text, phase_number, body_text, entry_text, same_key, keys_of, IsWrite, IsEntry, HasFewWrites}
+use Rattle.pc_model.specs.Limits.{HasFewWrites}
+use Rattle.pc_log.specs.Texts.{write_text, phase_number, body_text, entry_text, same_key, keys_of, IsWrite, IsEntry}
 use Rattle.pc_log.specs.Orders.{comes_next}
 use Rattle.pc_log.specs.Reading.{byte_at, is_written, write_at, writes_at, commit_at, phase_numbered, token_at, kind_at, body_at, entry_at}
 use Rattle.pc_log.proofs.TokenOrders.{ComesNext, HasBegun, next_is, number_is}
-use Rattle.pc_log.proofs.Steps.{where_then, made_ok}
-use Rattle.pc_log.proofs.Turns.{entry_parts}
+use Rattle.pc_log.proofs.StepLaws.{where_then, made_ok}
+use Rattle.pc_log.proofs.TurnLaws.{entry_parts}
 
 pub byte_takes : (bytes : List ℕ) (byte : ℕ) (rest : List ℕ) → IsBytes bytes → byte_at bytes ≡ Ok (byte, rest) → Takes bytes (byte ∷ []) rest × (byte < 256)
 byte_takes [] byte rest fits e = absurd cc

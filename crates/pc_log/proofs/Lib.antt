@@ -1,9 +1,11 @@
-pub mod Steps
-pub mod Loops
-pub mod CommitTexts
-pub mod Turns
-pub mod TokenOrders
-pub mod EntryTexts
-pub mod EntriesAgain
-pub mod LogTexts
-pub mod CutTexts
+pub mod StepLaws
+mod Loops
+mod CommitTexts
+pub mod TurnLaws
+mod TokenOrders
+mod EntryTexts
+mod EntriesAgain
+mod LogTexts
+pub mod CutTextLaws
+mod LawfulWrites
+pub mod LawfulLogLaws

@@ -10,18 +10,19 @@ use Rattle.pc_types.specs.declared.refusal.Refusal.{Refusal}
 use Rattle.pc_types.specs.declared.refusal.Refusal.TheVariants.{Short, BadRanges}
 use Rattle.pc_types.specs.declared.Entry.{Entry}
 use Rattle.pc_types.specs.Fields.{◌>>=◌, where_true, number_at, magic_at, Gives}
-use Rattle.pc_types.proofs.FieldLemmas.{IsBytes, bind_ok, ok_is, where_ok, Takes, Takes-then, wide32, wide64, number_takes, magic_takes}
+use Rattle.pc_types.proofs.FieldLaws.{bind_ok, ok_is, where_ok, Takes-then, wide32, wide64, number_takes, magic_takes}
+use Rattle.pc_types.specs.FieldForms.{IsBytes, Takes}
 use Rattle.pc_log.specs.declared.order.LastToken.{LastToken}
 use Rattle.pc_log.specs.Texts.{log_magic, header_text, entry_text, log_text, IsEntry}
 use Rattle.pc_log.specs.Orders.{token_after, no_token, FollowFrom, InOrder}
-use Rattle.pc_log.specs.Reading.{entry_at, entries_at, header_at, log_at, Found, none_more, with_entry, of_run, text_of, LogRead}
+use Rattle.pc_log.specs.Reading.{entry_at, entries_at, header_at, log_at, Found, none_more, with_entry, of_run, text_of, LogRead, all_at}
 use Rattle.pc_log.specs.declared.reading.LogText.{LogText}
 use Rattle.pc_log.specs.Laws.{IsWhole}
 use Rattle.pc_log.proofs.TokenOrders.{HasBegun, begun_after, follow_more}
 use Rattle.pc_log.proofs.EntryTexts.{EntryTakes, entry_takes}
-use Rattle.pc_log.proofs.Steps.{made_ok}
+use Rattle.pc_log.proofs.StepLaws.{made_ok}
 use Rattle.pc_log.proofs.EntriesAgain.{last_after, all_again, header_again}
-use Rattle.pc_log.proofs.Turns.{all_at, turn_is, with_front, read_as}
+use Rattle.pc_log.proofs.TurnLaws.{turn_is, with_front, read_as}
 
 -- what was found in the bytes, behind the last token
 record FoundTakes (last : LastToken) (bytes : List ℕ) (found : Found) : Type 0 where

@@ -7,10 +7,11 @@ use Rattle.pc_types.specs.declared.Entry.{Entry}
 use Rattle.pc_types.specs.declared.Entry.TheVariants.{Commit, Token}
 use Rattle.pc_types.specs.declared.Phase.{Phase}
 use Rattle.pc_types.specs.declared.Phase.TheVariants.{Rest, Prepare, Resolve, Capture, Complete}
-use Rattle.pc_types.proofs.FieldLemmas.{ok_is}
+use Rattle.pc_types.proofs.FieldLaws.{ok_is}
 use Rattle.pc_log.specs.declared.order.LastToken.{LastToken}
 use Rattle.pc_log.specs.Texts.{phase_number, IsEntry, IsPoint}
-use Rattle.pc_log.specs.Orders.{next_phase, next_point, FollowFrom, same_phase, comes_next, token_after}
+use Rattle.pc_log.specs.Orders.{next_phase, next_point, FollowFrom, comes_next, token_after}
+use Rattle.pc_types.specs.Phases.{same_phase}
 use Rattle.pc_log.specs.Reading.{phase_numbered}
 
 -- the entry keeps the order behind the last token

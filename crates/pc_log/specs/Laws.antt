@@ -2,6 +2,10 @@
 use Rattle.std.specs.Prelude.{◌≡◌, ℕ, ◌+◌, ◌-◌, ◌<◌, ◌≤◌, ◌^◌, ◌==◌, List, ◌++◌, length, take, Some, None, Ok, Err, All, slice_index, if◌then◌else◌}
 use Rattle.pc_types.specs.declared.refusal.Refusal.TheVariants.{Short}
 use Rattle.pc_types.specs.declared.Entry.{Entry}
+use Rattle.pc_model.specs.History.{History, log_of}
+use Rattle.pc_model.specs.Replies.{Setting}
+use Rattle.pc_model.specs.Standing.{HasLegalEffects}
+use Rattle.pc_model.specs.Limits.{AreInLimits}
 use Rattle.pc_log.specs.Texts.{log_text, IsEntry}
 use Rattle.pc_log.specs.Orders.{InOrder}
 use Rattle.pc_log.specs.Reading.{LogRead, log_at}
@@ -35,6 +39,10 @@ WholeEntriesAreLongest = (bytes : List ℕ) (read : LogRead) → AreBytes bytes 
 abbrev pub LogTextsAreRead : Type 0
 LogTextsAreRead =
     (run : ℕ) (entries : List Entry) → run < 2 ^ 64 → All IsEntry entries → InOrder entries → log_at (log_text run entries) ≡ Ok (record { run = run; entries = entries; rest = 0; fault = None })
+
+-- The log of a run has a text: its entries are within the limits of the format, and its tokens keep their order.
+abbrev pub LogsOfRunsHaveTexts : Type 0
+LogsOfRunsHaveTexts = (st : Setting) (history : History) → HasLegalEffects st history → st.sessions ≤ 64 → AreInLimits history → IsLog (log_of history)
 
 -- how many bytes of the first c are behind the text of the first p entries
 abbrev pub left_behind : ℕ → List Entry → ℕ → ℕ → ℕ

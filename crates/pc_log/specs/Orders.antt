@@ -1,9 +1,12 @@
--- The order of a log's tokens: prepare 1, resolve 1, capture 1, complete 1, rest 1, prepare 2, and so on up to rest 65,535.
+-- The order of a log's tokens: five for each point, from its prepare to its rest, and the points one after the other from 1
+-- up to 65,535.
 use Rattle.std.specs.Prelude.{◌≡◌, ℕ, ◌+◌, ◌==◌, Bool, true, false, ◌&&◌, nat_le, List, [], ◌∷◌, ⊤}
 use Rattle.pc_types.specs.declared.Entry.{Entry}
 use Rattle.pc_types.specs.declared.Entry.TheVariants.{Commit, Token}
 use Rattle.pc_types.specs.declared.Phase.{Phase}
 use Rattle.pc_types.specs.declared.Phase.TheVariants.{Rest, Prepare, Resolve, Capture, Complete}
+use Rattle.pc_types.specs.Phases.{same_phase}
+use Rattle.pc_types.specs.declared.limits.TheConstants.{MOST_POINTS}
 use Rattle.pc_log.specs.declared.order.LastToken.{LastToken}
 
 -- the phase after this one in the cycles
@@ -29,18 +32,9 @@ FollowFrom last n (Token phase point ∷ entries) = (phase ≡ next_phase last) 
 abbrev pub InOrder : List Entry → Type 0
 InOrder entries = FollowFrom Rest 0 entries
 
--- whether two phases are the same
-abbrev pub same_phase : Phase → Phase → Bool
-same_phase Rest Rest = true
-same_phase Prepare Prepare = true
-same_phase Resolve Resolve = true
-same_phase Capture Capture = true
-same_phase Complete Complete = true
-same_phase a b = false
-
 -- whether a token of this phase and point comes next after the last one
 abbrev pub comes_next : LastToken → Phase → ℕ → Bool
-comes_next last phase point = same_phase phase (next_phase last.phase) && (point == next_point last.phase last.point) && nat_le point 65535
+comes_next last phase point = same_phase phase (next_phase last.phase) && (point == next_point last.phase last.point) && nat_le point MOST_POINTS
 
 -- the last token after one more entry
 abbrev pub token_after : LastToken → Entry → LastToken

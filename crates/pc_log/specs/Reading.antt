@@ -10,6 +10,7 @@ use Rattle.pc_types.specs.declared.Phase.{Phase}
 use Rattle.pc_types.specs.declared.Phase.TheVariants.{Rest, Prepare, Resolve, Capture, Complete}
 use Rattle.pc_types.specs.declared.Write.{Write}
 use Rattle.pc_types.specs.Fields.{◌>>=◌, where_true, bytes_at, number_at, magic_at, key_at, content_at}
+use Rattle.pc_types.specs.declared.limits.TheConstants.{MOST_SESSIONS, MOST_WRITES}
 use Rattle.pc_log.specs.declared.order.LastToken.{LastToken}
 use Rattle.pc_log.specs.declared.reading.LogText.{LogText}
 use Rattle.pc_log.specs.Texts.{log_magic, same_key}
@@ -45,9 +46,9 @@ writes_at (suc count) earlier bytes = do
 unfoldable pub commit_at : List ℕ → Result (Entry × List ℕ) Refusal
 commit_at bytes = do
   session ← byte_at bytes
-  lawful ← where_true (nat_le 1 session.0 && nat_le session.0 64) BadLength session
+  lawful ← where_true (nat_le 1 session.0 && nat_le session.0 MOST_SESSIONS) BadLength session
   count ← number_at BadLength w16 lawful.1
-  few ← where_true (nat_le count.0 256) BadLength count
+  few ← where_true (nat_le count.0 MOST_WRITES) BadLength count
   writes ← writes_at few.0 [] few.1
   Ok (Commit lawful.0 writes.0, writes.1)
 
@@ -90,7 +91,7 @@ entry_at last bytes = do
   entry ← body_at last body.0
   Ok (entry, body.1)
 
--- the entries that can be read one after the other, how many bytes are left, and the fault of the entry that would begin there
+-- the entries that can be read one after the other, how many bytes are left, and the fault that stopped the reading
 pub record Found : Type 0 where
   pub entries : List Entry
   pub rest : ℕ
@@ -147,3 +148,7 @@ log_at bytes = do
 -- what a call has read, without where it lies in memory
 abbrev pub text_of : LogText → LogRead
 text_of text = record { run = text.run; entries = text.entries.items; rest = text.rest; fault = text.fault }
+
+-- all that can be read
+abbrev pub all_at : LastToken → List ℕ → Found
+all_at last bytes = entries_at (length bytes) last bytes

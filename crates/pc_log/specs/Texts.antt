@@ -1,5 +1,5 @@
 -- The text of a log: the bytes that stand for it. Numbers stand with their highest byte first.
-use Rattle.std.specs.Prelude.{ℕ, ◌≤◌, Bool, List, ◌∷◌, ◌++◌, length, map, codes, IfSome, ⊤}
+use Rattle.std.specs.Prelude.{ℕ, ◌≤◌, Bool, List, ◌∷◌, ◌++◌, length, map, codes, IfSome}
 use Rattle.std.specs.List.{flat_map, IsDistinct, AllByRecursion}
 use Rattle.std.specs.Int.{w8, w16, w32, w64, to_be_bytes}
 use Rattle.std.specs.Ordering.{nat_cmp, eq_by_cmp}
@@ -11,6 +11,7 @@ use Rattle.pc_types.specs.declared.Phase.TheVariants.{Rest, Prepare, Resolve, Ca
 use Rattle.pc_types.specs.declared.Write.{Write}
 use Rattle.pc_types.specs.Fields.{key_text, content_text}
 use Rattle.pc_types.specs.Limits.{IsKey, IsValue}
+use Rattle.pc_types.specs.declared.limits.TheConstants.{MOST_POINTS, MOST_SESSIONS, MOST_WRITES}
 
 -- the bytes that tell a log
 abbrev pub log_magic : List ℕ
@@ -58,11 +59,6 @@ same_key = eq_by_cmp (slice_cmp nat_cmp)
 abbrev pub keys_of : List Write → List (List ℕ)
 keys_of writes = map (λ (write : Write). write.key) writes
 
--- a commit has at most 256 writes
-abbrev pub HasFewWrites : Entry → Type 0
-HasFewWrites (Commit session writes) = length writes ≤ 256
-HasFewWrites (Token phase point) = ⊤
-
 -- a write within the limits of keys and values
 abbrev pub IsWrite : Write → Type 0
 IsWrite write = IsKey write.key × IfSome write.value IsValue
@@ -70,15 +66,15 @@ IsWrite write = IsKey write.key × IfSome write.value IsValue
 -- a commit that has a text: of a session from 1 to 64, of at most 256 writes within their limits, and of no key twice
 pub record IsCommit (session : ℕ) (writes : List Write) : Type 0 where
   pub first_session : 1 ≤ session
-  pub last_session : session ≤ 64
-  pub count : length writes ≤ 256
+  pub last_session : session ≤ MOST_SESSIONS
+  pub count : length writes ≤ MOST_WRITES
   pub in_limits : AllByRecursion IsWrite writes
   pub once : IsDistinct same_key (keys_of writes)
 
 -- a token's point is 1 to 65,535
 pub record IsPoint (point : ℕ) : Type 0 where
   pub first : 1 ≤ point
-  pub last : point ≤ 65535
+  pub last : point ≤ MOST_POINTS
 
 -- what has a text
 abbrev pub IsEntry : Entry → Type 0

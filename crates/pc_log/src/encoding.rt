@@ -2,12 +2,13 @@
 ghost use Rattle.std.specs.Prelude.{◌≡◌, ◌≤◌, ◌*◌, length, All};
 ghost use Rattle.std.specs.List.{flat_map};
 ghost use Rattle.pc_types.specs.Tallies.{Puts};
-ghost use Rattle.pc_log.specs.Texts.{header_text, write_text, body_text, commit_head_text, entry_text, log_text, HasFewWrites};
+ghost use Rattle.pc_model.specs.Limits.{HasFewWrites};
+ghost use Rattle.pc_log.specs.Texts.{header_text, write_text, body_text, commit_head_text, entry_text, log_text};
 ghost use Rattle.pc_types.specs.declared.Entry.TheVariants.{Token};
 
 use crate::phases;
 use byteorder::{BigEndian, ByteOrder};
-use pc_types::{Entry, Phase, Point, Refusal, SessionNo, Tally, Write};
+use pc_types::{Entry, MOST_WRITES, Phase, Point, Refusal, SessionNo, Tally, Write};
 use std::io;
 
 const MAGIC: [u8; 8] = *b"PCALCL01";
@@ -82,7 +83,7 @@ fn put_commit_head<W: io::Write>(
     session: SessionNo,
     writes: &[Write],
 ) -> Result<(), Refusal>
-    requires { length writes.now ≤ 256 }
+    requires { length writes.now ≤ MOST_WRITES }
     ensures { Puts W.contents out.old out.new result (commit_head_text session writes.now) }
 {
     let size = 4 + writes_size(writes);
@@ -131,7 +132,7 @@ fn put_token<W: io::Write>(out: &mut Tally<W>, phase: Phase, point: Point) -> Re
 
 // How many bytes the writes take, at most 65,797 each.
 fn writes_size(writes: &[Write]) -> u32
-    requires { length writes.now ≤ 256 }
+    requires { length writes.now ≤ MOST_WRITES }
     ensures size { result ≡ length (flat_map write_text writes.now) }
     ensures limit { result ≤ 65797 * length writes.now }
 {

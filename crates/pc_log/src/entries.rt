@@ -3,11 +3,8 @@ ghost use Rattle.std.specs.Prelude.{◌≡◌, ◌==◌, ◌<◌, ◌≤◌, [],
 ghost use Rattle.pc_log.specs.Logs.{entries_of, HasRoom};
 
 use crate::log::Log;
-use pc_types::{Entry, Lsn, Refusal};
+use pc_types::{Entry, Lsn, MOST_LOG_ENTRIES, Refusal};
 use std::alloc::Global;
-
-// How many entries a log may have.
-const MOST_ENTRIES: usize = 16_777_216;
 
 impl Log {
     /// A log without entries. It takes no memory.
@@ -22,7 +19,7 @@ impl Log {
     /// The entries, the oldest first; at most 16,777,216.
     pub fn entries(&self) -> &[Entry]
         ensures entries { result.now ≡ entries_of self.now }
-        ensures limit { length (entries_of self.now) ≤ 16777216 }
+        ensures limit { length (entries_of self.now) ≤ MOST_LOG_ENTRIES }
     {
         self.entries.as_slice()
     }
@@ -36,10 +33,10 @@ impl Log {
 
     /// Whether there are 16,777,216 entries, so that none more can follow.
     pub fn is_full(&self) -> bool
-        ensures full { result ≡ (length (entries_of self.now) == 16777216) }
-        ensures limit { length (entries_of self.now) ≤ 16777216 }
+        ensures full { result ≡ (length (entries_of self.now) == MOST_LOG_ENTRIES) }
+        ensures limit { length (entries_of self.now) ≤ MOST_LOG_ENTRIES }
     {
-        self.entries.len() == MOST_ENTRIES
+        self.entries.len() == MOST_LOG_ENTRIES
     }
 
     /// Makes room for one more entry. It refuses with `OutOfMemory` alone, and never where there is room; the entries stay.
@@ -57,7 +54,7 @@ impl Log {
     /// Adds the entry at the end, where room was made for it. Answers its number: the first entry has number 1.
     pub fn append_reserved(&mut self, entry: Entry) -> Lsn
         requires room { HasRoom self.old }
-        requires not_full { length (entries_of self.old) < 16777216 }
+        requires not_full { length (entries_of self.old) < MOST_LOG_ENTRIES }
         ensures entries { entries_of self.new ≡ entries_of self.old ++ entry ∷ [] }
         ensures number { result ≡ length (entries_of self.new) }
     {
@@ -70,7 +67,7 @@ impl Log {
     pub fn append(&mut self, entry: Entry) -> Result<Lsn, Refusal>
         ensures entries { OnOk result (entries_of self.new ≡ entries_of self.old ++ entry ∷ []) }
         ensures number { IfOk result (λ number. number ≡ length (entries_of self.new)) }
-        ensures full { (result ≡ Err Refusal.LogFull) ↔ (length (entries_of self.old) ≡ 16777216) }
+        ensures full { (result ≡ Err Refusal.LogFull) ↔ (length (entries_of self.old) ≡ MOST_LOG_ENTRIES) }
         ensures refusals { IfErr result (λ e. (e ≡ Refusal.LogFull) ⊎ (e ≡ Refusal.OutOfMemory)) }
         ensures needed { result ≡ Err Refusal.OutOfMemory → ¬ HasRoom self.old }
         ensures kept { OnErr result (entries_of self.new ≡ entries_of self.old) }

@@ -1,10 +1,16 @@
 //! Laws of texts. Each function does nothing, and its contract is a law.
-ghost use Rattle.pc_log.specs.Laws.{CutLogsAreRead, LogTextsAreRead, WholeEntriesAreLongest};
+ghost use Rattle.pc_log.specs.Laws.{CutLogsAreRead, LogTextsAreRead, LogsOfRunsHaveTexts, WholeEntriesAreLongest};
 
 /// What is read of a text are its whole entries: their texts begin the bytes after the header, they have what an entry's text
 /// asks, their tokens keep their order, and each such list of entries is a beginning of theirs.
 pub fn whole_entries_are_longest()
     ensures { WholeEntriesAreLongest }
+{}
+
+/// The log of a run of at most 64 sessions has a text: its entries are within the limits of the format, and its tokens keep
+/// their order.
+pub fn logs_of_runs_have_texts()
+    ensures { LogsOfRunsHaveTexts }
 {}
 
 /// A text that was written is read again, whole.

@@ -11,7 +11,9 @@ mod phases;
 mod reading;
 
 pub use encoding::{encode_entry, encode_header, encode_log};
-pub use laws::{cut_logs_are_read, log_texts_are_read, whole_entries_are_longest};
+pub use laws::{
+    cut_logs_are_read, log_texts_are_read, logs_of_runs_have_texts, whole_entries_are_longest,
+};
 pub use log::Log;
 pub use order::LastToken;
 pub use reading::{LogText, read_entry, read_header, read_log};

@@ -1,5 +1,6 @@
 //! A log in memory.
 ghost use Rattle.std.specs.Prelude.{◌≤◌, length};
+ghost use Rattle.pc_types.specs.declared.limits.TheConstants.{MOST_LOG_ENTRIES};
 
 use pc_types::Entry;
 
@@ -7,5 +8,5 @@ use pc_types::Entry;
 #[derive(Drop)]
 pub struct Log {
     pub(crate) entries: Vec<Entry>,
-    ghost limit: { length entries.items ≤ 16777216 },
+    ghost limit: { length entries.items ≤ MOST_LOG_ENTRIES },
 }

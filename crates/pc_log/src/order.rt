@@ -1,8 +1,10 @@
-//! The order of a log's tokens: prepare 1, resolve 1, capture 1, complete 1, rest 1, prepare 2, and so on up to rest 65,535.
+//! The order of a log's tokens: five for each point, from its prepare to its rest, and the points one after the other from 1
+//! up to 65,535.
 ghost use Rattle.std.specs.Prelude.{◌≡◌, ◌≤◌, true};
-ghost use Rattle.pc_log.specs.Orders.{comes_next, next_phase, next_point, no_token, same_phase, token_after};
+ghost use Rattle.pc_log.specs.Orders.{comes_next, next_phase, next_point, no_token, token_after};
+ghost use Rattle.pc_types.specs.Phases.{same_phase};
 
-use pc_types::{Entry, Phase, Point};
+use pc_types::{Entry, MOST_POINTS, Phase, Point};
 
 /// The last token of a log's entries so far. It says which token may come next.
 #[derive(Clone, Copy)]
@@ -25,11 +27,11 @@ impl LastToken {
     // Whether a token of this phase and point comes next.
     pub(crate) fn is_before(self, phase: Phase, point: u32) -> bool
         ensures next { result ≡ comes_next self phase point }
-        ensures limit { result ≡ true → point ≤ 65535 }
+        ensures limit { result ≡ true → point ≤ MOST_POINTS }
     {
-        is_same(phase, phase_after(self.phase))
+        phase.is(phase_after(self.phase))
             && point == point_after(self.phase, self.point)
-            && point <= 65_535
+            && point <= u32::from(MOST_POINTS)
     }
 
     /// The last token once this entry stands behind the others.
@@ -67,10 +69,4 @@ fn point_after(phase: Phase, point: Point) -> u32
         Phase::Rest => u32::from(point.0) + 1,
         _ => u32::from(point.0),
     }
-}
-
-fn is_same(a: Phase, b: Phase) -> bool
-    ensures { result ≡ same_phase a b }
-{
-    a == b
 }

@@ -8,13 +8,13 @@ ghost use Rattle.pc_log.specs.Laws.{IsWhole};
 use crate::order::LastToken;
 use crate::phases;
 use pc_types::{
-    Entry, Items, Key, Point, Refusal, SessionNo, Write, read_bytes, read_content, read_key,
-    read_magic, read_u16, read_u32, read_u64,
+    Entry, Items, Key, MOST_SESSIONS, MOST_WRITES, Point, Refusal, SessionNo, Write, read_bytes,
+    read_content, read_key, read_magic, read_u16, read_u32, read_u64,
 };
 use std::alloc::Global;
 
-/// What was read of a log's text: its whole entries, which are the longest list of entries whose texts begin the bytes after
-/// the header and whose tokens keep their order, and what is left behind them.
+/// What was read of a log's text: its whole entries, which are all that can be read behind the header one by one with their
+/// tokens in order, and what is left behind them.
 #[derive(Drop)]
 pub struct LogText {
     /// The number of the run.
@@ -23,7 +23,7 @@ pub struct LogText {
     pub entries: Vec<Entry>,
     /// How many bytes are left behind the whole entries.
     pub rest: usize,
-    /// None where no byte is left, else the fault of the entry that would begin there.
+    /// None where no byte is left, else the fault that stopped the reading.
     pub fault: Option<Refusal>,
 }
 
@@ -164,11 +164,11 @@ fn read_commit(alloc: Global, bytes: &[u8]) -> Result<(Entry, &[u8]), Refusal>
     ensures { Gives (λ x. (x.0, x.1.now)) result (commit_at bytes.now) }
 {
     let (session, rest) = read_byte(bytes)?;
-    if session == 0 || 64 < session {
+    if session == 0 || MOST_SESSIONS < session {
         return Err(Refusal::BadLength);
     }
     let (count, rest) = read_u16(rest, Refusal::BadLength)?;
-    if 256 < count {
+    if usize::from(count) > MOST_WRITES {
         return Err(Refusal::BadLength);
     }
     let (writes, rest) = read_writes(alloc, count, rest)?;

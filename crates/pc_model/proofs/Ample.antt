@@ -7,6 +7,7 @@ use Rattle.pc_types.specs.declared.Event.TheVariants as asked
 use Rattle.pc_types.specs.declared.Reply.{Reply}
 use Rattle.pc_types.specs.declared.Reply.TheVariants as told
 use Rattle.pc_types.specs.declared.Refusal.TheVariants as why
+use Rattle.pc_types.specs.declared.Mode.TheVariants.{Shared, Exclusive}
 use Rattle.pc_model.specs.Maps as map_of
 use Rattle.pc_model.specs.Sets as set
 use Rattle.pc_model.specs.Database.{Database, written}
@@ -31,9 +32,9 @@ file_reply (f ∷ fs) number = told.File number (set.items f.points) (map_of.len
 abbrev pub answer : Setting → History → Event → Reply
 answer st history (asked.Begin s) = told.Begun (begun history + 1)
 answer st history (asked.Get s key) =
-    by_outcome (outcome (queue_of key history) (number_of s history) false) (read_reply (value_read (written (writes_of s history) key) (map_of.get (contents st.base history) key)))
-answer st history (asked.Put s key value) = by_outcome (outcome (queue_of key history) (number_of s history) true) told.Ok
-answer st history (asked.Del s key) = by_outcome (outcome (queue_of key history) (number_of s history) true) told.Ok
+    by_outcome (outcome (queue_of key history) (number_of s history) Shared) (read_reply (value_read (written (writes_of s history) key) (map_of.get (contents st.base history) key)))
+answer st history (asked.Put s key value) = by_outcome (outcome (queue_of key history) (number_of s history) Exclusive) told.Ok
+answer st history (asked.Del s key) = by_outcome (outcome (queue_of key history) (number_of s history) Exclusive) told.Ok
 answer st history (asked.Commit s) = told.Committed (length (log_of history) + 1)
 answer st history (asked.Abort s) = told.Aborted
 answer st history asked.StartPoint = told.Phase phase.Prepare (point_of history + 1)

@@ -12,8 +12,8 @@ use Rattle.pc_model.specs.Examples.{plain, a, v1, v2}
 use Rattle.pc_model.specs.ExamplesOfPoints.{commit_after_the_point}
 use Rattle.pc_model.specs.ExamplesOfHeadlines.{another_value_is_taken, ExamplesOfHeadlines}
 use Rattle.pc_model.proofs.Ample.{legal_run}
-use Rattle.pc_model.proofs.LegalEffects.{legal_has_legal_effects}
-use Rattle.pc_model.proofs.ShelfFiles.{headline}
+use Rattle.pc_model.proofs.LegalEffectLaws.{legal_has_legal_effects}
+use Rattle.pc_model.proofs.ShelfFileLaws.{headline}
 
 right_values : TakesPointValue plain.base (reverse commit_after_the_point)
 unfolding map_of.empty map_of.get map_of.insert map_of.remove

@@ -5,9 +5,12 @@ use Rattle.std.specs.Prelude.{MatchBool, filter}
 use Rattle.std.specs.List.{list_all}
 use Rattle.std.proofs.lemmas.List.Folds.{list_all-append}
 use Rattle.std.proofs.lemmas.Bool.Decides.{nat_tests}
-use Rattle.pc_model.specs.Locks.{Request, Queue, are_compatible, request_in, granted_behind, with_request, queue_without, is_ungranted}
-use Rattle.pc_model.specs.Queues.{AllWait, IsSettledBehind, IsSettled, stands_in, is_granted_as, holds}
-use Rattle.pc_model.proofs.QueueLaws.{grant, stands_granted, found_waits, and_true}
+use Rattle.pc_types.specs.declared.Mode.{Mode}
+use Rattle.pc_types.specs.declared.Mode.TheVariants.{Shared, Exclusive}
+use Rattle.pc_types.specs.declared.Request.{Request}
+use Rattle.pc_model.specs.Locks.{Queue, is_exclusive, stronger, are_compatible, request_in, granted_behind, with_request, queue_without, is_ungranted}
+use Rattle.pc_model.specs.Queues.{AllWait, IsSettledBehind, IsSettled, stands_in, is_granted_as, holds, grant}
+use Rattle.pc_model.proofs.QueueLaws.{stands_granted, found_waits, and_true}
 
 same_number : (a b : ℕ) → (a == b) ≡ true → a ≡ b
 same_number a b e = grind (arith, nat_tests)
@@ -25,7 +28,7 @@ other_with [] n m e = rw e refl
 other_with (r ∷ rs) n m e = by_own (r.transaction == n.transaction) refl (other_with rs n m e)
   where
     by_own : (b : Bool) → (r.transaction == n.transaction) ≡ b → request_in (with_request rs n) m ≡ request_in rs m →
-        request_in (cond b (record r { exclusive = r.exclusive || n.exclusive } ∷ rs) (r ∷ with_request rs n)) m ≡ cond (r.transaction == m) (Some r) (request_in rs m)
+        request_in (cond b (record r { mode = stronger r.mode n.mode } ∷ rs) (r ∷ with_request rs n)) m ≡ cond (r.transaction == m) (Some r) (request_in rs m)
     by_own true own later = rw (not_both r.transaction n.transaction m own e) refl
     by_own false own later = ap (cond (r.transaction == m) (Some r)) later
 
@@ -33,45 +36,45 @@ pub other_push : (queue : Queue) (n : Request) (m : ℕ) → (n.transaction == m
 other_push [] n m e = rw e refl
 other_push (r ∷ rs) n m e = ap (cond (r.transaction == m) (Some r)) (other_push rs n m e)
 
-granted_now : (g x y : Bool) → not g ≡ false → (g && ((x || y) || not y)) ≡ true
-granted_now true true y e = refl
-granted_now true false true e = refl
-granted_now true false false e = refl
+granted_now : (g : Bool) (x y : Mode) → not g ≡ false → (g && (is_exclusive (stronger x y) || not (is_exclusive y))) ≡ true
+granted_now true Exclusive y e = refl
+granted_now true Shared Exclusive e = refl
+granted_now true Shared Shared e = refl
 granted_now false x y e = cc
 
-covers_itself : (y : Bool) → (y || not y) ≡ true
-covers_itself true = refl
-covers_itself false = refl
+covers_itself : (y : Mode) → (is_exclusive y || not (is_exclusive y)) ≡ true
+covers_itself Exclusive = refl
+covers_itself Shared = refl
 
 -- one whose request is granted holds the lock
-pub own_with : (queue : Queue) (t : ℕ) (exclusive : Bool) → is_ungranted (request_in queue t) ≡ false → holds (with_request queue (record { transaction = t; exclusive = exclusive; granted = true })) t exclusive ≡ true
+pub own_with : (queue : Queue) (t : ℕ) (mode : Mode) → is_ungranted (request_in queue t) ≡ false → holds (with_request queue (record { transaction = t; mode = mode; granted = true })) t mode ≡ true
 own_with [] t x e = rw (is_itself t) (covers_itself x)
 own_with (r ∷ rs) t x e = by_own (r.transaction == t) refl e (own_with rs t x)
   where
-    by_own : (b : Bool) → (r.transaction == t) ≡ b → is_ungranted (cond b (Some r) (request_in rs t)) ≡ false → (is_ungranted (request_in rs t) ≡ false → holds (with_request rs (record { transaction = t; exclusive = x; granted = true })) t x ≡ true) →
-        holds (cond b (record r { exclusive = r.exclusive || x } ∷ rs) (r ∷ with_request rs (record { transaction = t; exclusive = x; granted = true }))) t x ≡ true
-    by_own true own e later = rw own (granted_now r.granted r.exclusive x e)
+    by_own : (b : Bool) → (r.transaction == t) ≡ b → is_ungranted (cond b (Some r) (request_in rs t)) ≡ false → (is_ungranted (request_in rs t) ≡ false → holds (with_request rs (record { transaction = t; mode = x; granted = true })) t x ≡ true) →
+        holds (cond b (record r { mode = stronger r.mode x } ∷ rs) (r ∷ with_request rs (record { transaction = t; mode = x; granted = true }))) t x ≡ true
+    by_own true own e later = rw own (granted_now r.granted r.mode x e)
     by_own false own e later = rw own (later e)
 
-stronger : (g x y z : Bool) → (g && (x || z)) ≡ true → (g && ((x || y) || z)) ≡ true
-stronger true true y z e = refl
-stronger true false true z e = refl
-stronger true false false z e = e
-stronger false x y z e = cc
+covers_still : (g : Bool) (x y : Mode) (z : Bool) → (g && (is_exclusive x || z)) ≡ true → (g && (is_exclusive (stronger x y) || z)) ≡ true
+covers_still true Exclusive y z e = refl
+covers_still true Shared Exclusive z e = refl
+covers_still true Shared Shared z e = e
+covers_still false x y z e = cc
 
 -- what is held is held beside another request
-pub keeps_with : (queue : Queue) (n : Request) (m : ℕ) (x : Bool) → holds queue m x ≡ true → holds (with_request queue n) m x ≡ true
+pub keeps_with : (queue : Queue) (n : Request) (m : ℕ) (x : Mode) → holds queue m x ≡ true → holds (with_request queue n) m x ≡ true
 keeps_with [] n m x e = cc
 keeps_with (r ∷ rs) n m x e = by_own (r.transaction == n.transaction) (r.transaction == m) refl e (keeps_with rs n m x)
   where
     by_own : (b c : Bool) → (r.transaction == m) ≡ c → is_granted_as x (cond c (Some r) (request_in rs m)) ≡ true → (holds rs m x ≡ true → holds (with_request rs n) m x ≡ true) →
-        holds (cond b (record r { exclusive = r.exclusive || n.exclusive } ∷ rs) (r ∷ with_request rs n)) m x ≡ true
-    by_own true true own e later = rw own (stronger r.granted r.exclusive n.exclusive (not x) e)
+        holds (cond b (record r { mode = stronger r.mode n.mode } ∷ rs) (r ∷ with_request rs n)) m x ≡ true
+    by_own true true own e later = rw own (covers_still r.granted r.mode n.mode (not (is_exclusive x)) e)
     by_own true false own e later = rw own e
     by_own false true own e later = rw own e
     by_own false false own e later = rw own (later e)
 
-pub keeps_push : (queue : Queue) (n : Request) (m : ℕ) (x : Bool) → holds queue m x ≡ true → holds (queue ++ n ∷ []) m x ≡ true
+pub keeps_push : (queue : Queue) (n : Request) (m : ℕ) (x : Mode) → holds queue m x ≡ true → holds (queue ++ n ∷ []) m x ≡ true
 keeps_push [] n m x e = cc
 keeps_push (r ∷ rs) n m x e = by_own (r.transaction == m) e (keeps_push rs n m x)
   where
@@ -84,13 +87,13 @@ granted_still true z e = e
 granted_still false z e = cc
 
 -- and while others are granted theirs
-keeps_granting : (before rs : Queue) (m : ℕ) (x : Bool) → holds rs m x ≡ true → holds (granted_behind before rs) m x ≡ true
+keeps_granting : (before rs : Queue) (m : ℕ) (x : Mode) → holds rs m x ≡ true → holds (granted_behind before rs) m x ≡ true
 keeps_granting before [] m x e = cc
 keeps_granting before (r ∷ rs) m x e = by_own (list_all (are_compatible r) before) (r.transaction == m) refl e (keeps_granting (before ++ grant r ∷ []) rs m x)
   where
     by_own : (b c : Bool) → (r.transaction == m) ≡ c → is_granted_as x (cond c (Some r) (request_in rs m)) ≡ true → (holds rs m x ≡ true → holds (granted_behind (before ++ grant r ∷ []) rs) m x ≡ true) →
         holds (cond b (grant r ∷ granted_behind (before ++ grant r ∷ []) rs) (r ∷ rs)) m x ≡ true
-    by_own true true own e later = rw own (granted_still r.granted (r.exclusive || not x) e)
+    by_own true true own e later = rw own (granted_still r.granted (is_exclusive r.mode || not (is_exclusive x)) e)
     by_own true false own e later = rw own (later e)
     by_own false c own e later = rw own e
 
@@ -105,7 +108,7 @@ other_filter (r ∷ rs) n m e = by_own (r.transaction == n) refl (other_filter r
     by_own false own later = ap (cond (r.transaction == m) (Some r)) later
 
 -- what is held is held beside another's end
-pub keeps_without : (queue : Queue) (n m : ℕ) (x : Bool) → (n == m) ≡ false → holds queue m x ≡ true → holds (queue_without queue n) m x ≡ true
+pub keeps_without : (queue : Queue) (n m : ℕ) (x : Mode) → (n == m) ≡ false → holds queue m x ≡ true → holds (queue_without queue n) m x ≡ true
 keeps_without queue n m x e h = keeps_granting [] (filter (λ r. not (r.transaction == n)) queue) m x (ap (is_granted_as x) (other_filter queue n m e) ∙ h)
 
 waits_granting : (before rs : Queue) (m : ℕ) → is_ungranted (request_in (granted_behind before rs) m) ≡ true → is_ungranted (request_in rs m) ≡ true
@@ -123,12 +126,12 @@ pub waits_without : (queue : Queue) (n m : ℕ) → (n == m) ≡ false → is_un
 waits_without queue n m e w = ap is_ungranted (sym (other_filter queue n m e)) ∙ waits_granting [] (filter (λ r. not (r.transaction == n)) queue) m w
 
 -- who holds does not wait
-pub holds_waits : (queue : Queue) (m : ℕ) (x : Bool) → holds queue m x ≡ true → is_ungranted (request_in queue m) ≡ false
+pub holds_waits : (queue : Queue) (m : ℕ) (x : Mode) → holds queue m x ≡ true → is_ungranted (request_in queue m) ≡ false
 holds_waits queue m x h = by_own (request_in queue m) h
   where
     by_own : (o : Option Request) → is_granted_as x o ≡ true → is_ungranted o ≡ false
     by_own None e = cc
-    by_own (Some r) e = ap not (and_true r.granted (r.exclusive || not x) e).0
+    by_own (Some r) e = ap not (and_true r.granted (is_exclusive r.mode || not (is_exclusive x)) e).0
 
 -- who waits stands in the queue
 pub waits_stands : (queue : Queue) (m : ℕ) → is_ungranted (request_in queue m) ≡ true → stands_in queue m ≡ true
@@ -148,7 +151,7 @@ stands_with [] n m e = inl (left (n.transaction == m) e)
     left false e = cc
 stands_with (r ∷ rs) n m e = by_own (r.transaction == n.transaction) (r.transaction == m) refl e (stands_with rs n m)
   where
-    by_own : (b c : Bool) → (r.transaction == m) ≡ c → stands_in (cond b (record r { exclusive = r.exclusive || n.exclusive } ∷ rs) (r ∷ with_request rs n)) m ≡ true →
+    by_own : (b c : Bool) → (r.transaction == m) ≡ c → stands_in (cond b (record r { mode = stronger r.mode n.mode } ∷ rs) (r ∷ with_request rs n)) m ≡ true →
         (stands_in (with_request rs n) m ≡ true → ((n.transaction == m) ≡ true) ⊎ (stands_in rs m ≡ true)) → ((n.transaction == m) ≡ true) ⊎ ((c || stands_in rs m) ≡ true)
     by_own b true own e later = inr refl
     by_own true false own e later = inr (rw own at e)
@@ -254,7 +257,7 @@ apart_shared a b x true apart fits = by_shared x (rw apart at fits)
 apart_shared a b x false apart fits = refl
 
 -- beside an exclusive lock no other is held
-pub alone : (queue : Queue) (m n : ℕ) → IsSettled queue → holds queue m true ≡ true → holds queue n false ≡ true → (m == n) ≡ true
+pub alone : (queue : Queue) (m n : ℕ) → IsSettled queue → holds queue m Exclusive ≡ true → holds queue n Shared ≡ true → (m == n) ≡ true
 alone queue m n s first second = by_apart (m == n) refl
   where
     exclusive : (g x : Bool) → (g && (x || false)) ≡ true → (g ≡ true) × (x ≡ true)
@@ -266,17 +269,17 @@ alone queue m n s first second = by_apart (m == n) refl
     granted true z e = refl
     granted false z e = cc
 
-    by_both : (o u : Option Request) → request_in queue m ≡ o → request_in queue n ≡ u → is_granted_as true o ≡ true → is_granted_as false u ≡ true → (m == n) ≡ false → ⊥
+    by_both : (o u : Option Request) → request_in queue m ≡ o → request_in queue n ≡ u → is_granted_as Exclusive o ≡ true → is_granted_as Shared u ≡ true → (m == n) ≡ false → ⊥
     by_both None u fm fn first second apart = cc
     by_both (Some p) None fm fn first second apart = cc
     by_both (Some p) (Some q) fm fn first second apart =
-        let held = exclusive p.granted p.exclusive first in
-        let gq = granted q.granted (q.exclusive || true) second in
+        let held = exclusive p.granted (is_exclusive p.mode) first in
+        let gq = granted q.granted (is_exclusive q.mode || true) second in
         let pq : (p.transaction == q.transaction) ≡ false = ap (λ k. k == q.transaction) (found_own queue m p fm) ∙ (ap (λ k. m == k) (found_own queue n q fn) ∙ apart) in
         let qp : (q.transaction == p.transaction) ≡ false = flip p.transaction q.transaction pq in
         elim (both_fit [] queue p q m n apart s.0 fm held.0 fn gq) [
-          | inl fits ↦ let h = apart_shared q.transaction p.transaction q.exclusive p.exclusive qp fits in let k : true ≡ false = sym held.1 ∙ h in cc
-          | inr fits ↦ let h = apart_shared p.transaction q.transaction p.exclusive q.exclusive pq fits in let k : p.exclusive ≡ false = first_shared p.transaction q.transaction p.exclusive q.exclusive pq fits in let l : true ≡ false = sym held.1 ∙ k in cc
+          | inl fits ↦ let h = apart_shared q.transaction p.transaction (is_exclusive q.mode) (is_exclusive p.mode) qp fits in let k : true ≡ false = sym held.1 ∙ h in cc
+          | inr fits ↦ let h = apart_shared p.transaction q.transaction (is_exclusive p.mode) (is_exclusive q.mode) pq fits in let k : is_exclusive p.mode ≡ false = first_shared p.transaction q.transaction (is_exclusive p.mode) (is_exclusive q.mode) pq fits in let l : true ≡ false = sym held.1 ∙ k in cc
         ]
       where
         flip : (a b : ℕ) → (a == b) ≡ false → (b == a) ≡ false

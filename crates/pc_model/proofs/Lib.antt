@@ -1,47 +1,41 @@
 pub mod MapLaws
 pub mod SetLaws
-pub mod PairMaps
-pub mod EntryPlaces
-pub mod Halving
-pub mod ChangeLaws
-pub mod Moving
-pub mod Joins
-pub mod Counts
-pub mod Queues
-pub mod Ample
-pub mod Causes
-pub mod Effects
-pub mod Logs
-pub mod RightReads
-pub mod States
-pub mod LogPieces
-pub mod TouchedKeys
-pub mod LegalEffects
-pub mod Tokens
-pub mod Standing
-pub mod QuietContents
-pub mod PointsStay
-pub mod Latest
-pub mod Contents
-pub mod TakenValues
-pub mod ShelfFiles
-pub mod TreeLaws
-pub mod FirstOfEach
-pub mod AuditLaws
-pub mod LaidInTurn
-pub mod Taken
-pub mod ExamplesOfTransactions
-pub mod ExamplesOfPoints
-pub mod ExamplesOfFiles
-pub mod ExamplesOfHeadlines
-pub mod ExamplesOfLocks
-pub mod ExamplesOfCapacity
-pub mod ExamplesOfRefusals
-pub mod ExamplesOfIllegalReplies
-pub mod ExamplesOfRules
+pub mod PairMapLaws
+pub mod PlaceLaws
+pub mod JoinLaws
+pub mod RisingLaws
+pub mod CountLaws
+mod Queues
+mod Ample
+mod Causes
+pub mod EffectLaws
+pub mod LogLaws
+pub mod RightReadLaws
+mod States
+pub mod LogPieceLaws
+pub mod TouchedKeyLaws
+pub mod LegalEffectLaws
+mod Tokens
+pub mod StandingLaws
+mod QuietContents
+pub mod PointStateLaws
+mod Latest
+pub mod ContentLaws
+mod TakenValues
+pub mod ShelfFileLaws
+mod Taken
+mod ExamplesOfTransactions
+mod ExamplesOfPoints
+mod ExamplesOfFiles
+mod ExamplesOfHeadlines
+mod ExamplesOfLocks
+mod ExamplesOfCapacity
+mod ExamplesOfRefusals
+mod ExamplesOfIllegalReplies
+mod ExamplesOfRules
 pub mod QueueLaws
-pub mod Holding
-pub mod WrittenKeys
-pub mod SessionLocks
-pub mod LegalQueues
-pub mod OccupiedKeys
+mod Holding
+pub mod WrittenKeyLaws
+mod SessionLocks
+pub mod LegalQueueLaws
+pub mod OccupiedKeyLaws

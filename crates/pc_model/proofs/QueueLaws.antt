@@ -5,13 +5,13 @@ use Rattle.std.specs.List.{list_any, list_all}
 use Rattle.std.proofs.lemmas.List.Elements.{filter-append}
 use Rattle.std.proofs.lemmas.List.Folds.{list_any-append, list_all-append}
 use Rattle.std.proofs.lemmas.Bool.Decides.{nat_tests}
-use Rattle.pc_model.specs.Locks.{Request, Queue, are_compatible, request_in, granted_behind, with_request, Outcome, is_ungranted, outcome, outcome_beside, outcome_of_upgrade, outcome_of_new, queue_after, queue_without}
-use Rattle.pc_model.specs.Locks.Outcome.{Granted, Queued, Died}
-use Rattle.pc_model.proofs.Queues.{IsSoundBehind}
-use Rattle.pc_model.specs.Queues.{AllWait, IsSettledBehind, stands_in, AreOnce, IsSettled}
-
-abbrev pub grant : Request → Request
-grant r = record r { granted = true }
+use Rattle.pc_types.specs.declared.Mode.{Mode}
+use Rattle.pc_types.specs.declared.Mode.TheVariants.{Shared, Exclusive}
+use Rattle.pc_types.specs.declared.Outcome.{Outcome}
+use Rattle.pc_types.specs.declared.Request.{Request}
+use Rattle.pc_model.specs.Locks.{Queue, is_exclusive, stronger, are_compatible, request_in, granted_behind, with_request, is_ungranted, outcome, outcome_beside, outcome_of_upgrade, outcome_of_new, queue_after, queue_without}
+use Rattle.pc_types.specs.declared.Outcome.TheVariants.{Granted, Queued, Died}
+use Rattle.pc_model.specs.Queues.{IsSoundBehind, AllWait, IsSettledBehind, stands_in, AreOnce, IsSettled, grant}
 
 pub match_map : {P Q S T : Type 0} (b : Bool) → (P → S) → (Q → T) → MatchBool b P Q → MatchBool b S T
 match_map true f g h = f h
@@ -148,15 +148,15 @@ once_push (r ∷ rs) n o e =
     let f = eq_flip r.transaction n.transaction h.0 in
     (list_any-append (λ q. q.transaction == r.transaction) rs (n ∷ []) ∙ rw (o.0, f), once_push rs n o.1 h.1)
 
-both_shared : (n q : Request) → (q.transaction == n.transaction) ≡ false → are_compatible n q ≡ true → (n.exclusive ≡ false) × (q.exclusive ≡ false)
-both_shared n q e c = by n.exclusive q.exclusive (rw (eq_flip q.transaction n.transaction e) at c)
+both_shared : (n q : Request) → (q.transaction == n.transaction) ≡ false → are_compatible n q ≡ true → (is_exclusive n.mode ≡ false) × (is_exclusive q.mode ≡ false)
+both_shared n q e c = by (is_exclusive n.mode) (is_exclusive q.mode) (rw (eq_flip q.transaction n.transaction e) at c)
   where
     by : (x y : Bool) → (false || (not x && not y)) ≡ true → (x ≡ false) × (y ≡ false)
     by true y h = absurd cc
     by false true h = absurd cc
     by false false h = (refl, refl)
 
-shared_fit : (r q : Request) → r.exclusive ≡ false → q.exclusive ≡ false → are_compatible r q ≡ true
+shared_fit : (r q : Request) → is_exclusive r.mode ≡ false → is_exclusive q.mode ≡ false → are_compatible r q ≡ true
 shared_fit r q e f = rw (e, f) (by (r.transaction == q.transaction))
   where
     by : (b : Bool) → (b || (not false && not false)) ≡ true
@@ -164,7 +164,7 @@ shared_fit r q e f = rw (e, f) (by (r.transaction == q.transaction))
     by false = refl
 
 -- one that is shared fits where another one does
-fits_too : (n r : Request) (before : Queue) → r.exclusive ≡ false → stands_in before n.transaction ≡ false → list_all (are_compatible n) before ≡ true → list_all (are_compatible r) before ≡ true
+fits_too : (n r : Request) (before : Queue) → is_exclusive r.mode ≡ false → stands_in before n.transaction ≡ false → list_all (are_compatible n) before ≡ true → list_all (are_compatible r) before ≡ true
 fits_too n r [] e s c = refl
 fits_too n r (q ∷ qs) e s c =
     let t = or_false (q.transaction == n.transaction) (stands_in qs n.transaction) s in
@@ -204,21 +204,21 @@ stands_is (r ∷ rs) t = by (r.transaction == t) (stands_is rs t)
     by true h = refl
     by false h = h
 
-covered : (x y : Bool) → (x || not y) ≡ true → (x || y) ≡ x
-covered true y e = refl
-covered false true e = absurd cc
-covered false false e = refl
+covered : (x y : Mode) → (is_exclusive x || not (is_exclusive y)) ≡ true → stronger x y ≡ x
+covered Exclusive y e = refl
+covered Shared Exclusive e = absurd cc
+covered Shared Shared e = refl
 
 -- what the own lock covers changes nothing
-pub with_covered : (queue : Queue) (n own : Request) → request_in queue n.transaction ≡ Some own → (own.exclusive || not n.exclusive) ≡ true → with_request queue n ≡ queue
+pub with_covered : (queue : Queue) (n own : Request) → request_in queue n.transaction ≡ Some own → (is_exclusive own.mode || not (is_exclusive n.mode)) ≡ true → with_request queue n ≡ queue
 with_covered [] n own f e = absurd cc
 with_covered (r ∷ rs) n own f e = by (with_covered rs n own) (r.transaction == n.transaction) f
   where
-    by : (request_in rs n.transaction ≡ Some own → (own.exclusive || not n.exclusive) ≡ true → with_request rs n ≡ rs) → (b : Bool) → cond b (Some r) (request_in rs n.transaction) ≡ Some own → cond b (record r { exclusive = r.exclusive || n.exclusive } ∷ rs) (r ∷ with_request rs n) ≡ r ∷ rs
+    by : (request_in rs n.transaction ≡ Some own → (is_exclusive own.mode || not (is_exclusive n.mode)) ≡ true → with_request rs n ≡ rs) → (b : Bool) → cond b (Some r) (request_in rs n.transaction) ≡ Some own → cond b (record r { mode = stronger r.mode n.mode } ∷ rs) (r ∷ with_request rs n) ≡ r ∷ rs
     by ih true g =
         let h : r ≡ own = cc in
-        let k : (r.exclusive || n.exclusive) ≡ r.exclusive = covered r.exclusive n.exclusive (ap (λ (q : Request). q.exclusive || not n.exclusive) h ∙ e) in
-        ap (λ x. record r { exclusive = x } ∷ rs) k
+        let k : stronger r.mode n.mode ≡ r.mode = covered r.mode n.mode (ap (λ (q : Request). is_exclusive q.mode || not (is_exclusive n.mode)) h ∙ e) in
+        ap (λ x. record r { mode = x } ∷ rs) k
     by ih false g = ap (λ xs. r ∷ xs) (ih g e)
 
 pub found_waits : (rs : Queue) (t : ℕ) (own : Request) → AllWait rs → request_in rs t ≡ Some own → own.granted ≡ false
@@ -235,12 +235,12 @@ never false = refl
 
 -- those behind a lock that becomes exclusive still wait
 waiting_behind : (r : Request) (t : ℕ) (rs : Queue) → (r.transaction == t) ≡ true → stands_in rs r.transaction ≡ false → list_any (λ q. q.granted && not (q.transaction == t)) rs ≡ false →
-    IsSettledBehind (r ∷ []) rs → IsSettledBehind (record r { exclusive = true } ∷ []) rs
+    IsSettledBehind (r ∷ []) rs → IsSettledBehind (record r { mode = Exclusive } ∷ []) rs
 waiting_behind r t [] e o n s = tt
 waiting_behind r t (q ∷ qs) e o n s = by q.granted refl s
   where
     by : (b : Bool) → q.granted ≡ b → MatchBool b ((list_all (are_compatible q) (r ∷ []) ≡ true) × IsSettledBehind (r ∷ q ∷ []) qs) ((list_all (are_compatible q) (r ∷ []) ≡ false) × AllWait qs) →
-        MatchBool b ((list_all (are_compatible q) (record r { exclusive = true } ∷ []) ≡ true) × IsSettledBehind (record r { exclusive = true } ∷ q ∷ []) qs) ((list_all (are_compatible q) (record r { exclusive = true } ∷ []) ≡ false) × AllWait qs)
+        MatchBool b ((list_all (are_compatible q) (record r { mode = Exclusive } ∷ []) ≡ true) × IsSettledBehind (record r { mode = Exclusive } ∷ q ∷ []) qs) ((list_all (are_compatible q) (record r { mode = Exclusive } ∷ []) ≡ false) × AllWait qs)
     by true g h =
         let d = or_false (q.transaction == r.transaction) (stands_in qs r.transaction) o in
         let a : r.transaction ≡ t = grind (arith, nat_tests) in
@@ -248,11 +248,11 @@ waiting_behind r t (q ∷ qs) e o n s = by q.granted refl s
         absurd (let k = rw (g, f) at n in cc)
     by false g h =
         let d = or_false (q.transaction == r.transaction) (stands_in qs r.transaction) o in
-        (rw d.0 (never q.exclusive), h.1)
+        (rw d.0 (never (is_exclusive q.mode)), h.1)
 
-or_true : (b : Bool) → (b || true) ≡ true
-or_true true = refl
-or_true false = refl
+strongest : (mode : Mode) → stronger mode Exclusive ≡ Exclusive
+strongest Shared = refl
+strongest Exclusive = refl
 
 not_granted : (b : Bool) → (b && true) ≡ false → b ≡ false
 not_granted true e = e
@@ -271,23 +271,23 @@ where_false P Q true e h = absurd cc
 where_false P Q false e h = h
 
 -- where an upgrade is granted, the own lock stands in front
-pub upgraded : (queue : Queue) (t : ℕ) (own : Request) → IsSettledBehind [] queue → AreOnce queue → request_in queue t ≡ Some own → own.granted ≡ true → own.exclusive ≡ false →
+pub upgraded : (queue : Queue) (t : ℕ) (own : Request) → IsSettledBehind [] queue → AreOnce queue → request_in queue t ≡ Some own → own.granted ≡ true → is_exclusive own.mode ≡ false →
     list_any (λ q. q.granted && not (q.transaction == t)) queue ≡ false →
-    (0 < length queue) × (with_request queue (record { transaction = t; exclusive = true; granted = true }) ≡ set queue 0 (record own { exclusive = true }))
-    × IsSettledBehind [] (set queue 0 (record own { exclusive = true })) × AreOnce (set queue 0 (record own { exclusive = true }))
+    (0 < length queue) × (with_request queue (record { transaction = t; mode = Exclusive; granted = true }) ≡ set queue 0 (record own { mode = Exclusive }))
+    × IsSettledBehind [] (set queue 0 (record own { mode = Exclusive })) × AreOnce (set queue 0 (record own { mode = Exclusive }))
 upgraded [] t own s o f g e n = absurd cc
 upgraded (r ∷ rs) t own s o f g e n = by (r.transaction == t) refl f
   where
     by : (b : Bool) → (r.transaction == t) ≡ b → cond b (Some r) (request_in rs t) ≡ Some own →
-        (0 < length (r ∷ rs)) × (cond b (record r { exclusive = r.exclusive || true } ∷ rs) (r ∷ with_request rs (record { transaction = t; exclusive = true; granted = true })) ≡ record own { exclusive = true } ∷ rs)
-        × IsSettledBehind [] (record own { exclusive = true } ∷ rs) × AreOnce (record own { exclusive = true } ∷ rs)
+        (0 < length (r ∷ rs)) × (cond b (record r { mode = stronger r.mode Exclusive } ∷ rs) (r ∷ with_request rs (record { transaction = t; mode = Exclusive; granted = true })) ≡ record own { mode = Exclusive } ∷ rs)
+        × IsSettledBehind [] (record own { mode = Exclusive } ∷ rs) × AreOnce (record own { mode = Exclusive } ∷ rs)
     by true h k =
         let i : r ≡ own = cc in
         let gr : r.granted ≡ true = ap (λ (q : Request). q.granted) i ∙ g in
         let m = or_false (r.granted && not (r.transaction == t)) (list_any (λ q. q.granted && not (q.transaction == t)) rs) n in
-        let P : Request → Type 0 = λ own. (0 < length (r ∷ rs)) × ((record r { exclusive = r.exclusive || true } ∷ rs) ≡ (record own { exclusive = true } ∷ rs))
-        × IsSettledBehind [] (record own { exclusive = true } ∷ rs) × AreOnce (record own { exclusive = true } ∷ rs) in
-        subst P i (omega arith, ap (λ x. record r { exclusive = x } ∷ rs) (or_true r.exclusive), back_true _ _ r.granted gr (refl, waiting_behind r t rs h o.0 m.1 (where_true _ _ r.granted gr s).1), o)
+        let P : Request → Type 0 = λ own. (0 < length (r ∷ rs)) × ((record r { mode = stronger r.mode Exclusive } ∷ rs) ≡ (record own { mode = Exclusive } ∷ rs))
+        × IsSettledBehind [] (record own { mode = Exclusive } ∷ rs) × AreOnce (record own { mode = Exclusive } ∷ rs) in
+        subst P i (omega arith, ap (λ x. record r { mode = x } ∷ rs) (strongest r.mode), back_true _ _ r.granted gr (refl, waiting_behind r t rs h o.0 m.1 (where_true _ _ r.granted gr s).1), o)
     by false h k =
         let m = or_false (r.granted && not (r.transaction == t)) (list_any (λ q. q.granted && not (q.transaction == t)) rs) n in
         let w : r.granted ≡ false = not_granted r.granted (rw h at m.0) in
@@ -306,17 +306,17 @@ alone_where_granted : (a : Bool) → cond a Died Granted ≡ Granted → a ≡ f
 alone_where_granted true e = absurd cc
 alone_where_granted false e = refl
 
-pub kept_granted : (queue : Queue) (t : ℕ) (exclusive : Bool) → IsSettled queue → stands_in queue t ≡ false → outcome_of_new queue t exclusive ≡ Granted →
-    IsSettled (queue ++ record { transaction = t; exclusive = exclusive; granted = true } ∷ [])
-kept_granted queue t exclusive s e o =
-    let n : Request = record { transaction = t; exclusive = exclusive; granted = true } in
+pub kept_granted : (queue : Queue) (t : ℕ) (mode : Mode) → IsSettled queue → stands_in queue t ≡ false → outcome_of_new queue t mode ≡ Granted →
+    IsSettled (queue ++ record { transaction = t; mode = mode; granted = true } ∷ [])
+kept_granted queue t mode s e o =
+    let n : Request = record { transaction = t; mode = mode; granted = true } in
     (settled_grant [] queue n s.0 e (fits_where_granted (list_all (are_compatible n) queue) (list_all (λ r. nat_lt t r.transaction) queue) o) refl, once_push queue n s.1 e)
 
-pub kept_waiting : (queue : Queue) (t : ℕ) (exclusive : Bool) → IsSettled queue → stands_in queue t ≡ false → outcome_of_new queue t exclusive ≡ Queued →
-    IsSettled (queue ++ record { transaction = t; exclusive = exclusive; granted = false } ∷ [])
-kept_waiting queue t exclusive s e o =
-    let n : Request = record { transaction = t; exclusive = exclusive; granted = true } in
-    let w : Request = record { transaction = t; exclusive = exclusive; granted = false } in
+pub kept_waiting : (queue : Queue) (t : ℕ) (mode : Mode) → IsSettled queue → stands_in queue t ≡ false → outcome_of_new queue t mode ≡ Queued →
+    IsSettled (queue ++ record { transaction = t; mode = mode; granted = false } ∷ [])
+kept_waiting queue t mode s e o =
+    let n : Request = record { transaction = t; mode = mode; granted = true } in
+    let w : Request = record { transaction = t; mode = mode; granted = false } in
     (settled_wait [] queue w s.0 (unfit_where_queued (list_all (are_compatible n) queue) (list_all (λ r. nat_lt t r.transaction) queue) o) refl, once_push queue w s.1 e)
 
 pub kept_without : (queue : Queue) (t : ℕ) → IsSettled queue → IsSettled (queue_without queue t)
@@ -324,35 +324,35 @@ kept_without queue t s =
     let p : Request → Bool = λ r. not (r.transaction == t) in
     (granted_settled [] (filter p queue) (sound_filter p [] queue (settled_sound [] queue s.0)), once_granted [] (filter p queue) (once_filter p queue s.1))
 
-pub kept_upgraded : (queue : Queue) (own : Request) → IsSettled queue → request_in queue own.transaction ≡ Some own → own.granted ≡ true → own.exclusive ≡ false → outcome_of_upgrade queue own.transaction ≡ Granted →
-    (0 < length queue) × (with_request queue (record { transaction = own.transaction; exclusive = true; granted = true }) ≡ set queue 0 (record own { exclusive = true }))
-    × IsSettledBehind [] (set queue 0 (record own { exclusive = true })) × AreOnce (set queue 0 (record own { exclusive = true }))
+pub kept_upgraded : (queue : Queue) (own : Request) → IsSettled queue → request_in queue own.transaction ≡ Some own → own.granted ≡ true → is_exclusive own.mode ≡ false → outcome_of_upgrade queue own.transaction ≡ Granted →
+    (0 < length queue) × (with_request queue (record { transaction = own.transaction; mode = Exclusive; granted = true }) ≡ set queue 0 (record own { mode = Exclusive }))
+    × IsSettledBehind [] (set queue 0 (record own { mode = Exclusive })) × AreOnce (set queue 0 (record own { mode = Exclusive }))
 kept_upgraded queue own s f g e o =
     upgraded queue own.transaction own s.0 s.1 f g e (alone_where_granted (list_any (λ r. r.granted && not (r.transaction == own.transaction)) queue) o)
 
 pub either_covered : (a b c : Bool) → b ≡ a → (b ≡ true) ⊎ ((b ≡ false) × (c ≡ false)) → (a || not c) ≡ true
 either_covered a b c e h = elim h [ inl f ↦ rw (sym e, f) | inr f ↦ rw (sym e, f.0, f.1) ]
 
-pub new_outcome : (queue : Queue) (t : ℕ) (exclusive : Bool) → stands_in queue t ≡ false → outcome queue t exclusive ≡ outcome_of_new queue t exclusive
-new_outcome queue t exclusive e = by (request_in queue t) (stands_is queue t ∙ e)
+pub new_outcome : (queue : Queue) (t : ℕ) (mode : Mode) → stands_in queue t ≡ false → outcome queue t mode ≡ outcome_of_new queue t mode
+new_outcome queue t mode e = by (request_in queue t) (stands_is queue t ∙ e)
   where
-    by : (o : Option Request) → is_some o ≡ false → outcome_beside queue t exclusive o ≡ outcome_of_new queue t exclusive
+    by : (o : Option Request) → is_some o ≡ false → outcome_beside queue t mode o ≡ outcome_of_new queue t mode
     by None f = refl
     by (Some r) f = absurd cc
 
 -- the queue is settled once a request of a transaction of which none waits was answered
-pub kept_after : (queue : Queue) (t : ℕ) (exclusive : Bool) (o : Outcome) → IsSettled queue → is_ungranted (request_in queue t) ≡ false → outcome queue t exclusive ≡ o → IsSettled (queue_after queue t exclusive o)
+pub kept_after : (queue : Queue) (t : ℕ) (mode : Mode) (o : Outcome) → IsSettled queue → is_ungranted (request_in queue t) ≡ false → outcome queue t mode ≡ o → IsSettled (queue_after queue t mode o)
 kept_after queue t x o s none is = by_own (request_in queue t) refl none is
   where
     n : Request
-    n = record { transaction = t; exclusive = x; granted = true }
+    n = record { transaction = t; mode = x; granted = true }
 
     new : (o : Outcome) → stands_in queue t ≡ false → outcome_of_new queue t x ≡ o → IsSettled (queue_after queue t x o)
     new Granted none e = subst IsSettled (sym (with_new queue n none)) (kept_granted queue t x s none e)
     new Queued none e = kept_waiting queue t x s none e
     new Died none e = s
 
-    upgrade : (own : Request) (o : Outcome) → request_in queue t ≡ Some own → own.granted ≡ true → own.exclusive ≡ false → x ≡ true → outcome_of_upgrade queue t ≡ o → IsSettled (queue_after queue t x o)
+    upgrade : (own : Request) (o : Outcome) → request_in queue t ≡ Some own → own.granted ≡ true → is_exclusive own.mode ≡ false → x ≡ Exclusive → outcome_of_upgrade queue t ≡ o → IsSettled (queue_after queue t x o)
     upgrade own Granted found granted shared exclusive e =
         let up = upgraded queue t own s.0 s.1 found granted shared (alone_where_granted (list_any (λ r. r.granted && not (r.transaction == t)) queue) e) in
         rw exclusive (subst IsSettled (sym up.1) (up.2, up.3))
@@ -365,7 +365,7 @@ kept_after queue t x o s none is = by_own (request_in queue t) refl none is
 
     by_own : (own : Option Request) → request_in queue t ≡ own → is_ungranted own ≡ false → outcome_beside queue t x own ≡ o → IsSettled (queue_after queue t x o)
     by_own None found none e = new o (sym (stands_is queue t) ∙ ap is_some found) e
-    by_own (Some own) found none e = by_cover (own.exclusive || not x) refl e
+    by_own (Some own) found none e = by_cover (is_exclusive own.mode || not (is_exclusive x)) refl e
       where
         granted : own.granted ≡ true
         granted = turned own.granted none
@@ -374,11 +374,11 @@ kept_after queue t x o s none is = by_own (request_in queue t) refl none is
             turned true e = refl
             turned false e = cc
 
-        shared : (a b : Bool) → (a || not b) ≡ false → (a ≡ false) × (b ≡ true)
-        shared true b e = absurd cc
-        shared false true e = (refl, refl)
-        shared false false e = absurd cc
+        shared : (a b : Mode) → (is_exclusive a || not (is_exclusive b)) ≡ false → (is_exclusive a ≡ false) × (b ≡ Exclusive)
+        shared Exclusive b e = absurd cc
+        shared Shared Exclusive e = (refl, refl)
+        shared Shared Shared e = absurd cc
 
-        by_cover : (b : Bool) → (own.exclusive || not x) ≡ b → cond b Granted (outcome_of_upgrade queue t) ≡ o → IsSettled (queue_after queue t x o)
+        by_cover : (b : Bool) → (is_exclusive own.mode || not (is_exclusive x)) ≡ b → cond b Granted (outcome_of_upgrade queue t) ≡ o → IsSettled (queue_after queue t x o)
         by_cover true covers e = subst (λ o. IsSettled (queue_after queue t x o)) e (subst IsSettled (sym (with_covered queue n own found covers)) s)
-        by_cover false covers e = let h = shared own.exclusive x covers in upgrade own o found granted h.0 h.1 e
+        by_cover false covers e = let h = shared own.mode x covers in upgrade own o found granted h.0 h.1 e

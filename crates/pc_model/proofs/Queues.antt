@@ -1,17 +1,10 @@
 -- Granted requests stand in front and never conflict, and the six rules keep it so.
 use Rattle.std.proofs.Common.{◌≡◌, List, [], ◌∷◌, ◌++◌, refl, sym, subst, cond, Bool, true, false}
-use Rattle.std.specs.Prelude.{⊤, MatchBool}
+use Rattle.std.specs.Prelude.{MatchBool}
 use Rattle.std.specs.List.{list_all}
-use Rattle.pc_model.specs.Locks.{Request, are_compatible, granted_behind}
-use Rattle.pc_model.specs.Queues.{AllWait}
-
--- behind these requests: first granted ones, each of which fits all before it, and then only waiting ones
-abbrev pub IsSoundBehind : List Request → List Request → Type 0
-IsSoundBehind before [] = ⊤
-IsSoundBehind before (r ∷ rs) = MatchBool r.granted ((list_all (are_compatible r) before ≡ true) × IsSoundBehind (before ++ r ∷ []) rs) (AllWait rs)
-
-abbrev grant : Request → Request
-grant r = record r { granted = true }
+use Rattle.pc_types.specs.declared.Request.{Request}
+use Rattle.pc_model.specs.Locks.{are_compatible, granted_behind}
+use Rattle.pc_model.specs.Queues.{grant, AllWait, IsSoundBehind}
 
 wait_sound : (before rs : List Request) → AllWait rs → IsSoundBehind before rs
 wait_sound before [] w = tt

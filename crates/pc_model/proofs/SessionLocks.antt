@@ -3,44 +3,21 @@
 use Rattle.std.proofs.Common.{◌≡◌, ℕ, ◌+◌, ◌≤◌, ◌==◌, List, [], ◌∷◌, ◌++◌, Option, Some, None, is_some, Bool, true, false, ◌||◌, inl, inr, cond, refl, sym, ◌∙◌, ap, subst, arith}
 use Rattle.std.proofs.lemmas.Bool.Decides.{nat_tests}
 use Rattle.std.proofs.lemmas.Cmp.{eq_by_cmp_equiv}
-use Rattle.pc_types.specs.declared.Write.{Write}
+use Rattle.pc_types.specs.declared.Mode.{Mode}
+use Rattle.pc_types.specs.declared.Mode.TheVariants.{Shared, Exclusive}
 use Rattle.pc_model.specs.Database.{key_order, same_bytes, written, with_write}
-use Rattle.pc_model.specs.History.{History, Effect, effect, begun, begun_by, is_open, open_by, number_of, number_by, writes_of, writes_by}
+use Rattle.pc_model.specs.History.{History, Effect, begun, begun_by, is_open, open_by, number_of, number_by, writes_of, writes_by}
 use Rattle.pc_model.specs.History.Effect.{Begins, Reads, Writes, Waits, Dies, Commits, Aborts, Moves, Takes, Shelves, Joins, Nothing}
-use Rattle.pc_model.specs.Locks.{Queue, Request, outcome, request_in, queue_of, queue_by, queue_after, queue_without, is_ungranted, waited_for, waits_by, waits_on, is_waiting}
-use Rattle.pc_model.specs.Locks.Outcome.{Granted, Queued}
+use Rattle.pc_types.specs.declared.Request.{Request}
+use Rattle.pc_model.specs.Locks.{Queue, outcome, request_in, queue_of, queue_by, queue_after, queue_without, is_ungranted, waited_for, waits_by, waits_on, is_waiting}
+use Rattle.pc_types.specs.declared.Outcome.TheVariants.{Granted, Queued}
 use Rattle.pc_model.specs.Points.{is_among}
 use Rattle.pc_model.specs.Queues.{IsSettled, stands_in, holds}
-use Rattle.pc_model.proofs.Joins.{one_key}
+use Rattle.pc_model.proofs.JoinLaws.{one_key}
 use Rattle.pc_model.proofs.QueueLaws.{kept_after, kept_without}
 use Rattle.pc_model.proofs.Holding.{other_with, other_push, own_with, keeps_with, keeps_push, keeps_without, waits_without, holds_waits, waits_stands, stands_with, stands_push, stands_without}
-use Rattle.pc_model.proofs.WrittenKeys.{held_by}
-
--- the keys that the session's transaction has read after this effect, given those before
-abbrev pub read_by : ℕ → Effect → List (List ℕ) → List (List ℕ)
-read_by s (Begins t) keys = cond (t == s) [] keys
-read_by s (Reads t key answer) keys = cond (t == s) (key ∷ keys) keys
-read_by s other keys = keys
-
--- the keys that the session has read since its last begin
-abbrev pub keys_read : ℕ → History → List (List ℕ)
-keys_read s [] = []
-keys_read s (step ∷ history) = read_by s (effect step) (keys_read s history)
-
--- what locking keeps: of the queues, the count of begins, and of each session whether it is open, its number, the key that it
--- waited for, the keys it has read, and its writes
-pub record IsLocked (queue : List ℕ → Queue) (count : ℕ) (opened : ℕ → Bool) (number : ℕ → ℕ) (waited : ℕ → Option (List ℕ)) (keys : ℕ → List (List ℕ)) (wrote : ℕ → List Write) : Type 0 where
-  pub settled : (key : List ℕ) → IsSettled (queue key)
-  pub known : (key : List ℕ) (n : ℕ) → stands_in (queue key) n ≡ true → n ≤ count
-  pub numbered : (s : ℕ) → opened s ≡ true → number s ≤ count
-  pub apart : (s t : ℕ) → opened s ≡ true → opened t ≡ true → (s == t) ≡ false → (number s == number t) ≡ false
-  pub waits : (s : ℕ) (key : List ℕ) → opened s ≡ true → is_ungranted (request_in (queue key) (number s)) ≡ true → waited s ≡ Some key
-  pub reads : (s : ℕ) (key : List ℕ) → opened s ≡ true → is_among (keys s) key ≡ true → holds (queue key) (number s) false ≡ true
-  pub writes : (s : ℕ) (key : List ℕ) → opened s ≡ true → is_some (written (wrote s) key) ≡ true → holds (queue key) (number s) true ≡ true
-
--- the same after a history, and after one more effect
-abbrev pub Locked : History → Type 0
-Locked h = IsLocked (λ key. queue_of key h) (begun h) (λ s. is_open s h) (λ s. number_of s h) (λ s. waited_for s h) (λ s. keys_read s h) (λ s. writes_of s h)
+use Rattle.pc_model.proofs.WrittenKeyLaws.{held_by}
+use Rattle.pc_model.specs.SessionLocks.{read_by, keys_read, IsLocked, Locked}
 
 abbrev pub LockedBy : History → Effect → Type 0
 LockedBy h e = IsLocked (λ key. queue_by key e h (queue_of key h)) (begun_by e (begun h)) (λ s. open_by s e (is_open s h)) (λ s. number_by s e (begun h) (number_of s h)) (λ s. waits_by s e h (waited_for s h)) (λ s. read_by s e (keys_read s h)) (λ s. writes_by s e (writes_of s h))
@@ -52,9 +29,9 @@ MayAsk s h = (is_open s h ≡ true) × (is_waiting s h ≡ false)
 -- what a legal effect says of the locks
 abbrev pub IsAllowed : History → Effect → Type 0
 IsAllowed h (Begins s) = is_open s h ≡ false
-IsAllowed h (Reads s key answer) = MayAsk s h × (outcome (queue_of key h) (number_of s h) false ≡ Granted)
-IsAllowed h (Writes s key value) = MayAsk s h × (outcome (queue_of key h) (number_of s h) true ≡ Granted)
-IsAllowed h (Waits s key exclusive) = MayAsk s h × (outcome (queue_of key h) (number_of s h) exclusive ≡ Queued)
+IsAllowed h (Reads s key answer) = MayAsk s h × (outcome (queue_of key h) (number_of s h) Shared ≡ Granted)
+IsAllowed h (Writes s key value) = MayAsk s h × (outcome (queue_of key h) (number_of s h) Exclusive ≡ Granted)
+IsAllowed h (Waits s key mode) = MayAsk s h × (outcome (queue_of key h) (number_of s h) mode ≡ Queued)
 IsAllowed h (Commits s) = is_open s h ≡ true
 IsAllowed h (Aborts s) = is_open s h ≡ true
 IsAllowed h other = Unit {0}
@@ -117,16 +94,16 @@ begins_locked h s closed l = record {
         past le = omega (arith, le)
     waiting t key false is w = l.waits t key is w
 
-    reading : (t : ℕ) (key : List ℕ) (b : Bool) → cond b true (is_open t h) ≡ true → is_among (cond b [] (keys_read t h)) key ≡ true → holds (queue_of key h) (cond b (begun h + 1) (number_of t h)) false ≡ true
+    reading : (t : ℕ) (key : List ℕ) (b : Bool) → cond b true (is_open t h) ≡ true → is_among (cond b [] (keys_read t h)) key ≡ true → holds (queue_of key h) (cond b (begun h + 1) (number_of t h)) Shared ≡ true
     reading t key true is read = cc
     reading t key false is read = l.reads t key is read
 
-    writing : (t : ℕ) (key : List ℕ) (b : Bool) → cond b true (is_open t h) ≡ true → is_some (written (cond b [] (writes_of t h)) key) ≡ true → holds (queue_of key h) (cond b (begun h + 1) (number_of t h)) true ≡ true
+    writing : (t : ℕ) (key : List ℕ) (b : Bool) → cond b true (is_open t h) ≡ true → is_some (written (cond b [] (writes_of t h)) key) ≡ true → holds (queue_of key h) (cond b (begun h + 1) (number_of t h)) Exclusive ≡ true
     writing t key true is wrote = cc
     writing t key false is wrote = l.writes t key is wrote
 
 -- after a request was granted, of the locks before and after
-module _ (h : History) (s : ℕ) (k : List ℕ) (x : Bool) (l : Locked h) (may : MayAsk s h) (granted : outcome (queue_of k h) (number_of s h) x ≡ Granted) where
+module _ (h : History) (s : ℕ) (k : List ℕ) (x : Mode) (l : Locked h) (may : MayAsk s h) (granted : outcome (queue_of k h) (number_of s h) x ≡ Granted) where
   abbrev n : ℕ
   n = number_of s h
 
@@ -147,17 +124,17 @@ module _ (h : History) (s : ℕ) (k : List ℕ) (x : Bool) (l : Locked h) (may :
   granted_known key m stands = by_key (same_bytes k key) stands
     where
       by_key : (b : Bool) → stands_in (cond b (queue_after (queue_of key h) n x Granted) (queue_of key h)) m ≡ true → m ≤ begun h
-      by_key true stands = elim (stands_with (queue_of key h) (record { transaction = n; exclusive = x; granted = true }) m stands) [
+      by_key true stands = elim (stands_with (queue_of key h) (record { transaction = n; mode = x; granted = true }) m stands) [
         | inl own ↦ subst (λ i. i ≤ begun h) (same_session n m own) (l.numbered s may.0)
         | inr other ↦ l.known key m other
       ]
       by_key false stands = l.known key m stands
 
-  granted_keeps : (key : List ℕ) (m : ℕ) (y : Bool) → holds (queue_of key h) m y ≡ true → holds (now key) m y ≡ true
+  granted_keeps : (key : List ℕ) (m : ℕ) (y : Mode) → holds (queue_of key h) m y ≡ true → holds (now key) m y ≡ true
   granted_keeps key m y held = by_key (same_bytes k key)
     where
       by_key : (b : Bool) → holds (cond b (queue_after (queue_of key h) n x Granted) (queue_of key h)) m y ≡ true
-      by_key true = keeps_with (queue_of key h) (record { transaction = n; exclusive = x; granted = true }) m y held
+      by_key true = keeps_with (queue_of key h) (record { transaction = n; mode = x; granted = true }) m y held
       by_key false = held
 
   granted_own : (key : List ℕ) → same_bytes k key ≡ true → holds (now key) n x ≡ true
@@ -173,62 +150,62 @@ module _ (h : History) (s : ℕ) (k : List ℕ) (x : Bool) (l : Locked h) (may :
           let held = holds_waits (queue_after (queue_of key h) n x Granted) n x (own_with (queue_of key h) n x (none_waits h s key l may)) in
           no_lie (sym w ∙ ap (λ i. is_ungranted (request_in (queue_after (queue_of key h) n x Granted) i)) own ∙ held)
       by_key true false e f w =
-          l.waits t key is (ap is_ungranted (sym (other_with (queue_of key h) (record { transaction = n; exclusive = x; granted = true }) (number_of t h) (l.apart s t may.0 is f))) ∙ w)
+          l.waits t key is (ap is_ungranted (sym (other_with (queue_of key h) (record { transaction = n; mode = x; granted = true }) (number_of t h) (l.apart s t may.0 is f))) ∙ w)
 
 -- after a read
-reads_locked : (h : History) (s : ℕ) (k : List ℕ) (answer : Option (List ℕ)) → MayAsk s h → outcome (queue_of k h) (number_of s h) false ≡ Granted → Locked h → LockedBy h (Reads s k answer)
+reads_locked : (h : History) (s : ℕ) (k : List ℕ) (answer : Option (List ℕ)) → MayAsk s h → outcome (queue_of k h) (number_of s h) Shared ≡ Granted → Locked h → LockedBy h (Reads s k answer)
 reads_locked h s k answer may granted l = record {
-  settled = granted_settled_at h s k false l may granted;
-  known = granted_known h s k false l may granted;
+  settled = granted_settled_at h s k Shared l may granted;
+  known = granted_known h s k Shared l may granted;
   numbered = l.numbered;
   apart = l.apart;
-  waits = granted_waits h s k false l may granted;
+  waits = granted_waits h s k Shared l may granted;
   reads = λ t key is read. by_own t key (s == t) refl is read;
-  writes = λ t key is wrote. granted_keeps h s k false l may granted key (number_of t h) true (l.writes t key is wrote);
+  writes = λ t key is wrote. granted_keeps h s k Shared l may granted key (number_of t h) Exclusive (l.writes t key is wrote);
 }
   where
-    by_own : (t : ℕ) (key : List ℕ) (b : Bool) → (s == t) ≡ b → is_open t h ≡ true → is_among (cond b (k ∷ keys_read t h) (keys_read t h)) key ≡ true → holds (now h s k false l may granted key) (number_of t h) false ≡ true
-    by_own t key false e is read = granted_keeps h s k false l may granted key (number_of t h) false (l.reads t key is read)
+    by_own : (t : ℕ) (key : List ℕ) (b : Bool) → (s == t) ≡ b → is_open t h ≡ true → is_among (cond b (k ∷ keys_read t h) (keys_read t h)) key ≡ true → holds (now h s k Shared l may granted key) (number_of t h) Shared ≡ true
+    by_own t key false e is read = granted_keeps h s k Shared l may granted key (number_of t h) Shared (l.reads t key is read)
     by_own t key true e is read = by_key (same_bytes key k) refl read
       where
-        by_key : (c : Bool) → same_bytes key k ≡ c → (c || is_among (keys_read t h) key) ≡ true → holds (now h s k false l may granted key) (number_of t h) false ≡ true
-        by_key true f read = subst (λ u. holds (now h s k false l may granted key) (number_of u h) false ≡ true) (same_session s t e) (granted_own h s k false l may granted key (turned_key k key ∙ f))
-        by_key false f read = granted_keeps h s k false l may granted key (number_of t h) false (l.reads t key is read)
+        by_key : (c : Bool) → same_bytes key k ≡ c → (c || is_among (keys_read t h) key) ≡ true → holds (now h s k Shared l may granted key) (number_of t h) Shared ≡ true
+        by_key true f read = subst (λ u. holds (now h s k Shared l may granted key) (number_of u h) Shared ≡ true) (same_session s t e) (granted_own h s k Shared l may granted key (turned_key k key ∙ f))
+        by_key false f read = granted_keeps h s k Shared l may granted key (number_of t h) Shared (l.reads t key is read)
 
 -- after a write
-writes_locked : (h : History) (s : ℕ) (k : List ℕ) (value : Option (List ℕ)) → MayAsk s h → outcome (queue_of k h) (number_of s h) true ≡ Granted → Locked h → LockedBy h (Writes s k value)
+writes_locked : (h : History) (s : ℕ) (k : List ℕ) (value : Option (List ℕ)) → MayAsk s h → outcome (queue_of k h) (number_of s h) Exclusive ≡ Granted → Locked h → LockedBy h (Writes s k value)
 writes_locked h s k value may granted l = record {
-  settled = granted_settled_at h s k true l may granted;
-  known = granted_known h s k true l may granted;
+  settled = granted_settled_at h s k Exclusive l may granted;
+  known = granted_known h s k Exclusive l may granted;
   numbered = l.numbered;
   apart = l.apart;
-  waits = granted_waits h s k true l may granted;
-  reads = λ t key is read. granted_keeps h s k true l may granted key (number_of t h) false (l.reads t key is read);
+  waits = granted_waits h s k Exclusive l may granted;
+  reads = λ t key is read. granted_keeps h s k Exclusive l may granted key (number_of t h) Shared (l.reads t key is read);
   writes = λ t key is wrote. by_own t key (s == t) refl is wrote;
 }
   where
-    by_own : (t : ℕ) (key : List ℕ) (b : Bool) → (s == t) ≡ b → is_open t h ≡ true → is_some (written (cond b (with_write (writes_of t h) (record { key = k; value = value })) (writes_of t h)) key) ≡ true → holds (now h s k true l may granted key) (number_of t h) true ≡ true
-    by_own t key false e is wrote = granted_keeps h s k true l may granted key (number_of t h) true (l.writes t key is wrote)
+    by_own : (t : ℕ) (key : List ℕ) (b : Bool) → (s == t) ≡ b → is_open t h ≡ true → is_some (written (cond b (with_write (writes_of t h) (record { key = k; value = value })) (writes_of t h)) key) ≡ true → holds (now h s k Exclusive l may granted key) (number_of t h) Exclusive ≡ true
+    by_own t key false e is wrote = granted_keeps h s k Exclusive l may granted key (number_of t h) Exclusive (l.writes t key is wrote)
     by_own t key true e is wrote = by_key (same_bytes k key) refl (sym (held_by (writes_of t h) k key value) ∙ wrote)
       where
-        by_key : (c : Bool) → same_bytes k key ≡ c → (c || is_some (written (writes_of t h) key)) ≡ true → holds (now h s k true l may granted key) (number_of t h) true ≡ true
-        by_key true f wrote = subst (λ u. holds (now h s k true l may granted key) (number_of u h) true ≡ true) (same_session s t e) (granted_own h s k true l may granted key f)
-        by_key false f wrote = granted_keeps h s k true l may granted key (number_of t h) true (l.writes t key is wrote)
+        by_key : (c : Bool) → same_bytes k key ≡ c → (c || is_some (written (writes_of t h) key)) ≡ true → holds (now h s k Exclusive l may granted key) (number_of t h) Exclusive ≡ true
+        by_key true f wrote = subst (λ u. holds (now h s k Exclusive l may granted key) (number_of u h) Exclusive ≡ true) (same_session s t e) (granted_own h s k Exclusive l may granted key f)
+        by_key false f wrote = granted_keeps h s k Exclusive l may granted key (number_of t h) Exclusive (l.writes t key is wrote)
 
 -- after a request that waits
-waits_locked : (h : History) (s : ℕ) (k : List ℕ) (x : Bool) → MayAsk s h → outcome (queue_of k h) (number_of s h) x ≡ Queued → Locked h → LockedBy h (Waits s k x)
+waits_locked : (h : History) (s : ℕ) (k : List ℕ) (x : Mode) → MayAsk s h → outcome (queue_of k h) (number_of s h) x ≡ Queued → Locked h → LockedBy h (Waits s k x)
 waits_locked h s k x may queued l = record {
   settled = λ key. settle key (same_bytes k key) refl;
   known = λ key m stands. know key m (same_bytes k key) stands;
   numbered = l.numbered;
   apart = l.apart;
   waits = λ t key is w. waiting t key (same_bytes k key) (s == t) refl refl is w;
-  reads = λ t key is read. keep key (number_of t h) false (same_bytes k key) (l.reads t key is read);
-  writes = λ t key is wrote. keep key (number_of t h) true (same_bytes k key) (l.writes t key is wrote);
+  reads = λ t key is read. keep key (number_of t h) Shared (same_bytes k key) (l.reads t key is read);
+  writes = λ t key is wrote. keep key (number_of t h) Exclusive (same_bytes k key) (l.writes t key is wrote);
 }
   where
     request : Request
-    request = record { transaction = number_of s h; exclusive = x; granted = false }
+    request = record { transaction = number_of s h; mode = x; granted = false }
 
     settle : (key : List ℕ) (b : Bool) → same_bytes k key ≡ b → IsSettled (cond b (queue_after (queue_of key h) (number_of s h) x Queued) (queue_of key h))
     settle key true e = kept_after (queue_of key h) (number_of s h) x Queued (l.settled key) (none_waits h s key l may) (ap (λ q. outcome (queue_of q h) (number_of s h) x) (sym (one_key k key e)) ∙ queued)
@@ -241,7 +218,7 @@ waits_locked h s k x may queued l = record {
     ]
     know key m false stands = l.known key m stands
 
-    keep : (key : List ℕ) (m : ℕ) (y b : Bool) → holds (queue_of key h) m y ≡ true → holds (cond b (queue_of key h ++ request ∷ []) (queue_of key h)) m y ≡ true
+    keep : (key : List ℕ) (m : ℕ) (y : Mode) (b : Bool) → holds (queue_of key h) m y ≡ true → holds (cond b (queue_of key h ++ request ∷ []) (queue_of key h)) m y ≡ true
     keep key m y true held = keeps_push (queue_of key h) request m y held
     keep key m y false held = held
 
@@ -263,8 +240,8 @@ ends_locked h s opened l = record {
     numbered = λ t is. l.numbered t (still t is).1;
     apart = λ t u it iu not_same. l.apart t u (still t it).1 (still u iu).1 not_same;
     waits = λ t key is w. let o = still t is in l.waits t key o.1 (waits_without (queue_of key h) (number_of s h) (number_of t h) (l.apart s t opened o.1 o.0) w);
-    reads = λ t key is read. let o = still t is in keeps_without (queue_of key h) (number_of s h) (number_of t h) false (l.apart s t opened o.1 o.0) (l.reads t key o.1 read);
-    writes = λ t key is wrote. let o = still t is in keeps_without (queue_of key h) (number_of s h) (number_of t h) true (l.apart s t opened o.1 o.0) (l.writes t key o.1 wrote);
+    reads = λ t key is read. let o = still t is in keeps_without (queue_of key h) (number_of s h) (number_of t h) Shared (l.apart s t opened o.1 o.0) (l.reads t key o.1 read);
+    writes = λ t key is wrote. let o = still t is in keeps_without (queue_of key h) (number_of s h) (number_of t h) Exclusive (l.apart s t opened o.1 o.0) (l.writes t key o.1 wrote);
   };
 }
   where

@@ -8,7 +8,7 @@ use Rattle.pc_model.specs.Maps.{get}
 use Rattle.pc_model.specs.Database.{Database, applied_all}
 use Rattle.pc_model.specs.Log.{after, front, behind, has_token, is_token_of, state_at, PrecedesNext}
 use Rattle.pc_model.specs.Points.{is_among, cycle, touched, part_of, laid, triples_of}
-use Rattle.pc_model.proofs.Joins.{one_piece, after_other, is_among-with_written}
+use Rattle.pc_model.proofs.JoinLaws.{one_piece, after_other, is_among-with_written}
 
 -- where m's token stands before n's, replay up to n's is replay up to m's and on from there
 pub after_behind : (base : Database) (log : List Entry) (m n : ℕ) → has_token m (front n log) ≡ true → after (after base (front m log)) (front n (behind m log)) ≡ after base (front n log)

@@ -12,11 +12,13 @@ use Rattle.pc_model.specs.History.Effect.{Commits, Moves, Takes, Shelves}
 use Rattle.pc_model.specs.Points.{taken, taken_by, triples_of}
 use Rattle.pc_model.specs.Files.{triples_taken}
 use Rattle.pc_model.specs.Replies.{Setting}
-use Rattle.pc_model.specs.Headline.{HasLegalEffects, TakesPointValue, ValueBy, is_past_token}
+use Rattle.pc_model.specs.Headline.{TakesPointValue, ValueBy}
+use Rattle.pc_model.specs.Standing.{HasLegalEffects, is_past_token}
 use Rattle.pc_model.specs.Maps as map_of
-use Rattle.pc_model.proofs.LogPieces.{state_at_kept}
-use Rattle.pc_model.proofs.LegalEffects.{Fits, effect_fits}
-use Rattle.pc_model.proofs.Standing.{past_token}
+use Rattle.pc_model.proofs.LogPieceLaws.{state_at_kept}
+use Rattle.pc_model.proofs.LegalEffectLaws.{effect_fits}
+use Rattle.pc_model.specs.LegalEffects.{Fits}
+use Rattle.pc_model.proofs.StandingLaws.{past_token}
 
 -- each key was taken with what it has in the database
 abbrev pub AllFrom : Database → List (List ℕ × Option (List ℕ)) → Type 0

@@ -12,11 +12,12 @@ use Rattle.pc_model.specs.Log.{front, behind, has_token, is_resolve, is_token_of
 use Rattle.pc_model.specs.Database.{same_bytes}
 use Rattle.pc_model.specs.Points.{cycle, touched, with_keys, with_written}
 use Rattle.pc_model.specs.Replies.{without}
-use Rattle.pc_model.specs.Headline.{sealed_in, is_taking}
+use Rattle.pc_model.specs.Headline.{is_taking}
+use Rattle.pc_model.specs.Standing.{sealed_in}
 use Rattle.std.specs.List.{IsDistinct}
 use Rattle.pc_model.proofs.States.{cycle_next}
-use Rattle.pc_model.proofs.LogPieces.{IsReached, has_token-append, front_past, behind_past, touched_kept, touched_more, order_kept}
-use Rattle.pc_model.proofs.TouchedKeys.{touched_distinct, without_none, without_first}
+use Rattle.pc_model.proofs.LogPieceLaws.{IsReached, has_token-append, front_past, behind_past, touched_kept, touched_more, order_kept}
+use Rattle.pc_model.proofs.TouchedKeyLaws.{touched_distinct, without_none, without_first}
 
 -- the keys left to take, by the point, the log and the keys taken
 abbrev pub left_of : ℕ → List Entry → List (List ℕ) → List (List ℕ)

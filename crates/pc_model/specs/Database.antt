@@ -1,10 +1,9 @@
 -- Databases, and what writes do to them.
-use Rattle.std.specs.Prelude.{ℕ, Bool, not, filter, IsTrue, List, [], ◌∷◌, Option, Some, None, if◌then◌else◌}
+use Rattle.std.specs.Prelude.{ℕ, Bool, IsTrue, List, [], ◌∷◌, Option, Some, None, if◌then◌else◌}
 use Rattle.std.specs.declared.cmp.Ordering.{Ordering}
 use Rattle.std.specs.Ordering.{nat_cmp, eq_by_cmp}
 use Rattle.std.specs.Cmp.Lexicographic.{slice_cmp, nat_list_cmp_total}
-use Rattle.std.specs.FinMap.{slice_cmp-IsAntisymmetric, nat_cmp-IsAntisymmetric}
-use Rattle.std.specs.FinMap.{is_sorted}
+use Rattle.std.specs.FinMap.{slice_cmp-IsAntisymmetric, nat_cmp-IsAntisymmetric, is_sorted}
 use Rattle.pc_model.specs.Maps.{Order, Map, insert, remove, code, from_list}
 use Rattle.std.specs.Coded.{Coded, coded_list, coded_ℕ}
 use Rattle.pc_types.specs.declared.Write.{Write}
@@ -21,7 +20,7 @@ key_order = record { cmp = key_cmp; total = nat_list_cmp_total; exact = slice_cm
 abbrev pub same_bytes : List ℕ → List ℕ → Bool
 same_bytes k l = eq_by_cmp key_cmp k l
 
--- a database: a finite map from keys to values
+-- a database: finitely many keys, each with a value
 abbrev pub Database : Type 0
 Database = Map key_order (List ℕ)
 
@@ -56,10 +55,6 @@ with_write (w ∷ ws) write = if same_bytes w.key write.key then write ∷ ws el
 abbrev pub written : List Write → List ℕ → Option (Option (List ℕ))
 written [] key = None
 written (w ∷ ws) key = if same_bytes w.key key then Some w.value else written ws key
-
--- the pairs of the other keys
-abbrev pub without_key : List ℕ → List (List ℕ × List ℕ) → List (List ℕ × List ℕ)
-without_key key pairs = filter (λ pair. not (same_bytes key pair.0)) pairs
 
 -- a database is stored as its pairs
 abbrev pub database_code : Coded Database

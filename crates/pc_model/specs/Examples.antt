@@ -10,7 +10,7 @@ use Rattle.pc_model.specs.History.{log_of, contents}
 use Rattle.pc_model.specs.Points.{AtPoint}
 use Rattle.pc_model.specs.Files.{File, BaseFile, shelf, file_at, file_of, gap_above, laid_file}
 use Rattle.pc_model.specs.Replies.{Setting, IsLegal, IsLegalHistory}
-use Rattle.pc_model.specs.Reads.{IsQuiet}
+use Rattle.pc_model.specs.Quiet.{IsQuiet}
 
 -- a step of a history, which the examples list from the first to the last
 abbrev pub step : Event → Reply → Step

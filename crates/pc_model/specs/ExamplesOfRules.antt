@@ -9,7 +9,10 @@ use Rattle.pc_model.specs.Maps as map_of
 use Rattle.pc_model.specs.Sets as set
 use Rattle.pc_model.specs.Database.{database_of}
 use Rattle.pc_model.specs.History.{History}
-use Rattle.pc_model.specs.Locks.{Request, Outcome, outcome, queue_after, queue_without}
+use Rattle.pc_types.specs.declared.Mode.TheVariants.{Shared, Exclusive}
+use Rattle.pc_types.specs.declared.Outcome.TheVariants.{Granted, Queued, Died}
+use Rattle.pc_types.specs.declared.Request.{Request}
+use Rattle.pc_model.specs.Locks.{outcome, queue_after, queue_without}
 use Rattle.pc_model.specs.Points.{Triples, joined, laid}
 use Rattle.pc_model.specs.Files.{File, conflict, gap_above, laid_file}
 use Rattle.pc_model.specs.Replies.{Setting, first_refusal, transaction_causes, too_many, certain, join_refusal}
@@ -19,29 +22,29 @@ use Rattle.pc_model.specs.ExamplesOfLocks.{older_waits}
 
 -- a shared request of the transaction, granted or waiting
 abbrev pub shared : ℕ → Bool → Request
-shared t granted = record { transaction = t; exclusive = false; granted = granted }
+shared t granted = record { transaction = t; mode = Shared; granted = granted }
 
 -- an exclusive request of the transaction, granted or waiting
 abbrev pub exclusive : ℕ → Bool → Request
-exclusive t granted = record { transaction = t; exclusive = true; granted = granted }
+exclusive t granted = record { transaction = t; mode = Exclusive; granted = granted }
 
 -- Rules of locks, on single queues.
 pub record LockRules : Type 0 where
   -- what the own exclusive lock covers is granted, and the queue stays
-  pub covered : outcome (exclusive 3 true ∷ shared 2 false ∷ []) 3 false ≡ Outcome.Granted
-  pub covered_stays : queue_after (exclusive 3 true ∷ shared 2 false ∷ []) 3 false Outcome.Granted ≡ exclusive 3 true ∷ shared 2 false ∷ []
+  pub covered : outcome (exclusive 3 true ∷ shared 2 false ∷ []) 3 Shared ≡ Granted
+  pub covered_stays : queue_after (exclusive 3 true ∷ shared 2 false ∷ []) 3 Shared Granted ≡ exclusive 3 true ∷ shared 2 false ∷ []
   -- a new request that fits all granted ones, but not a waiting one, is not granted
-  pub waiting_ones_count : outcome (shared 5 true ∷ exclusive 3 false ∷ []) 4 false ≡ Outcome.Died
+  pub waiting_ones_count : outcome (shared 5 true ∷ exclusive 3 false ∷ []) 4 Shared ≡ Died
   -- the oldest of all waits
-  pub oldest_waits : outcome (shared 5 true ∷ exclusive 3 false ∷ []) 2 false ≡ Outcome.Queued
+  pub oldest_waits : outcome (shared 5 true ∷ exclusive 3 false ∷ []) 2 Shared ≡ Queued
   -- older than one, but not than all, dies
-  pub not_the_oldest_dies : outcome (shared 5 true ∷ shared 2 true ∷ []) 3 true ≡ Outcome.Died
+  pub not_the_oldest_dies : outcome (shared 5 true ∷ shared 2 true ∷ []) 3 Exclusive ≡ Died
   -- an upgrade is granted beside a request that waits
-  pub upgrade_beside_a_waiting_one : outcome (shared 5 true ∷ exclusive 3 false ∷ []) 5 true ≡ Outcome.Granted
+  pub upgrade_beside_a_waiting_one : outcome (shared 5 true ∷ exclusive 3 false ∷ []) 5 Exclusive ≡ Granted
   -- it dies beside another granted one
-  pub upgrade_beside_a_granted_one : outcome (shared 5 true ∷ shared 6 true ∷ []) 5 true ≡ Outcome.Died
+  pub upgrade_beside_a_granted_one : outcome (shared 5 true ∷ shared 6 true ∷ []) 5 Exclusive ≡ Died
   -- it takes the place of the shared request
-  pub upgraded_in_place : queue_after (shared 5 true ∷ exclusive 3 false ∷ []) 5 true Outcome.Granted ≡ exclusive 5 true ∷ exclusive 3 false ∷ []
+  pub upgraded_in_place : queue_after (shared 5 true ∷ exclusive 3 false ∷ []) 5 Exclusive Granted ≡ exclusive 5 true ∷ exclusive 3 false ∷ []
   -- requests are granted from the front, and none behind the first that doesn't fit
   pub granted_from_the_front : queue_without (exclusive 5 true ∷ shared 4 false ∷ shared 3 false ∷ exclusive 2 false ∷ shared 1 false ∷ []) 5
       ≡ shared 4 true ∷ shared 3 true ∷ exclusive 2 false ∷ shared 1 false ∷ []

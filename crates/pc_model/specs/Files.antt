@@ -10,7 +10,7 @@ use Rattle.pc_model.specs.Points.{Triples, AtPoint, joined, content, laid, taken
 use Rattle.pc_model.specs.History.{History, Effect, effect}
 use Rattle.pc_model.specs.History.Effect.{Shelves, Joins}
 
--- a file: a run, a set of points and a set of triples
+-- a file: the run that it is of, its points, and its triples
 pub record File : Type 0 where
   pub run : ℕ
   pub points : Set number_order
@@ -29,7 +29,7 @@ triples_taken point (t ∷ ts) = map.insert (triples_taken point ts) t.0 (record
 abbrev pub joined_file : File → File → File
 joined_file a b = record { run = a.run; points = set.union a.points b.points; triples = joined a.triples b.triples }
 
--- the file of a number: files are numbered from 1 in the order of shelving
+-- the file of a number: the first on the shelf has number 1
 abbrev pub file_at : List File → ℕ → Option File
 file_at shelf number = if number == 0 then None else slice_get shelf (number - 1)
 

@@ -3,6 +3,8 @@
 use Rattle.std.specs.Prelude.{ℕ, ◌+◌, ◌==◌, Bool, true, false, List, [], ◌∷◌, ◌++◌, Option, Some, None, if◌then◌else◌}
 use Rattle.pc_types.specs.declared.Class.{Class}
 use Rattle.pc_types.specs.declared.Class.TheVariants.{Before, During, After}
+use Rattle.pc_types.specs.declared.Mode.{Mode}
+use Rattle.pc_types.specs.declared.Mode.TheVariants.{Shared, Exclusive}
 use Rattle.pc_types.specs.declared.Write.{Write}
 use Rattle.pc_types.specs.declared.Phase.{Phase}
 use Rattle.pc_types.specs.declared.Phase.TheVariants.{Rest, Prepare, Resolve, Capture, Complete}
@@ -28,9 +30,9 @@ pub data Effect : Type 0 where
   Reads : ℕ → List ℕ → Option (List ℕ) → Effect
   -- the session sets or removes the key
   Writes : ℕ → List ℕ → Option (List ℕ) → Effect
-  -- the session's request of the key waits, or its transaction dies of it; the request is exclusive or else shared
-  Waits : ℕ → List ℕ → Bool → Effect
-  Dies : ℕ → List ℕ → Bool → Effect
+  -- the session's request of the key waits, or its transaction dies of it; the request is of this mode
+  Waits : ℕ → List ℕ → Mode → Effect
+  Dies : ℕ → List ℕ → Mode → Effect
   -- the session's transaction ends
   Commits : ℕ → Effect
   Aborts : ℕ → Effect
@@ -53,15 +55,15 @@ effect_of_begin s other = Nothing
 abbrev pub effect_of_get : ℕ → List ℕ → Reply → Effect
 effect_of_get s key (told.Found value) = Reads s key (Some value)
 effect_of_get s key told.Absent = Reads s key None
-effect_of_get s key told.Wait = Waits s key false
-effect_of_get s key told.Died = Dies s key false
+effect_of_get s key told.Wait = Waits s key Shared
+effect_of_get s key told.Died = Dies s key Shared
 effect_of_get s key other = Nothing
 
 -- that of a put or a removal
 abbrev pub effect_of_write : ℕ → List ℕ → Option (List ℕ) → Reply → Effect
 effect_of_write s key value told.Ok = Writes s key value
-effect_of_write s key value told.Wait = Waits s key true
-effect_of_write s key value told.Died = Dies s key true
+effect_of_write s key value told.Wait = Waits s key Exclusive
+effect_of_write s key value told.Died = Dies s key Exclusive
 effect_of_write s key value other = Nothing
 
 -- that of a commit
@@ -132,7 +134,7 @@ writes_by s (Begins t) ws = if t == s then [] else ws
 writes_by s (Writes t key value) ws = if t == s then with_write ws (record { key = key; value = value }) else ws
 writes_by s other ws = ws
 
--- the session's writes since its last begin: the final one per key, in the order of first writes
+-- the session's writes since its last begin: of each key the last one, the keys as they were first written
 abbrev pub writes_of : ℕ → History → List Write
 writes_of s [] = []
 writes_of s (step ∷ history) = writes_by s (effect step) (writes_of s history)
@@ -168,7 +170,7 @@ abbrev pub number_by : ℕ → Effect → ℕ → ℕ → ℕ
 number_by s (Begins t) so_far n = if t == s then so_far + 1 else n
 number_by s other so_far n = n
 
--- the number of the session's last transaction: transactions are numbered from 1 in the order of their begins
+-- the number of the session's last transaction: each begin takes the next number, the first takes 1
 abbrev pub number_of : ℕ → History → ℕ
 number_of s [] = 0
 number_of s (step ∷ history) = number_by s (effect step) (begun history) (number_of s history)
@@ -216,7 +218,7 @@ class_of s (step ∷ history) = class_by s (effect step) (phase_of history) (cla
 -- whether a request of the session's last transaction has died, after this effect
 abbrev pub died_by : ℕ → Effect → Bool → Bool
 died_by s (Begins t) was = if t == s then false else was
-died_by s (Dies t key exclusive) was = if t == s then true else was
+died_by s (Dies t key mode) was = if t == s then true else was
 died_by s other was = was
 
 -- a request of the session's last transaction has died

@@ -13,9 +13,12 @@ use Rattle.pc_model.specs.Sets as set
 use Rattle.pc_model.specs.Sets.{Set, number_order}
 use Rattle.pc_model.specs.Files.{File, shelf}
 use Rattle.pc_model.specs.Replies.{Setting, IsLegal, IsLegalHistory}
-use Rattle.pc_model.specs.Locks.{IsLegalQueue, queue_of}
-use Rattle.pc_model.specs.Reads.{HasRightReads, IsQuiet}
-use Rattle.pc_model.specs.Headline.{HasLegalEffects, HasTokensInOrder, TakesEachKeyOnce, TakesPointValue, IsOfItsPoints, IsMade, JoinsWell, HasHeadline, is_taking, is_past_token}
+use Rattle.pc_model.specs.Locks.{queue_of}
+use Rattle.pc_model.specs.Queues.{IsLegalQueue}
+use Rattle.pc_model.specs.Reads.{HasRightReads}
+use Rattle.pc_model.specs.Quiet.{IsQuiet}
+use Rattle.pc_model.specs.Headline.{TakesEachKeyOnce, TakesPointValue, IsMade, HasHeadline, is_taking}
+use Rattle.pc_model.specs.Standing.{HasLegalEffects, HasTokensInOrder, IsOfItsPoints, JoinsWell, is_past_token}
 
 -- Replay of a log in two pieces is replay of the second on the replay of the first.
 abbrev pub ReplaysInPieces : Type 0

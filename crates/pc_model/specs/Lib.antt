@@ -4,6 +4,7 @@ pub mod Database
 pub mod Places
 pub mod Log
 pub mod History
+pub mod Limits
 pub mod Locks
 pub mod Points
 pub mod Files
@@ -12,10 +13,7 @@ pub mod Replies
 pub mod Reads
 pub mod Headline
 pub mod Laws
-pub mod Laying
-pub mod Trees
-pub mod Changes
-pub mod Audits
+pub mod TripleLists
 pub mod Examples
 pub mod ExamplesOfTransactions
 pub mod ExamplesOfPoints
@@ -27,3 +25,9 @@ pub mod ExamplesOfRefusals
 pub mod ExamplesOfIllegalReplies
 pub mod ExamplesOfRules
 pub mod Queues
+pub mod LegalEffects
+pub mod SessionLocks
+pub mod Standing
+pub mod Quiet
+pub mod Numbers
+pub mod Entries

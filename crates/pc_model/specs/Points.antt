@@ -23,7 +23,7 @@ abbrev pub with_keys : List (List ℕ) → List Write → List (List ℕ)
 with_keys keys [] = keys
 with_keys keys (w ∷ ws) = with_keys (with_key keys w.key) ws
 
--- the keys and those that the log's commits wrote, each once, in the order in which they first stand
+-- the keys, and behind them each other one that the log's commits wrote, once, as they were first written
 abbrev pub with_written : List (List ℕ) → List Entry → List (List ℕ)
 with_written keys [] = keys
 with_written keys (Commit session writes ∷ log) = with_written (with_keys keys writes) log
@@ -70,7 +70,7 @@ abbrev pub joined_entries : Triples → List (List ℕ × AtPoint) → Triples
 joined_entries m [] = m
 joined_entries m (e ∷ es) = insert (joined_entries m es) e.0 (newer (get m e.0) e.1)
 
--- the join keeps of each key the triple of the greatest point
+-- the join: of a key that both have, that triple whose point is greater
 abbrev pub joined : Triples → Triples → Triples
 joined m n = joined_entries m n.entries
 
@@ -89,7 +89,7 @@ abbrev pub laid_entries : Database → ℕ → List (List ℕ × AtPoint) → Da
 laid_entries db point [] = db
 laid_entries db point (e ∷ es) = put (laid_entries db point es) e.0 (laid_at (get db e.0) point (Some e.1))
 
--- triples laid on a database at a point: each key whose triple has a point above is set or removed
+-- triples laid on a database that stands at a point: a key with a triple of a later point is set or removed, others stay
 abbrev pub laid : Database → ℕ → Triples → Database
 laid db point m = laid_entries db point m.entries
 

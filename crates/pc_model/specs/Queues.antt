@@ -1,7 +1,9 @@
 -- What a queue of lock requests keeps, and who holds a lock.
-use Rattle.std.specs.Prelude.{◌≡◌, ℕ, ◌==◌, ◌&&◌, ◌||◌, not, ⊤, Bool, true, false, MatchBool, [], ◌∷◌, ◌++◌, Option, Some, None}
+use Rattle.std.specs.Prelude.{IsTrue, AllPairs, ◌≡◌, ℕ, ◌==◌, ◌&&◌, ◌||◌, not, ⊤, Bool, true, false, MatchBool, [], ◌∷◌, ◌++◌, Option, Some, None}
 use Rattle.std.specs.List.{list_any, list_all}
-use Rattle.pc_model.specs.Locks.{Request, Queue, are_compatible, request_in}
+use Rattle.pc_types.specs.declared.Mode.{Mode}
+use Rattle.pc_types.specs.declared.Request.{Request}
+use Rattle.pc_model.specs.Locks.{Queue, is_exclusive, are_compatible, request_in}
 
 -- all wait
 abbrev pub AllWait : Queue → Type 0
@@ -27,11 +29,28 @@ AreOnce (r ∷ rs) = (stands_in rs r.transaction ≡ false) × AreOnce rs
 abbrev pub IsSettled : Queue → Type 0
 IsSettled queue = IsSettledBehind [] queue × AreOnce queue
 
--- the request is granted, and is exclusive or was not to be
-abbrev pub is_granted_as : Bool → Option Request → Bool
-is_granted_as exclusive None = false
-is_granted_as exclusive (Some r) = r.granted && (r.exclusive || not exclusive)
+-- the request is granted, in this mode or a stronger one
+abbrev pub is_granted_as : Mode → Option Request → Bool
+is_granted_as mode None = false
+is_granted_as mode (Some r) = r.granted && (is_exclusive r.mode || not (is_exclusive mode))
 
--- the transaction holds the lock: an exclusive one, or else any
-abbrev pub holds : Queue → ℕ → Bool → Bool
-holds queue t exclusive = is_granted_as exclusive (request_in queue t)
+-- the transaction holds the lock in this mode or a stronger one
+abbrev pub holds : Queue → ℕ → Mode → Bool
+holds queue t mode = is_granted_as mode (request_in queue t)
+
+-- behind these requests: first granted ones, each of which fits all before it, and then only waiting ones
+abbrev pub IsSoundBehind : Queue → Queue → Type 0
+IsSoundBehind before [] = ⊤
+IsSoundBehind before (r ∷ rs) = MatchBool r.granted ((list_all (are_compatible r) before ≡ true) × IsSoundBehind (before ++ r ∷ []) rs) (AllWait rs)
+
+-- the request, granted
+abbrev pub grant : Request → Request
+grant r = record r { granted = true }
+
+-- two requests conflict: they may not stand granted together
+abbrev pub Conflicts : Request → Request → Type 0
+Conflicts r q = ¬ IsTrue (are_compatible r q)
+
+-- granted requests never conflict
+abbrev pub IsLegalQueue : Queue → Type 0
+IsLegalQueue queue = AllPairs (λ r q. IsTrue r.granted → IsTrue q.granted → ¬ Conflicts r q) queue

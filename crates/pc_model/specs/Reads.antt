@@ -1,11 +1,10 @@
 -- Right reads, and quiet runs.
-use Rattle.std.specs.Prelude.{◌≡◌, ℕ, ◌==◌, ◌&&◌, ◌||◌, not, Bool, true, [], ◌∷◌, ⊤, MatchBool, IsTrue}
-use Rattle.pc_types.specs.declared.Phase.TheVariants as phase
+use Rattle.std.specs.Prelude.{◌≡◌, ℕ, ◌==◌, [], ◌∷◌, ⊤, MatchBool}
 use Rattle.pc_model.specs.Maps.{get}
 use Rattle.pc_model.specs.Database.{Database, written}
 use Rattle.pc_model.specs.History.{History, Effect, effect, writes_of, contents}
 use Rattle.pc_model.specs.History.Effect.{Begins, Reads, Commits}
-use Rattle.pc_model.specs.Replies.{Setting, value_read, is_in, some_active}
+use Rattle.pc_model.specs.Replies.{value_read}
 
 -- what this effect adds to what the earlier ones say of the reads of the session's transaction
 abbrev pub ReadBy : ℕ → Database → Effect → History → Type 0 → Type 0
@@ -13,7 +12,7 @@ ReadBy s db (Begins t) history earlier = MatchBool (t == s) ⊤ earlier
 ReadBy s db (Reads t key answer) history earlier = (t ≡ s → answer ≡ value_read (written (writes_of s history) key) (get db key)) × earlier
 ReadBy s db other history earlier = earlier
 
--- each read of the session since its last begin gave its own latest earlier write of the key, or else what the database has
+-- each read of the session since its last begin gave what the session had last written of the key, or else what the database has
 abbrev pub HasReadFrom : Database → ℕ → History → Type 0
 HasReadFrom db s [] = ⊤
 HasReadFrom db s (step ∷ history) = ReadBy s db (effect step) history (HasReadFrom db s history)
@@ -27,12 +26,3 @@ RightBy base other history = ⊤
 abbrev pub HasRightReads : Database → History → Type 0
 HasRightReads base [] = ⊤
 HasRightReads base (step ∷ history) = RightBy base (effect step) history × HasRightReads base history
-
--- a quiet run: outside rest, so from each successful StartPoint to the next successful Rest, no transaction was ever active
-abbrev pub is_quiet : Setting → History → Bool
-is_quiet st [] = true
-is_quiet st (step ∷ history) = (is_in phase.Rest (step ∷ history) || not (some_active st (step ∷ history))) && is_quiet st history
-
--- the run is quiet
-abbrev pub IsQuiet : Setting → History → Type 0
-IsQuiet st history = IsTrue (is_quiet st history)

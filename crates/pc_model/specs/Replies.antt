@@ -1,10 +1,11 @@
 -- Which reply to an event is legal after a history: first the refusals in their order, then the answer.
 use Rattle.std.specs.Prelude.{◌≡◌, ℕ, ◌+◌, ◌==◌, ◌&&◌, ◌||◌, not, nat_lt, Bool, true, false, List, [], ◌∷◌, ◌++◌, Option, Some, None, if◌then◌else◌, map, filter, length, MatchOption, ◌⊎◌, ⊤, is_some, is_none}
-use Rattle.std.specs.List.{list_any}
+use Rattle.pc_types.specs.Phases.{same_phase, same_class}
 use Rattle.pc_model.specs.Maps as map_of
 use Rattle.pc_model.specs.Sets as set
 use Rattle.pc_types.specs.declared.Phase.{Phase}
 use Rattle.pc_types.specs.declared.Phase.TheVariants as phase
+use Rattle.pc_types.specs.declared.Mode.TheVariants.{Shared, Exclusive}
 use Rattle.pc_types.specs.declared.Event.{Event}
 use Rattle.pc_types.specs.declared.Event.TheVariants as asked
 use Rattle.pc_types.specs.declared.Reply.{Reply}
@@ -17,8 +18,10 @@ use Rattle.pc_model.specs.History.{History, Effect, effect, is_open, writes_of, 
 use Rattle.pc_types.specs.declared.Class.{Class}
 use Rattle.pc_model.specs.History.Effect.{Moves, Commits}
 use Rattle.pc_types.specs.declared.Class.TheVariants.{Before, During, After}
-use Rattle.pc_model.specs.Locks.{Outcome, outcome, queue_of, is_waiting}
-use Rattle.pc_model.specs.Locks.Outcome.{Granted, Queued, Died}
+use Rattle.pc_types.specs.declared.Outcome.{Outcome}
+use Rattle.pc_model.specs.Locks.{outcome, queue_of, is_waiting}
+use Rattle.pc_types.specs.declared.Outcome.TheVariants.{Granted, Queued, Died}
+use Rattle.pc_types.specs.declared.limits.TheConstants.{MOST_FILES, MOST_FILE_ENTRIES, MOST_LOG_ENTRIES, MOST_POINTS, MOST_TRANSACTIONS, MOST_WRITES}
 use Rattle.pc_model.specs.Points.{is_among, with_key, with_keys, touched, taken}
 use Rattle.pc_model.specs.Files.{File, shelf, file_at, joined_file, join_of, conflict, numbers_to}
 
@@ -29,33 +32,13 @@ pub record Setting : Type 0 where
   pub sessions : ℕ
   pub capacity : ℕ
 
--- the phases are the same
-abbrev pub same_phase : Phase → Phase → Bool
-same_phase phase.Rest phase.Rest = true
-same_phase phase.Prepare phase.Prepare = true
-same_phase phase.Resolve phase.Resolve = true
-same_phase phase.Capture phase.Capture = true
-same_phase phase.Complete phase.Complete = true
-same_phase a b = false
-
 -- the phase is this one
 abbrev pub is_in : Phase → History → Bool
 is_in phase history = same_phase (phase_of history) phase
 
--- the classes are the same
-abbrev pub same_class : Class → Class → Bool
-same_class Before Before = true
-same_class During During = true
-same_class After After = true
-same_class a b = false
-
 -- how many transactions of the class are active
 abbrev pub active_in : Setting → Class → History → ℕ
 active_in st class history = length (filter (λ s. is_open s history && same_class (class_of s history) class) (numbers_to st.sessions))
-
--- some transaction is active
-abbrev pub some_active : Setting → History → Bool
-some_active st history = list_any (λ s. is_open s history) (numbers_to st.sessions)
 
 -- the keys that aren't among the second ones
 abbrev pub without : List (List ℕ) → List (List ℕ) → List (List ℕ)
@@ -74,9 +57,9 @@ written_by (Commits s) history keys = with_keys keys (writes_of s history)
 written_by other history keys = keys
 
 -- the keys that commits wrote since the last point's token, or since the start
-abbrev pub written_since_token : History → List (List ℕ)
-written_since_token [] = []
-written_since_token (step ∷ history) = written_by (effect step) history (written_since_token history)
+abbrev pub open_set : History → List (List ℕ)
+open_set [] = []
+open_set (step ∷ history) = written_by (effect step) history (open_set history)
 
 -- the keys with the one that the event asks for
 abbrev pub asked_by : Event → List (List ℕ) → List (List ℕ)
@@ -101,9 +84,9 @@ requested history = filter (λ key. not (is_empty (queue_of key history))) (aske
 
 -- the occupied keys: committed, requested, written since the last point's token, or in the closed set
 abbrev pub occupied : Setting → History → set.Set key_order
-occupied st history = set.from_list (map_of.keys (contents st.base history) ++ requested history ++ written_since_token history ++ closed_set history)
+occupied st history = set.from_list (map_of.keys (contents st.base history) ++ requested history ++ open_set history ++ closed_set history)
 
--- Full: the key isn't occupied, and the occupied keys number the capacity
+-- Full: as many keys are occupied as the capacity is, and this one isn't among them
 abbrev pub is_full : Setting → List ℕ → History → Bool
 is_full st key history = not (set.contains (occupied st history) key) && (set.len (occupied st history) == st.capacity)
 
@@ -123,11 +106,11 @@ no_session st s = (s == 0) || nat_lt st.sessions s
 
 -- TooManyWrites: a 257th key
 abbrev pub too_many : ℕ → List ℕ → History → Bool
-too_many s key history = (length (writes_of s history) == 256) && not (is_some (written (writes_of s history) key))
+too_many s key history = (length (writes_of s history) == MOST_WRITES) && not (is_some (written (writes_of s history) key))
 
 -- LogFull: the log has as many entries as it may
 abbrev pub log_is_full : History → Bool
-log_is_full history = length (log_of history) == 16777216
+log_is_full history = length (log_of history) == MOST_LOG_ENTRIES
 
 -- the causes that every event of an open transaction but Abort has first
 abbrev pub transaction_causes : Setting → ℕ → History → List (Bool × Refusal)
@@ -155,18 +138,18 @@ held_back st from class history =
 -- the causes of two files' join
 abbrev pub join_causes : Option File → Option File → List (Bool × Refusal)
 join_causes (Some a) (Some b) =
-    (not (a.run == b.run), why.OtherRun) ∷ (conflict a.triples b.triples, why.Conflict) ∷ (nat_lt 4294967295 (map_of.len (joined_file a b).triples), why.Full) ∷ []
+    (not (a.run == b.run), why.OtherRun) ∷ (conflict a.triples b.triples, why.Conflict) ∷ (nat_lt MOST_FILE_ENTRIES (map_of.len (joined_file a b).triples), why.Full) ∷ []
 join_causes a b = []
 
 -- the refusal of a join: NoFile and ShelfFull first
 abbrev pub join_refusal : List File → Option File → Option File → Option Reply
 join_refusal shelf a b =
-    first_refusal ((is_none a || is_none b, why.NoFile) ∷ (length shelf == 65536, why.ShelfFull) ∷ join_causes a b)
+    first_refusal ((is_none a || is_none b, why.NoFile) ∷ (length shelf == MOST_FILES, why.ShelfFull) ∷ join_causes a b)
 
 -- The reply that is certain whatever memory there is: the first refusal whose cause stands, or NotYet, NoneLeft or Aborted.
 abbrev pub certain : Setting → History → Event → Option Reply
 certain st history (asked.Begin s) =
-    first_refusal ((no_session st s, why.NoSession) ∷ (is_open s history, why.AlreadyBegun) ∷ (begun history == 1099511627776, why.LogFull) ∷ [])
+    first_refusal ((no_session st s, why.NoSession) ∷ (is_open s history, why.AlreadyBegun) ∷ (begun history == MOST_TRANSACTIONS, why.LogFull) ∷ [])
 certain st history (asked.Get s key) = first_refusal (transaction_causes st s history ++ (is_full st key history, why.Full) ∷ [])
 certain st history (asked.Put s key value) = first_refusal (write_causes st s key history)
 certain st history (asked.Del s key) = first_refusal (write_causes st s key history)
@@ -174,13 +157,13 @@ certain st history (asked.Commit s) = first_refusal (transaction_causes st s his
 certain st history (asked.Abort s) =
     or_else (first_refusal ((no_session st s, why.NoSession) ∷ (not (is_open s history), why.NoTransaction) ∷ [])) (Some told.Aborted)
 certain st history asked.StartPoint =
-    or_else (wrong_phase phase.Rest history) (first_refusal ((point_of history == 65535, why.PointsFull) ∷ (log_is_full history, why.LogFull) ∷ []))
+    or_else (wrong_phase phase.Rest history) (first_refusal ((point_of history == MOST_POINTS, why.PointsFull) ∷ (log_is_full history, why.LogFull) ∷ []))
 certain st history asked.Seal = held_back st phase.Prepare Before history
 certain st history asked.OpenCapture = held_back st phase.Resolve During history
 certain st history asked.Take = or_else (wrong_phase phase.Capture history) (if is_empty (closed_set history) then Some told.NoneLeft else None)
 certain st history asked.Done =
     or_else (wrong_phase phase.Capture history) (or_else (not_yet (length (closed_set history)))
-    (first_refusal ((length (shelf st.run history) == 65536, why.ShelfFull) ∷ (log_is_full history, why.LogFull) ∷ [])))
+    (first_refusal ((length (shelf st.run history) == MOST_FILES, why.ShelfFull) ∷ (log_is_full history, why.LogFull) ∷ [])))
 certain st history asked.Rest = held_back st phase.Complete After history
 certain st history (asked.Join a b) = join_refusal (shelf st.run history) (file_at (shelf st.run history) a) (file_at (shelf st.run history) b)
 
@@ -214,9 +197,9 @@ IsFileReply (f ∷ fs) number reply = reply ≡ told.File number (set.items f.po
 abbrev pub Answers : Setting → History → Event → Reply → Type 0
 Answers st history (asked.Begin s) reply = reply ≡ told.Begun (begun history + 1)
 Answers st history (asked.Get s key) reply =
-    reply ≡ by_outcome (outcome (queue_of key history) (number_of s history) false) (read_reply (value_read (written (writes_of s history) key) (map_of.get (contents st.base history) key)))
-Answers st history (asked.Put s key value) reply = reply ≡ by_outcome (outcome (queue_of key history) (number_of s history) true) told.Ok
-Answers st history (asked.Del s key) reply = reply ≡ by_outcome (outcome (queue_of key history) (number_of s history) true) told.Ok
+    reply ≡ by_outcome (outcome (queue_of key history) (number_of s history) Shared) (read_reply (value_read (written (writes_of s history) key) (map_of.get (contents st.base history) key)))
+Answers st history (asked.Put s key value) reply = reply ≡ by_outcome (outcome (queue_of key history) (number_of s history) Exclusive) told.Ok
+Answers st history (asked.Del s key) reply = reply ≡ by_outcome (outcome (queue_of key history) (number_of s history) Exclusive) told.Ok
 Answers st history (asked.Commit s) reply = reply ≡ told.Committed (length (log_of history) + 1)
 Answers st history (asked.Abort s) reply = ⊥
 Answers st history asked.StartPoint reply = reply ≡ told.Phase phase.Prepare (point_of history + 1)

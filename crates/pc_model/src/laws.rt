@@ -1,7 +1,5 @@
 //! Laws of the definitions. Each function does nothing, and its contract is a law.
-ghost use Rattle.pc_model.specs.Laws.{ReplaysInPieces, CyclesMakeStates, UntouchedKeysStay, PartsMakeStates, ContentsMakeStates, EveryEventHasALegalReply, CommittedReadsAreRight, LocksNeverConflict};
-ghost use Rattle.pc_model.specs.Laws.{LegalHistoriesHaveLegalEffects, TokensStandInOrder, EachKeyIsTakenOnce, PointStatesStay, QuietContentsStay};
-ghost use Rattle.pc_model.specs.Laws.{JoinsAreContents, FilesAreOfTheirPoints, FilesJoinWell, FilesAreStates};
+ghost use Rattle.pc_model.specs.Laws.{ReplaysInPieces, CyclesMakeStates, UntouchedKeysStay, PartsMakeStates, ContentsMakeStates, EveryEventHasALegalReply, CommittedReadsAreRight, LocksNeverConflict, LegalHistoriesHaveLegalEffects, TokensStandInOrder, EachKeyIsTakenOnce, PointStatesStay, QuietContentsStay, JoinsAreContents, FilesAreOfTheirPoints, FilesJoinWell, FilesAreStates};
 
 /// Replay of a log in two pieces is replay of the second on the replay of the first.
 pub fn replay_in_pieces()
@@ -84,8 +82,8 @@ pub fn files_join_well()
     ensures { FilesJoinWell }
 {}
 
-/// The headline: files of the same points are one, in whatever order they were joined, and one of the points 1 to n, laid
-/// on the base, is the state of n.
+/// The headline: files of the same points are one, in whatever order they were joined, and the base with one of the
+/// points 1 to n laid on it is the state of n.
 pub fn files_are_states()
     ensures { FilesAreStates }
 {}

@@ -3,7 +3,7 @@ use Rattle.std.proofs.Common.{◌≡◌, ◌≤◌, ◌<◌, ◌^◌, ℕ, List,
 use Rattle.std.specs.List.{All, flat_map}
 use Rattle.pc_model.specs.Database.{KeysRise, database_of}
 use Rattle.pc_model.specs.Files.{BaseFile}
-use Rattle.pc_model.proofs.PairMaps as pairs_of
+use Rattle.pc_model.proofs.PairMapLaws as pairs_of
 use Rattle.pc_part.specs.Bases.{IsWithinLimit}
 use Rattle.pc_part.specs.Lawful.{IsPair, IsBaseFile}
 use Rattle.pc_part.specs.Texts.{base_head_text, pair_text, base_text}

@@ -9,7 +9,7 @@ use Rattle.pc_model.specs.Ranges.{ranges_of}
 use Rattle.pc_model.specs.Files.{numbers_to}
 use Rattle.pc_part.specs.declared.ranges.Range.{Range}
 use Rattle.pc_part.specs.Parts.{points_from, points_in, points_of, AreRanges, bounds_of, last_covered}
-use Rattle.pc_part.proofs.RangePoints.{items-points_of, ranges_of-points_of, one_range, points_more}
+use Rattle.pc_part.proofs.RangePointLaws.{items-points_of, ranges_of-points_of, one_range, points_more}
 
 -- the points from 1 on
 numbers_run : (n : ℕ) → points_from 1 n ≡ numbers_to n

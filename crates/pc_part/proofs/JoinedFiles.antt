@@ -1,5 +1,5 @@
 -- A merge of rising triples is the join of their maps; when it conflicts, and which points it has.
-use Rattle.std.proofs.Common.{◌≡◌, ℕ, Bool, true, false, cond, ◌||◌, not, List, [], ◌∷◌, length, Option, Some, None, Result, Ok, Err, ◌<◌, ◌≤◌, lt-ltb, refl, sym, ap, subst, ◌∙◌, arith}
+use Rattle.std.proofs.Common.{◌≡◌, ℕ, Bool, true, false, cond, ◌||◌, not, List, [], ◌∷◌, map, length, Option, Some, None, Result, Ok, Err, ◌<◌, ◌≤◌, lt-ltb, refl, sym, ap, subst, ◌∙◌, arith}
 use Rattle.std.specs.Prelude.{IsTrue, nat_lt, if◌then◌else◌, ⊤}
 use Rattle.pc_types.specs.declared.Refusal.{Refusal}
 use Rattle.pc_types.specs.declared.Refusal.TheVariants.{Conflict, Full}
@@ -12,22 +12,26 @@ use Rattle.std.specs.declared.cmp.Ordering.{Ordering}
 use Rattle.std.specs.declared.cmp.Ordering.TheVariants.{Less, Equal, Greater}
 use Rattle.std.specs.FinMap.{find, is_sorted}
 use Rattle.std.specs.FinMap.Entries.{below_all}
-use Rattle.pc_model.specs.declared.laying.Triple.{Triple}
+use Rattle.pc_types.specs.declared.Triple.{Triple}
 use Rattle.pc_model.specs.Maps as map_of
 use Rattle.pc_model.specs.Sets as set
 use Rattle.pc_model.specs.Sets.{Set, number_order}
 use Rattle.pc_model.specs.Database.{key_cmp, key_order, same_bytes, KeysRise}
-use Rattle.pc_model.specs.Points.{AtPoint, later, joined}
+use Rattle.pc_model.specs.Points.{AtPoint, newer, later, joined}
 use Rattle.pc_model.specs.Files.{differs, conflict}
-use Rattle.pc_model.specs.Laying.{entries_of}
+use Rattle.pc_model.specs.TripleLists.{entries_of}
 use Rattle.pc_model.specs.Replies.{is_empty}
 use Rattle.pc_model.proofs.MapLaws.{get-from_list, same_map}
-use Rattle.pc_model.proofs.PairMaps as pair_maps
-use Rattle.pc_model.proofs.Joins.{get-joined, one_key}
+use Rattle.pc_model.proofs.PairMapLaws as pair_maps
+use Rattle.pc_model.proofs.JoinLaws.{get-joined, one_key}
 use Rattle.pc_part.specs.Parts.{AreCovered, triples_of}
+use Rattle.itertools.specs.List.{by_ordering}
+use Rattle.itertools.specs.declared.either_or_both.EitherOrBoth.TheVariants.{Both, Left, Right}
+use Rattle.pc_part.specs.Merges.{gathered}
 use Rattle.pc_part.specs.Joins.{clash_at, first_cause, triples_causes}
-use Rattle.pc_part.proofs.Merging.{Rise, Below, both_of, find_below, Merges, merges}
-use Rattle.pc_part.proofs.JoinedLists.{joins, clashes, newer_triple, join_first, join_second, join_both, join_only_first, join_only_second}
+use Rattle.pc_part.proofs.MergeLaws.{Rise, Below, both_of, find_below, Merges, merges, merged_items}
+use Rattle.pc_part.proofs.MergeRuns.{items}
+use Rattle.pc_part.proofs.JoinedLists.{joins, clashes}
 
 module _ (a b : List Triple) (rise_a : KeysRise (entries_of a)) (rise_b : KeysRise (entries_of b)) where
   the_join : Merges later (entries_of a) (entries_of b) (joins a b)
@@ -121,25 +125,34 @@ abbrev CoversTriples : Set number_order → List Triple → Type 0
 CoversTriples points ts = Covers points (entries_of ts)
 
 module _ (points : Set number_order) where
-  newer_covered : (x y : Triple) → IsTrue (set.contains points x.point) → IsTrue (set.contains points y.point) → IsTrue (set.contains points (newer_triple x y).point)
+  newer_covered : (x y : AtPoint) → IsTrue (set.contains points x.point) → IsTrue (set.contains points y.point) → IsTrue (set.contains points (newer (Some x) y).point)
   newer_covered x y cx cy = by (nat_lt x.point y.point)
     where
       by : (t : Bool) → IsTrue (set.contains points (cond t y x).point)
       by true = cy
       by false = cx
 
-  covered_with : (x : Triple) (xs : List Triple) (again : (ys : List Triple) → CoversTriples points xs → CoversTriples points ys → Covers points (joins xs ys)) (ys : List Triple) → CoversTriples points (x ∷ xs) → CoversTriples points ys → Covers points (joins (x ∷ xs) ys)
-  covered_with x xs again [] ca cb = subst (Covers points) (sym (join_only_first (x ∷ xs))) ca
-  covered_with x xs again (y ∷ ys) ca cb = by (key_cmp x.key y.key) refl (covered_with x xs again ys ca cb.1)
+  only_first : (xs : List (List ℕ × AtPoint)) → Covers points xs → Covers points (gathered later (map (λ x. Left x) xs))
+  only_first [] c = c
+  only_first (x ∷ xs) c = (c.0, only_first xs c.1)
+
+  covered_with : (x : List ℕ × AtPoint) (xs : List (List ℕ × AtPoint)) (again : (ys : List (List ℕ × AtPoint)) → Covers points xs → Covers points ys → Covers points (gathered later (items xs ys))) (ys : List (List ℕ × AtPoint))
+      → Covers points (x ∷ xs) → Covers points ys → Covers points (gathered later (items (x ∷ xs) ys))
+  covered_with x xs again [] ca cb = (ca.0, only_first xs ca.1)
+  covered_with x xs again (y ∷ ys) ca cb = by (key_cmp x.0 y.0) (covered_with x xs again ys ca cb.1)
     where
-      by : (o : Ordering) → key_cmp x.key y.key ≡ o → Covers points (joins (x ∷ xs) ys) → Covers points (joins (x ∷ xs) (y ∷ ys))
-      by Less is others = subst (Covers points) (sym (join_first x xs y ys is)) (ca.0, again (y ∷ ys) ca.1 cb)
-      by Equal is others = subst (Covers points) (sym (join_both x xs y ys is)) (newer_covered x y ca.0 cb.0, again ys ca.1 cb.1)
-      by Greater is others = subst (Covers points) (sym (join_second x xs y ys is)) (cb.0, others)
+      by : (o : Ordering) → Covers points (gathered later (items (x ∷ xs) ys)) → Covers points (gathered later (by_ordering o (Left x ∷ items xs (y ∷ ys)) (Both x y ∷ items xs ys) (Right y ∷ items (x ∷ xs) ys)))
+      by Less others = (ca.0, again (y ∷ ys) ca.1 cb)
+      by Equal others = (newer_covered x.1 y.1 ca.0 cb.0, again ys ca.1 cb.1)
+      by Greater others = (cb.0, others)
+
+  items_covered : (xs ys : List (List ℕ × AtPoint)) → Covers points xs → Covers points ys → Covers points (gathered later (items xs ys))
+  items_covered [] [] ca cb = cb
+  items_covered [] (y ∷ ys) ca cb = (cb.0, items_covered [] ys ca cb.1)
+  items_covered (x ∷ xs) ys ca cb = covered_with x xs (λ ys. items_covered xs ys) ys ca cb
 
   joins_covered : (a b : List Triple) → CoversTriples points a → CoversTriples points b → Covers points (joins a b)
-  joins_covered [] b ca cb = subst (Covers points) (sym (join_only_second b)) cb
-  joins_covered (x ∷ xs) b ca cb = covered_with x xs (λ ys. joins_covered xs ys) b ca cb
+  joins_covered a b ca cb = subst (Covers points) (merged_items later (entries_of a) (entries_of b)) (items_covered (entries_of a) (entries_of b) ca cb)
 
   -- the join of covered triples is covered
   pub joined_covered : (a b out : List Triple) → AreCovered points a → AreCovered points b → entries_of out ≡ joins a b → AreCovered points out

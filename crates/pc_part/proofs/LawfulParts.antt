@@ -6,13 +6,13 @@ use Rattle.std.proofs.lemmas.List.Elements.{All-map, All-from_recursion}
 use Rattle.pc_model.specs.Sets as set
 use Rattle.pc_model.specs.Sets.{Set, number_order}
 use Rattle.pc_model.specs.Files.{File}
-use Rattle.pc_model.specs.Laying.{entry_of, entries_of}
-use Rattle.pc_model.specs.declared.laying.Triple.{Triple}
+use Rattle.pc_model.specs.TripleLists.{entry_of, entries_of}
+use Rattle.pc_types.specs.declared.Triple.{Triple}
 use Rattle.pc_part.specs.declared.ranges.Range.{Range}
 use Rattle.pc_part.specs.Bases.{IsWithinLimit}
 use Rattle.pc_part.specs.Lawful.{IsPoint, IsEntry, HasLimits, IsPartFile}
 use Rattle.pc_part.specs.Parts.{points_from, points_in, points_of, RangesFrom, AreRanges, AreCovered}
-use Rattle.pc_part.proofs.RangePoints.{items-points_of}
+use Rattle.pc_part.proofs.RangePointLaws.{items-points_of}
 
 run_points : (p n : ℕ) (rest : List ℕ) → 1 ≤ p → p + n ≤ 65536 → AllByRecursion IsPoint rest → AllByRecursion IsPoint (points_from p n ++ rest)
 run_points p zero rest low high h = h

@@ -1,24 +1,25 @@
-pub mod BaseFiles
-pub mod BaseTexts
-pub mod CompleteParts
-pub mod CoveringRanges
-pub mod Gaps
-pub mod JoinLaws
-pub mod JoinedFiles
-pub mod JoinedLists
-pub mod LaidLists
-pub mod LawfulParts
-pub mod Merging
-pub mod PartFiles
-pub mod PartTexts
-pub mod RangePoints
-pub mod ReadFields
-pub mod ReadLists
-pub mod ReadParts
-pub mod RangeUnions
-pub mod RangesOfPoints
-pub mod Refused
-pub mod RisingKeys
-pub mod RoundTrips
-pub mod Successes
-pub mod TakenTriples
+pub mod BaseFileLaws
+mod BaseTexts
+mod CompleteParts
+mod CoveringRanges
+pub mod GapLaws
+mod JoinLemmas
+mod JoinedFiles
+mod JoinedLists
+mod LaidLists
+mod LawfulParts
+pub mod MergeLaws
+mod MergeRuns
+pub mod PartFileLaws
+mod PartTexts
+pub mod RangePointLaws
+mod ReadFields
+mod ReadLists
+mod ReadParts
+mod RangeUnions
+mod RangesOfPoints
+mod Refused
+mod RisingKeys
+mod RoundTrips
+mod Successes
+mod TakenTriples

@@ -5,9 +5,9 @@ use Rattle.std.proofs.lemmas.List.{length-map}
 use Rattle.std.proofs.lemmas.List.Folds.{flat_map-map}
 use Rattle.pc_model.specs.Sets as set
 use Rattle.pc_model.specs.Files.{File}
-use Rattle.pc_model.specs.Laying.{entry_of, entries_of}
+use Rattle.pc_model.specs.TripleLists.{entry_of, entries_of}
 use Rattle.pc_model.specs.Ranges.{ranges_of}
-use Rattle.pc_model.specs.declared.laying.Triple.{Triple}
+use Rattle.pc_types.specs.declared.Triple.{Triple}
 use Rattle.pc_part.specs.declared.ranges.Range.{Range}
 use Rattle.pc_part.specs.Parts.{RangesFrom, bounds, bounds_of}
 use Rattle.pc_part.specs.Texts.{head_text, range_text, bounds_text, entry_text, triple_text, end_text, part_text}

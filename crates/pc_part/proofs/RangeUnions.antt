@@ -13,10 +13,10 @@ use Rattle.pc_model.specs.Sets.{Set, number_order}
 use Rattle.pc_model.proofs.MapLaws.{get-insert, get-entries}
 use Rattle.pc_model.proofs.SetLaws.{same_set}
 use Rattle.pc_part.specs.declared.ranges.Range.{Range}
-use Rattle.pc_model.specs.declared.laying.Triple.{Triple}
+use Rattle.pc_types.specs.declared.Triple.{Triple}
 use Rattle.pc_part.specs.Parts.{points_of, AreCovered, RangesFrom, AreRanges}
 use Rattle.pc_part.specs.Unions.{BeginFrom, IsFirst}
-use Rattle.pc_part.proofs.RangePoints.{contains-points_of}
+use Rattle.pc_part.proofs.RangePointLaws.{contains-points_of}
 
 -- the range has the point; some range has it
 abbrev pub has_point : Range → ℕ → Bool

@@ -11,10 +11,11 @@ use Rattle.std.proofs.lemmas.List.Concat.{flat_map-cons}
 use Rattle.pc_types.specs.declared.Refusal.TheVariants.{Short, KeyOrder, NotCovered}
 use Rattle.pc_types.specs.Limits.{IsKey, IsValue}
 use Rattle.pc_types.specs.Fields.{◌>>=◌, where_true, number_at, sized_key_at, value_at, content_at, key_text, value_text, content_text}
-use Rattle.pc_types.proofs.FieldLemmas.{IsBytes, bind_ok, where_ok, ok_is, Takes, Takes-then, wide16, wide32, number_takes, number_again, sized_key_takes, sized_key_again, value_takes, value_again, content_takes, content_again}
+use Rattle.pc_types.proofs.FieldLaws.{bind_ok, where_ok, ok_is, Takes-then, wide16, wide32, number_takes, number_again, sized_key_takes, sized_key_again, value_takes, value_again, content_takes, content_again}
+use Rattle.pc_types.specs.FieldForms.{IsBytes, Takes}
 use Rattle.pc_model.specs.Database.{key_cmp}
 use Rattle.pc_model.specs.Points.{AtPoint}
-use Rattle.pc_model.specs.declared.laying.Triple.{Triple}
+use Rattle.pc_types.specs.declared.Triple.{Triple}
 use Rattle.pc_part.specs.declared.ranges.Range.{Range}
 use Rattle.pc_part.specs.Lawful.{HasLimits, IsPair}
 use Rattle.pc_part.specs.Parts.{RangesFrom, covers}

@@ -6,9 +6,9 @@ use Rattle.std.proofs.lemmas.List.{append-nil}
 use Rattle.pc_types.specs.declared.Refusal.{Refusal}
 use Rattle.pc_types.specs.declared.Refusal.TheVariants.{Short, BadRanges}
 use Rattle.pc_types.specs.Fields.{◌>>=◌, where_true, number_at}
-use Rattle.pc_types.proofs.FieldLemmas.{bind_ok, where_ok, ok_is}
+use Rattle.pc_types.proofs.FieldLaws.{bind_ok, where_ok, ok_is}
 use Rattle.pc_model.specs.Points.{AtPoint}
-use Rattle.pc_model.specs.declared.laying.Triple.{Triple}
+use Rattle.pc_types.specs.declared.Triple.{Triple}
 use Rattle.pc_part.specs.declared.ranges.Range.{Range}
 use Rattle.pc_part.specs.Parts.{RangesFrom, covers}
 use Rattle.pc_part.specs.Reading.{range_at, ranges_at, next_key_at, entry_at, entries_at, pair_at, pairs_at}

@@ -8,8 +8,9 @@ use Rattle.std.proofs.lemmas.List.{append-nil, nil_from_length, length-append}
 use Rattle.pc_types.specs.declared.Refusal.{Refusal}
 use Rattle.pc_types.specs.declared.Refusal.TheVariants.{Short, BadRanges, BadLength, Trailing}
 use Rattle.pc_types.specs.Fields.{◌>>=◌, where_true, number_at, magic_at}
-use Rattle.pc_types.proofs.FieldLemmas.{IsBytes, bind_ok, where_ok, Takes, Takes-then, wide32, wide64, number_takes, number_again, magic_takes, magic_again}
-use Rattle.pc_model.specs.declared.laying.Triple.{Triple}
+use Rattle.pc_types.proofs.FieldLaws.{bind_ok, where_ok, Takes-then, wide32, wide64, number_takes, number_again, magic_takes, magic_again}
+use Rattle.pc_types.specs.FieldForms.{IsBytes, Takes}
+use Rattle.pc_types.specs.declared.Triple.{Triple}
 use Rattle.pc_part.specs.declared.ranges.Range.{Range}
 use Rattle.pc_part.specs.Bases.{IsWithinLimit}
 use Rattle.pc_part.specs.Parts.{AreRanges}

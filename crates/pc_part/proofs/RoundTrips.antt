@@ -3,10 +3,10 @@ use Rattle.std.proofs.Common.{ℕ, ◌<◌, List, length, arith, inl, inr}
 use Rattle.std.specs.List.{All}
 use Rattle.std.proofs.lemmas.Bool.{cases_lt}
 use Rattle.std.proofs.lemmas.List.{get_or_past}
-use Rattle.pc_types.proofs.FieldLemmas.{IsBytes}
+use Rattle.pc_types.specs.FieldForms.{IsBytes}
 use Rattle.pc_part.specs.RoundTrips.{ReadPartsAreTexts, ReadBasesAreTexts}
-use Rattle.pc_part.proofs.PartFiles.{part_takes}
-use Rattle.pc_part.proofs.BaseFiles.{base_takes}
+use Rattle.pc_part.proofs.PartFileLaws.{part_takes}
+use Rattle.pc_part.proofs.BaseFileLaws.{base_takes}
 
 all_bytes : (bytes : List ℕ) → All (λ byte. byte < 256) bytes → IsBytes bytes
 all_bytes bytes h i = elim (cases_lt i (length bytes)) [

@@ -2,6 +2,7 @@
 use Rattle.std.specs.Prelude.{◌≡◌, Bool, List, [], ◌∷◌, Option, Some, None, Result, Err, IfErr, if◌then◌else◌, IsFalse, MatchOption, ⊤, nat_lt}
 use Rattle.pc_types.specs.declared.Refusal.{Refusal}
 use Rattle.pc_types.specs.declared.Refusal.TheVariants.{OutOfMemory, Conflict, Full}
+use Rattle.pc_types.specs.declared.limits.TheConstants.{MOST_FILE_ENTRIES}
 use Rattle.pc_model.specs.Maps as map_of
 use Rattle.pc_model.specs.Points.{AtPoint, Triples, joined}
 use Rattle.pc_model.specs.Files.{File, joined_file, conflict, differs}
@@ -22,7 +23,7 @@ clash_at (Some a) b = if differs a b then Some tt else None
 
 -- why two files' triples can't be joined: they conflict, or the join passes the entry limit
 abbrev pub triples_causes : Triples → Triples → List (Bool × Refusal)
-triples_causes m n = (conflict m n, Conflict) ∷ (nat_lt 4294967295 (map_of.len (joined m n)), Full) ∷ []
+triples_causes m n = (conflict m n, Conflict) ∷ (nat_lt MOST_FILE_ENTRIES (map_of.len (joined m n)), Full) ∷ []
 
 -- Two files of one run without conflict are joined to one file, whichever comes first.
 abbrev pub JoinsCommute : Type 0

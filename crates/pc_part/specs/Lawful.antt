@@ -6,12 +6,13 @@ use Rattle.pc_model.specs.Sets as set
 use Rattle.pc_model.specs.Sets.{Set, number_order}
 use Rattle.pc_model.specs.Points.{AtPoint}
 use Rattle.pc_model.specs.Files.{File, BaseFile}
-use Rattle.pc_model.specs.declared.laying.Triple.{Triple}
+use Rattle.pc_types.specs.declared.Triple.{Triple}
+use Rattle.pc_types.specs.declared.limits.TheConstants.{MOST_POINTS}
 use Rattle.pc_part.specs.Bases.{IsWithinLimit}
 
 -- a point of a part is 1 to 65,535
 abbrev pub IsPoint : ℕ → Type 0
-IsPoint point = (1 ≤ point) × (point ≤ 65535)
+IsPoint point = (1 ≤ point) × (point ≤ MOST_POINTS)
 
 -- an entry of one of these points
 pub record IsEntry (points : Set number_order) (entry : List ℕ × AtPoint) : Type 0 where
@@ -38,6 +39,6 @@ IsPair pair = IsKey pair.0 × IsValue pair.1
 -- a base file: its run and its point fit, and it has at most 4,294,967,295 pairs
 pub record IsBaseFile (base : BaseFile) : Type 0 where
   pub run : base.run < 2 ^ 64
-  pub point : base.point ≤ 65535
+  pub point : base.point ≤ MOST_POINTS
   pub pairs : All IsPair base.pairs.entries
   pub limit : IsWithinLimit base.pairs.entries

@@ -1,12 +1,10 @@
 -- Laying a part on a base: when it is refused.
-use Rattle.std.specs.Prelude.{◌≡◌, ◌+◌, ◌<◌, length, ℕ, ◌==◌, not, nat_lt, Bool, true, List, [], ◌∷◌, ◌++◌, Option, Some, None}
+use Rattle.std.specs.Prelude.{ℕ, ◌==◌, not, nat_lt, Bool, true, List, [], ◌∷◌, ◌++◌, Option, Some, None}
 use Rattle.pc_types.specs.declared.Refusal.{Refusal}
 use Rattle.pc_types.specs.declared.Refusal.TheVariants.{OtherRun, Gap, Full}
 use Rattle.pc_model.specs.Maps as map_of
 use Rattle.pc_model.specs.Database.{Database}
-use Rattle.pc_model.specs.declared.laying.Triple.{Triple}
-use Rattle.pc_model.specs.Laying.{entries_of}
-use Rattle.pc_part.specs.Merges.{merged, with_content}
+use Rattle.pc_types.specs.declared.limits.TheConstants.{MOST_FILE_ENTRIES}
 use Rattle.pc_model.specs.Points.{AtPoint, Triples, laid_at, laid}
 use Rattle.pc_model.specs.Files.{File, BaseFile, gap_above}
 
@@ -16,7 +14,7 @@ laid_there point there triple = laid_at there point triple
 
 -- why triples can't be laid on a database at a point: what is made of them passes the entry limit
 abbrev pub limit_causes : Database → ℕ → Triples → List (Bool × Refusal)
-limit_causes db point triples = (nat_lt 4294967295 (map_of.len (laid db point triples)), Full) ∷ []
+limit_causes db point triples = (nat_lt MOST_FILE_ENTRIES (map_of.len (laid db point triples)), Full) ∷ []
 
 -- a gap as a cause
 abbrev pub gap_causes : Option ℕ → List (Bool × Refusal)
@@ -27,8 +25,3 @@ gap_causes (Some point) = (true, Gap point) ∷ []
 abbrev pub lay_causes : BaseFile → File → List (Bool × Refusal)
 lay_causes base file =
     (not (base.run == file.run), OtherRun) ∷ gap_causes (gap_above base.point file.points) ++ limit_causes base.pairs base.point file.triples
-
--- the least key of pairs and triples, with what it has once the triples are laid, and what is then left of both
-pub record IsLaidFirst (point : ℕ) (pairs : List (List ℕ × List ℕ)) (triples : List Triple) (key : List ℕ) (content : Option (List ℕ)) (pairs_left : List (List ℕ × List ℕ)) (triples_left : List Triple) : Type 0 where
-  pub first : merged (laid_there point) pairs (entries_of triples) ≡ with_content key content (merged (laid_there point) pairs_left (entries_of triples_left))
-  pub fewer : length pairs_left + length triples_left < length pairs + length triples

@@ -1,7 +1,10 @@
 -- Two lists of entries that rise by key, gone through together.
-use Rattle.std.specs.Prelude.{ℕ, List, [], ◌∷◌, Option, Some, None}
-use Rattle.std.specs.declared.cmp.Ordering.{Ordering}
-use Rattle.std.specs.declared.cmp.Ordering.TheVariants.{Less, Equal, Greater}
+use denote.Ref.{Bor}
+use Rattle.std.specs.Prelude.{◌≡◌, ⊤, ℕ, List, [], ◌∷◌, Option, Some, None}
+use Rattle.itertools.specs.EitherOrBoth.{map_any}
+use Rattle.itertools.specs.List.{merge_join_by}
+use Rattle.itertools.specs.declared.either_or_both.EitherOrBoth.{EitherOrBoth}
+use Rattle.itertools.specs.declared.either_or_both.EitherOrBoth.TheVariants.{Both, Left, Right}
 use Rattle.pc_model.specs.Database.{key_cmp}
 
 -- the entries with one more in front, where there is something for its key
@@ -10,23 +13,27 @@ with_content key None entries = entries
 with_content key (Some content) entries = (key, content) ∷ entries
 
 module _ {A B C : Type 0} (rule : Option A → Option B → Option C) where
-  -- what the rule makes of entries of the second list alone
-  abbrev pub from_second : List (List ℕ × B) → List (List ℕ × C)
-  from_second [] = []
-  from_second (b ∷ bs) = with_content b.0 (rule None (Some b.1)) (from_second bs)
+  -- the entries with what the rule makes of a key's entry in one list, or in both, in front
+  abbrev pub with_item : EitherOrBoth (List ℕ × A) (List ℕ × B) → List (List ℕ × C) → List (List ℕ × C)
+  with_item (Left a) entries = with_content a.0 (rule (Some a.1) None) entries
+  with_item (Right b) entries = with_content b.0 (rule None (Some b.1)) entries
+  with_item (Both a b) entries = with_content a.0 (rule (Some a.1) (Some b.1)) entries
 
-  -- one step, by how the first keys compare: the lesser key, or both, and then the rest
-  abbrev pub step_by : Ordering → List ℕ × A → List ℕ × B → List (List ℕ × C) → List (List ℕ × C) → List (List ℕ × C) → List (List ℕ × C)
-  step_by Less a b first both second = with_content a.0 (rule (Some a.1) None) first
-  step_by Equal a b first both second = with_content a.0 (rule (Some a.1) (Some b.1)) both
-  step_by Greater a b first both second = with_content b.0 (rule None (Some b.1)) second
-
-  -- the same with an entry and what merges the entries behind it
-  unfoldable pub merged_with : List ℕ × A → (List (List ℕ × B) → List (List ℕ × C)) → List (List ℕ × B) → List (List ℕ × C)
-  merged_with a others [] = with_content a.0 (rule (Some a.1) None) (others [])
-  merged_with a others (b ∷ bs) = step_by (key_cmp a.0 b.0) a b (others (b ∷ bs)) (others bs) (merged_with a others bs)
+  -- what the rule makes of each key's entries
+  abbrev pub gathered : List (EitherOrBoth (List ℕ × A) (List ℕ × B)) → List (List ℕ × C)
+  gathered [] = []
+  gathered (item ∷ items) = with_item item (gathered items)
 
   -- two rising lists as one: at each key what the rule makes of what both have there
   unfoldable pub merged : List (List ℕ × A) → List (List ℕ × B) → List (List ℕ × C)
-  merged [] bs = from_second bs
-  merged (a ∷ rest) bs = merged_with a (merged rest) bs
+  merged a b = gathered (merge_join_by (λ x y. key_cmp x.0 y.0) a b)
+
+-- an item of references as one of the entries that they stand for
+abbrev pub item_of : {A B X Y : Type 0} → (A → X) → (B → Y) → EitherOrBoth (Bor A) (Bor B) → EitherOrBoth X Y
+item_of first second = map_any (λ a. first a.now) (λ b. second b.now)
+
+-- the entries of an item that has one of both lists are of one key
+abbrev pub IsOfOneKey : {A B : Type 0} → EitherOrBoth (List ℕ × A) (List ℕ × B) → Type 0
+IsOfOneKey (Left a) = ⊤
+IsOfOneKey (Right b) = ⊤
+IsOfOneKey (Both a b) = a.0 ≡ b.0

@@ -9,8 +9,9 @@ use Rattle.pc_model.specs.Sets as set
 use Rattle.pc_model.specs.Sets.{Set, number_order}
 use Rattle.pc_model.specs.Points.{AtPoint, Triples}
 use Rattle.pc_model.specs.Files.{File, numbers_to}
-use Rattle.pc_model.specs.Laying.{entries_of}
-use Rattle.pc_model.specs.declared.laying.Triple.{Triple}
+use Rattle.pc_model.specs.TripleLists.{entries_of}
+use Rattle.pc_types.specs.declared.Triple.{Triple}
+use Rattle.pc_types.specs.declared.limits.TheConstants.{MOST_POINTS}
 use Rattle.pc_part.specs.declared.ranges.Range.{Range}
 
 -- so many points, from this one on
@@ -30,7 +31,7 @@ points_of ranges = set.from_list (points_in ranges)
 -- each range begins at this point or above, and leaves out at least one point before the next
 abbrev pub RangesFrom : ℕ → List Range → Type 0
 RangesFrom least [] = Unit {0}
-RangesFrom least (r ∷ ranges) = (least ≤ r.low) × (r.low ≤ r.high) × (r.high ≤ 65535) × RangesFrom (r.high + 2) ranges
+RangesFrom least (r ∷ ranges) = (least ≤ r.low) × (r.low ≤ r.high) × (r.high ≤ MOST_POINTS) × RangesFrom (r.high + 2) ranges
 
 -- the ranges of a part: there is one, and they rise with gaps between them
 abbrev pub AreRanges : List Range → Type 0

@@ -8,7 +8,8 @@ use Rattle.pc_types.specs.Fields.{◌>>=◌, where_true, number_at, magic_at, si
 use Rattle.pc_model.specs.Database.{key_cmp, database_of}
 use Rattle.pc_model.specs.Points.{AtPoint}
 use Rattle.pc_model.specs.Files.{File, BaseFile}
-use Rattle.pc_model.specs.declared.laying.Triple.{Triple}
+use Rattle.pc_types.specs.declared.Triple.{Triple}
+use Rattle.pc_types.specs.declared.limits.TheConstants.{MOST_POINTS}
 use Rattle.pc_part.specs.declared.ranges.Range.{Range}
 use Rattle.pc_part.specs.Parts.{covers, points_of, triples_of}
 use Rattle.pc_part.specs.Texts.{part_magic, base_magic}
@@ -18,7 +19,7 @@ unfoldable pub range_at : ℕ → List ℕ → Result (Range × List ℕ) Refusa
 range_at least bytes = do
   low ← number_at Short w32 bytes
   high ← number_at Short w32 low.1
-  where_true (nat_le least low.0 && nat_le low.0 high.0 && nat_le high.0 65535) BadRanges (record { low = low.0; high = high.0 }, high.1)
+  where_true (nat_le least low.0 && nat_le low.0 high.0 && nat_le high.0 MOST_POINTS) BadRanges (record { low = low.0; high = high.0 }, high.1)
 
 -- so many ranges, each with at least one point left out before the next, and the first from this point on
 unfoldable pub ranges_at : ℕ → ℕ → List ℕ → Result (List Range × List ℕ) Refusal
@@ -113,7 +114,7 @@ base_fields_at bytes = do
   start ← magic_at base_magic bytes
   run ← number_at Short w64 start
   point ← number_at Short w32 run.1
-  lawful ← where_true (nat_le point.0 65535) BadRanges point.0
+  lawful ← where_true (nat_le point.0 MOST_POINTS) BadRanges point.0
   count ← number_at Short w32 point.1
   pairs ← pairs_at count.0 [] count.1
   where_true (length pairs.1 == 0) Trailing (record { run = run.0; point = lawful; pairs = pairs.0 })

@@ -8,8 +8,8 @@ use Rattle.pc_types.specs.Fields.{key_text, value_text, content_text}
 use Rattle.pc_model.specs.Files.{File, BaseFile}
 use Rattle.pc_model.specs.Points.{AtPoint, Triples}
 use Rattle.pc_model.specs.Ranges.{ranges_of}
-use Rattle.pc_model.specs.Laying.{entry_of}
-use Rattle.pc_model.specs.declared.laying.Triple.{Triple}
+use Rattle.pc_model.specs.TripleLists.{entry_of}
+use Rattle.pc_types.specs.declared.Triple.{Triple}
 use Rattle.pc_part.specs.declared.ranges.Range.{Range}
 use Rattle.pc_part.specs.Parts.{bounds}
 

@@ -9,7 +9,9 @@ ghost use Rattle.pc_part.specs.Texts.{base_text};
 
 use crate::base::Base;
 use crate::decoding::read_next_key;
-use pc_types::{Key, Point, Refusal, Value, read_magic, read_u16, read_u32, read_u64, read_value};
+use pc_types::{
+    Key, MOST_POINTS, Point, Refusal, Value, read_magic, read_u16, read_u32, read_u64, read_value,
+};
 use std::alloc::Global;
 
 const MAGIC: [u8; 8] = *b"PCALCB01";
@@ -57,7 +59,7 @@ fn read_fields(alloc: Global, bytes: &[u8]) -> Result<Fields, Refusal>
     let start = read_magic(bytes, &MAGIC)?;
     let (run, rest) = read_u64(start, Refusal::Short)?;
     let (point, rest) = read_u32(rest, Refusal::Short)?;
-    if 65_535 < point {
+    if u32::from(MOST_POINTS) < point {
         return Err(Refusal::BadRanges);
     }
     let (count, rest) = read_u32(rest, Refusal::Short)?;

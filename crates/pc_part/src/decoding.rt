@@ -13,10 +13,9 @@ ghost use Rattle.pc_part.specs.Texts.{part_text};
 
 use crate::part::Part;
 use crate::ranges::Range;
-use pc_model::Triple;
 use pc_types::{
-    Key, Point, Refusal, Value, read_content, read_magic, read_sized_key, read_u16, read_u32,
-    read_u64,
+    Key, MOST_POINTS, Point, Refusal, Triple, Value, read_content, read_magic, read_sized_key,
+    read_u16, read_u32, read_u64,
 };
 use std::alloc::Global;
 
@@ -115,7 +114,7 @@ fn read_range(least: u32, bytes: &[u8]) -> Result<(u16, u16, &[u8]), Refusal>
 {
     let (low, rest) = read_u32(bytes, Refusal::Short)?;
     let (high, rest) = read_u32(rest, Refusal::Short)?;
-    if low < least || high < low || 65_535 < high {
+    if low < least || high < low || u32::from(MOST_POINTS) < high {
         return Err(Refusal::BadRanges);
     }
     Ok((low as u16, high as u16, rest))

@@ -8,8 +8,7 @@ ghost use Rattle.pc_part.specs.Texts.{head_text, bounds_text, triple_text, end_t
 use crate::part::Part;
 use crate::ranges::Range;
 use byteorder::{BigEndian, ByteOrder};
-use pc_model::Triple;
-use pc_types::{Refusal, Tally};
+use pc_types::{Refusal, Tally, Triple};
 use std::io::Write;
 
 const MAGIC: [u8; 8] = *b"PCALCP01";

@@ -1,7 +1,7 @@
 //! The join of two files: of each key the triple of the greatest point.
-ghost use Rattle.std.specs.Prelude.{◌≡◌, ◌+◌, ◌≤◌, ◌++◌, [], ◌∷◌, length, nat_lt, IfOk, OnOk, if◌then◌else◌};
-ghost use Rattle.pc_model.specs.Files.{differs, joined_file, same_content};
-ghost use Rattle.pc_model.specs.Laying.{entry_of, entries_of};
+ghost use Rattle.std.specs.Prelude.{◌≡◌, ◌+◌, ◌≤◌, ◌++◌, [], ◌∷◌, length, not, IfOk, OnOk, if◌then◌else◌};
+ghost use Rattle.pc_model.specs.Files.{joined_file, same_content};
+ghost use Rattle.pc_model.specs.TripleLists.{entry_of, entries_of};
 ghost use Rattle.pc_model.specs.Database.{KeysRise};
 ghost use Rattle.pc_model.specs.Points.{later, joined};
 ghost use Rattle.pc_model.specs.Sets.{Set, number_order};
@@ -9,17 +9,13 @@ ghost use Rattle.pc_part.specs.Bases.{IsWithinLimit};
 ghost use Rattle.pc_part.specs.Parts.{AreCovered, triples_of};
 ghost use Rattle.pc_model.specs.Replies.{is_empty, join_causes};
 ghost use Rattle.pc_part.specs.Joins.{clash_at, first_cause, triples_causes, IsRefusedBy};
-ghost use Rattle.pc_part.specs.Merges.{merged};
+ghost use Rattle.pc_part.specs.Merges.{item_of, merged, with_item, IsOfOneKey};
 
 use crate::part::Part;
 use crate::uniting::union_ranges;
-use pc_model::Triple;
-use pc_types::{Refusal, Value};
+use itertools::{EitherOrBoth, Itertools};
+use pc_types::{MOST_FILE_ENTRIES, Refusal, Triple, Value};
 use std::alloc::{AllocError, Global};
-use std::cmp::Ordering;
-
-// A file has at most so many entries.
-pub(crate) const ENTRY_LIMIT: usize = 4_294_967_295;
 
 /// The join of two parts of one run: it stands for the points of both, and has of each key the entry of the greatest
 /// point, whether a value or a tombstone. Both parts stay as they are. Of several refusals the first counts:
@@ -51,7 +47,7 @@ fn merge_entries(alloc: Global, a: &[Triple], b: &[Triple]) -> Result<Vec<Triple
     ensures refused { IsRefusedBy (first_cause (triples_causes (triples_of a.now) (triples_of b.now))) result }
 {
     let len = joined_len(a, b)?;
-    if len > ENTRY_LIMIT {
+    if len > MOST_FILE_ENTRIES {
         return Err(Refusal::Full);
     }
     let out = merge(alloc, a, b)?;
@@ -67,16 +63,6 @@ fn push_copy(alloc: Global, out: &mut Vec<Triple>, triple: &Triple) -> Result<()
     Ok(())
 }
 
-// Adds copies of the triples.
-fn push_copies(alloc: Global, out: &mut Vec<Triple>, triples: &[Triple]) -> Result<(), AllocError>
-    ensures { OnOk result (out.new.items ≡ out.old.items ++ triples.now) }
-{
-    for triple in triples {
-        push_copy(alloc, out, triple)?;
-    }
-    Ok(())
-}
-
 // Whether the contents are the same.
 fn is_same(a: &Option<Value>, b: &Option<Value>) -> bool
     ensures { result ≡ same_content a.now b.now }
@@ -88,42 +74,43 @@ fn is_same(a: &Option<Value>, b: &Option<Value>) -> bool
     }
 }
 
-// Whether two triples of one key have the same point and different contents.
-fn clash(a: &Triple, b: &Triple) -> bool
-    ensures { result ≡ differs (entry_of a.now).1 (Some (entry_of b.now).1) }
+// Of the triples of a key that of the greater point.
+fn newest<'a>(item: EitherOrBoth<&'a Triple, &'a Triple>) -> &'a Triple
+    requires { IsOfOneKey (item_of entry_of entry_of item) }
+    ensures { with_item later (item_of entry_of entry_of item.entry) [] ≡ entry_of result.now ∷ [] }
 {
-    a.point == b.point && !is_same(&a.content, &b.content)
+    match item {
+        EitherOrBoth::Left(a) => a,
+        EitherOrBoth::Right(b) => b,
+        EitherOrBoth::Both(a, b) => { if a.point.0 < b.point.0 { b } else { a } }
+    }
 }
 
-// Of two triples of one key that of the greater point.
-fn newer<'a>(a: &'a Triple, b: &'a Triple) -> &'a Triple
-    ensures { result.now ≡ (if nat_lt a.now.point b.now.point then b.now else a.now) }
+// Whether a key has two triples of the same point with different contents.
+fn clash<'a>(item: EitherOrBoth<&'a Triple, &'a Triple>) -> bool
+    ensures { result ≡ not (is_empty (with_item clash_at (item_of entry_of entry_of item.entry) [])) }
 {
-    if a.point.0 < b.point.0 { b } else { a }
+    match item {
+        EitherOrBoth::Both(a, b) => a.point == b.point && !is_same(&a.content, &b.content),
+        EitherOrBoth::Left(_) | EitherOrBoth::Right(_) => false,
+    }
 }
 
 // How many keys both have together; `Conflict` where two triples of one key clash.
 fn joined_len(a: &[Triple], b: &[Triple]) -> Result<usize, Refusal>
     ensures { result ≡ (if is_empty (merged clash_at (entries_of a.now) (entries_of b.now)) then Ok (length (merged later (entries_of a.now) (entries_of b.now))) else Err Refusal.Conflict) }
 {
-    let mut left = a;
-    let mut right = b;
     let mut len = 0usize;
-    while let (Some((x, xs)), Some((y, ys))) = (left.split_first(), right.split_first()) {
-        match x.key.compare(&y.key) {
-            Ordering::Less => left = xs,
-            Ordering::Greater => right = ys,
-            Ordering::Equal => {
-                if clash(x, y) {
-                    return Err(Refusal::Conflict);
-                }
-                left = xs;
-                right = ys;
-            }
+    for item in a
+        .iter()
+        .merge_join_by(b.iter(), |x, y| x.key.compare(&y.key))
+    {
+        if clash(item) {
+            return Err(Refusal::Conflict);
         }
         len += 1;
     }
-    Ok(len + left.len() + right.len())
+    Ok(len)
 }
 
 // The triples of both, of each key the newer one; they rise by key, as those of both do.
@@ -131,26 +118,11 @@ fn merge(alloc: Global, a: &[Triple], b: &[Triple]) -> Result<Vec<Triple>, Alloc
     ensures { IfOk result (λ out. entries_of out.items ≡ merged later (entries_of a.now) (entries_of b.now)) }
 {
     let mut out = Vec::new(alloc);
-    let mut left = a;
-    let mut right = b;
-    while let (Some((x, xs)), Some((y, ys))) = (left.split_first(), right.split_first()) {
-        match x.key.compare(&y.key) {
-            Ordering::Less => {
-                push_copy(alloc, &mut out, x)?;
-                left = xs;
-            }
-            Ordering::Greater => {
-                push_copy(alloc, &mut out, y)?;
-                right = ys;
-            }
-            Ordering::Equal => {
-                push_copy(alloc, &mut out, newer(x, y))?;
-                left = xs;
-                right = ys;
-            }
-        }
+    for item in a
+        .iter()
+        .merge_join_by(b.iter(), |x, y| x.key.compare(&y.key))
+    {
+        push_copy(alloc, &mut out, newest(item))?;
     }
-    push_copies(alloc, &mut out, left)?;
-    push_copies(alloc, &mut out, right)?;
     Ok(out)
 }

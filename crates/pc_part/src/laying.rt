@@ -1,23 +1,21 @@
 //! Laying a part on a base.
-ghost use Rattle.std.specs.Prelude.{◌≡◌, ◌+◌, ◌≤◌, ◌++◌, [], ◌∷◌, length, max, option_copied, IfOk, OnOk, MatchOption, Some};
+ghost use Rattle.std.specs.Prelude.{◌≡◌, ◌+◌, ◌≤◌, ◌++◌, [], ◌∷◌, length, max, option_copied, IfOk, OnOk, Some};
 ghost use Rattle.pc_model.specs.Database.{KeysRise, database_of};
 ghost use Rattle.pc_model.specs.Files.{gap_above, greatest, laid_file};
-ghost use Rattle.pc_model.specs.Laying.{entry_of, entries_of};
+ghost use Rattle.pc_model.specs.TripleLists.{entry_of, entries_of};
 ghost use Rattle.pc_model.specs.Points.{laid, laid_at};
 ghost use Rattle.pc_part.specs.Bases.{IsWithinLimit};
 ghost use Rattle.pc_part.specs.Joins.{first_cause, IsRefusedBy};
-ghost use Rattle.pc_part.specs.Layings.{IsLaidFirst, laid_there, lay_causes, limit_causes};
-ghost use Rattle.pc_part.specs.Merges.{merged, with_content};
+ghost use Rattle.pc_part.specs.Layings.{laid_there, lay_causes, limit_causes};
+ghost use Rattle.pc_part.specs.Merges.{item_of, merged, with_content, with_item};
 ghost use Rattle.pc_part.specs.Parts.{AreRanges, points_of, triples_of};
 
 use crate::base::Base;
-use crate::joining::ENTRY_LIMIT;
 use crate::part::Part;
 use crate::ranges::Range;
-use pc_model::Triple;
-use pc_types::{Key, Point, Refusal, Value};
+use itertools::{EitherOrBoth, Itertools};
+use pc_types::{Key, MOST_FILE_ENTRIES, Point, Refusal, Triple, Value};
 use std::alloc::{AllocError, Global};
-use std::cmp::Ordering;
 
 /// The base with a part of its run laid on it: each key whose entry has a point above the base's is set to the entry's
 /// value or, at a tombstone, removed; the others stay. It then stands at the part's greatest point, or stays at its own
@@ -64,7 +62,7 @@ fn lay_entries<'a>(
     ensures laid { IfOk result (λ out. database_of out.items ≡ laid (database_of pairs.now) point (triples_of triples.now)) }
     ensures refused { IsRefusedBy (first_cause (limit_causes (database_of pairs.now) point (triples_of triples.now))) result }
 {
-    if laid_len(point, pairs, triples) > ENTRY_LIMIT {
+    if laid_len(point, pairs, triples) > MOST_FILE_ENTRIES {
         return Err(Refusal::Full);
     }
     let out = lay_in_order(alloc, point, pairs, triples)?;
@@ -72,15 +70,15 @@ fn lay_entries<'a>(
 }
 
 // How many pairs are left once the triples are laid on the pairs.
-fn laid_len<'a>(point: Point, pairs: &'a [(Key, Value)], triples: &'a [Triple]) -> usize
+fn laid_len(point: Point, pairs: &[(Key, Value)], triples: &[Triple]) -> usize
     ensures { result ≡ length (merged (laid_there point) pairs.now (entries_of triples.now)) }
 {
-    let mut left = pairs;
-    let mut right = triples;
     let mut len = 0usize;
-    while let Some((_key, content, later, rest)) = first_of(point, left, right) {
-        left = later;
-        right = rest;
+    for item in pairs
+        .iter()
+        .merge_join_by(triples.iter(), |pair, triple| pair.0.compare(&triple.key))
+    {
+        let (_key, content) = laid_item(point, item);
         if content.is_some() {
             len += 1;
         }
@@ -89,20 +87,20 @@ fn laid_len<'a>(point: Point, pairs: &'a [(Key, Value)], triples: &'a [Triple]) 
 }
 
 // The pairs that are left once the triples are laid on the pairs.
-fn lay_in_order<'a>(
+fn lay_in_order(
     alloc: Global,
     point: Point,
-    pairs: &'a [(Key, Value)],
-    triples: &'a [Triple],
+    pairs: &[(Key, Value)],
+    triples: &[Triple],
 ) -> Result<Vec<(Key, Value)>, AllocError>
     ensures { IfOk result (λ out. out.items ≡ merged (laid_there point) pairs.now (entries_of triples.now)) }
 {
     let mut out = Vec::new(alloc);
-    let mut left = pairs;
-    let mut right = triples;
-    while let Some((key, content, later, rest)) = first_of(point, left, right) {
-        left = later;
-        right = rest;
+    for item in pairs
+        .iter()
+        .merge_join_by(triples.iter(), |pair, triple| pair.0.compare(&triple.key))
+    {
+        let (key, content) = laid_item(point, item);
         push_copy(alloc, &mut out, key, content)?;
     }
     Ok(out)
@@ -123,34 +121,17 @@ fn push_copy(
     Ok(())
 }
 
-// The least key that has a pair or a triple, what it has once the triple is laid, and what is then left of both.
-fn first_of<'a>(
+// The key of a pair, a triple or both, and what it has once the triple is laid.
+fn laid_item<'a>(
     point: Point,
-    pairs: &'a [(Key, Value)],
-    triples: &'a [Triple],
-) -> Option<(&'a Key, Option<&'a Value>, &'a [(Key, Value)], &'a [Triple])>
-    ensures { MatchOption result
-        (merged (laid_there point) pairs.now (entries_of triples.now) ≡ [])
-        (λ t. IsLaidFirst point pairs.now triples.now t.0.now (option_copied t.1) t.2.now t.3.now) }
+    item: EitherOrBoth<&'a (Key, Value), &'a Triple>,
+) -> (&'a Key, Option<&'a Value>)
+    ensures { with_item (laid_there point) (item_of (λ pair. pair) entry_of item.entry) [] ≡ with_content result.0.now (option_copied result.1) [] }
 {
-    match (pairs.split_first(), triples.split_first()) {
-        (Some((pair, later)), Some((triple, rest))) => match pair.0.compare(&triple.key) {
-            Ordering::Less => Some((&pair.0, Some(&pair.1), later, triples)),
-            Ordering::Equal => {
-                let content = content_of(point, Some(&pair.1), triple);
-                Some((&pair.0, content, later, rest))
-            }
-            Ordering::Greater => {
-                let content = content_of(point, None, triple);
-                Some((&triple.key, content, pairs, rest))
-            }
-        },
-        (Some((pair, later)), None) => Some((&pair.0, Some(&pair.1), later, triples)),
-        (None, Some((triple, rest))) => {
-            let content = content_of(point, None, triple);
-            Some((&triple.key, content, pairs, rest))
-        }
-        (None, None) => None,
+    match item {
+        EitherOrBoth::Left(pair) => (&pair.0, Some(&pair.1)),
+        EitherOrBoth::Right(triple) => (&triple.key, content_of(point, None, triple)),
+        EitherOrBoth::Both(pair, triple) => { (&pair.0, content_of(point, Some(&pair.1), triple)) }
     }
 }
 

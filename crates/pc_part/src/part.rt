@@ -2,15 +2,14 @@
 ghost use Rattle.std.specs.Prelude.{◌≡◌, ◌≤◌, ℕ, map, IfOk, IfErr, MatchOption};
 ghost use Rattle.pc_model.specs.Database.{KeysRise};
 ghost use Rattle.pc_model.specs.Files.{triples_taken};
-ghost use Rattle.pc_model.specs.Laying.{entries_of};
+ghost use Rattle.pc_model.specs.TripleLists.{entries_of};
 ghost use Rattle.pc_model.specs.Ranges.{ranges_of};
 ghost use Rattle.pc_model.specs.Sets as set;
 ghost use Rattle.pc_part.specs.Bases.{IsWithinLimit};
 ghost use Rattle.pc_part.specs.Parts.{AreCovered, AreRanges, CoversTo, bounds_of, points_of, triple_at, triples_of};
 
 use crate::ranges::{Range, last_covered, points_in};
-use pc_model::Triple;
-use pc_types::{Items, Key, Point, Refusal, Value};
+use pc_types::{Items, Key, Point, Refusal, Triple, Value};
 use std::alloc::{AllocError, Global};
 use std::marker::Model;
 
@@ -27,7 +26,7 @@ pub struct Part {
 impl Model for Part {
     ghost use Rattle.pc_model.specs.Database.{KeysRise};
     ghost use Rattle.pc_model.specs.Files.{File};
-    ghost use Rattle.pc_model.specs.Laying.{entries_of};
+    ghost use Rattle.pc_model.specs.TripleLists.{entries_of};
     ghost use Rattle.pc_part.specs.Bases.{IsWithinLimit};
     ghost use Rattle.pc_part.specs.Parts.{AreCovered, AreRanges, file_code, points_of, triples_of};
 
@@ -42,7 +41,7 @@ impl Model for Part {
 
 impl Part {
     /// The part of one point: each key that was taken for it, with what the key had there, a value or nothing. The
-    /// keys rise strictly, and there are at most 4,294,967,295. Refuses with `OutOfMemory` alone.
+    /// keys rise strictly, and are no more than a file may have, 4,294,967,295. Refuses with `OutOfMemory` alone.
     pub fn of_point(
         alloc: Global,
         run: u64,

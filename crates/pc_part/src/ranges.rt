@@ -2,7 +2,7 @@
 ghost use Rattle.std.specs.Prelude.{◌≡◌, ◌+◌, ◌-◌, ◌≤◌, ◌++◌, IfOk, OnOk};
 ghost use Rattle.pc_part.specs.Parts.{bounds_of, last_covered, points_from, points_in};
 
-use pc_types::Point;
+use pc_types::{MOST_POINTS, Point};
 use std::alloc::{AllocError, Global};
 
 /// The points from one to another, both among them.
@@ -36,14 +36,14 @@ pub(crate) fn last_covered(ranges: &[Range]) -> Option<Point>
 // The number of a point.
 fn number(point: Point) -> u32
     ensures number { result ≡ point }
-    ensures limit { result ≤ 65535 }
+    ensures limit { result ≤ MOST_POINTS }
 {
     u32::from(point.0)
 }
 
 // Adds the points from one to another.
 fn push_points(points: &mut Vec<Point>, low: u32, high: u32) -> Result<(), AllocError>
-    requires { (low ≤ 65535) × (high ≤ 65535) }
+    requires { (low ≤ MOST_POINTS) × (high ≤ MOST_POINTS) }
     ensures { OnOk result (points.new.items ≡ points.old.items ++ points_from low (high + 1 - low)) }
 {
     let count = if low <= high { high + 1 - low } else { 0 };

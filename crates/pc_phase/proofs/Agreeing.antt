@@ -1,33 +1,21 @@
 -- The table of changes agrees with the rules of replies.
-use Rattle.std.proofs.Common.{◌≡◌, ℕ, ◌==◌, Bool, true, false, List, [], ◌∷◌, length, Option, Some, None, refl, sym, ap, subst, ◌∙◌, ◌+◌}
+use Rattle.std.proofs.Common.{◌≡◌, ◌==◌, Bool, true, false, List, [], ◌∷◌, length, Some, refl, sym, ap, subst, ◌∙◌, ◌+◌}
 use Rattle.std.specs.Prelude.{option_map, if◌then◌else◌, not}
 use Rattle.pc_types.specs.declared.Phase.TheVariants as phase
 use Rattle.pc_types.specs.declared.Class.TheVariants.{Before, During, After}
 use Rattle.pc_types.specs.declared.Reply.{Reply}
-use Rattle.pc_types.specs.declared.Reply.TheVariants as told
 use Rattle.pc_types.specs.declared.Refusal.{Refusal}
 use Rattle.pc_types.specs.declared.Refusal.TheVariants as why
-use Rattle.pc_model.specs.Replies.{first_refusal, or_else, not_yet, closed_set, active_in, is_in, log_is_full}
+use Rattle.pc_model.specs.Replies.{first_refusal, or_else, closed_set, active_in, is_in, log_is_full}
 use Rattle.pc_model.specs.History.{point_of}
 use Rattle.pc_phase.specs.declared.change.Change.TheVariants as change
-use Rattle.pc_phase.specs.declared.change.Held.TheVariants.{WrongPhase, PointsFull, NotYet}
+use Rattle.pc_phase.specs.declared.change.Held.TheVariants.{WrongPhase, PointsFull}
 use Rattle.pc_phase.specs.Phases.{Phases, active_of, advanced, some_left}
 use Rattle.pc_phase.specs.declared.change.Change.{Change}
 use Rattle.pc_types.specs.declared.Class.{Class}
 use Rattle.pc_types.specs.declared.Event.TheVariants as asked
 use Rattle.pc_phase.specs.Agreement.{reply_of, later_causes, AreOf, HeldBackIsCertain, ChangesStayOf}
-
--- none or some stand in the way
-some_agree : (none : Bool) (count : ℕ) (later : Option Reply) →
-    or_else (if none then None else Some (told.NotYet count)) later ≡ or_else (option_map reply_of (if none then None else Some (NotYet count))) later
-some_agree true count later = refl
-some_agree false count later = refl
-
--- so many stand in the way
-count_agrees : (is : Bool) (count : ℕ) (later : Option Reply) →
-    or_else (first_refusal ((not is, why.WrongPhase) ∷ [])) (or_else (not_yet count) later) ≡ or_else (option_map reply_of (if is then some_left count else Some WrongPhase)) later
-count_agrees false count later = refl
-count_agrees true count later = some_agree (count == 0) count later
+use Rattle.pc_phase.proofs.PhaseLaws.{count_agrees}
 
 -- no point is left
 point_agrees : (is full : Bool) (later : List (Bool × Refusal)) →

@@ -11,9 +11,11 @@ use Rattle.pc_model.specs.History.{History, Effect, effect, is_open, open_by, cl
 use Rattle.pc_model.specs.History.Effect.{Begins, Reads, Writes, Waits, Dies, Commits, Aborts, Moves, Takes, Shelves, Joins, Nothing}
 use Rattle.pc_types.specs.declared.Phase.{Phase}
 use Rattle.pc_types.specs.declared.Phase.TheVariants as phase
-use Rattle.pc_model.specs.Replies.{Setting, same_class, active_in, no_session}
-use Rattle.pc_phase.specs.Phases.{Phases, active_of, with_active, entered, left}
+use Rattle.pc_model.specs.Replies.{Setting, active_in, no_session}
+use Rattle.pc_types.specs.Phases.{same_class}
+use Rattle.pc_phase.specs.Phases.{Phases, active_of, entered, left}
 use Rattle.pc_phase.specs.Agreement.{AreOf, BeginsStayOf, EndsStayOf, StartsOf, OthersStayOf, is_other}
+use Rattle.pc_phase.proofs.PhaseLaws.{phase_stays, point_stays}
 
 -- how many of the sessions pass the test
 abbrev count : (ℕ → Bool) → ℕ → ℕ
@@ -80,16 +82,6 @@ left_counts phases During After = omega arith
 left_counts phases After Before = omega arith
 left_counts phases After During = omega arith
 left_counts phases After After = refl
-
-phase_stays : (phases : Phases) (class : Class) (n : ℕ) → (with_active phases class n).phase ≡ phases.phase
-phase_stays phases Before n = refl
-phase_stays phases During n = refl
-phase_stays phases After n = refl
-
-point_stays : (phases : Phases) (class : Class) (n : ℕ) → (with_active phases class n).point ≡ phases.point
-point_stays phases Before n = refl
-point_stays phases During n = refl
-point_stays phases After n = refl
 
 -- a session has a number from 1 up to theirs
 in_range : (st : Setting) (s : ℕ) → no_session st s ≡ false → (1 ≤ s) × (s ≤ st.sessions)

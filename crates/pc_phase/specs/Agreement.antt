@@ -11,6 +11,7 @@ use Rattle.pc_types.specs.declared.Refusal.TheVariants as why
 use Rattle.pc_model.specs.History.{History, Effect, effect, phase_of, point_of, is_open, class_of, class_in}
 use Rattle.pc_model.specs.History.Effect.{Begins, Commits, Aborts, Moves, Shelves}
 use Rattle.pc_types.specs.declared.Phase.TheVariants as phase
+use Rattle.pc_types.specs.declared.limits.TheConstants.{MOST_FILES}
 use Rattle.pc_model.specs.Files.{shelf}
 use Rattle.pc_model.specs.Replies.{Setting, active_in, closed_set, log_is_full, first_refusal, or_else, certain, Answers, no_session}
 use Rattle.pc_phase.specs.declared.change.Change.{Change}
@@ -41,7 +42,7 @@ pub record AreOf (st : Setting) (history : History) (phases : Phases) : Type 0 w
 
 -- the causes that are asked for where nothing holds the change back: at Done the shelf's, and then the log's
 abbrev pub later_causes : Setting → Change → History → List (Bool × Refusal)
-later_causes st change.Done history = (length (shelf st.run history) == 65536, why.ShelfFull) ∷ (log_is_full history, why.LogFull) ∷ []
+later_causes st change.Done history = (length (shelf st.run history) == MOST_FILES, why.ShelfFull) ∷ (log_is_full history, why.LogFull) ∷ []
 later_causes st other history = (log_is_full history, why.LogFull) ∷ []
 
 -- where the counts are those of the history, the reply that is certain is what holds the change back, or else a later cause

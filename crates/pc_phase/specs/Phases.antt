@@ -4,7 +4,8 @@ use Rattle.pc_types.specs.declared.Phase.{Phase}
 use Rattle.pc_types.specs.declared.Phase.TheVariants as phase
 use Rattle.pc_types.specs.declared.Class.{Class}
 use Rattle.pc_types.specs.declared.Class.TheVariants.{Before, During, After}
-use Rattle.pc_model.specs.Replies.{same_phase}
+use Rattle.pc_types.specs.Phases.{same_phase}
+use Rattle.pc_types.specs.declared.limits.TheConstants.{MOST_POINTS}
 use Rattle.pc_phase.specs.declared.change.Change.{Change}
 use Rattle.pc_phase.specs.declared.change.Change.TheVariants as change
 use Rattle.pc_phase.specs.declared.change.Held.{Held}
@@ -64,7 +65,7 @@ count_of change.Rest phases left = phases.after
 
 -- the change begins a point, and there is none behind this one
 abbrev pub lacks_point : Change → ℕ → Bool
-lacks_point change.StartPoint point = point == 65535
+lacks_point change.StartPoint point = point == MOST_POINTS
 lacks_point other point = false
 
 -- the point after the change: the next one where it begins a point
@@ -108,4 +109,4 @@ first_point other = 1
 pub record IsSound (phases : Phases) : Type 0 where
   pub fits : Fits phases
   pub begun : first_point phases.phase ≤ phases.point
-  pub limit : phases.point ≤ 65535
+  pub limit : phases.point ≤ MOST_POINTS

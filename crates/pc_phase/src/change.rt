@@ -2,10 +2,7 @@
 ghost use Rattle.std.specs.Prelude.{◌≡◌, ◌≤◌, ◌<◌};
 ghost use Rattle.pc_phase.specs.Phases.{from_of, to_of, lacks_point, point_after};
 
-use pc_types::{Phase, Point};
-
-// The last point that may be taken.
-const MOST_POINTS: u16 = 65_535;
+use pc_types::{MOST_POINTS, Phase, Point};
 
 /// A change of the phase.
 #[derive(Clone, Copy, Debug, PartialEq, Eq)]
@@ -72,7 +69,7 @@ impl Change {
 
     // The point after it: the next one where it begins a point.
     pub(crate) fn point_after(self, point: Point) -> Point
-        requires { point_after self point ≤ 65535 }
+        requires { point_after self point ≤ MOST_POINTS }
         ensures { result ≡ point_after self point }
     {
         match self {

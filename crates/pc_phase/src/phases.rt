@@ -1,16 +1,16 @@
 //! The phase and the point, with how many transactions of each class are active.
-ghost use Rattle.std.specs.Prelude.{◌≡◌, ◌<◌, ◌≤◌, ◌↔◌, ◌+◌, Some, None, IsOk, OnOk, IfErr, OnErr};
+ghost use Rattle.std.specs.Prelude.{◌≡◌, ◌<◌, ◌↔◌, ◌+◌, Some, None, IsOk, OnOk, IfErr, OnErr};
 ghost use Rattle.pc_types.specs.declared.Phase.TheVariants.{Rest};
 ghost use Rattle.pc_model.specs.History.{class_in};
-ghost use Rattle.pc_model.specs.Replies.{same_phase};
-ghost use Rattle.pc_phase.specs.Phases.{active_of, entered, left, count_of, held_back, advanced, first_point, some_left, Fits};
+ghost use Rattle.pc_types.specs.Phases.{same_phase};
+ghost use Rattle.pc_phase.specs.Phases.{active_of, entered, left, count_of, held_back, advanced, some_left, IsSound};
 
 use crate::change::{Change, Held};
 use pc_types::{Class, Phase, Point};
 use std::marker::Model;
 
 /// The phase of a checkpoint's cycle, the last point that was begun, and how many transactions of each class are active.
-/// A transaction's class is fixed by the phase in which it begins. In each phase only certain classes may be active: in
+/// The phase in which a transaction begins gives it its class. In each phase only certain classes may be active: in
 /// rest Before, in prepare Before and During, in resolve During and After, in capture After, and in complete Before and
 /// After. A point is a number from 1 to 65,535; in rest there may be none yet, which is 0.
 #[derive(Drop)]
@@ -79,6 +79,7 @@ impl Phases {
         requires { active_of self.old (class_in self.old.phase) < 4294967295 }
         ensures class { result ≡ class_in self.old.phase }
         ensures entered { self.new ≡ entered self.old (class_in self.old.phase) }
+        ensures sound { IsSound self.new }
     {
         let class = class_in(self.phase);
         match class {
@@ -92,7 +93,8 @@ impl Phases {
     /// A transaction of the class, of which one is active, ends.
     pub fn leave(&mut self, class: Class)
         requires { 0 < active_of self.old class }
-        ensures { self.new ≡ left self.old class }
+        ensures left { self.new ≡ left self.old class }
+        ensures sound { IsSound self.new }
     {
         match class {
             Class::Before => self.before -= 1,
@@ -120,7 +122,7 @@ impl Phases {
     pub fn held_back(&self, change: Change, left: u32) -> Option<Held>
         ensures { result ≡ held_back self.now change left }
     {
-        if !is_same(self.phase, change.from_phase()) {
+        if !self.phase.is(change.from_phase()) {
             return Some(Held::WrongPhase);
         }
         if change.lacks_point(self.point) {
@@ -136,6 +138,7 @@ impl Phases {
         ensures ok { OnOk result (self.new ≡ advanced self.old change) }
         ensures held { IfErr result (λ held. held_back self.old change left ≡ Some held) }
         ensures err { OnErr result (self.new ≡ self.old) }
+        ensures sound { IsSound self.new }
     {
         if let Some(held) = self.held_back(change, left) {
             return Err(held);
@@ -144,23 +147,6 @@ impl Phases {
         self.phase = change.to_phase();
         Ok(())
     }
-
-    /// What holds at all times; the call does nothing. Only the classes that fit the phase are active, there is a point
-    /// outside rest, and no point is past 65,535.
-    pub fn fits(&self)
-        ensures fits { Fits self.now }
-        ensures point { first_point self.now.phase ≤ self.now.point }
-        ensures limit { self.now.point ≤ 65535 }
-    {
-        let _ = &self.phase;
-    }
-}
-
-// Whether the phases are the same.
-fn is_same(a: Phase, b: Phase) -> bool
-    ensures { result ≡ same_phase a b }
-{
-    a == b
 }
 
 // The class of a transaction that begins in the phase.

@@ -117,7 +117,6 @@ fn cycled(phases: &mut Phases) -> Result<[u16; 5], Held> {
 #[test]
 fn cycles_up_to_the_last_point(rt: HostRuntime) -> Result<(), Fail> {
     let mut phases = Phases::new();
-    phases.fits();
     assert_eq!(rt; phases.point(), Point(0));
     for point in 1..=65_535u16 {
         assert_eq!(rt; cycled(&mut phases), Ok([point; 5]));

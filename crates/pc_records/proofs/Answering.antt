@@ -3,15 +3,20 @@ use Rattle.std.proofs.Common.{◌≡◌, ℕ, ◌+◌, ◌<◌, ◌≤◌, List,
 use Rattle.std.specs.Prelude.{insert}
 use Rattle.std.specs.List.{list_any}
 use Rattle.std.specs.FinMap.{find}
+use Rattle.pc_types.specs.declared.Mode.{Mode}
+use Rattle.pc_types.specs.declared.Mode.TheVariants.{Exclusive}
 use Rattle.pc_types.specs.declared.Class.{Class}
 use Rattle.pc_types.specs.declared.Class.TheVariants.{Before}
 use Rattle.pc_model.specs.Database.{key_cmp, same_bytes}
-use Rattle.pc_model.specs.Locks.{Queue, Outcome, IsLegalQueue, is_ungranted, request_in, outcome, queue_after}
-use Rattle.pc_model.specs.Locks.Outcome.{Granted}
+use Rattle.pc_types.specs.declared.Outcome.{Outcome}
+use Rattle.pc_model.specs.Locks.{Queue, is_ungranted, request_in, outcome, queue_after}
+use Rattle.pc_model.specs.Queues.{IsLegalQueue}
+use Rattle.pc_types.specs.declared.Outcome.TheVariants.{Granted}
 use Rattle.pc_locks.specs.States.{queue_at}
 use Rattle.pc_records.specs.declared.slots.Slot.{Slot}
 use Rattle.pc_records.specs.declared.versions.Writer.{Writer}
-use Rattle.pc_records.specs.Rows.{record_of, is_closed, requests_on, rows_after}
+use Rattle.pc_records.specs.Rows.{record_of, is_in_closed_set, requests_on}
+use Rattle.pc_records.specs.RowSteps.{rows_after}
 use Rattle.pc_records.specs.Tables.{Pending, pending_after}
 use Rattle.pc_records.specs.Slots.{rows_of, pending_in, write_of, pending_of, table_of, has_exclusive, is_locked, AreSound, AreKept, IsSlotOf, IsFirstIn, put_slot, granted_slot, new_slot}
 use Rattle.pc_records.proofs.SlotPlaces.{slot_found}
@@ -29,8 +34,8 @@ use Rattle.pc_records.proofs.Writing.{kept_put, rows_put, sound_put, pending_put
 
 -- a key that has a slot
 module _ (point t : ℕ) (class : Class) (value : Option (List ℕ)) (slots new : List Slot) (key : List ℕ) (i : ℕ) (e : Slot) (free : List ℕ) (most : ℕ) (queues new_queues : List Queue) (o : Outcome) (kept : AreKept slots free most queues) (sound : AreSound point queues slots) (lt : i < length slots) (is : e ≡ get_or slots i e)
-    (at : IsSlotOf slots key i) (at_e : (d : Slot) → same_bytes key (get_or slots i d).key ≡ true) (changed : new_queues ≡ set queues e.number (queue_after (queue_at queues e.number) t true o)) (answered : o ≡ outcome (queue_at queues e.number) t true) (legal : IsLegalQueue (queue_at queues e.number))
-    (ready : list_any (λ queue. is_ungranted (request_in queue t)) queues ≡ false) (outside : class ≡ Before → is_closed (record_of (rows_of queues slots) key) ≡ false) (again : (p : Pending) → find key_cmp key (pending_of slots) ≡ Some p → p.by ≡ t → p.class ≡ class)
+    (at : IsSlotOf slots key i) (at_e : (d : Slot) → same_bytes key (get_or slots i d).key ≡ true) (changed : new_queues ≡ set queues e.number (queue_after (queue_at queues e.number) t Exclusive o)) (answered : o ≡ outcome (queue_at queues e.number) t Exclusive) (legal : IsLegalQueue (queue_at queues e.number))
+    (ready : list_any (λ queue. is_ungranted (request_in queue t)) queues ≡ false) (outside : class ≡ Before → is_in_closed_set (record_of (rows_of queues slots) key) ≡ false) (again : (p : Pending) → find key_cmp key (pending_of slots) ≡ Some p → p.by ≡ t → p.class ≡ class)
     (new_is : new ≡ set slots i (granted_slot o point t class e.live value e)) where
   here : same_bytes key e.key ≡ true
   here = ap (λ (s : Slot). same_bytes key s.key) is ∙ at_e e
@@ -39,19 +44,19 @@ module _ (point t : ℕ) (class : Class) (value : Option (List ℕ)) (slots new 
   found = slot_at slots key i e kept.rise lt (at_e e) ∙ ap Some (sym is)
 
   below : e.number < length queues
-  below = slot_below slots free most queues key i e t true kept lt is
+  below = slot_below slots free most queues key i e t Exclusive kept lt is
 
-  outside_e : class ≡ Before → e.is_closed ≡ false
-  outside_e before = ap is_closed (sym (slot_found slots key i e lt is queues at)) ∙ outside before
+  outside_e : class ≡ Before → e.is_in_closed_set ≡ false
+  outside_e before = ap is_in_closed_set (sym (slot_found slots key i e lt is queues at)) ∙ outside before
 
   kept_queues : AreKept slots free most new_queues
-  kept_queues = subst (AreKept slots free most) (sym changed) (kept_asked slots free most queues key i e t true kept lt is (queue_after (queue_at queues e.number) t true o))
+  kept_queues = subst (AreKept slots free most) (sym changed) (kept_asked slots free most queues key i e t Exclusive kept lt is (queue_after (queue_at queues e.number) t Exclusive o))
 
   sound_queues_now : AreSound point new_queues slots
-  sound_queues_now = sound_asked point e.number t true o slots free most queues new_queues kept changed sound
+  sound_queues_now = sound_asked point e.number t Exclusive o slots free most queues new_queues kept changed sound
 
   own : o ≡ Granted → (w : Writer) → e.writer ≡ Some w → w.transaction ≡ t
-  own granted = own_writer point t true (queue_at queues e.number) e (sound_at point queues slots i e sound lt is) legal (none_of t queues ready e.number) (sym answered ∙ granted)
+  own granted = own_writer point t Exclusive (queue_at queues e.number) e (sound_at point queues slots i e sound lt is) legal (none_of t queues ready e.number) (sym answered ∙ granted)
 
   own_both : o ≡ Granted → (w : Writer) → e.writer ≡ Some w → (w.transaction ≡ t) × (w.class ≡ class)
   own_both granted w writer = (
@@ -61,16 +66,16 @@ module _ (point t : ℕ) (class : Class) (value : Option (List ℕ)) (slots new 
 
   has : o ≡ Granted → has_exclusive (queue_at new_queues e.number) t ≡ true
   has granted =
-      ap (λ qs. has_exclusive (queue_at qs e.number) t) changed ∙ ap (λ q. has_exclusive q t) (queue_same queues e.number (queue_after (queue_at queues e.number) t true o) below)
-      ∙ ap (λ p. has_exclusive (queue_after (queue_at queues e.number) t true p) t) granted ∙ has_granted (queue_at queues e.number) t (none_of t queues ready e.number)
+      ap (λ qs. has_exclusive (queue_at qs e.number) t) changed ∙ ap (λ q. has_exclusive q t) (queue_same queues e.number (queue_after (queue_at queues e.number) t Exclusive o) below)
+      ∙ ap (λ p. has_exclusive (queue_after (queue_at queues e.number) t Exclusive p) t) granted ∙ has_granted (queue_at queues e.number) t (none_of t queues ready e.number)
 
-  pub told_there : o ≡ outcome (requests_on (record_of (rows_of queues slots) key)) t true
-  told_there = answered ∙ ap (λ q. outcome q t true) (sym (queue_found slots free most queues key i e t true kept lt is at))
+  pub told_there : o ≡ outcome (requests_on (record_of (rows_of queues slots) key)) t Exclusive
+  told_there = answered ∙ ap (λ q. outcome q t Exclusive) (sym (queue_found slots free most queues key i e t Exclusive kept lt is at))
 
-  pub rows_there : rows_of new_queues new ≡ rows_after (rows_of queues slots) key t true o
+  pub rows_there : rows_of new_queues new ≡ rows_after (rows_of queues slots) key t Exclusive o
   rows_there =
       rows_put point t class value slots new i e key free most new_queues kept_queues sound_queues_now lt is o outside_e new_is ∙ ap (λ qs. rows_of qs slots) changed
-      ∙ rows_asked slots free most queues key i e t true kept lt is at o
+      ∙ rows_asked slots free most queues key i e t Exclusive kept lt is at o
 
   pub clear_there : o ≡ Granted → IsClear slots key t
   clear_there granted = clear_found slots key e t kept.rise found (own granted)
@@ -85,25 +90,25 @@ module _ (point t : ℕ) (class : Class) (value : Option (List ℕ)) (slots new 
   pending_there q = pending_put point t class value slots new i e key free most new_queues kept_queues sound_queues_now lt is o outside_e new_is here own_both (length queues) queues q
 
 -- a key that has no slot: one went in
-module _ (point t : ℕ) (slots new : List Slot) (free : List ℕ) (most : ℕ) (queues new_queues : List Queue) (key : List ℕ) (i last n : ℕ) (exclusive : Bool) (o : Outcome) (kept : AreKept slots free most queues) (sound : AreSound point queues slots) (count : last + 1 ≡ length free) (is : n ≡ get_or free last n)
-    (answered : o ≡ outcome (queue_at queues n) t exclusive) (changed : new_queues ≡ set queues n (queue_after (queue_at queues n) t exclusive o)) (new_is : new ≡ insert slots i (new_slot n key)) where
+module _ (point t : ℕ) (slots new : List Slot) (free : List ℕ) (most : ℕ) (queues new_queues : List Queue) (key : List ℕ) (i last n : ℕ) (mode : Mode) (o : Outcome) (kept : AreKept slots free most queues) (sound : AreSound point queues slots) (count : last + 1 ≡ length free) (is : n ≡ get_or free last n)
+    (answered : o ≡ outcome (queue_at queues n) t mode) (changed : new_queues ≡ set queues n (queue_after (queue_at queues n) t mode o)) (new_is : new ≡ insert slots i (new_slot n key)) where
   bare_new : queue_at queues n ≡ []
   bare_new = kept.bare n (free_number slots free most queues last n kept count is)
 
-  queue_new : queue_at new_queues n ≡ queue_after [] t exclusive Granted
+  queue_new : queue_at new_queues n ≡ queue_after [] t mode Granted
   queue_new =
-      ap (λ qs. queue_at qs n) changed ∙ queue_same queues n (queue_after (queue_at queues n) t exclusive o) (free_below slots free most queues last n kept count is) ∙ ap (λ q. queue_after q t exclusive o) bare_new
-      ∙ ap (λ p. queue_after [] t exclusive p) (answered ∙ ap (λ q. outcome q t exclusive) bare_new)
+      ap (λ qs. queue_at qs n) changed ∙ queue_same queues n (queue_after (queue_at queues n) t mode o) (free_below slots free most queues last n kept count is) ∙ ap (λ q. queue_after q t mode o) bare_new
+      ∙ ap (λ p. queue_after [] t mode p) (answered ∙ ap (λ q. outcome q t mode) bare_new)
 
-  pub first_in : IsFirstIn slots new new_queues i key t exclusive
+  pub first_in : IsFirstIn slots new new_queues i key t mode
   first_in = record { number = n; inserted = new_is; queue = queue_new }
 
   pub sound_in : AreSound point new_queues new
   sound_in =
       sound_inserted point new_queues slots new i (new_slot n key) new_is (sound_new point n key (queue_at new_queues n))
-      (sound_queued point n (queue_after (queue_at queues n) t exclusive o) slots free most queues new_queues kept changed (λ k d lt. no_lock (get_or slots k d).writer) sound)
+      (sound_queued point n (queue_after (queue_at queues n) t mode o) slots free most queues new_queues kept changed (λ k d lt. no_lock (get_or slots k d).writer) sound)
     where
-      no_lock : (w : Option Writer) → is_locked (queue_at queues n) w ≡ true → is_locked (queue_after (queue_at queues n) t exclusive o) w ≡ true
+      no_lock : (w : Option Writer) → is_locked (queue_at queues n) w ≡ true → is_locked (queue_after (queue_at queues n) t mode o) w ≡ true
       no_lock None locked = refl
       no_lock (Some w) locked =
           let z : false ≡ true = ap (λ q. has_exclusive q w.transaction) (sym bare_new) ∙ locked in
@@ -113,7 +118,7 @@ module _ (point t : ℕ) (slots new : List Slot) (free : List ℕ) (most : ℕ) 
   pending_in_new = ap pending_of new_is ∙ entries_insert pending_in slots i (new_slot n key) refl
 
 -- and the key is written
-module _ (point t : ℕ) (class : Class) (value : Option (List ℕ)) (slots inserted new : List Slot) (key : List ℕ) (i : ℕ) (free : List ℕ) (most : ℕ) (queues : List Queue) (first : IsFirstIn slots inserted queues i key t true) (le : i ≤ length slots) (kept : AreKept inserted free most queues) (sound : AreSound point queues inserted)
+module _ (point t : ℕ) (class : Class) (value : Option (List ℕ)) (slots inserted new : List Slot) (key : List ℕ) (i : ℕ) (free : List ℕ) (most : ℕ) (queues : List Queue) (first : IsFirstIn slots inserted queues i key t Exclusive) (le : i ≤ length slots) (kept : AreKept inserted free most queues) (sound : AreSound point queues inserted)
     (same : pending_of inserted ≡ pending_of slots) (new_is : (d : Slot) → new ≡ set inserted i (put_slot point t class None value (get_or inserted i d))) where
   abbrev x : Slot
   x = new_slot first.number key

@@ -4,8 +4,11 @@ use Rattle.std.specs.Prelude.{IfOk, OnErr, MatchOption}
 use Rattle.std.specs.List.{list_any}
 use Rattle.std.specs.FinMap.{find}
 use Rattle.pc_model.specs.Database.{KeysRise, key_cmp}
-use Rattle.pc_model.specs.Locks.{Queue, Outcome, IsLegalQueue, is_ungranted, request_in, outcome, queue_after}
-use Rattle.pc_model.specs.Locks.Outcome.{Granted}
+use Rattle.pc_types.specs.declared.Mode.{Mode}
+use Rattle.pc_types.specs.declared.Outcome.{Outcome}
+use Rattle.pc_model.specs.Locks.{Queue, is_ungranted, request_in, outcome, queue_after}
+use Rattle.pc_model.specs.Queues.{IsLegalQueue}
+use Rattle.pc_types.specs.declared.Outcome.TheVariants.{Granted}
 use Rattle.pc_locks.specs.States.{State, queue_at}
 use Rattle.pc_records.specs.declared.slots.Slot.{Slot}
 use Rattle.pc_records.specs.declared.versions.Writer.{Writer}
@@ -25,7 +28,7 @@ pub clear_new : (slots : List Slot) (key : List ℕ) (i t : ℕ) → KeysRise (r
 clear_new slots key i t rise gap = subst (λ (o : Option Pending). MatchOption o (Unit {0}) (λ (p : Pending). p.by ≡ t)) (sym (find_entry pending_in slots key rise ∙ ap (of_slot pending_in) (no_slot [] (slot_of slots key) (sym (find_row [] slots key) ∙ (gap []).finds)))) tt
 
 -- a writer of a slot whose queue grants the request is the transaction itself
-pub own_writer : (point t : ℕ) (x : Bool) (queue : Queue) (e : Slot) → IsSound point queue e → IsLegalQueue queue → is_ungranted (request_in queue t) ≡ false → outcome queue t x ≡ Granted → (w : Writer) → e.writer ≡ Some w → w.transaction ≡ t
+pub own_writer : (point t : ℕ) (x : Mode) (queue : Queue) (e : Slot) → IsSound point queue e → IsLegalQueue queue → is_ungranted (request_in queue t) ≡ false → outcome queue t x ≡ Granted → (w : Writer) → e.writer ≡ Some w → w.transaction ≡ t
 own_writer point t x queue e sound legal ready granted w is = sym (alone queue t w.transaction x legal ready granted (ap (is_locked queue) (sym is) ∙ sound.locked))
 
 pub clear_found : (slots : List Slot) (key : List ℕ) (e : Slot) (t : ℕ) → KeysRise (rows_of [] slots) → slot_of slots key ≡ Some e → ((w : Writer) → e.writer ≡ Some w → w.transaction ≡ t) → IsClear slots key t
@@ -36,7 +39,7 @@ clear_found slots key e t rise found own = subst (λ (o : Option Pending). Match
     by_writer (Some w) is = own w is
 
 -- a queue that was asked
-pub sound_asked : (point n t : ℕ) (x : Bool) (o : Outcome) (slots : List Slot) (free : List ℕ) (most : ℕ) (queues new : List Queue) → AreKept slots free most queues → new ≡ set queues n (queue_after (queue_at queues n) t x o) → AreSound point queues slots → AreSound point new slots
+pub sound_asked : (point n t : ℕ) (x : Mode) (o : Outcome) (slots : List Slot) (free : List ℕ) (most : ℕ) (queues new : List Queue) → AreKept slots free most queues → new ≡ set queues n (queue_after (queue_at queues n) t x o) → AreSound point queues slots → AreSound point new slots
 sound_asked point n t x o slots free most queues new kept new_is sound = sound_queued point n (queue_after (queue_at queues n) t x o) slots free most queues new kept new_is (λ k d lt. still (get_or slots k d).writer) sound
   where
     still : (writer : Option Writer) → is_locked (queue_at queues n) writer ≡ true → is_locked (queue_after (queue_at queues n) t x o) writer ≡ true
@@ -44,7 +47,7 @@ sound_asked point n t x o slots free most queues new kept new_is sound = sound_q
     still (Some w) has = kept_answered (queue_at queues n) t w.transaction x o has
 
 -- the same for what the locks gave back
-module _ {A E : Type 0} (result : Result A E) (told : A → Outcome) (point n t : ℕ) (x : Bool) (slots : List Slot) (free : List ℕ) (most : ℕ) (was now : State) (key : List ℕ) (e : Slot) (kept : AreKept slots free most was.queues) (sound : AreSound point was.queues slots) where
+module _ {A E : Type 0} (result : Result A E) (told : A → Outcome) (point n t : ℕ) (x : Mode) (slots : List Slot) (free : List ℕ) (most : ℕ) (was now : State) (key : List ℕ) (e : Slot) (kept : AreKept slots free most was.queues) (sound : AreSound point was.queues slots) where
   pub sound_again : IfOk result (λ a. now.queues ≡ set was.queues n (queue_after (queue_at was.queues n) t x (told a))) → OnErr result (now ≡ was) → AreSound point now.queues slots
   sound_again changed err = by_result result changed err
     where

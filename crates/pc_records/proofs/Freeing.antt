@@ -6,7 +6,7 @@ use Rattle.std.proofs.lemmas.Bool.Decides.{nat_tests}
 use Rattle.pc_types.specs.declared.Class.TheVariants.{During}
 use Rattle.pc_model.specs.Database.{KeysRise, key_cmp, same_bytes}
 use Rattle.pc_model.specs.Locks.{Queue, queue_without}
-use Rattle.pc_model.specs.Replies.{same_class}
+use Rattle.pc_types.specs.Phases.{same_class}
 use Rattle.pc_locks.specs.States.{queue_at}
 use Rattle.pc_records.specs.declared.slots.Slot.{Slot}
 use Rattle.pc_records.specs.declared.versions.Writer.{Writer}
@@ -32,7 +32,7 @@ module _ (point : ℕ) (queues : List Queue) (slots : List Slot) (i : ℕ) (e : 
 
   no_writer : is_kept (row_of queues e).1 ≡ false → pending_in e ≡ None
   no_writer goes =
-      let empty = no_requests (is_some (committed e)) e.is_recent e.is_closed (queue_at queues e.number) goes in
+      let empty = no_requests (is_some (committed e)) e.is_in_open_set e.is_in_closed_set (queue_at queues e.number) goes in
       by_writer e.writer (subst (λ q. is_locked q e.writer ≡ true) empty (sound_at point queues slots i e sound lt is).locked)
     where
       by_writer : (o : Option Writer) → is_locked [] o ≡ true → write_of o e.live ≡ None

@@ -1,13 +1,14 @@
 -- A record that is dropped where nothing keeps it says as much as it did.
 use Rattle.std.proofs.Common.{◌≡◌, ℕ, List, [], ◌∷◌, Option, Some, None, is_some, refl, sym, cond, true, false, Bool}
 use Rattle.pc_model.specs.Locks.{Queue}
-use Rattle.pc_records.specs.Rows.{Record, stored, is_recent, is_closed, at_point, requests_on, is_kept, if_kept}
+use Rattle.pc_records.specs.Rows.{Record, stored, is_in_open_set, is_in_closed_set, at_point, requests_on, is_kept}
+use Rattle.pc_records.specs.RowSteps.{if_kept}
 use Rattle.pc_records.specs.Following.{stands_kept}
 
 pub stored-if : (r : Record) → stored (if_kept r) ≡ r.value
-stored-if r = by_value r.value r.requests r.is_recent r.is_closed r.pinned
+stored-if r = by_value r.value r.requests r.is_in_open_set r.is_in_closed_set r.pinned
   where
-    by_value : (v : Option (List ℕ)) (q : Queue) (b c : Bool) (s : Option (List ℕ)) → stored (if_kept (record { value = v; is_recent = b; is_closed = c; pinned = s; requests = q })) ≡ v
+    by_value : (v : Option (List ℕ)) (q : Queue) (b c : Bool) (s : Option (List ℕ)) → stored (if_kept (record { value = v; is_in_open_set = b; is_in_closed_set = c; pinned = s; requests = q })) ≡ v
     by_value (Some v) q b c s = refl
     by_value None (r ∷ rs) b c s = refl
     by_value None [] true c s = refl
@@ -15,29 +16,29 @@ stored-if r = by_value r.value r.requests r.is_recent r.is_closed r.pinned
     by_value None [] false false s = refl
 
 pub requests-if : (r : Record) → requests_on (if_kept r) ≡ r.requests
-requests-if r = by_value r.value r.requests r.is_recent r.is_closed r.pinned
+requests-if r = by_value r.value r.requests r.is_in_open_set r.is_in_closed_set r.pinned
   where
-    by_value : (v : Option (List ℕ)) (q : Queue) (b c : Bool) (s : Option (List ℕ)) → requests_on (if_kept (record { value = v; is_recent = b; is_closed = c; pinned = s; requests = q })) ≡ q
+    by_value : (v : Option (List ℕ)) (q : Queue) (b c : Bool) (s : Option (List ℕ)) → requests_on (if_kept (record { value = v; is_in_open_set = b; is_in_closed_set = c; pinned = s; requests = q })) ≡ q
     by_value (Some v) q b c s = refl
     by_value None (r ∷ rs) b c s = refl
     by_value None [] true c s = refl
     by_value None [] false true s = refl
     by_value None [] false false s = refl
 
-pub recent-if : (r : Record) → is_recent (if_kept r) ≡ r.is_recent
-recent-if r = by_value r.value r.requests r.is_recent r.is_closed r.pinned
+pub open-if : (r : Record) → is_in_open_set (if_kept r) ≡ r.is_in_open_set
+open-if r = by_value r.value r.requests r.is_in_open_set r.is_in_closed_set r.pinned
   where
-    by_value : (v : Option (List ℕ)) (q : Queue) (b c : Bool) (s : Option (List ℕ)) → is_recent (if_kept (record { value = v; is_recent = b; is_closed = c; pinned = s; requests = q })) ≡ b
+    by_value : (v : Option (List ℕ)) (q : Queue) (b c : Bool) (s : Option (List ℕ)) → is_in_open_set (if_kept (record { value = v; is_in_open_set = b; is_in_closed_set = c; pinned = s; requests = q })) ≡ b
     by_value (Some v) q b c s = refl
     by_value None (r ∷ rs) b c s = refl
     by_value None [] true c s = refl
     by_value None [] false true s = refl
     by_value None [] false false s = refl
 
-pub closed-if : (r : Record) → is_closed (if_kept r) ≡ r.is_closed
-closed-if r = by_value r.value r.requests r.is_recent r.is_closed r.pinned
+pub closed-if : (r : Record) → is_in_closed_set (if_kept r) ≡ r.is_in_closed_set
+closed-if r = by_value r.value r.requests r.is_in_open_set r.is_in_closed_set r.pinned
   where
-    by_value : (v : Option (List ℕ)) (q : Queue) (b c : Bool) (s : Option (List ℕ)) → is_closed (if_kept (record { value = v; is_recent = b; is_closed = c; pinned = s; requests = q })) ≡ c
+    by_value : (v : Option (List ℕ)) (q : Queue) (b c : Bool) (s : Option (List ℕ)) → is_in_closed_set (if_kept (record { value = v; is_in_open_set = b; is_in_closed_set = c; pinned = s; requests = q })) ≡ c
     by_value (Some v) q b c s = refl
     by_value None (r ∷ rs) b c s = refl
     by_value None [] true c s = refl
@@ -45,10 +46,10 @@ closed-if r = by_value r.value r.requests r.is_recent r.is_closed r.pinned
     by_value None [] false false s = refl
 
 -- what a key of the closed set has at the point
-pub point-if : (r : Record) → r.is_closed ≡ true → at_point (if_kept r) ≡ r.pinned
-point-if r closed = by_value r.value r.requests r.is_recent r.is_closed r.pinned closed
+pub point-if : (r : Record) → r.is_in_closed_set ≡ true → at_point (if_kept r) ≡ r.pinned
+point-if r closed = by_value r.value r.requests r.is_in_open_set r.is_in_closed_set r.pinned closed
   where
-    by_value : (v : Option (List ℕ)) (q : Queue) (b c : Bool) (s : Option (List ℕ)) → c ≡ true → at_point (if_kept (record { value = v; is_recent = b; is_closed = c; pinned = s; requests = q })) ≡ s
+    by_value : (v : Option (List ℕ)) (q : Queue) (b c : Bool) (s : Option (List ℕ)) → c ≡ true → at_point (if_kept (record { value = v; is_in_open_set = b; is_in_closed_set = c; pinned = s; requests = q })) ≡ s
     by_value (Some v) q b c s e = refl
     by_value None (r ∷ rs) b c s e = refl
     by_value None [] true c s e = refl

@@ -1,31 +1,31 @@
-pub mod SlotRising
-pub mod SlotPlaces
-pub mod Halving
-pub mod Numbers
-pub mod Turning
-pub mod CommittedPairs
-pub mod Queued
-pub mod SlotKeeping
-pub mod Tidying
-pub mod Requesting
-pub mod SlotReleasing
-pub mod SlotWaiting
-pub mod Following
-pub mod Distinct
-pub mod Keeping
-pub mod Releasing
-pub mod Rising
-pub mod First
-pub mod Cycles
-pub mod Flags
-pub mod Waiting
-pub mod Occupied
-pub mod NewKeys
-pub mod Exclusive
-pub mod Lookups
-pub mod Moments
-pub mod SlotMoments
-pub mod Freeing
-pub mod Clearing
-pub mod Writing
-pub mod Answering
+mod SlotRising
+mod SlotPlaces
+mod Halving
+mod Numbers
+mod Turning
+mod CommittedPairs
+mod Queued
+mod SlotKeeping
+mod Tidying
+mod Requesting
+mod SlotReleasing
+mod SlotWaiting
+pub mod FollowingLaws
+pub mod DistinctLaws
+mod Keeping
+pub mod ReleaseLaws
+mod Rising
+pub mod FirstKeyLaws
+pub mod CycleLaws
+pub mod SetFlagLaws
+pub mod WaitingLaws
+pub mod OccupiedLaws
+pub mod NewKeyLaws
+mod Exclusive
+mod Lookups
+mod Moments
+mod SlotMoments
+mod Freeing
+mod Clearing
+mod Writing
+mod Answering

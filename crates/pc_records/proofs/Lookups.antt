@@ -10,8 +10,8 @@ use Rattle.std.proofs.Math.ListN.{get_or-map}
 use Rattle.std.proofs.lemmas.Cmp.{eq_by_cmp_equiv}
 use Rattle.pc_model.specs.Database.{KeysRise, key_cmp, key_order, same_bytes}
 use Rattle.pc_model.specs.Locks.{Queue}
-use Rattle.pc_model.proofs.Counts.{and_both, below_apart}
-use Rattle.pc_model.proofs.Joins.{one_key}
+use Rattle.pc_model.proofs.CountLaws.{and_both, below_apart}
+use Rattle.pc_model.proofs.JoinLaws.{one_key}
 use Rattle.pc_records.specs.declared.slots.Slot.{Slot}
 use Rattle.pc_records.specs.declared.versions.Writer.{Writer}
 use Rattle.pc_records.specs.Rows.{Row, Record, record_of, stored}

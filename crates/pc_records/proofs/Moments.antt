@@ -4,13 +4,15 @@ use Rattle.std.proofs.lemmas.Bool.Decides.{nat_tests}
 use Rattle.pc_types.specs.declared.Class.{Class}
 use Rattle.pc_types.specs.declared.Class.TheVariants.{Before, During, After}
 use Rattle.pc_model.specs.Locks.{Queue}
-use Rattle.pc_model.specs.Replies.{is_empty, same_class}
+use Rattle.pc_model.specs.Replies.{is_empty}
+use Rattle.pc_types.specs.Phases.{same_class}
 use Rattle.pc_locks.specs.States.{queue_at}
 use Rattle.pc_records.specs.declared.slots.Slot.{Slot}
 use Rattle.pc_records.specs.declared.versions.Stable.{Stable}
 use Rattle.pc_records.specs.declared.versions.Stable.TheVariants.{Empty, Held}
 use Rattle.pc_records.specs.declared.versions.Writer.{Writer}
-use Rattle.pc_records.specs.Rows.{Row, is_kept, closed_row}
+use Rattle.pc_records.specs.Rows.{Row, is_kept}
+use Rattle.pc_records.specs.RowSteps.{closed_row}
 use Rattle.pc_records.specs.Slots.{committed, committed_by, version_or, pinned, pending_in, write_of, row_of, is_available, is_held, held_for, is_prepared, has_exclusive, is_locked, IsSound, is_kept_slot, new_slot, held_or, saved, first_put, put_beside, put_slot, settled_class, settled_from, settled, undone_from, undone, closed_slot, taken_slot}
 
 no : false ≡ true → ⊥
@@ -29,7 +31,7 @@ sound_queue point queue new s still sound = record { passed = sound.passed; hold
 
 -- the first write
 module _ (point t : ℕ) (value : Option (List ℕ)) (s : Slot) where
-  first_pinned : (class : Class) (a m : Bool) (st : Stable) → s.is_closed ≡ a → eqb s.mark point ≡ m → s.stable ≡ st → (class ≡ Before → a ≡ false) → ((a && m) ≡ true → is_held st ≡ true) → ((a && m) ≡ false → st ≡ Empty) →
+  first_pinned : (class : Class) (a m : Bool) (st : Stable) → s.is_in_closed_set ≡ a → eqb s.mark point ≡ m → s.stable ≡ st → (class ≡ Before → a ≡ false) → ((a && m) ≡ true → is_held st ≡ true) → ((a && m) ≡ false → st ≡ Empty) →
       pinned (first_put point t class s.live value s) ≡ pinned s
   first_pinned Before a m st closed mark is outside holds follows = simp (closed ∙ outside refl)
   first_pinned During true m Empty closed mark is outside holds follows = simp (closed, is)
@@ -41,7 +43,7 @@ module _ (point t : ℕ) (value : Option (List ℕ)) (s : Slot) where
   first_pinned After true false (Held v) closed mark is outside holds follows = absurd (let e : Held v ≡ Empty = follows refl in cc)
   first_pinned After false m st closed mark is outside holds follows = simp closed
 
-  first_sound : (queue new : Queue) (class : Class) → s.writer ≡ None → (class ≡ Before → s.is_closed ≡ false) → has_exclusive new t ≡ true → IsSound point queue s → IsSound point new (first_put point t class s.live value s)
+  first_sound : (queue new : Queue) (class : Class) → s.writer ≡ None → (class ≡ Before → s.is_in_closed_set ≡ false) → has_exclusive new t ≡ true → IsSound point queue s → IsSound point new (first_put point t class s.live value s)
   first_sound queue new Before none outside has sound = record {
     passed = sound.passed;
     holds = sound.holds;
@@ -60,14 +62,14 @@ module _ (point t : ℕ) (value : Option (List ℕ)) (s : Slot) where
       held : (st : Stable) → is_held (held_or st s.live) ≡ true
       held Empty = refl
       held (Held v) = refl
-  first_sound queue new After none outside has sound = by_test (s.is_closed && not (eqb s.mark point)) refl
+  first_sound queue new After none outside has sound = by_test (s.is_in_closed_set && not (eqb s.mark point)) refl
     where
-      by_test : (b : Bool) → (s.is_closed && not (eqb s.mark point)) ≡ b →
+      by_test : (b : Bool) → (s.is_in_closed_set && not (eqb s.mark point)) ≡ b →
           IsSound point new (record (cond b (record s { stable = Held s.live; mark = point }) s) { live = value; writer = Some (record { transaction = t; class = After; before = s.live }) })
       by_test true is = record {
         passed = omega arith;
         holds = λ e. refl;
-        follows = λ e. absurd (later s.is_closed (not (eqb s.mark point)) is e);
+        follows = λ e. absurd (later s.is_in_closed_set (not (eqb s.mark point)) is e);
         prepared = λ c e. absurd (no (sym e ∙ same_point point));
         locked = has;
       }
@@ -86,7 +88,7 @@ module _ (point t : ℕ) (value : Option (List ℕ)) (s : Slot) where
   row_first : (queues : List Queue) (class : Class) → pinned (first_put point t class s.live value s) ≡ pinned s → committed s ≡ s.live → row_of queues (first_put point t class s.live value s) ≡ row_of queues s
   row_first queues Before same live = rw same (rw live refl)
   row_first queues During same live = rw same (rw live refl)
-  row_first queues After same live = by_test (s.is_closed && not (eqb s.mark point)) same
+  row_first queues After same live = by_test (s.is_in_closed_set && not (eqb s.mark point)) same
     where
       by_test : (b : Bool) → pinned (record (cond b (record s { stable = Held s.live; mark = point }) s) { live = value; writer = Some (record { transaction = t; class = After; before = s.live }) }) ≡ pinned s →
           row_of queues (record (cond b (record s { stable = Held s.live; mark = point }) s) { live = value; writer = Some (record { transaction = t; class = After; before = s.live }) }) ≡ row_of queues s
@@ -94,7 +96,7 @@ module _ (point t : ℕ) (value : Option (List ℕ)) (s : Slot) where
       by_test false same = rw same (rw live refl)
 
 -- any write
-module _ (point t : ℕ) (class : Class) (value : Option (List ℕ)) (queue new : Queue) (s : Slot) (outside : class ≡ Before → s.is_closed ≡ false) (sound : IsSound point queue s) where
+module _ (point t : ℕ) (class : Class) (value : Option (List ℕ)) (queue new : Queue) (s : Slot) (outside : class ≡ Before → s.is_in_closed_set ≡ false) (sound : IsSound point queue s) where
   pub put_sound : has_exclusive new t ≡ true → is_locked new s.writer ≡ true → IsSound point new (put_slot point t class s.live value s)
   put_sound has still = by_writer s.writer refl
     where
@@ -103,7 +105,7 @@ module _ (point t : ℕ) (class : Class) (value : Option (List ℕ)) (queue new 
       by_writer (Some w) is = record { passed = sound.passed; holds = sound.holds; follows = sound.follows; prepared = sound.prepared; locked = still }
 
   -- a slot with a writer holds a version, where its key is in the closed set
-  held_closed : (w : Writer) → s.writer ≡ Some w → s.is_closed ≡ true → is_held s.stable ≡ true
+  held_closed : (w : Writer) → s.writer ≡ Some w → s.is_in_closed_set ≡ true → is_held s.stable ≡ true
   held_closed w is closed = by_mark (eqb s.mark point) refl
     where
       by_mark : (m : Bool) → eqb s.mark point ≡ m → is_held s.stable ≡ true
@@ -121,21 +123,21 @@ module _ (point t : ℕ) (class : Class) (value : Option (List ℕ)) (queue new 
       same_pinned true (Held v) held = refl
 
       by_writer : (o : Option Writer) → s.writer ≡ o → row_of queues (put_beside o point t class s.live value s) ≡ row_of queues s
-      by_writer None is = row_first point t value s queues class (first_pinned point t value s class s.is_closed (eqb s.mark point) s.stable refl refl refl outside sound.holds (λ e. sound.follows e ∙ ap held_for is)) (ap (λ o. committed_by o s.live) is)
+      by_writer None is = row_first point t value s queues class (first_pinned point t value s class s.is_in_closed_set (eqb s.mark point) s.stable refl refl refl outside sound.holds (λ e. sound.follows e ∙ ap held_for is)) (ap (λ o. committed_by o s.live) is)
       by_writer (Some w) is =
-          ap (λ p. (s.key, record { value = committed_by s.writer value; is_recent = s.is_recent; is_closed = s.is_closed; pinned = p; requests = queue_at queues s.number })) (same_pinned s.is_closed s.stable (held_closed w is))
-          ∙ ap (λ v. (s.key, record { value = v; is_recent = s.is_recent; is_closed = s.is_closed; pinned = pinned s; requests = queue_at queues s.number })) (ap (λ o. committed_by o value) is ∙ sym (ap (λ o. committed_by o s.live) is))
+          ap (λ p. (s.key, record { value = committed_by s.writer value; is_in_open_set = s.is_in_open_set; is_in_closed_set = s.is_in_closed_set; pinned = p; requests = queue_at queues s.number })) (same_pinned s.is_in_closed_set s.stable (held_closed w is))
+          ∙ ap (λ v. (s.key, record { value = v; is_in_open_set = s.is_in_open_set; is_in_closed_set = s.is_in_closed_set; pinned = pinned s; requests = queue_at queues s.number })) (ap (λ o. committed_by o value) is ∙ sym (ap (λ o. committed_by o s.live) is))
 
 -- what is the same in all slots that are written
 saved_key : (point : ℕ) (class : Class) (copy : Option (List ℕ)) (s : Slot) → (saved point class copy s).key ≡ s.key
 saved_key point Before copy s = refl
 saved_key point During copy s = refl
-saved_key point After copy s = elim (s.is_closed && not (eqb s.mark point)) as (λ b. (cond b (record s { stable = Held copy; mark = point }) s).key ≡ s.key) [ true ↦ refl | false ↦ refl ]
+saved_key point After copy s = elim (s.is_in_closed_set && not (eqb s.mark point)) as (λ b. (cond b (record s { stable = Held copy; mark = point }) s).key ≡ s.key) [ true ↦ refl | false ↦ refl ]
 
 saved_number : (point : ℕ) (class : Class) (copy : Option (List ℕ)) (s : Slot) → (saved point class copy s).number ≡ s.number
 saved_number point Before copy s = refl
 saved_number point During copy s = refl
-saved_number point After copy s = elim (s.is_closed && not (eqb s.mark point)) as (λ b. (cond b (record s { stable = Held copy; mark = point }) s).number ≡ s.number) [ true ↦ refl | false ↦ refl ]
+saved_number point After copy s = elim (s.is_in_closed_set && not (eqb s.mark point)) as (λ b. (cond b (record s { stable = Held copy; mark = point }) s).number ≡ s.number) [ true ↦ refl | false ↦ refl ]
 
 pub put_key : (point t : ℕ) (class : Class) (copy value : Option (List ℕ)) (s : Slot) → (put_slot point t class copy value s).key ≡ s.key
 put_key point t class copy value s = elim s.writer as (λ o. (put_beside o point t class copy value s).key ≡ s.key) [ None ↦ saved_key point class copy s | Some w ↦ refl ]
@@ -155,7 +157,7 @@ put_pending point t class copy value s own = by_writer s.writer refl
 -- a commit
 settled_writer_class : (c : Class) (point : ℕ) (s : Slot) → (settled_class c point s).writer ≡ None
 settled_writer_class Before point s = refl
-settled_writer_class During point s = elim s.is_closed as (λ b. (cond b (record s { mark = point; writer = None; is_recent = true }) (record s { stable = Empty; writer = None; is_recent = true })).writer ≡ None) [ true ↦ refl | false ↦ refl ]
+settled_writer_class During point s = elim s.is_in_closed_set as (λ b. (cond b (record s { mark = point; writer = None; is_in_open_set = true }) (record s { stable = Empty; writer = None; is_in_open_set = true })).writer ≡ None) [ true ↦ refl | false ↦ refl ]
 settled_writer_class After point s = refl
 
 pub settled_writer : (point : ℕ) (s : Slot) → (settled point s).writer ≡ None
@@ -170,7 +172,7 @@ settled_again point s = ap (λ o. settled_from o point (settled point s)) (settl
 
 key_class : (c : Class) (point : ℕ) (s : Slot) → (settled_class c point s).key ≡ s.key
 key_class Before point s = refl
-key_class During point s = elim s.is_closed as (λ b. (cond b (record s { mark = point; writer = None; is_recent = true }) (record s { stable = Empty; writer = None; is_recent = true })).key ≡ s.key) [ true ↦ refl | false ↦ refl ]
+key_class During point s = elim s.is_in_closed_set as (λ b. (cond b (record s { mark = point; writer = None; is_in_open_set = true }) (record s { stable = Empty; writer = None; is_in_open_set = true })).key ≡ s.key) [ true ↦ refl | false ↦ refl ]
 key_class After point s = refl
 
 pub settled_key : (point : ℕ) (s : Slot) → (settled point s).key ≡ s.key
@@ -178,7 +180,7 @@ settled_key point s = elim s.writer as (λ o. (settled_from o point s).key ≡ s
 
 number_class : (c : Class) (point : ℕ) (s : Slot) → (settled_class c point s).number ≡ s.number
 number_class Before point s = refl
-number_class During point s = elim s.is_closed as (λ b. (cond b (record s { mark = point; writer = None; is_recent = true }) (record s { stable = Empty; writer = None; is_recent = true })).number ≡ s.number) [ true ↦ refl | false ↦ refl ]
+number_class During point s = elim s.is_in_closed_set as (λ b. (cond b (record s { mark = point; writer = None; is_in_open_set = true }) (record s { stable = Empty; writer = None; is_in_open_set = true })).number ≡ s.number) [ true ↦ refl | false ↦ refl ]
 number_class After point s = refl
 
 pub settled_number : (point : ℕ) (s : Slot) → (settled point s).number ≡ s.number
@@ -187,7 +189,7 @@ settled_number point s = elim s.writer as (λ o. (settled_from o point s).number
 pub settled_sound : (point : ℕ) (queue : Queue) (s : Slot) → IsSound point queue s → IsSound point queue (settled point s)
 settled_sound point queue s sound = by_writer s.writer refl
   where
-    during : (w : Writer) → s.writer ≡ Some w → w.class ≡ During → (b : Bool) → s.is_closed ≡ b → IsSound point queue (cond b (record s { mark = point; writer = None; is_recent = true }) (record s { stable = Empty; writer = None; is_recent = true }))
+    during : (w : Writer) → s.writer ≡ Some w → w.class ≡ During → (b : Bool) → s.is_in_closed_set ≡ b → IsSound point queue (cond b (record s { mark = point; writer = None; is_in_open_set = true }) (record s { stable = Empty; writer = None; is_in_open_set = true }))
     during w is class true closed = record {
       passed = omega arith;
       holds = λ e. by_test (is_available point s) refl;
@@ -215,7 +217,7 @@ settled_sound point queue s sound = by_writer s.writer refl
       prepared = λ c e. refl;
       locked = refl;
     }
-    by_class w During is class = during w is class s.is_closed refl
+    by_class w During is class = during w is class s.is_in_closed_set refl
     by_class w After is class = record {
       passed = sound.passed;
       holds = sound.holds;
@@ -230,16 +232,16 @@ settled_sound point queue s sound = by_writer s.writer refl
 
 -- the row of a slot whose write is committed
 abbrev given_row : List Queue → Slot → Row
-given_row queues s = (s.key, record { value = s.live; is_recent = true; is_closed = s.is_closed; pinned = pinned s; requests = queue_at queues s.number })
+given_row queues s = (s.key, record { value = s.live; is_in_open_set = true; is_in_closed_set = s.is_in_closed_set; pinned = pinned s; requests = queue_at queues s.number })
 
-pub row_settled : (queues : List Queue) (point : ℕ) (s : Slot) (w : Writer) → s.writer ≡ Some w → row_of queues (settled point s) ≡ (s.key, record (row_of queues s).1 { value = s.live; is_recent = true })
+pub row_settled : (queues : List Queue) (point : ℕ) (s : Slot) (w : Writer) → s.writer ≡ Some w → row_of queues (settled point s) ≡ (s.key, record (row_of queues s).1 { value = s.live; is_in_open_set = true })
 row_settled queues point s w is = ap (λ o. row_of queues (settled_from o point s)) is ∙ by_class w.class
   where
     by_class : (c : Class) → row_of queues (settled_class c point s) ≡ given_row queues s
     by_class Before = refl
-    by_class During = by_test s.is_closed refl
+    by_class During = by_test s.is_in_closed_set refl
       where
-        by_test : (b : Bool) → s.is_closed ≡ b → row_of queues (cond b (record s { mark = point; writer = None; is_recent = true }) (record s { stable = Empty; writer = None; is_recent = true })) ≡ given_row queues s
+        by_test : (b : Bool) → s.is_in_closed_set ≡ b → row_of queues (cond b (record s { mark = point; writer = None; is_in_open_set = true }) (record s { stable = Empty; writer = None; is_in_open_set = true })) ≡ given_row queues s
         by_test true closed = refl
         by_test false closed = simp closed
     by_class After = refl
@@ -276,7 +278,7 @@ undone_sound point queue s sound = by_writer s.writer refl
 pub row_undone : (queues : List Queue) (point : ℕ) (queue : Queue) (s : Slot) → IsSound point queue s → row_of queues (undone point s) ≡ row_of queues s
 row_undone queues point queue s sound = by_writer s.writer refl
   where
-    same_pinned : (w : Writer) → s.writer ≡ Some w → (a m : Bool) (st : Stable) → s.is_closed ≡ a → eqb s.mark point ≡ m → s.stable ≡ st →
+    same_pinned : (w : Writer) → s.writer ≡ Some w → (a m : Bool) (st : Stable) → s.is_in_closed_set ≡ a → eqb s.mark point ≡ m → s.stable ≡ st →
         cond a (version_or (cond (same_class w.class During && not (a && m)) Empty st) w.before) None ≡ cond a (version_or st s.live) None
     same_pinned w is false m st closed mark stable = refl
     same_pinned w is true true Empty closed mark stable = absurd (no (ap is_held (sym stable) ∙ sound.holds (rw (closed, mark) refl)))
@@ -293,10 +295,10 @@ row_undone queues point queue s sound = by_writer s.writer refl
     by_writer : (o : Option Writer) → s.writer ≡ o → row_of queues (undone_from o point s) ≡ row_of queues s
     by_writer None is = refl
     by_writer (Some w) is =
-        let same : pinned (undone_from (Some w) point s) ≡ pinned s = same_pinned w is s.is_closed (eqb s.mark point) s.stable refl refl refl in
+        let same : pinned (undone_from (Some w) point s) ≡ pinned s = same_pinned w is s.is_in_closed_set (eqb s.mark point) s.stable refl refl refl in
         let value : committed s ≡ w.before = ap (λ o. committed_by o s.live) is in
-        ap (λ p. (s.key, record { value = w.before; is_recent = s.is_recent; is_closed = s.is_closed; pinned = p; requests = queue_at queues s.number })) same
-        ∙ ap (λ v. (s.key, record { value = v; is_recent = s.is_recent; is_closed = s.is_closed; pinned = pinned s; requests = queue_at queues s.number })) (sym value)
+        ap (λ p. (s.key, record { value = w.before; is_in_open_set = s.is_in_open_set; is_in_closed_set = s.is_in_closed_set; pinned = p; requests = queue_at queues s.number })) same
+        ∙ ap (λ v. (s.key, record { value = v; is_in_open_set = s.is_in_open_set; is_in_closed_set = s.is_in_closed_set; pinned = pinned s; requests = queue_at queues s.number })) (sym value)
 
 -- a key is taken
 pub taken_sound : (point : ℕ) (queue : Queue) (s : Slot) → ((w : Writer) → s.writer ≡ Some w → same_class w.class During ≡ false) → IsSound point queue s → IsSound point queue (taken_slot point s)
@@ -307,39 +309,39 @@ taken_sound point queue s over sound = record { passed = omega arith; holds = λ
     by_writer (Some w) is = ap (λ b. cond b (Held w.before) Empty) (sym (over w is))
 
 -- the open set is closed
-module _ (point later : ℕ) (queue : Queue) (s : Slot) (after : point < later) (none : s.is_closed ≡ false) (sound : IsSound point queue s) where
+module _ (point later : ℕ) (queue : Queue) (s : Slot) (after : point < later) (none : s.is_in_closed_set ≡ false) (sound : IsSound point queue s) where
   stable_is : s.stable ≡ held_for s.writer
   stable_is = sound.follows (ap (λ b. b && eqb s.mark point) none)
 
   pub closed_sound : is_prepared s.writer ≡ true → IsSound later queue (closed_slot s)
-  closed_sound during = record { passed = omega (arith, sound.passed); holds = λ e. absurd (marked s.is_recent e); follows = λ e. stable_is; prepared = λ c e. during; locked = sound.locked }
+  closed_sound during = record { passed = omega (arith, sound.passed); holds = λ e. absurd (marked s.is_in_open_set e); follows = λ e. stable_is; prepared = λ c e. during; locked = sound.locked }
     where
       marked : (b : Bool) → (b && eqb s.mark later) ≡ true → ⊥
       marked true e = grind (arith, nat_tests, e, sound.passed)
       marked false e = no e
 
   pub row_closed : (queues : List Queue) → is_prepared s.writer ≡ true → row_of queues (closed_slot s) ≡ closed_row (row_of queues s)
-  row_closed queues during = ap (λ v. (s.key, record { value = committed s; is_recent = false; is_closed = s.is_recent; pinned = cond s.is_recent v None; requests = queue_at queues s.number })) (ap (λ st. version_or st s.live) stable_is ∙ by_writer s.writer during)
+  row_closed queues during = ap (λ v. (s.key, record { value = committed s; is_in_open_set = false; is_in_closed_set = s.is_in_open_set; pinned = cond s.is_in_open_set v None; requests = queue_at queues s.number })) (ap (λ st. version_or st s.live) stable_is ∙ by_writer s.writer during)
     where
       by_writer : (o : Option Writer) → is_prepared o ≡ true → version_or (held_for o) s.live ≡ committed_by o s.live
       by_writer None e = refl
       by_writer (Some w) e = ap (λ b. version_or (cond b (Held w.before) Empty) s.live) e
 
 -- what keeps a slot keeps its row
-pub kept_row : (point : ℕ) (queue : Queue) (s : Slot) → IsSound point queue s → is_kept_slot queue s ≡ is_kept (record { value = committed s; is_recent = s.is_recent; is_closed = s.is_closed; pinned = pinned s; requests = queue })
-kept_row point queue s sound = by_queue queue sound.locked s.writer refl s.is_closed refl
+pub kept_row : (point : ℕ) (queue : Queue) (s : Slot) → IsSound point queue s → is_kept_slot queue s ≡ is_kept (record { value = committed s; is_in_open_set = s.is_in_open_set; is_in_closed_set = s.is_in_closed_set; pinned = pinned s; requests = queue })
+kept_row point queue s sound = by_queue queue sound.locked s.writer refl s.is_in_closed_set refl
   where
     or_true : (a : Bool) → (a || true) ≡ true
     or_true true = refl
     or_true false = refl
 
-    by_queue : (q : Queue) → is_locked q s.writer ≡ true → (o : Option Writer) → s.writer ≡ o → (b : Bool) → s.is_closed ≡ b →
-        (is_some s.live || (is_held s.stable || (not (eqb (length q) 0) || (s.is_recent || b)))) ≡ (is_some (committed_by o s.live) || (not (is_empty q) || (s.is_recent || b)))
+    by_queue : (q : Queue) → is_locked q s.writer ≡ true → (o : Option Writer) → s.writer ≡ o → (b : Bool) → s.is_in_closed_set ≡ b →
+        (is_some s.live || (is_held s.stable || (not (eqb (length q) 0) || (s.is_in_open_set || b)))) ≡ (is_some (committed_by o s.live) || (not (is_empty q) || (s.is_in_open_set || b)))
     by_queue (r ∷ rs) locked o is b closed =
         let some : eqb (length (r ∷ rs)) 0 ≡ false = grind (arith, nat_tests) in
         rw (some, or_true (is_held s.stable), or_true (is_some s.live), or_true (is_some (committed_by o s.live))) refl
     by_queue [] locked (Some w) is b closed = absurd (no (ap (is_locked []) (sym is) ∙ locked))
-    by_queue [] locked None is true closed = rw (or_true s.is_recent, or_true (is_held s.stable), or_true (is_some s.live)) refl
+    by_queue [] locked None is true closed = rw (or_true s.is_in_open_set, or_true (is_held s.stable), or_true (is_some s.live)) refl
     by_queue [] locked None is false closed =
         let stable : s.stable ≡ Empty = sound.follows (ap (λ b. b && eqb s.mark point) closed) ∙ ap held_for is in
         rw stable refl

@@ -6,7 +6,8 @@ use Rattle.std.proofs.lemmas.Grind.{common_steps}
 use Rattle.std.proofs.lemmas.Bool.Decides.{nat_tests}
 use Rattle.pc_model.specs.Locks.{Queue}
 use Rattle.pc_records.specs.declared.slots.Slot.{Slot}
-use Rattle.pc_records.specs.Rows.{Row, committed_row}
+use Rattle.pc_records.specs.Rows.{Row}
+use Rattle.pc_records.specs.RowSteps.{committed_row}
 use Rattle.pc_records.specs.Slots.{row_of, rows_of, numbers_of, times, AreShared, AreStillShared, numbers_from, slots_from}
 
 -- how often a number stands in two lists together

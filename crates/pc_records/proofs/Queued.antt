@@ -9,7 +9,7 @@ use Rattle.pc_records.specs.Slots.{committed, pinned, row_of, rows_of, numbers_o
 
 -- the slot's row with this queue
 abbrev pub with_queue : Slot → Queue → Row
-with_queue slot queue = (slot.key, record { value = committed slot; is_recent = slot.is_recent; is_closed = slot.is_closed; pinned = pinned slot; requests = queue })
+with_queue slot queue = (slot.key, record { value = committed slot; is_in_open_set = slot.is_in_open_set; is_in_closed_set = slot.is_in_closed_set; pinned = pinned slot; requests = queue })
 
 pub length-set : (queues : List Queue) (n : ℕ) (q : Queue) → length (set queues n q) ≡ length queues
 length-set [] n q = refl

@@ -6,9 +6,9 @@ use Rattle.std.proofs.Math.Seq.{map-set_same}
 use Rattle.pc_model.specs.Database.{KeysRise}
 use Rattle.pc_model.specs.Locks.{Queue}
 use Rattle.pc_locks.specs.States.{queue_at}
-use Rattle.pc_locks.proofs.Rows.{none_at}
+use Rattle.pc_locks.proofs.QueueRowLaws.{none_at}
 use Rattle.pc_records.specs.declared.slots.Slot.{Slot}
-use Rattle.pc_records.specs.Rows.{committed_row}
+use Rattle.pc_records.specs.RowSteps.{committed_row}
 use Rattle.pc_records.specs.Slots.{rows_of, numbers_of, times, uses, AreShared, AreKept, numbers_from, slots_from, new_slot, taken_slot}
 use Rattle.pc_records.proofs.SlotRising.{keys_of, rise_any, rise_same, rows_rise}
 use Rattle.pc_records.proofs.Numbers.{keeps_shared, same_shared, inserted, removed_shared, times-insert, times-removed, first_shared, rows-first}

@@ -8,12 +8,13 @@ use Rattle.pc_types.specs.declared.Class.TheVariants.{During}
 use Rattle.pc_types.specs.declared.Write.{Write}
 use Rattle.pc_model.specs.Database.{KeysRise, key_cmp, same_bytes, written}
 use Rattle.pc_model.specs.Locks.{Queue}
-use Rattle.pc_model.specs.Replies.{same_class}
-use Rattle.pc_model.proofs.EntryPlaces.{rest_at}
+use Rattle.pc_types.specs.Phases.{same_class}
+use Rattle.pc_model.proofs.PlaceLaws.{rest_at}
 use Rattle.pc_locks.specs.States.{queue_at}
 use Rattle.pc_records.specs.declared.slots.Slot.{Slot}
 use Rattle.pc_records.specs.declared.versions.Writer.{Writer}
-use Rattle.pc_records.specs.Rows.{Row, record_of, is_closed, given, written_row, closed_row}
+use Rattle.pc_records.specs.Rows.{Row, record_of, is_in_closed_set}
+use Rattle.pc_records.specs.RowSteps.{given, written_row, closed_row}
 use Rattle.pc_records.specs.Tables.{Pending, value_of}
 use Rattle.pc_records.specs.Slots.{row_of, rows_of, numbers_of, pending_in, write_of, pending_of, with_entry, entries_of, is_prepared, IsSound, AreSound, AreKept, at_key, at_writes, settled, undone, closed_slot, slots_from}
 use Rattle.pc_records.proofs.SlotRising.{keys_of, rise_same}
@@ -168,11 +169,11 @@ module _ (point : ℕ) (ws : List Write) (slots new : List Slot) (free : List �
       by_written None stands = refl
       by_written (Some v) stands = by_writer s.writer refl (stands refl)
         where
-          by_writer : (o : Option Writer) → s.writer ≡ o → option_map value_of (write_of o s.live) ≡ Some v → row_of queues (settled point s) ≡ (s.key, record (row_of queues s).1 { value = v; is_recent = true })
+          by_writer : (o : Option Writer) → s.writer ≡ o → option_map value_of (write_of o s.live) ≡ Some v → row_of queues (settled point s) ≡ (s.key, record (row_of queues s).1 { value = v; is_in_open_set = true })
           by_writer None is e = cc
           by_writer (Some w) is e =
               let value : s.live ≡ v = cc in
-              row_settled queues point s w is ∙ ap (λ (x : Option (List ℕ)). (s.key, record (row_of queues s).1 { value = x; is_recent = true })) value
+              row_settled queues point s w is ∙ ap (λ (x : Option (List ℕ)). (s.key, record (row_of queues s).1 { value = x; is_in_open_set = true })) value
 
   rows_all : (ss : List Slot) → All (λ s. is_some (written ws s.key) ≡ true → option_map value_of (pending_in s) ≡ written ws s.key) ss → rows_of queues (map (at_writes (settled point) ws) ss) ≡ map (written_row ws) (rows_of queues ss)
   rows_all [] stand = refl
@@ -212,9 +213,9 @@ module _ (point : ℕ) (ws : List Write) (slots new : List Slot) (free : List �
 
 -- the open set is closed
 module _ (point later : ℕ) (slots new : List Slot) (free : List ℕ) (most : ℕ) (queues : List Queue) (is : new ≡ map closed_slot slots) (kept : AreKept slots free most queues) (sound : AreSound point queues slots) (after : point < later)
-    (none : (q : List ℕ) → is_closed (record_of (rows_of queues slots) q) ≡ false) (during : (q : List ℕ) (p : Pending) → find key_cmp q (pending_of slots) ≡ Some p → p.class ≡ During) where
-  all_open : All (λ s. s.is_closed ≡ false) slots
-  all_open = all_found (λ s. s.is_closed ≡ false) slots kept.rise (λ q s found. sym (ap is_closed (find_row queues slots q ∙ ap (record_in queues) found)) ∙ none q)
+    (none : (q : List ℕ) → is_in_closed_set (record_of (rows_of queues slots) q) ≡ false) (during : (q : List ℕ) (p : Pending) → find key_cmp q (pending_of slots) ≡ Some p → p.class ≡ During) where
+  all_open : All (λ s. s.is_in_closed_set ≡ false) slots
+  all_open = all_found (λ s. s.is_in_closed_set ≡ false) slots kept.rise (λ q s found. sym (ap is_in_closed_set (find_row queues slots q ∙ ap (record_in queues) found)) ∙ none q)
 
   all_prepared : All (λ s. is_prepared s.writer ≡ true) slots
   all_prepared = all_found (λ s. is_prepared s.writer ≡ true) slots kept.rise each
@@ -232,7 +233,7 @@ module _ (point later : ℕ) (slots new : List Slot) (free : List ℕ) (most : �
   pub sound_closed : AreSound later queues new
   sound_closed = sound_map closed_slot point later queues slots new is (λ k d lt one. closed_sound point later (queue_at queues (get_or slots k d).number) (get_or slots k d) after (all_open k d lt) one (all_prepared k d lt)) sound
 
-  closed_all : (ss : List Slot) → All (λ s. IsSound point (queue_at queues s.number) s) ss → All (λ s. s.is_closed ≡ false) ss → All (λ s. is_prepared s.writer ≡ true) ss → rows_of queues (map closed_slot ss) ≡ map closed_row (rows_of queues ss)
+  closed_all : (ss : List Slot) → All (λ s. IsSound point (queue_at queues s.number) s) ss → All (λ s. s.is_in_closed_set ≡ false) ss → All (λ s. is_prepared s.writer ≡ true) ss → rows_of queues (map closed_slot ss) ≡ map closed_row (rows_of queues ss)
   closed_all [] each unmarked ready = refl
   closed_all (x ∷ xs) each unmarked ready =
       ap (λ (r : Row). r ∷ rows_of queues (map closed_slot xs)) (row_closed point later (queue_at queues x.number) x after (unmarked 0 x (omega arith)) (each 0 x (omega arith)) queues (ready 0 x (omega arith)))

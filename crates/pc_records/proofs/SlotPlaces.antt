@@ -5,7 +5,8 @@ use Rattle.std.proofs.Math.ListN.{get_or-map}
 use Rattle.std.proofs.lemmas.List.{get_or_default}
 use Rattle.pc_model.specs.Database.{key_cmp, KeysRise}
 use Rattle.pc_model.specs.Locks.{Queue}
-use Rattle.pc_model.proofs.EntryPlaces.{IsBehind, at_hit, gap_before, behind_more, gap_at_end}
+use Rattle.pc_model.proofs.PlaceLaws.{at_hit, gap_before, behind_more, gap_at_end}
+use Rattle.pc_model.specs.Places.{IsBehind}
 use Rattle.pc_records.specs.declared.slots.Slot.{Slot}
 use Rattle.pc_records.specs.Rows.{Row, record_of}
 use Rattle.pc_records.specs.Slots.{row_of, rows_of, numbers_of, times, IsSlotOf, IsNewAt, IsNumbered}

@@ -7,7 +7,8 @@ use Rattle.pc_model.specs.Queues.{stands_in}
 use Rattle.pc_model.proofs.QueueLaws.{stands_granted}
 use Rattle.pc_locks.specs.States.{Lists, queue_at, slots_of, first_of, rest_of, is_listed, AreLinked}
 use Rattle.pc_records.specs.declared.slots.Slot.{Slot}
-use Rattle.pc_records.specs.Rows.{Row, Record, if_kept, is_kept, with_row, released, released_rows}
+use Rattle.pc_records.specs.Rows.{Row, Record, is_kept}
+use Rattle.pc_records.specs.RowSteps.{if_kept, with_row, released, released_rows}
 use Rattle.pc_records.specs.Slots.{row_of, rows_of, numbers_of, times, AreKept, IsNumbered, tidied}
 use Rattle.pc_records.proofs.SlotPlaces.{length-rows}
 use Rattle.pc_records.proofs.Queued.{with_queue, rows-at, times_at}

@@ -6,7 +6,7 @@ use Rattle.std.specs.Ordering.{is_lt}
 use Rattle.pc_model.specs.Database.{key_cmp, KeysRise}
 use Rattle.pc_model.specs.Locks.{Queue}
 use Rattle.pc_records.specs.declared.slots.Slot.{Slot}
-use Rattle.pc_records.specs.Rows.{committed_row}
+use Rattle.pc_records.specs.RowSteps.{committed_row}
 use Rattle.pc_records.specs.Slots.{rows_of}
 
 -- the keys of the slots

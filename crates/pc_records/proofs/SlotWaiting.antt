@@ -5,7 +5,7 @@ use Rattle.std.proofs.lemmas.Bool.Decides.{nat_tests}
 use Rattle.pc_model.specs.Locks.{Queue, request_in, is_ungranted}
 use Rattle.pc_locks.specs.States.{queue_at}
 use Rattle.pc_records.specs.declared.slots.Slot.{Slot}
-use Rattle.pc_records.specs.Rows.{is_waiting}
+use Rattle.pc_records.specs.RowSteps.{is_waiting}
 use Rattle.pc_records.specs.Slots.{rows_of, numbers_of, times, AreKept}
 
 abbrev pub waits_in : ℕ → Queue → Bool

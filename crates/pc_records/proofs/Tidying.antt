@@ -13,11 +13,12 @@ use Rattle.pc_model.specs.Database.{key_cmp, key_order, same_bytes, KeysRise}
 use Rattle.pc_model.specs.Locks.{Queue}
 use Rattle.pc_model.specs.Places.{IsAt}
 use Rattle.pc_model.specs.Replies.{is_empty}
-use Rattle.pc_model.proofs.Counts.{and_both}
-use Rattle.pc_model.proofs.Joins.{one_key}
+use Rattle.pc_model.proofs.CountLaws.{and_both}
+use Rattle.pc_model.proofs.JoinLaws.{one_key}
 use Rattle.pc_locks.specs.States.{queue_at}
 use Rattle.pc_records.specs.declared.slots.Slot.{Slot}
-use Rattle.pc_records.specs.Rows.{Row, Record, record_of, is_kept, if_kept, with_row, left_of, with_left, left_rows}
+use Rattle.pc_records.specs.Rows.{Row, Record, record_of, is_kept}
+use Rattle.pc_records.specs.RowSteps.{if_kept, with_row, left_of, with_left, left_rows}
 use Rattle.pc_records.specs.Slots.{committed, row_of, rows_of, AreKept, IsSlotOf, tidied, taken_slot}
 use Rattle.pc_records.proofs.SlotRising.{rise_any}
 use Rattle.pc_records.proofs.SlotPlaces.{length-rows}
@@ -88,7 +89,7 @@ module _ (slots new : List Slot) (free new_free : List ℕ) (most new_most : ℕ
 
   pub keeps_without : AreKept slots free most queues → is_kept (row_of queues e).1 ≡ false → new ≡ take i slots ++ drop (suc i) slots → new_free ≡ free ++ e.number ∷ [] → new_most ≡ most → AreKept new new_free new_most queues
   keeps_without kept goes new_is free_is most_is =
-      kept_removed slots new free new_free most new_most queues i e kept lt is new_is free_is most_is (no_requests (is_some (committed e)) e.is_recent e.is_closed (queue_at queues e.number) goes)
+      kept_removed slots new free new_free most new_most queues i e kept lt is new_is free_is most_is (no_requests (is_some (committed e)) e.is_in_open_set e.is_in_closed_set (queue_at queues e.number) goes)
       (rw (slot_goes goes new_is) (rise_tidied (rows_of queues slots) i (rise_any [] queues slots kept.rise)))
 
 -- two readings of one place
@@ -162,15 +163,15 @@ set_parts (x ∷ xs) (suc i) row lt = ap (λ (rs : List Row). x ∷ rs) (set_par
 
 -- a key whose mark of the closed set goes, and whose row is tidied then, is taken
 pub taken_rows : (rows : List Row) (key : List ℕ) (i : ℕ) (d : Row) → KeysRise rows → IsAt rows key i → same_bytes key (get_or rows i d).0 ≡ true →
-    tidied (set rows i ((get_or rows i d).0, record (get_or rows i d).1 { is_closed = false; pinned = None })) i ≡ left_rows rows key
-taken_rows rows key i d rise at here = by_record (if_kept (record (get_or rows i d).1 { is_closed = false; pinned = None })) refl
+    tidied (set rows i ((get_or rows i d).0, record (get_or rows i d).1 { is_in_closed_set = false; pinned = None })) i ≡ left_rows rows key
+taken_rows rows key i d rise at here = by_record (if_kept (record (get_or rows i d).1 { is_in_closed_set = false; pinned = None })) refl
   where
-    by_record : (o : Option Record) → if_kept (record (get_or rows i d).1 { is_closed = false; pinned = None }) ≡ o → tidied (set rows i ((get_or rows i d).0, record (get_or rows i d).1 { is_closed = false; pinned = None })) i ≡ left_rows rows key
+    by_record : (o : Option Record) → if_kept (record (get_or rows i d).1 { is_in_closed_set = false; pinned = None }) ≡ o → tidied (set rows i ((get_or rows i d).0, record (get_or rows i d).1 { is_in_closed_set = false; pinned = None })) i ≡ left_rows rows key
     by_record None is =
-        tidied_set rows i d ((get_or rows i d).0, record (get_or rows i d).1 { is_closed = false; pinned = None }) None at.in_range is ∙ others_but key rows i d rise at.in_range here
+        tidied_set rows i d ((get_or rows i d).0, record (get_or rows i d).1 { is_in_closed_set = false; pinned = None }) None at.in_range is ∙ others_but key rows i d rise at.in_range here
         ∙ sym (ap (λ o. with_left (left_of o) key rows) (at.finds d) ∙ ap (λ o. with_left o key rows) is)
     by_record (Some r) is =
-        tidied_set rows i d ((get_or rows i d).0, record (get_or rows i d).1 { is_closed = false; pinned = None }) (Some r) at.in_range is ∙ set_parts rows i ((get_or rows i d).0, r) at.in_range ∙ sym (at.puts d r)
+        tidied_set rows i d ((get_or rows i d).0, record (get_or rows i d).1 { is_in_closed_set = false; pinned = None }) (Some r) at.in_range is ∙ set_parts rows i ((get_or rows i d).0, r) at.in_range ∙ sym (at.puts d r)
         ∙ sym (ap (λ o. with_left (left_of o) key rows) (at.finds d) ∙ ap (λ o. with_left o key rows) is)
 
 -- and so in the slots
@@ -178,7 +179,7 @@ pub taken_there : (point : ℕ) (slots marked new : List Slot) (queues : List Qu
     ((d : Slot) → marked ≡ set slots i (taken_slot point (get_or slots i d))) → rows_of queues new ≡ tidied (rows_of queues marked) i → rows_of queues new ≡ left_rows (rows_of queues slots) key
 taken_there point slots marked new queues key i d rise at here marked_is new_is =
     let row : get_or (rows_of queues slots) i (row_of queues d) ≡ row_of queues (get_or slots i d) = get_or-map (row_of queues) slots i d in
-    let rows : rows_of queues marked ≡ set (rows_of queues slots) i ((get_or (rows_of queues slots) i (row_of queues d)).0, record (get_or (rows_of queues slots) i (row_of queues d)).1 { is_closed = false; pinned = None }) =
-    ap (rows_of queues) (marked_is d) ∙ map-set (row_of queues) slots i (taken_slot point (get_or slots i d)) ∙ ap (λ (r : Row). set (rows_of queues slots) i (r.0, record r.1 { is_closed = false; pinned = None })) (sym row) in
+    let rows : rows_of queues marked ≡ set (rows_of queues slots) i ((get_or (rows_of queues slots) i (row_of queues d)).0, record (get_or (rows_of queues slots) i (row_of queues d)).1 { is_in_closed_set = false; pinned = None }) =
+    ap (rows_of queues) (marked_is d) ∙ map-set (row_of queues) slots i (taken_slot point (get_or slots i d)) ∙ ap (λ (r : Row). set (rows_of queues slots) i (r.0, record r.1 { is_in_closed_set = false; pinned = None })) (sym row) in
     new_is ∙ ap (λ (rs : List Row). tidied rs i) rows
     ∙ taken_rows (rows_of queues slots) key i (row_of queues d) (rise_any [] queues slots rise) (at queues) (ap (λ (r : Row). same_bytes key r.0) row ∙ here)

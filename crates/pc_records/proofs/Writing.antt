@@ -5,9 +5,10 @@ use Rattle.std.specs.FinMap.{find}
 use Rattle.pc_types.specs.declared.Class.{Class}
 use Rattle.pc_types.specs.declared.Class.TheVariants.{Before}
 use Rattle.pc_model.specs.Database.{KeysRise, key_cmp, same_bytes}
-use Rattle.pc_model.specs.Locks.{Queue, Outcome}
-use Rattle.pc_model.specs.Locks.Outcome.{Granted, Queued, Died}
-use Rattle.pc_model.proofs.Joins.{one_key}
+use Rattle.pc_types.specs.declared.Outcome.{Outcome}
+use Rattle.pc_model.specs.Locks.{Queue}
+use Rattle.pc_types.specs.declared.Outcome.TheVariants.{Granted, Queued, Died}
+use Rattle.pc_model.proofs.JoinLaws.{one_key}
 use Rattle.pc_locks.specs.States.{queue_at}
 use Rattle.pc_records.specs.declared.slots.Slot.{Slot}
 use Rattle.pc_records.specs.declared.versions.Writer.{Writer}
@@ -47,7 +48,7 @@ module _ (point t : ℕ) (class : Class) (value : Option (List ℕ)) (slots new 
   one = subst (λ (s : Slot). IsSound point (queue_at queues s.number) s) (sym is) (sound.each i e lt)
 
   -- what the answer to the request leaves of the slot
-  module _ (o : Outcome) (outside : class ≡ Before → e.is_closed ≡ false) (new_is : new ≡ set slots i (granted_slot o point t class e.live value e)) where
+  module _ (o : Outcome) (outside : class ≡ Before → e.is_in_closed_set ≡ false) (new_is : new ≡ set slots i (granted_slot o point t class e.live value e)) where
     key_granted : (o : Outcome) → (granted_slot o point t class e.live value e).key ≡ e.key
     key_granted Granted = put_key point t class e.live value e
     key_granted Queued = refl

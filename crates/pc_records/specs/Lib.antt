@@ -3,3 +3,5 @@ pub mod Following
 pub mod NewKeys
 pub mod Tables
 pub mod Slots
+pub mod RowSets
+pub mod RowSteps

@@ -1,8 +1,9 @@
 -- The keys that a commit adds to the open set, and how many writes a transaction may have.
-use Rattle.std.specs.Prelude.{ℕ, ◌==◌, ◌&&◌, Bool, true, false, List, [], ◌∷◌, length, is_none}
+use Rattle.std.specs.Prelude.{ℕ, ◌==◌, ◌&&◌, Bool, true, false, List, [], ◌∷◌, length, is_none, ◌≡◌, ⊤, is_some}
 use Rattle.pc_types.specs.declared.Write.{Write}
+use Rattle.pc_types.specs.declared.limits.TheConstants.{MOST_WRITES}
 use Rattle.pc_model.specs.Database.{written}
-use Rattle.pc_records.specs.Rows.{Row, record_of, is_recent}
+use Rattle.pc_records.specs.Rows.{Row, record_of, is_in_open_set}
 
 -- the keys with this one before them, where it is new
 abbrev pub with_new : Bool → List ℕ → List (List ℕ) → List (List ℕ)
@@ -12,8 +13,13 @@ with_new false key keys = key ∷ keys
 -- the keys of the writes that are not in the open set
 abbrev pub new_keys : List Row → List Write → List (List ℕ)
 new_keys rows [] = []
-new_keys rows (w ∷ ws) = with_new (is_recent (record_of rows w.key)) w.key (new_keys rows ws)
+new_keys rows (w ∷ ws) = with_new (is_in_open_set (record_of rows w.key)) w.key (new_keys rows ws)
 
 -- a 257th key
 abbrev pub is_one_too_many : List Write → List ℕ → Bool
-is_one_too_many writes key = (length writes == 256) && is_none (written writes key)
+is_one_too_many writes key = (length writes == MOST_WRITES) && is_none (written writes key)
+
+-- writes of which no two have one key
+abbrev pub AreDistinct : List Write → Type 0
+AreDistinct [] = ⊤
+AreDistinct (w ∷ ws) = (is_some (written ws w.key) ≡ false) × AreDistinct ws

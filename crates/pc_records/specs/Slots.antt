@@ -1,20 +1,23 @@
 -- Slots: the places of records. Each has a number of its own below the capacity, and the queue of requests at that number.
 use Rattle.std.specs.Prelude.{◌≡◌, ℕ, zero, suc, ◌+◌, ◌<◌, ◌≤◌, nat_lt, ◌==◌, ◌&&◌, ◌||◌, not, Bool, true, false, List, [], ◌∷◌, map, length, insert, All, Option, Some, None, is_some, slice_index_or, if◌then◌else◌}
 use Rattle.std.specs.List.{list_any}
+use Rattle.pc_types.specs.declared.Mode.{Mode}
 use Rattle.pc_types.specs.declared.Class.{Class}
 use Rattle.pc_types.specs.declared.Class.TheVariants.{Before, During, After}
 use Rattle.pc_types.specs.declared.Write.{Write}
 use Rattle.pc_model.specs.Database.{KeysRise, same_bytes, written}
-use Rattle.pc_model.specs.Locks.{Queue, Outcome, queue_after}
-use Rattle.pc_model.specs.Locks.Outcome.{Granted, Queued, Died}
+use Rattle.pc_types.specs.declared.Outcome.{Outcome}
+use Rattle.pc_model.specs.Locks.{Queue, queue_after, is_exclusive}
+use Rattle.pc_types.specs.declared.Outcome.TheVariants.{Granted, Queued, Died}
 use Rattle.pc_model.specs.Places.{IsAt, IsGap}
-use Rattle.pc_model.specs.Replies.{same_class}
+use Rattle.pc_types.specs.Phases.{same_class}
 use Rattle.pc_locks.specs.States.{queue_at}
 use Rattle.pc_records.specs.declared.slots.Slot.{Slot}
 use Rattle.pc_records.specs.declared.versions.Stable.{Stable}
 use Rattle.pc_records.specs.declared.versions.Stable.TheVariants.{Empty, Held}
 use Rattle.pc_records.specs.declared.versions.Writer.{Writer}
-use Rattle.pc_records.specs.Rows.{Row, if_kept, with_row}
+use Rattle.pc_records.specs.Rows.{Row}
+use Rattle.pc_records.specs.RowSteps.{if_kept, with_row}
 use Rattle.pc_records.specs.Tables.{Pending, Table}
 
 -- what is committed of a key: what its writer found, or else what stands in its place
@@ -33,7 +36,7 @@ version_or (Held value) live = value
 
 -- what the slot's key has at the point, where it is in the closed set
 abbrev pub pinned : Slot → Option (List ℕ)
-pinned slot = if slot.is_closed then version_or slot.stable slot.live else None
+pinned slot = if slot.is_in_closed_set then version_or slot.stable slot.live else None
 
 -- the write of an open transaction, given what stands in the key's place
 abbrev pub write_of : Option Writer → Option (List ℕ) → Option Pending
@@ -46,7 +49,7 @@ pending_in slot = write_of slot.writer slot.live
 
 -- the row in a slot, given the queue of each number
 abbrev pub row_of : List Queue → Slot → Row
-row_of queues slot = (slot.key, record { value = committed slot; is_recent = slot.is_recent; is_closed = slot.is_closed; pinned = pinned slot; requests = queue_at queues slot.number })
+row_of queues slot = (slot.key, record { value = committed slot; is_in_open_set = slot.is_in_open_set; is_in_closed_set = slot.is_in_closed_set; pinned = pinned slot; requests = queue_at queues slot.number })
 
 -- the rows in the slots
 abbrev pub rows_of : List Queue → List Slot → List Row
@@ -126,7 +129,7 @@ numbers_from n (suc count) = n ∷ numbers_from (n + 1) count
 -- slots of committed pairs, numbered from n on
 abbrev pub slots_from : ℕ → List (List ℕ × List ℕ) → List Slot
 slots_from n [] = []
-slots_from n (pair ∷ pairs) = record { number = n; key = pair.0; live = Some pair.1; stable = Empty; mark = 0; writer = None; is_recent = false; is_closed = false } ∷ slots_from (n + 1) pairs
+slots_from n (pair ∷ pairs) = record { number = n; key = pair.0; live = Some pair.1; stable = Empty; mark = 0; writer = None; is_in_open_set = false; is_in_closed_set = false } ∷ slots_from (n + 1) pairs
 
 -- the rows without the one at place i where nothing keeps it
 abbrev pub tidied : List Row → ℕ → List Row
@@ -136,7 +139,7 @@ tidied (row ∷ rows) (suc i) = row ∷ tidied rows i
 
 -- what the slot holds is what its key has at the point: the key is in the closed set, and the mark is of the point
 abbrev pub is_available : ℕ → Slot → Bool
-is_available point slot = slot.is_closed && (slot.mark == point)
+is_available point slot = slot.is_in_closed_set && (slot.mark == point)
 
 -- a version is held
 abbrev pub is_held : Stable → Bool
@@ -155,7 +158,7 @@ is_prepared (Some w) = same_class w.class During
 
 -- the transaction has an exclusive request in the queue that is granted
 abbrev pub has_exclusive : Queue → ℕ → Bool
-has_exclusive queue t = list_any (λ r. (r.transaction == t) && (r.exclusive && r.granted)) queue
+has_exclusive queue t = list_any (λ r. (r.transaction == t) && (is_exclusive r.mode && r.granted)) queue
 
 -- a writer, if there is one, has the exclusive lock
 abbrev pub is_locked : Queue → Option Writer → Bool
@@ -171,7 +174,7 @@ pub record IsSound (point : ℕ) (queue : Queue) (slot : Slot) : Type 0 where
   -- another one holds what is committed where its writer began in prepare, and else nothing
   pub follows : is_available point slot ≡ false → slot.stable ≡ held_for slot.writer
   -- a key of the closed set that isn't available is written by no transaction but one that began in prepare
-  pub prepared : slot.is_closed ≡ true → (slot.mark == point) ≡ false → is_prepared slot.writer ≡ true
+  pub prepared : slot.is_in_closed_set ≡ true → (slot.mark == point) ≡ false → is_prepared slot.writer ≡ true
   -- a writer has the exclusive lock of the key
   pub locked : is_locked queue slot.writer ≡ true
 
@@ -181,11 +184,11 @@ pub record AreSound (point : ℕ) (queues : List Queue) (slots : List Slot) : Ty
 
 -- something keeps the slot, given its queue: a value, a version, a request, or one of the two sets
 abbrev pub is_kept_slot : Queue → Slot → Bool
-is_kept_slot queue slot = is_some slot.live || (is_held slot.stable || (not (length queue == 0) || (slot.is_recent || slot.is_closed)))
+is_kept_slot queue slot = is_some slot.live || (is_held slot.stable || (not (length queue == 0) || (slot.is_in_open_set || slot.is_in_closed_set)))
 
 -- a slot of a key that has nothing yet
 abbrev pub new_slot : ℕ → List ℕ → Slot
-new_slot number key = record { number = number; key = key; live = None; stable = Empty; mark = 0; writer = None; is_recent = false; is_closed = false }
+new_slot number key = record { number = number; key = key; live = None; stable = Empty; mark = 0; writer = None; is_in_open_set = false; is_in_closed_set = false }
 
 -- what is held once a transaction that began in prepare wrote the key first: what is held already, or else this copy
 abbrev pub held_or : Stable → Option (List ℕ) → Stable
@@ -196,7 +199,7 @@ held_or (Held value) copy = Held value
 abbrev pub saved : ℕ → Class → Option (List ℕ) → Slot → Slot
 saved point Before copy slot = slot
 saved point During copy slot = record slot { stable = held_or slot.stable copy }
-saved point After copy slot = if slot.is_closed && not (slot.mark == point) then record slot { stable = Held copy; mark = point } else slot
+saved point After copy slot = if slot.is_in_closed_set && not (slot.mark == point) then record slot { stable = Held copy; mark = point } else slot
 
 -- the slot once a transaction has written the key for the first time
 abbrev pub first_put : ℕ → ℕ → Class → Option (List ℕ) → Option (List ℕ) → Slot → Slot
@@ -218,16 +221,16 @@ granted_slot Queued point t class copy value slot = slot
 granted_slot Died point t class copy value slot = slot
 
 -- a slot of the key that has nothing yet went in at place i, and the transaction has the granted request in its queue
-pub record IsFirstIn (slots : List Slot) (new : List Slot) (queues : List Queue) (i : ℕ) (key : List ℕ) (t : ℕ) (exclusive : Bool) : Type 0 where
+pub record IsFirstIn (slots : List Slot) (new : List Slot) (queues : List Queue) (i : ℕ) (key : List ℕ) (t : ℕ) (mode : Mode) : Type 0 where
   pub number : ℕ
   pub inserted : new ≡ insert slots i (new_slot number key)
-  pub queue : queue_at queues number ≡ queue_after [] t exclusive Granted
+  pub queue : queue_at queues number ≡ queue_after [] t mode Granted
 
 -- the slot once its writer, of the class, has committed
 abbrev pub settled_class : Class → ℕ → Slot → Slot
-settled_class Before point slot = record slot { writer = None; is_recent = true }
-settled_class During point slot = if slot.is_closed then record slot { mark = point; writer = None; is_recent = true } else record slot { stable = Empty; writer = None; is_recent = true }
-settled_class After point slot = record slot { writer = None; is_recent = true }
+settled_class Before point slot = record slot { writer = None; is_in_open_set = true }
+settled_class During point slot = if slot.is_in_closed_set then record slot { mark = point; writer = None; is_in_open_set = true } else record slot { stable = Empty; writer = None; is_in_open_set = true }
+settled_class After point slot = record slot { writer = None; is_in_open_set = true }
 
 -- the slot once its writer, if there is one, has committed
 abbrev pub settled_from : Option Writer → ℕ → Slot → Slot
@@ -257,8 +260,8 @@ at_writes f writes slot = if is_some (written writes slot.key) then f slot else 
 
 -- the slot once the open set is closed
 abbrev pub closed_slot : Slot → Slot
-closed_slot slot = record slot { is_recent = false; is_closed = slot.is_recent }
+closed_slot slot = record slot { is_in_open_set = false; is_in_closed_set = slot.is_in_open_set }
 
 -- the slot once its key is taken
 abbrev pub taken_slot : ℕ → Slot → Slot
-taken_slot point slot = record slot { is_closed = false; stable = Empty; mark = point }
+taken_slot point slot = record slot { is_in_closed_set = false; stable = Empty; mark = point }

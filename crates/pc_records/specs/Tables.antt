@@ -5,8 +5,8 @@ use Rattle.std.specs.FinMap.{find}
 use Rattle.pc_types.specs.declared.Class.{Class}
 use Rattle.pc_types.specs.declared.Write.{Write}
 use Rattle.pc_model.specs.Database.{key_cmp, same_bytes, written}
-use Rattle.pc_model.specs.Locks.{Outcome}
-use Rattle.pc_model.specs.Locks.Outcome.{Granted, Queued, Died}
+use Rattle.pc_types.specs.declared.Outcome.{Outcome}
+use Rattle.pc_types.specs.declared.Outcome.TheVariants.{Granted, Queued, Died}
 use Rattle.pc_records.specs.Rows.{Row, Kept, record_of, stored}
 
 -- what an open transaction has put in a key's place: its number and its class, and what it wrote last, a value or absence

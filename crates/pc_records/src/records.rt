@@ -1,28 +1,30 @@
 //! The records.
 ghost use Rattle.std.specs.Prelude.{◌≡◌, ◌==◌, ◌<◌, ◌≤◌, [], false, true, length, map, is_none, is_some, option_map, Some, IfOk, OnErr, option_copied, vec_capacity, List, ℕ};
 ghost use Rattle.std.specs.FinMap.{find};
+ghost use Rattle.pc_types.specs.declared.Mode.TheVariants.{Shared, Exclusive};
 ghost use Rattle.pc_types.specs.declared.Class.TheVariants.{Before, During};
 ghost use Rattle.pc_model.specs.Maps.{get};
 ghost use Rattle.pc_model.specs.Database.{KeysRise, key_cmp, database_of, written};
 ghost use Rattle.pc_model.specs.Locks.{outcome};
-ghost use Rattle.pc_model.specs.Locks.Outcome.{Granted};
-ghost use Rattle.pc_model.specs.Replies.{same_class};
-ghost use Rattle.pc_locks.specs.Queues.{told, is_exclusive};
+ghost use Rattle.pc_types.specs.declared.Outcome.TheVariants.{Granted};
+ghost use Rattle.pc_types.specs.Phases.{same_class};
 ghost use Rattle.pc_locks.specs.States as states;
 ghost use Rattle.pc_locks.specs.States.{slots_of};
-ghost use Rattle.pc_records.specs.Rows.{record_of, stored, is_recent, is_closed, at_point, requests_on, is_full_for, is_waiting, rows_after, released_rows, written_row, closed_row, left_rows, committed_row};
+ghost use Rattle.pc_records.specs.Rows.{record_of, stored, is_in_open_set, is_in_closed_set, at_point, requests_on};
+ghost use Rattle.pc_records.specs.RowSteps.{is_full_for, is_waiting, rows_after, released_rows, written_row, closed_row, left_rows, committed_row};
 ghost use Rattle.pc_records.specs.Tables.{Pending, kept_of, pending_at, value_of, latest, IsClearFor, pending_after, pending_without};
 ghost use Rattle.pc_records.specs.Slots.{rows_of, pending_of, table_of, AreKept, AreSound, IsNewAt, IsFirstIn};
 
 use crate::slots::Slot;
 use crate::{slots, versions};
-use pc_locks::{Locks, Mode, Outcome};
-use pc_model::copied;
-use pc_types::{Class, Key, Point, SlotId, TxnNo, Value, Write};
+use pc_locks::Locks;
+use pc_types::{
+    Class, Key, MOST_KEYS, Mode, Outcome, Point, SlotId, TxnNo, Value, Write, copy_content,
+};
 use std::alloc::{AllocError, Global};
 use std::marker::Model;
 
-/// The records, in slots that rise by key; at most as many as the capacity. Each slot has a number below the capacity
+/// The records, in slots that rise by key, as their rows do; at most as many as the capacity. Each slot has a number below the capacity
 /// that no other has, and the locks have the requests of its key at that number. The point is that of the last closed set.
 #[derive(Drop)]
 pub struct Records {
@@ -54,7 +56,7 @@ impl Records {
     ) -> Result<Records, AllocError>
         requires rise { KeysRise pairs.now }
         requires fit { length pairs.now ≤ capacity }
-        requires capacity { (1 ≤ capacity) × (capacity ≤ 1048576) }
+        requires capacity { (1 ≤ capacity) × (capacity ≤ MOST_KEYS) }
         ensures { IfOk result (λ r. r ≡ record { capacity = capacity; rows = map committed_row pairs.now; pending = []; point = 0 }) }
     {
         let slots = slots::slots_of(alloc, pairs)?;
@@ -67,13 +69,6 @@ impl Records {
             locks,
             point: Point(0),
         })
-    }
-
-    /// The rows rise by key. It does nothing.
-    pub fn rise(&self)
-        ensures { KeysRise self.now.rows }
-    {
-        let _ = &self.slots;
     }
 
     /// Whether the key has no record and there are as many as there may be.
@@ -106,10 +101,10 @@ impl Records {
     }
 
     /// Whether the key is in the open set.
-    pub fn is_recent(&self, key: &Key) -> bool
-        ensures { result ≡ is_recent (record_of self.now.rows key.now) }
+    pub fn is_in_open_set(&self, key: &Key) -> bool
+        ensures { result ≡ is_in_open_set (record_of self.now.rows key.now) }
     {
-        slots::recent_at(&self.slots, key)
+        slots::is_in_open_set_at(&self.slots, key)
     }
 
     /// Whether a request of the transaction waits.
@@ -128,9 +123,9 @@ impl Records {
     ) -> Result<Outcome, AllocError>
         requires room { is_full_for (kept_of self.old) key.now ≡ false }
         requires ready { is_waiting self.old.rows transaction ≡ false }
-        ensures told { IfOk result (λ answer. told answer ≡ outcome (requests_on (record_of self.old.rows key.now)) transaction false) }
-        ensures rows { IfOk result (λ answer. self.new ≡ record self.old { rows = rows_after self.old.rows key.now transaction false (told answer) }) }
-        ensures clear { IfOk result (λ answer. told answer ≡ Granted → IsClearFor self.old key.now transaction) }
+        ensures told { IfOk result (λ answer. answer ≡ outcome (requests_on (record_of self.old.rows key.now)) transaction Shared) }
+        ensures rows { IfOk result (λ answer. self.new ≡ record self.old { rows = rows_after self.old.rows key.now transaction Shared answer }) }
+        ensures clear { IfOk result (λ answer. answer ≡ Granted → IsClearFor self.old key.now transaction) }
         ensures err { OnErr result (self.new ≡ self.old) }
     {
         share(
@@ -155,12 +150,12 @@ impl Records {
     ) -> Result<Outcome, AllocError>
         requires room { is_full_for (kept_of self.old) key.now ≡ false }
         requires ready { is_waiting self.old.rows transaction ≡ false }
-        requires outside { class ≡ Before → is_closed (record_of self.old.rows key.now) ≡ false }
+        requires outside { class ≡ Before → is_in_closed_set (record_of self.old.rows key.now) ≡ false }
         requires again { (p : Pending) → pending_at self.old key.now ≡ Some p → p.by ≡ transaction → p.class ≡ class }
-        ensures told { IfOk result (λ answer. told answer ≡ outcome (requests_on (record_of self.old.rows key.now)) transaction true) }
-        ensures rows { IfOk result (λ answer. kept_of self.new ≡ record (kept_of self.old) { rows = rows_after self.old.rows key.now transaction true (told answer) }) }
-        ensures pending { IfOk result (λ answer. (q : List ℕ) → pending_at self.new q ≡ pending_after (told answer) self.old key.now (record { by = transaction; class = class; value = value }) q) }
-        ensures clear { IfOk result (λ answer. told answer ≡ Granted → IsClearFor self.old key.now transaction) }
+        ensures told { IfOk result (λ answer. answer ≡ outcome (requests_on (record_of self.old.rows key.now)) transaction Exclusive) }
+        ensures rows { IfOk result (λ answer. kept_of self.new ≡ record (kept_of self.old) { rows = rows_after self.old.rows key.now transaction Exclusive answer }) }
+        ensures pending { IfOk result (λ answer. (q : List ℕ) → pending_at self.new q ≡ pending_after answer self.old key.now (record { by = transaction; class = class; value = value }) q) }
+        ensures clear { IfOk result (λ answer. answer ≡ Granted → IsClearFor self.old key.now transaction) }
         ensures point { IfOk result (λ answer. self.new.point ≡ self.old.point) }
         ensures err { OnErr result (self.new ≡ self.old) }
     {
@@ -195,6 +190,7 @@ impl Records {
     /// keys are in the open set. It takes no memory.
     pub fn commit(&mut self, writes: &[Write])
         requires { (q : List ℕ) → is_some (written writes.now q) ≡ true → option_map value_of (pending_at self.old q) ≡ written writes.now q }
+        ensures rise { KeysRise self.old.rows }
         ensures rows { kept_of self.new ≡ record (kept_of self.old) { rows = map (written_row writes.now) self.old.rows } }
         ensures pending { (q : List ℕ) → pending_at self.new q ≡ pending_without writes.now self.old q }
         ensures point { self.new.point ≡ self.old.point }
@@ -205,6 +201,7 @@ impl Records {
     /// The transaction of these writes is undone: what was committed of their keys stands in their places again. It takes
     /// no memory.
     pub fn undo(&mut self, writes: &[Write])
+        ensures rise { KeysRise self.old.rows }
         ensures rows { kept_of self.new ≡ kept_of self.old }
         ensures pending { (q : List ℕ) → pending_at self.new q ≡ pending_without writes.now self.old q }
         ensures point { self.new.point ≡ self.old.point }
@@ -215,7 +212,7 @@ impl Records {
     /// The open set is closed, as that of the point, and another one begins.
     pub fn close(&mut self, point: Point)
         requires later { self.old.point < point }
-        requires none { (q : List ℕ) → is_closed (record_of self.old.rows q) ≡ false }
+        requires none { (q : List ℕ) → is_in_closed_set (record_of self.old.rows q) ≡ false }
         requires during { (q : List ℕ) (p : Pending) → pending_at self.old q ≡ Some p → p.class ≡ During }
         ensures { self.new ≡ record self.old { rows = map closed_row self.old.rows; point = point } }
     {
@@ -252,9 +249,9 @@ fn share(
     requires sound { AreSound point locks.old.queues slots.old.items }
     requires room { is_none (record_of (rows_of locks.old.queues slots.old.items) key.now) ≡ true → 0 < length free.old.items }
     requires ready { states.is_waiting locks.old transaction ≡ false }
-    ensures told { IfOk result (λ answer. told answer ≡ outcome (requests_on (record_of (rows_of locks.old.queues slots.old.items) key.now)) transaction false) }
-    ensures rows { IfOk result (λ answer. rows_of locks.new.queues slots.new.items ≡ rows_after (rows_of locks.old.queues slots.old.items) key.now transaction false (told answer)) }
-    ensures clear { IfOk result (λ answer. told answer ≡ Granted → IsClearFor (table_of (length locks.old.queues) locks.old.queues slots.old.items point) key.now transaction) }
+    ensures told { IfOk result (λ answer. answer ≡ outcome (requests_on (record_of (rows_of locks.old.queues slots.old.items) key.now)) transaction Shared) }
+    ensures rows { IfOk result (λ answer. rows_of locks.new.queues slots.new.items ≡ rows_after (rows_of locks.old.queues slots.old.items) key.now transaction Shared answer) }
+    ensures clear { IfOk result (λ answer. answer ≡ Granted → IsClearFor (table_of (length locks.old.queues) locks.old.queues slots.old.items point) key.now transaction) }
     ensures err { OnErr result (rows_of locks.new.queues slots.new.items ≡ rows_of locks.old.queues slots.old.items) }
     ensures pending { pending_of slots.new.items ≡ pending_of slots.old.items }
     ensures kept { AreKept slots.new.items free.new.items (vec_capacity free.new) locks.new.queues }
@@ -265,7 +262,6 @@ fn share(
     match slots::place(slots, key) {
         Ok(i) => {
             let number = slots[i].number;
-            locks.laws(number);
             locks.request(transaction, number, mode)
         }
         Err(i) => request_new(alloc, slots, free, locks, point, i, transaction, key, mode),
@@ -289,13 +285,13 @@ fn write(
     requires sound { AreSound point locks.old.queues slots.old.items }
     requires room { is_none (record_of (rows_of locks.old.queues slots.old.items) key.now) ≡ true → 0 < length free.old.items }
     requires ready { states.is_waiting locks.old transaction ≡ false }
-    requires outside { class ≡ Before → is_closed (record_of (rows_of locks.old.queues slots.old.items) key.now) ≡ false }
+    requires outside { class ≡ Before → is_in_closed_set (record_of (rows_of locks.old.queues slots.old.items) key.now) ≡ false }
     requires again { (p : Pending) → find key_cmp key.now (pending_of slots.old.items) ≡ Some p → p.by ≡ transaction → p.class ≡ class }
-    ensures told { IfOk result (λ answer. told answer ≡ outcome (requests_on (record_of (rows_of locks.old.queues slots.old.items) key.now)) transaction true) }
-    ensures rows { IfOk result (λ answer. rows_of locks.new.queues slots.new.items ≡ rows_after (rows_of locks.old.queues slots.old.items) key.now transaction true (told answer)) }
-    ensures clear { IfOk result (λ answer. told answer ≡ Granted → IsClearFor (table_of (length locks.old.queues) locks.old.queues slots.old.items point) key.now transaction) }
+    ensures told { IfOk result (λ answer. answer ≡ outcome (requests_on (record_of (rows_of locks.old.queues slots.old.items) key.now)) transaction Exclusive) }
+    ensures rows { IfOk result (λ answer. rows_of locks.new.queues slots.new.items ≡ rows_after (rows_of locks.old.queues slots.old.items) key.now transaction Exclusive answer) }
+    ensures clear { IfOk result (λ answer. answer ≡ Granted → IsClearFor (table_of (length locks.old.queues) locks.old.queues slots.old.items point) key.now transaction) }
     ensures err { OnErr result (rows_of locks.new.queues slots.new.items ≡ rows_of locks.old.queues slots.old.items) }
-    ensures pending { IfOk result (λ answer. (q : List ℕ) → find key_cmp q (pending_of slots.new.items) ≡ pending_after (told answer) (table_of (length locks.old.queues) locks.old.queues slots.old.items point) key.now (record { by = transaction; class = class; value = value }) q) }
+    ensures pending { IfOk result (λ answer. (q : List ℕ) → find key_cmp q (pending_of slots.new.items) ≡ pending_after answer (table_of (length locks.old.queues) locks.old.queues slots.old.items point) key.now (record { by = transaction; class = class; value = value }) q) }
     ensures still { OnErr result (pending_of slots.new.items ≡ pending_of slots.old.items) }
     ensures kept { AreKept slots.new.items free.new.items (vec_capacity free.new) locks.new.queues }
     ensures sound { AreSound point locks.new.queues slots.new.items }
@@ -306,8 +302,7 @@ fn write(
         Ok(i) => {
             let slot = &slots[i];
             let number = slot.number;
-            let copy = copied(alloc, &slot.live)?;
-            locks.laws(number);
+            let copy = copy_content(alloc, &slot.live)?;
             let answer = locks.request(transaction, number, mode)?;
             slots::put_granted(slots, i, point, transaction, class, copy, value, answer);
             Ok(answer)
@@ -339,9 +334,9 @@ fn request_new(
     requires ready { states.is_waiting locks.old transaction ≡ false }
     requires place { IsNewAt slots.old.items key.now i }
     requires behind { i ≤ length slots.old.items }
-    ensures told { IfOk result (λ answer. told answer ≡ Granted) }
-    ensures rows { IfOk result (λ answer. rows_of locks.new.queues slots.new.items ≡ rows_after (rows_of locks.old.queues slots.old.items) key.now transaction (is_exclusive mode) Granted) }
-    ensures slot { IfOk result (λ answer. IsFirstIn slots.old.items slots.new.items locks.new.queues i key.now transaction (is_exclusive mode)) }
+    ensures told { IfOk result (λ answer. answer ≡ Granted) }
+    ensures rows { IfOk result (λ answer. rows_of locks.new.queues slots.new.items ≡ rows_after (rows_of locks.old.queues slots.old.items) key.now transaction mode Granted) }
+    ensures slot { IfOk result (λ answer. IsFirstIn slots.old.items slots.new.items locks.new.queues i key.now transaction mode) }
     ensures err { OnErr result (rows_of locks.new.queues slots.new.items ≡ rows_of locks.old.queues slots.old.items) }
     ensures pending { pending_of slots.new.items ≡ pending_of slots.old.items }
     ensures kept { AreKept slots.new.items free.new.items (vec_capacity free.new) locks.new.queues }
@@ -379,7 +374,6 @@ fn release_next(
     ensures shrinks { result ≡ true → length (slots_of locks.new.lists transaction) < length (slots_of locks.old.lists transaction) }
     ensures done { result ≡ false → rows_of locks.new.queues slots.new.items ≡ released_rows transaction (rows_of locks.old.queues slots.old.items) }
 {
-    locks.linked();
     match locks.release_one(transaction) {
         Some(number) => {
             if let Some(i) = slots::slot_numbered(slots, number) {

@@ -4,16 +4,15 @@ ghost use Rattle.std.specs.FinMap.{find};
 ghost use Rattle.pc_model.specs.Maps.{get};
 ghost use Rattle.pc_model.specs.Database.{KeysRise, key_cmp, database_of, same_bytes};
 ghost use Rattle.pc_model.specs.Locks.{Queue};
-ghost use Rattle.pc_locks.specs.Queues.{told};
 ghost use Rattle.pc_locks.specs.States.{queue_at};
-ghost use Rattle.pc_records.specs.Rows.{record_of, stored, is_recent, at_point};
+ghost use Rattle.pc_records.specs.Rows.{record_of, stored, is_in_open_set, at_point};
 ghost use Rattle.pc_records.specs.Tables.{read_of};
 ghost use Rattle.pc_records.specs.Slots.{rows_of, pending_of, numbers_of, times, AreKept, AreSound, is_kept_slot, IsSlotOf, IsNewAt, IsNumbered, numbers_from, slots_from, new_slot, tidied, put_slot, granted_slot, settled, undone, at_key, at_writes, closed_slot, taken_slot};
 
 use crate::versions;
 use crate::versions::{Stable, Writer};
-use pc_locks::{Locks, Outcome};
-use pc_types::{Class, Key, Point, SlotId, TxnNo, Value, Write};
+use pc_locks::Locks;
+use pc_types::{Class, Key, Outcome, Point, SlotId, TxnNo, Value, Write};
 use std::alloc::{AllocError, Global};
 
 /// What is kept of a key, but its requests.
@@ -32,9 +31,9 @@ pub(crate) struct Slot {
     /// The open transaction that has written the key.
     pub(crate) writer: Option<Writer>,
     /// The key is in the open set: a commit since the last resolve token, or since the start, wrote it.
-    pub(crate) is_recent: bool,
+    pub(crate) is_in_open_set: bool,
     /// The key is in the closed set: it is of the point, and not taken yet.
-    pub(crate) is_closed: bool,
+    pub(crate) is_in_closed_set: bool,
 }
 
 // A slot for each pair, numbered from 0.
@@ -54,8 +53,8 @@ pub(crate) fn slots_of(alloc: Global, pairs: &[(Key, Value)]) -> Result<Vec<Slot
             stable: Stable::Empty,
             mark: Point(0),
             writer: None,
-            is_recent: false,
-            is_closed: false,
+            is_in_open_set: false,
+            is_in_closed_set: false,
         })?;
     }
     Ok(slots)
@@ -72,8 +71,8 @@ pub(crate) fn bare_slot(number: SlotId, key: Key) -> Slot
         stable: Stable::Empty,
         mark: Point(0),
         writer: None,
-        is_recent: false,
-        is_closed: false,
+        is_in_open_set: false,
+        is_in_closed_set: false,
     }
 }
 
@@ -173,12 +172,12 @@ pub(crate) fn committed_pairs(
 }
 
 // Whether the key is in the open set.
-pub(crate) fn recent_at(slots: &[Slot], key: &Key) -> bool
+pub(crate) fn is_in_open_set_at(slots: &[Slot], key: &Key) -> bool
     requires { KeysRise (rows_of [] slots.now) }
-    ensures { (queues : List Queue) → result ≡ is_recent (record_of (rows_of queues slots.now) key.now) }
+    ensures { (queues : List Queue) → result ≡ is_in_open_set (record_of (rows_of queues slots.now) key.now) }
 {
     match place(slots, key) {
-        Ok(i) => slots[i].is_recent,
+        Ok(i) => slots[i].is_in_open_set,
         Err(_) => false,
     }
 }
@@ -236,7 +235,7 @@ pub(crate) fn put_granted(
     answer: Outcome,
 )
     requires { i < length slots.old.items }
-    ensures { (d : Slot) → slots.new.items ≡ slice_set slots.old.items i (granted_slot (told answer) point transaction class copy value (slice_index_or slots.old.items i d)) }
+    ensures { (d : Slot) → slots.new.items ≡ slice_set slots.old.items i (granted_slot answer point transaction class copy value (slice_index_or slots.old.items i d)) }
 {
     if let Outcome::Granted = answer {
         put_at(slots, i, point, transaction, class, copy, value);
@@ -318,8 +317,8 @@ fn is_kept(slot: &Slot, locks: &Locks) -> bool
     slot.live.is_some()
         || versions::is_held(&slot.stable)
         || locks.has_request(slot.number)
-        || slot.is_recent
-        || slot.is_closed
+        || slot.is_in_open_set
+        || slot.is_in_closed_set
 }
 
 // The slot at the place is free where nothing keeps it.

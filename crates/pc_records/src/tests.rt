@@ -3,9 +3,7 @@ ghost use Rattle.std.specs.Prelude.{◌≡◌, []};
 
 use crate::slots::Slot;
 use crate::{Records, slots, versions};
-use pc_locks::Outcome;
-use pc_model::copied;
-use pc_types::{Class, Key, Point, Refusal, SlotId, TxnNo, Value};
+use pc_types::{Class, Key, Outcome, Point, Refusal, SlotId, TxnNo, Value, copy_content};
 use std::alloc::Global;
 use std::test::Fail;
 
@@ -53,7 +51,7 @@ fn look_at(slot: &Slot) -> Seen {
 fn happen(alloc: Global, slot: &mut Slot, point: Point, moment: Moment) -> Result<Point, Refusal> {
     match moment {
         Write(class, content) => {
-            let copy = copied(alloc, &slot.live)?;
+            let copy = copy_content(alloc, &slot.live)?;
             let value = value_of(alloc, content)?;
             versions::put(slot, point, TxnNo(1), class, copy, value);
         }

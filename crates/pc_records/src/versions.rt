@@ -2,7 +2,7 @@
 //! the key is taken.
 ghost use Rattle.std.specs.Prelude.{◌≡◌, option_copied};
 ghost use Rattle.pc_types.specs.declared.Class.TheVariants as class_of;
-ghost use Rattle.pc_model.specs.Replies.{same_class};
+ghost use Rattle.pc_types.specs.Phases.{same_class};
 ghost use Rattle.pc_records.specs.Slots.{committed, pinned, is_held, is_available, saved, put_slot, settled, undone, taken_slot, closed_slot};
 
 use crate::slots::Slot;
@@ -41,7 +41,7 @@ pub(crate) fn committed_of(slot: &Slot) -> Option<&Value>
 pub(crate) fn pinned_of(slot: &Slot) -> Option<&Value>
     ensures { option_copied result ≡ pinned slot.now }
 {
-    if !slot.is_closed {
+    if !slot.is_in_closed_set {
         return None;
     }
     match &slot.stable {
@@ -64,7 +64,7 @@ pub(crate) fn is_held(stable: &Stable) -> bool
 fn is_available(slot: &Slot, point: Point) -> bool
     ensures { result ≡ is_available point slot.now }
 {
-    slot.is_closed && slot.mark.0 == point.0
+    slot.is_in_closed_set && slot.mark.0 == point.0
 }
 
 // Whether the class is that of a transaction that began in prepare.
@@ -90,7 +90,7 @@ fn save(slot: &mut Slot, point: Point, class: Class, copy: Option<Value>)
             }
         }
         Class::After => {
-            if slot.is_closed && slot.mark.0 != point.0 {
+            if slot.is_in_closed_set && slot.mark.0 != point.0 {
                 slot.stable = Stable::Held(copy);
                 slot.mark = point;
             }
@@ -126,13 +126,13 @@ pub(crate) fn settle(slot: &mut Slot, point: Point)
 {
     if let Some(writer) = slot.writer.take() {
         if is_during(writer.class) {
-            if slot.is_closed {
+            if slot.is_in_closed_set {
                 slot.mark = point;
             } else {
                 slot.stable = Stable::Empty;
             }
         }
-        slot.is_recent = true;
+        slot.is_in_open_set = true;
     }
 }
 
@@ -152,7 +152,7 @@ pub(crate) fn undo(slot: &mut Slot, point: Point)
 pub(crate) fn take(slot: &mut Slot, point: Point)
     ensures { slot.new ≡ taken_slot point slot.old }
 {
-    slot.is_closed = false;
+    slot.is_in_closed_set = false;
     slot.stable = Stable::Empty;
     slot.mark = point;
 }
@@ -161,6 +161,6 @@ pub(crate) fn take(slot: &mut Slot, point: Point)
 pub(crate) fn close(slot: &mut Slot)
     ensures { slot.new ≡ closed_slot slot.old }
 {
-    slot.is_closed = slot.is_recent;
-    slot.is_recent = false;
+    slot.is_in_closed_set = slot.is_in_open_set;
+    slot.is_in_open_set = false;
 }

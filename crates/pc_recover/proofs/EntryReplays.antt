@@ -10,11 +10,11 @@ use Rattle.pc_model.specs.Database.{Database}
 use Rattle.pc_model.specs.Log.{after, is_token_of}
 use Rattle.pc_log.specs.declared.order.LastToken.{LastToken}
 use Rattle.pc_log.specs.Orders.{token_after}
-use Rattle.pc_log.specs.Reading.{entry_at, entries_at, Found, none_more}
-use Rattle.pc_log.proofs.Turns.{all_at, all_go_on, all_stop}
+use Rattle.pc_log.specs.Reading.{entry_at, entries_at, Found, none_more, all_at}
+use Rattle.pc_log.proofs.TurnLaws.{all_go_on, all_stop}
 use Rattle.pc_recover.specs.Recovery.{entries_after}
 use Rattle.pc_recover.specs.declared.replaying.Replayed.{Replayed}
-use Rattle.pc_recover.specs.Replaying.{is_point_token, counting, Replay, found_replay, replay_with}
+use Rattle.pc_recover.specs.Replaying.{is_point_token, counting, Replay, found_replay, replay_by}
 
 -- ---- which entries count
 
@@ -78,14 +78,10 @@ module _ (is_behind : Bool) (point : ℕ) (db : Database) (count : ℕ) (last : 
   replay_done none = sym so_far ∙ ap (λ (bs : List ℕ). to_come is_behind point db count (all_at last bs)) none ∙ none_left is_behind point db count 0 None
 
 -- what a stopped loop gives: what was replayed, unless memory ran out
-pub stopped_gives : (db : Database) (result : Result Replayed Refusal) (fault : Refusal) (total : Replay) (entries : ℕ)
-    → Gives (λ (replayed : Replayed). replayed) result (Ok (record { entries = entries; fault = Some fault })) → (fault ≡ OutOfMemory → result ≡ Err OutOfMemory)
-    → (fault ≢ OutOfMemory → total ≡ record { pairs = db; entries = entries; fault = Some fault }) → Gives (replay_with db) result (Ok total)
-stopped_gives db (Ok replayed) fault total entries given memory read =
+pub stopped_gives : (result : Result Replayed Refusal) (fault : Refusal) (total stopped : Replay)
+    → Gives replay_by result (Ok stopped) → (fault ≡ OutOfMemory → result ≡ Err OutOfMemory)
+    → (fault ≢ OutOfMemory → total ≡ stopped) → Gives replay_by result (Ok total)
+stopped_gives (Ok replayed) fault total stopped given memory read =
     let other : fault ≢ OutOfMemory = λ e. let f = memory e in absurd cc in
-    ap Ok (read other) ∙ ap (λ (r : Result Replayed Refusal). as_replay r) given
-  where
-    as_replay : Result Replayed Refusal → Result Replay Refusal
-    as_replay (Ok x) = Ok (replay_with db x)
-    as_replay (Err e) = Err e
-stopped_gives db (Err e) fault total entries given memory read = λ other. let f = given other in absurd cc
+    ap Ok (read other) ∙ given
+stopped_gives (Err e) fault total stopped given memory read = λ other. let f = given other in absurd cc

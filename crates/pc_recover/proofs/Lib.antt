@@ -1,12 +1,10 @@
-pub mod EntryReplays
-pub mod Folded
-pub mod Reaching
-pub mod Summing
-pub mod Walking
-pub mod LawfulLogs
-pub mod LawfulWrites
-pub mod RecoveredFiles
-pub mod RecoveredLogs
-pub mod RecoveredPoints
-pub mod Restarting
-pub mod RunsRestart
+mod EntryReplays
+mod Folded
+mod Reaching
+mod Summing
+mod Walking
+mod RecoveredFiles
+mod RecoveredLogs
+mod RecoveredPoints
+mod Restarting
+pub mod RunsRestartLaws

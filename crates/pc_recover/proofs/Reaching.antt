@@ -2,21 +2,20 @@
 use Rattle.std.proofs.Common.{◌≡◌, ℕ, zero, suc, ◌+◌, ◌<◌, ◌≤◌, min, max, nat_le, nat_lt, Bool, true, false, not, ◌&&◌, ◌||◌, List, [], ◌∷◌, ◌++◌, length, get_or, drop, drop-cons, Option, Some, None, refl, sym, ap, ◌∙◌, arith, length-append}
 use Rattle.std.specs.Vec.{with_items}
 use Rattle.std.specs.Global.{Vec}
-use Rattle.std.proofs.lemmas.List.{with_items_is}
+use Rattle.std.proofs.lemmas.List.{with_items_is, drop_all, drop-append-le}
 use Rattle.std.specs.Prelude.{fold, if◌then◌else◌, Result, Ok, Err}
 use Rattle.pc_types.specs.declared.refusal.Refusal.{Refusal}
 use Rattle.std.specs.List.{list_any, list_all, find}
 use Rattle.std.specs.Option.{is_some, option_or}
 use Rattle.std.proofs.lemmas.Bool.Decides.{nat_tests}
-use Rattle.std.proofs.lemmas.List.{drop_all, drop-append-le}
 use Rattle.std.proofs.lemmas.List.Folds.{list_all-append, find-append}
 use Rattle.pc_model.specs.Sets as sets
 use Rattle.pc_model.specs.Sets.{Set, number_order}
 use Rattle.pc_model.specs.Files.{File, greatest, numbers_to}
 use Rattle.pc_part.specs.declared.ranges.Range.{Range}
 use Rattle.pc_part.specs.Parts.{points_of}
-use Rattle.pc_part.proofs.RangePoints.{contains-points_of}
-use Rattle.pc_recover.specs.Recovery.{those_had, is_covered, files_to}
+use Rattle.pc_part.proofs.RangePointLaws.{contains-points_of}
+use Rattle.pc_recover.specs.Recovery.{read_files, is_covered, files_to}
 use Rattle.pc_recover.specs.Reach.{lesser, noted, least_top, top_at}
 
 -- ---- a range of the table
@@ -93,7 +92,7 @@ items_over v now w n is len was = ap (λ u. u.items) is ∙ with_items_is v now 
 
 -- what is left to note of the files from this place on
 abbrev pub LeftToNote : List (Result File Refusal) → ℕ → List (Option ℕ) → Type 0
-LeftToNote files i tops = (point : ℕ) → point ≤ 65535 → fold (noted point) (top_at tops point) (those_had (drop i files)) ≡ least_top (those_had files) point
+LeftToNote files i tops = (point : ℕ) → point ≤ 65535 → fold (noted point) (top_at tops point) (read_files (drop i files)) ≡ least_top (read_files files) point
 
 module _ (files : List (Result File Refusal)) (i : ℕ) (x : Result File Refusal) (within : i < length files) (is : x ≡ get_or files i x) where
   first_left : drop i files ≡ x ∷ drop (i + 1) files
@@ -105,14 +104,14 @@ module _ (files : List (Result File Refusal)) (i : ℕ) (x : Result File Refusal
   -- once a file is noted, the others are left
   pub file_noted : (file : File) (before now : List (Option ℕ)) → x ≡ Ok file → ((point : ℕ) → point ≤ 65535 → top_at now point ≡ noted point (top_at before point) file) → LeftToNote files i before → LeftToNote files (i + 1) now
   file_noted file before now had steps so_far point bound =
-      ap (λ v. fold (noted point) v (those_had (drop (i + 1) files))) (steps point bound)
-      ∙ sym (ap (λ fs. fold (noted point) (top_at before point) (those_had fs)) (first_left ∙ ap (λ y. y ∷ drop (i + 1) files) had))
+      ap (λ v. fold (noted point) v (read_files (drop (i + 1) files))) (steps point bound)
+      ∙ sym (ap (λ fs. fold (noted point) (top_at before point) (read_files fs)) (first_left ∙ ap (λ y. y ∷ drop (i + 1) files) had))
       ∙ so_far point bound
 
   -- a file that can't be had is left out
   pub file_left_out : (why : Refusal) (tops : List (Option ℕ)) → x ≡ Err why → LeftToNote files i tops → LeftToNote files (i + 1) tops
   file_left_out why tops lost so_far point bound =
-      sym (ap (λ fs. fold (noted point) (top_at tops point) (those_had fs)) (first_left ∙ ap (λ y. y ∷ drop (i + 1) files) lost)) ∙ so_far point bound
+      sym (ap (λ fs. fold (noted point) (top_at tops point) (read_files fs)) (first_left ∙ ap (λ y. y ∷ drop (i + 1) files) lost)) ∙ so_far point bound
 
 -- ---- from the table to the reach
 

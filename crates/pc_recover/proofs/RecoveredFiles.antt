@@ -13,13 +13,13 @@ use Rattle.pc_model.specs.Database.{Database}
 use Rattle.pc_model.specs.Log.{has_token, state_at, PrecedesNext}
 use Rattle.pc_model.specs.Points.{laid}
 use Rattle.pc_model.specs.Files.{File, BaseFile, joined_file, laid_file, conflict, greatest, gap_above, numbers_to}
-use Rattle.pc_model.specs.Headline.{IsOfItsPoints}
+use Rattle.pc_model.specs.Standing.{IsOfItsPoints}
 use Rattle.pc_model.specs.Replies.{join_causes}
-use Rattle.pc_model.proofs.Contents.{contains-items, contains-union, laid_content_from}
-use Rattle.pc_model.proofs.ShelfFiles.{join_well, joined_of_points, run_is, triples_is}
+use Rattle.pc_model.proofs.ContentLaws.{contains-items, contains-union, laid_content_from}
+use Rattle.pc_model.proofs.ShelfFileLaws.{join_well, joined_of_points, run_is, triples_is}
 use Rattle.pc_part.specs.Joins.{first_cause}
 use Rattle.pc_part.specs.Layings.{lay_causes}
-use Rattle.pc_part.proofs.Gaps.{greatest_bound, greatest_reached}
+use Rattle.pc_part.proofs.GapLaws.{greatest_bound, greatest_reached}
 use Rattle.pc_recover.specs.Recovery.{is_covered, files_to, unless, folded, with_files}
 use Rattle.pc_recover.proofs.RecoveredPoints.{holds_at, holds_at_all, finds_none}
 

@@ -13,7 +13,7 @@ use Rattle.pc_types.specs.Fields.{◌>>=◌, where_true}
 use Rattle.pc_model.specs.Database.{Database}
 use Rattle.pc_model.specs.Log.{after, has_token, state_at}
 use Rattle.pc_model.specs.Files.{File, BaseFile, numbers_to}
-use Rattle.pc_model.specs.Headline.{IsOfItsPoints}
+use Rattle.pc_model.specs.Standing.{IsOfItsPoints}
 use Rattle.pc_part.specs.Texts.{base_text}
 use Rattle.pc_part.specs.Lawful.{IsBaseFile}
 use Rattle.pc_part.specs.Reading.{part_at, base_at}
@@ -21,7 +21,7 @@ use Rattle.pc_log.specs.Texts.{header_text, entry_text, log_text}
 use Rattle.pc_log.specs.Reading.{LogRead, log_at}
 use Rattle.pc_log.specs.Laws.{IsLog, CutLogsAreRead, cut_read, left_behind}
 use Rattle.pc_recover.specs.declared.recovered.Skipped.{Skipped}
-use Rattle.pc_recover.specs.Recovery.{Recovery, recovery, recovery_on, recovered_point, those_had, files_of, files_to, with_files, log_of_run, entries_after, unused_from, first_lack, is_covered, reaches}
+use Rattle.pc_recover.specs.Recovery.{Recovery, recovery, recovery_on, recovered_point, read_files, files_of, files_to, with_files, log_of_run, entries_after, unused_from, first_missing, is_covered, reaches}
 use Rattle.pc_recover.specs.Restarts.{AreWhole, IsRestored, EveryCutIsRecovered, base_of_point, token_number}
 use Rattle.pc_recover.proofs.RecoveredPoints.{last_is_reached, last_from_base, holds_at}
 use Rattle.pc_recover.proofs.RecoveredFiles.{UnlessFull, IsUsed, are_used, covered_token, files_give}
@@ -29,16 +29,16 @@ use Rattle.pc_recover.proofs.RecoveredLogs.{all_in_order, restored_entries, take
 
 -- the files that are had are those of the run's points
 files_had : (run : ℕ) (start : Database) (log : List Entry) (parts : List (List ℕ)) → AllByRecursion (λ bytes. (file : File) → part_at bytes ≡ Ok file → file.run ≡ run → IsOfItsPoints run start log file) parts
-    → AllByRecursion (IsOfItsPoints run start log) (those_had (files_of run parts))
+    → AllByRecursion (IsOfItsPoints run start log) (read_files (files_of run parts))
 files_had run start log [] all = tt
 files_had run start log (bytes ∷ parts) all = by (part_at bytes) refl (files_had run start log parts all.1)
   where
-    by : (r : Result File Refusal) → part_at bytes ≡ r → AllByRecursion (IsOfItsPoints run start log) (those_had (files_of run parts))
-        → AllByRecursion (IsOfItsPoints run start log) (those_had ((r >>= λ file. where_true (eqb file.run run) OtherRun file) ∷ files_of run parts))
+    by : (r : Result File Refusal) → part_at bytes ≡ r → AllByRecursion (IsOfItsPoints run start log) (read_files (files_of run parts))
+        → AllByRecursion (IsOfItsPoints run start log) (read_files ((r >>= λ file. where_true (eqb file.run run) OtherRun file) ∷ files_of run parts))
     by (Err why) is others = others
     by (Ok file) is others = by_run (eqb file.run run) refl
       where
-        by_run : (t : Bool) → eqb file.run run ≡ t → AllByRecursion (IsOfItsPoints run start log) (those_had (cond t (Ok file) (Err OtherRun) ∷ files_of run parts))
+        by_run : (t : Bool) → eqb file.run run ≡ t → AllByRecursion (IsOfItsPoints run start log) (read_files (cond t (Ok file) (Err OtherRun) ∷ files_of run parts))
         by_run true same = (all.0 file is (grind (arith, nat_tests)), others)
         by_run false other = others
 
@@ -164,8 +164,8 @@ unfolding recovery
 on_base base read parts bytes is = ap (λ (r : Result BaseFile Refusal). r >>= λ b. recovery_on b (files_of b.run parts) bytes) is
 
 in_turn : (read : BaseFile) (files : List (Result File Refusal)) (bytes : List ℕ)
-    → recovery_on read files bytes ≡ laid_then_read (recovered_point read.point (those_had files)) (unused_from 0 (recovered_point read.point (those_had files)) (first_lack read.point (those_had files)) files) read.run bytes
-    (with_files read (files_to (recovered_point read.point (those_had files)) (those_had files)))
+    → recovery_on read files bytes ≡ laid_then_read (recovered_point read.point (read_files files)) (unused_from 0 (recovered_point read.point (read_files files)) (first_missing read.point (read_files files)) files) read.run bytes
+    (with_files read (files_to (recovered_point read.point (read_files files)) (read_files files)))
 in_turn read files bytes = refl
 
 -- every cut is recovered from, once base texts and cut logs are read as they are written
@@ -174,13 +174,13 @@ restarts bases_read cuts run start log b base parts c is_log files =
     let point : BaseFile = base_of_point run start log b in
     let base_read : base_at base ≡ Ok point = ap base_at files.base_is ∙ bases_read point files.base_fits in
     let of = files_had run start log parts (recursion_from_All _ parts files.parts_are) in
-    let had = those_had (files_of run parts) in
+    let had = read_files (files_of run parts) in
     let low = last_from_base b had 65535 files.base_fits.point in
-    let given = restart_on run start log b (recovered_point b had) c (unused_from 0 (recovered_point b had) (first_lack b had) (files_of run parts)) had cuts files.base_fits.run is_log files.base_sealed of low (last_is_reached b had 65535) in
+    let given = restart_on run start log b (recovered_point b had) c (unused_from 0 (recovered_point b had) (first_missing b had) (files_of run parts)) had cuts files.base_fits.run is_log files.base_sealed of low (last_is_reached b had 65535) in
     subst (λ (r : Result Recovery Refusal). UnlessFull r (IsRestored run start log b parts c)) (sym (on_base base point parts (cut run log c) base_read ∙ in_turn point (files_of run parts) (cut run log c)))
-    (as_restored (laid_then_read (recovered_point b had) (unused_from 0 (recovered_point b had) (first_lack b had) (files_of run parts)) run (cut run log c) (with_files point (files_to (recovered_point b had) had))) given)
+    (as_restored (laid_then_read (recovered_point b had) (unused_from 0 (recovered_point b had) (first_missing b had) (files_of run parts)) run (cut run log c) (with_files point (files_to (recovered_point b had) had))) given)
   where
-    as_restored : (r : Result Recovery Refusal) → UnlessFull r (IsRestoredAt run start log b (recovered_point b (those_had (files_of run parts))) c (unused_from 0 (recovered_point b (those_had (files_of run parts))) (first_lack b (those_had (files_of run parts))) (files_of run parts)))
+    as_restored : (r : Result Recovery Refusal) → UnlessFull r (IsRestoredAt run start log b (recovered_point b (read_files (files_of run parts))) c (unused_from 0 (recovered_point b (read_files (files_of run parts))) (first_missing b (read_files (files_of run parts))) (files_of run parts)))
         → UnlessFull r (IsRestored run start log b parts c)
     as_restored (Ok found) is = record { point = is.point; entries = is.entries; pairs = is.pairs; fault = is.fault }
     as_restored (Err why) is = is

@@ -10,13 +10,13 @@ use Rattle.pc_model.specs.Log.{after}
 use Rattle.pc_model.specs.Files.{File, BaseFile}
 use Rattle.pc_part.specs.Reading.{base_at}
 use Rattle.pc_log.specs.Reading.{LogRead}
-use Rattle.pc_log.proofs.Steps.{made_ok}
+use Rattle.pc_log.proofs.StepLaws.{made_ok}
 use Rattle.pc_recover.specs.declared.reach.Reach.{Reach}
 use Rattle.pc_recover.specs.declared.recovered.Recovered.{Recovered}
 use Rattle.pc_recover.specs.declared.recovered.Skipped.{Skipped}
 use Rattle.pc_recover.specs.Reach.{IsReach}
 use Rattle.pc_recover.specs.Replaying.{Replay, replay_of, log_replay}
-use Rattle.pc_recover.specs.Recovery.{Recovery, recovery, recovery_of, recovery_on, recovered_point, first_lack, those_had, files_of, files_to, with_files, log_of_run, entries_after, unused_from}
+use Rattle.pc_recover.specs.Recovery.{Recovery, recovery, recovery_of, recovery_on, recovered_point, first_missing, read_files, files_of, files_to, with_files, log_of_run, entries_after, unused_from}
 
 -- a refusal is that of the rules, or memory ran out
 pub refused_with : (e : Refusal) (r : Result Recovered Refusal) (read : Result Recovery Refusal) → IsErr r × IsErrAnd r (λ why. why ≡ e) → (e ≢ OutOfMemory → read ≡ Err e) → Gives recovery_of r read
@@ -41,12 +41,12 @@ made_of point fault pairs entries skipped = Ok (record { pairs = pairs; point = 
 
 -- what is recovered up to this point, where the files have this lack
 abbrev pub recovery_with : ℕ → Option ℕ → BaseFile → List (Result File Refusal) → List ℕ → Result Recovery Refusal
-recovery_with n lack base files log_bytes = do
-  laid ← with_files base (files_to n (those_had files))
+recovery_with n missing base files log_bytes = do
+  laid ← with_files base (files_to n (read_files files))
   log ← log_of_run base.run log_bytes
-  made_of n log.fault (after laid.pairs (entries_after n log.entries)) (length log.entries) (unused_from 0 n lack files)
+  made_of n log.fault (after laid.pairs (entries_after n log.entries)) (length log.entries) (unused_from 0 n missing files)
 
-on_files : (base : BaseFile) (files : List (Result File Refusal)) (log : List ℕ) → recovery_on base files log ≡ recovery_with (recovered_point base.point (those_had files)) (first_lack base.point (those_had files)) base files log
+on_files : (base : BaseFile) (files : List (Result File Refusal)) (log : List ℕ) → recovery_on base files log ≡ recovery_with (recovered_point base.point (read_files files)) (first_missing base.point (read_files files)) base files log
 on_files base files log = refl
 
 on_base : (bytes : List ℕ) (parts : List (List ℕ)) (log : List ℕ) → recovery bytes parts log ≡ (base_at bytes >>= λ base. recovery_on base (files_of base.run parts) log)
@@ -58,41 +58,41 @@ pub base_refused : (bytes : List ℕ) (parts : List (List ℕ)) (log : List ℕ)
 base_refused bytes parts log e is = on_base bytes parts log ∙ ap (λ r. r >>= λ base. recovery_on base (files_of base.run parts) log) is
 
 module _ (bytes : List ℕ) (parts : List (List ℕ)) (log : List ℕ) (base : BaseFile) (read : base_at bytes ≡ Ok base) (run : ℕ) (run_is : run ≡ base.run) (files : List (Result File Refusal)) (files_are : files ≡ files_of run parts)
-    (point : ℕ) (point_is : point ≡ base.point) (seen : List (Result File Refusal)) (seen_are : seen ≡ files) (reach : Reach) (reached : IsReach point (those_had seen) reach) where
-  on_reach : recovery bytes parts log ≡ recovery_with reach.point reach.lack base files log
+    (point : ℕ) (point_is : point ≡ base.point) (seen : List (Result File Refusal)) (seen_are : seen ≡ files) (reach : Reach) (reached : IsReach point (read_files seen) reach) where
+  on_reach : recovery bytes parts log ≡ recovery_with reach.point reach.missing base files log
   on_reach = on_base bytes parts log
       ∙ ap (λ r. r >>= λ b. recovery_on b (files_of b.run parts) log) read
       ∙ ap (λ n. recovery_on base (files_of n parts) log) (sym run_is)
       ∙ ap (λ fs. recovery_on base fs log) (sym files_are)
       ∙ on_files base files log
-      ∙ ap (λ n. recovery_with n (first_lack base.point (those_had files)) base files log) (sym (at_base.point))
-      ∙ ap (λ l. recovery_with reach.point l base files log) (sym (at_base.lack))
+      ∙ ap (λ n. recovery_with n (first_missing base.point (read_files files)) base files log) (sym (at_base.point))
+      ∙ ap (λ l. recovery_with reach.point l base files log) (sym (at_base.missing))
     where
-      at_base : IsReach base.point (those_had files) reach
-      at_base = subst (λ b. IsReach b (those_had files) reach) point_is (subst (λ fs. IsReach point (those_had fs) reach) seen_are reached)
+      at_base : IsReach base.point (read_files files) reach
+      at_base = subst (λ b. IsReach b (read_files files) reach) point_is (subst (λ fs. IsReach point (read_files fs) reach) seen_are reached)
 
   -- the refusal of the join or the laying
-  pub state_refused : (e : Refusal) → with_files base (files_to reach.point (those_had files)) ≡ Err e → recovery bytes parts log ≡ Err e
-  state_refused e is = on_reach ∙ ap (λ r. r >>= λ laid. log_of_run base.run log >>= λ found. made_of reach.point found.fault (after laid.pairs (entries_after reach.point found.entries)) (length found.entries) (unused_from 0 reach.point reach.lack files)) is
+  pub state_refused : (e : Refusal) → with_files base (files_to reach.point (read_files files)) ≡ Err e → recovery bytes parts log ≡ Err e
+  state_refused e is = on_reach ∙ ap (λ r. r >>= λ laid. log_of_run base.run log >>= λ found. made_of reach.point found.fault (after laid.pairs (entries_after reach.point found.entries)) (length found.entries) (unused_from 0 reach.point reach.missing files)) is
 
-  module _ (laid : BaseFile) (is_laid : with_files base (files_to reach.point (those_had files)) ≡ Ok laid) where
-    on_state : recovery bytes parts log ≡ (log_of_run run log >>= λ found. made_of reach.point found.fault (after laid.pairs (entries_after reach.point found.entries)) (length found.entries) (unused_from 0 reach.point reach.lack files))
+  module _ (laid : BaseFile) (is_laid : with_files base (files_to reach.point (read_files files)) ≡ Ok laid) where
+    on_state : recovery bytes parts log ≡ (log_of_run run log >>= λ found. made_of reach.point found.fault (after laid.pairs (entries_after reach.point found.entries)) (length found.entries) (unused_from 0 reach.point reach.missing files))
     on_state = on_reach
-        ∙ ap (λ r. r >>= λ state. log_of_run base.run log >>= λ found. made_of reach.point found.fault (after state.pairs (entries_after reach.point found.entries)) (length found.entries) (unused_from 0 reach.point reach.lack files)) is_laid
-        ∙ ap (λ n. log_of_run n log >>= λ found. made_of reach.point found.fault (after laid.pairs (entries_after reach.point found.entries)) (length found.entries) (unused_from 0 reach.point reach.lack files)) (sym run_is)
+        ∙ ap (λ r. r >>= λ state. log_of_run base.run log >>= λ found. made_of reach.point found.fault (after state.pairs (entries_after reach.point found.entries)) (length found.entries) (unused_from 0 reach.point reach.missing files)) is_laid
+        ∙ ap (λ n. log_of_run n log >>= λ found. made_of reach.point found.fault (after laid.pairs (entries_after reach.point found.entries)) (length found.entries) (unused_from 0 reach.point reach.missing files)) (sym run_is)
 
     -- the log's refusal
     pub log_refused : (state : Database) (e : Refusal) → log_replay run reach.point state log ≡ Err e → recovery bytes parts log ≡ Err e
     log_refused state e is =
         on_state
-        ∙ ap (λ r. r >>= λ found. made_of reach.point found.fault (after laid.pairs (entries_after reach.point found.entries)) (length found.entries) (unused_from 0 reach.point reach.lack files))
+        ∙ ap (λ r. r >>= λ found. made_of reach.point found.fault (after laid.pairs (entries_after reach.point found.entries)) (length found.entries) (unused_from 0 reach.point reach.missing files))
         (made_err (log_of_run run log) (λ (found : LogRead). replay_of reach.point state found.entries found.fault) e is)
 
     -- all that is recovered
-    pub all_recovered : (state : Database) → state ≡ laid.pairs → (replay : Replay) → log_replay run reach.point state log ≡ Ok replay → (skipped : List Skipped) → skipped ≡ unused_from 0 reach.point reach.lack files → (pairs : Database) → pairs ≡ replay.pairs →
+    pub all_recovered : (state : Database) → state ≡ laid.pairs → (replay : Replay) → log_replay run reach.point state log ≡ Ok replay → (skipped : List Skipped) → skipped ≡ unused_from 0 reach.point reach.missing files → (pairs : Database) → pairs ≡ replay.pairs →
         recovery bytes parts log ≡ made_of reach.point replay.fault pairs replay.entries skipped
     all_recovered state state_is replay is skipped skipped_are pairs pairs_are =
-        let unused = unused_from 0 reach.point reach.lack files in
+        let unused = unused_from 0 reach.point reach.missing files in
         let found = made_ok (log_of_run run log) (λ (text : LogRead). replay_of reach.point state text.entries text.fault) replay is in
         on_state
         ∙ ap (λ r. r >>= λ text. made_of reach.point text.fault (after laid.pairs (entries_after reach.point text.entries)) (length text.entries) unused) found.1

@@ -143,12 +143,12 @@ read_at tops files place point x are len same within is = sym (are point within)
 
 module _ (base : ℕ) (files : List File) (below point needed : ℕ) (is : IsReached base files below point needed) where
   -- the walk ends at the first point for which no file stands
-  pub ends_at : below < 65535 → least_top files (below + 1) ≡ None → IsReach base files (record { point = point; lack = Some (below + 1) })
-  ends_at within none = record { point = stuck_at base files below point needed is none 65535 (omega (arith, within)); lack = lack_at base files below point needed is none 65535 within }
+  pub ends_at : below < 65535 → least_top files (below + 1) ≡ None → IsReach base files (record { point = point; missing = Some (below + 1) })
+  ends_at within none = record { point = stuck_at base files below point needed is none 65535 (omega (arith, within)); missing = lack_at base files below point needed is none 65535 within }
 
   -- or at the last of all
-  pub ends_last : below ≡ 65535 → IsReach base files (record { point = point; lack = None })
-  ends_last last = subst (λ n. IsReached base files n point needed → IsReach base files (record { point = point; lack = None })) (sym last) (λ at. record { point = at.reached; lack = no_lack base files 65535 point needed at }) is
+  pub ends_last : below ≡ 65535 → IsReach base files (record { point = point; missing = None })
+  ends_last last = subst (λ n. IsReached base files n point needed → IsReach base files (record { point = point; missing = None })) (sym last) (λ at. record { point = at.reached; missing = no_lack base files 65535 point needed at }) is
 
   module _ (top most next : ℕ) (found : least_top files (below + 1) ≡ Some top) (greater : most ≡ max needed top) where
     chosen_by : (t : Bool) → nat_le (max needed top) (below + 1) ≡ t → next ≡ (if t then below + 1 else point) → IsReached base files (below + 1) next most

@@ -1,8 +1,9 @@
 -- How far files reach: of each point the least greatest point of the files that stand for it.
 use Rattle.std.specs.Prelude.{ℕ, ◌≡◌, ◌≤◌, min, List, Option, Some, None, fold, slice_index_or, if◌then◌else◌}
+use Rattle.pc_types.specs.declared.limits.TheConstants.{MOST_POINTS}
 use Rattle.pc_model.specs.Sets as set
 use Rattle.pc_model.specs.Files.{File, greatest}
-use Rattle.pc_recover.specs.Recovery.{recovered_point, first_lack}
+use Rattle.pc_recover.specs.Recovery.{recovered_point, first_missing}
 use Rattle.pc_recover.specs.declared.reach.Reach.{Reach}
 
 -- the lesser of two points, the first of which may not be there
@@ -24,9 +25,9 @@ top_at tops point = slice_index_or tops point None
 
 -- the table has of each point the least greatest point of the files that stand for it
 abbrev pub AreTops : List (Option ℕ) → List File → Type 0
-AreTops tops files = (point : ℕ) → point ≤ 65535 → top_at tops point ≡ least_top files point
+AreTops tops files = (point : ℕ) → point ≤ MOST_POINTS → top_at tops point ≡ least_top files point
 
 -- how far the files reach from the base: to the recovered point, and the first point that they lack
 pub record IsReach (base : ℕ) (files : List File) (reach : Reach) : Type 0 where
   pub point : reach.point ≡ recovered_point base files
-  pub lack : reach.lack ≡ first_lack base files
+  pub missing : reach.missing ≡ first_missing base files

@@ -5,6 +5,7 @@ use Rattle.pc_types.specs.declared.refusal.Refusal.{Refusal}
 use Rattle.pc_types.specs.declared.refusal.Refusal.TheVariants.{OtherRun, Gap}
 use Rattle.pc_types.specs.declared.Entry.{Entry}
 use Rattle.pc_types.specs.Fields.{◌>>=◌, where_true}
+use Rattle.pc_types.specs.declared.limits.TheConstants.{MOST_POINTS}
 use Rattle.pc_model.specs.Sets as set
 use Rattle.pc_model.specs.Database.{Database, database_of}
 use Rattle.pc_model.specs.Files.{File, BaseFile, joined_file, laid_file, greatest, numbers_to}
@@ -26,10 +27,10 @@ file_at run bytes = do
   where_true (file.run == run) OtherRun file
 
 -- the files, without those that can't be had
-abbrev pub those_had : List (Result File Refusal) → List File
-those_had [] = []
-those_had (Ok file ∷ others) = file ∷ those_had others
-those_had (Err why ∷ others) = those_had others
+abbrev pub read_files : List (Result File Refusal) → List File
+read_files [] = []
+read_files (Ok file ∷ others) = file ∷ read_files others
+read_files (Err why ∷ others) = read_files others
 
 -- ---- which point is recovered
 
@@ -52,13 +53,13 @@ last_reached b files (suc n) = if reaches b files (suc n) then suc n else last_r
 
 -- the recovered point: the greatest of all that they reach
 abbrev pub recovered_point : ℕ → List File → ℕ
-recovered_point b files = last_reached b files 65535
+recovered_point b files = last_reached b files MOST_POINTS
 
 -- ---- which files are not used
 
 -- the least point above b for which no file stands
-abbrev pub first_lack : ℕ → List File → Option ℕ
-first_lack b files = find (λ point. not (is_covered files point)) (drop b (numbers_to 65535))
+abbrev pub first_missing : ℕ → List File → Option ℕ
+first_missing b files = find (λ point. not (is_covered files point)) (drop b (numbers_to MOST_POINTS))
 
 -- why a file isn't used, if it isn't: it can't be had, or it has a point above n; no file stands for the point of the gap
 abbrev pub why_unused : ℕ → Option ℕ → Result File Refusal → Option Refusal
@@ -126,12 +127,12 @@ files_of run parts = map (file_at run) parts
 -- laid on the base, and the log's entries that came after that point are applied
 abbrev pub recovery_on : BaseFile → List (Result File Refusal) → List ℕ → Result Recovery Refusal
 recovery_on base files log_bytes =
-    let had = those_had files in
+    let had = read_files files in
     let n = recovered_point base.point had in
     do
       laid ← with_files base (files_to n had)
       log ← log_of_run base.run log_bytes
-      Ok (record { pairs = after laid.pairs (entries_after n log.entries); point = n; entries = length log.entries; skipped = unused_from 0 n (first_lack base.point had) files; fault = log.fault })
+      Ok (record { pairs = after laid.pairs (entries_after n log.entries); point = n; entries = length log.entries; skipped = unused_from 0 n (first_missing base.point had) files; fault = log.fault })
 
 -- The rules: the base must be a text; parts that are no text of the run, or not used, are skipped.
 unfoldable pub recovery : List ℕ → List (List ℕ) → List ℕ → Result Recovery Refusal

@@ -40,6 +40,6 @@ log_replay run point db bytes = do
   log ← log_of_run run bytes
   Ok (replay_of point db log.entries log.fault)
 
--- what a call has replayed, with the database that it left
-abbrev pub replay_with : Database → Replayed → Replay
-replay_with db replayed = record { pairs = db; entries = replayed.entries; fault = replayed.fault }
+-- what a call has replayed
+abbrev pub replay_by : Replayed → Replay
+replay_by replayed = record { pairs = replayed.database; entries = replayed.entries; fault = replayed.fault }

@@ -5,13 +5,13 @@ use Rattle.pc_types.specs.declared.Entry.{Entry}
 use Rattle.pc_model.specs.Database.{Database}
 use Rattle.pc_model.specs.Log.{after, front, has_token, state_at}
 use Rattle.pc_model.specs.Files.{File, BaseFile}
-use Rattle.pc_model.specs.Headline.{IsOfItsPoints}
+use Rattle.pc_model.specs.Standing.{IsOfItsPoints}
 use Rattle.pc_part.specs.Texts.{base_text}
 use Rattle.pc_part.specs.Lawful.{IsBaseFile}
 use Rattle.pc_part.specs.Reading.{part_at}
 use Rattle.pc_log.specs.Texts.{log_text}
 use Rattle.pc_log.specs.Laws.{IsLog}
-use Rattle.pc_recover.specs.Recovery.{Recovery, recovery, recovered_point, those_had, files_of}
+use Rattle.pc_recover.specs.Recovery.{Recovery, recovery, recovered_point, read_files, files_of}
 
 -- the base of a run at a point: the state of the point, by the log
 abbrev pub base_of_point : ℕ → Database → List Entry → ℕ → BaseFile
@@ -38,7 +38,7 @@ pub record AreWhole (run : ℕ) (log : List Entry) (c p : ℕ) : Type 0 where
 -- What is recovered from these files and the first c bytes of the log: the database after the first entries, as far as those
 -- that are whole in these bytes go, or the recovered point's token where that is further.
 pub record IsRestored (run : ℕ) (start : Database) (log : List Entry) (b : ℕ) (parts : List (List ℕ)) (c : ℕ) (found : Recovery) : Type 0 where
-  pub point : found.point ≡ recovered_point b (those_had (files_of run parts))
+  pub point : found.point ≡ recovered_point b (read_files (files_of run parts))
   pub entries : AreWhole run log c found.entries
   pub pairs : found.pairs ≡ after start (take (max found.entries (token_number found.point log)) log)
   pub fault : (found.fault ≡ None) ⊎ (found.fault ≡ Some Short)

@@ -1,36 +1,19 @@
 -- What a run's events and its log keep to.
-use Rattle.std.specs.Prelude.{◌≡◌, ℕ, ◌≤◌, ◌⊎◌, List, [], ◌∷◌, All, Ok, MatchResult, take, ⊤}
-use Rattle.pc_types.specs.Limits.{IsKey, IsValue}
-use Rattle.pc_types.specs.declared.Event.{Event}
-use Rattle.pc_types.specs.declared.Event.TheVariants as asked
+use Rattle.std.specs.Prelude.{◌≡◌, ℕ, ◌≤◌, ◌⊎◌, List, All, Ok, MatchResult, take}
 use Rattle.pc_model.specs.History.{History, log_of}
 use Rattle.pc_model.specs.Replies.{Setting}
-use Rattle.pc_model.specs.Headline.{HasLegalEffects}
 use Rattle.pc_model.specs.Files.{File, BaseFile, shelf}
 use Rattle.pc_model.specs.Headline.{IsMade, TakesPointValue}
+use Rattle.pc_model.specs.Standing.{HasLegalEffects}
+use Rattle.pc_model.specs.Limits.{AreInLimits}
 use Rattle.pc_types.specs.declared.refusal.Refusal.TheVariants.{Full}
+use Rattle.pc_types.specs.declared.limits.TheConstants.{MOST_SESSIONS}
 use Rattle.pc_part.specs.Texts.{part_text, base_text}
 use Rattle.pc_part.specs.Lawful.{IsPartFile, IsBaseFile}
 use Rattle.pc_part.specs.Reading.{part_at}
 use Rattle.pc_log.specs.Texts.{log_text}
-use Rattle.pc_log.specs.Laws.{IsLog}
 use Rattle.pc_recover.specs.Recovery.{recovery}
 use Rattle.pc_recover.specs.Restarts.{IsRestored}
-
--- keys and values that are written are within their limits
-abbrev pub IsInLimits : Event → Type 0
-IsInLimits (asked.Put s key value) = IsKey key × IsValue value
-IsInLimits (asked.Del s key) = IsKey key
-IsInLimits other = ⊤
-
--- each event's are
-abbrev pub AreInLimits : History → Type 0
-AreInLimits [] = ⊤
-AreInLimits (step ∷ history) = IsInLimits step.event × AreInLimits history
-
--- The log of a run has a text: its entries are within the limits of the format, and its tokens keep their order.
-abbrev pub LogsOfRunsHaveTexts : Type 0
-LogsOfRunsHaveTexts = (st : Setting) (history : History) → HasLegalEffects st history → st.sessions ≤ 64 → AreInLimits history → IsLog (log_of history)
 
 -- the base that the run started from
 abbrev pub start_of : Setting → BaseFile
@@ -55,6 +38,6 @@ pub record CameBack (st : Setting) (history : History) (base : List ℕ) (parts 
 -- the first entries, as far as those that are whole go, or the recovered point's token where that is further.
 abbrev pub EveryCutOfARunIsRecovered : Type 0
 EveryCutOfARunIsRecovered =
-    (st : Setting) (history : History) (base : List ℕ) (parts : List (List ℕ)) (c : ℕ) → HasLegalEffects st history → TakesPointValue st.base history → st.sessions ≤ 64 → AreInLimits history →
+    (st : Setting) (history : History) (base : List ℕ) (parts : List (List ℕ)) (c : ℕ) → HasLegalEffects st history → TakesPointValue st.base history → st.sessions ≤ MOST_SESSIONS → AreInLimits history →
     CameBack st history base parts →
     MatchResult (recovery base parts (take c (log_text st.run (log_of history)))) (IsRestored st.run st.base (log_of history) 0 parts c) (λ refusal. refusal ≡ Full)

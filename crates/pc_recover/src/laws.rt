@@ -1,18 +1,12 @@
 //! Laws of recovery. Each function does nothing, and its contract is a law.
 ghost use Rattle.pc_recover.specs.Restarts.{EveryCutIsRecovered};
-ghost use Rattle.pc_recover.specs.Runs.{EveryCutOfARunIsRecovered, LogsOfRunsHaveTexts};
+ghost use Rattle.pc_recover.specs.Runs.{EveryCutOfARunIsRecovered};
 
 /// Where a run's base and parts came back as they were written, and of its log any beginning, what is recovered is the
 /// database after the first entries of the log: as far as those that are whole go, or the recovered point's token where that
 /// is further. Only the entry limit refuses.
 pub fn every_cut_is_recovered()
     ensures { EveryCutIsRecovered }
-{}
-
-/// The log of a run of at most 64 sessions has a text: its entries are within the limits of the format, and its tokens keep
-/// their order.
-pub fn logs_of_runs_have_texts()
-    ensures { LogsOfRunsHaveTexts }
 {}
 
 /// Whatever a run did: any beginning of its log, with the texts of any files that were made of its shelf and the text of its

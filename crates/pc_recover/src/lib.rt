@@ -10,6 +10,6 @@ mod replaying;
 mod state;
 mod unused;
 
-pub use laws::{every_cut_is_recovered, every_cut_of_a_run_is_recovered, logs_of_runs_have_texts};
+pub use laws::{every_cut_is_recovered, every_cut_of_a_run_is_recovered};
 pub use recovered::{Recovered, Skipped};
 pub use recovering::recover;

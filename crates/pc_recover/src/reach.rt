@@ -1,12 +1,12 @@
 //! How far files reach from a base.
 ghost use Rattle.std.specs.Prelude.{◌≡◌, ℕ, ◌≤◌, length, nat_le, None, ◌&&◌, IfOk, if◌then◌else◌};
 ghost use Rattle.pc_model.specs.Files.{greatest};
-ghost use Rattle.pc_recover.specs.Recovery.{those_had};
+ghost use Rattle.pc_recover.specs.Recovery.{read_files};
 ghost use Rattle.pc_recover.specs.Reach.{AreTops, IsReach, lesser, noted, top_at};
 
 use crate::candidates::Candidate;
 use pc_part::{Part, Range};
-use pc_types::Point;
+use pc_types::{MOST_POINTS, Point};
 use std::alloc::{AllocError, Global};
 
 /// How far files reach from a base.
@@ -16,7 +16,7 @@ pub(crate) struct Reach {
     /// base's on; the base's where there is none.
     pub(crate) point: Point,
     /// The least point above the base's for which no file stands.
-    pub(crate) lack: Option<Point>,
+    pub(crate) missing: Option<Point>,
 }
 
 /// How far the files that could be had reach from the base's point. It takes a step for each point of each file and one
@@ -26,30 +26,33 @@ pub(crate) fn reach_from(
     base: Point,
     files: &[Candidate],
 ) -> Result<Reach, AllocError>
-    ensures { IfOk result (IsReach base (those_had files.now)) }
+    ensures { IfOk result (IsReach base (read_files files.now)) }
 {
     let tops = least_tops(alloc, files)?;
     let mut point = base;
     // The greatest of the tops so far: the files up to it are those that stand for all points so far.
     let mut needed = 0u16;
-    for below in base.0..65535 {
+    for below in base.0..MOST_POINTS {
         let next = Point(below + 1);
         let Some(top) = tops[usize::from(next.0)] else {
-            let lack = Some(next);
-            return Ok(Reach { point, lack });
+            let missing = Some(next);
+            return Ok(Reach { point, missing });
         };
         needed = needed.max(top.0);
         if needed <= next.0 {
             point = next;
         }
     }
-    Ok(Reach { point, lack: None })
+    Ok(Reach {
+        point,
+        missing: None,
+    })
 }
 
 // Of each point, at its place, the least greatest point of the files that stand for it.
 fn least_tops(alloc: Global, files: &[Candidate]) -> Result<Vec<Option<Point>>, AllocError>
     ensures len { IfOk result (λ tops. length tops.items ≡ 65536) }
-    ensures tops { IfOk result (λ tops. AreTops tops.items (those_had files.now)) }
+    ensures tops { IfOk result (λ tops. AreTops tops.items (read_files files.now)) }
 {
     let mut tops = no_tops(alloc, 65536)?;
     for file in files {
@@ -73,7 +76,7 @@ fn no_tops(alloc: Global, places: usize) -> Result<Vec<Option<Point>>, AllocErro
 fn note_part(tops: &mut [Option<Point>], part: &Part)
     requires { length tops.old ≡ 65536 }
     ensures len { length tops.new ≡ 65536 }
-    ensures tops { (point : ℕ) → point ≤ 65535 → top_at tops.new point ≡ noted point (top_at tops.old point) part.now }
+    ensures tops { (point : ℕ) → point ≤ MOST_POINTS → top_at tops.new point ≡ noted point (top_at tops.old point) part.now }
 {
     let top = greatest_point(part);
     for range in part.ranges() {
@@ -85,7 +88,7 @@ fn note_part(tops: &mut [Option<Point>], part: &Part)
 fn note_range(tops: &mut [Option<Point>], range: Range, top: Point)
     requires { length tops.old ≡ 65536 }
     ensures len { length tops.new ≡ 65536 }
-    ensures tops { (point : ℕ) → point ≤ 65535 → top_at tops.new point ≡ (if nat_le range.low point && nat_le point range.high then lesser (top_at tops.old point) top else top_at tops.old point) }
+    ensures tops { (point : ℕ) → point ≤ MOST_POINTS → top_at tops.new point ≡ (if nat_le range.low point && nat_le point range.high then lesser (top_at tops.old point) top else top_at tops.old point) }
 {
     for place in usize::from(range.low.0)..usize::from(range.high.0) + 1 {
         tops[place] = lesser(tops[place], top);

@@ -10,8 +10,8 @@ use crate::recovered::Recovered;
 use crate::replaying::{Replayed, replay_log};
 use crate::state::with_used;
 use crate::unused::unused;
-use pc_model::Overlay;
 use pc_part::Base;
+use pc_replay::Overlay;
 use pc_types::Refusal;
 use std::alloc::Global;
 
@@ -47,8 +47,12 @@ pub fn recover(
     let reach = reach_from(alloc, base.point(), &files)?;
     let skipped = unused(alloc, &reach, &files)?;
     let state = with_used(alloc, base, reach.point, files)?;
-    let mut database = Overlay::new(alloc, state.into_pairs())?;
-    let Replayed { entries, fault } = replay_log(alloc, run, reach.point, &mut database, log)?;
+    let database = Overlay::new(alloc, state.into_pairs())?;
+    let Replayed {
+        database,
+        entries,
+        fault,
+    } = replay_log(alloc, run, reach.point, database, log)?;
     Ok(Recovered {
         pairs: database.into_pairs(alloc)?,
         point: reach.point,

@@ -4,37 +4,42 @@ ghost use Rattle.pc_types.specs.Fields.{Gives};
 ghost use Rattle.pc_model.specs.Log.{after};
 ghost use Rattle.pc_log.specs.Orders.{no_token};
 ghost use Rattle.pc_log.specs.Reading.{entries_at};
-ghost use Rattle.pc_recover.specs.Replaying.{counting, found_replay, is_point_token, log_replay, replay_with};
+ghost use Rattle.pc_recover.specs.Replaying.{counting, found_replay, is_point_token, log_replay, replay_by};
 
 use pc_log::{LastToken, read_entry, read_header};
-use pc_model::Overlay;
+use pc_replay::Overlay;
 use pc_types::{Entry, Phase, Point, Refusal};
 use std::alloc::{AllocError, Global};
 
 // A log's text begins with so many bytes, which were written before the first entry.
 const HEADER: usize = 20;
 
-/// What was seen of a log while it was applied: how many whole entries it has, and the fault of its rest, where there is one.
+/// What a log was worth: the database that it left, how many whole entries it has, and the fault of its rest, where there is
+/// one.
+#[derive(Drop)]
 pub(crate) struct Replayed {
+    pub(crate) database: Overlay,
     pub(crate) entries: usize,
     pub(crate) fault: Option<Refusal>,
 }
 
 /// Applies the commits of the run's log that came behind the point's token to the database, all of them where the point is 0.
 /// Fewer bytes than a log's header has count as a log without entries: a crash came before the first entry. Refuses with the
-/// fault of the header, with `OtherRun`, or with `OutOfMemory` where memory ran out. Of the log one entry at a time is kept.
+/// fault of the header, with `OtherRun`, or with `OutOfMemory` where memory ran out; then nothing is left of the database. Of
+/// the log one entry at a time is kept.
 #[tactic(auto, unfolding(pc_log::specs::Reading::log_at))]
 pub(crate) fn replay_log(
     alloc: Global,
     run: u64,
     point: Point,
-    database: &mut Overlay,
+    database: Overlay,
     bytes: &[u8],
 ) -> Result<Replayed, Refusal>
-    ensures { Gives (replay_with database.new) result (log_replay run point database.old bytes.now) }
+    ensures { Gives replay_by result (log_replay run point database bytes.now) }
 {
     if bytes.len() < HEADER {
         return Ok(Replayed {
+            database,
             entries: 0,
             fault: None,
         });
@@ -50,11 +55,12 @@ pub(crate) fn replay_log(
 fn replay_entries(
     alloc: Global,
     point: Point,
-    database: &mut Overlay,
+    database: Overlay,
     bytes: &[u8],
 ) -> Result<Replayed, Refusal>
-    ensures { Gives (replay_with database.new) result (Ok (found_replay point database.old (entries_at (length bytes.now) no_token bytes.now))) }
+    ensures { Gives replay_by result (Ok (found_replay point database (entries_at (length bytes.now) no_token bytes.now))) }
 {
+    let mut database = database;
     let mut last = LastToken::none();
     let mut rest = bytes;
     let mut entries = 0usize;
@@ -65,55 +71,60 @@ fn replay_entries(
                 last = last.after(&entry);
                 rest = after;
                 entries += 1;
-                is_behind = replay_entry(database, point, is_behind, entry)?;
+                let (next, is_next_behind) = replay_entry(database, point, is_behind, entry)?;
+                database = next;
+                is_behind = is_next_behind;
             }
-            Err(fault) => return stopped(entries, fault),
+            Err(fault) => return stopped(database, entries, fault),
         }
     }
     Ok(Replayed {
+        database,
         entries,
         fault: None,
     })
 }
 
 // What was replayed where the rest has this fault, or memory ran out.
-fn stopped(entries: usize, fault: Refusal) -> Result<Replayed, Refusal>
-    ensures read { Gives (λ replayed. replayed) result (Ok (record { entries = entries; fault = Some fault })) }
+fn stopped(database: Overlay, entries: usize, fault: Refusal) -> Result<Replayed, Refusal>
+    ensures read { Gives replay_by result (Ok (record { pairs = database; entries = entries; fault = Some fault })) }
     ensures memory { fault ≡ Refusal.OutOfMemory → result ≡ Err Refusal.OutOfMemory }
 {
     if fault == Refusal::OutOfMemory {
         return Err(Refusal::OutOfMemory);
     }
     Ok(Replayed {
+        database,
         entries,
         fault: Some(fault),
     })
 }
 
-// Applies the entry, if it is a commit behind the point's token, and tells whether what follows it is behind that token.
+// The database once the entry is applied, if it is a commit behind the point's token, and whether what follows the entry is
+// behind that token.
 fn replay_entry(
-    database: &mut Overlay,
+    database: Overlay,
     point: Point,
     is_behind: bool,
     entry: Entry,
-) -> Result<bool, AllocError>
-    ensures applied { OnOk result (database.new ≡ after database.old (counting is_behind point (entry ∷ []))) }
-    ensures token { IfOk result (λ next. next ≡ (is_behind || is_point_token point entry)) }
+) -> Result<(Overlay, bool), AllocError>
+    ensures applied { IfOk result (λ next. next.0 ≡ after database (counting is_behind point (entry ∷ []))) }
+    ensures token { IfOk result (λ next. next.1 ≡ (is_behind || is_point_token point entry)) }
 {
     if is_behind {
-        apply(database, entry)?;
-        return Ok(true);
+        let database = with_entry(database, entry)?;
+        return Ok((database, true));
     }
-    Ok(is_token_of(point, &entry))
+    Ok((database, is_token_of(point, &entry)))
 }
 
-// Applies the entry, if it is a commit.
-fn apply(database: &mut Overlay, entry: Entry) -> Result<(), AllocError>
-    ensures { OnOk result (database.new ≡ after database.old (entry ∷ [])) }
+// The database once the entry is applied, if it is a commit.
+fn with_entry(database: Overlay, entry: Entry) -> Result<Overlay, AllocError>
+    ensures { IfOk result (λ after_it. after_it ≡ after database (entry ∷ [])) }
 {
     match entry {
-        Entry::Commit(_, writes) => database.apply_taken(writes),
-        Entry::Token(_, _) => Ok(()),
+        Entry::Commit(_, writes) => database.with_writes(writes),
+        Entry::Token(_, _) => Ok(database),
     }
 }
 

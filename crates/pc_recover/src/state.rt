@@ -1,7 +1,7 @@
 //! The state of the recovered point: the used files joined and laid on the base.
 ghost use Rattle.std.specs.Prelude.{◌≡◌, Some, None, ◌∷◌, []};
 ghost use Rattle.pc_types.specs.Fields.{Gives};
-ghost use Rattle.pc_recover.specs.Recovery.{files_to, those_had, with_files};
+ghost use Rattle.pc_recover.specs.Recovery.{files_to, read_files, with_files};
 ghost use Rattle.pc_recover.specs.Folding.{join_due, joined_on, lay_due};
 
 use crate::candidates::Candidate;
@@ -18,7 +18,7 @@ pub(crate) fn with_used(
     point: Point,
     files: Vec<Candidate>,
 ) -> Result<Base, Refusal>
-    ensures { Gives (λ base. base) result (with_files base (files_to point (those_had files.items))) }
+    ensures { Gives (λ base. base) result (with_files base (files_to point (read_files files.items))) }
 {
     match joined_used(alloc, point, files)? {
         Some(joined) => lay_due(alloc, &base, &joined),
@@ -28,7 +28,7 @@ pub(crate) fn with_used(
 
 // The join of the used files, if there are any.
 fn joined_used(alloc: Global, point: Point, files: Vec<Candidate>) -> Result<Option<Part>, Refusal>
-    ensures { Gives (λ joined. joined) result (joined_on None (files_to point (those_had files.items))) }
+    ensures { Gives (λ joined. joined) result (joined_on None (files_to point (read_files files.items))) }
 {
     let mut joined = None;
     for file in files {
@@ -44,7 +44,7 @@ fn with_file(
     joined: Option<Part>,
     file: Candidate,
 ) -> Result<Option<Part>, Refusal>
-    ensures { Gives (λ joined. joined) result (joined_on joined (files_to point (those_had (file ∷ [])))) }
+    ensures { Gives (λ joined. joined) result (joined_on joined (files_to point (read_files (file ∷ [])))) }
 {
     match file {
         Ok(part) if greatest_point(&part).0 <= point.0 => with_part(alloc, joined, part),

@@ -14,7 +14,7 @@ pub(crate) fn unused(
     reach: &Reach,
     files: &[Candidate],
 ) -> Result<Vec<Skipped>, AllocError>
-    ensures { IfOk result (λ unused. unused.items ≡ unused_from 0 reach.now.point reach.now.lack files.now) }
+    ensures { IfOk result (λ unused. unused.items ≡ unused_from 0 reach.now.point reach.now.missing files.now) }
 {
     let mut unused = Vec::new(alloc);
     for (place, file) in files.iter().enumerate() {
@@ -27,12 +27,12 @@ pub(crate) fn unused(
 
 // Why the file isn't used, if it isn't.
 fn why_unused(reach: &Reach, file: &Candidate) -> Option<Refusal>
-    ensures { result ≡ why_unused reach.now.point reach.now.lack file.now }
+    ensures { result ≡ why_unused reach.now.point reach.now.missing file.now }
 {
-    match (file, reach.lack) {
+    match (file, reach.missing) {
         (Err(why), _) => Some(*why),
-        (Ok(part), Some(lack)) if reach.point.0 < greatest_point(part).0 => Some(Refusal::Gap(
-            lack,
+        (Ok(part), Some(missing)) if reach.point.0 < greatest_point(part).0 => Some(Refusal::Gap(
+            missing,
         )),
         _ => None,
     }

@@ -1,16 +1,15 @@
 -- Reading a folder's parts one after the other.
-use Rattle.std.proofs.Common.{◌≡◌, ℕ, List, [], ◌∷◌, ◌++◌, Option, arith, refl, sym, ap, subst, ◌∙◌, append_assoc}
-use Rattle.std.specs.Prelude.{map}
-use Rattle.std.specs.List.{Contains}
+use Rattle.std.proofs.Common.{◌≡◌, ℕ, List, [], ◌∷◌, ◌++◌, Option, refl, sym, ap, subst, ◌∙◌, append_assoc}
+use Rattle.std.specs.Prelude.{map, IsOk}
 use Rattle.std.proofs.lemmas.List.{append-nil}
-use Rattle.std.proofs.lemmas.List.Elements.{Contains-append_right}
+use Rattle.std.proofs.lemmas.List.Elements.{All-nil, All-push}
 use Rattle.pc_script.specs.declared.recovery.NamedFile.{NamedFile}
 use Rattle.pc_script.specs.declared.recovery.PartBytes.{PartBytes}
 use Rattle.pc_types.specs.declared.refusal.Refusal.{Refusal}
 use Rattle.pc_script.specs.declared.recovery.Lost.{Lost}
 use Rattle.pc_script.specs.declared.recovery.Lost.TheVariants.{Part}
 use Rattle.pc_script.specs.Runs.{IsScriptFault}
-use Rattle.pc_script.specs.Recoveries.{Holds, HoldEach, IsEachLost, names_of, bytes_of}
+use Rattle.pc_script.specs.Recoveries.{AreOpened, Holds, HoldEach, IsEachLost, names_of, bytes_of}
 
 -- what all files hold is what was read and what the files left hold
 abbrev pub HoldTheRest : {R : Type 0} → (R → Option (List ℕ)) → List (NamedFile R) → List (NamedFile R) → List PartBytes → Type 0
@@ -18,9 +17,9 @@ HoldTheRest remaining files left read =
     (names parts : List (List ℕ)) → HoldEach remaining files names parts →
     (ns : List (List ℕ)) × (ps : List (List ℕ)) × HoldEach remaining left ns ps × (names ≡ names_of read ++ ns) × (parts ≡ bytes_of read ++ ps)
 
--- the files left are the last ones
+-- the files left are the last ones, and those before them were opened
 abbrev pub AreLeft : {R : Type 0} → List (NamedFile R) → List (NamedFile R) → Type 0
-AreLeft {R} files left = (done : List (NamedFile R)) × (files ≡ done ++ left)
+AreLeft {R} files left = (done : List (NamedFile R)) × (files ≡ done ++ left) × AreOpened done
 
 module _ {R : Type 0} (remaining : R → Option (List ℕ)) (files : List (NamedFile R)) where
   -- at first all are left
@@ -55,14 +54,18 @@ module _ {R : Type 0} (remaining : R → Option (List ℕ)) (files : List (Named
       by [] (p ∷ ps) none names_are parts_are = absurd none
       by (n ∷ ns) ps none names_are parts_are = absurd none
 
+-- at first none is done
+pub all_left : {R : Type 0} (files left : List (NamedFile R)) → files ≡ left → AreLeft files left
+all_left files left same = ([], same, All-nil (λ file. IsOk file.opened))
+
 -- of the files left one less is left
-pub one_less : {R : Type 0} (files left : List (NamedFile R)) (file : NamedFile R) → AreLeft files (file ∷ left) → AreLeft files left
-one_less files left file are = (are.0 ++ file ∷ [], are.1 ∙ sym (append_assoc are.0 (file ∷ []) left))
+pub one_less : {R : Type 0} (files left : List (NamedFile R)) (file : NamedFile R) → AreLeft files (file ∷ left) → IsOk file.opened → AreLeft files left
+one_less files left file are opened = (are.0 ++ file ∷ [], are.1 ∙ sym (append_assoc are.0 (file ∷ []) left), All-push (λ file. IsOk file.opened) are.0 file are.2 opened)
 
--- the first one left is one of the files
-pub is_one : {R : Type 0} (files left : List (NamedFile R)) (file : NamedFile R) → AreLeft files (file ∷ left) → Contains files file
-is_one files left file are = subst (λ xs. Contains xs file) (sym are.1) (Contains-append_right are.0 (file ∷ left) file (0, omega arith, refl))
+-- once none is left all were opened
+pub all_opened : {R : Type 0} (files left : List (NamedFile R)) → left ≡ [] → AreLeft files left → AreOpened files
+all_opened files left none are = subst AreOpened (sym (are.1 ∙ ap (λ xs. are.0 ++ xs) none ∙ append-nil are.0)) are.2
 
--- a part that can't be read is one of the files'
+-- the first one left that can't be read is the first of the files
 pub part_lost : {R : Type 0} (files left : List (NamedFile R)) (file : NamedFile R) (why : Refusal) (lost : Lost) → AreLeft files (file ∷ left) → lost ≡ Part file.name why → IsScriptFault file.opened why → IsEachLost files lost
-part_lost files left file why lost are is fault = subst (IsEachLost files) (sym is) (file, is_one files left file are, refl, fault)
+part_lost files left file why lost are is fault = subst (IsEachLost files) (sym is) (are.0, file, left, are.1, are.2, refl, fault)

@@ -1,4 +1,6 @@
-pub mod BaseLemmas
-pub mod FolderParts
-pub mod FolderRecovery
-pub mod ScriptLemmas
+mod BaseLemmas
+mod Begun
+mod FolderParts
+mod FolderRecovery
+mod RunLemmas
+mod ScriptLemmas

@@ -1,9 +1,9 @@
 -- A script, line after line.
-use Rattle.std.proofs.Common.{◌≡◌, ℕ, ◌≤◌, Bool, true, false, List, [], ◌∷◌, ◌++◌, length, Option, Some, None, inl, refl, sym, ap, subst, ◌∙◌, append_assoc, arith}
+use Rattle.std.proofs.Common.{◌≡◌, ℕ, ◌≤◌, Bool, true, false, List, [], ◌∷◌, ◌++◌, Option, inl, refl, sym, ap, subst, ◌∙◌, append_assoc, arith}
 use Rattle.pc_types.specs.declared.Refusal.{Refusal}
 use Rattle.std.specs.Prelude.{Result, Ok, Err, IfErr, if◌then◌else◌, ◌||◌, ⊤}
 use Rattle.std.specs.Io.KnownBytes.{Appends}
-use Rattle.std.proofs.lemmas.List.{append-nil, take_all}
+use Rattle.std.proofs.lemmas.List.{append-nil}
 use Rattle.pc_types.specs.Counted.{AppendsBeginning}
 use Rattle.pc_types.specs.declared.Event.{Event}
 use Rattle.pc_types.specs.declared.Reply.{Reply}
@@ -13,7 +13,7 @@ use Rattle.pc_engine.specs.Stands.{Stands}
 use Rattle.pc_model.specs.Database.{Database}
 use Rattle.pc_model.specs.History.{History}
 use Rattle.pc_model.specs.Replies.{Setting, IsLegal}
-use Rattle.pc_types.proofs.Known.{appends_nothing, appends_then, begins_after}
+use Rattle.pc_types.proofs.KnownBytesLaws.{appends_nothing, appends_then, begins_after}
 use Rattle.pc_lines.specs.declared.lines.Line.{Line}
 use Rattle.pc_lines.specs.declared.lines.Line.TheVariants as line
 use Rattle.pc_script.specs.declared.script.Answer.{Answer}
@@ -27,6 +27,7 @@ use Rattle.pc_lines.specs.Lines.{spelled}
 use Rattle.pc_script.specs.Scripts.{Stage, lines_in, setting, AnswersLine, AnswersFirst, Answers, answer_text, Prints, PrintsFrom, is_malformed, has_bad_line, status_of, IsAnswered, IsAnsweredInPart}
 use Rattle.pc_script.specs.Scripts.Stage.{Reading, Running, Ended}
 use Rattle.pc_script.specs.Holding.{Holds, IsSaid, IsSaidInPart, is_ended}
+use Rattle.pc_script.proofs.Begun.{whole_begins}
 
 -- an event that is answered legally
 pub asks : (st : Setting) (history : History) (l : Line) (event : Event) (reply : Reply) → l ≡ line.Asks event → IsLegal st history event reply
@@ -174,12 +175,6 @@ goes_on setup old b c m m' st st' all left lines l w h first is answered e is_st
       goes = goes_from setup m' a.1 a.2 e;
       status = is_status ∙ ap (λ (z : Line). if is_malformed z then status.BadLines else st) is ∙ ap (λ (z : Status). if is_malformed (spelled l) then status.BadLines else z) h.status ∙ status_more (is_malformed (spelled l)) (has_bad_line h.done) ∙ ap status_after (sym (has_bad_line-then h.done l));
     }
-
--- a text that went out whole is a beginning of itself
-whole_begins : (a b : Option (List ℕ)) (x : List ℕ) → Appends a b x → AppendsBeginning a b x
-whole_begins None b x p = tt
-whole_begins (Some a) None x p = absurd p
-whole_begins (Some a) (Some b) x p = (length x, omega arith, rw (take_all (length x) x (omega arith)) p)
 
 -- the script stops before a line
 pub stops_before : (setup : Setup) (script : List ℕ) (old b : Option (List ℕ)) (m : Made) (st : Status) (left : List (List ℕ)) → SoFar setup old b m st (lines_in script) left

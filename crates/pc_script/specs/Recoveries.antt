@@ -1,19 +1,20 @@
 -- A recovery of a folder: what its files hold, what it prints, and why it may fail.
-use Rattle.std.specs.Prelude.{◌≡◌, ◌≢◌, ◌⊎◌, ℕ, List, [], ◌∷◌, Option, Some, map, codes, Ok, Err, ⊤}
+use Rattle.std.specs.Prelude.{◌≡◌, ◌≢◌, ◌⊎◌, ℕ, List, [], ◌∷◌, ◌++◌, Option, Some, map, codes, Ok, Err, IsOk, IfErr, ⊤}
 use Rattle.std.specs.declared.result.Result.{Result}
 use Rattle.std.specs.Global.{Vec}
-use Rattle.std.specs.List.{Contains}
+use Rattle.std.specs.List.{All}
 use Rattle.pc_types.specs.declared.refusal.Refusal.{Refusal}
 use Rattle.pc_types.specs.declared.refusal.Refusal.TheVariants.{OutOfMemory, NoFile}
-use Rattle.pc_types.specs.Counted.{HasRisen}
-use Rattle.pc_types.specs.Tallies.{Puts}
+use Rattle.pc_types.specs.Counted.{HasRisen, AppendsBeginning}
+use Rattle.pc_types.specs.Tallies.{inner_of, failures_of, Puts}
 use Rattle.pc_types.specs.declared.tally.Tally.{Tally}
-use Rattle.pc_recover.specs.Recovery.{recovery}
+use Rattle.pc_recover.specs.Recovery.{Recovery, recovery}
 use Rattle.pc_script.specs.declared.recovery.Folder.{Folder}
 use Rattle.pc_script.specs.declared.recovery.NamedFile.{NamedFile}
 use Rattle.pc_script.specs.declared.recovery.PartBytes.{PartBytes}
 use Rattle.pc_script.specs.declared.recovery.Lost.{Lost}
 use Rattle.pc_script.specs.declared.recovery.Lost.TheVariants as lost
+use Rattle.pc_script.specs.Reports.{recovery_text}
 use Rattle.pc_script.specs.Runs.{IsScriptFault, report_text}
 
 -- the names of the parts, in their order
@@ -51,13 +52,36 @@ pub record HoldsAll {R : Type 0} (remaining : R → Option (List ℕ)) (folder :
   pub parts_hold : HoldParts remaining folder.parts names parts
   pub log_holds : HoldsLog remaining folder.log log
 
+-- each of these files was opened
+abbrev pub AreOpened : {R : Type 0} → List (NamedFile R) → Type 0
+AreOpened files = All (λ file. IsOk file.opened) files
+
+-- the parts were listed, and each of them was opened
+abbrev pub ArePartsOpened : {R : Type 0} → Result (Vec (NamedFile R)) Refusal → Type 0
+ArePartsOpened (Ok files) = AreOpened files.items
+ArePartsOpened (Err why) = ⊥
+
+-- the log was opened, or isn't there
+abbrev pub IsLogOpened : {R : Type 0} → Result R Refusal → Type 0
+IsLogOpened opened = IfErr opened (λ why. why ≡ NoFile)
+
+-- every file of the folder was opened
+abbrev pub AreAllOpened : {R : Type 0} → Folder R → Type 0
+AreAllOpened folder = IsOk folder.base × ArePartsOpened folder.parts × IsLogOpened folder.log
+
 -- why a log can't be had: it can't be opened or read; that it isn't there is no fault
 abbrev pub IsLogFault : {R : Type 0} → Result R Refusal → Refusal → Type 0
 IsLogFault opened why = IsScriptFault opened why × (why ≢ NoFile)
 
--- reading the files fails for one of them, or for want of memory
+-- the first of the files that can't be had has this name: each before it was opened, and it can't be opened or read
+abbrev pub IsFirstLost : {R : Type 0} → List (NamedFile R) → List ℕ → Refusal → Type 0
+IsFirstLost {R} files name why =
+    (before : List (NamedFile R)) × (file : NamedFile R) × (behind : List (NamedFile R))
+    × (files ≡ before ++ file ∷ behind) × AreOpened before × (file.name.items ≡ name) × IsScriptFault file.opened why
+
+-- reading the files fails at one of them, or for want of memory
 abbrev pub IsEachLost : {R : Type 0} → List (NamedFile R) → Lost → Type 0
-IsEachLost files (lost.Part name why) = (file : NamedFile _) × Contains files file × (file.name.items ≡ name.items) × IsScriptFault file.opened why
+IsEachLost files (lost.Part name why) = IsFirstLost files name.items why
 IsEachLost files (lost.Folder why) = why ≡ OutOfMemory
 IsEachLost files other = ⊥
 
@@ -66,15 +90,30 @@ abbrev pub IsListLost : {R : Type 0} → Result (Vec (NamedFile R)) Refusal → 
 IsListLost (Ok files) cause = IsEachLost files.items cause
 IsListLost (Err why) cause = cause ≡ lost.Folder why
 
--- Why nothing was recovered, where the output's failures were this many before and this many after: a file can't be opened or
--- read; or the folder can't be listed, or memory ran out, or the rules refuse what the files hold; or the output failed.
-abbrev pub IsLost : {R : Type 0} → (R → Option (List ℕ)) → Folder R → ℕ → ℕ → Lost → Type 0
-IsLost remaining folder old new (lost.Base why) = IsScriptFault folder.base why
-IsLost remaining folder old new (lost.Part name why) = IsListLost folder.parts (lost.Part name why)
-IsLost remaining folder old new (lost.Log why) = IsLogFault folder.log why
-IsLost remaining folder old new (lost.Folder why) =
-    (why ≡ OutOfMemory) ⊎ ((folder.parts ≡ Err why) ⊎ ((base : List ℕ) (names parts : List (List ℕ)) (log : List ℕ) → HoldsAll remaining folder base names parts log → recovery base parts log ≡ Err why))
-IsLost remaining folder old new lost.Output = HasRisen old new
+-- the rules refuse what the files hold, or memory ran out
+abbrev pub IsRefused : {R : Type 0} → (R → Option (List ℕ)) → Folder R → Refusal → Type 0
+IsRefused remaining folder why =
+    (why ≡ OutOfMemory) ⊎ ((base : List ℕ) (names parts : List (List ℕ)) (log : List ℕ) → HoldsAll remaining folder base names parts log → recovery base parts log ≡ Err why)
+
+-- Why nothing was recovered. The files are read in order, and a fault is told only where all before it were opened: first the
+-- base can't be had; then the parts can't be listed, or one of them can't be had; then the log; then the rules refuse what all of
+-- them hold; and last the output fails.
+abbrev pub IsLost : {R : Type 0} → (R → Option (List ℕ)) → Folder R → Lost → Type 0
+IsLost remaining folder (lost.Base why) = IsScriptFault folder.base why
+IsLost remaining folder (lost.Part name why) = IsOk folder.base × IsListLost folder.parts (lost.Part name why)
+IsLost remaining folder (lost.Log why) = IsOk folder.base × ArePartsOpened folder.parts × IsLogFault folder.log why
+IsLost remaining folder (lost.Folder why) = (IsOk folder.base × IsListLost folder.parts (lost.Folder why)) ⊎ (AreAllOpened folder × IsRefused remaining folder why)
+IsLost remaining folder lost.Output = AreAllOpened folder
+
+-- a beginning of what is printed of what is recovered went out, and nothing else; said where the files' bytes are known
+abbrev pub PrintsInPart : {R T : Type 0} → (R → Option (List ℕ)) → (T → Option (List ℕ)) → Folder R → Tally T → Tally T → Type 0
+PrintsInPart remaining contents folder old new = (base : List ℕ) (names parts : List (List ℕ)) (log : List ℕ) → HoldsAll remaining folder base names parts log →
+    (found : Recovery) × (recovery base parts log ≡ Ok found) × AppendsBeginning (contents (inner_of old)) (contents (inner_of new)) (recovery_text names found)
+
+-- what went out where nothing was recovered: a beginning where the output failed, which was counted, and else nothing
+abbrev pub GoesOut : {R T : Type 0} → (R → Option (List ℕ)) → (T → Option (List ℕ)) → Folder R → Tally T → Tally T → Lost → Type 0
+GoesOut remaining contents folder old new lost.Output = HasRisen (failures_of old) (failures_of new) × PrintsInPart remaining contents folder old new
+GoesOut remaining contents folder old new other = new ≡ old
 
 -- a name and a reason are told, as far as the writer takes them
 abbrev pub TellsOf : {T : Type 0} → (T → Option (List ℕ)) → Tally T → Tally T → List ℕ → Refusal → Type 0

@@ -1,14 +1,18 @@
 -- The exit status of a run, and what it tells of a fault.
-use Rattle.std.specs.Prelude.{◌≡◌, ◌⊎◌, ℕ, List, ◌++◌, codes, MatchResult}
+use Rattle.std.specs.Prelude.{◌≡◌, ◌⊎◌, ℕ, List, ◌++◌, codes, Option, MatchResult, IfOk, IfSome}
 use Rattle.std.specs.declared.result.Result.{Result}
 use Rattle.pc_types.specs.Names.{name_of}
 use Rattle.pc_types.specs.declared.refusal.Refusal.{Refusal}
 use Rattle.pc_types.specs.declared.refusal.Refusal.TheVariants.{OutOfMemory, Device}
-use Rattle.pc_types.specs.Counted.{HasRisen}
+use Rattle.pc_types.specs.Counted.{HasRisen, AppendsBeginning}
+use Rattle.pc_types.specs.Tallies.{inner_of, failures_of}
+use Rattle.pc_types.specs.declared.tally.Tally.{Tally}
+use Rattle.pc_script.specs.declared.setup.Setup.{Setup}
 use Rattle.pc_script.specs.declared.run.Fault.{Fault}
 use Rattle.pc_script.specs.declared.run.Fault.TheVariants as fault
 use Rattle.pc_script.specs.declared.script.Status.{Status}
 use Rattle.pc_script.specs.declared.script.Status.TheVariants as status
+use Rattle.pc_script.specs.Scripts.{IsAnsweredInPart}
 
 -- the exit status of a script that was answered
 abbrev pub exit_of : Status → ℕ
@@ -24,7 +28,17 @@ report_text name why = codes "pcalc: " ++ (name ++ (codes ": " ++ (name_of why +
 abbrev pub IsScriptFault : {R : Type 0} → Result R Refusal → Refusal → Type 0
 IsScriptFault opened why = MatchResult opened (λ reader. (why ≡ OutOfMemory) ⊎ (why ≡ Device)) (λ absent. why ≡ absent)
 
--- a run ended without a status of the script's own for a fault of the script, or for one of the output, which was counted
-abbrev pub IsFault : {R : Type 0} → Result R Refusal → ℕ → ℕ → Fault → Type 0
-IsFault opened old new (fault.Script why) = IsScriptFault opened why
-IsFault opened old new fault.Output = HasRisen old new
+-- A script has no status of its own for this reason. Where it isn't there or couldn't be read, the output is as it was; else
+-- memory ran out for a line of it.
+abbrev pub IsUnanswered : {R T : Type 0} → Result R Refusal → Tally T → Tally T → Refusal → Type 0
+IsUnanswered opened old new why = IsScriptFault opened why × ((new ≡ old) ⊎ (why ≡ OutOfMemory))
+
+-- a run ended without a status of the script's own, for a fault of the script, or for one of the output, which was counted
+abbrev pub IsFault : {R T : Type 0} → Result R Refusal → Tally T → Tally T → Fault → Type 0
+IsFault opened old new (fault.Script why) = IsUnanswered opened old new why
+IsFault opened old new fault.Output = HasRisen (failures_of old) (failures_of new)
+
+-- a beginning of what some first lines of the script may print went out, and nothing else; said where the bytes are known
+abbrev pub AnswersInPart : {R T : Type 0} → (R → Option (List ℕ)) → (T → Option (List ℕ)) → Setup → Result R Refusal → Tally T → Tally T → Type 0
+AnswersInPart remaining contents setup opened old new = IfOk opened (λ reader. IfSome (remaining reader) (λ script.
+    (text : List ℕ) × AppendsBeginning (contents (inner_of old)) (contents (inner_of new)) text × IsAnsweredInPart setup script text))

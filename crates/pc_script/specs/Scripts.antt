@@ -40,8 +40,8 @@ abbrev pub setting : Setup → Database → Setting
 setting setup base = record { run = setup.run; base = base; sessions = setup.sessions; capacity = setup.capacity }
 
 -- the answer of a refusal
-abbrev pub refused : Refusal → Answer
-refused why = answer.Says (told.Refused why)
+abbrev pub refusal_answer : Refusal → Answer
+refusal_answer why = answer.Says (told.Refused why)
 
 -- a new key, where the base has as many pairs as the capacity
 abbrev pub is_base_full : ℕ → Database → List ℕ → Bool
@@ -50,16 +50,16 @@ is_base_full capacity base key = is_none (map_of.get base key) && not (nat_lt (m
 -- a pair of the base: refused, or set; or memory ran out, and the base is as it was
 abbrev pub AnswersPair : ℕ → Database → List ℕ → List ℕ → Answer → Database → Type 0
 AnswersPair capacity base key value said next =
-    MatchBool (is_base_full capacity base key) ((said ≡ refused why.Full) × (next ≡ base))
-    (((said ≡ answer.Says told.Ok) × (next ≡ map_of.insert base key value)) ⊎ ((said ≡ refused why.OutOfMemory) × (next ≡ base)))
+    MatchBool (is_base_full capacity base key) ((said ≡ refusal_answer why.Full) × (next ≡ base))
+    (((said ≡ answer.Says told.Ok) × (next ≡ map_of.insert base key value)) ⊎ ((said ≡ refusal_answer why.OutOfMemory) × (next ≡ base)))
 
 -- a line once the store stands: an event has some legal reply, and the history grows by it; no other line changes anything
 abbrev pub AnswersLine : Setting → History → Line → Answer → History → Type 0
 AnswersLine st history line.Silent said next = (said ≡ answer.Nothing) × (next ≡ history)
 AnswersLine st history line.Malformed said next = (said ≡ answer.BadLine) × (next ≡ history)
-AnswersLine st history (line.Sets key value) said next = (said ≡ refused why.WrongPhase) × (next ≡ history)
-AnswersLine st history (line.SetsRefused why) said next = (said ≡ refused why) × (next ≡ history)
-AnswersLine st history (line.AsksRefused why) said next = (said ≡ refused why) × (next ≡ history)
+AnswersLine st history (line.Sets key value) said next = (said ≡ refusal_answer why.WrongPhase) × (next ≡ history)
+AnswersLine st history (line.SetsRefused why) said next = (said ≡ refusal_answer why) × (next ≡ history)
+AnswersLine st history (line.AsksRefused why) said next = (said ≡ refusal_answer why) × (next ≡ history)
 AnswersLine st history (line.Asks event) said next =
     (reply : Reply) × IsLegal st history event reply × (said ≡ answer.Says reply) × (next ≡ record { event = event; reply = reply } ∷ history)
 AnswersLine st history (line.Shows view) said next = AnswersView st history view said × (next ≡ history)
@@ -67,13 +67,13 @@ AnswersLine st history (line.Shows view) said next = AnswersView st history view
 -- the first line after the base: the store is made and answers it, or memory ran out
 abbrev pub AnswersFirst : Setup → Database → Line → Answer → Stage → Type 0
 AnswersFirst setup base l said next =
-    ((history : History) × AnswersLine (setting setup base) [] l said history × (next ≡ Running base history)) ⊎ ((said ≡ refused why.OutOfMemory) × (next ≡ Ended))
+    ((history : History) × AnswersLine (setting setup base) [] l said history × (next ≡ Running base history)) ⊎ ((said ≡ refusal_answer why.OutOfMemory) × (next ≡ Ended))
 
 -- what a line may be answered at a stage, and the stage after it
 abbrev pub Answers : Setup → Stage → Line → Answer → Stage → Type 0
 Answers setup (Reading base) line.Silent said next = (said ≡ answer.Nothing) × (next ≡ Reading base)
 Answers setup (Reading base) (line.Sets key value) said next = (after : Database) × AnswersPair setup.capacity base key value said after × (next ≡ Reading after)
-Answers setup (Reading base) (line.SetsRefused why) said next = (said ≡ refused why) × (next ≡ Reading base)
+Answers setup (Reading base) (line.SetsRefused why) said next = (said ≡ refusal_answer why) × (next ≡ Reading base)
 Answers setup (Reading base) line.Malformed said next = AnswersFirst setup base line.Malformed said next
 Answers setup (Reading base) (line.Asks event) said next = AnswersFirst setup base (line.Asks event) said next
 Answers setup (Reading base) (line.AsksRefused why) said next = AnswersFirst setup base (line.AsksRefused why) said next

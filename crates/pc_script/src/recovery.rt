@@ -1,5 +1,5 @@
 //! A recovery of a folder, from its readers to the status.
-ghost use Rattle.std.specs.Prelude.{◌≡◌, ◌⊎◌, ◌++◌, [], ◌∷◌, ℕ, List, map, IfOk, IfErr, OnOk};
+ghost use Rattle.std.specs.Prelude.{◌≡◌, ◌≢◌, ◌⊎◌, ◌++◌, [], ◌∷◌, ℕ, List, map, IsOk, IfOk, IfErr, OnOk};
 ghost use Rattle.std.specs.declared.result.Result.{Result};
 ghost use Rattle.std.specs.Io.KnownBytes.{Appends, Keeps};
 ghost use Rattle.pc_types.specs.declared.refusal.Refusal.{Refusal};
@@ -10,7 +10,7 @@ ghost use Rattle.pc_recover.specs.Recovery.{Recovery, recovery, recovery_of};
 ghost use Rattle.pc_script.specs.declared.recovery.Lost.{Lost};
 ghost use Rattle.pc_script.specs.Runs.{IsScriptFault};
 ghost use Rattle.pc_script.specs.Reports.{recovery_text};
-ghost use Rattle.pc_script.specs.Recoveries.{Holds, HoldsLog, HoldEach, HoldParts, HoldsAll, IsEachLost, IsListLost, IsLogFault, IsLost, IsTold, bytes_of, names_of};
+ghost use Rattle.pc_script.specs.Recoveries.{AreAllOpened, AreOpened, ArePartsOpened, GoesOut, Holds, HoldsLog, HoldEach, HoldParts, HoldsAll, IsEachLost, IsListLost, IsLogFault, IsLogOpened, IsLost, IsTold, bytes_of, names_of};
 
 use crate::reports::put_recovered;
 use crate::run::{read_opened, report_bytes};
@@ -81,7 +81,7 @@ pub fn run_recover<R: Read + Drop, W: Write, E: Write>(
         (found : Recovery) × (recovery base parts log ≡ Ok found) × Appends (W.contents (inner_of out.old)) (W.contents (inner_of out.new)) (recovery_text names found) }
     ensures sound { result ≡ 0 → failures_of out.new ≡ failures_of out.old }
     ensures quiet { result ≡ 0 → Keeps (E.contents (inner_of errors.old)) (E.contents (inner_of errors.new)) }
-    ensures cause { result ≡ 1 → (lost : Lost) × IsLost R.remaining folder (failures_of out.old) (failures_of out.new) lost
+    ensures cause { result ≡ 1 → (lost : Lost) × IsLost R.remaining folder lost × GoesOut R.remaining W.contents folder out.old out.new lost
         × IsTold E.contents errors.old errors.new dir.now lost }
 {
     match recover_folder(alloc, folder, out) {
@@ -101,7 +101,8 @@ fn recover_folder<R: Read + Drop, W: Write>(
     ensures recovered { OnOk result ((base : List ℕ) (names parts : List (List ℕ)) (log : List ℕ) → HoldsAll R.remaining folder base names parts log →
         (found : Recovery) × (recovery base parts log ≡ Ok found) × Appends (W.contents (inner_of out.old)) (W.contents (inner_of out.new)) (recovery_text names found)) }
     ensures sound { OnOk result (failures_of out.new ≡ failures_of out.old) }
-    ensures cause { IfErr result (IsLost R.remaining folder (failures_of out.old) (failures_of out.new)) }
+    ensures cause { IfErr result (IsLost R.remaining folder) }
+    ensures goes_out { IfErr result (GoesOut R.remaining W.contents folder out.old out.new) }
 {
     let files = read_folder(alloc, folder)?;
     let recovered = match recover_files(alloc, &files) {
@@ -152,7 +153,8 @@ fn slices_of<'a>(alloc: Global, parts: &'a [PartBytes]) -> Result<Vec<&'a [u8]>,
 fn read_folder<R: Read + Drop>(alloc: Global, folder: Folder<R>) -> Result<FolderBytes, Lost>
     ensures held { (base : List ℕ) (names parts : List (List ℕ)) (log : List ℕ) → HoldsAll R.remaining folder base names parts log → IfOk result (λ files.
         (files.base.items ≡ base) × (names_of files.parts.items ≡ names) × (bytes_of files.parts.items ≡ parts) × (files.log.items ≡ log)) }
-    ensures cause { (count : ℕ) → IfErr result (IsLost R.remaining folder count count) }
+    ensures opened { OnOk result (AreAllOpened folder) }
+    ensures cause { IfErr result (λ lost. IsLost R.remaining folder lost × (lost ≢ Lost.Output)) }
 {
     let Folder { base, parts, log } = folder;
     let base = match read_opened(alloc, base) {
@@ -170,6 +172,7 @@ fn read_folder<R: Read + Drop>(alloc: Global, folder: Folder<R>) -> Result<Folde
 // The log's bytes, none where it isn't there.
 fn read_log<R: Read + Drop>(alloc: Global, opened: Result<R, Refusal>) -> Result<Vec<u8>, Refusal>
     ensures held { (held : List ℕ) → HoldsLog R.remaining opened held → IfOk result (λ bytes. bytes.items ≡ held) }
+    ensures opened { OnOk result (IsLogOpened opened) }
     ensures cause { IfErr result (IsLogFault opened) }
 {
     match opened {
@@ -183,6 +186,7 @@ fn read_listed<R: Read + Drop>(
     listed: Result<Vec<NamedFile<R>>, Refusal>,
 ) -> Result<Vec<PartBytes>, Lost>
     ensures held { (names parts : List (List ℕ)) → HoldParts R.remaining listed names parts → IfOk result (λ read. (names_of read.items ≡ names) × (bytes_of read.items ≡ parts)) }
+    ensures opened { OnOk result (ArePartsOpened listed) }
     ensures cause { IfErr result (IsListLost listed) }
 {
     match listed {
@@ -196,6 +200,7 @@ fn read_parts<R: Read + Drop>(
     files: Vec<NamedFile<R>>,
 ) -> Result<Vec<PartBytes>, Lost>
     ensures held { (names parts : List (List ℕ)) → HoldEach R.remaining files.items names parts → IfOk result (λ read. (names_of read.items ≡ names) × (bytes_of read.items ≡ parts)) }
+    ensures opened { OnOk result (AreOpened files.items) }
     ensures cause { IfErr result (IsEachLost files.items) }
 {
     let mut read = Vec::new(alloc);
@@ -218,6 +223,7 @@ fn push_part(read: &mut Vec<PartBytes>, part: PartBytes) -> Result<(), Lost>
 
 fn read_part<R: Read + Drop>(alloc: Global, file: NamedFile<R>) -> Result<PartBytes, Lost>
     ensures held { (held : List ℕ) → Holds R.remaining file.opened held → IfOk result (λ part. (part.name.items ≡ file.name.items) × (part.bytes.items ≡ held)) }
+    ensures opened { OnOk result (IsOk file.opened) }
     ensures cause { IfErr result (λ lost. (why : Refusal) × (lost ≡ Lost.Part file.name why) × IsScriptFault file.opened why) }
 {
     let NamedFile { name, opened } = file;

@@ -9,7 +9,7 @@ ghost use Rattle.pc_types.specs.Counted.{HasRisen};
 ghost use Rattle.pc_script.specs.declared.script.Status.{Status};
 ghost use Rattle.pc_script.specs.declared.script.Status.TheVariants.{NoStore};
 ghost use Rattle.pc_script.specs.Scripts.{IsAnswered};
-ghost use Rattle.pc_script.specs.Runs.{exit_of, report_text, IsScriptFault, IsFault};
+ghost use Rattle.pc_script.specs.Runs.{exit_of, report_text, AnswersInPart, IsFault, IsScriptFault, IsUnanswered};
 
 use crate::script::{Status, answer_script};
 use crate::setup::Setup;
@@ -30,7 +30,7 @@ enum Fault {
 /// bad line, and else 1. Where the script isn't there, can't be read or is too large for memory, a line on the error
 /// writer tells; where the output fails, or the store can't be made for want of memory, nothing is told there. It gives 1
 /// for no other cause: the script's fault is told, the output's failures have risen, or the lines end with the store not
-/// made.
+/// made. Of a script that can't be read nothing went out; else at the status 1 a beginning of what its first lines print.
 pub fn run_script<R: Read + Drop, W: Write, E: Write>(
     alloc: Global,
     setup: Setup,
@@ -45,12 +45,13 @@ pub fn run_script<R: Read + Drop, W: Write, E: Write>(
         × Appends (W.contents (inner_of out.old)) (W.contents (inner_of out.new)) text × IsAnswered setup script status text)) }
     ensures sound { ¬ (result ≡ 1) → failures_of out.new ≡ failures_of out.old }
     ensures quiet { ¬ (result ≡ 1) → Keeps (E.contents (inner_of errors.old)) (E.contents (inner_of errors.new)) }
-    ensures told { IfErr opened (λ why. (result ≡ 1)
+    ensures told { IfErr opened (λ why. (result ≡ 1) × (out.new ≡ out.old)
         × ((told : Result (Unit {0}) Refusal) × Puts E.contents errors.old errors.new told (report_text name.now why))) }
-    ensures cause { result ≡ 1 → HasRisen (failures_of out.old) (failures_of out.new)
-        ⊎ (((why : Refusal) × IsScriptFault opened why × ((told : Result (Unit {0}) Refusal) × Puts E.contents errors.old errors.new told (report_text name.now why)))
-        ⊎ IfOk opened (λ reader. IfSome (R.remaining reader) (λ script. (text : List ℕ)
-        × Appends (W.contents (inner_of out.old)) (W.contents (inner_of out.new)) text × IsAnswered setup script NoStore text))) }
+    ensures in_part { result ≡ 1 → AnswersInPart R.remaining W.contents setup opened out.old out.new }
+    ensures cause { result ≡ 1 → (HasRisen (failures_of out.old) (failures_of out.new) × (errors.new ≡ errors.old))
+        ⊎ (((why : Refusal) × IsUnanswered opened out.old out.new why × ((told : Result (Unit {0}) Refusal) × Puts E.contents errors.old errors.new told (report_text name.now why)))
+        ⊎ ((errors.new ≡ errors.old) × IfOk opened (λ reader. IfSome (R.remaining reader) (λ script. (text : List ℕ)
+        × Appends (W.contents (inner_of out.old)) (W.contents (inner_of out.new)) text × IsAnswered setup script NoStore text)))) }
 {
     match answer_opened(alloc, setup, opened, out) {
         Ok(status) => exit_code(status),
@@ -82,8 +83,9 @@ fn answer_opened<R: Read + Drop, W: Write>(
     ensures answered { IfOk result (λ status. IfOk opened (λ reader. IfSome (R.remaining reader) (λ script. (text : List ℕ)
         × Appends (W.contents (inner_of out.old)) (W.contents (inner_of out.new)) text × IsAnswered setup script status text))) }
     ensures sound { OnOk result (failures_of out.new ≡ failures_of out.old) }
-    ensures unopened { IfErr opened (λ why. result ≡ Err (Fault.Script why)) }
-    ensures cause { IfErr result (λ fault. IsFault opened (failures_of out.old) (failures_of out.new) fault) }
+    ensures unopened { IfErr opened (λ why. (result ≡ Err (Fault.Script why)) × (out.new ≡ out.old)) }
+    ensures in_part { AnswersInPart R.remaining W.contents setup opened out.old out.new }
+    ensures cause { IfErr result (IsFault opened out.old out.new) }
 {
     let script = match read_opened(alloc, opened) {
         Ok(script) => script,

@@ -7,7 +7,7 @@ ghost use Rattle.pc_model.specs.Maps.{len};
 ghost use Rattle.pc_model.specs.History.{History};
 ghost use Rattle.pc_engine.specs.Stands.{Stands};
 ghost use Rattle.pc_engine.specs.Store.{setting_of};
-ghost use Rattle.pc_script.specs.Scripts.{Stage, setting, refused, is_base_full, AnswersPair, AnswersLine, AnswersFirst, Answers, answer_text, is_malformed, IsAnswered, IsAnsweredInPart};
+ghost use Rattle.pc_script.specs.Scripts.{Stage, setting, refusal_answer, is_base_full, AnswersPair, AnswersLine, AnswersFirst, Answers, answer_text, is_malformed, IsAnswered, IsAnsweredInPart};
 ghost use Rattle.pc_script.specs.Scripts.Stage.{Reading};
 ghost use Rattle.pc_script.specs.Holding.{Holds, HasRoom, IsSaid, IsSaidInPart, is_ended};
 ghost use Rattle.pc_script.specs.declared.script.Status.TheVariants.{BadLines};
@@ -17,8 +17,8 @@ use crate::views::answer_view;
 use bstr::ByteSlice;
 use pc_engine::World;
 use pc_lines::{Line, read_line};
-use pc_model::Pairs;
 use pc_part::Base;
+use pc_replay::Pairs;
 use pc_texts::{put_check, put_reply, put_state, put_text};
 use pc_types::{Items, Key, Refusal, Reply, Tally, Value};
 use std::alloc::Global;
@@ -158,7 +158,7 @@ fn answer_base(alloc: Global, setup: Setup, mut pairs: Pairs, line: Line) -> (An
             let answer = add_pair(setup.capacity, &mut pairs, key, value);
             (answer, Made::Base(pairs))
         }
-        Line::SetsRefused(why) => (refused(why), Made::Base(pairs)),
+        Line::SetsRefused(why) => (refusal_answer(why), Made::Base(pairs)),
         Line::Malformed => answer_first(alloc, setup, pairs, Line::Malformed),
         Line::Asks(event) => answer_first(alloc, setup, pairs, Line::Asks(event)),
         Line::AsksRefused(why) => answer_first(alloc, setup, pairs, Line::AsksRefused(why)),
@@ -177,12 +177,12 @@ fn answer_first(alloc: Global, setup: Setup, pairs: Pairs, line: Line) -> (Answe
             let answer = answer_stored(alloc, &mut world, line);
             (answer, Made::Store(world))
         }
-        None => (refused(Refusal::OutOfMemory), Made::Ended),
+        None => (refusal_answer(Refusal::OutOfMemory), Made::Ended),
     }
 }
 
-pub(crate) fn refused(why: Refusal) -> Answer
-    ensures { result ≡ refused why }
+pub(crate) fn refusal_answer(why: Refusal) -> Answer
+    ensures { result ≡ refusal_answer why }
 {
     Answer::Says(Reply::Refused(why))
 }
@@ -201,11 +201,11 @@ fn add_pair(capacity: u32, pairs: &mut Pairs, key: Key, value: Value) -> Answer
     ensures room { len pairs.new ≤ capacity }
 {
     if is_full(capacity, pairs, &key) {
-        return refused(Refusal::Full);
+        return refusal_answer(Refusal::Full);
     }
     match pairs.insert(key, value) {
         Ok(()) => Answer::Says(Reply::Ok),
-        Err(_) => refused(Refusal::OutOfMemory),
+        Err(_) => refusal_answer(Refusal::OutOfMemory),
     }
 }
 
@@ -230,9 +230,9 @@ fn answer_stored(alloc: Global, world: &mut World, line: Line) -> Answer
     match line {
         Line::Silent => Answer::Nothing,
         Line::Malformed => Answer::BadLine,
-        Line::Sets(_, _) => refused(Refusal::WrongPhase),
-        Line::SetsRefused(why) => refused(why),
-        Line::AsksRefused(why) => refused(why),
+        Line::Sets(_, _) => refusal_answer(Refusal::WrongPhase),
+        Line::SetsRefused(why) => refusal_answer(why),
+        Line::AsksRefused(why) => refusal_answer(why),
         Line::Asks(event) => Answer::Says(world.step(&event)),
         Line::Shows(view) => answer_view(alloc, world, view),
     }

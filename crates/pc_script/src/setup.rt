@@ -1,5 +1,6 @@
 //! What a store is made with.
 ghost use Rattle.std.specs.Prelude.{◌≤◌};
+ghost use Rattle.pc_types.specs.declared.limits.TheConstants.{MOST_KEYS, MOST_SESSIONS};
 
 /// What a store is made with: its run's number; how many sessions it has, from 1 to 64; and its capacity, the greatest
 /// number of keys that it has room for, from 1 to 1,048,576.
@@ -8,6 +9,6 @@ pub struct Setup {
     pub run: u32,
     pub sessions: u8,
     pub capacity: u32,
-    ghost in_range: { (1 ≤ capacity) × (capacity ≤ 1048576) },
-    ghost some_sessions: { (1 ≤ sessions) × (sessions ≤ 64) },
+    ghost in_range: { (1 ≤ capacity) × (capacity ≤ MOST_KEYS) },
+    ghost some_sessions: { (1 ≤ sessions) × (sessions ≤ MOST_SESSIONS) },
 }

@@ -6,7 +6,7 @@ ghost use Rattle.pc_engine.specs.Store.{setting_of};
 ghost use Rattle.pc_script.specs.Views.{AnswersView, ShowsCheck, ShowsItsCheck, ShowsState, ShowsText};
 ghost use Rattle.pc_lines.specs.declared.lines.View.TheVariants as view;
 
-use crate::script::{Answer, refused};
+use crate::script::{Answer, refusal_answer};
 use pc_engine::World;
 use pc_lines::View;
 use pc_part::{Base, Part, lay};
@@ -21,11 +21,11 @@ pub(crate) fn answer_view(alloc: Global, world: &World, view: View) -> Answer
     match view {
         View::State(number) => match world.file(number) {
             Some(file) => shown_state(alloc, world.base(), file),
-            None => refused(Refusal::NoFile),
+            None => refusal_answer(Refusal::NoFile),
         },
         View::Text(number) => match world.file(number) {
             Some(file) => shown_text(alloc, file),
-            None => refused(Refusal::NoFile),
+            None => refusal_answer(Refusal::NoFile),
         },
         View::Check => shown_check(world),
     }
@@ -37,7 +37,7 @@ fn shown_state(alloc: Global, base: &Base, file: &Part) -> Answer
 {
     match lay(alloc, base, file) {
         Ok(laid) => Answer::State(laid),
-        Err(why) => refused(why),
+        Err(why) => refusal_answer(why),
     }
 }
 
@@ -48,7 +48,7 @@ fn shown_check(world: &World) -> Answer
 {
     match world.check() {
         Ok(sound) => Answer::Check(sound),
-        Err(_) => refused(Refusal::OutOfMemory),
+        Err(_) => refusal_answer(Refusal::OutOfMemory),
     }
 }
 
@@ -60,6 +60,6 @@ fn shown_text(alloc: Global, file: &Part) -> Answer
     match file.encode(&mut out) {
         Ok(()) => Answer::Text(Items::from_vec(out.into_inner())),
         // Bytes in memory fail only for want of it.
-        Err(_) => refused(Refusal::OutOfMemory),
+        Err(_) => refusal_answer(Refusal::OutOfMemory),
     }
 }

@@ -1,3 +1,3 @@
-pub mod RangeLemmas
-pub mod Sent
-pub mod StatePairs
+mod RangeLemmas
+pub mod SentLaws
+pub mod StatePairLaws

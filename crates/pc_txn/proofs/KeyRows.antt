@@ -3,7 +3,7 @@ use Rattle.std.proofs.Common.{◌≡◌, ℕ, suc, ◌+◌, ◌<◌, ◌≤◌, 
 use Rattle.std.proofs.lemmas.Grind.{common_steps}
 use Rattle.pc_types.specs.declared.Write.{Write}
 use Rattle.pc_model.specs.Database.{same_bytes}
-use Rattle.pc_model.proofs.EntryPlaces.{rest_at}
+use Rattle.pc_model.proofs.PlaceLaws.{rest_at}
 use Rattle.pc_txn.specs.Changes.{row_of_key}
 
 pub from_start : (ws : List Write) (key : List ℕ) → row_of_key ws key ≡ option_map (λ k. 0 + k) (row_of_key ws key)

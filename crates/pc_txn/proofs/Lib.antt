@@ -1,5 +1,5 @@
-pub mod Splits
-pub mod RowLemmas
-pub mod Restoring
-pub mod KeyLemmas
-pub mod KeyRows
+mod Splits
+pub mod RowLaws
+mod Restoring
+pub mod KeyLaws
+mod KeyRows

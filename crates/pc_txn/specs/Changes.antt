@@ -1,6 +1,7 @@
 -- What one transaction has written.
 use Rattle.std.specs.Prelude.{◌≡◌, ℕ, suc, ◌<◌, ◌≤◌, ◌==◌, min, slice_index_or, List, [], ◌∷◌, length, Option, Some, None, option_map, if◌then◌else◌}
 use Rattle.pc_types.specs.declared.Write.{Write}
+use Rattle.pc_types.specs.declared.limits.TheConstants.{MOST_WRITES}
 use Rattle.pc_txn.specs.declared.transaction.Undone.{Undone}
 use Rattle.pc_model.specs.Database.{same_bytes}
 use Rattle.pc_txn.specs.Indexes.{Rises, found}
@@ -30,11 +31,11 @@ with_saved (u ∷ us) undone = u ∷ (if u.slot == undone.slot then us else with
 
 -- the slot would have the 257th row
 abbrev pub IsTooMany : Changes → ℕ → Type 0
-IsTooMany changes slot = (row_of_slot changes.saved slot ≡ None) × (length changes.saved ≡ 256)
+IsTooMany changes slot = (row_of_slot changes.saved slot ≡ None) × (length changes.saved ≡ MOST_WRITES)
 
 -- a write in the slot takes no memory, and is not one too many
 abbrev pub HasRoomFor : Changes → ℕ → Type 0
-HasRoomFor changes slot = row_of_slot changes.saved slot ≡ None → (0 < changes.room) × (length changes.saved < 256)
+HasRoomFor changes slot = row_of_slot changes.saved slot ≡ None → (0 < changes.room) × (length changes.saved < MOST_WRITES)
 
 -- so many rows fit into three lists that have so much room each
 abbrev pub room_of : ℕ → ℕ → ℕ → ℕ
@@ -43,7 +44,7 @@ room_of a b c = min (min a b) c
 -- the lists are of the same rows, at most 256, one for each slot, and the index gives the slots' rows
 pub record AreRows (saved : List Undone) (writes : List Write) (index : List (ℕ × ℕ)) : Type 0 where
   pub count : length writes ≡ length saved
-  pub limit : length saved ≤ 256
+  pub limit : length saved ≤ MOST_WRITES
   pub own : (i : ℕ) (d : Undone) → i < length saved → row_of_slot saved (slice_index_or saved i d).slot ≡ Some i
   pub rise : Rises index
   pub rows : (slot : ℕ) → found index slot ≡ row_of_slot saved slot

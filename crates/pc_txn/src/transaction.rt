@@ -5,12 +5,9 @@ ghost use Rattle.pc_txn.specs.Changes.{Changes, row_of_slot, row_of_key, with_sa
 ghost use Rattle.pc_txn.specs.Undoing.{undone, stepped_back};
 
 use crate::index;
-use pc_types::{Items, Refusal, SlotId, TxnNo, Value, Write};
+use pc_types::{Items, MOST_WRITES, Refusal, SlotId, TxnNo, Value, Write};
 use std::alloc::Global;
 use std::marker::Model;
-
-// How many keys a transaction may write.
-const MOST_WRITES: usize = 256;
 
 /// What a step back of a transaction gives: a slot, and the value that stood there before the transaction's first write
 /// there, or nothing where none did.
@@ -20,7 +17,7 @@ pub struct Undone {
     pub before: Option<Value>,
 }
 
-/// What one transaction has written: at most 256 rows, one for each written key, in the order of first writes. A row is
+/// What one transaction has written: at most 256 rows, one for each key that it wrote, as they were first written. A row is
 /// the key's slot with what stood there before the first write, and the final write of the key.
 #[derive(Drop)]
 pub struct Transaction {
@@ -67,7 +64,7 @@ impl Transaction {
     pub fn writes(&self) -> &[Write]
         ensures writes { result.now ≡ self.now.writes }
         ensures count { length self.now.writes ≡ length self.now.saved }
-        ensures limit { length self.now.writes ≤ 256 }
+        ensures limit { length self.now.writes ≤ MOST_WRITES }
     {
         self.writes.as_slice()
     }

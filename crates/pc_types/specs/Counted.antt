@@ -14,7 +14,7 @@ abbrev pub after_read : {E : Type 0} → Result ℕ E → ℕ → ℕ
 after_read (Ok n) count = count
 after_read (Err e) count = one_more count
 
--- a write fails where it answers an error, or takes nothing of a piece that isn't empty
+-- a write fails where it answers an error, or where it was given bytes and took none
 abbrev pub after_write : {E : Type 0} → Result ℕ E → List ℕ → ℕ → ℕ
 after_write (Ok n) piece count = if (nat_lt 0 (length piece) && nat_lt n 1) then one_more count else count
 after_write (Err e) piece count = one_more count

@@ -4,6 +4,7 @@ use Rattle.std.specs.Cmp.Lexicographic.{pointwise}
 use Rattle.std.specs.Int.{Width, w16, w32, byte_len, from_be_bytes, to_be_bytes}
 use Rattle.pc_types.specs.declared.refusal.Refusal.{Refusal}
 use Rattle.pc_types.specs.declared.refusal.Refusal.TheVariants.{OutOfMemory, Short, BadMagic, BadKind, BadLength}
+use Rattle.pc_types.specs.declared.limits.TheConstants.{MOST_KEY_BYTES, MOST_VALUE_BYTES}
 
 -- a key: its length, and its bytes
 abbrev pub key_text : List ℕ → List ℕ
@@ -57,7 +58,7 @@ magic_at magic bytes = do
 -- a key of so many bytes
 unfoldable pub sized_key_at : Refusal → ℕ → List ℕ → Result (List ℕ × List ℕ) Refusal
 sized_key_at missing count bytes = do
-  lawful ← where_true (nat_le 1 count && nat_le count 255) BadLength count
+  lawful ← where_true (nat_le 1 count && nat_le count MOST_KEY_BYTES) BadLength count
   bytes_at missing lawful bytes
 
 -- a key, its length before it
@@ -70,7 +71,7 @@ key_at missing bytes = do
 unfoldable pub value_at : Refusal → List ℕ → Result (List ℕ × List ℕ) Refusal
 value_at missing bytes = do
   count ← number_at missing w32 bytes
-  lawful ← where_true (nat_le count.0 65535) BadLength count.0
+  lawful ← where_true (nat_le count.0 MOST_VALUE_BYTES) BadLength count.0
   bytes_at missing lawful count.1
 
 -- what a key has

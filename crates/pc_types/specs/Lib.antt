@@ -3,3 +3,5 @@ pub mod Fields
 pub mod Limits
 pub mod Names
 pub mod Tallies
+pub mod Phases
+pub mod FieldForms

@@ -1,4 +1,7 @@
 //! Events and replies, and the entries of the log.
+ghost use Rattle.std.specs.Prelude.{◌≡◌};
+ghost use Rattle.pc_types.specs.Phases.{same_phase};
+
 use crate::keys::Key;
 use crate::lists::Items;
 use crate::numbers::{FileNo, Lsn, Point, SessionNo, TxnNo};
@@ -13,6 +16,15 @@ pub enum Phase {
     Resolve,
     Capture,
     Complete,
+}
+
+impl Phase {
+    /// Whether it is this phase.
+    pub fn is(self, other: Phase) -> bool
+        ensures { result ≡ same_phase self other }
+    {
+        self == other
+    }
 }
 
 /// The class of a transaction, by the phase in which it began.

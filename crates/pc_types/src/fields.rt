@@ -6,6 +6,7 @@ ghost use Rattle.pc_types.specs.Limits.{IsKey};
 ghost use Rattle.pc_types.specs.Fields.{Reads, Gives, bytes_at, number_at, magic_at, sized_key_at, key_at, value_at, content_at};
 
 use crate::keys::Key;
+use crate::limits::{MOST_KEY_BYTES, MOST_VALUE_BYTES};
 use crate::refusal::Refusal;
 use crate::values::Value;
 use std::alloc::Global;
@@ -78,7 +79,7 @@ pub fn read_sized_key(bytes: &[u8], count: u16, missing: Refusal) -> Result<(&[u
     ensures read { Reads (λ x. (x.0.now, x.1.now)) result (sized_key_at missing count bytes.now) }
     ensures in_limits { IfOk result (λ x. IsKey x.0.now) }
 {
-    if count == 0 || 255 < count {
+    if count == 0 || MOST_KEY_BYTES < usize::from(count) {
         return Err(Refusal::BadLength);
     }
     read_bytes(bytes, count as usize, missing)
@@ -102,7 +103,7 @@ pub fn read_value(alloc: Global, bytes: &[u8], missing: Refusal) -> Result<(Valu
     ensures { Gives (λ x. (x.0, x.1.now)) result (value_at missing bytes.now) }
 {
     let (count, rest) = read_u32(bytes, missing)?;
-    if 65_535 < count {
+    if MOST_VALUE_BYTES < count as usize {
         return Err(Refusal::BadLength);
     }
     let (value, rest) = read_bytes(rest, count as usize, missing)?;

@@ -4,6 +4,7 @@ ghost use Rattle.std.specs.Ordering.{nat_cmp, eq_by_cmp};
 ghost use Rattle.std.specs.Cmp.Lexicographic.{slice_cmp};
 ghost use Rattle.pc_types.specs.Limits.{IsKey};
 
+use crate::limits::MOST_KEY_BYTES;
 use crate::refusal::Refusal;
 use smallvec::SmallVec;
 use std::alloc::{AllocError, Global};
@@ -38,7 +39,7 @@ impl Key {
         ensures memory { IsKey bytes.now → IfErr result (λ e. e ≡ Refusal.OutOfMemory) }
         ensures inline { IsKey bytes.now → length bytes.now ≤ 16 → IsOk result }
     {
-        if bytes.is_empty() || bytes.len() > 255 {
+        if bytes.is_empty() || bytes.len() > MOST_KEY_BYTES {
             return Err(Refusal::KeyLength);
         }
         match SmallVec::from_slice(alloc, bytes) {

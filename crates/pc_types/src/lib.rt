@@ -5,10 +5,13 @@
 mod events;
 mod fields;
 mod keys;
+mod limits;
 mod lists;
+mod locking;
 mod numbers;
 mod refusal;
 mod tally;
+mod triples;
 mod values;
 
 pub use events::{Class, Entry, Event, Phase, Reply, Step, Write};
@@ -17,8 +20,14 @@ pub use fields::{
     read_value,
 };
 pub use keys::Key;
+pub use limits::{
+    MOST_FILE_ENTRIES, MOST_FILES, MOST_KEY_BYTES, MOST_KEYS, MOST_LOG_ENTRIES, MOST_POINTS,
+    MOST_SESSIONS, MOST_TRANSACTIONS, MOST_VALUE_BYTES, MOST_WRITES,
+};
 pub use lists::Items;
+pub use locking::{Mode, Outcome, Request};
 pub use numbers::{FileNo, Lsn, Point, ReqId, SessionNo, SlotId, TxnNo};
 pub use refusal::Refusal;
 pub use tally::{Tally, read_all};
-pub use values::Value;
+pub use triples::Triple;
+pub use values::{Value, copy_content};

@@ -11,9 +11,9 @@ use thiserror::Error;
 /// Why a call was refused. After a refusal the value is as it was before the call.
 #[derive(Clone, Copy, Debug, PartialEq, Eq, Error)]
 pub enum Refusal {
-    /// A growth was really refused in this call.
+    /// Memory that this call needed was refused.
     OutOfMemory,
-    /// No slot is free, a base has more pairs than the capacity, or a file would pass its entry limit.
+    /// There is no free slot, no room for so many pairs of a base, or a file would have too many entries.
     Full,
     /// A key of no or more than 255 bytes.
     KeyLength,
@@ -29,7 +29,7 @@ pub enum Refusal {
     WrongPhase,
     /// A 257th key in one transaction.
     TooManyWrites,
-    /// The log, or at Begin the count of transactions, is at its limit.
+    /// The log has no place left, or at Begin no further transaction can be numbered.
     LogFull,
     /// StartPoint after point 65,535.
     PointsFull,
@@ -55,9 +55,9 @@ pub enum Refusal {
     BadRanges,
     /// A key that doesn't rise, or one that stands twice in a commit.
     KeyOrder,
-    /// A kind or phase number that isn't listed.
+    /// An unknown kind or phase.
     BadKind,
-    /// A length, count or session number outside its limits, or a log body that ends inside a field.
+    /// A number past its limits, be it a length, a count or a session; or the body of a log's entry is too short for a field.
     BadLength,
     /// Bytes after the end of a file or of a log body.
     Trailing,
@@ -65,7 +65,7 @@ pub enum Refusal {
     NotCovered,
     /// A token that isn't the next one.
     TokenOrder,
-    /// The device's failure count rose in this call.
+    /// A call of the device failed, and was counted.
     Device,
 }
 

@@ -11,9 +11,8 @@ use std::alloc::Global;
 use std::io;
 use std::io::{Read, Write};
 
-/// A reader or writer, and how many of its calls failed. A read, write or flush that answers an error counts, and so
-/// does a write that takes nothing of a piece that isn't empty. The count stays at the greatest `u64`, and then counts
-/// as risen.
+/// A reader or writer, and how many of its calls failed: those that answered an error, and writes that were given bytes and
+/// took none. The count stays at the greatest `u64`, and then counts as risen.
 #[derive(Drop)]
 pub struct Tally<T> {
     inner: T,
@@ -96,7 +95,7 @@ impl<W: Write> Write for Tally<W> {
 impl<W: Write> Tally<W> {
     /// Writes all of the bytes. `Device` is answered exactly where the count rose in this call; then a beginning of
     /// them went out.
-    #[tactic(auto, using(crate::proofs::Known::appends_nothing))]
+    #[tactic(auto, using(crate::proofs::KnownBytesLaws::appends_nothing))]
     pub fn put(&mut self, bytes: &[u8]) -> Result<(), Refusal>
         ensures { Puts W.contents self.old self.new result bytes.now }
     {
@@ -125,7 +124,7 @@ impl<W: Write> Tally<W> {
 
 /// Reads all that is left, to the reader's end. Refuses with `OutOfMemory`, and with `Device` exactly where the count
 /// rose in this call.
-#[tactic(auto, using(crate::proofs::Known::consumes_nothing))]
+#[tactic(auto, using(crate::proofs::KnownBytesLaws::consumes_nothing))]
 pub fn read_all<R: Read>(alloc: Global, reader: &mut Tally<R>) -> Result<Vec<u8>, Refusal>
     ensures bytes { IfOk result (λ bytes. IfSome (R.remaining (inner_of reader.old)) (λ remained. bytes.items ≡ remained)) }
     ensures end { OnOk result (IsAtEnd (R.remaining (inner_of reader.new))) }

@@ -4,6 +4,7 @@ ghost use Rattle.std.specs.Ordering.{nat_cmp, eq_by_cmp};
 ghost use Rattle.std.specs.Cmp.Lexicographic.{slice_cmp};
 ghost use Rattle.pc_types.specs.Limits.{IsValue};
 
+use crate::limits::MOST_VALUE_BYTES;
 use crate::refusal::Refusal;
 use smallvec::SmallVec;
 use std::alloc::{AllocError, Global};
@@ -37,7 +38,7 @@ impl Value {
         ensures memory { IsValue bytes.now → IfErr result (λ e. e ≡ Refusal.OutOfMemory) }
         ensures inline { length bytes.now ≤ 16 → IsOk result }
     {
-        if bytes.len() > 65535 {
+        if bytes.len() > MOST_VALUE_BYTES {
             return Err(Refusal::ValueLength);
         }
         match SmallVec::from_slice(alloc, bytes) {
@@ -71,5 +72,16 @@ impl Value {
     {
         let bytes = SmallVec::from_slice(alloc, self.as_bytes())?;
         Ok(Value { bytes })
+    }
+}
+
+/// A copy of what a key has, a value or nothing. It takes memory only for a value of more than 16 bytes, and fails only where
+/// that ran out.
+pub fn copy_content(alloc: Global, content: &Option<Value>) -> Result<Option<Value>, AllocError>
+    ensures { IfOk result (λ copy. copy ≡ content.now) }
+{
+    match content {
+        Some(value) => Ok(Some(value.copy(alloc)?)),
+        None => Ok(None),
     }
 }

@@ -1,8 +1,8 @@
 //! Each cut of a log, with each choice of the parts, is recovered.
 use crate::texts::Texts;
 use pc_engine::World;
-use pc_model::{Pairs, after, front_len};
 use pc_recover::{Recovered, recover};
+use pc_replay::{Pairs, after, front_len};
 use pc_types::{Entry, Key, Point, Refusal, Value};
 use std::alloc::{AllocError, Global};
 

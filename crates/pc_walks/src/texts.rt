@@ -1,4 +1,7 @@
 //! What a store writes.
+ghost use Rattle.std.specs.Prelude.{All};
+ghost use Rattle.pc_model.specs.Limits.{HasFewWrites};
+
 use pc_engine::World;
 use pc_log::{encode_entry, encode_header};
 use pc_part::{Base, Part};
@@ -45,22 +48,18 @@ fn header_text(alloc: Global, run: u64) -> Result<Vec<u8>, Refusal> {
 }
 
 // The text of an entry of at most 256 writes.
-fn entry_text(alloc: Global, entry: &Entry) -> Result<Vec<u8>, Refusal> {
+fn entry_text(alloc: Global, entry: &Entry) -> Result<Vec<u8>, Refusal>
+    requires { HasFewWrites entry.now }
+{
     let mut out = Tally::new(Vec::new(alloc));
-    match entry {
-        Entry::Commit(_, writes) => {
-            if writes.as_slice().len() > 256 {
-                return Err(Refusal::BadLength);
-            }
-            encode_entry(&mut out, entry)?;
-        }
-        Entry::Token(_, _) => encode_entry(&mut out, entry)?,
-    }
+    encode_entry(&mut out, entry)?;
     Ok(out.into_inner())
 }
 
 // The text of a log, and how long it is after each entry.
-fn log_text(alloc: Global, run: u64, log: &[Entry]) -> Result<(Vec<u8>, Vec<usize>), Refusal> {
+fn log_text(alloc: Global, run: u64, log: &[Entry]) -> Result<(Vec<u8>, Vec<usize>), Refusal>
+    requires { All HasFewWrites log.now }
+{
     let mut text = header_text(alloc, run)?;
     let mut ends = Vec::new(alloc);
     for entry in log {

@@ -34,7 +34,8 @@ fn open_named<'a>(rt: &'a HostRuntime, path: String) -> Result<LateFile<'a>, Ref
     }
 }
 
-fn why_not(e: &io::Error) -> Refusal {
+/// Why a file can't be opened or a folder can't be listed, as the program tells it.
+pub fn why_not(e: &io::Error) -> Refusal {
     if e.kind() == io::ErrorKind::NotFound {
         return Refusal::NoFile;
     }

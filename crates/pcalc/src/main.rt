@@ -6,9 +6,9 @@ mod late;
 mod options;
 
 use clap::error::ErrorKind;
-use folder::open_folder;
-use options::{Task, asked};
-use pc_script::{Setup, run_recover, run_script};
+use folder::{open_folder, why_not};
+use options::{StepOptions, Task, task_of};
+use pc_script::{run_recover, run_script};
 use pc_types::{Refusal, Tally};
 use std::fs::File;
 use std::io::BufWriter;
@@ -32,9 +32,8 @@ fn run_command(rt: &HostRuntime) -> io::Result<u8> {
     for text in &texts {
         words.push(text.as_str())?;
     }
-    match asked(alloc, &words) {
-        Ok(Some(Task::Step(options))) => run_step(rt, options.script, options.setup),
-        Ok(Some(Task::Recover(dir))) => run_folder(rt, dir),
+    match task_of(alloc, &words) {
+        Ok(Some(task)) => run_task(rt, task),
         Ok(None) => Ok(2),
         Err(e) if e.kind() == ErrorKind::OutOfMemory => Ok(1),
         Err(e) => {
@@ -44,35 +43,28 @@ fn run_command(rt: &HostRuntime) -> io::Result<u8> {
     }
 }
 
-fn run_step(rt: &HostRuntime, script: &str, setup: Setup) -> io::Result<u8> {
+fn run_task(rt: &HostRuntime, task: Task) -> io::Result<u8> {
     let alloc = rt.alloc();
     let mut out = Tally::new(BufWriter::new(alloc, io::writer(rt))?);
     let stderr = rt.stderr();
     let mut errors = Tally::new(io::writer(&stderr));
-    Ok(run_script(
-        alloc,
-        setup,
-        script,
-        open_script(rt, script),
-        &mut out,
-        &mut errors,
-    ))
-}
-
-fn run_folder(rt: &HostRuntime, dir: &str) -> io::Result<u8> {
-    let alloc = rt.alloc();
-    let mut out = Tally::new(BufWriter::new(alloc, io::writer(rt))?);
-    let stderr = rt.stderr();
-    let mut errors = Tally::new(io::writer(&stderr));
-    let folder = open_folder(rt, dir)?;
-    Ok(run_recover(alloc, dir, folder, &mut out, &mut errors))
+    match task {
+        Task::Step(options) => {
+            let StepOptions { script, setup } = options;
+            let opened = open_script(rt, script);
+            Ok(run_script(alloc, setup, script, opened, &mut out, &mut errors))
+        }
+        Task::Recover(dir) => {
+            let folder = open_folder(rt, dir)?;
+            Ok(run_recover(alloc, dir, folder, &mut out, &mut errors))
+        }
+    }
 }
 
 // The file of the script, or why it can't be opened.
 fn open_script(rt: &HostRuntime, script: &str) -> Result<File, Refusal> {
     match fs::open(rt, script) {
         Ok(file) => Ok(file),
-        Err(e) if e.kind() == io::ErrorKind::NotFound => Err(Refusal::NoFile),
-        Err(_) => Err(Refusal::Device),
+        Err(e) => Err(why_not(&e)),
     }
 }

@@ -5,6 +5,9 @@ use clap::{Arg, ArgAction, ArgMatches, Command, Error};
 use pc_script::Setup;
 use std::alloc::Global;
 
+/// What `pcalc --version` prints behind the program's name.
+const VERSION: &str = "0.1.0";
+
 /// What `pcalc step` is asked to do.
 #[derive(Drop)]
 pub struct StepOptions<'a> {
@@ -24,7 +27,7 @@ pub enum Task<'a> {
 }
 
 /// What the command line asks for, or what is to be told: a fault, or the help that was asked for.
-pub fn asked<'a>(alloc: Global, words: &'a [&'a str]) -> Result<Option<Task<'a>>, Error> {
+pub fn task_of<'a>(alloc: Global, words: &'a [&'a str]) -> Result<Option<Task<'a>>, Error> {
     let matches = command(alloc)?.try_get_matches_from(words)?;
     if let Some(matches) = matches.subcommand_matches("step") {
         return Ok(options_of(matches).map(|options| Task::Step(options)));
@@ -39,6 +42,7 @@ fn command<'a>(alloc: Global) -> Result<Command<'a>, Error> {
     Ok(
         Command::new(alloc, "pcalc")
             .about("A transactional key-value store in memory")
+            .version(VERSION)
             .subcommand_required(true)
             .subcommand(step_command(alloc)?)?
             .subcommand(recover_command(alloc)?)?,

@@ -1,7 +1,7 @@
 use Rattle.std.proofs.Common.{length, ap, sym, ◌∙◌}
 use Rattle.std.proofs.lemmas.List.{length-map}
 use Rattle.pc_model.specs.Files.{File}
-use Rattle.pc_model.specs.Laying.{entry_of}
+use Rattle.pc_model.specs.TripleLists.{entry_of}
 use Rattle.pc_part.specs.Texts.{part_text}
 use Rattle.pc_bench.proofs.joins.measure_join.Goals as goal
 

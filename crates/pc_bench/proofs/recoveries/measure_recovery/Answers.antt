@@ -1,5 +1,5 @@
 use Rattle.std.proofs.Common.{rules, ◌≡◌, length, map, sum, ap, refl, ◌∙◌}
-use Rattle.pc_model.proofs.PairMaps.{entries_of}
+use Rattle.pc_model.proofs.PairMapLaws.{entries_of}
 use Rattle.pc_recover.specs.Recovery.{recovery_of}
 use Rattle.pc_bench.proofs.recoveries.measure_recovery.Goals as goal
 

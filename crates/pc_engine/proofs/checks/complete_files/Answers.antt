@@ -1,6 +1,6 @@
 use Rattle.std.proofs.Common.{◌↔◌, subst, All, List}
 use Rattle.std.proofs.lemmas.List.{take_all}
-use Rattle.pc_model.specs.Audits.{IsRight}
+use Rattle.pc_replay.specs.Audits.{IsRight}
 use Rattle.pc_model.specs.Files.{File}
 use Rattle.pc_engine.specs.Checks.{IsFileRight}
 use Rattle.pc_engine.proofs.Soundness.{one_more}

@@ -1,7 +1,7 @@
 use Rattle.std.proofs.Common.{◌↔◌, take, All, List}
 use Rattle.pc_types.specs.declared.Entry.{Entry}
 use Rattle.pc_model.specs.Database.{Database}
-use Rattle.pc_model.specs.Audits.{IsRight, TriplesRise}
+use Rattle.pc_replay.specs.Audits.{IsRight, TriplesRise}
 use Rattle.pc_engine.specs.Checks.{IsFileRight}
 use Rattle.pc_engine.proofs.checks.complete_files.Given as goal
 

@@ -1,8 +1,8 @@
 use Rattle.std.proofs.Common.{◌≡◌, ◌↔◌, subst, All, List, IsTrue}
 use Rattle.pc_model.specs.Database.{Database, database_of}
 use Rattle.pc_model.specs.Log.{after}
-use Rattle.pc_model.specs.Audits.{IsRight, TriplesRise}
-use Rattle.pc_model.specs.declared.audits.CompleteFile.{CompleteFile}
+use Rattle.pc_replay.specs.Audits.{IsRight, TriplesRise}
+use Rattle.pc_replay.specs.declared.audits.CompleteFile.{CompleteFile}
 use Rattle.pc_engine.proofs.checks.is_sound.Goals as goal
 
 pub returns : goal.returns

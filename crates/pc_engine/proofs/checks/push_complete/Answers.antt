@@ -1,6 +1,6 @@
 use Rattle.std.proofs.Common.{◌↔◌, ◌∙◌, ap, sym, subst, All, List}
-use Rattle.pc_model.specs.Audits.{IsRight, triples_from}
-use Rattle.pc_model.specs.declared.audits.CompleteFile.{CompleteFile}
+use Rattle.pc_replay.specs.Audits.{IsRight, triples_from}
+use Rattle.pc_replay.specs.declared.audits.CompleteFile.{CompleteFile}
 use Rattle.pc_engine.specs.Checks.{IsFileRight}
 use Rattle.pc_engine.proofs.Soundness.{with_copy}
 use Rattle.pc_engine.proofs.checks.push_complete.Goals as goal

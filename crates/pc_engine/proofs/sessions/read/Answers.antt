@@ -1,6 +1,5 @@
-use Rattle.std.proofs.Common.{◌∙◌, ap, sym}
-use Rattle.pc_locks.specs.Queues.{told}
-use Rattle.std.proofs.Common.{false}
+use Rattle.std.proofs.Common.{◌∙◌, ap, sym, false}
+use Rattle.pc_types.specs.declared.Mode.TheVariants.{Shared}
 use Rattle.pc_model.specs.Locks.{outcome}
 use Rattle.pc_records.specs.Rows.{requests_on, record_of}
 use Rattle.pc_model.specs.Replies.{read_reply}
@@ -10,13 +9,13 @@ use Rattle.pc_engine.proofs.sessions.read.Goals as goal
 
 pub returns-in-Granted-clause-reply : goal.returns-in-Granted-clause-reply
 returns-in-Granted-clause-reply c =
-    read_granted c.args.records.now _ c.requires.placed.0 _ c.number.result _ _ _ _ c.requires.placed.1 (is_there _ c.requires.opened) (sym (ap told c.in-Granted.is) ∙ c.in_ok-share.ensures.told ∙ ap (λ n. outcome (requests_on (record_of c.args.records.now.rows c.args.key.now)) n false) (rw c.deref.ensures.value at c.number.ensures)) (rw c.deref.ensures.value at c.number.ensures) (c.in_ok-share.ensures.clear (ap told c.in-Granted.is)) (c.in_ok-found.ensures ∙ ap read_reply c.latest.ensures)
+    read_granted c.args.records.now _ c.requires.placed.0 _ c.number.result _ _ _ _ c.requires.placed.1 (is_there _ c.requires.opened) (sym c.in-Granted.is ∙ c.in_ok-share.ensures.told ∙ ap (λ n. outcome (requests_on (record_of c.args.records.now.rows c.args.key.now)) n Shared) (rw c.deref.ensures.value at c.number.ensures)) (rw c.deref.ensures.value at c.number.ensures) (c.in_ok-share.ensures.clear c.in-Granted.is) (c.in_ok-found.ensures ∙ ap read_reply c.latest.ensures)
 
 pub returns-in-Granted-clause-together : goal.returns-in-Granted-clause-together
-returns-in-Granted-clause-together c = shared_together c.args.records.now c.share.new.self _ _ _ (told c.in_ok-share.field-0) c.in_ok-share.ensures.rows
+returns-in-Granted-clause-together c = shared_together c.args.records.now c.share.new.self _ _ _ c.in_ok-share.field-0 c.in_ok-share.ensures.rows
 
 pub returns-in-Queued-clause-together : goal.returns-in-Queued-clause-together
-returns-in-Queued-clause-together c = shared_together c.args.records.now c.share.new.self _ _ _ (told c.in_ok-share.field-0) c.in_ok-share.ensures.rows
+returns-in-Queued-clause-together c = shared_together c.args.records.now c.share.new.self _ _ _ c.in_ok-share.field-0 c.in_ok-share.ensures.rows
 
 pub returns-in-Died-clause-together : goal.returns-in-Died-clause-together
-returns-in-Died-clause-together c = rw c.note_death.ensures (shared_dead c.args.records.now c.share.new.self _ _ _ _ (told c.in_ok-share.field-0) (as_many_inside c.args.sessions.now.items c.requires.place) c.in_ok-share.ensures.rows)
+returns-in-Died-clause-together c = rw c.note_death.ensures (shared_dead c.args.records.now c.share.new.self _ _ _ _ c.in_ok-share.field-0 (as_many_inside c.args.sessions.now.items c.requires.place) c.in_ok-share.ensures.rows)

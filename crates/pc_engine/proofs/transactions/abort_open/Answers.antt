@@ -8,4 +8,4 @@ release-requires c = none_placed c.args.records.now c.undo.new.self (actives_of 
 
 pub returns-clause-together : goal.returns-clause-together
 returns-clause-together c =
-    rw c.end.ensures.rest (aborted_together _ _ _ _ _ _ c.as_slice.result.now (as_many_inside c.args.sessions.now.items c.requires.place) c.rise.ensures (writes_taken _ c.in-Some.field-0 c.as_slice.result.now c.in-Some.ensures.given c.as_slice.ensures.value) c.undo.ensures.rows c.undo.ensures.pending c.undo.ensures.point c.release.ensures)
+    rw c.end.ensures.rest (aborted_together _ _ _ _ _ _ c.as_slice.result.now (as_many_inside c.args.sessions.now.items c.requires.place) c.undo.ensures.rise (writes_taken _ c.in-Some.field-0 c.as_slice.result.now c.in-Some.ensures.given c.as_slice.ensures.value) c.undo.ensures.rows c.undo.ensures.pending c.undo.ensures.point c.release.ensures)

@@ -11,4 +11,4 @@ release-requires c = none_placed c.args.records.now c.commit.new.self (actives_o
 
 pub returns-clause-together : goal.returns-clause-together
 returns-clause-together c =
-    rw c.end.ensures.rest (committed_together _ _ _ _ _ _ c.as_slice.result.now (as_many_inside c.args.sessions.now.items c.requires.place) c.rise.ensures (writes_taken _ c.in-Some.field-0 c.as_slice.result.now c.in-Some.ensures.given c.as_slice.ensures.value) c.commit.ensures.rows c.commit.ensures.pending c.commit.ensures.point c.release.ensures)
+    rw c.end.ensures.rest (committed_together _ _ _ _ _ _ c.as_slice.result.now (as_many_inside c.args.sessions.now.items c.requires.place) c.commit.ensures.rise (writes_taken _ c.in-Some.field-0 c.as_slice.result.now c.in-Some.ensures.given c.as_slice.ensures.value) c.commit.ensures.rows c.commit.ensures.pending c.commit.ensures.point c.release.ensures)

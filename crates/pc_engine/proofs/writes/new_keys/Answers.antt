@@ -1,5 +1,5 @@
 use Rattle.std.proofs.Common.{arith, ap, length}
-use Rattle.pc_records.proofs.NewKeys.{adds_next, added_all, no_more_new}
+use Rattle.pc_records.proofs.NewKeyLaws.{adds_next, added_all, no_more_new}
 use Rattle.pc_engine.proofs.writes.new_keys.Goals as goal
 
 pub loop-write-preserved : goal.loop-write-preserved

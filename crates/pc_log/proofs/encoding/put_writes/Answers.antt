@@ -1,6 +1,6 @@
 use Rattle.std.proofs.Common.{Err, subst, arith}
 use Rattle.std.proofs.lemmas.Result.{err_from_is_err_and}
-use Rattle.pc_types.proofs.PutsLemmas.{puts_stop_at}
+use Rattle.pc_types.proofs.PutsLaws.{puts_stop_at}
 use Rattle.pc_types.specs.Tallies.{Puts}
 use Rattle.pc_types.specs.declared.Write.{Write}
 use Rattle.pc_log.specs.Texts.{write_text}

@@ -1,5 +1,5 @@
 use Rattle.pc_log.specs.Texts.{entry_text}
-use Rattle.pc_log.proofs.CutTexts.{header_cut, log_cut}
+use Rattle.pc_log.proofs.CutTextLaws.{header_cut, log_cut}
 use Rattle.std.specs.List.{flat_map}
 use Rattle.pc_log.proofs.laws.cut_logs_are_read.Goals as goal
 

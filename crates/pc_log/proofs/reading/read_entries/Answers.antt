@@ -1,6 +1,7 @@
 use Rattle.std.proofs.Common.{ap}
 use Rattle.pc_log.specs.Orders.{no_token}
-use Rattle.pc_log.proofs.Turns.{all_at, entry_shorter, entry_goes_on, entry_stops, entries_done, not_empty, is_empty, read_as, stopped_gives}
+use Rattle.pc_log.proofs.TurnLaws.{entry_shorter, entry_goes_on, entry_stops, entries_done, not_empty, is_empty, read_as, stopped_gives}
+use Rattle.pc_log.specs.Reading.{all_at}
 use Rattle.pc_log.proofs.reading.read_entries.Goals as goal
 
 pub loop-rest-smaller : goal.loop-rest-smaller

@@ -1,6 +1,7 @@
 use Rattle.std.proofs.Common.{◌≡◌, length}
 use Rattle.pc_log.specs.Orders.{no_token}
-use Rattle.pc_log.proofs.Turns.{all_at, with_front}
+use Rattle.pc_log.proofs.TurnLaws.{with_front}
+use Rattle.pc_log.specs.Reading.{all_at}
 use Rattle.pc_log.proofs.reading.read_entries.Given as goal
 
 -- what is read from here on, behind the entries so far, is what is read from the start

@@ -1,4 +1,4 @@
-use Rattle.pc_model.proofs.RightReads.{reads_right}
+use Rattle.pc_model.proofs.RightReadLaws.{reads_right}
 use Rattle.pc_model.proofs.laws.committed_reads_are_right.Goals as goal
 
 pub returns : goal.returns

@@ -1,6 +1,6 @@
 use Rattle.std.proofs.Common.{sym, ◌∙◌}
 use Rattle.pc_model.specs.Sets as set
-use Rattle.pc_model.proofs.Contents.{contains-items, laid_content_from}
+use Rattle.pc_model.proofs.ContentLaws.{contains-items, laid_content_from}
 use Rattle.pc_model.proofs.laws.contents_make_states.Goals as goal
 
 pub returns : goal.returns

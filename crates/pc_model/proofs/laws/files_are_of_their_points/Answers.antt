@@ -1,4 +1,4 @@
-use Rattle.pc_model.proofs.ShelfFiles.{shelf_of_points}
+use Rattle.pc_model.proofs.ShelfFileLaws.{shelf_of_points}
 use Rattle.pc_model.proofs.laws.files_are_of_their_points.Goals as goal
 
 pub returns : goal.returns

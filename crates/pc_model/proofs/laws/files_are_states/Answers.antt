@@ -1,4 +1,4 @@
-use Rattle.pc_model.proofs.ShelfFiles.{headline}
+use Rattle.pc_model.proofs.ShelfFileLaws.{headline}
 use Rattle.pc_model.proofs.laws.files_are_states.Goals as goal
 
 pub returns : goal.returns

@@ -1,4 +1,4 @@
-use Rattle.pc_model.proofs.ShelfFiles.{made_join_well}
+use Rattle.pc_model.proofs.ShelfFileLaws.{made_join_well}
 use Rattle.pc_model.proofs.laws.files_join_well.Goals as goal
 
 pub returns : goal.returns

@@ -1,4 +1,4 @@
-use Rattle.pc_model.proofs.Contents.{content-union}
+use Rattle.pc_model.proofs.ContentLaws.{content-union}
 use Rattle.pc_model.proofs.laws.joins_are_contents.Goals as goal
 
 pub returns : goal.returns

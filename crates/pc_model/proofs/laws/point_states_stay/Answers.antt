@@ -1,4 +1,4 @@
-use Rattle.pc_model.proofs.PointsStay.{state_stays}
+use Rattle.pc_model.proofs.PointStateLaws.{state_stays}
 use Rattle.pc_model.proofs.laws.point_states_stay.Goals as goal
 
 pub returns : goal.returns

@@ -1,4 +1,4 @@
-use Rattle.pc_model.proofs.Logs.{after-append}
+use Rattle.pc_model.proofs.LogLaws.{after-append}
 use Rattle.pc_model.proofs.laws.replay_in_pieces.Goals as goal
 
 pub returns : goal.returns

@@ -1,4 +1,4 @@
-use Rattle.pc_model.proofs.Standing.{tokens_in_order}
+use Rattle.pc_model.proofs.StandingLaws.{tokens_in_order}
 use Rattle.pc_model.proofs.laws.tokens_stand_in_order.Goals as goal
 
 pub returns : goal.returns

@@ -1,5 +1,5 @@
 use Rattle.std.proofs.Common.{arith}
-use Rattle.pc_part.proofs.BaseFiles.{base_fields}
+use Rattle.pc_part.proofs.BaseFileLaws.{base_fields}
 use Rattle.pc_part.proofs.base_decoding.read_base.Goals as goal
 
 pub at_point-requires-clause-rise : goal.at_point-requires-clause-rise

@@ -1,6 +1,6 @@
 use Rattle.std.proofs.Common.{ℕ, List, Err, subst, arith}
 use Rattle.std.proofs.lemmas.Result.{err_from_is_err_and}
-use Rattle.pc_types.proofs.PutsLemmas.{puts_stop_at}
+use Rattle.pc_types.proofs.PutsLaws.{puts_stop_at}
 use Rattle.pc_types.specs.Tallies.{Puts}
 use Rattle.pc_part.specs.Texts.{pair_text}
 use Rattle.pc_part.proofs.base_encoding.put_pairs.Goals as goal

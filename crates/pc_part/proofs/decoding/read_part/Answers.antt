@@ -1,6 +1,6 @@
 use Rattle.std.proofs.Common.{arith}
 use Rattle.pc_part.proofs.ReadParts.{fields_take}
-use Rattle.pc_part.proofs.PartFiles.{fields_rise, fields_covered}
+use Rattle.pc_part.proofs.PartFileLaws.{fields_rise, fields_covered}
 use Rattle.pc_part.proofs.decoding.read_part.Goals as goal
 
 pub from_lists-requires-clause-ranges : goal.from_lists-requires-clause-ranges

@@ -1,8 +1,8 @@
 use Rattle.std.proofs.Common.{Err, subst, arith}
 use Rattle.std.proofs.lemmas.Result.{err_from_is_err_and}
-use Rattle.pc_types.proofs.PutsLemmas.{puts_stop_at}
+use Rattle.pc_types.proofs.PutsLaws.{puts_stop_at}
 use Rattle.pc_types.specs.Tallies.{Puts}
-use Rattle.pc_model.specs.declared.laying.Triple.{Triple}
+use Rattle.pc_types.specs.declared.Triple.{Triple}
 use Rattle.pc_part.specs.Texts.{triple_text}
 use Rattle.pc_part.proofs.encoding.put_entries.Goals as goal
 

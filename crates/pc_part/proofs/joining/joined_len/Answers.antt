@@ -1,19 +1,15 @@
-use Rattle.std.proofs.Common.{rules, ◌≡◌, ◌∷◌, inl, inr, sym, ap, cond, Bool, ℕ, true, false, Ok, Err, Result, refl}
+use Rattle.std.proofs.Common.{rules, ◌≡◌, ◌<◌, Bool, ℕ, true, false, cond, length, get_or, refl, sym, ap, ◌∙◌, Ok, Err, Result, arith}
+use Rattle.std.proofs.lemmas.List.{length_push, length-map}
+use Rattle.std.proofs.lemmas.Iterator.{YieldsList-from_slice}
+use Rattle.std.proofs.lemmas.Iterator.Consumers.{YieldsList-turn, YieldsList-end}
 use Rattle.pc_types.specs.declared.refusal.Refusal.{Refusal}
 use Rattle.pc_types.specs.declared.refusal.Refusal.TheVariants.{Conflict}
-use Rattle.pc_part.proofs.JoinedLists.{Counted, count_first, count_second, count_both, stops, ends}
+use Rattle.pc_model.specs.TripleLists.{entry_of, entries_of}
+use Rattle.pc_part.specs.Merges.{item_of}
+use Rattle.pc_part.proofs.JoinedLists.{both_items, none_counted, count_one, stops, ends}
+use Rattle.pc_part.proofs.MergeRuns.{items_given, items_len}
 use Rattle.pc_part.proofs.joining.joined_len.Goals as goal
-use Rattle.pc_part.proofs.joining.joined_len.Goals.{in_default, in_default-2, in-Less, in-Greater, in-Equal+else-clash, In-Some-Some}
-
-left_is : (c : In-Some-Some) → c.loop-x.left.now ≡ c.in-Some-Some.x.now ∷ c.in-Some-Some.xs.now
-left_is c = search rules
-
-right_is : (c : In-Some-Some) → c.loop-x.right.now ≡ c.in-Some-Some.y.now ∷ c.in-Some-Some.ys.now
-right_is c = search rules
-
--- what is counted so far, with the lists by their first triples
-so_far : (c : In-Some-Some) → Counted c.args.a.now c.args.b.now (c.in-Some-Some.x.now ∷ c.in-Some-Some.xs.now) (c.in-Some-Some.y.now ∷ c.in-Some-Some.ys.now) c.loop-x.len
-so_far c = rw (← left_is c, ← right_is c) c.loop-x.invariant
+use Rattle.pc_part.proofs.joining.joined_len.Goals.{In-Some}
 
 abbrev counted : ℕ → Result ℕ Refusal
 counted n = Ok n
@@ -29,25 +25,38 @@ gives : (b : Bool) (m n : ℕ) → b ≡ true → m ≡ n → counted m ≡ cond
 gives true m n e is = ap counted is
 gives false m n e is = cc
 
+pub loop-item-init : goal.loop-item-init
+loop-item-init c = none_counted c.args.a.now c.args.b.now
+
+-- the item is the next one
+turn : (c : In-Some) → (length c.loop-item.yielded < length (both_items c.args.a.now c.args.b.now)) × (item_of entry_of entry_of c.in-Some.item ≡ get_or (both_items c.args.a.now c.args.b.now) (length c.loop-item.yielded) (item_of entry_of entry_of c.in-Some.item))
+turn c = YieldsList-turn (items_given entry_of entry_of _ _ (entries_of c.args.a.now) (entries_of c.args.b.now) refl refl c.into_iter-item-iterator.ensures.into_iter_gives c.merge_join_by-item-items.ensures.runs (λ x y r f k. search rules) (YieldsList-from_slice c.args.a.now cc) (YieldsList-from_slice c.args.b.now cc))
+    c.loop-item.yielded _ c.loop-item.yielded_by _ _ c.in-Some.item c.in-Some.is c.next.ensures.steps
+
+pub overflow_add-len : goal.overflow_add-len
+overflow_add-len c =
+    let t = turn (goal.at.overflow_add-len c).In-Some in
+    let all = items_len (entries_of c.args.a.now) (entries_of c.args.b.now) in
+    let in_a = length-map c.args.a.now entry_of in
+    let in_b = length-map c.args.b.now entry_of in
+    let a_fits = c.iter.ensures.bound in
+    let b_fits = c.iter-2.ensures.bound in
+    let within = c.loop-item.invariant.within in
+    omega (arith, within, t.0, all, in_a, in_b, a_fits, b_fits)
+
 pub returns-then-clash : goal.returns-then-clash
 returns-then-clash c =
-    let s = (goal.at.returns-then-clash c).In-Some-Some in
-    refuses _ _ (stops c.args.a.now c.args.b.now c.in-Some-Some.x.now c.in-Some-Some.xs.now c.in-Some-Some.y.now c.in-Some-Some.ys.now c.loop-x.len (so_far s) (sym c.in-Equal.ensures) (sym c.if-clash.ensures))
+    let t = turn (goal.at.returns-then-clash c).In-Some in
+    refuses _ _ (stops c.args.a.now c.args.b.now _ _ c.loop-item.len c.loop-item.invariant (item_of entry_of entry_of c.in-Some.item) t refl (sym c.clash.ensures ∙ c.if-clash.true))
 
-pub loop-x-preserved : goal.loop-x-preserved
-loop-x-preserved c =
-    let s = (goal.at.loop-x-preserved c).In-Some-Some in
-    elim c.match-compare.branch [
-      | in-Less w ↦ rw (w.left-is, w.right-is, right_is s) (count_first c.args.a.now c.args.b.now c.in-Some-Some.x.now c.in-Some-Some.xs.now c.in-Some-Some.y.now c.in-Some-Some.ys.now c.loop-x.len (so_far s) (sym w.in-Less.ensures))
-      | in-Greater w ↦ rw (w.left-is, w.right-is, left_is s) (count_second c.args.a.now c.args.b.now c.in-Some-Some.x.now c.in-Some-Some.xs.now c.in-Some-Some.y.now c.in-Some-Some.ys.now c.loop-x.len (so_far s) (sym w.in-Greater.ensures))
-      | in-Equal+else-clash w ↦ rw (w.left-is, w.right-is) (count_both c.args.a.now c.args.b.now c.in-Some-Some.x.now c.in-Some-Some.xs.now c.in-Some-Some.y.now c.in-Some-Some.ys.now c.loop-x.len (so_far s) (sym w.in-Equal.ensures) (sym w.if-clash.ensures))
-    ]
+pub loop-item-preserved : goal.loop-item-preserved
+loop-item-preserved c =
+    let t = turn (goal.at.loop-item-preserved c).In-Some in
+    count_one c.args.a.now c.args.b.now _ _ c.loop-item.len c.loop-item.invariant (item_of entry_of entry_of c.in-Some.item) t (length_push c.loop-item.yielded c.in-Some.item) (sym c.clash.ensures ∙ c.if-clash.false)
 
 pub returns : goal.returns
 returns c =
-    let e = ends c.args.a.now c.args.b.now c.loop-x.left.now c.loop-x.right.now c.loop-x.len c.loop-x.invariant
-    (elim c.match-split_first.branch [
-      | in_default w ↦ inr w.in_default.ensures'.cases
-      | in_default-2 w ↦ inl w.in_default.ensures.cases
-    ]) in
-    gives _ _ _ e.0 e.1
+    let end = YieldsList-end (items_given entry_of entry_of _ _ (entries_of c.args.a.now) (entries_of c.args.b.now) refl refl c.into_iter-item-iterator.ensures.into_iter_gives c.merge_join_by-item-items.ensures.runs (λ x y r f k. search rules) (YieldsList-from_slice c.args.a.now cc) (YieldsList-from_slice c.args.b.now cc))
+    c.loop-item.yielded _ c.loop-item.yielded_by _ _ c.in-None.is c.next.ensures.steps in
+    let all = ends c.args.a.now c.args.b.now _ c.loop-item.len c.loop-item.invariant end.1 in
+    gives _ _ _ all.0 all.1

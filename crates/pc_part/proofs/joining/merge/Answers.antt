@@ -1,38 +1,35 @@
-use Rattle.std.proofs.Common.{rules, ◌≡◌, ◌++◌, ◌∷◌, List, inl, inr, sym, ap, ◌∙◌}
-use Rattle.pc_model.specs.declared.laying.Triple.{Triple}
-use Rattle.pc_part.proofs.JoinedLists.{Joining, goes_first, goes_second, goes_both, is_joined}
+use Rattle.std.proofs.Common.{rules, ◌≡◌, ◌<◌, ◌++◌, [], length, get_or, refl, ap, ◌∙◌}
+use Rattle.std.proofs.lemmas.List.{length_push}
+use Rattle.std.proofs.lemmas.Iterator.{YieldsList-from_slice}
+use Rattle.std.proofs.lemmas.Iterator.Consumers.{YieldsList-turn, YieldsList-end}
+use Rattle.pc_model.specs.Points.{later}
+use Rattle.pc_model.specs.TripleLists.{entry_of, entries_of}
+use Rattle.pc_part.specs.Merges.{item_of}
+use Rattle.pc_part.proofs.JoinedLists.{both_items, joins_from, one_merged, all_merged}
+use Rattle.pc_part.proofs.MergeLaws.{merged_items}
+use Rattle.pc_part.proofs.MergeRuns.{items_given, of_one_key}
 use Rattle.pc_part.proofs.joining.merge.Goals as goal
-use Rattle.pc_part.proofs.joining.merge.Goals.{in_default, in_default-2, In-Some-Some}
+use Rattle.pc_part.proofs.joining.merge.Goals.{In-Some}
 
-left_is : (c : In-Some-Some) → c.loop-x.left.now ≡ c.in-Some-Some.x.now ∷ c.in-Some-Some.xs.now
-left_is c = search rules
+pub loop-item-init : goal.loop-item-init
+loop-item-init c =
+    let none : c.new-out.result.items ≡ [] = search rules in
+    ap (λ es. entries_of es ++ joins_from c.args.a.now c.args.b.now 0) none ∙ merged_items later (entries_of c.args.a.now) (entries_of c.args.b.now)
 
-right_is : (c : In-Some-Some) → c.loop-x.right.now ≡ c.in-Some-Some.y.now ∷ c.in-Some-Some.ys.now
-right_is c = search rules
+-- the item is the next one
+turn : (c : In-Some) → (length c.loop-item.yielded < length (both_items c.args.a.now c.args.b.now)) × (item_of entry_of entry_of c.in-Some.item ≡ get_or (both_items c.args.a.now c.args.b.now) (length c.loop-item.yielded) (item_of entry_of entry_of c.in-Some.item))
+turn c = YieldsList-turn (items_given entry_of entry_of _ _ (entries_of c.args.a.now) (entries_of c.args.b.now) refl refl c.into_iter-item-iterator.ensures.into_iter_gives c.merge_join_by-item-items.ensures.runs (λ x y r f k. search rules) (YieldsList-from_slice c.args.a.now cc) (YieldsList-from_slice c.args.b.now cc))
+    c.loop-item.yielded _ c.loop-item.yielded_by _ _ c.in-Some.item c.in-Some.is c.next.ensures.steps
 
--- what is merged so far, with the lists by their first triples
-so_far : (c : In-Some-Some) → Joining c.args.a.now c.args.b.now (c.in-Some-Some.x.now ∷ c.in-Some-Some.xs.now) (c.in-Some-Some.y.now ∷ c.in-Some-Some.ys.now) c.loop-x.out.items
-so_far c = rw (← left_is c, ← right_is c) c.loop-x.invariant
+pub newest-requires : goal.newest-requires
+newest-requires c = of_one_key (entries_of c.args.a.now) (entries_of c.args.b.now) _ _ (turn (goal.at.newest-requires c).In-Some)
 
-pub loop-x-preserved-in_ok-push_copy-in-Less : goal.loop-x-preserved-in_ok-push_copy-in-Less
-loop-x-preserved-in_ok-push_copy-in-Less c =
-    let s = (goal.at.loop-x-preserved-in_ok-push_copy-in-Less c).In-Some-Some in
-    rw (right_is s) (goes_first c.args.a.now c.args.b.now c.in-Some-Some.x.now c.in-Some-Some.xs.now c.in-Some-Some.y.now c.in-Some-Some.ys.now c.loop-x.out.items _ (so_far s) (sym c.in-Less.ensures) c.in_ok-push_copy-in-Less.ensures)
-
-pub loop-x-preserved-in_ok-push_copy-in-Greater : goal.loop-x-preserved-in_ok-push_copy-in-Greater
-loop-x-preserved-in_ok-push_copy-in-Greater c =
-    let s = (goal.at.loop-x-preserved-in_ok-push_copy-in-Greater c).In-Some-Some in
-    rw (left_is s) (goes_second c.args.a.now c.args.b.now c.in-Some-Some.x.now c.in-Some-Some.xs.now c.in-Some-Some.y.now c.in-Some-Some.ys.now c.loop-x.out.items _ (so_far s) (sym c.in-Greater.ensures) c.in_ok-push_copy-in-Greater.ensures)
-
-pub loop-x-preserved : goal.loop-x-preserved
-loop-x-preserved c =
-    let s = (goal.at.loop-x-preserved c).In-Some-Some in
-    goes_both c.args.a.now c.args.b.now c.in-Some-Some.x.now c.in-Some-Some.xs.now c.in-Some-Some.y.now c.in-Some-Some.ys.now c.loop-x.out.items _ (so_far s) c.newer.result.now (sym c.in-Equal.ensures) c.newer.ensures c.in_ok-push_copy-in-Equal.ensures
+pub loop-item-preserved : goal.loop-item-preserved
+loop-item-preserved c =
+    one_merged c.args.a.now c.args.b.now _ c.loop-item.out.items c.loop-item.invariant _ _ c.newest.result.now _ (turn (goal.at.loop-item-preserved c).In-Some) (length_push c.loop-item.yielded c.in-Some.item) c.newest.ensures c.in_ok-push_copy.ensures
 
 pub returns : goal.returns
 returns c =
-    is_joined c.args.a.now c.args.b.now c.loop-x.left.now c.loop-x.right.now c.loop-x.out.items c.push_copies-2.new.out.items c.loop-x.invariant
-    (elim c.match-split_first.branch [
-      | in_default w ↦ inr w.in_default.ensures'.cases
-      | in_default-2 w ↦ inl w.in_default.ensures.cases
-    ]) (c.in_ok-push_copies-2.ensures ∙ ap (λ (t : List Triple). t ++ c.loop-x.right.now) c.in_ok-push_copies.ensures)
+    let end = YieldsList-end (items_given entry_of entry_of _ _ (entries_of c.args.a.now) (entries_of c.args.b.now) refl refl c.into_iter-item-iterator.ensures.into_iter_gives c.merge_join_by-item-items.ensures.runs (λ x y r f k. search rules) (YieldsList-from_slice c.args.a.now cc) (YieldsList-from_slice c.args.b.now cc))
+    c.loop-item.yielded _ c.loop-item.yielded_by _ _ c.in-None.is c.next.ensures.steps in
+    all_merged c.args.a.now c.args.b.now _ c.loop-item.out.items c.loop-item.invariant end.1

@@ -1,9 +1,8 @@
-use Rattle.std.proofs.Common.{◌+◌, length}
-use Rattle.pc_part.proofs.JoinedLists.{Joining}
+use Rattle.std.proofs.Common.{◌≡◌, ◌++◌, length}
+use Rattle.pc_model.specs.TripleLists.{entries_of}
+use Rattle.pc_part.proofs.JoinedLists.{joins, joins_from}
 use Rattle.pc_part.proofs.joining.merge.Given as goal
 
-abbrev pub invariant-loop-x : goal.invariant-loop-x
-invariant-loop-x l = Joining l.a l.b l.left l.right l.out.items
-
-abbrev pub decreases-loop-x : goal.decreases-loop-x
-decreases-loop-x l = length l.left + length l.right
+-- what is merged, before what the items to come make
+abbrev pub invariant-loop-item : goal.invariant-loop-item
+invariant-loop-item l = entries_of l.out.items ++ joins_from l.a l.b (length l.yielded) ≡ joins l.a l.b

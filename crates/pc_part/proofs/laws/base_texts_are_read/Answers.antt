@@ -1,4 +1,4 @@
-use Rattle.pc_part.proofs.BaseFiles.{base_again}
+use Rattle.pc_part.proofs.BaseFileLaws.{base_again}
 use Rattle.pc_part.proofs.laws.base_texts_are_read.Goals as goal
 
 pub returns : goal.returns

@@ -1,4 +1,4 @@
-use Rattle.pc_part.proofs.JoinLaws.{joins_associate}
+use Rattle.pc_part.proofs.JoinLemmas.{joins_associate}
 use Rattle.pc_part.proofs.laws.joins_associate.Goals as goal
 
 pub returns : goal.returns

@@ -1,4 +1,4 @@
-use Rattle.pc_part.proofs.JoinLaws.{joins_commute}
+use Rattle.pc_part.proofs.JoinLemmas.{joins_commute}
 use Rattle.pc_part.proofs.laws.joins_commute.Goals as goal
 
 pub returns : goal.returns

@@ -1,4 +1,4 @@
-use Rattle.pc_part.proofs.JoinLaws.{joins_make_no_conflict}
+use Rattle.pc_part.proofs.JoinLemmas.{joins_make_no_conflict}
 use Rattle.pc_part.proofs.laws.joins_make_no_conflict.Goals as goal
 
 pub returns : goal.returns

@@ -1,4 +1,4 @@
-use Rattle.pc_part.proofs.PartFiles.{part_again}
+use Rattle.pc_part.proofs.PartFileLaws.{part_again}
 use Rattle.pc_part.proofs.laws.part_texts_are_read.Goals as goal
 
 pub returns : goal.returns

@@ -1,6 +1,6 @@
 use Rattle.std.proofs.Common.{◌≡◌, ap, ◌∙◌}
 use Rattle.pc_part.specs.declared.ranges.Range.{Range}
-use Rattle.pc_part.proofs.Gaps.{gap_here, no_gap}
+use Rattle.pc_part.proofs.GapLaws.{gap_here, no_gap}
 use Rattle.pc_part.proofs.laying.first_gap.Goals as goal
 
 pub returns-then-next-from : goal.returns-then-next-from

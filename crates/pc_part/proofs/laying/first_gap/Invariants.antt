@@ -1,5 +1,5 @@
 use Rattle.std.proofs.Common.{◌≡◌, ◌+◌, drop}
-use Rattle.pc_part.proofs.Gaps.{gap_in}
+use Rattle.pc_part.proofs.GapLaws.{gap_in}
 use Rattle.pc_part.proofs.laying.first_gap.Given as goal
 
 -- no gap so far

@@ -1,9 +1,7 @@
-use Rattle.std.proofs.Common.{◌+◌, length}
-use Rattle.pc_part.proofs.LaidLists.{Counting}
+use Rattle.std.proofs.Common.{◌≡◌, ◌+◌, ◌≤◌, length}
+use Rattle.pc_part.proofs.LaidLists.{lays, lays_from}
 use Rattle.pc_part.proofs.laying.laid_len.Given as goal
 
-abbrev pub invariant-loop-key : goal.invariant-loop-key
-invariant-loop-key l = Counting l.fn.point l.fn.pairs l.fn.triples l.left l.right l.len
-
-abbrev pub decreases-loop-key : goal.decreases-loop-key
-decreases-loop-key l = length l.left + length l.right
+-- the pairs that are counted, and those that are left of the items to come
+abbrev pub invariant-loop-item : goal.invariant-loop-item
+invariant-loop-item l = (l.len + length (lays_from l.point l.pairs l.triples (length l.yielded)) ≡ length (lays l.point l.pairs l.triples)) × (l.len ≤ length l.yielded)

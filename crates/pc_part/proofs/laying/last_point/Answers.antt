@@ -1,5 +1,5 @@
 use Rattle.std.proofs.Common.{sym}
-use Rattle.pc_part.proofs.Gaps.{last_is_greatest}
+use Rattle.pc_part.proofs.GapLaws.{last_is_greatest}
 use Rattle.pc_part.proofs.laying.last_point.Goals as goal
 
 pub returns-in-Some : goal.returns-in-Some

@@ -1,4 +1,4 @@
-use Rattle.pc_part.proofs.RangePoints.{one_pushed}
+use Rattle.pc_part.proofs.RangePointLaws.{one_pushed}
 use Rattle.pc_part.proofs.ranges.push_points.Goals as goal
 
 pub loop-n-preserved : goal.loop-n-preserved

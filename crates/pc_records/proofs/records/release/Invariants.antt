@@ -1,6 +1,6 @@
 use Rattle.std.proofs.Common.{◌≡◌, length, vec_capacity}
 use Rattle.pc_locks.specs.States.{slots_of}
-use Rattle.pc_records.specs.Rows.{released_rows}
+use Rattle.pc_records.specs.RowSteps.{released_rows}
 use Rattle.pc_records.specs.Slots.{rows_of, pending_of, AreKept, AreSound}
 use Rattle.pc_records.proofs.records.release.Given as goal
 

@@ -1,8 +1,7 @@
-use Rattle.std.proofs.Common.{[], sym, subst}
+use Rattle.std.proofs.Common.{[], sym, subst, List}
 use Rattle.pc_model.specs.Database.{KeysRise}
 use Rattle.pc_records.specs.Slots.{rows_of, undone, at_key}
 use Rattle.pc_records.specs.declared.slots.Slot.{Slot}
-use Rattle.std.proofs.Common.{List}
 use Rattle.pc_records.proofs.Moments.{undone_key, undone_again}
 use Rattle.pc_records.proofs.SlotMoments.{key_at_key, rise_map, writes_next, writes_done}
 use Rattle.pc_records.proofs.slots.undo_all.Goals as goal

@@ -1,4 +1,4 @@
-use Rattle.pc_recover.proofs.RunsRestart.{every_cut}
+use Rattle.pc_recover.proofs.RunsRestartLaws.{every_cut}
 use Rattle.pc_recover.proofs.laws.every_cut_is_recovered.Goals as goal
 
 pub returns : goal.returns

@@ -1,7 +1,7 @@
-use Rattle.pc_recover.specs.Recovery.{those_had}
+use Rattle.pc_recover.specs.Recovery.{read_files}
 use Rattle.pc_recover.proofs.Walking.{IsReached}
 use Rattle.pc_recover.proofs.reach.reach_from.Given as goal
 
 -- what is known of the points so far
 abbrev pub invariant-loop-below : goal.invariant-loop-below
-invariant-loop-below l = IsReached l.fn.base (those_had l.files) l.below l.point l.needed
+invariant-loop-below l = IsReached l.fn.base (read_files l.files) l.below l.point l.needed

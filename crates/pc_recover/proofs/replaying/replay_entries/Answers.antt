@@ -1,13 +1,14 @@
-use Rattle.std.proofs.Common.{arith, ap, Ok}
+use Rattle.std.proofs.Common.{arith, ap, Ok, Some}
 use Rattle.pc_log.specs.Orders.{no_token}
-use Rattle.pc_log.proofs.Turns.{all_at, entry_shorter, not_empty, is_empty}
+use Rattle.pc_log.proofs.TurnLaws.{entry_shorter, not_empty, is_empty}
+use Rattle.pc_log.specs.Reading.{all_at}
 use Rattle.pc_recover.specs.Replaying.{found_replay}
 use Rattle.pc_recover.proofs.EntryReplays.{all_to_come, replay_goes_on, replay_stops, replay_done, stopped_gives}
 use Rattle.pc_recover.proofs.replaying.replay_entries.Goals as goal
 
 pub loop-rest-init : goal.loop-rest-init
 loop-rest-init c = record {
-  replay = rw c.none-last.ensures (all_to_come c.eq-is_behind.result c.args.point c.args.database.now (all_at no_token c.args.bytes.now) c.eq-is_behind.ensures);
+  replay = rw c.none-last.ensures (all_to_come c.eq-is_behind.result c.args.point c.args.database (all_at no_token c.args.bytes.now) c.eq-is_behind.ensures);
   counted = omega arith;
 }
 
@@ -17,19 +18,19 @@ loop-rest-smaller c = entry_shorter c.loop-rest.last c.loop-rest.rest.now c.in-O
 pub loop-rest-preserved : goal.loop-rest-preserved
 loop-rest-preserved c =
     let shorter = entry_shorter c.loop-rest.last c.loop-rest.rest.now c.in-Ok.entry c.in-Ok.after.now c.in-Ok.ensures in
-    let total = found_replay c.args.point c.args.database.now (all_at no_token c.args.bytes.now) in
+    let total = found_replay c.args.point c.args.database (all_at no_token c.args.bytes.now) in
     record {
-      replay = rw c.after-last.ensures (replay_goes_on c.loop-rest.is_behind c.args.point c.loop-rest.database c.loop-rest.entries c.loop-rest.last c.loop-rest.rest.now total c.loop-rest.invariant.replay c.in-Ok.entry c.in-Ok.after.now c.replay_entry.new.database c.in_ok-is_behind-in-Ok.is_behind c.in-Ok.ensures c.in_ok-is_behind-in-Ok.ensures.applied c.in_ok-is_behind-in-Ok.ensures.token);
+      replay = rw c.after-last.ensures (replay_goes_on c.loop-rest.is_behind c.args.point c.loop-rest.database c.loop-rest.entries c.loop-rest.last c.loop-rest.rest.now total c.loop-rest.invariant.replay c.in-Ok.entry c.in-Ok.after.now c.in_ok-next-in-Ok.next c.in_ok-next-in-Ok.is_next_behind c.in-Ok.ensures c.in_ok-next-in-Ok.ensures.applied c.in_ok-next-in-Ok.ensures.token);
       counted = omega (arith, shorter, c.loop-rest.invariant.counted);
     }
 
 pub returns-in-Err : goal.returns-in-Err
 returns-in-Err c =
-    let total = found_replay c.args.point c.args.database.now (all_at no_token c.args.bytes.now) in
-    stopped_gives c.loop-rest.database c.stopped.result c.in-Err.fault total c.loop-rest.entries c.stopped.ensures.read c.stopped.ensures.memory
+    let total = found_replay c.args.point c.args.database (all_at no_token c.args.bytes.now) in
+    stopped_gives c.stopped.result c.in-Err.fault total (record { pairs = c.loop-rest.database; entries = c.loop-rest.entries; fault = Some c.in-Err.fault }) c.stopped.ensures.read c.stopped.ensures.memory
     (λ other. replay_stops c.loop-rest.is_behind c.args.point c.loop-rest.database c.loop-rest.entries c.loop-rest.last c.loop-rest.rest.now total c.loop-rest.invariant.replay c.in-Err.fault (c.in-Err.ensures other) (not_empty c.is_empty.result c.loop-rest.rest.now c.is_empty.ensures c.loop-rest-test.true))
 
 pub returns : goal.returns
 returns c =
-    let total = found_replay c.args.point c.args.database.now (all_at no_token c.args.bytes.now) in
+    let total = found_replay c.args.point c.args.database (all_at no_token c.args.bytes.now) in
     ap Ok (replay_done c.loop-rest.is_behind c.args.point c.loop-rest.database c.loop-rest.entries c.loop-rest.last c.loop-rest.rest.now total c.loop-rest.invariant.replay (is_empty c.is_empty.result c.loop-rest.rest.now c.is_empty.ensures c.loop-rest-test.false))

@@ -1,6 +1,6 @@
 use Rattle.std.proofs.Common.{◌≡◌, ◌+◌, ◌≤◌, length}
 use Rattle.pc_log.specs.Orders.{no_token}
-use Rattle.pc_log.proofs.Turns.{all_at}
+use Rattle.pc_log.specs.Reading.{all_at}
 use Rattle.pc_recover.specs.Replaying.{found_replay}
 use Rattle.pc_recover.proofs.EntryReplays.{to_come}
 use Rattle.pc_recover.proofs.replaying.replay_entries.Given as goal

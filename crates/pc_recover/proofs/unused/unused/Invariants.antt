@@ -4,4 +4,4 @@ use Rattle.pc_recover.proofs.unused.unused.Given as goal
 
 -- what is known so far, and what is left
 abbrev pub invariant-loop-place : goal.invariant-loop-place
-invariant-loop-place l = l.unused.items ++ unused_from l.place l.reach.point l.reach.lack (drop l.place l.files) ≡ unused_from 0 l.reach.point l.reach.lack l.files
+invariant-loop-place l = l.unused.items ++ unused_from l.place l.reach.point l.reach.missing (drop l.place l.files) ≡ unused_from 0 l.reach.point l.reach.missing l.files

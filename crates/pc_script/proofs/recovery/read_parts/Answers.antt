@@ -2,7 +2,7 @@ use Rattle.std.proofs.Common.{◌≡◌, [], sym, ap, subst, ◌∙◌, arith, l
 use Rattle.std.specs.Vec.Iter.{into_iter_items}
 use Rattle.std.proofs.lemmas.Result.{err_from_is_err_and}
 use Rattle.std.proofs.lemmas.List.{nil_from_length}
-use Rattle.pc_script.proofs.FolderParts.{HoldTheRest, AreLeft, none_read, one_more_read, all_read, one_less, part_lost}
+use Rattle.pc_script.proofs.FolderParts.{HoldTheRest, AreLeft, none_read, one_more_read, all_read, all_left, one_less, all_opened, part_lost}
 use Rattle.pc_script.proofs.recovery.read_parts.Goals as goal
 
 pub loop-file-init : goal.loop-file-init
@@ -11,7 +11,7 @@ loop-file-init g c =
     record {
       going = (tt, tt);
       counted = c.into_iter-file-iterator.ensures.into_iter_gives.1 ∙ c.args.files.ok.0 ∙ ap length (sym items);
-      split = ([], sym items);
+      split = all_left c.args.files.items _ (sym items);
       held = rw (items, c.new-read.ensures.items) (none_read g.R.Read.remaining c.args.files.items);
     }
 
@@ -28,7 +28,7 @@ loop-file-preserved g c =
     record {
       going = (tt, tt);
       counted = omega (arith, c.in-Some.ensures.steps.1, c.loop-file.invariant.counted, ap length items);
-      split = one_less c.args.files.items (into_iter_items c.next.new.self) c.in-Some.file (subst (λ xs. AreLeft c.args.files.items xs) items c.loop-file.invariant.split);
+      split = one_less c.args.files.items (into_iter_items c.next.new.self) c.in-Some.file (subst (λ xs. AreLeft c.args.files.items xs) items c.loop-file.invariant.split) c.in_ok-part.ensures.opened;
       held = rw c.in_ok-push_part.ensures.ok (one_more_read g.R.Read.remaining c.args.files.items c.in-Some.file (into_iter_items c.next.new.self) c.loop-file.read.items c.in_ok-part.part c.in_ok-part.ensures.held (subst (λ xs. HoldTheRest g.R.Read.remaining c.args.files.items xs c.loop-file.read.items) items c.loop-file.invariant.held));
     }
 
@@ -36,3 +36,8 @@ pub returns-clause-held : goal.returns-clause-held
 returns-clause-held g c =
     let none : into_iter_items c.loop-file.file-iterator ≡ [] = nil_from_length (into_iter_items c.loop-file.file-iterator) (sym c.loop-file.invariant.counted ∙ c.in-None.ensures.steps.0) in
     all_read g.R.Read.remaining c.args.files.items c.loop-file.read.items (subst (λ left. HoldTheRest g.R.Read.remaining c.args.files.items left c.loop-file.read.items) none c.loop-file.invariant.held)
+
+pub returns-clause-opened : goal.returns-clause-opened
+returns-clause-opened g c =
+    let none : into_iter_items c.loop-file.file-iterator ≡ [] = nil_from_length (into_iter_items c.loop-file.file-iterator) (sym c.loop-file.invariant.counted ∙ c.in-None.ensures.steps.0) in
+    all_opened c.args.files.items (into_iter_items c.loop-file.file-iterator) none c.loop-file.invariant.split

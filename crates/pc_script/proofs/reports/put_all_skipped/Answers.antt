@@ -1,10 +1,10 @@
 use Rattle.std.proofs.Common.{arith, subst, Err}
 use Rattle.std.proofs.lemmas.Result.{err_from_is_err_and}
 use Rattle.pc_types.specs.Tallies.{Puts}
-use Rattle.pc_types.proofs.PutsLemmas.{puts_stop_at}
+use Rattle.pc_types.proofs.PutsLaws.{puts_stop_at}
 use Rattle.pc_script.specs.Reports.{skipped_line}
 use Rattle.pc_script.specs.Recoveries.{names_of}
-use Rattle.pc_texts.proofs.Sent.{sent_more}
+use Rattle.pc_texts.proofs.SentLaws.{sent_more}
 use Rattle.pc_script.proofs.reports.put_all_skipped.Goals as goal
 
 pub returns-in_err-put_skipped : goal.returns-in_err-put_skipped

@@ -2,11 +2,11 @@ use Rattle.std.proofs.Common.{length, refl}
 use Rattle.pc_model.specs.Database.{database_of}
 use Rattle.std.specs.List.{flat_map}
 use Rattle.std.proofs.lemmas.Result.{err_from_is_err_and}
-use Rattle.pc_types.proofs.PutsLemmas.{puts_then, puts_stop}
+use Rattle.pc_types.proofs.PutsLaws.{puts_then, puts_stop}
 use Rattle.pc_recover.specs.Recovery.{recovery_of}
 use Rattle.pc_script.specs.Reports.{pairs_text, skipped_line}
 use Rattle.pc_script.specs.Recoveries.{names_of}
-use Rattle.pc_texts.proofs.StatePairs.{pairs_of}
+use Rattle.pc_texts.proofs.StatePairLaws.{pairs_of}
 use Rattle.pc_script.proofs.reports.put_parts_and_pairs.Goals as goal
 
 pub returns-in_err-put_all_skipped : goal.returns-in_err-put_all_skipped

@@ -1,7 +1,7 @@
 use Rattle.std.proofs.Common.{◌++◌, codes}
 use Rattle.std.proofs.lemmas.Result.{err_from_is_err_and}
 use Rattle.pc_types.specs.Names.{name_of}
-use Rattle.pc_types.proofs.PutsLemmas.{puts_then, puts_stop}
+use Rattle.pc_types.proofs.PutsLaws.{puts_then, puts_stop}
 use Rattle.pc_script.proofs.run.report_bytes.Goals as goal
 
 pub returns-in_err-put_name : goal.returns-in_err-put_name

@@ -1,7 +1,7 @@
 use Rattle.std.proofs.Common.{ap, arith}
 use Rattle.pc_model.specs.Maps.{len}
 use Rattle.pc_model.specs.Database.{Database}
-use Rattle.pc_model.proofs.PairMaps.{len_of}
+use Rattle.pc_model.proofs.PairMapLaws.{len_of}
 use Rattle.pc_script.proofs.script.start.Goals as goal
 
 pub start-base-requires-clause-limit : goal.start-base-requires-clause-limit

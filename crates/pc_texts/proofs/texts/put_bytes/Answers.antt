@@ -1,6 +1,6 @@
 use Rattle.std.proofs.lemmas.Result.{err_from_is_err_and}
 use Rattle.std.proofs.Common.{arith}
-use Rattle.pc_types.proofs.PutsLemmas.{puts_stop_at}
+use Rattle.pc_types.proofs.PutsLaws.{puts_stop_at}
 use Rattle.pc_texts.specs.Texts.{printed_byte}
 use Rattle.pc_texts.proofs.texts.put_bytes.Goals as goal
 

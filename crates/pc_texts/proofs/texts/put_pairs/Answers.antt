@@ -1,9 +1,9 @@
 use Rattle.std.proofs.Common.{arith, subst, Err}
 use Rattle.std.proofs.lemmas.Result.{err_from_is_err_and}
 use Rattle.pc_types.specs.Tallies.{Puts}
-use Rattle.pc_types.proofs.PutsLemmas.{puts_stop_at}
+use Rattle.pc_types.proofs.PutsLaws.{puts_stop_at}
 use Rattle.pc_texts.specs.Texts.{pair_text}
-use Rattle.pc_texts.proofs.Sent.{sent_more}
+use Rattle.pc_texts.proofs.SentLaws.{sent_more}
 use Rattle.pc_texts.proofs.texts.put_pairs.Goals as goal
 
 pub returns-in_err-put_pair : goal.returns-in_err-put_pair

@@ -1,8 +1,8 @@
 use Rattle.std.proofs.Common.{◌≡◌, ◌≢◌, ◌+◌, ◌++◌, codes, get_or, [], append_assoc, arith, ◌∙◌}
 use Rattle.std.proofs.lemmas.Result.{err_from_is_err_and}
-use Rattle.pc_types.proofs.Known.{appends_then}
+use Rattle.pc_types.proofs.KnownBytesLaws.{appends_then}
 use Rattle.pc_texts.specs.Texts.{range_text}
-use Rattle.pc_texts.proofs.Sent.{sent_then, sent_stop}
+use Rattle.pc_texts.proofs.SentLaws.{sent_then, sent_stop}
 use Rattle.pc_texts.proofs.RangeLemmas.{joined_text, parted_text, ended_text}
 use Rattle.pc_texts.proofs.texts.put_ranges.Goals as goal
 use Rattle.pc_texts.proofs.texts.put_ranges.Goals.{then-from+in_ok-put_range, else-from}

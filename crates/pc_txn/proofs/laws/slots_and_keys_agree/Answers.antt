@@ -1,4 +1,4 @@
-use Rattle.pc_txn.proofs.KeyLemmas.{rows_agree, rows_stay_of}
+use Rattle.pc_txn.proofs.KeyLaws.{rows_agree, rows_stay_of}
 use Rattle.pc_txn.proofs.laws.slots_and_keys_agree.Goals as goal
 
 pub returns-clause-agree : goal.returns-clause-agree

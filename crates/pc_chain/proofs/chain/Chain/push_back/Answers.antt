@@ -1,5 +1,5 @@
 use Rattle.std.proofs.Common.{refl, sym, ◌∙◌}
-use Rattle.pc_chain.proofs.ChainLaws.{have_last, if_some, avoids_last, first_push, link_after_push, chain_after_push, other_after_push}
+use Rattle.pc_chain.proofs.ChainLemmas.{have_last, if_some, avoids_last, first_push, link_after_push, chain_after_push, other_after_push}
 use Rattle.pc_chain.proofs.chain.Chain.push_back.Goals as goal
 
 pub link-requires : goal.link-requires

@@ -1,6 +1,6 @@
 use Rattle.std.proofs.Common.{arith}
 use Rattle.pc_dirty.specs.Sides.{follow}
-use Rattle.pc_dirty.proofs.SideLaws.{side_popped, side_below, first_in}
+use Rattle.pc_dirty.proofs.SideLemmas.{side_popped, side_below, first_in}
 use Rattle.pc_dirty.proofs.side.Side.pop.Goals as goal
 
 pub invariant_of-self-2 : goal.invariant_of-self-2

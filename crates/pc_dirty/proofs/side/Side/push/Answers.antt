@@ -3,7 +3,7 @@ use Rattle.std.proofs.lemmas.List.{length-set}
 use Rattle.pc_dirty.specs.Sets.{is_in}
 use Rattle.pc_dirty.specs.Sides as sides
 use Rattle.pc_dirty.specs.Sides.{follow}
-use Rattle.pc_dirty.proofs.SideLaws.{Became, avoids_unlisted, side_pushed, room_for_it, same_side}
+use Rattle.pc_dirty.proofs.SideLemmas.{Became, avoids_unlisted, side_pushed, room_for_it, same_side}
 use Rattle.pc_dirty.proofs.side.Side.push.Goals as goal
 use Rattle.pc_dirty.proofs.side.Side.push.Goals.{After-push_back}
 

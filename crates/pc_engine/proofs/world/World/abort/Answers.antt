@@ -10,9 +10,9 @@ leave-requires c = may_leave c.self.inside.phases (actives_of c.self.inside.sess
 
 pub invariant_of-self : goal.invariant_of-self
 invariant_of-self c =
-    let at_phase = left_phase c.self.inside.phases c.leave.new.self _ c.leave.ensures in
-    let at_point = left_point c.self.inside.phases c.leave.new.self _ c.leave.ensures in (
+    let at_phase = left_phase c.self.inside.phases c.leave.new.self _ c.leave.ensures.left in
+    let at_point = left_point c.self.inside.phases c.leave.new.self _ c.leave.ensures.left in (
       rw (at_phase, at_point, c.abort_open-class.ensures.sessions) (without_one _ _ _ _ _ _ _ _ _ _ c.self.invariant.0),
       rw (at_phase, at_point) (c.abort_open-class.ensures.together _ _ _ _ _ c.self.invariant.1),
-      rw c.abort_open-class.ensures.sessions (left_counted c.self.inside.phases (actives_of c.self.inside.sessions.items) c.self.invariant.2 c.leave.new.self (c.args.session - 1) _ (as_many_inside c.self.inside.sessions.items (search rules)) (is_there _ (search rules)) c.abort_open-class.ensures.class c.leave.ensures),
+      rw c.abort_open-class.ensures.sessions (left_counted c.self.inside.phases (actives_of c.self.inside.sessions.items) c.self.invariant.2 c.leave.new.self (c.args.session - 1) _ (as_many_inside c.self.inside.sessions.items (search rules)) (is_there _ (search rules)) c.abort_open-class.ensures.class c.leave.ensures.left),
     )

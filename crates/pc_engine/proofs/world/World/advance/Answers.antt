@@ -13,7 +13,7 @@ invariant_of-self-2 c =
     let free = is_free c.self.inside.phases c.args.change 0 (search rules) in
     let at_phase = ap (λ (p : Phases). p.phase) c.change_phase.ensures in
     let at_point = ap (λ (p : Phases). p.point) c.change_phase.ensures ∙ same_point c.args.change c.self.inside.phases.point c.requires in (
-      rw (at_phase, at_point) (moved_within c.self.inside.begun (entries_of c.self.inside.log) c.self.inside.phases.phase c.self.inside.phases.point _ _ _ _ _ _ _ _ _ c.self.invariant.0 (has_point c.self.inside.phases.phase c.self.inside.phases.point c.args.change c.requires free.in_phase c.self.invariant.0.has_point) (rw c.reserve.ensures.entries at c.append_reserved.ensures.entries)),
+      rw (at_phase, at_point) (moved_within c.self.inside.begun (entries_of c.self.inside.log) c.self.inside.phases.phase c.self.inside.phases.point _ _ _ _ _ _ _ _ _ _ c.self.invariant.0 (has_point c.self.inside.phases.phase c.self.inside.phases.point c.args.change c.requires free.in_phase c.self.invariant.0.has_point) (rw c.reserve.ensures.entries at c.append_reserved.ensures.entries)),
       rw (at_phase, at_point) (changed_together _ _ _ _ _ _ _ c.args.change c.requires c.self.invariant.1 free.in_phase (none_held c.self.inside.phases (actives_of c.self.inside.sessions.items) c.args.change 0 c.requires c.self.invariant.2 free.none)),
       advanced_counted c.self.inside.phases c.change_phase.new.phases c.args.change (actives_of c.self.inside.sessions.items) c.change_phase.ensures c.self.invariant.2,
     )

@@ -1,6 +1,6 @@
 use Rattle.std.proofs.Common.{◌≡◌, ◌∙◌, length, ap, refl, inl, arith}
 use Rattle.pc_model.specs.Maps.{len}
-use Rattle.pc_model.proofs.PairMaps.{len_of}
+use Rattle.pc_model.proofs.PairMapLaws.{len_of}
 use Rattle.pc_records.specs.Tables.{Table}
 use Rattle.pc_engine.proofs.Standing.{stands_first}
 use Rattle.pc_engine.proofs.Within.{first_within}
@@ -32,7 +32,7 @@ returns-clause-full c =
 pub returns-clause-stands : goal.returns-clause-stands
 returns-clause-stands c =
     stands_first _ c.pairs-pairs.result.now c.args.sessions c.pairs-pairs.ensures.rise c.pairs-pairs.ensures.pairs (ap (λ (t : Table). t.rows) c.in_ok-records.ensures) c.new.ensures refl c.in_ok-sessions.ensures (ap (λ (p : Phases). p.phase) c.new-2.ensures) (ap (λ (p : Phases). p.point) c.new-2.ensures) c.new-3.ensures.items c.new-4.ensures.items
-    c.new-6.ensures.items c.requires.start
+    c.new-6.ensures.items c.requires.start c.requires.sessions.1
 
 pub invariant_of-result : goal.invariant_of-result
 invariant_of-result c =

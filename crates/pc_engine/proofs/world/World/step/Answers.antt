@@ -17,12 +17,12 @@ returns-in-Get c =
 pub returns-in-Put : goal.returns-in-Put
 returns-in-Put c =
     let kept = writes_keeps _ _ _ _ _ _ c.put.ensures in
-    record { follows = λ history stands. rw c.in-Put.is (puts_follows _ _ history _ _ stands _ _ c.put.ensures); setting = kept.0; refused = kept.1 }
+    record { follows = λ history stands. rw c.in-Put.is (puts_follows _ _ history _ _ stands _ _ (rw c.in-Put.is at c.in_limits.ensures) c.put.ensures); setting = kept.0; refused = kept.1 }
 
 pub returns-in-Del : goal.returns-in-Del
 returns-in-Del c =
     let kept = writes_keeps _ _ _ _ _ _ c.delete.ensures in
-    record { follows = λ history stands. rw c.in-Del.is (dels_follows _ _ history _ _ stands _ c.delete.ensures); setting = kept.0; refused = kept.1 }
+    record { follows = λ history stands. rw c.in-Del.is (dels_follows _ _ history _ _ stands _ (rw c.in-Del.is at c.in_limits.ensures) c.delete.ensures); setting = kept.0; refused = kept.1 }
 
 pub returns-in-Commit : goal.returns-in-Commit
 returns-in-Commit c =

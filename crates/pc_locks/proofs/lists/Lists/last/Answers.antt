@@ -1,7 +1,7 @@
 use Rattle.std.proofs.Common.{◌∙◌, ap}
 use Rattle.pc_locks.specs.Lines.{Listed}
 use Rattle.pc_locks.specs.States.{slots_of, last_of}
-use Rattle.pc_locks.proofs.ListLaws.{lists_last}
+use Rattle.pc_locks.proofs.ListLemmas.{lists_last}
 use Rattle.pc_locks.proofs.lists.Lists.last.Goals as goal
 
 pub returns : goal.returns

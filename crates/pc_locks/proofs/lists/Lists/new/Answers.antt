@@ -1,4 +1,4 @@
-use Rattle.pc_locks.proofs.ListLaws.{lists_new}
+use Rattle.pc_locks.proofs.ListLemmas.{lists_new}
 use Rattle.pc_locks.proofs.lists.Lists.new.Goals as goal
 
 pub invariant_of-result : goal.invariant_of-result

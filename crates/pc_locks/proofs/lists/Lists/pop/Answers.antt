@@ -1,8 +1,8 @@
-use Rattle.std.proofs.Common.{◌∙◌, ◌<◌, ◌^◌, length, refl, sym, ap, arith}
+use Rattle.std.proofs.Common.{◌∙◌, ◌<◌, ◌^◌, length, refl, sym, ap, subst, arith}
 use Rattle.pc_locks.specs.Lines.{Listed, entry_ids}
-use Rattle.pc_locks.specs.States.{slots_of, first_of, rest_of}
-use Rattle.pc_locks.proofs.LineLaws.{row_fits, same_first}
-use Rattle.pc_locks.proofs.ListLaws.{lists_line, given_none, known_listed, changed_pop, changed_away, Changed}
+use Rattle.pc_locks.specs.States.{slots_of, first_of, rest_of, AreFilled}
+use Rattle.pc_locks.proofs.LineLemmas.{row_fits, same_first}
+use Rattle.pc_locks.proofs.ListLemmas.{lists_line, given_none, known_listed, changed_pop, changed_away, Changed}
 use Rattle.pc_locks.proofs.lists.Lists.pop.Goals as goal
 use Rattle.pc_locks.proofs.lists.Lists.pop.Goals.{After-put, After-forget, After-from_residual}
 
@@ -74,3 +74,12 @@ returns-else-is_some-clause-rest c = (gone c).this ∙ ap (λ (v : Listed). rest
 
 pub returns-else-is_some-clause-others : goal.returns-else-is_some-clause-others
 returns-else-is_some-clause-others c = λ u n. (gone c).others u n ∙ ap (λ (v : Listed). slots_of v.entries u) c.self.view_is
+
+pub returns-then-is_some-clause-filled : goal.returns-then-is_some-clause-filled
+returns-then-is_some-clause-filled c = (done c).lists.filled
+
+pub returns-else-is_some-clause-filled : goal.returns-else-is_some-clause-filled
+returns-else-is_some-clause-filled c = (gone c).lists.filled
+
+pub returns-in_err-id-clause-filled : goal.returns-in_err-id-clause-filled
+returns-in_err-id-clause-filled c = subst (λ (v : Listed). AreFilled v.entries) c.self.view_is c.self.invariant.filled

@@ -2,7 +2,7 @@ use Rattle.std.proofs.Common.{◌∙◌, ◌++◌, ◌∷◌, [], ◌<◌, ◌^�
 use Rattle.pc_locks.specs.Lines.{Lines, all_ids}
 use Rattle.pc_locks.specs.States.{is_listed}
 use Rattle.pc_locks.specs.Tables.{ids_at}
-use Rattle.pc_locks.proofs.LineLaws.{row_fits, avoids_unlisted}
+use Rattle.pc_locks.proofs.LineLemmas.{row_fits, avoids_unlisted}
 use Rattle.pc_locks.proofs.ChainRows.{rowed_push, read_line, length_all}
 use Rattle.pc_locks.proofs.queues.Queues.push.Goals as goal
 

@@ -2,7 +2,7 @@ use Rattle.std.proofs.Common.{◌∙◌, ◌++◌, ◌<◌, ◌^◌, length, set
 use Rattle.pc_locks.specs.Lines.{Lines, IsLine}
 use Rattle.pc_locks.specs.States.{rest_of}
 use Rattle.pc_locks.specs.Tables.{ids_at}
-use Rattle.pc_locks.proofs.LineLaws.{row_fits, same_last}
+use Rattle.pc_locks.proofs.LineLemmas.{row_fits, same_last}
 use Rattle.pc_locks.proofs.ChainRows.{rowed_remove, read_line, length_all}
 use Rattle.pc_locks.proofs.queues.Queues.remove.Goals as goal
 

@@ -1,7 +1,7 @@
 use Rattle.std.proofs.Common.{ap, subst, ◌∙◌, arith}
 use Rattle.pc_types.specs.Fields.{Gives}
 use Rattle.pc_part.specs.Reading.{base_at}
-use Rattle.pc_part.proofs.BaseFiles.{base_found, base_again}
+use Rattle.pc_part.proofs.BaseFileLaws.{base_found, base_again}
 use Rattle.pc_part.proofs.base.Base.decode.Goals as goal
 
 pub returns-clause-found : goal.returns-clause-found

@@ -1,7 +1,7 @@
 use Rattle.std.proofs.Common.{ap, subst, ◌∙◌, arith}
 use Rattle.pc_types.specs.Fields.{Gives}
 use Rattle.pc_part.specs.Reading.{part_at}
-use Rattle.pc_part.proofs.PartFiles.{part_found, part_again}
+use Rattle.pc_part.proofs.PartFileLaws.{part_found, part_again}
 use Rattle.pc_part.proofs.part.Part.decode.Goals as goal
 
 pub returns-clause-found : goal.returns-clause-found

@@ -1,5 +1,5 @@
 use Rattle.std.proofs.Common.{sym}
-use Rattle.pc_part.proofs.RangePoints.{items-points_of}
+use Rattle.pc_part.proofs.RangePointLaws.{items-points_of}
 use Rattle.pc_part.proofs.part.Part.points.Goals as goal
 
 pub returns : goal.returns

@@ -1,5 +1,5 @@
 use Rattle.std.proofs.Common.{ap}
-use Rattle.pc_part.proofs.RangePoints.{bounds_known}
+use Rattle.pc_part.proofs.RangePointLaws.{bounds_known}
 use Rattle.pc_part.proofs.part.Part.ranges.Goals as goal
 
 pub returns-clause-bounds : goal.returns-clause-bounds

@@ -1,5 +1,5 @@
 use Rattle.std.proofs.Common.{◌∙◌, ap, map, vec_capacity}
-use Rattle.pc_records.specs.Rows.{closed_row}
+use Rattle.pc_records.specs.RowSteps.{closed_row}
 use Rattle.pc_records.specs.Slots.{rows_of, pending_of}
 use Rattle.pc_records.proofs.SlotMoments.{kept_closed, sound_closed, rows_closed, pending_closed}
 use Rattle.pc_records.proofs.records.Records.close.Goals as goal

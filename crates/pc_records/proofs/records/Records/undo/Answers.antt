@@ -1,3 +1,5 @@
+use Rattle.std.specs.Prelude.{[]}
+use Rattle.pc_records.proofs.SlotRising.{rise_any}
 use Rattle.std.proofs.Common.{ap, vec_capacity}
 use Rattle.pc_records.proofs.SlotMoments.{kept_undone, sound_undone, pending_undone, rows_undone}
 use Rattle.pc_records.proofs.records.Records.undo.Goals as goal
@@ -17,3 +19,6 @@ returns-clause-rows c =
 
 pub returns-clause-pending : goal.returns-clause-pending
 returns-clause-pending c = rw (← c.self.view_is) (pending_undone c.self.inside.point c.args.writes.now c.self.inside.slots.items c.undo_all.new.slots.items c.self.inside.free.items (vec_capacity c.self.inside.free) c.self.inside.locks.queues c.undo_all.ensures c.self.invariant.0 c.self.invariant.1.1)
+
+pub returns-clause-rise : goal.returns-clause-rise
+returns-clause-rise c = rw (← c.self.view_is) (rise_any [] c.self.inside.locks.queues c.self.inside.slots.items c.self.invariant.0.rise)

@@ -1,5 +1,5 @@
 use Rattle.std.proofs.Common.{◌∙◌, ap, vec_capacity}
-use Rattle.pc_records.specs.Rows.{is_waiting}
+use Rattle.pc_records.specs.RowSteps.{is_waiting}
 use Rattle.pc_records.specs.Tables.{Table}
 use Rattle.pc_records.proofs.SlotWaiting.{waits_same}
 use Rattle.pc_records.proofs.records.Records.write.Goals as goal

@@ -1,7 +1,7 @@
 use Rattle.std.proofs.Common.{◌≡◌, ◌<◌, [], ◌∷◌, ◌++◌, length, set, cond, eqb, Some, ap, sym, ◌∙◌}
 use Rattle.pc_txn.specs.Indexes.{found}
 use Rattle.pc_txn.specs.Changes.{Changes, row_of_slot}
-use Rattle.pc_txn.proofs.RowLemmas.{noted_again, noted_first, rows_added}
+use Rattle.pc_txn.proofs.RowLaws.{noted_again, noted_first, rows_added}
 use Rattle.pc_txn.proofs.transaction.Transaction.note_write.Goals as goal
 
 pub returns-in-Some : goal.returns-in-Some

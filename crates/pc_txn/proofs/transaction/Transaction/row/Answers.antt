@@ -1,6 +1,6 @@
 use Rattle.std.proofs.Common.{ap, sym, ◌∙◌}
 use Rattle.pc_txn.specs.Indexes.{found}
-use Rattle.pc_txn.proofs.RowLemmas.{row_within}
+use Rattle.pc_txn.proofs.RowLaws.{row_within}
 use Rattle.pc_txn.proofs.transaction.Transaction.row.Goals as goal
 
 pub returns-clause-within : goal.returns-clause-within

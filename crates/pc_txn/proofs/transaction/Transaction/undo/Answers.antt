@@ -1,7 +1,7 @@
 use Rattle.std.proofs.Common.{ap, sym, ◌∙◌}
 use Rattle.pc_txn.specs.Changes.{Changes}
 use Rattle.pc_txn.specs.Undoing.{undone}
-use Rattle.pc_txn.proofs.RowLemmas.{rows_dropped}
+use Rattle.pc_txn.proofs.RowLaws.{rows_dropped}
 use Rattle.pc_txn.proofs.Restoring.{undone_last}
 use Rattle.pc_txn.proofs.transaction.Transaction.undo.Goals as goal
 

@@ -1,5 +1,5 @@
 use Rattle.std.proofs.Common.{rules}
-use Rattle.pc_types.proofs.Known.{appends_more}
+use Rattle.pc_types.proofs.KnownBytesLaws.{appends_more}
 use Rattle.pc_types.proofs.tally.Tally.put.Goals as goal
 
 pub loop-at-preserved : goal.loop-at-preserved

@@ -1,0 +1,259 @@
+-- What taking a request out makes of the table.
+use Rattle.std.proofs.Common.{◌≡◌, ◌≢◌, ℕ, ◌==◌, ◌<◌, ◌⊎◌, inl, inr, List, [], ◌∷◌, ◌++◌, length, set, Option, Some, None, Bool, true, false, ◌||◌, not, cond, refl, sym, ◌∙◌, ap, subst, zero, suc, arith}
+use Rattle.std.specs.Prelude.{filter}
+use Rattle.std.proofs.lemmas.List.{map-append, length-set}
+use Rattle.std.proofs.lemmas.List.Folds.{list_any-append}
+use Rattle.pc_types.specs.declared.Request.{Request}
+use Rattle.pc_model.specs.Locks.{Queue}
+use Rattle.pc_model.specs.Queues.{stands_in, AreOnce}
+use Rattle.pc_locks.specs.States.{slots_of, queue_at, is_listed, first_of, rest_of, AreDifferent, AreFilled}
+use Rattle.pc_locks.specs.Tables.{Nodes, node_at, request_at, slot_at, place_of, requests, slots, ids_at, queues_in, lists_in, IsTable, IsUnlinked}
+use Rattle.pc_locks.proofs.LineLemmas.{decide, is_same, same_is, either_true, right_true, rest_listed}
+use Rattle.pc_locks.proofs.TableLemmas.{pair_first, pair_second, map_changed, found_slots, found_queue, slot_placed, transaction_placed, requests_same, slots_agree, ids_changed}
+
+split_first : (xs : List ℕ) (x : ℕ) → Some x ≡ first_of xs → xs ≡ x ∷ rest_of xs
+split_first [] x e = absurd cc
+split_first (y ∷ ys) x e = let f : x ≡ y = cc in ap (λ z. z ∷ ys) (sym f)
+
+-- what is listed stands, and what stands in two parts stands in the whole
+pub member_stands : (nodes : Nodes) (xs : List ℕ) (id t : ℕ) → is_listed xs id ≡ true → (request_at nodes id).transaction ≡ t → stands_in (requests nodes xs) t ≡ true
+member_stands nodes [] id t e f = absurd cc
+member_stands nodes (x ∷ xs) id t e f = elim (either_true (x == id) (is_listed xs id) e) [
+  | inl g ↦
+      let h : (request_at nodes x).transaction ≡ t = ap (λ y. (request_at nodes y).transaction) (is_same x id g) ∙ f in
+      ap (λ b. b || stands_in (requests nodes xs) t) (same_is (request_at nodes x).transaction t h)
+  | inr g ↦ right_true ((request_at nodes x).transaction == t) (stands_in (requests nodes xs) t) (member_stands nodes xs id t g f)
+]
+
+pub once_behind : (nodes : Nodes) (before behind : List ℕ) (x : ℕ) → AreOnce (requests nodes (before ++ x ∷ behind)) → stands_in (requests nodes behind) (request_at nodes x).transaction ≡ false
+once_behind nodes [] behind x o = o.0
+once_behind nodes (y ∷ ys) behind x o = once_behind nodes ys behind x o.1
+
+pub parts_listed : (xs ys : List ℕ) (id : ℕ) → is_listed (xs ++ ys) id ≡ true → (is_listed xs id ≡ true) ⊎ (is_listed ys id ≡ true)
+parts_listed xs ys id e = either_true (is_listed xs id) (is_listed ys id) (sym (list_any-append (λ s. s == id) xs ys) ∙ e)
+
+pub front_listed : (xs ys : List ℕ) (id : ℕ) → is_listed xs id ≡ true → is_listed (xs ++ ys) id ≡ true
+front_listed xs ys id e = list_any-append (λ s. s == id) xs ys ∙ ap (λ b. b || is_listed ys id) e
+
+pub back_listed : (xs ys : List ℕ) (id : ℕ) → is_listed ys id ≡ true → is_listed (xs ++ ys) id ≡ true
+back_listed xs ys id e = list_any-append (λ s. s == id) xs ys ∙ right_true (is_listed xs id) (is_listed ys id) e
+
+slot_listed : (nodes : Nodes) (xs : List ℕ) (id : ℕ) → is_listed xs id ≡ true → is_listed (slots nodes xs) (slot_at nodes id) ≡ true
+slot_listed nodes [] id e = absurd cc
+slot_listed nodes (x ∷ xs) id e = elim (either_true (x == id) (is_listed xs id) e) [
+  | inl g ↦ ap (λ b. b || is_listed (slots nodes xs) (slot_at nodes id)) (same_is (slot_at nodes x) (slot_at nodes id) (ap (slot_at nodes) (is_same x id g)))
+  | inr g ↦ right_true (slot_at nodes x == slot_at nodes id) (is_listed (slots nodes xs) (slot_at nodes id)) (slot_listed nodes xs id g)
+]
+
+pub filter_none : (q : Queue) (t : ℕ) → stands_in q t ≡ false → filter (λ r. not (r.transaction == t)) q ≡ q
+filter_none [] t e = refl
+filter_none (r ∷ rs) t e = by (r.transaction == t) e (filter_none rs t)
+  where
+    by : (b : Bool) → (b || stands_in rs t) ≡ false → (stands_in rs t ≡ false → filter (λ q. not (q.transaction == t)) rs ≡ rs) → cond (not b) (r ∷ filter (λ q. not (q.transaction == t)) rs) (filter (λ q. not (q.transaction == t)) rs) ≡ r ∷ rs
+    by true f ih = absurd cc
+    by false f ih = ap (λ q. r ∷ q) (ih f)
+
+pub filter_one : (before behind : Queue) (r : Request) (t : ℕ) → stands_in before t ≡ false → (r.transaction == t) ≡ true → stands_in behind t ≡ false → filter (λ q. not (q.transaction == t)) (before ++ r ∷ behind) ≡ before ++ behind
+filter_one [] behind r t e f g = by (r.transaction == t) f
+  where
+    by : (b : Bool) → b ≡ true → cond (not b) (r ∷ filter (λ q. not (q.transaction == t)) behind) (filter (λ q. not (q.transaction == t)) behind) ≡ behind
+    by true h = filter_none behind t g
+    by false h = absurd cc
+filter_one (x ∷ xs) behind r t e f g = by (x.transaction == t) e (λ h. filter_one xs behind r t h f g)
+  where
+    by : (b : Bool) → (b || stands_in xs t) ≡ false → (stands_in xs t ≡ false → filter (λ q. not (q.transaction == t)) (xs ++ r ∷ behind) ≡ xs ++ behind) →
+        cond (not b) (x ∷ filter (λ q. not (q.transaction == t)) (xs ++ r ∷ behind)) (filter (λ q. not (q.transaction == t)) (xs ++ r ∷ behind)) ≡ x ∷ (xs ++ behind)
+    by true h ih = absurd cc
+    by false h ih = ap (λ q. x ∷ q) (ih h)
+
+-- the transaction's first request
+pub record First (nodes : Nodes) (ids : List (List ℕ)) (entries : List (ℕ × List ℕ)) (s t id : ℕ) : Type 0 where
+  pub place : place_of (node_at nodes id) ≡ Some (s, t)
+  pub listed : is_listed (slots_of entries t) id ≡ true
+  pub stands : is_listed (ids_at ids s) id ≡ true
+
+the_first : (nodes : Nodes) (ids : List (List ℕ)) (entries : List (ℕ × List ℕ)) (t id : ℕ) → IsTable nodes ids entries → Some id ≡ first_of (slots_of entries t) → First nodes ids entries (slot_at nodes id) t id
+the_first nodes ids entries t id a e =
+    let l : is_listed (slots_of entries t) id ≡ true = ap (λ xs. is_listed xs id) (split_first (slots_of entries t) id e) ∙ ap (λ b. b || is_listed (rest_of (slots_of entries t)) id) (same_is id id refl) in
+    let p = a.in_list t id l in
+    let s : slot_at nodes id ≡ p.0 = slot_placed nodes id p.0 t p.1 in
+    record { place = p.1 ∙ ap (λ u. Some (u, t)) (sym s); listed = l; stands = ap (λ u. is_listed (ids_at ids u) id) s ∙ p.2 }
+
+pub first_at : (nodes : Nodes) (ids : List (List ℕ)) (entries : List (ℕ × List ℕ)) (s t id : ℕ) → IsTable nodes ids entries → Some id ≡ first_of (slots_of entries t) → s ≡ slot_at nodes id → First nodes ids entries s t id
+first_at nodes ids entries s t id a e f = subst (λ u. First nodes ids entries u t id) (sym f) (the_first nodes ids entries t id a e)
+
+pub listed_within : (ids : List (List ℕ)) (s id : ℕ) → is_listed (ids_at ids s) id ≡ true → s < length ids
+listed_within [] s id e = absurd cc
+listed_within (x ∷ xs) zero id e = omega arith
+listed_within (x ∷ xs) (suc s) id e = let h = listed_within xs s id e in omega (arith, h)
+
+pub record Removed (nodes new_nodes : Nodes) (ids new_ids : List (List ℕ)) (entries new_entries : List (ℕ × List ℕ)) (s t id : ℕ) : Type 0 where
+  pub was : IsTable nodes ids entries
+  pub once : AreOnce (requests nodes (ids_at ids s))
+  pub different : AreDifferent (slots nodes (slots_of entries t))
+  pub given : Some id ≡ first_of (slots_of entries t)
+  pub slot : slot_at nodes id ≡ s
+  pub unlinked : IsUnlinked nodes ids new_ids s t
+  pub gone : node_at new_nodes id ≡ None
+  pub nodes_stay : (other : ℕ) → other ≢ id → node_at new_nodes other ≡ node_at nodes other
+  pub list : slots_of new_entries t ≡ rest_of (slots_of entries t)
+  pub lists_stay : (u : ℕ) → u ≢ t → slots_of new_entries u ≡ slots_of entries u
+  pub filled : AreFilled new_entries
+
+module _ (nodes new_nodes : Nodes) (ids new_ids : List (List ℕ)) (entries new_entries : List (ℕ × List ℕ)) (s t id : ℕ) (a : Removed nodes new_nodes ids new_ids entries new_entries s t id) where
+  first : First nodes ids entries s t id
+  first = subst (λ u. First nodes ids entries u t id) a.slot (the_first nodes ids entries t id a.was a.given)
+
+  within : s < length ids
+  within = listed_within ids s id first.stands
+
+  owner : (request_at nodes id).transaction ≡ t
+  owner = transaction_placed nodes id s t first.place
+
+  left : List ℕ
+  left = a.unlinked.before ++ a.unlinked.behind
+
+  once_split : AreOnce (requests nodes (a.unlinked.before ++ a.unlinked.id ∷ a.unlinked.behind))
+  once_split = subst (λ xs. AreOnce (requests nodes xs)) a.unlinked.split a.once
+
+  none_behind : stands_in (requests nodes a.unlinked.behind) t ≡ false
+  none_behind = ap (stands_in (requests nodes a.unlinked.behind)) (sym (is_same (request_at nodes a.unlinked.id).transaction t a.unlinked.passed)) ∙ once_behind nodes a.unlinked.before a.unlinked.behind a.unlinked.id once_split
+
+  not_before : is_listed a.unlinked.before id ≡ true → ⊥
+  not_before e = let f : false ≡ true = sym a.unlinked.none_before ∙ member_stands nodes a.unlinked.before id t e owner in cc
+
+  not_behind : is_listed a.unlinked.behind id ≡ true → ⊥
+  not_behind e = let f : false ≡ true = sym none_behind ∙ member_stands nodes a.unlinked.behind id t e owner in cc
+
+  -- what was unlinked is the first request
+  same_id : a.unlinked.id ≡ id
+  same_id = elim (parts_listed a.unlinked.before (a.unlinked.id ∷ a.unlinked.behind) id (ap (λ xs. is_listed xs id) (sym a.unlinked.split) ∙ first.stands)) [
+    | inl e ↦ absurd (not_before e)
+    | inr e ↦ elim (either_true (a.unlinked.id == id) (is_listed a.unlinked.behind id) e) [
+      | inl f ↦ is_same a.unlinked.id id f
+      | inr f ↦ absurd (not_behind f)
+    ]
+  ]
+
+  changed : (u : ℕ) → ((u ≡ s) × (ids_at new_ids u ≡ a.unlinked.before ++ a.unlinked.behind)) ⊎ ((u ≢ s) × (ids_at new_ids u ≡ ids_at ids u))
+  changed u = subst (λ row. ((u ≡ s) × (ids_at row u ≡ a.unlinked.before ++ a.unlinked.behind)) ⊎ ((u ≢ s) × (ids_at row u ≡ ids_at ids u))) (sym a.unlinked.new) (ids_changed ids s (a.unlinked.before ++ a.unlinked.behind) u within)
+
+  left_listed : (x : ℕ) → is_listed (a.unlinked.before ++ a.unlinked.behind) x ≡ true → (x ≢ id) × (is_listed (ids_at ids s) x ≡ true)
+  left_listed x e = elim (parts_listed a.unlinked.before a.unlinked.behind x e) [
+    | inl f ↦ ((λ g. not_before (ap (is_listed a.unlinked.before) (sym g) ∙ f)), ap (λ xs. is_listed xs x) a.unlinked.split ∙ front_listed a.unlinked.before (a.unlinked.id ∷ a.unlinked.behind) x f)
+    | inr f ↦ ((λ g. not_behind (ap (is_listed a.unlinked.behind) (sym g) ∙ f)), ap (λ xs. is_listed xs x) a.unlinked.split ∙ back_listed a.unlinked.before (a.unlinked.id ∷ a.unlinked.behind) x (right_true (a.unlinked.id == x) (is_listed a.unlinked.behind x) f))
+  ]
+
+  queue_left : (u x : ℕ) → is_listed (ids_at new_ids u) x ≡ true → (x ≢ id) × (is_listed (ids_at ids u) x ≡ true)
+  queue_left u x e = elim (changed u) [
+    | inl c ↦
+        let l = left_listed x (ap (λ xs. is_listed xs x) (sym c.1) ∙ e) in
+        (l.0, ap (λ v. is_listed (ids_at ids v) x) c.0 ∙ l.1)
+    | inr c ↦
+        let l : is_listed (ids_at ids u) x ≡ true = ap (λ xs. is_listed xs x) (sym c.1) ∙ e in
+        ((λ g. let p = a.was.in_queue u x l in c.0 (pair_first u p.0 s t (sym p.1 ∙ (ap (λ y. place_of (node_at nodes y)) g ∙ first.place)))), l)
+  ]
+
+  queue_keeps : (u x : ℕ) → x ≢ id → is_listed (ids_at ids u) x ≡ true → is_listed (ids_at new_ids u) x ≡ true
+  queue_keeps u x n e = elim (changed u) [
+    | inl c ↦ ap (λ xs. is_listed xs x) c.1 ∙ elim (parts_listed a.unlinked.before (a.unlinked.id ∷ a.unlinked.behind) x (ap (λ xs. is_listed xs x) (sym a.unlinked.split) ∙ (ap (λ v. is_listed (ids_at ids v) x) (sym c.0) ∙ e))) [
+      | inl f ↦ front_listed a.unlinked.before a.unlinked.behind x f
+      | inr f ↦ elim (either_true (a.unlinked.id == x) (is_listed a.unlinked.behind x) f) [
+        | inl g ↦ absurd (n (sym (is_same a.unlinked.id x g) ∙ same_id))
+        | inr g ↦ back_listed a.unlinked.before a.unlinked.behind x g
+      ]
+    ]
+    | inr c ↦ ap (λ xs. is_listed xs x) c.1 ∙ e
+  ]
+
+  fresh_rest : is_listed (slots nodes (rest_of (slots_of entries t))) (slot_at nodes id) ≡ false
+  fresh_rest = (subst (λ xs. AreDifferent (slots nodes xs)) (split_first (slots_of entries t) id a.given) a.different).0
+
+  list_left : (u x : ℕ) → is_listed (slots_of new_entries u) x ≡ true → (x ≢ id) × (is_listed (slots_of entries u) x ≡ true)
+  list_left u x e = elim (decide u t) [
+    | inl c ↦
+        let l : is_listed (rest_of (slots_of entries t)) x ≡ true = ap (λ xs. is_listed xs x) (sym a.list) ∙ (ap (λ v. is_listed (slots_of new_entries v) x) (sym c) ∙ e) in (
+          (λ g. let f : false ≡ true = sym fresh_rest ∙ slot_listed nodes (rest_of (slots_of entries t)) id (ap (is_listed (rest_of (slots_of entries t))) (sym g) ∙ l) in cc),
+          ap (λ v. is_listed (slots_of entries v) x) c ∙ rest_listed (slots_of entries t) x l,
+        )
+    | inr c ↦
+        let l : is_listed (slots_of entries u) x ≡ true = ap (λ xs. is_listed xs x) (sym (a.lists_stay u c)) ∙ e in
+        ((λ g. let p = a.was.in_list u x l in c (pair_second p.0 u s t (sym p.1 ∙ (ap (λ y. place_of (node_at nodes y)) g ∙ first.place)))), l)
+  ]
+
+  list_keeps : (u x : ℕ) → x ≢ id → is_listed (slots_of entries u) x ≡ true → is_listed (slots_of new_entries u) x ≡ true
+  list_keeps u x n e = elim (decide u t) [
+    | inl c ↦
+        let l : is_listed (id ∷ rest_of (slots_of entries t)) x ≡ true = ap (λ xs. is_listed xs x) (sym (split_first (slots_of entries t) id a.given)) ∙ (ap (λ v. is_listed (slots_of entries v) x) (sym c) ∙ e) in
+        ap (λ v. is_listed (slots_of new_entries v) x) c ∙ (ap (λ xs. is_listed xs x) a.list ∙ elim (either_true (id == x) (is_listed (rest_of (slots_of entries t)) x) l) [
+          | inl f ↦ absurd (n (sym (is_same id x f)))
+          | inr f ↦ f
+        ])
+    | inr c ↦ ap (λ xs. is_listed xs x) (a.lists_stay u c) ∙ e
+  ]
+
+  pub removed_table : IsTable new_nodes new_ids new_entries
+  removed_table = record {
+    in_queue = λ u x e.
+        let l = queue_left u x e in
+        let p = a.was.in_queue u x l.1 in
+        (p.0, ap place_of (a.nodes_stay x l.0) ∙ p.1);
+    in_list = λ u x e.
+        let l = list_left u x e in
+        let p = a.was.in_list u x l.1 in
+        (p.0, ap place_of (a.nodes_stay x l.0) ∙ p.1, queue_keeps p.0 x l.0 p.2);
+    with_both = λ x u v p. elim (decide x id) [
+      | inl c ↦ absurd (let f : ◌≡◌ {A = Option (ℕ × ℕ)} None (Some (u, v)) = ap place_of (sym a.gone) ∙ (ap (λ y. place_of (node_at new_nodes y)) (sym c) ∙ p) in cc)
+      | inr n ↦
+          let w = a.was.with_both x u v (ap place_of (sym (a.nodes_stay x n)) ∙ p) in
+          (queue_keeps u x n w.0, list_keeps v x n w.1)
+    ];
+    filled = a.filled;
+  }
+
+  left_requests : requests new_nodes (a.unlinked.before ++ a.unlinked.behind) ≡ filter (λ r. not (r.transaction == t)) (requests nodes (ids_at ids s))
+  left_requests =
+      requests_same nodes new_nodes (a.unlinked.before ++ a.unlinked.behind) (λ x e. a.nodes_stay x (left_listed x e).0)
+      ∙ (map-append (request_at nodes) a.unlinked.before a.unlinked.behind
+      ∙ sym (ap (λ xs. filter (λ r. not (r.transaction == t)) (requests nodes xs)) a.unlinked.split
+      ∙ (ap (filter (λ r. not (r.transaction == t))) (map-append (request_at nodes) a.unlinked.before (a.unlinked.id ∷ a.unlinked.behind))
+      ∙ filter_one (requests nodes a.unlinked.before) (requests nodes a.unlinked.behind) (request_at nodes a.unlinked.id) t a.unlinked.none_before a.unlinked.passed none_behind)))
+
+  pub removed_queues : queues_in new_nodes new_ids ≡ set (queues_in nodes ids) s (filter (λ r. not (r.transaction == t)) (queue_at (queues_in nodes ids) s))
+  removed_queues =
+      ap (queues_in new_nodes) a.unlinked.new
+      ∙ map_changed [] (requests nodes) (requests new_nodes) ids s (a.unlinked.before ++ a.unlinked.behind) (filter (λ r. not (r.transaction == t)) (queue_at (queues_in nodes ids) s)) within
+      (left_requests ∙ ap (filter (λ r. not (r.transaction == t))) (sym (found_queue nodes ids s)))
+      (λ u n. requests_same nodes new_nodes (ids_at ids u) (λ x e. a.nodes_stay x (λ g. let p = a.was.in_queue u x e in n (pair_first u p.0 s t (sym p.1 ∙ (ap (λ y. place_of (node_at nodes y)) g ∙ first.place))))))
+
+  pub removed_list : slots_of (lists_in new_nodes new_entries) t ≡ rest_of (slots_of (lists_in nodes entries) t)
+  removed_list =
+      found_slots new_nodes new_entries t ∙ (ap (slots new_nodes) a.list
+      ∙ (slots_agree nodes new_nodes (rest_of (slots_of entries t)) (λ x e. ap place_of (a.nodes_stay x (list_left t x (ap (λ xs. is_listed xs x) a.list ∙ e)).0))
+      ∙ (rest_slots (slots_of entries t) ∙ ap rest_of (sym (found_slots nodes entries t)))))
+    where
+      rest_slots : (xs : List ℕ) → slots nodes (rest_of xs) ≡ rest_of (slots nodes xs)
+      rest_slots [] = refl
+      rest_slots (x ∷ xs) = refl
+
+  pub removed_others : (u : ℕ) → u ≢ t → slots_of (lists_in new_nodes new_entries) u ≡ slots_of (lists_in nodes entries) u
+  removed_others u n =
+      found_slots new_nodes new_entries u ∙ (ap (slots new_nodes) (a.lists_stay u n)
+      ∙ (slots_agree nodes new_nodes (slots_of entries u) (λ x e. ap place_of (a.nodes_stay x (list_left u x (ap (λ xs. is_listed xs x) (a.lists_stay u n) ∙ e)).0)) ∙ sym (found_slots nodes entries u)))
+
+  pub removed_given : Some s ≡ first_of (slots_of (lists_in nodes entries) t)
+  removed_given = sym (ap first_of (found_slots nodes entries t) ∙ (ap (λ xs. first_of (slots nodes xs)) (split_first (slots_of entries t) id a.given) ∙ ap Some a.slot))
+
+  pub removed_range : s < length new_ids
+  removed_range = omega (arith, within, ap length a.unlinked.new ∙ length-set ids s (a.unlinked.before ++ a.unlinked.behind))
+
+pub none_given : (nodes : Nodes) (entries : List (ℕ × List ℕ)) (t : ℕ) → None ≡ first_of (slots_of entries t) → None ≡ first_of (slots_of (lists_in nodes entries) t)
+none_given nodes entries t e = by (slots_of entries t) e ∙ sym (ap first_of (found_slots nodes entries t))
+  where
+    by : (xs : List ℕ) → None ≡ first_of xs → None ≡ first_of (slots nodes xs)
+    by [] f = refl
+    by (x ∷ xs) f = absurd cc
+
+pub rest_none : (xs : List ℕ) → None ≡ first_of xs → xs ≡ rest_of xs
+rest_none [] e = refl
+rest_none (x ∷ xs) e = absurd cc

@@ -1,0 +1,240 @@
+-- What adding and removing a request makes of the table.
+use Rattle.std.proofs.Common.{◌≡◌, ◌≢◌, ℕ, zero, suc, ◌==◌, ◌<◌, ◌⊎◌, inl, inr, List, [], ◌∷◌, ◌++◌, length, set, get_or, Option, Some, None, Bool, true, false, ◌||◌, cond, map, refl, sym, ◌∙◌, ap, arith}
+use Rattle.std.specs.Prelude.{unwrap_or, option_map}
+use Rattle.std.specs.Map.{lookup}
+use Rattle.std.specs.BTreeMap.{is_at}
+use Rattle.std.specs.Ordering.{nat_cmp}
+use Rattle.std.proofs.lemmas.List.{get_or-set_same, get_or-set_other, map-append}
+use Rattle.pc_types.specs.declared.Request.{Request}
+use Rattle.pc_locks.specs.declared.node.Node.{Node}
+use Rattle.pc_locks.specs.States.{slots_of, queue_at, is_listed, AreFilled}
+use Rattle.pc_locks.specs.Tables.{Nodes, node_at, request_of, slot_of, request_at, slot_at, place_of, requests, slots, ids_at, queues_in, lists_in, IsTable}
+use Rattle.pc_locks.proofs.LineLemmas.{decide, is_same, same_is, either_true, right_true, listed_end}
+
+-- a row with one place changed
+pub map_same : {A B : Type 0} (d : A) (f g : A → B) (row : List A) → ((u : ℕ) → g (get_or row u d) ≡ f (get_or row u d)) → map g row ≡ map f row
+map_same d f g [] h = refl
+map_same d f g (x ∷ xs) h = rw (h 0, map_same d f g xs (λ u. h (suc u)))
+
+pub map_changed : {A B : Type 0} (d : A) (f g : A → B) (row : List A) (s : ℕ) (x : A) (new : B) → s < length row → g x ≡ new → ((u : ℕ) → u ≢ s → g (get_or row u d) ≡ f (get_or row u d)) → map g (set row s x) ≡ set (map f row) s new
+map_changed d f g [] s x new h e o = absurd (omega (arith, h))
+map_changed d f g (y ∷ ys) zero x new h e o = rw (e, map_same d f g ys (λ u. o (suc u) (λ z. omega (arith, z))))
+map_changed d f g (y ∷ ys) (suc s) x new h e o = rw (o 0 (λ z. omega (arith, z)), map_changed d f g ys s x new (omega (arith, h)) e (λ u n. o (suc u) (λ z. n (omega (arith, z)))))
+
+-- what is looked up
+pub found_slots : (nodes : Nodes) (entries : List (ℕ × List ℕ)) (t : ℕ) → slots_of (lists_in nodes entries) t ≡ slots nodes (slots_of entries t)
+found_slots nodes [] t = refl
+found_slots nodes (e ∷ es) t = by (is_at (nat_cmp t) e.0) (found_slots nodes es t)
+  where
+    by : (b : Bool) → slots_of (lists_in nodes es) t ≡ slots nodes (slots_of es t) →
+        unwrap_or (cond b (Some (slots nodes e.1)) (lookup (is_at (nat_cmp t)) (lists_in nodes es))) [] ≡ slots nodes (unwrap_or (cond b (Some e.1) (lookup (is_at (nat_cmp t)) es)) [])
+    by true h = refl
+    by false h = h
+
+pub found_queue : (nodes : Nodes) (ids : List (List ℕ)) (s : ℕ) → queue_at (queues_in nodes ids) s ≡ requests nodes (ids_at ids s)
+found_queue nodes [] s = refl
+found_queue nodes (x ∷ xs) zero = refl
+found_queue nodes (x ∷ xs) (suc s) = found_queue nodes xs s
+
+pub length_queues : (nodes : Nodes) (ids : List (List ℕ)) → length (queues_in nodes ids) ≡ length ids
+length_queues nodes [] = refl
+length_queues nodes (x ∷ xs) = ap suc (length_queues nodes xs)
+
+-- a node's parts by its place
+slot_by : (node : Option Node) → slot_of node ≡ unwrap_or (option_map (λ (p : ℕ × ℕ). p.0) (place_of node)) 0
+slot_by None = refl
+slot_by (Some n) = refl
+
+pub transaction_by : (node : Option Node) → (request_of node).transaction ≡ unwrap_or (option_map (λ (p : ℕ × ℕ). p.1) (place_of node)) 0
+transaction_by None = refl
+transaction_by (Some n) = refl
+
+pub slot_placed : (nodes : Nodes) (id s t : ℕ) → place_of (node_at nodes id) ≡ Some (s, t) → slot_at nodes id ≡ s
+slot_placed nodes id s t e = slot_by (node_at nodes id) ∙ ap (λ o. unwrap_or (option_map (λ (p : ℕ × ℕ). p.0) o) 0) e
+
+pub transaction_placed : (nodes : Nodes) (id s t : ℕ) → place_of (node_at nodes id) ≡ Some (s, t) → (request_at nodes id).transaction ≡ t
+transaction_placed nodes id s t e = transaction_by (node_at nodes id) ∙ ap (λ o. unwrap_or (option_map (λ (p : ℕ × ℕ). p.1) o) 0) e
+
+pub transaction_same : (nodes new_nodes : Nodes) (id : ℕ) → place_of (node_at new_nodes id) ≡ place_of (node_at nodes id) → (request_at new_nodes id).transaction ≡ (request_at nodes id).transaction
+transaction_same nodes new_nodes id e = transaction_by (node_at new_nodes id) ∙ (ap (λ o. unwrap_or (option_map (λ (p : ℕ × ℕ). p.1) o) 0) e ∙ sym (transaction_by (node_at nodes id)))
+
+-- the parts of a place
+pub pair_first : (a b c d : ℕ) → ◌≡◌ {A = Option (ℕ × ℕ)} (Some (a, b)) (Some (c, d)) → a ≡ c
+pair_first a b c d e = ap (λ o. unwrap_or (option_map (λ (p : ℕ × ℕ). p.0) o) 0) e
+
+pub pair_second : (a b c d : ℕ) → ◌≡◌ {A = Option (ℕ × ℕ)} (Some (a, b)) (Some (c, d)) → b ≡ d
+pair_second a b c d e = ap (λ o. unwrap_or (option_map (λ (p : ℕ × ℕ). p.1) o) 0) e
+
+-- nodes that agree on the ids of a list
+pub requests_same : (nodes new_nodes : Nodes) (xs : List ℕ) → ((id : ℕ) → is_listed xs id ≡ true → node_at new_nodes id ≡ node_at nodes id) → requests new_nodes xs ≡ requests nodes xs
+requests_same nodes new_nodes [] f = refl
+requests_same nodes new_nodes (x ∷ xs) f =
+    rw (f x (ap (λ b. b || is_listed xs x) (same_is x x refl)), requests_same nodes new_nodes xs (λ id e. f id (right_true (x == id) (is_listed xs id) e)))
+
+pub slots_agree : (nodes new_nodes : Nodes) (xs : List ℕ) → ((id : ℕ) → is_listed xs id ≡ true → place_of (node_at new_nodes id) ≡ place_of (node_at nodes id)) → slots new_nodes xs ≡ slots nodes xs
+slots_agree nodes new_nodes [] f = refl
+slots_agree nodes new_nodes (x ∷ xs) f =
+    let e = slot_by (node_at new_nodes x) ∙ (ap (λ o. unwrap_or (option_map (λ (p : ℕ × ℕ). p.0) o) 0) (f x (ap (λ b. b || is_listed xs x) (same_is x x refl))) ∙ sym (slot_by (node_at nodes x))) in
+    rw (e, slots_agree nodes new_nodes xs (λ id g. f id (right_true (x == id) (is_listed xs id) g)))
+
+-- what the new list of one place lists
+pub ids_changed : (ids : List (List ℕ)) (s : ℕ) (new : List ℕ) (u : ℕ) → s < length ids → ((u ≡ s) × (ids_at (set ids s new) u ≡ new)) ⊎ ((u ≢ s) × (ids_at (set ids s new) u ≡ ids_at ids u))
+ids_changed ids s new u h = elim (decide u s) [
+  | inl e ↦ inl (e, ap (ids_at (set ids s new)) e ∙ get_or-set_same ids s new [] h)
+  | inr n ↦ inr (n, get_or-set_other ids s u new [] n)
+]
+
+no_end : (b : Bool) → (b || false) ≡ true → b ≡ true
+no_end true e = refl
+no_end false e = absurd cc
+
+-- an id at the end, or one that stood
+end_cases : (xs : List ℕ) (id x : ℕ) → is_listed (xs ++ id ∷ []) x ≡ true → (is_listed xs x ≡ true) ⊎ (x ≡ id)
+end_cases xs id x e = elim (either_true (is_listed xs x) ((id == x) || false) (sym (listed_end xs id x) ∙ e)) [
+  | inl f ↦ inl f
+  | inr f ↦ inr (sym (is_same id x (no_end (id == x) f)))
+]
+
+pub end_listed : (xs : List ℕ) (id : ℕ) → is_listed (xs ++ id ∷ []) id ≡ true
+end_listed xs id = listed_end xs id id ∙ right_true (is_listed xs id) ((id == id) || false) (ap (λ b. b || false) (same_is id id refl))
+
+pub still_listed : (xs : List ℕ) (id x : ℕ) → is_listed xs x ≡ true → is_listed (xs ++ id ∷ []) x ≡ true
+still_listed xs id x e = listed_end xs id x ∙ ap (λ b. b || ((id == x) || false)) e
+
+-- an id without a request is in no list
+pub vacant_queue : (nodes : Nodes) (ids : List (List ℕ)) (entries : List (ℕ × List ℕ)) (id : ℕ) → IsTable nodes ids entries → node_at nodes id ≡ None → (s : ℕ) → is_listed (ids_at ids s) id ≡ true → ⊥
+vacant_queue nodes ids entries id a e s f =
+    let p = a.in_queue s id f in
+    let g : ◌≡◌ {A = Option (ℕ × ℕ)} None (Some (s, p.0)) = ap place_of (sym e) ∙ p.1 in cc
+
+pub vacant_list : (nodes : Nodes) (ids : List (List ℕ)) (entries : List (ℕ × List ℕ)) (id : ℕ) → IsTable nodes ids entries → node_at nodes id ≡ None → (t : ℕ) → is_listed (slots_of entries t) id ≡ true → ⊥
+vacant_list nodes ids entries id a e t f =
+    let p = a.in_list t id f in
+    let g : ◌≡◌ {A = Option (ℕ × ℕ)} None (Some (p.0, t)) = ap place_of (sym e) ∙ p.1 in cc
+
+-- a request was added under a fresh id
+pub record Added (nodes new_nodes : Nodes) (ids : List (List ℕ)) (entries new_entries : List (ℕ × List ℕ)) (s id : ℕ) (request : Request) : Type 0 where
+  pub was : IsTable nodes ids entries
+  pub within : s < length ids
+  pub vacant : node_at nodes id ≡ None
+  pub here : node_at new_nodes id ≡ Some (record { request = request; slot = s })
+  pub nodes_stay : (other : ℕ) → other ≢ id → node_at new_nodes other ≡ node_at nodes other
+  pub list : slots_of new_entries request.transaction ≡ slots_of entries request.transaction ++ id ∷ []
+  pub lists_stay : (u : ℕ) → u ≢ request.transaction → slots_of new_entries u ≡ slots_of entries u
+  pub filled : AreFilled new_entries
+
+module _ (nodes new_nodes : Nodes) (ids : List (List ℕ)) (entries new_entries : List (ℕ × List ℕ)) (s id : ℕ) (request : Request) (a : Added nodes new_nodes ids entries new_entries s id request) where
+  abbrev new_ids : List (List ℕ)
+  new_ids = set ids s (ids_at ids s ++ id ∷ [])
+
+  placed_here : place_of (node_at new_nodes id) ≡ Some (s, request.transaction)
+  placed_here = ap place_of a.here
+
+  queue_stands : (u x : ℕ) → x ≢ id → is_listed (ids_at new_ids u) x ≡ true → is_listed (ids_at ids u) x ≡ true
+  queue_stands u x n e = elim (ids_changed ids s (ids_at ids s ++ id ∷ []) u a.within) [
+    | inl c ↦ elim (end_cases (ids_at ids s) id x (ap (λ xs. is_listed xs x) (sym c.1) ∙ e)) [
+      | inl f ↦ ap (λ v. is_listed (ids_at ids v) x) c.0 ∙ f
+      | inr f ↦ absurd (n f)
+    ]
+    | inr c ↦ ap (λ xs. is_listed xs x) (sym c.1) ∙ e
+  ]
+
+  queue_keeps : (u x : ℕ) → is_listed (ids_at ids u) x ≡ true → is_listed (ids_at new_ids u) x ≡ true
+  queue_keeps u x e = elim (ids_changed ids s (ids_at ids s ++ id ∷ []) u a.within) [
+    | inl c ↦ ap (λ xs. is_listed xs x) c.1 ∙ still_listed (ids_at ids s) id x (ap (λ v. is_listed (ids_at ids v) x) (sym c.0) ∙ e)
+    | inr c ↦ ap (λ xs. is_listed xs x) c.1 ∙ e
+  ]
+
+  queue_of_it : (u : ℕ) → is_listed (ids_at new_ids u) id ≡ true → u ≡ s
+  queue_of_it u e = elim (ids_changed ids s (ids_at ids s ++ id ∷ []) u a.within) [
+    | inl c ↦ c.0
+    | inr c ↦ absurd (vacant_queue nodes ids entries id a.was a.vacant u (ap (λ xs. is_listed xs id) (sym c.1) ∙ e))
+  ]
+
+  queue_has_it : is_listed (ids_at new_ids s) id ≡ true
+  queue_has_it = ap (λ xs. is_listed xs id) (get_or-set_same ids s (ids_at ids s ++ id ∷ []) [] a.within) ∙ end_listed (ids_at ids s) id
+
+  list_stands : (u x : ℕ) → x ≢ id → is_listed (slots_of new_entries u) x ≡ true → is_listed (slots_of entries u) x ≡ true
+  list_stands u x n e = elim (decide u request.transaction) [
+    | inl c ↦ elim (end_cases (slots_of entries request.transaction) id x (ap (λ xs. is_listed xs x) (sym a.list) ∙ (ap (λ v. is_listed (slots_of new_entries v) x) (sym c) ∙ e))) [
+      | inl f ↦ ap (λ v. is_listed (slots_of entries v) x) c ∙ f
+      | inr f ↦ absurd (n f)
+    ]
+    | inr c ↦ ap (λ xs. is_listed xs x) (sym (a.lists_stay u c)) ∙ e
+  ]
+
+  list_of_it : (u : ℕ) → is_listed (slots_of new_entries u) id ≡ true → u ≡ request.transaction
+  list_of_it u e = elim (decide u request.transaction) [
+    | inl c ↦ c
+    | inr c ↦ absurd (vacant_list nodes ids entries id a.was a.vacant u (ap (λ xs. is_listed xs id) (sym (a.lists_stay u c)) ∙ e))
+  ]
+
+  list_keeps : (u x : ℕ) → is_listed (slots_of entries u) x ≡ true → is_listed (slots_of new_entries u) x ≡ true
+  list_keeps u x e = elim (decide u request.transaction) [
+    | inl c ↦ ap (λ v. is_listed (slots_of new_entries v) x) c ∙ (ap (λ xs. is_listed xs x) a.list ∙ still_listed (slots_of entries request.transaction) id x (ap (λ v. is_listed (slots_of entries v) x) (sym c) ∙ e))
+    | inr c ↦ ap (λ xs. is_listed xs x) (a.lists_stay u c) ∙ e
+  ]
+
+  list_has_it : is_listed (slots_of new_entries request.transaction) id ≡ true
+  list_has_it = ap (λ xs. is_listed xs id) a.list ∙ end_listed (slots_of entries request.transaction) id
+
+  pub added_table : IsTable new_nodes new_ids new_entries
+  added_table = record {
+    in_queue = λ u x e. elim (decide x id) [
+      | inl c ↦
+          let f : u ≡ s = queue_of_it u (ap (is_listed (ids_at new_ids u)) (sym c) ∙ e) in
+          (request.transaction, ap (λ y. place_of (node_at new_nodes y)) c ∙ (placed_here ∙ ap (λ v. Some (v, request.transaction)) (sym f)))
+      | inr n ↦
+          let p = a.was.in_queue u x (queue_stands u x n e) in
+          (p.0, ap place_of (a.nodes_stay x n) ∙ p.1)
+    ];
+    in_list = λ u x e. elim (decide x id) [
+      | inl c ↦
+          let f : u ≡ request.transaction = list_of_it u (ap (is_listed (slots_of new_entries u)) (sym c) ∙ e) in
+          (s, ap (λ y. place_of (node_at new_nodes y)) c ∙ (placed_here ∙ ap (λ v. Some (s, v)) (sym f)), ap (is_listed (ids_at new_ids s)) c ∙ queue_has_it)
+      | inr n ↦
+          let p = a.was.in_list u x (list_stands u x n e) in
+          (p.0, ap place_of (a.nodes_stay x n) ∙ p.1, queue_keeps p.0 x p.2)
+    ];
+    with_both = λ x u t p. elim (decide x id) [
+      | inl c ↦
+          let f = sym p ∙ (ap (λ y. place_of (node_at new_nodes y)) c ∙ placed_here) in
+          let g = pair_first u t s request.transaction f in
+          let h = pair_second u t s request.transaction f in
+          (ap (λ v. is_listed (ids_at new_ids v) x) g ∙ (ap (is_listed (ids_at new_ids s)) c ∙ queue_has_it), ap (λ v. is_listed (slots_of new_entries v) x) h ∙ (ap (is_listed (slots_of new_entries request.transaction)) c ∙ list_has_it))
+      | inr n ↦
+          let w = a.was.with_both x u t (ap place_of (sym (a.nodes_stay x n)) ∙ p) in
+          (queue_keeps u x w.0, list_keeps t x w.1)
+    ];
+    filled = a.filled;
+  }
+
+  old_stays : (u x : ℕ) → is_listed (ids_at ids u) x ≡ true → node_at new_nodes x ≡ node_at nodes x
+  old_stays u x e = elim (decide x id) [
+    | inl c ↦ absurd (vacant_queue nodes ids entries id a.was a.vacant u (ap (is_listed (ids_at ids u)) (sym c) ∙ e))
+    | inr n ↦ a.nodes_stay x n
+  ]
+
+  old_places : (t x : ℕ) → is_listed (slots_of entries t) x ≡ true → place_of (node_at new_nodes x) ≡ place_of (node_at nodes x)
+  old_places t x e = elim (decide x id) [
+    | inl c ↦ absurd (vacant_list nodes ids entries id a.was a.vacant t (ap (is_listed (slots_of entries t)) (sym c) ∙ e))
+    | inr n ↦ ap place_of (a.nodes_stay x n)
+  ]
+
+  pub added_queues : queues_in new_nodes new_ids ≡ set (queues_in nodes ids) s (queue_at (queues_in nodes ids) s ++ request ∷ [])
+  added_queues =
+      map_changed [] (requests nodes) (requests new_nodes) ids s (ids_at ids s ++ id ∷ []) (queue_at (queues_in nodes ids) s ++ request ∷ []) a.within
+      (map-append (request_at new_nodes) (ids_at ids s) (id ∷ [])
+      ∙ (ap (λ q. q ++ request_at new_nodes id ∷ []) (requests_same nodes new_nodes (ids_at ids s) (old_stays s) ∙ sym (found_queue nodes ids s))
+      ∙ ap (λ o. queue_at (queues_in nodes ids) s ++ request_of o ∷ []) a.here))
+      (λ u n. requests_same nodes new_nodes (ids_at ids u) (old_stays u))
+
+  pub added_list : slots_of (lists_in new_nodes new_entries) request.transaction ≡ slots_of (lists_in nodes entries) request.transaction ++ s ∷ []
+  added_list =
+      found_slots new_nodes new_entries request.transaction ∙ (ap (slots new_nodes) a.list ∙ (map-append (slot_at new_nodes) (slots_of entries request.transaction) (id ∷ [])
+      ∙ (ap (λ xs. xs ++ slot_at new_nodes id ∷ []) (slots_agree nodes new_nodes (slots_of entries request.transaction) (old_places request.transaction) ∙ sym (found_slots nodes entries request.transaction))
+      ∙ ap (λ o. slots_of (lists_in nodes entries) request.transaction ++ slot_of o ∷ []) a.here)))
+
+  pub added_others : (u : ℕ) → u ≢ request.transaction → slots_of (lists_in new_nodes new_entries) u ≡ slots_of (lists_in nodes entries) u
+  added_others u n =
+      found_slots new_nodes new_entries u ∙ (ap (slots new_nodes) (a.lists_stay u n) ∙ (slots_agree nodes new_nodes (slots_of entries u) (old_places u) ∙ sym (found_slots nodes entries u)))

@@ -1,0 +1,173 @@
+-- Which keys are occupied, key by key. A request stands only on a key that was asked for.
+use Rattle.std.proofs.Common.{◌≡◌, ℕ, List, [], ◌∷◌, ◌++◌, is_some, refl, sym, ap, ◌∙◌, cond, true, false, Bool, not, ◌||◌, ◌&&◌}
+use Rattle.std.specs.List.{list_any}
+use Rattle.std.specs.FinMap.Entries.{is_some-find}
+use Rattle.std.proofs.lemmas.Cmp.{eq_by_cmp_equiv}
+use Rattle.std.proofs.lemmas.List.Folds.{list_any-append}
+use Rattle.std.proofs.lemmas.Map.Views.{any-filter_same}
+use Rattle.pc_types.specs.declared.Event.{Event}
+use Rattle.pc_types.specs.declared.Event.TheVariants as asked
+use Rattle.pc_types.specs.declared.Reply.{Reply}
+use Rattle.pc_types.specs.declared.Reply.TheVariants as told
+use Rattle.pc_types.specs.declared.Mode.TheVariants.{Shared, Exclusive}
+use Rattle.pc_model.specs.Maps as map_of
+use Rattle.pc_model.specs.Sets as set
+use Rattle.pc_model.specs.Database.{Database, key_cmp, key_order, same_bytes}
+use Rattle.pc_model.specs.Points.{is_among, with_key}
+use Rattle.pc_model.specs.History.{History, contents, effect_of, number_of}
+use Rattle.pc_types.specs.declared.Request.{Request}
+use Rattle.pc_model.specs.Locks.{Queue, queue_of, queue_by, queue_after, queue_without, granted_behind}
+use Rattle.pc_types.specs.declared.Outcome.TheVariants.{Granted, Queued}
+use Rattle.pc_model.specs.Replies.{Setting, occupied, is_empty, requested, asked_for, asked_by, open_set, closed_set}
+use Rattle.pc_model.proofs.JoinLaws.{one_key}
+use Rattle.pc_model.proofs.MapLaws.{get-entries}
+use Rattle.pc_model.proofs.SetLaws.{contains-from_list}
+
+-- the key that is added, or one from before
+pub among_with_key : (keys : List (List ℕ)) (k q : List ℕ) → is_among (with_key keys k) q ≡ (same_bytes k q || is_among keys q)
+among_with_key keys k q = by_case (is_among keys k) refl
+  where
+    turn : (a b : Bool) → (a || (b || false)) ≡ (b || a)
+    turn true true = refl
+    turn true false = refl
+    turn false true = refl
+    turn false false = refl
+
+    old_one : (b : Bool) → same_bytes k q ≡ b → is_among keys k ≡ true → is_among keys q ≡ (b || is_among keys q)
+    old_one true e there = rw (← one_key k q e) there
+    old_one false e there = refl
+
+    by_case : (b : Bool) → is_among keys k ≡ b → is_among (cond b keys (keys ++ k ∷ [])) q ≡ (same_bytes k q || is_among keys q)
+    by_case true e = old_one (same_bytes k q) refl e
+    by_case false e = list_any-append (same_bytes q) keys (k ∷ []) ∙ turn (is_among keys q) (same_bytes q k) ∙ ap (λ b. b || is_among keys q) ((eq_by_cmp_equiv key_order.total).symm q k)
+
+-- a queue has something
+abbrev Has : Queue → Type 0
+Has queue = is_empty queue ≡ false
+
+-- granting makes no request
+granted_has : (before rs : Queue) → Has (granted_behind before rs) → Has rs
+granted_has before [] has = has
+granted_has before (r ∷ rs) has = refl
+
+filtered_has : (p : Request → Bool) (rs : Queue) → Has (Rattle.std.specs.Prelude.filter p rs) → Has rs
+filtered_has p [] has = has
+filtered_has p (r ∷ rs) has = refl
+
+ended_has : (queue : Queue) (n : ℕ) → Has (queue_without queue n) → Has queue
+ended_has queue n has = filtered_has (λ r. not (Rattle.std.specs.Prelude.◌==◌ r.transaction n)) queue (granted_has [] _ has)
+
+or_second : (a b : Bool) → b ≡ true → (a || b) ≡ true
+or_second true b e = refl
+or_second false b e = e
+
+-- a request of a key that is asked for now, or one that stood before
+asked_now : (b c : Bool) (now before : Queue) → Has (cond b now before) → (Has before → c ≡ true) → (b || c) ≡ true
+asked_now true c now before has was = refl
+asked_now false c now before has was = was has
+
+module _ (h : History) (q : List ℕ) (was : Has (queue_of q h) → is_among (asked_for h) q ≡ true) where
+  -- what is asked for and answered
+  asked_get : (s : ℕ) (k : List ℕ) (reply : Reply) → Has (queue_by q (effect_of (asked.Get s k) reply) h (queue_of q h)) → is_among (with_key (asked_for h) k) q ≡ true
+  asked_get s k (told.Found v) has = among_with_key (asked_for h) k q ∙ asked_now (same_bytes k q) (is_among (asked_for h) q) (queue_after (queue_of q h) (number_of s h) Shared Granted) (queue_of q h) has was
+  asked_get s k told.Absent has = among_with_key (asked_for h) k q ∙ asked_now (same_bytes k q) (is_among (asked_for h) q) (queue_after (queue_of q h) (number_of s h) Shared Granted) (queue_of q h) has was
+  asked_get s k told.Wait has = among_with_key (asked_for h) k q ∙ asked_now (same_bytes k q) (is_among (asked_for h) q) (queue_after (queue_of q h) (number_of s h) Shared Queued) (queue_of q h) has was
+  asked_get s k told.Died has = among_with_key (asked_for h) k q ∙ or_second (same_bytes k q) (is_among (asked_for h) q) (was has)
+  asked_get s k other has = among_with_key (asked_for h) k q ∙ or_second (same_bytes k q) (is_among (asked_for h) q) (was has)
+
+  asked_put : (s : ℕ) (k v : List ℕ) (reply : Reply) → Has (queue_by q (effect_of (asked.Put s k v) reply) h (queue_of q h)) → is_among (with_key (asked_for h) k) q ≡ true
+  asked_put s k v told.Ok has = among_with_key (asked_for h) k q ∙ asked_now (same_bytes k q) (is_among (asked_for h) q) (queue_after (queue_of q h) (number_of s h) Exclusive Granted) (queue_of q h) has was
+  asked_put s k v told.Wait has = among_with_key (asked_for h) k q ∙ asked_now (same_bytes k q) (is_among (asked_for h) q) (queue_after (queue_of q h) (number_of s h) Exclusive Queued) (queue_of q h) has was
+  asked_put s k v told.Died has = among_with_key (asked_for h) k q ∙ or_second (same_bytes k q) (is_among (asked_for h) q) (was has)
+  asked_put s k v other has = among_with_key (asked_for h) k q ∙ or_second (same_bytes k q) (is_among (asked_for h) q) (was has)
+
+  asked_del : (s : ℕ) (k : List ℕ) (reply : Reply) → Has (queue_by q (effect_of (asked.Del s k) reply) h (queue_of q h)) → is_among (with_key (asked_for h) k) q ≡ true
+  asked_del s k told.Ok has = among_with_key (asked_for h) k q ∙ asked_now (same_bytes k q) (is_among (asked_for h) q) (queue_after (queue_of q h) (number_of s h) Exclusive Granted) (queue_of q h) has was
+  asked_del s k told.Wait has = among_with_key (asked_for h) k q ∙ asked_now (same_bytes k q) (is_among (asked_for h) q) (queue_after (queue_of q h) (number_of s h) Exclusive Queued) (queue_of q h) has was
+  asked_del s k told.Died has = among_with_key (asked_for h) k q ∙ or_second (same_bytes k q) (is_among (asked_for h) q) (was has)
+  asked_del s k other has = among_with_key (asked_for h) k q ∙ or_second (same_bytes k q) (is_among (asked_for h) q) (was has)
+
+  asked_begin : (s : ℕ) (reply : Reply) → Has (queue_by q (effect_of (asked.Begin s) reply) h (queue_of q h)) → is_among (asked_for h) q ≡ true
+  asked_begin s (told.Begun t) has = was has
+  asked_begin s other has = was has
+
+  asked_commit : (s : ℕ) (reply : Reply) → Has (queue_by q (effect_of (asked.Commit s) reply) h (queue_of q h)) → is_among (asked_for h) q ≡ true
+  asked_commit s (told.Committed n) has = was (ended_has (queue_of q h) (number_of s h) has)
+  asked_commit s other has = was has
+
+  asked_abort : (s : ℕ) (reply : Reply) → Has (queue_by q (effect_of (asked.Abort s) reply) h (queue_of q h)) → is_among (asked_for h) q ≡ true
+  asked_abort s told.Aborted has = was (ended_has (queue_of q h) (number_of s h) has)
+  asked_abort s other has = was has
+
+  asked_move : (reply : Reply) → Has (queue_by q (effect_of asked.Seal reply) h (queue_of q h)) → is_among (asked_for h) q ≡ true
+  asked_move (told.Phase phase n) has = was has
+  asked_move other has = was has
+
+  asked_take : (reply : Reply) → Has (queue_by q (effect_of asked.Take reply) h (queue_of q h)) → is_among (asked_for h) q ≡ true
+  asked_take (told.Took k c) has = was has
+  asked_take other has = was has
+
+  asked_done : (reply : Reply) → Has (queue_by q (effect_of asked.Done reply) h (queue_of q h)) → is_among (asked_for h) q ≡ true
+  asked_done (told.PartDone n f e) has = was has
+  asked_done other has = was has
+
+  asked_join : (a b : ℕ) (reply : Reply) → Has (queue_by q (effect_of (asked.Join a b) reply) h (queue_of q h)) → is_among (asked_for h) q ≡ true
+  asked_join a b (told.File f points e) has = was has
+  asked_join a b other has = was has
+
+  asked_by_event : (event : Event) (reply : Reply) → Has (queue_by q (effect_of event reply) h (queue_of q h)) → is_among (asked_by event (asked_for h)) q ≡ true
+  asked_by_event (asked.Begin s) reply has = asked_begin s reply has
+  asked_by_event (asked.Get s k) reply has = asked_get s k reply has
+  asked_by_event (asked.Put s k v) reply has = asked_put s k v reply has
+  asked_by_event (asked.Del s k) reply has = asked_del s k reply has
+  asked_by_event (asked.Commit s) reply has = asked_commit s reply has
+  asked_by_event (asked.Abort s) reply has = asked_abort s reply has
+  asked_by_event asked.StartPoint reply has = asked_move reply has
+  asked_by_event asked.Seal reply has = asked_move reply has
+  asked_by_event asked.OpenCapture reply has = asked_move reply has
+  asked_by_event asked.Take reply has = asked_take reply has
+  asked_by_event asked.Done reply has = asked_done reply has
+  asked_by_event asked.Rest reply has = asked_move reply has
+  asked_by_event (asked.Join a b) reply has = asked_join a b reply has
+
+-- a request stands only on a key that was asked for
+pub was_asked : (h : History) (q : List ℕ) → is_empty (queue_of q h) ≡ false → is_among (asked_for h) q ≡ true
+was_asked [] q has = cc
+was_asked (step ∷ h) q has = asked_by_event h q (was_asked h q) step.event step.reply has
+
+and_asked : (b c : Bool) → (b ≡ false → c ≡ true) → (not b && c) ≡ not b
+and_asked true c h = refl
+and_asked false c h = h refl
+
+-- the keys on which a request stands are those whose queue is not empty
+requested_is : (h : History) (q : List ℕ) → is_among (requested h) q ≡ not (is_empty (queue_of q h))
+requested_is h q =
+    any-filter_same (same_bytes q) (λ key. not (is_empty (queue_of key h))) (not (is_empty (queue_of q h))) (λ k e. ap (λ x. not (is_empty (queue_of x h))) (sym (one_key q k e))) (asked_for h)
+    ∙ and_asked (is_empty (queue_of q h)) (is_among (asked_for h) q) (was_asked h q)
+
+-- what four lists have
+any_of_four : (p : List ℕ → Bool) (a b c d : List (List ℕ)) → list_any p (a ++ b ++ c ++ d) ≡ (list_any p a || (list_any p b || (list_any p c || list_any p d)))
+any_of_four p a b c d =
+    list_any-append p (a ++ b ++ c) d
+    ∙ ap (λ x. x || list_any p d) (list_any-append p (a ++ b) c)
+    ∙ ap (λ x. (x || list_any p c) || list_any p d) (list_any-append p a b)
+    ∙ or_moved (list_any p a) (list_any p b) (list_any p c) (list_any p d)
+  where
+    or_moved : (x y z w : Bool) → (((x || y) || z) || w) ≡ (x || (y || (z || w)))
+    or_moved true y z w = refl
+    or_moved false true z w = refl
+    or_moved false false z w = refl
+
+pub four : (a b c d x y z w : Bool) → a ≡ x → b ≡ y → c ≡ z → d ≡ w → (a || (b || (c || d))) ≡ (x || (y || (z || w)))
+four a b c d x y z w e f g h = rw (e, f, g, h) refl
+
+-- a map's keys are those at which it has something
+has_key : (db : Database) (q : List ℕ) → list_any (same_bytes q) (map_of.keys db) ≡ is_some (map_of.get db q)
+has_key db q = sym (is_some-find key_cmp q db.entries) ∙ ap is_some (sym (get-entries db q))
+
+-- what is occupied, key by key
+pub occupied_is : (st : Setting) (h : History) (q : List ℕ) → set.contains (occupied st h) q ≡ (is_some (map_of.get (contents st.base h) q) || (not (is_empty (queue_of q h)) || (is_among (open_set h) q || is_among (closed_set h) q)))
+occupied_is st h q =
+    contains-from_list key_order (map_of.keys (contents st.base h) ++ requested h ++ open_set h ++ closed_set h) q
+    ∙ any_of_four (same_bytes q) (map_of.keys (contents st.base h)) (requested h) (open_set h) (closed_set h)
+    ∙ four _ _ (is_among (open_set h) q) (is_among (closed_set h) q) _ _ (is_among (open_set h) q) (is_among (closed_set h) q) (has_key (contents st.base h) q) (requested_is h q) refl refl

@@ -1,8 +1,0 @@
-use Rattle.pc_model.specs.Database.{database_of}
-use Rattle.pc_model.proofs.AuditLaws.{all_in_turn}
-use Rattle.pc_model.proofs.audits.audit.Goals as goal
-
-pub returns : goal.returns
-returns c rise =
-    let same = all_in_turn (database_of c.args.base.now) c.args.log.now c.args.files.now rise in
-    (λ yes. same.0 (c.in_ok-right.ensures.0 yes), λ all. c.in_ok-right.ensures.1 (same.1 all))

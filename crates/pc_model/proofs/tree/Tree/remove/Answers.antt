@@ -1,7 +1,0 @@
-use Rattle.std.proofs.Common.{ap, None, ◌∙◌}
-use Rattle.pc_model.specs.Database.{put}
-use Rattle.pc_model.proofs.TreeLaws.{put-tree}
-use Rattle.pc_model.proofs.tree.Tree.remove.Goals as goal
-
-pub returns : goal.returns
-returns c = put-tree c.self.inside.pairs c.remove.new.self c.args.key.now None c.remove.ensures.updates.0 ∙ ap (λ db. put db c.args.key.now None) c.self.view_is

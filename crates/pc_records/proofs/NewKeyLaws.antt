@@ -1,0 +1,88 @@
+-- The keys that a commit adds to the open set.
+use Rattle.std.proofs.Common.{◌≡◌, ℕ, ◌+◌, ◌<◌, ◌≤◌, List, [], ◌∷◌, ◌++◌, length, drop, get_or, refl, sym, ap, ◌∙◌, arith, append_assoc, Bool, true, false, cond, is_some, is_none, eqb, Option, Some, ◌||◌, ◌&&◌}
+use Rattle.std.proofs.lemmas.List.{drop_all, append-nil}
+use Rattle.std.proofs.lemmas.List.Folds.{list_any-append}
+use Rattle.std.proofs.lemmas.Bool.Decides.{nat_tests}
+use Rattle.pc_types.specs.declared.Write.{Write}
+use Rattle.pc_model.specs.Database.{same_bytes, with_write, written, key_order}
+use Rattle.pc_model.specs.Points.{is_among, with_keys}
+use Rattle.std.proofs.lemmas.Cmp.{eq_by_cmp_equiv}
+use Rattle.pc_model.proofs.JoinLaws.{one_key}
+use Rattle.pc_records.specs.NewKeys.{AreDistinct, with_new, new_keys, is_one_too_many}
+use Rattle.pc_model.proofs.PlaceLaws.{rest_at}
+use Rattle.pc_records.specs.Rows.{Row, record_of, is_in_open_set}
+
+before_rest : (b : Bool) (key : List ℕ) (keys : List (List ℕ)) → with_new b key [] ++ keys ≡ with_new b key keys
+before_rest true key keys = refl
+before_rest false key keys = refl
+
+-- one more write
+pub adds_next : (rows : List Row) (writes : List Write) (keys new all : List (List ℕ)) (i : ℕ) (w : Write) → i < length writes → w ≡ get_or writes i w → new ≡ keys ++ with_new (is_in_open_set (record_of rows w.key)) w.key [] →
+    keys ++ new_keys rows (drop i writes) ≡ all → new ++ new_keys rows (drop (i + 1) writes) ≡ all
+adds_next rows writes keys new all i w lt is new_is so_far =
+    ap (λ (ks : List (List ℕ)). ks ++ new_keys rows (drop (i + 1) writes)) new_is ∙ append_assoc keys (with_new (is_in_open_set (record_of rows w.key)) w.key []) (new_keys rows (drop (i + 1) writes))
+    ∙ ap (λ (ks : List (List ℕ)). keys ++ ks) (before_rest (is_in_open_set (record_of rows w.key)) w.key (new_keys rows (drop (i + 1) writes)) ∙ sym (ap (new_keys rows) (rest_at writes i w lt is))) ∙ so_far
+
+pub added_all : (rows : List Row) (writes : List Write) (keys : List (List ℕ)) (i : ℕ) → length writes ≤ i → keys ++ new_keys rows (drop i writes) ≡ new_keys rows writes → keys ≡ new_keys rows writes
+added_all rows writes keys i le so_far = sym (ap (λ (ws : List Write). keys ++ new_keys rows ws) (drop_all i writes le) ∙ append-nil keys) ∙ so_far
+
+pub no_more_new : (rows : List Row) (writes : List Write) → length (new_keys rows writes) ≤ length writes
+no_more_new rows [] = omega arith
+no_more_new rows (w ∷ ws) = by_test (is_in_open_set (record_of rows w.key)) (no_more_new rows ws)
+  where
+    by_test : (b : Bool) → length (new_keys rows ws) ≤ length ws → length (with_new b w.key (new_keys rows ws)) ≤ length (w ∷ ws)
+    by_test true le = omega (arith, le)
+    by_test false le = omega (arith, le)
+
+or_first : (a b : Bool) → b ≡ false → a ≡ (a || (b || false))
+or_first true b e = refl
+or_first false b e = rw e refl
+
+-- with the keys of distinct writes a list grows by those that it doesn't have
+pub with_keys_new : (keys : List (List ℕ)) (rows : List Row) (ws : List Write) → AreDistinct ws → ((q : List ℕ) → is_some (written ws q) ≡ true → is_in_open_set (record_of rows q) ≡ is_among keys q) → with_keys keys ws ≡ keys ++ new_keys rows ws
+with_keys_new keys rows [] distinct open_now = sym (append-nil keys)
+with_keys_new keys rows (w ∷ ws) distinct open_now = by_there (is_among keys w.key) refl (λ more. with_keys_new more rows ws distinct.1)
+  where
+    own : is_in_open_set (record_of rows w.key) ≡ is_among keys w.key
+    own = open_now w.key (ap (λ b. is_some (cond b (Some w.value) (written ws w.key))) ((eq_by_cmp_equiv key_order.total).refl w.key))
+
+    later : (q : List ℕ) → is_some (written ws q) ≡ true → is_in_open_set (record_of rows q) ≡ is_among keys q
+    later q there = open_now q (by_same (same_bytes w.key q))
+      where
+        by_same : (b : Bool) → is_some (cond b (Some w.value) (written ws q)) ≡ true
+        by_same true = refl
+        by_same false = there
+
+    apart : (q : List ℕ) → is_some (written ws q) ≡ true → same_bytes q w.key ≡ false
+    apart q there = by_same (same_bytes q w.key) refl
+      where
+        no : (b : Bool) → b ≡ true → b ≡ false → ⊥
+        no true t f = cc
+        no false t f = cc
+
+        by_same : (b : Bool) → same_bytes q w.key ≡ b → b ≡ false
+        by_same true e = absurd (no (is_some (written ws w.key)) (ap (λ k. is_some (written ws k)) (sym (one_key q w.key e)) ∙ there) distinct.0)
+        by_same false e = refl
+
+    by_there : (b : Bool) → is_among keys w.key ≡ b → ((more : List (List ℕ)) → ((q : List ℕ) → is_some (written ws q) ≡ true → is_in_open_set (record_of rows q) ≡ is_among more q) → with_keys more ws ≡ more ++ new_keys rows ws) →
+        with_keys (cond b keys (keys ++ w.key ∷ [])) ws ≡ keys ++ with_new (is_in_open_set (record_of rows w.key)) w.key (new_keys rows ws)
+    by_there true e again = rw (own ∙ e) (again keys later)
+    by_there false e again =
+        rw (own ∙ e) (again (keys ++ w.key ∷ []) (λ q there. later q there ∙ or_first (is_among keys q) (same_bytes q w.key) (apart q there) ∙ sym (list_any-append (same_bytes q) keys (w.key ∷ []))) ∙ append_assoc keys (w.key ∷ []) (new_keys rows ws))
+
+length-with_write : (ws : List Write) (k : List ℕ) (v : Option (List ℕ)) → length (with_write ws (record { key = k; value = v })) ≡ length ws + cond (is_none (written ws k)) 1 0
+length-with_write [] k v = refl
+length-with_write (w ∷ ws) k v = by_same (same_bytes w.key k) (length-with_write ws k v)
+  where
+    by_same : (b : Bool) → length (with_write ws (record { key = k; value = v })) ≡ length ws + cond (is_none (written ws k)) 1 0 →
+        length (cond b (record { key = k; value = v } ∷ ws) (w ∷ with_write ws (record { key = k; value = v }))) ≡ length (w ∷ ws) + cond (is_none (cond b (Some w.value) (written ws k))) 1 0
+    by_same true e = omega arith
+    by_same false e = omega (arith, e)
+
+-- one more write where they aren't too many
+pub few_enough : (ws : List Write) (k : List ℕ) (v : Option (List ℕ)) → length ws ≤ 256 → is_one_too_many ws k ≡ false → length (with_write ws (record { key = k; value = v })) ≤ 256
+few_enough ws k v le few = by_new (is_none (written ws k)) few (length-with_write ws k v)
+  where
+    by_new : (b : Bool) → (eqb (length ws) 256 && b) ≡ false → length (with_write ws (record { key = k; value = v })) ≡ length ws + cond b 1 0 → length (with_write ws (record { key = k; value = v })) ≤ 256
+    by_new true few e = grind (arith, nat_tests, few, e, le)
+    by_new false few e = omega (arith, e, le)

@@ -1,0 +1,308 @@
+-- What the end of a transaction leaves of the records.
+use Rattle.std.proofs.Common.{◌≡◌, ℕ, ◌==◌, List, [], ◌∷◌, ◌++◌, map, Option, Some, None, is_some, refl, sym, ap, subst, ◌∙◌, cond, true, false, Bool, not, ◌||◌, ◌&&◌}
+use Rattle.std.specs.Prelude.{MatchBool, filter}
+use Rattle.std.specs.List.{list_all}
+use Rattle.std.specs.FinMap.{is_sorted}
+use Rattle.std.specs.FinMap.Entries.{is_some-find, below_all}
+use Rattle.std.specs.Ordering.{is_lt}
+use Rattle.pc_types.specs.declared.Write.{Write}
+use Rattle.pc_model.specs.Maps as map_of
+use Rattle.pc_model.specs.Database.{Database, KeysRise, key_cmp, same_bytes, applied_all, written}
+use Rattle.pc_model.specs.Points.{is_among, with_keys}
+use Rattle.pc_model.specs.Log.{state_at}
+use Rattle.pc_model.specs.History.{History, contents, log_of, point_of}
+use Rattle.pc_types.specs.declared.Request.{Request}
+use Rattle.pc_model.specs.Locks.{Queue, are_compatible, queue_of, queue_without, granted_behind}
+use Rattle.pc_model.specs.Queues.{AllWait, IsSettledBehind, IsSettled, stands_in, grant}
+use Rattle.pc_model.specs.Replies.{is_empty, open_set, closed_set, value_read}
+use Rattle.pc_model.proofs.CountLaws.{below_apart, and_both}
+use Rattle.pc_model.proofs.JoinLaws.{one_key}
+use Rattle.pc_records.specs.Rows.{Row, Record, record_of, stored, is_in_open_set, is_in_closed_set, at_point, requests_on}
+use Rattle.pc_records.specs.RowSteps.{if_kept, with_row, released, released_rows, given, written_row}
+use Rattle.pc_records.specs.Following.{AreRecords, stands_kept}
+use Rattle.pc_records.proofs.Keeping.{stored-if, requests-if, open-if, closed-if, point-if, kept-if}
+use Rattle.pc_records.proofs.DistinctLaws.{get-applied_all, among_with_keys}
+use Rattle.pc_records.specs.NewKeys.{AreDistinct}
+
+-- a queue in which the transaction has no request stays as it is without it
+none_removed : (queue : Queue) (t : ℕ) → stands_in queue t ≡ false → filter (λ r. not (r.transaction == t)) queue ≡ queue
+none_removed [] t none = refl
+none_removed (r ∷ rs) t none = by_own (r.transaction == t) none (none_removed rs t)
+  where
+    by_own : (b : Bool) → (b || stands_in rs t) ≡ false → (stands_in rs t ≡ false → filter (λ r. not (r.transaction == t)) rs ≡ rs) → cond (not b) (r ∷ filter (λ r. not (r.transaction == t)) rs) (filter (λ r. not (r.transaction == t)) rs) ≡ r ∷ rs
+    by_own true e later = cc
+    by_own false e later = ap (λ xs. r ∷ xs) (later e)
+
+settled_stays : (before rs : Queue) → IsSettledBehind before rs → granted_behind before rs ≡ rs
+settled_stays before [] s = refl
+settled_stays before (r ∷ rs) s = by_grant r.granted refl s (settled_stays (before ++ r ∷ []) rs)
+  where
+    granted_is : r.granted ≡ true → grant r ≡ r
+    granted_is e = λ i. record r { granted = sym e i }
+
+    by_grant : (g : Bool) → r.granted ≡ g → MatchBool g ((list_all (are_compatible r) before ≡ true) × IsSettledBehind (before ++ r ∷ []) rs) ((list_all (are_compatible r) before ≡ false) × AllWait rs) →
+        (IsSettledBehind (before ++ r ∷ []) rs → granted_behind (before ++ r ∷ []) rs ≡ rs) → cond (list_all (are_compatible r) before) (grant r ∷ granted_behind (before ++ grant r ∷ []) rs) (r ∷ rs) ≡ r ∷ rs
+    by_grant true e s later = rw s.0 (ap (λ (q : Request). q ∷ granted_behind (before ++ q ∷ []) rs) (granted_is e) ∙ ap (λ xs. r ∷ xs) (later s.1))
+    by_grant false e s later = rw s.0 refl
+
+pub without_absent : (queue : Queue) (t : ℕ) → IsSettled queue → stands_in queue t ≡ false → queue_without queue t ≡ queue
+without_absent queue t settled none = ap (granted_behind []) (none_removed queue t none) ∙ settled_stays [] queue settled.0
+
+-- The records say this of each key: its value, what it has at the point, its requests, and whether it is in the open and in
+-- the closed set.
+record AreRead (rows : List Row) (content past : List ℕ → Option (List ℕ)) (queue : List ℕ → Queue) (in_open in_closed : List ℕ → Bool) : Type 0 where
+  sorted : KeysRise rows
+  stored : (key : List ℕ) → stored (record_of rows key) ≡ content key
+  requests : (key : List ℕ) → requests_on (record_of rows key) ≡ queue key
+  open_set : (key : List ℕ) → is_in_open_set (record_of rows key) ≡ in_open key
+  closed_set : (key : List ℕ) → is_in_closed_set (record_of rows key) ≡ in_closed key
+  point : (key : List ℕ) → is_in_closed_set (record_of rows key) ≡ true → at_point (record_of rows key) ≡ past key
+  kept : (key : List ℕ) → is_some (record_of rows key) ≡ stands_kept (record_of rows key)
+
+read_records : (base : Database) (rows : List Row) (h : History) → AreRecords base rows h → AreRead rows (map_of.get (contents base h)) (map_of.get (state_at base (log_of h) (point_of h))) (λ q. queue_of q h) (is_among (open_set h)) (is_among (closed_set h))
+read_records base rows h are = record { sorted = are.sorted; stored = are.stored; requests = are.requests; open_set = are.open_set; closed_set = are.closed_set; point = are.point; kept = are.kept }
+
+-- the record once the transaction's request is removed, where there is one
+abbrev pub released_at : ℕ → Option Record → Option Record
+released_at t None = None
+released_at t (Some r) = released t r
+
+-- the rows that are left still rise, and have each key's record as it is left
+below_released : (t : ℕ) (k : List ℕ) (rows : List Row) → below_all key_cmp k rows ≡ true → below_all key_cmp k (released_rows t rows) ≡ true
+below_released t k [] h = refl
+below_released t k (row ∷ rows) h = by_record (released t row.1) (and_both (is_lt (key_cmp k row.0)) (below_all key_cmp k rows) h).0 (below_released t k rows (and_both (is_lt (key_cmp k row.0)) (below_all key_cmp k rows) h).1)
+  where
+    by_record : (o : Option Record) → is_lt (key_cmp k row.0) ≡ true → below_all key_cmp k (released_rows t rows) ≡ true → below_all key_cmp k (with_row o row.0 (released_rows t rows)) ≡ true
+    by_record None lt later = later
+    by_record (Some r) lt later = rw (lt, later) refl
+
+sorted_released : (t : ℕ) (rows : List Row) → is_sorted key_cmp rows ≡ true → is_sorted key_cmp (released_rows t rows) ≡ true
+sorted_released t [] h = refl
+sorted_released t (row ∷ rows) h =
+    let parts = and_both (below_all key_cmp row.0 rows) (is_sorted key_cmp rows) h in
+    by_record (released t row.1) (below_released t row.0 rows parts.0) (sorted_released t rows parts.1)
+  where
+    by_record : (o : Option Record) → below_all key_cmp row.0 (released_rows t rows) ≡ true → is_sorted key_cmp (released_rows t rows) ≡ true → is_sorted key_cmp (with_row o row.0 (released_rows t rows)) ≡ true
+    by_record None below later = later
+    by_record (Some r) below later = rw (below, later) refl
+
+pub rise_released : (t : ℕ) (rows : List Row) → KeysRise rows → KeysRise (released_rows t rows)
+rise_released t rows rise = sorted_released t rows rise
+
+pub found_released : (t : ℕ) (rows : List Row) (q : List ℕ) → is_sorted key_cmp rows ≡ true → record_of (released_rows t rows) q ≡ released_at t (record_of rows q)
+found_released t [] q h = refl
+found_released t (row ∷ rows) q h =
+    let parts = and_both (below_all key_cmp row.0 rows) (is_sorted key_cmp rows) h in
+    by_match (same_bytes q row.0) refl parts.0 (found_released t rows q parts.1)
+  where
+    none_of : {A : Type 0} (o : Option A) → is_some o ≡ false → o ≡ None
+    none_of None e = refl
+    none_of (Some x) e = cc
+
+    skipped : (o : Option Record) → same_bytes q row.0 ≡ true → record_of (released_rows t rows) q ≡ None → record_of (with_row o row.0 (released_rows t rows)) q ≡ o
+    skipped None same none = none
+    skipped (Some r) same none = rw same refl
+
+    passed : (o : Option Record) → same_bytes q row.0 ≡ false → record_of (with_row o row.0 (released_rows t rows)) q ≡ record_of (released_rows t rows) q
+    passed None same = refl
+    passed (Some r) same = rw same refl
+
+    by_match : (b : Bool) → same_bytes q row.0 ≡ b → below_all key_cmp row.0 rows ≡ true → record_of (released_rows t rows) q ≡ released_at t (record_of rows q) →
+        record_of (with_row (released t row.1) row.0 (released_rows t rows)) q ≡ released_at t (cond b (Some row.1) (record_of rows q))
+    by_match true same below later = skipped (released t row.1) same (later ∙ ap (released_at t) (ap (record_of rows) (one_key q row.0 same) ∙ none_of _ (is_some-find key_cmp row.0 rows ∙ below_apart row.0 rows below)))
+    by_match false same below later = passed (released t row.1) same ∙ later
+
+-- What a record says once the request is removed.
+module _ (t : ℕ) where
+  stored-released : (o : Option Record) → stored (released_at t o) ≡ stored o
+  stored-released None = refl
+  stored-released (Some r) = by_own (stands_in r.requests t)
+    where
+      by_own : (b : Bool) → stored (cond b (if_kept (record r { requests = queue_without r.requests t })) (Some r)) ≡ r.value
+      by_own true = stored-if (record r { requests = queue_without r.requests t })
+      by_own false = refl
+
+  pub open-released : (o : Option Record) → is_in_open_set (released_at t o) ≡ is_in_open_set o
+  open-released None = refl
+  open-released (Some r) = by_own (stands_in r.requests t)
+    where
+      by_own : (b : Bool) → is_in_open_set (cond b (if_kept (record r { requests = queue_without r.requests t })) (Some r)) ≡ r.is_in_open_set
+      by_own true = open-if (record r { requests = queue_without r.requests t })
+      by_own false = refl
+
+  pub closed-released : (o : Option Record) → is_in_closed_set (released_at t o) ≡ is_in_closed_set o
+  closed-released None = refl
+  closed-released (Some r) = by_own (stands_in r.requests t)
+    where
+      by_own : (b : Bool) → is_in_closed_set (cond b (if_kept (record r { requests = queue_without r.requests t })) (Some r)) ≡ r.is_in_closed_set
+      by_own true = closed-if (record r { requests = queue_without r.requests t })
+      by_own false = refl
+
+  point-released : (o : Option Record) → is_in_closed_set o ≡ true → at_point (released_at t o) ≡ at_point o
+  point-released None closed = refl
+  point-released (Some r) closed = by_own (stands_in r.requests t)
+    where
+      by_own : (b : Bool) → at_point (cond b (if_kept (record r { requests = queue_without r.requests t })) (Some r)) ≡ r.pinned
+      by_own true = point-if (record r { requests = queue_without r.requests t }) closed
+      by_own false = refl
+
+  requests-released : (o : Option Record) → IsSettled (requests_on o) → requests_on (released_at t o) ≡ queue_without (requests_on o) t
+  requests-released None settled = refl
+  requests-released (Some r) settled = by_own (stands_in r.requests t) refl
+    where
+      by_own : (b : Bool) → stands_in r.requests t ≡ b → requests_on (cond b (if_kept (record r { requests = queue_without r.requests t })) (Some r)) ≡ queue_without r.requests t
+      by_own true own = requests-if (record r { requests = queue_without r.requests t })
+      by_own false own = sym (without_absent r.requests t settled own)
+
+  kept-released : (o : Option Record) → is_some o ≡ stands_kept o → is_some (released_at t o) ≡ stands_kept (released_at t o)
+  kept-released None kept = refl
+  kept-released (Some r) kept = by_own (stands_in r.requests t)
+    where
+      by_own : (b : Bool) → is_some (cond b (if_kept (record r { requests = queue_without r.requests t })) (Some r)) ≡ stands_kept (cond b (if_kept (record r { requests = queue_without r.requests t })) (Some r))
+      by_own true = kept-if (record r { requests = queue_without r.requests t })
+      by_own false = kept
+
+released_read : (t : ℕ) (rows : List Row) (content past : List ℕ → Option (List ℕ)) (queue : List ℕ → Queue) (in_open in_closed : List ℕ → Bool) → ((q : List ℕ) → IsSettled (queue q)) → AreRead rows content past queue in_open in_closed →
+    AreRead (released_rows t rows) content past (λ q. queue_without (queue q) t) in_open in_closed
+released_read t rows content past queue in_open in_closed settled are =
+    record {
+      sorted = rise_released t rows are.sorted;
+      stored = λ q. ap stored (found q) ∙ stored-released t (record_of rows q) ∙ are.stored q;
+      requests = λ q. ap requests_on (found q) ∙ requests-released t (record_of rows q) (subst IsSettled (sym (are.requests q)) (settled q)) ∙ ap (λ u. queue_without u t) (are.requests q);
+      open_set = λ q. ap is_in_open_set (found q) ∙ open-released t (record_of rows q) ∙ are.open_set q;
+      closed_set = λ q. ap is_in_closed_set (found q) ∙ closed-released t (record_of rows q) ∙ are.closed_set q;
+      point = λ q closed. ap at_point (found q) ∙ point-released t (record_of rows q) (was_closed q closed) ∙ are.point q (was_closed q closed);
+      kept = λ q. ap is_some (found q) ∙ kept-released t (record_of rows q) (are.kept q) ∙ ap stands_kept (sym (found q));
+    }
+  where
+    found : (q : List ℕ) → record_of (released_rows t rows) q ≡ released_at t (record_of rows q)
+    found q = found_released t rows q are.sorted
+
+    was_closed : (q : List ℕ) → is_in_closed_set (record_of (released_rows t rows) q) ≡ true → is_in_closed_set (record_of rows q) ≡ true
+    was_closed q closed = sym (ap is_in_closed_set (found q) ∙ closed-released t (record_of rows q)) ∙ closed
+
+-- the record once this is committed of its key, where there is one
+abbrev pub given_at : Option (Option (List ℕ)) → Option Record → Option Record
+given_at o None = None
+given_at o (Some r) = Some (given o r)
+
+below_written : (ws : List Write) (key : List ℕ) (rows : List Row) → below_all key_cmp key (map (written_row ws) rows) ≡ below_all key_cmp key rows
+below_written ws key [] = refl
+below_written ws key (row ∷ rows) = ap (λ b. is_lt (key_cmp key row.0) && b) (below_written ws key rows)
+
+sorted_written : (ws : List Write) (rows : List Row) → is_sorted key_cmp (map (written_row ws) rows) ≡ is_sorted key_cmp rows
+sorted_written ws [] = refl
+sorted_written ws (row ∷ rows) = rw (below_written ws row.0 rows, sorted_written ws rows) refl
+
+pub rise_written : (ws : List Write) (rows : List Row) → KeysRise rows → KeysRise (map (written_row ws) rows)
+rise_written ws rows rise = sorted_written ws rows ∙ rise
+
+pub found_written : (ws : List Write) (rows : List Row) (q : List ℕ) → record_of (map (written_row ws) rows) q ≡ given_at (written ws q) (record_of rows q)
+found_written ws [] q = refl
+found_written ws (row ∷ rows) q = by_match (same_bytes q row.0) refl (found_written ws rows q)
+  where
+    by_match : (b : Bool) → same_bytes q row.0 ≡ b → record_of (map (written_row ws) rows) q ≡ given_at (written ws q) (record_of rows q) →
+        cond b (Some (given (written ws row.0) row.1)) (record_of (map (written_row ws) rows) q) ≡ given_at (written ws q) (cond b (Some row.1) (record_of rows q))
+    by_match true same later = ap (λ k. Some (given (written ws k) row.1)) (sym (one_key q row.0 same))
+    by_match false same later = later
+
+-- what a record says once this is committed of its key
+stored-given : (o : Option (Option (List ℕ))) (r : Option Record) → (is_some o ≡ true → is_some r ≡ true) → stored (given_at o r) ≡ value_read o (stored r)
+stored-given None None there = refl
+stored-given (Some v) None there = absurd (let no : false ≡ true = there refl in cc)
+stored-given None (Some r) there = refl
+stored-given (Some v) (Some r) there = refl
+
+requests-given : (o : Option (Option (List ℕ))) (r : Option Record) → requests_on (given_at o r) ≡ requests_on r
+requests-given o None = refl
+requests-given None (Some r) = refl
+requests-given (Some v) (Some r) = refl
+
+open-given : (o : Option (Option (List ℕ))) (r : Option Record) → (is_some o ≡ true → is_some r ≡ true) → is_in_open_set (given_at o r) ≡ (is_in_open_set r || is_some o)
+open-given None None there = refl
+open-given (Some v) None there = absurd (let no : false ≡ true = there refl in cc)
+open-given None (Some r) there = elim r.is_in_open_set as (λ b. b ≡ (b || false)) [ true ↦ refl | false ↦ refl ]
+open-given (Some v) (Some r) there = elim r.is_in_open_set as (λ b. true ≡ (b || true)) [ true ↦ refl | false ↦ refl ]
+
+closed-given : (o : Option (Option (List ℕ))) (r : Option Record) → is_in_closed_set (given_at o r) ≡ is_in_closed_set r
+closed-given o None = refl
+closed-given None (Some r) = refl
+closed-given (Some v) (Some r) = refl
+
+point-given : (o : Option (Option (List ℕ))) (r : Option Record) → is_in_closed_set r ≡ true → at_point (given_at o r) ≡ at_point r
+point-given o None closed = refl
+point-given None (Some r) closed = refl
+point-given (Some v) (Some r) closed = refl
+
+kept-given : (o : Option (Option (List ℕ))) (r : Option Record) → is_some r ≡ stands_kept r → is_some (given_at o r) ≡ stands_kept (given_at o r)
+kept-given o None kept = refl
+kept-given None (Some r) kept = kept
+kept-given (Some v) (Some r) kept = by_value (is_some v) (not (is_empty r.requests))
+  where
+    by_value : (a b : Bool) → true ≡ (a || (b || true))
+    by_value true b = refl
+    by_value false true = refl
+    by_value false false = refl
+
+written_read : (ws : List Write) (rows : List Row) (content past : List ℕ → Option (List ℕ)) (queue : List ℕ → Queue) (in_open in_closed : List ℕ → Bool) → ((q : List ℕ) → is_some (written ws q) ≡ true → is_some (record_of rows q) ≡ true) →
+    AreRead rows content past queue in_open in_closed → AreRead (map (written_row ws) rows) (λ q. value_read (written ws q) (content q)) past queue (λ q. in_open q || is_some (written ws q)) in_closed
+written_read ws rows content past queue in_open in_closed there are =
+    record {
+      sorted = rise_written ws rows are.sorted;
+      stored = λ q. ap stored (found q) ∙ stored-given (written ws q) (record_of rows q) (there q) ∙ ap (value_read (written ws q)) (are.stored q);
+      requests = λ q. ap requests_on (found q) ∙ requests-given (written ws q) (record_of rows q) ∙ are.requests q;
+      open_set = λ q. ap is_in_open_set (found q) ∙ open-given (written ws q) (record_of rows q) (there q) ∙ ap (λ b. b || is_some (written ws q)) (are.open_set q);
+      closed_set = λ q. ap is_in_closed_set (found q) ∙ closed-given (written ws q) (record_of rows q) ∙ are.closed_set q;
+      point = λ q closed. ap at_point (found q) ∙ point-given (written ws q) (record_of rows q) (was_closed q closed) ∙ are.point q (was_closed q closed);
+      kept = λ q. ap is_some (found q) ∙ kept-given (written ws q) (record_of rows q) (are.kept q) ∙ ap stands_kept (sym (found q));
+    }
+  where
+    found : (q : List ℕ) → record_of (map (written_row ws) rows) q ≡ given_at (written ws q) (record_of rows q)
+    found q = found_written ws rows q
+
+    was_closed : (q : List ℕ) → is_in_closed_set (record_of (map (written_row ws) rows) q) ≡ true → is_in_closed_set (record_of rows q) ≡ true
+    was_closed q closed = sym (ap is_in_closed_set (found q) ∙ closed-given (written ws q) (record_of rows q)) ∙ closed
+
+-- the transaction with these writes was committed
+pub released_records : (base : Database) (rows : List Row) (h after : History) (ws : List Write) (n : ℕ) → AreDistinct ws → ((q : List ℕ) → IsSettled (queue_of q h)) → ((q : List ℕ) → is_some (written ws q) ≡ true → stands_in (queue_of q h) n ≡ true) →
+    contents base after ≡ applied_all (contents base h) ws → ((q : List ℕ) → queue_of q after ≡ queue_without (queue_of q h) n) → open_set after ≡ with_keys (open_set h) ws →
+    closed_set after ≡ closed_set h → ((q : List ℕ) → is_among (closed_set h) q ≡ true → map_of.get (state_at base (log_of after) (point_of after)) q ≡ map_of.get (state_at base (log_of h) (point_of h)) q) →
+    AreRecords base rows h → AreRecords base (released_rows n (map (written_row ws) rows)) after
+released_records base rows h after ws n distinct settled held cs qs keys ls ps are =
+    record {
+      sorted = read.sorted;
+      stored = λ q. read.stored q ∙ sym (get-applied_all (contents base h) ws q distinct) ∙ ap (λ db. map_of.get db q) (sym cs);
+      requests = λ q. read.requests q ∙ sym (qs q);
+      open_set = λ q. read.open_set q ∙ sym (among_with_keys (open_set h) ws q) ∙ ap (λ ks. is_among ks q) (sym keys);
+      closed_set = λ q. read.closed_set q ∙ ap (λ ks. is_among ks q) (sym ls);
+      point = λ q closed. read.point q closed ∙ sym (ps q (sym (read.closed_set q) ∙ closed));
+      kept = read.kept;
+    }
+  where
+    some_then : (o : Option Record) → stands_in (requests_on o) n ≡ true → is_some o ≡ true
+    some_then None e = cc
+    some_then (Some r) e = refl
+
+    there : (q : List ℕ) → is_some (written ws q) ≡ true → is_some (record_of rows q) ≡ true
+    there q e = some_then (record_of rows q) (ap (λ u. stands_in u n) (are.requests q) ∙ held q e)
+
+    read : AreRead (released_rows n (map (written_row ws) rows)) (λ q. value_read (written ws q) (map_of.get (contents base h) q)) (map_of.get (state_at base (log_of h) (point_of h))) (λ q. queue_without (queue_of q h) n) (λ q. is_among (open_set h) q || is_some (written ws q)) (is_among (closed_set h))
+    read = released_read n (map (written_row ws) rows) _ _ _ _ _ settled (written_read ws rows _ _ _ _ _ there (read_records base rows h are))
+
+-- the transaction was aborted
+pub let_go_records : (base : Database) (rows : List Row) (h after : History) (n : ℕ) → ((q : List ℕ) → IsSettled (queue_of q h)) → contents base after ≡ contents base h → ((q : List ℕ) → queue_of q after ≡ queue_without (queue_of q h) n) →
+    open_set after ≡ open_set h → closed_set after ≡ closed_set h → ((q : List ℕ) → is_among (closed_set h) q ≡ true → map_of.get (state_at base (log_of after) (point_of after)) q ≡ map_of.get (state_at base (log_of h) (point_of h)) q) →
+    AreRecords base rows h → AreRecords base (released_rows n rows) after
+let_go_records base rows h after n settled cs qs ws ls ps are =
+    record {
+      sorted = read.sorted;
+      stored = λ q. read.stored q ∙ ap (λ db. map_of.get db q) (sym cs);
+      requests = λ q. read.requests q ∙ sym (qs q);
+      open_set = λ q. read.open_set q ∙ ap (λ ks. is_among ks q) (sym ws);
+      closed_set = λ q. read.closed_set q ∙ ap (λ ks. is_among ks q) (sym ls);
+      point = λ q closed. read.point q closed ∙ sym (ps q (sym (read.closed_set q) ∙ closed));
+      kept = read.kept;
+    }
+  where
+    read : AreRead (released_rows n rows) (map_of.get (contents base h)) (map_of.get (state_at base (log_of h) (point_of h))) (λ q. queue_without (queue_of q h) n) (is_among (open_set h)) (is_among (closed_set h))
+    read = released_read n rows _ _ _ _ _ settled (read_records base rows h are)

@@ -1,5 +1,0 @@
-use Rattle.pc_recover.proofs.LawfulLogs.{logs_have_texts}
-use Rattle.pc_recover.proofs.laws.logs_of_runs_have_texts.Goals as goal
-
-pub returns : goal.returns
-returns c = logs_have_texts

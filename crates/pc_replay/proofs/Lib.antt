@@ -1,0 +1,7 @@
+mod AuditLemmas
+mod ChangeLemmas
+mod FirstOfEach
+mod Halving
+mod Moving
+mod TreeLemmas
+mod LaidInTurn

@@ -1,0 +1,4 @@
+pub mod Laying
+pub mod Trees
+pub mod Changes
+pub mod Audits

@@ -1,0 +1,234 @@
+//! A database that is written over in place.
+ghost use Rattle.std.specs.Prelude.{◌≡◌, ℕ, ◌≤◌, ◌++◌, ◌∷◌, List, length, take, drop, reverse, Some, None, IfOk, OnOk};
+ghost use Rattle.std.specs.BTreeMap.{Updates};
+ghost use Rattle.std.specs.FinMap.{put as put_entry};
+ghost use Rattle.std.specs.declared.cmp.Ordering.TheVariants.{Less};
+ghost use Rattle.pc_model.specs.Maps as map;
+ghost use Rattle.pc_replay.specs.Changes.{overlaid, rejoined, IsBelow};
+ghost use Rattle.pc_model.specs.Database.{KeysRise, key_cmp, database_of, put, applied, applied_all};
+ghost use Rattle.pc_model.specs.Places.{IsAt};
+
+use crate::pairs::place;
+use crate::samples::KeySamples;
+use crate::tree::TreeKey;
+use pc_types::{Items, Key, Value, Write};
+use std::alloc::{AllocError, Global};
+use std::collections::BTreeMap;
+use std::marker::Model;
+
+/// A database that is written over in place: pairs that rise by key, and beside them what writes added and removed. A write
+/// costs a logarithm of its size. A new value of a key that has a pair takes the old one's place; a write takes memory for
+/// a key alone that it adds or removes.
+#[derive(Drop)]
+pub struct Overlay {
+    // They rise strictly by key.
+    pairs: Vec<(Key, Value)>,
+    // Where the keys may be among them.
+    samples: KeySamples,
+    // Keys that are not, or no longer, as the pairs say: each is set or absent.
+    changes: BTreeMap<TreeKey, Option<Value>>,
+}
+
+impl Model for Overlay {
+    ghost use Rattle.std.specs.Prelude.{ℕ, List};
+    ghost use Rattle.std.specs.Coded.{coded_list, coded_ℕ};
+    ghost use Rattle.pc_model.specs.Maps as map;
+    ghost use Rattle.pc_replay.specs.Changes.{overlaid};
+    ghost use Rattle.pc_model.specs.Database.{Database, KeysRise, database_of};
+
+    ghost Value = { Database };
+
+    ghost coded = { map.code (coded_list coded_ℕ) (coded_list coded_ℕ) };
+
+    ghost view = { λ a. overlaid (database_of a.pairs.items) a.changes.entries };
+
+    ghost invariant = { λ a. KeysRise a.pairs.items };
+}
+
+impl Overlay {
+    /// The database of these pairs, which rise strictly by key. They are taken over; memory is taken for a number of every
+    /// 32 of them. It fails only where memory ran out.
+    pub fn new(alloc: Global, pairs: Vec<(Key, Value)>) -> Result<Overlay, AllocError>
+        requires { KeysRise pairs.items }
+        ensures { IfOk result (λ overlay. overlay ≡ database_of pairs.items) }
+    {
+        let samples = KeySamples::of(alloc, &pairs)?;
+        let changes = BTreeMap::new(alloc);
+        Ok(Overlay {
+            pairs,
+            samples,
+            changes,
+        })
+    }
+
+    /// The database once the writes are applied, in order. They are taken over, not copied. It fails only where memory ran
+    /// out, and then nothing of the database is left.
+    pub fn with_writes(self, writes: Items<Write>) -> Result<Overlay, AllocError>
+        ensures { IfOk result (λ overlay. overlay ≡ applied_all self writes) }
+    {
+        let mut overlay = self;
+        for write in writes.into_vec() {
+            overlay.apply(write)?;
+        }
+        Ok(overlay)
+    }
+
+    /// Its pairs, rising strictly by key. No key and no value is copied. Where no key was added or removed, the vector is
+    /// handed back as it is, and no memory is taken; else it fails only where memory ran out.
+    pub fn into_pairs(self, alloc: Global) -> Result<Vec<(Key, Value)>, AllocError>
+        ensures rise { IfOk result (λ pairs. KeysRise pairs.items) }
+        ensures pairs { IfOk result (λ pairs. database_of pairs.items ≡ self) }
+    {
+        let Overlay { pairs, changes, .. } = self;
+        if changes.is_empty() {
+            return Ok(pairs);
+        }
+        merged(alloc, pairs, changes)
+    }
+
+    // Applies the write.
+    fn apply(&mut self, write: Write) -> Result<(), AllocError>
+        ensures { OnOk result (self.new ≡ applied self.old write) }
+    {
+        let Write { key, value } = write;
+        match value {
+            Some(value) => self.insert(key, value),
+            None => self.remove(key),
+        }
+    }
+
+    // Sets the value of a key: in place, where the key has a pair.
+    fn insert(&mut self, key: Key, value: Value) -> Result<(), AllocError>
+        ensures { OnOk result (self.new ≡ map.insert self.old key value) }
+    {
+        match self.samples.place(&self.pairs, &key) {
+            Ok(i) => {
+                replace(&mut self.pairs, i, &key, value);
+                forget(&mut self.changes, key);
+                Ok(())
+            }
+            Err(_) => note(&mut self.changes, key, Some(value)),
+        }
+    }
+
+    // Removes a key: its pair stays, and its absence is noted.
+    fn remove(&mut self, key: Key) -> Result<(), AllocError>
+        ensures { OnOk result (self.new ≡ map.remove self.old key) }
+    {
+        match self.samples.place(&self.pairs, &key) {
+            Ok(_) => note(&mut self.changes, key, None),
+            Err(_) => {
+                forget(&mut self.changes, key);
+                Ok(())
+            }
+        }
+    }
+}
+
+// Puts the value into the key's pair.
+fn replace(pairs: &mut Vec<(Key, Value)>, i: usize, key: &Key, value: Value)
+    requires { IsAt pairs.old.items key.now i }
+    ensures { pairs.new.items ≡ put_entry key_cmp key.now value pairs.old.items }
+{
+    pairs[i].1 = value;
+}
+
+// Notes that the key is set or absent.
+fn note(
+    changes: &mut BTreeMap<TreeKey, Option<Value>>,
+    key: Key,
+    content: Option<Value>,
+) -> Result<(), AllocError>
+    ensures { OnOk result (Updates key_cmp changes.old changes.new key (Some content)) }
+{
+    match changes.insert(TreeKey(key), content) {
+        Ok(_) => Ok(()),
+        Err(_) => Err(AllocError),
+    }
+}
+
+// The key is as the pairs say.
+fn forget(changes: &mut BTreeMap<TreeKey, Option<Value>>, key: Key)
+    ensures { Updates key_cmp changes.old changes.new key None }
+{
+    changes.remove(&TreeKey(key));
+}
+
+// The pairs with the changes laid over: from the greatest key down, each is moved once.
+fn merged(
+    alloc: Global,
+    pairs: Vec<(Key, Value)>,
+    changes: BTreeMap<TreeKey, Option<Value>>,
+) -> Result<Vec<(Key, Value)>, AllocError>
+    requires { KeysRise pairs.items }
+    ensures rise { IfOk result (λ out. KeysRise out.items) }
+    ensures overlaid { IfOk result (λ out. database_of out.items ≡ overlaid (database_of pairs.items) changes.entries) }
+{
+    let mut out = Vec::with_capacity(alloc, pairs.len() + changes.len())?;
+    let mut left = pairs;
+    let mut changes = changes;
+    while let Some((key, content)) = changes.pop_last() {
+        let TreeKey(key) = key;
+        move_change(&mut out, &mut left, key, content)?;
+    }
+    move_back(&mut out, &mut left, 0)?;
+    out.reverse();
+    Ok(out)
+}
+
+// Moves the pairs above the key, and then the key with its new value, if there is one; a pair of the key is dropped.
+fn move_change(
+    out: &mut Vec<(Key, Value)>,
+    left: &mut Vec<(Key, Value)>,
+    key: Key,
+    content: Option<Value>,
+) -> Result<(), AllocError>
+    requires rise { KeysRise (rejoined left.old.items out.old.items) }
+    requires below { IsBelow key (reverse out.old.items) }
+    ensures rise { OnOk result (KeysRise (rejoined left.new.items out.new.items)) }
+    ensures put { OnOk result (database_of (rejoined left.new.items out.new.items) ≡ put (database_of (rejoined left.old.items out.old.items)) key content) }
+    ensures below { OnOk result ((k : List ℕ) → key_cmp k key ≡ Less → IsBelow k (reverse out.new.items)) }
+{
+    move_above(out, left, &key)?;
+    if let Some(value) = content {
+        out.push((key, value))?;
+    }
+    Ok(())
+}
+
+// Moves the pairs above the key; a pair of the key is dropped.
+fn move_above(
+    out: &mut Vec<(Key, Value)>,
+    left: &mut Vec<(Key, Value)>,
+    key: &Key,
+) -> Result<(), AllocError>
+    requires { KeysRise left.old.items }
+    ensures { OnOk result ((value : List ℕ) → put_entry key_cmp key.now value left.old.items ++ reverse out.old.items ≡ left.new.items ++ (key.now, value) ∷ reverse out.new.items) }
+{
+    match place(left, key) {
+        Ok(i) => {
+            move_back(out, left, i + 1)?;
+            left.pop();
+            Ok(())
+        }
+        Err(i) => move_back(out, left, i),
+    }
+}
+
+// Moves the pairs from the index on, the last one first.
+fn move_back(
+    out: &mut Vec<(Key, Value)>,
+    left: &mut Vec<(Key, Value)>,
+    from: usize,
+) -> Result<(), AllocError>
+    requires { from ≤ length left.old.items }
+    ensures left { OnOk result (left.new.items ≡ take from left.old.items) }
+    ensures moved { OnOk result (reverse out.new.items ≡ drop from left.old.items ++ reverse out.old.items) }
+{
+    while left.len() > from {
+        if let Some(pair) = left.pop() {
+            out.push(pair)?;
+        }
+    }
+    Ok(())
+}

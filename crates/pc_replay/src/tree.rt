@@ -1,0 +1,237 @@
+//! A database as a tree of keys: a look-up, a write and a removal cost a logarithm of its size.
+ghost use Rattle.std.specs.Prelude.{◌≡◌, ◌↔◌, IsTrue, Some, IfOk, OnOk};
+ghost use Rattle.std.specs.List.{list_all};
+ghost use Rattle.std.specs.BTreeMap.{IsOrdered};
+ghost use Rattle.pc_model.specs.Maps as map;
+ghost use Rattle.pc_model.specs.Database.{key_cmp, database_of, put, applied_all};
+ghost use Rattle.pc_model.specs.Log.{after};
+ghost use Rattle.pc_model.specs.Files.{same_content};
+ghost use Rattle.pc_replay.specs.Laying.{laid_in_turn};
+ghost use Rattle.pc_replay.specs.Trees.{has_all};
+
+use pc_types::{Entry, Key, Point, Triple, Value, Write};
+use std::alloc::{AllocError, Global};
+use std::cmp::Ordering;
+use std::collections::BTreeMap;
+use std::marker::Model;
+
+// A key of a tree, ordered byte by byte.
+#[derive(Drop)]
+pub(crate) struct TreeKey(pub(crate) Key);
+
+impl Model for TreeKey {
+    ghost use Rattle.std.specs.Prelude.{ℕ, List};
+    ghost use Rattle.std.specs.Coded.{coded_list, coded_ℕ};
+
+    ghost Value = { List ℕ };
+
+    ghost coded = { coded_list coded_ℕ };
+
+    ghost view = { λ a. a.0 };
+}
+
+impl PartialEq for TreeKey {
+    ghost use Rattle.std.specs.Cmp.{partial_equiv_from_equiv, eq_by_cmp_equiv};
+    ghost use Rattle.std.specs.Cmp.Lexicographic.{nat_list_cmp_total};
+    ghost use Rattle.pc_model.specs.Database.{same_bytes};
+
+    ghost eq = { same_bytes };
+
+    ghost laws = { partial_equiv_from_equiv (eq_by_cmp_equiv nat_list_cmp_total) };
+
+    fn eq(&self, other: &TreeKey) -> bool {
+        self.0.is(&other.0)
+    }
+}
+
+impl Eq for TreeKey {
+    ghost use Rattle.std.specs.Cmp.{eq_by_cmp_equiv};
+    ghost use Rattle.std.specs.Cmp.Lexicographic.{nat_list_cmp_total};
+
+    ghost laws = { eq_by_cmp_equiv nat_list_cmp_total };
+}
+
+impl PartialOrd for TreeKey {
+    ghost use Rattle.std.specs.Cmp.{partial_order_from_total};
+    ghost use Rattle.std.specs.Cmp.Lexicographic.{nat_list_cmp_total};
+    ghost use Rattle.std.specs.Ordering.{as_partial_cmp};
+    ghost use Rattle.pc_model.specs.Database.{key_cmp};
+
+    ghost partial_cmp = { as_partial_cmp key_cmp };
+
+    ghost laws = { partial_order_from_total nat_list_cmp_total };
+
+    fn partial_cmp(&self, other: &TreeKey) -> Option<Ordering> {
+        Some(self.cmp(other))
+    }
+}
+
+impl Ord for TreeKey {
+    ghost use Rattle.std.specs.Prelude.{refl};
+    ghost use Rattle.std.specs.Cmp.Lexicographic.{nat_list_cmp_total};
+    ghost use Rattle.pc_model.specs.Database.{key_cmp};
+
+    ghost cmp = { key_cmp };
+
+    ghost total = { nat_list_cmp_total };
+
+    ghost matches_partial_cmp = { λ a b. refl };
+
+    ghost matches_eq = { λ a b. refl };
+
+    fn cmp(&self, other: &TreeKey) -> Ordering {
+        self.0.compare(&other.0)
+    }
+}
+
+/// A database in memory.
+#[derive(Drop)]
+pub(crate) struct Tree {
+    pairs: BTreeMap<TreeKey, Value>,
+}
+
+impl Model for Tree {
+    ghost use Rattle.std.specs.Prelude.{ℕ, List};
+    ghost use Rattle.std.specs.Coded.{coded_list, coded_ℕ};
+    ghost use Rattle.pc_model.specs.Maps as map;
+    ghost use Rattle.pc_model.specs.Database.{Database, database_of};
+
+    ghost Value = { Database };
+
+    ghost coded = { map.code (coded_list coded_ℕ) (coded_list coded_ℕ) };
+
+    ghost view = { λ a. database_of a.pairs.entries };
+}
+
+impl Tree {
+    pub(crate) fn new(alloc: Global) -> Tree
+        ensures { result ≡ map.empty }
+    {
+        Tree {
+            pairs: BTreeMap::new(alloc),
+        }
+    }
+
+    // Sets the key to the value, or removes it.
+    pub(crate) fn put(
+        &mut self,
+        alloc: Global,
+        key: &Key,
+        content: &Option<Value>,
+    ) -> Result<(), AllocError>
+        ensures { OnOk result (self.new ≡ put self.old key.now content.now) }
+    {
+        let key = TreeKey(key.copy(alloc)?);
+        match content {
+            Some(value) => self.insert(key, value.copy(alloc)?),
+            None => {
+                self.remove(&key);
+                Ok(())
+            }
+        }
+    }
+
+    fn insert(&mut self, key: TreeKey, value: Value) -> Result<(), AllocError>
+        ensures { OnOk result (self.new ≡ map.insert self.old key value) }
+    {
+        match self.pairs.insert(key, value) {
+            Ok(_) => Ok(()),
+            Err(_) => Err(AllocError),
+        }
+    }
+
+    fn remove(&mut self, key: &TreeKey)
+        ensures { self.new ≡ map.remove self.old key.now }
+    {
+        self.pairs.remove(key);
+    }
+
+    // The database of these pairs, of which the first one of a key counts.
+    pub(crate) fn of_pairs(alloc: Global, pairs: &[(Key, Value)]) -> Result<Tree, AllocError>
+        ensures { IfOk result (λ tree. tree ≡ database_of pairs.now) }
+    {
+        let mut tree = Tree::new(alloc);
+        for i in 0..pairs.len() {
+            let pair = &pairs[pairs.len() - 1 - i];
+            let key = TreeKey(pair.0.copy(alloc)?);
+            tree.insert(key, pair.1.copy(alloc)?)?;
+        }
+        Ok(tree)
+    }
+
+    // Applies the writes, in order.
+    pub(crate) fn apply_all(&mut self, alloc: Global, writes: &[Write]) -> Result<(), AllocError>
+        ensures { OnOk result (self.new ≡ applied_all self.old writes.now) }
+    {
+        for write in writes {
+            self.put(alloc, &write.key, &write.value)?;
+        }
+        Ok(())
+    }
+
+    // Applies the commits of the log, in order.
+    pub(crate) fn replay(&mut self, alloc: Global, log: &[Entry]) -> Result<(), AllocError>
+        ensures { OnOk result (self.new ≡ after self.old log.now) }
+    {
+        for entry in log {
+            if let Entry::Commit(_, writes) = entry {
+                self.apply_all(alloc, writes.as_slice())?;
+            }
+        }
+        Ok(())
+    }
+
+    // Lays the triples on it at the point, one after the other.
+    pub(crate) fn lay(
+        &mut self,
+        alloc: Global,
+        point: Point,
+        triples: &[Triple],
+    ) -> Result<(), AllocError>
+        ensures { OnOk result (self.new ≡ laid_in_turn self.old point triples.now) }
+    {
+        for triple in triples {
+            if triple.point.0 > point.0 {
+                self.put(alloc, &triple.key, &triple.content)?;
+            }
+        }
+        Ok(())
+    }
+
+    // Whether the databases are the same.
+    pub(crate) fn is(&self, other: &Tree) -> bool
+        ensures { IsTrue result ↔ (self.now ≡ other.now) }
+    {
+        self.is_within(other) && other.is_within(self)
+    }
+
+    // Whether the other database has each pair of this one.
+    fn is_within(&self, other: &Tree) -> bool
+        ensures { result ≡ has_all self.now other.now }
+    {
+        all_in(&self.pairs, other)
+    }
+
+    // Whether the key has this value.
+    fn has(&self, key: &TreeKey, value: &Value) -> bool
+        ensures { result ≡ same_content (Some value.now) (map.get self.now key.now) }
+    {
+        match self.pairs.get(key) {
+            Some(there) => value.is(there),
+            None => false,
+        }
+    }
+}
+
+// Whether the database has each of the pairs.
+fn all_in(pairs: &BTreeMap<TreeKey, Value>, other: &Tree) -> bool
+    ensures all { result ≡ list_all (λ e. same_content (Some e.1) (map.get other.now e.0)) pairs.now.entries }
+    ensures ordered { IsOrdered key_cmp pairs.now }
+{
+    for (key, value) in pairs {
+        if !other.has(key, value) {
+            return false;
+        }
+    }
+    true
+}

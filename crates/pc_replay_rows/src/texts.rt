@@ -1,0 +1,109 @@
+//! The texts of pairs, writes, logs and files.
+
+use pc_replay::{CompleteFile, Pairs};
+use pc_types::{Entry, Items, Key, Phase, Point, Refusal, SessionNo, Triple, Value, Write};
+use std::alloc::Global;
+
+fn key_of(alloc: Global, byte: u8) -> Result<Key, Refusal> {
+    Key::new(alloc, &[byte])
+}
+
+/// The value of a byte, which `-` stands for the absence of.
+pub fn content_of(alloc: Global, byte: u8) -> Result<Option<Value>, Refusal> {
+    if byte == b'-' {
+        return Ok(None);
+    }
+    Ok(Some(Value::new(alloc, &[byte])?))
+}
+
+/// The keys and what they have, in the order in which they stand.
+pub fn entries_of(alloc: Global, text: &[u8]) -> Result<Vec<(Key, Option<Value>)>, Refusal> {
+    let mut entries = Vec::new(alloc);
+    for i in 0..text.len() / 2 {
+        entries.push((
+            key_of(alloc, text[2 * i])?,
+            content_of(alloc, text[2 * i + 1])?,
+        ))?;
+    }
+    Ok(entries)
+}
+
+/// The pairs, of which the last one of a key counts.
+pub fn pairs_of(alloc: Global, text: &[u8]) -> Result<Pairs, Refusal> {
+    let mut pairs = Pairs::new(alloc);
+    for (key, content) in entries_of(alloc, text)? {
+        if let Some(value) = content {
+            pairs.insert(key, value)?;
+        }
+    }
+    Ok(pairs)
+}
+
+pub fn writes_of(alloc: Global, text: &[u8]) -> Result<Items<Write>, Refusal> {
+    let mut writes = Items::new(alloc);
+    for (key, value) in entries_of(alloc, text)? {
+        writes.push(Write { key, value })?;
+    }
+    Ok(writes)
+}
+
+/// The point of a digit.
+pub fn point_of(byte: u8) -> Point {
+    Point(u16::from(byte.saturating_sub(b'0')))
+}
+
+fn log_entry_of(alloc: Global, piece: &[u8]) -> Result<Entry, Refusal> {
+    match piece {
+        [b'^', digit] => Ok(Entry::Token(Phase::Prepare, point_of(*digit))),
+        [b'|', digit] => Ok(Entry::Token(Phase::Resolve, point_of(*digit))),
+        _ => Ok(Entry::Commit(SessionNo(1), writes_of(alloc, piece)?)),
+    }
+}
+
+pub fn log_of(alloc: Global, text: &[u8]) -> Result<Vec<Entry>, Refusal> {
+    let mut log = Vec::new(alloc);
+    for piece in text.split(|byte| *byte == b',') {
+        log.push(log_entry_of(alloc, piece)?)?;
+    }
+    Ok(log)
+}
+
+/// The triples, each of three bytes.
+pub fn triples_of(alloc: Global, text: &[u8]) -> Result<Vec<Triple>, Refusal> {
+    let mut triples = Vec::new(alloc);
+    for i in 0..text.len() / 3 {
+        triples.push(Triple {
+            key: key_of(alloc, text[3 * i])?,
+            point: point_of(text[3 * i + 1]),
+            content: content_of(alloc, text[3 * i + 2])?,
+        })?;
+    }
+    Ok(triples)
+}
+
+/// The files of these words, each a point, `:` and triples.
+pub fn files_of(alloc: Global, words: &[&[u8]]) -> Result<Vec<CompleteFile>, Refusal> {
+    let mut files = Vec::new(alloc);
+    for word in words {
+        if let [digit, b':', rest @ ..] = *word {
+            files.push(CompleteFile {
+                point: point_of(*digit),
+                triples: triples_of(alloc, rest)?,
+            })?;
+        }
+    }
+    Ok(files)
+}
+
+/// The pairs as they are written; `.` where there is none.
+pub fn text_of(alloc: Global, pairs: &[(Key, Value)]) -> Result<Vec<u8>, Refusal> {
+    let mut text = Vec::new(alloc);
+    for (key, value) in pairs {
+        text.extend_from_slice(key.as_bytes())?;
+        text.extend_from_slice(value.as_bytes())?;
+    }
+    if text.is_empty() {
+        text.push(b'.')?;
+    }
+    Ok(text)
+}

@@ -1,0 +1,193 @@
+-- A field that is read is the field that was written, and what was written is read again.
+use Rattle.std.proofs.Common.{◌≡◌, ℕ, zero, suc, ◌+◌, ◌^◌, ◌<◌, ◌≤◌, Bool, true, false, cond, ltb, List, [], ◌∷◌, ◌++◌, length, get_or, take, drop, Option, Some, None, Result, Ok, Err, refl, sym, ap, subst, ◌∙◌, append_assoc, arith, inl, inr}
+use Rattle.std.specs.Prelude.{IfSome, nat_eq, nat_le, ◌&&◌}
+use Rattle.std.specs.Cmp.Lexicographic.{pointwise, same_text}
+use Rattle.std.proofs.lemmas.Cmp.{nat_list_eq_equiv}
+use Rattle.std.proofs.lemmas.Bool.Decides.{nat_tests}
+use Rattle.std.specs.Int.{Width, w16, w32, w64, byte_len, from_be_bytes, to_be_bytes}
+use Rattle.std.proofs.lemmas.Bool.{cases_lt, ltb-false, le-ltb}
+use Rattle.std.proofs.lemmas.List.{take_at, drop_at, take-append-drop, length-append, length-take, get_or-drop, get_or-take, get_or_past}
+use Rattle.std.proofs.lemmas.Nat.{be_bytes_2, be_bytes_4, be_bytes_8, from_be_bytes-to_be_bytes_2, from_be_bytes-to_be_bytes_4, from_be_bytes-to_be_bytes_8}
+use Rattle.pc_types.specs.declared.refusal.Refusal.{Refusal}
+use Rattle.pc_types.specs.declared.refusal.Refusal.TheVariants.{Short, BadLength, BadMagic}
+use Rattle.pc_types.specs.Limits.{IsKey, IsValue}
+use Rattle.pc_types.specs.Fields.{◌>>=◌, where_true, bytes_at, number_at, magic_at, sized_key_at, key_at, value_at, content_at, key_text, value_text, content_text}
+use Rattle.pc_types.specs.FieldForms.{IsBytes, Takes, IsWide}
+
+pub IsBytes-drop : (n : ℕ) (bytes : List ℕ) → IsBytes bytes → IsBytes (drop n bytes)
+IsBytes-drop n bytes h i = rw get_or-drop (h (n + i))
+
+pub IsBytes-take : (n : ℕ) (bytes : List ℕ) → IsBytes bytes → IsBytes (take n bytes)
+IsBytes-take n bytes h i =
+    elim (cases_lt i n) [
+      | inl lt ↦ rw (get_or-take n bytes i 0 lt) (h i)
+      | inr le ↦ rw (get_or_past (take n bytes) i 0 (omega (arith, length-take n bytes))) (omega arith)
+    ]
+
+pub IsBytes-rest : (b : ℕ) (bytes : List ℕ) → IsBytes (b ∷ bytes) → IsBytes bytes
+IsBytes-rest b bytes h i = h (suc i)
+
+-- the value of a step that did not fail
+pub bind_ok : {A B : Type 0} (r : Result A Refusal) (f : A → Result B Refusal) (y : B) → (r >>= f) ≡ Ok y → (x : A) × (r ≡ Ok x) × (f x ≡ Ok y)
+bind_ok (Ok x) f y e = (x, refl, e)
+bind_ok (Err d) f y e = absurd cc
+
+-- a test that did not fail: what it kept out did not hold
+pub guard_ok : {A : Type 0} (b : Bool) (d : Refusal) (x y : A) → cond b (Err d) (Ok x) ≡ Ok y → (b ≡ false) × (x ≡ y)
+guard_ok true d x y e = absurd cc
+guard_ok false d x y e = (refl, cc)
+
+-- the same of one that asks for what must hold
+pub where_ok : {A : Type 0} (b : Bool) (d : Refusal) (x y : A) → where_true b d x ≡ Ok y → (b ≡ true) × (x ≡ y)
+where_ok true d x y e = (refl, cc)
+where_ok false d x y e = absurd cc
+
+abbrev done : {A : Type 0} → A → Result A Refusal
+done x = Ok x
+
+pub ok_is : {A : Type 0} (x y : A) → done x ≡ done y → x ≡ y
+ok_is x y e = cc
+
+pub Takes-then : (a x b y c : List ℕ) → Takes a x b → Takes b y c → Takes a (x ++ y) c
+Takes-then a x b y c p q = record { parts = p.parts ∙ ap (λ (t : List ℕ). x ++ t) q.parts ∙ sym (append_assoc x y c); rest_fits = q.rest_fits }
+
+-- ---- so many bytes
+
+pub bytes_take : (missing : Refusal) (count : ℕ) (bytes text rest : List ℕ) → IsBytes bytes → bytes_at missing count bytes ≡ Ok (text, rest) → Takes bytes text rest × (length text ≡ count)
+bytes_take missing count bytes text rest fits e =
+    let g = guard_ok (ltb (length bytes) count) missing (take count bytes, drop count bytes) (text, rest) e in
+    let long : count ≤ length bytes = ltb-false _ _ g.0 in
+    let len : length (take count bytes) ≡ count = omega (arith, length-take count bytes) in
+    subst (λ (p : List ℕ × List ℕ). Takes bytes p.0 p.1 × (length p.0 ≡ count)) g.1 (record { parts = sym (take-append-drop count bytes); rest_fits = IsBytes-drop count bytes fits }, len)
+
+pub bytes_again : (missing : Refusal) (text rest : List ℕ) → bytes_at missing (length text) (text ++ rest) ≡ Ok (text, rest)
+bytes_again missing text rest =
+    let long : ltb (length (text ++ rest)) (length text) ≡ false = le-ltb _ _ (omega (arith, length-append text rest)) in
+    rw (long, take_at text rest (length text) refl, drop_at text rest (length text) refl) refl
+
+-- ---- numbers
+
+pub wide16 : IsWide w16 (2 ^ 16)
+wide16 = record {
+  len = λ n. refl;
+  back = λ bytes len fits. be_bytes_2 bytes _ len fits refl;
+  again = λ n lt. from_be_bytes-to_be_bytes_2 n lt;
+  below = λ bytes fits. omega (arith, fits 0, fits 1);
+}
+
+pub wide32 : IsWide w32 (2 ^ 32)
+wide32 = record {
+  len = λ n. refl;
+  back = λ bytes len fits. be_bytes_4 bytes _ len fits refl;
+  again = λ n lt. from_be_bytes-to_be_bytes_4 n lt;
+  below = λ bytes fits. omega (arith, fits 0, fits 1, fits 2, fits 3);
+}
+
+pub wide64 : IsWide w64 (2 ^ 64)
+wide64 = record {
+  len = λ n. refl;
+  back = λ bytes len fits. be_bytes_8 bytes _ len fits refl;
+  again = λ n lt. from_be_bytes-to_be_bytes_8 n lt;
+  below = λ bytes fits. omega (arith, fits 0, fits 1, fits 2, fits 3, fits 4, fits 5, fits 6, fits 7);
+}
+
+pub number_takes : (missing : Refusal) (w : Width) (limit : ℕ) (wide : IsWide w limit) (bytes : List ℕ) (n : ℕ) (rest : List ℕ) → IsBytes bytes → number_at missing w bytes ≡ Ok (n, rest) → Takes bytes (to_be_bytes w n) rest × (n < limit)
+number_takes missing w limit wide bytes n rest fits e =
+    let g = guard_ok (ltb (length bytes) (byte_len w)) missing (from_be_bytes w (take (byte_len w) bytes), drop (byte_len w) bytes) (n, rest) e in
+    let long : byte_len w ≤ length bytes = ltb-false _ _ g.0 in
+    let n-is : from_be_bytes w (take (byte_len w) bytes) ≡ n = ap (λ (p : ℕ × List ℕ). p.0) g.1 in
+    let rest-is : drop (byte_len w) bytes ≡ rest = ap (λ (p : ℕ × List ℕ). p.1) g.1 in
+    let front : to_be_bytes w n ≡ take (byte_len w) bytes = rw (← n-is) (wide.back (take (byte_len w) bytes) (omega (arith, length-take (byte_len w) bytes)) (IsBytes-take (byte_len w) bytes fits)) in
+    (record { parts = rw (front, ← rest-is) (sym (take-append-drop (byte_len w) bytes)); rest_fits = rw (← rest-is) (IsBytes-drop (byte_len w) bytes fits) }, rw (← n-is) (wide.below (take (byte_len w) bytes) (IsBytes-take (byte_len w) bytes fits)))
+
+pub number_again : (missing : Refusal) (w : Width) (limit : ℕ) (wide : IsWide w limit) (n : ℕ) (rest : List ℕ) → n < limit → number_at missing w (to_be_bytes w n ++ rest) ≡ Ok (n, rest)
+number_again missing w limit wide n rest lt =
+    let len = wide.len n in
+    let long : ltb (length (to_be_bytes w n ++ rest)) (byte_len w) ≡ false = le-ltb _ _ (omega (arith, length-append (to_be_bytes w n) rest)) in
+    rw (long, take_at (to_be_bytes w n) rest (byte_len w) len, drop_at (to_be_bytes w n) rest (byte_len w) len, wide.again n lt) refl
+
+-- ---- magics
+
+pub magic_takes : (magic bytes rest : List ℕ) → IsBytes bytes → magic_at magic bytes ≡ Ok rest → Takes bytes magic rest
+unfolding magic_at
+magic_takes magic bytes rest fits e =
+    let b = bind_ok (bytes_at Short 8 bytes) (λ first. where_true (pointwise nat_eq first.0 magic) BadMagic first.1) rest e in
+    let t = bytes_take Short 8 bytes b.0.0 b.0.1 fits b.1 in
+    let g = where_ok (pointwise nat_eq b.0.0 magic) BadMagic b.0.1 rest b.2 in
+    subst (λ (m : List ℕ). Takes bytes m rest) (same_text b.0.0 magic (sym g.0)) (subst (λ (r : List ℕ). Takes bytes b.0.0 r) g.1 t.0)
+
+pub magic_again : (magic rest : List ℕ) → length magic ≡ 8 → magic_at magic (magic ++ rest) ≡ Ok rest
+unfolding magic_at
+magic_again magic rest len =
+    let first : bytes_at Short 8 (magic ++ rest) ≡ Ok (magic, rest) = subst (λ (n : ℕ). bytes_at Short n (magic ++ rest) ≡ Ok (magic, rest)) len (bytes_again Short magic rest) in
+    let same : pointwise nat_eq magic magic ≡ true = nat_list_eq_equiv.refl magic in
+    rw (first, same) refl
+
+-- ---- keys, values and contents
+
+pub sized_key_takes : (missing : Refusal) (count : ℕ) (bytes key rest : List ℕ) → IsBytes bytes → sized_key_at missing count bytes ≡ Ok (key, rest) → Takes bytes key rest × (length key ≡ count) × IsKey key
+unfolding sized_key_at
+sized_key_takes missing count bytes key rest fits e =
+    let b = bind_ok (where_true (nat_le 1 count && nat_le count 255) BadLength count) (λ lawful. bytes_at missing lawful bytes) (key, rest) e in
+    let g = where_ok (nat_le 1 count && nat_le count 255) BadLength count b.0 b.1 in
+    let t = bytes_take missing b.0 bytes key rest fits b.2 in
+    let len : length key ≡ count = t.1 ∙ sym g.1 in
+    let limits : (1 ≤ count) × (count ≤ 255) = grind (arith, g.0, nat_tests) in
+    (t.0, len, subst (λ (n : ℕ). (1 ≤ n) × (n ≤ 255)) (sym len) limits)
+
+pub sized_key_again : (missing : Refusal) (key rest : List ℕ) → IsKey key → sized_key_at missing (length key) (key ++ rest) ≡ Ok (key, rest)
+unfolding sized_key_at
+sized_key_again missing key rest is_key =
+    let lawful : (nat_le 1 (length key) && nat_le (length key) 255) ≡ true = grind (arith, is_key, nat_tests) in
+    rw (lawful, bytes_again missing key rest) refl
+
+pub key_takes : (missing : Refusal) (bytes key rest : List ℕ) → IsBytes bytes → key_at missing bytes ≡ Ok (key, rest) → Takes bytes (key_text key) rest × IsKey key
+unfolding key_at
+key_takes missing bytes key rest fits e =
+    let b = bind_ok (number_at missing w16 bytes) (λ count. sized_key_at missing count.0 count.1) (key, rest) e in
+    let n = number_takes missing w16 (2 ^ 16) wide16 bytes b.0.0 b.0.1 fits b.1 in
+    let k = sized_key_takes missing b.0.0 b.0.1 key rest n.0.rest_fits b.2 in
+    (subst (λ (c : ℕ). Takes bytes (to_be_bytes w16 c ++ key) rest) (sym k.1) (Takes-then bytes (to_be_bytes w16 b.0.0) b.0.1 key rest n.0 k.0), k.2)
+
+pub key_again : (missing : Refusal) (key rest : List ℕ) → IsKey key → key_at missing (key_text key ++ rest) ≡ Ok (key, rest)
+unfolding key_at
+key_again missing key rest is_key =
+    let parts : key_text key ++ rest ≡ to_be_bytes w16 (length key) ++ (key ++ rest) = append_assoc (to_be_bytes w16 (length key)) key rest in
+    let number : number_at missing w16 (key_text key ++ rest) ≡ Ok (length key, key ++ rest) = ap (number_at missing w16) parts ∙ number_again missing w16 (2 ^ 16) wide16 (length key) (key ++ rest) (omega (arith, is_key.1)) in
+    rw (number, sized_key_again missing key rest is_key) refl
+
+pub value_takes : (missing : Refusal) (bytes value rest : List ℕ) → IsBytes bytes → value_at missing bytes ≡ Ok (value, rest) → Takes bytes (value_text value) rest × IsValue value
+unfolding value_at
+value_takes missing bytes value rest fits e =
+    let a = bind_ok (number_at missing w32 bytes) (λ count. where_true (nat_le count.0 65535) BadLength count.0 >>= λ lawful. bytes_at missing lawful count.1) (value, rest) e in
+    let b = bind_ok (where_true (nat_le a.0.0 65535) BadLength a.0.0) (λ lawful. bytes_at missing lawful a.0.1) (value, rest) a.2 in
+    let n = number_takes missing w32 (2 ^ 32) wide32 bytes a.0.0 a.0.1 fits a.1 in
+    let g = where_ok (nat_le a.0.0 65535) BadLength a.0.0 b.0 b.1 in
+    let t = bytes_take missing b.0 a.0.1 value rest n.0.rest_fits b.2 in
+    let len : length value ≡ a.0.0 = t.1 ∙ sym g.1 in
+    let limit : a.0.0 ≤ 65535 = grind (arith, g.0, nat_tests) in
+    (subst (λ (c : ℕ). Takes bytes (to_be_bytes w32 c ++ value) rest) (sym len) (Takes-then bytes (to_be_bytes w32 a.0.0) a.0.1 value rest n.0 t.0), subst (λ (c : ℕ). c ≤ 65535) (sym len) limit)
+
+pub value_again : (missing : Refusal) (value rest : List ℕ) → IsValue value → value_at missing (value_text value ++ rest) ≡ Ok (value, rest)
+unfolding value_at
+value_again missing value rest is_value =
+    let parts : value_text value ++ rest ≡ to_be_bytes w32 (length value) ++ (value ++ rest) = append_assoc (to_be_bytes w32 (length value)) value rest in
+    let number : number_at missing w32 (value_text value ++ rest) ≡ Ok (length value, value ++ rest) = ap (number_at missing w32) parts ∙ number_again missing w32 (2 ^ 32) wide32 (length value) (value ++ rest) (omega (arith, is_value)) in
+    let lawful : nat_le (length value) 65535 ≡ true = grind (arith, is_value, nat_tests) in
+    rw (number, lawful, bytes_again missing value rest) refl
+
+pub content_takes : (missing : Refusal) (bytes : List ℕ) (content : Option (List ℕ)) (rest : List ℕ) → IsBytes bytes → content_at missing bytes ≡ Ok (content, rest) → Takes bytes (content_text content) rest × IfSome content IsValue
+unfolding content_at
+content_takes missing [] content rest fits e = absurd cc
+content_takes missing (zero ∷ bytes) content rest fits e =
+    subst (λ (x : Option (List ℕ) × List ℕ). Takes (0 ∷ bytes) (content_text x.0) x.1 × IfSome x.0 IsValue) (ok_is (None, bytes) (content, rest) e) (record { parts = refl; rest_fits = IsBytes-rest 0 bytes fits }, tt)
+content_takes missing (suc zero ∷ bytes) content rest fits e =
+    let b = bind_ok (value_at missing bytes) (λ value. Ok (Some value.0, value.1)) (content, rest) e in
+    let t = value_takes missing bytes b.0.0 b.0.1 (IsBytes-rest 1 bytes fits) b.1 in
+    subst (λ (x : Option (List ℕ) × List ℕ). Takes (1 ∷ bytes) (content_text x.0) x.1 × IfSome x.0 IsValue) (ok_is (Some b.0.0, b.0.1) (content, rest) b.2) (record { parts = ap (λ (w : List ℕ). 1 ∷ w) t.0.parts; rest_fits = t.0.rest_fits }, t.1)
+content_takes missing (suc (suc kind) ∷ bytes) content rest fits e = absurd cc
+
+pub content_again : (missing : Refusal) (content : Option (List ℕ)) (rest : List ℕ) → IfSome content IsValue → content_at missing (content_text content ++ rest) ≡ Ok (content, rest)
+unfolding content_at
+content_again missing None rest is_value = refl
+content_again missing (Some value) rest is_value = rw (value_again missing value rest is_value) refl

@@ -1,0 +1,18 @@
+-- Words of the laws on the fields of a text.
+use Rattle.std.specs.Prelude.{◌≡◌, ℕ, ◌<◌, List, ◌++◌, length, slice_index_or}
+use Rattle.std.specs.Int.{Width, byte_len, from_be_bytes, to_be_bytes}
+
+-- each number of the list is a byte
+abbrev pub IsBytes : List ℕ → Type 0
+IsBytes bytes = (i : ℕ) → slice_index_or bytes i 0 < 256
+
+-- a text that was taken from the front of the bytes, and what is left
+pub record Takes (bytes text rest : List ℕ) : Type 0 where
+  pub parts : bytes ≡ text ++ rest
+  pub rest_fits : IsBytes rest
+
+pub record IsWide (w : Width) (limit : ℕ) : Type 0 where
+  pub len : (n : ℕ) → length (to_be_bytes w n) ≡ byte_len w
+  pub back : (bytes : List ℕ) → length bytes ≡ byte_len w → IsBytes bytes → to_be_bytes w (from_be_bytes w bytes) ≡ bytes
+  pub again : (n : ℕ) → n < limit → from_be_bytes w (to_be_bytes w n) ≡ n
+  pub below : (bytes : List ℕ) → IsBytes bytes → from_be_bytes w bytes < limit

@@ -1,0 +1,31 @@
+//! Requests of locks: what they ask for, and how they are answered.
+use crate::numbers::TxnNo;
+
+/// What a request asks for.
+#[derive(Clone, Copy, Debug, PartialEq, Eq)]
+pub enum Mode {
+    /// To read: any number of transactions may at once.
+    Shared,
+    /// To write: no other transaction may read or write.
+    Exclusive,
+}
+
+/// How a request is answered.
+#[derive(Clone, Copy, Debug, PartialEq, Eq)]
+pub enum Outcome {
+    /// The lock is held, until the transaction releases it.
+    Granted,
+    /// The request waits for younger transactions to release their locks.
+    Queued,
+    /// The transaction has to abort. The request isn't kept.
+    Died,
+}
+
+/// A transaction's request of a lock.
+#[derive(Clone, Copy)]
+pub struct Request {
+    pub transaction: TxnNo,
+    pub mode: Mode,
+    /// The lock is held; else the request waits.
+    pub granted: bool,
+}

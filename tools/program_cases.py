@@ -1,0 +1,213 @@
+"""What the built program is run on beside the stored examples, for `try_programs.py`: options, scripts and folders that can't be had, files that are
+longer than a read, an output that is full, and little memory.
+
+What is to be printed was worked out by hand from docs/FORMATS.md, or comes from `plain_files.py` and `plain_store.py`, which know nothing of the program.
+"""
+
+import os
+import typing
+
+import plain_files
+import plain_store
+
+LITTLE = 64 << 20
+MANY = 256 << 20
+FULL = "/dev/full"
+MOST = b"\xff\xff\xff\xff"
+
+
+class Case(typing.NamedTuple):
+    """A call of pcalc in the folder of the cases, and what is wanted of it."""
+
+    name: str
+    words: tuple
+    status: int
+    out: bytes = b""
+    # what the error stream is to have; where this is a list it has each of these, in whatever words between them
+    err: typing.Union[bytes, list] = b""
+    # a list of what the output has, in place of `out`, where the words around it are not fixed
+    parts: typing.Optional[list] = None
+    # a user without rights of its own runs it
+    is_other_user: bool = False
+    # how many bytes of memory it may have
+    memory: typing.Optional[int] = None
+    # where the output goes, if not to the caller
+    output: typing.Optional[str] = None
+
+
+def written(folder, name, content):
+    """Writes a file; a missing folder for it is made."""
+    path = os.path.join(folder, name)
+    os.makedirs(os.path.dirname(path), exist_ok=True)
+    with open(path, "wb") as file:
+        file.write(content)
+    return path
+
+
+def sparse(folder, name, size):
+    with open(written(folder, name, b""), "wb") as file:
+        file.truncate(size)
+
+
+BASE = plain_files.Base(1, 0, {b"a": b"0"}).text()
+PART = plain_files.Part(1, [(1, 1)], {b"a": (1, b"1")}).text()
+NO_LOG = b"point 0\nentries 0\npairs 1\na 0\n"
+WITH_PART = b"point 1\nentries 0\npairs 1\na 1\n"
+
+
+def usage_cases(folder):
+    """Faults of usage, help and the version."""
+    written(folder, "empty.pcs", b"")
+    for option, low, high in (("sessions", 1, 64), ("capacity", 1, 1_048_576), ("run", 1, 2_147_483_647)):
+        for wrong in (low - 1, high + 1):
+            told = b"error: invalid value '%d' for '--%s <N>': %d is not in %d..=%d\n" % (wrong, option.encode(), wrong, low, high)
+            yield Case(f"--{option} {wrong}", ("step", "empty.pcs", f"--{option}", str(wrong)), 2, err=[told])
+        for right in (low, high):
+            yield Case(f"--{option} {right}", ("step", "empty.pcs", f"--{option}", str(right)), 0)
+        yield Case(f"--{option} of no number", ("step", "empty.pcs", f"--{option}", "x"), 2, err=[b"error: invalid value 'x' for '--%s <N>'" % option.encode()])
+        yield Case(f"--{option} without its number", ("step", "empty.pcs", f"--{option}"), 2, err=[b"error: a value is required for '--%s <N>'" % option.encode()])
+    yield Case("an option that isn't there", ("step", "empty.pcs", "--frob"), 2, err=[b"error: unexpected argument '--frob' found\n"])
+    yield Case("a command that isn't there", ("frob",), 2, err=[b"error: unrecognized subcommand 'frob'\n"])
+    yield Case("no command", (), 2, err=[b"Usage: pcalc"])
+    yield Case("no script", ("step",), 2, err=[b"error: the following required arguments were not provided:\n  <SCRIPT>\n"])
+    yield Case("two scripts", ("step", "empty.pcs", "empty.pcs"), 2, err=[b"error: unexpected argument 'empty.pcs' found\n"])
+    yield Case("no folder", ("recover",), 2, err=[b"error: the following required arguments were not provided:\n  <DIR>\n"])
+    yield Case("an option twice", ("step", "empty.pcs", "--run", "1", "--run", "2"), 2, err=[b"error: the argument '--run <N>' cannot be used multiple times\n"])
+    yield Case("--version", ("--version",), 0, b"pcalc 0.1.0\n")
+    yield Case("--help", ("--help",), 0, parts=[b"Usage: pcalc", b"\n  step ", b"\n  recover "])
+    options = [b"<SCRIPT>", b"--sessions <N>", b"[default: 8]", b"--capacity <N>", b"[default: 1024]", b"--run <N>", b"[default: 1]"]
+    yield Case("step --help", ("step", "--help"), 0, parts=options)
+    yield Case("step -h", ("step", "-h"), 0, parts=options)
+    yield Case("recover --help", ("recover", "--help"), 0, parts=[b"<DIR>"])
+    yield Case("--help to a full output", ("--help",), 1, output=FULL)
+
+
+def option_cases(folder):
+    """What the options do, and what stands where they are left out."""
+    written(folder, "sessions.pcs", b"begin 8\nbegin 9\nbegin 3\nbegin 4\n")
+    yield Case("8 sessions", ("step", "sessions.pcs"), 0, b"begun 1\nrefused NoSession\nbegun 2\nbegun 3\n")
+    yield Case("3 sessions", ("step", "--sessions", "3", "sessions.pcs"), 0, b"refused NoSession\nrefused NoSession\nbegun 1\nrefused NoSession\n")
+    written(folder, "capacity.pcs", b"".join(b"base k%d 1\n" % number for number in range(1025)))
+    yield Case("1024 keys", ("step", "capacity.pcs"), 0, b"ok\n" * 1024 + b"refused Full\n")
+    yield Case("2 keys", ("step", "capacity.pcs", "--capacity=2"), 0, b"ok\n" * 2 + b"refused Full\n" * 1023)
+    written(folder, "run.pcs", b"point\nseal\ncapture\ndone\ntext 1\n")
+    told = b"phase prepare 1\nphase resolve 1\nphase capture 1\npart 1 file 1 entries 0\ntext %s\n"
+    for number, words in ((1, ()), (258, ("--run", "258"))):
+        text = plain_files.Part(number, [(1, 1)], {}).text().hex().encode()
+        yield Case(f"run {number}", ("step", *words, "run.pcs"), 0, told % text)
+
+
+def long_script():
+    """Base lines, transactions one after the other and two points, and what the plain store answers."""
+    lines = [b"base k%d %d" % (number % 90, number) for number in range(200)]
+    for number in range(2500):
+        key = b"k%d" % (number * 7 % 100)
+        lines += [b"begin 1", b"put 1 %s value%d" % (key, number), b"get 1 %s" % key, b"commit 1"]
+        if number in (1000, 2000):
+            lines += [b"point", b"seal", b"capture", *[b"take"] * 101, b"done", b"rest", b"state 1"]
+    script = b"".join(line + b"\n" for line in lines)
+    run = plain_store.Script(8, 1024, 1)
+    return script, b"".join(run.answer(line) for line in plain_store.lines_of(script))
+
+
+def script_cases(folder):
+    """Scripts that can't be had, and long ones."""
+    script, out = long_script()
+    written(folder, "long.pcs", script)
+    yield Case("a script of several reads", ("step", "long.pcs"), 0, out)
+    value = b"v" * 65_535
+    written(folder, "wide.pcs", b"base a " + value + b"\nbase b v" + value + b"\nbegin 1\nget 1 a\n")
+    yield Case("a line longer than a read", ("step", "wide.pcs"), 0, b"ok\nrefused ValueLength\nbegun 1\n= " + value + b"\n")
+    yield Case("a script that isn't there", ("step", "none.pcs"), 1, err=b"pcalc: none.pcs: NoFile\n")
+    os.mkdir(os.path.join(folder, "folder.pcs"))
+    yield Case("a script that is a folder", ("step", "folder.pcs"), 1, err=b"pcalc: folder.pcs: Device\n")
+    os.chmod(written(folder, "closed.pcs", b"begin 1\n"), 0)
+    yield Case("a script without permission", ("step", "closed.pcs"), 1, err=b"pcalc: closed.pcs: Device\n", is_other_user=True)
+    written(folder, "one.pcs", b"begin 1\n")
+    yield Case("a script whose output is full", ("step", "one.pcs"), 1, output=FULL)
+    yield Case("a long script whose output is full", ("step", "long.pcs"), 1, output=FULL)
+    sparse(folder, "large.pcs", MANY)
+    yield Case("a script that memory has no room for", ("step", "large.pcs"), 1, err=b"pcalc: large.pcs: OutOfMemory\n", memory=LITTLE)
+
+
+def folder_cases(folder):
+    """Folders whose files can't be had."""
+    written(folder, "no_log/base.pcb", BASE)
+    yield Case("no log", ("recover", "no_log"), 0, NO_LOG)
+    yield Case("a recovery whose output is full", ("recover", "no_log"), 1, output=FULL)
+    yield Case("no folder of this name", ("recover", "none"), 1, err=b"pcalc: base.pcb: NoFile\n")
+    yield Case("a folder that is a file", ("recover", "no_log/base.pcb"), 1, err=b"pcalc: base.pcb: Device\n")
+    written(folder, "no_base/a.pcp", PART)
+    yield Case("no base", ("recover", "no_base"), 1, err=b"pcalc: base.pcb: NoFile\n")
+    written(folder, "wide_log/base.pcb", BASE)
+    os.mkdir(os.path.join(folder, "wide_log", "log.pcl"))
+    yield Case("a log that is a folder", ("recover", "wide_log"), 1, err=b"pcalc: log.pcl: Device\n")
+    written(folder, "closed_log/base.pcb", BASE)
+    os.chmod(written(folder, "closed_log/log.pcl", b""), 0)
+    yield Case("a log without permission", ("recover", "closed_log"), 1, err=b"pcalc: log.pcl: Device\n", is_other_user=True)
+    written(folder, "closed_part/base.pcb", BASE)
+    written(folder, "closed_part/a.pcp", PART)
+    os.chmod(written(folder, "closed_part/b.pcp", PART), 0)
+    os.chmod(written(folder, "closed_part/log.pcl", b""), 0)
+    yield Case("a part without permission before such a log", ("recover", "closed_part"), 1, err=b"pcalc: b.pcp: Device\n", is_other_user=True)
+    written(folder, "lost_part/base.pcb", BASE)
+    os.symlink("nowhere", os.path.join(folder, "lost_part", "a.pcp"))
+    yield Case("a part that leads nowhere", ("recover", "lost_part"), 1, err=b"pcalc: a.pcp: Device\n")
+    written(folder, "unlisted/base.pcb", BASE)
+    os.chmod(os.path.join(folder, "unlisted"), 0o311)
+    yield Case("a folder that can't be listed", ("recover", "unlisted"), 1, err=b"pcalc: unlisted: Device\n", is_other_user=True)
+    written(folder, "other_run/base.pcb", BASE)
+    written(folder, "other_run/log.pcl", plain_files.Log(2).text())
+    yield Case("a log of another run", ("recover", "other_run"), 1, err=b"pcalc: other_run: OtherRun\n")
+
+
+def listed_cases(folder):
+    """Which files of a folder count, and in which order."""
+    for name, text in (("c.pcp", PART[:-1]), ("b.pcp", PART), ("a.pcp", b"PCALCP02" + PART[8:]), ("B.pcp", PART + b"\0")):
+        written(folder, "damaged/" + name, text)
+    written(folder, "damaged/base.pcb", BASE)
+    told = b"point 1\nentries 0\nskipped B.pcp Trailing\nskipped a.pcp BadMagic\nskipped c.pcp Short\npairs 1\na 1\n"
+    yield Case("damaged parts, in the order of their names", ("recover", "damaged"), 0, told)
+    written(folder, "others/base.pcb", BASE)
+    written(folder, "others/a.pcp", PART)
+    written(folder, "others/b.pcp.old", b"")
+    written(folder, "others/c.pcp/part.pcp", b"")
+    yield Case("files of other names, and a folder of a part's name", ("recover", "others"), 0, WITH_PART)
+    yield Case("a folder's name with a slash", ("recover", "others/"), 0, WITH_PART)
+
+
+def long_folder_cases(folder):
+    """A base, a part and a log that are each longer than several reads."""
+    pairs = {b"key%05d" % number: b"value%d" % number for number in range(20_000)}
+    entries = {b"key%05d" % number: (1, None if number % 3 else b"of point 1") for number in range(0, 30_000, 2)}
+    log = plain_files.Log(1)
+    log.entries = [("token", "prepare", 1), ("token", "resolve", 1)]
+    log.entries += [("commit", 1, [(b"key%05d" % (number * 11), b"of the log")]) for number in range(5_000)]
+    files = plain_files.Base(1, 0, pairs).text(), plain_files.Part(1, [(1, 1)], entries).text(), log.text()
+    for name, text in zip(("base.pcb", "a.pcp", "log.pcl"), files):
+        written(folder, "long/" + name, text)
+    yield Case("files of several reads", ("recover", "long"), 0, plain_files.recover(files[0], [(b"a.pcp", files[1])], files[2]).text())
+    yield Case("the same where the output is full", ("recover", "long"), 1, output=FULL)
+
+
+def memory_cases(folder):
+    """Little memory: files that tell of more than they have take none for it, and one that has too much is told."""
+    head = bytes(7) + b"\1"
+    written(folder, "great_base/base.pcb", b"PCALCB01" + head + bytes(4) + MOST)
+    yield Case("a base that tells of 4,294,967,295 pairs", ("recover", "great_base"), 1, err=b"pcalc: great_base: Short\n", memory=LITTLE)
+    written(folder, "great_part/base.pcb", BASE)
+    written(folder, "great_part/a.pcp", b"PCALCP01" + head + MOST + b"\0\0\0\1")
+    told = b"point 0\nentries 0\nskipped a.pcp Short\npairs 1\na 0\n"
+    yield Case("a part that tells of 4,294,967,295 ranges", ("recover", "great_part"), 0, told, memory=LITTLE)
+    written(folder, "great_log/base.pcb", BASE)
+    written(folder, "great_log/log.pcl", b"PCALCL01" + head + bytes(4) + (16_844_036).to_bytes(4, "big") + b"\1\1\1\0")
+    yield Case("a log whose entry tells of 256 writes in 16,844,036 bytes", ("recover", "great_log"), 0, NO_LOG, memory=LITTLE)
+    written(folder, "large_log/base.pcb", BASE)
+    sparse(folder, "large_log/log.pcl", MANY)
+    yield Case("a log that memory has no room for", ("recover", "large_log"), 1, err=b"pcalc: log.pcl: OutOfMemory\n", memory=LITTLE)
+
+
+def cases(folder):
+    """Each case, whose files are written into the folder right before it."""
+    for some in (usage_cases, option_cases, script_cases, folder_cases, listed_cases, long_folder_cases, memory_cases):
+        yield from some(folder)
