@@ -7,11 +7,13 @@ change something, and docs/PROMISES.md must say where it is.
 
 An edit is a file of lines `file: PATH`, `old: TEXT` and `new: TEXT`. Each text is one line: what stands on further lines is
 not read, so an edit that is spread over several lines may change nothing, and is then proved. Told are a line of another
-form, an old text that doesn't stand exactly once in its file, and a new text that is the old one. In the column of edits in
+form, an old text that doesn't stand exactly once in its file, a new text that is the old one, and one that calls a function
+which no source of its crate names: that is no body at all, and the gate takes no such refusal. In the column of edits in
 docs/PROMISES.md the name of one that the gate tries is bold, and that of another one plain. Told are a name set otherwise, one
 that no edit has, and an edit that no row of its crate names. The status is 1 where anything is told.
 """
 
+import functools
 import glob
 import os
 import re
@@ -21,6 +23,8 @@ ROOT = os.path.join(os.path.dirname(os.path.abspath(__file__)), "..")
 CRATES = os.path.join(ROOT, "crates")
 PROMISES = os.path.join(ROOT, "docs", "PROMISES.md")
 COLUMN = 2
+CALL = re.compile(r"(?<![\w.:])([a-z_]\w*)\(")
+PRELUDE = {"drop", "if", "match", "while", "in", "return"}
 
 
 def text_of(path):
@@ -31,7 +35,7 @@ def text_of(path):
 def faults_of(edit):
     """What is wrong with the edit, a line each."""
     folder = os.path.dirname(os.path.dirname(edit))
-    text, old, changes = "", None, 0
+    text, source, old, changes = "", "", None, 0
     for line in text_of(edit).split("\n"):
         word, _, rest = line.partition(":")
         rest = rest.removeprefix(" ")
@@ -39,6 +43,7 @@ def faults_of(edit):
             continue
         if word == "file":
             text = text_of(os.path.join(folder, rest.strip()))
+            source = sources_of(folder) if rest.strip().endswith(".rt") else ""
         elif word == "old":
             old = rest
             if text.count(old) != 1:
@@ -47,11 +52,25 @@ def faults_of(edit):
             changes += 1
             if rest == old:
                 yield "the new text is the old one: %s" % old
+            if source:
+                yield from ("no source of the crate names %s" % it for it in unknown_calls(rest, source + text_of(edit)))
             text, old = text.replace(old, rest), None
         else:
             yield "a line of another form: %s" % line
     if changes == 0:
         yield "nothing is changed"
+
+
+def unknown_calls(text, sources):
+    """The functions that the text calls, and that these sources don't make, import or have as a closure."""
+    known = r"\b(?:fn|let|mut) %s\b|\buse [^;]*\b%s\b|[(,] *%s:"
+    return [it for it in dict.fromkeys(CALL.findall(text)) if it not in PRELUDE and not re.search(known % (it, it, it), sources)]
+
+
+@functools.cache
+def sources_of(folder):
+    """The sources of a crate, without their comments."""
+    return "\n".join(re.sub(r"//.*", "", text_of(it)) for it in sorted(glob.glob(os.path.join(folder, "src", "**", "*.rt"), recursive=True)))
 
 
 def edits():
