@@ -1,7 +1,7 @@
 //! The texts of a base, of parts and of a log that recovery reads.
 ghost use Rattle.std.specs.Prelude.{◌≡◌, ◌<◌, ◌≤◌, ◌+◌, ◌^◌, ◌++◌, [], ◌∷◌, ℕ, List, Option, true, length, IfOk, OnOk, IfSome};
 ghost use Rattle.pc_model.specs.Database.{KeysRise};
-ghost use Rattle.pc_model.specs.Limits.{HasFewWrites};
+ghost use Rattle.pc_model.specs.FewWrites.{HasFewWrites};
 
 use crate::joins::{is_below, push_rising, text_of};
 use crate::options::Restart;

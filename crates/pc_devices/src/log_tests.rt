@@ -1,6 +1,6 @@
 //! Logs go out as far as the writer takes them.
 ghost use Rattle.std.specs.Prelude.{◌≡◌, true};
-ghost use Rattle.pc_model.specs.Limits.{HasFewWrites};
+ghost use Rattle.pc_model.specs.FewWrites.{HasFewWrites};
 
 use crate::sink::{Sink, went_out};
 use pc_asks::SIX_ENTRIES;

@@ -8,7 +8,7 @@ use Rattle.pc_types.specs.declared.Phase.{Phase}
 use Rattle.pc_types.specs.declared.Phase.TheVariants.{Rest}
 use Rattle.pc_types.specs.declared.Write.{Write}
 use Rattle.pc_model.specs.Files.{File}
-use Rattle.pc_model.specs.Limits.{HasFewWrites}
+use Rattle.pc_model.specs.FewWrites.{HasFewWrites}
 use Rattle.pc_engine.specs.declared.sessions.Transaction.{Transaction}
 use Rattle.pc_engine.specs.Sessions.{active_of, actives_of, writes_in, AreFew}
 use Rattle.pc_engine.specs.Store.{Active}

@@ -4,7 +4,7 @@ use Rattle.pc_types.specs.declared.Entry.{Entry}
 use Rattle.pc_types.specs.declared.Phase.{Phase}
 use Rattle.pc_types.specs.declared.Phase.TheVariants as phase
 use Rattle.pc_model.specs.Files.{File}
-use Rattle.pc_model.specs.Limits.{HasFewWrites}
+use Rattle.pc_model.specs.FewWrites.{HasFewWrites}
 use Rattle.pc_engine.specs.Sessions.{AreFew}
 use Rattle.pc_engine.specs.Store.{Active}
 use Rattle.pc_types.specs.Phases.{same_phase}

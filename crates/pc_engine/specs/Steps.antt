@@ -1,5 +1,5 @@
 -- What one event does to a world.
-use Rattle.std.specs.Prelude.{◌≡◌, ℕ, ◌+◌, ◌-◌, ◌<◌, ◌==◌, not, Bool, true, false, List, [], ◌∷◌, ◌++◌, length, map, Option, Some, None, ◌⊎◌, is_some, is_none, if◌then◌else◌, MatchOption}
+use Rattle.std.specs.Prelude.{◌≡◌, ℕ, ◌+◌, ◌-◌, ◌<◌, ◌==◌, not, Bool, false, List, [], ◌∷◌, ◌++◌, length, map, Option, Some, None, ◌⊎◌, is_some, is_none, if◌then◌else◌, MatchOption}
 use Rattle.pc_types.specs.declared.Entry.TheVariants.{Commit, Token}
 use Rattle.pc_types.specs.declared.Phase.{Phase}
 use Rattle.pc_types.specs.declared.Phase.TheVariants as phase

@@ -39,10 +39,6 @@ pub record Store : Type 0 where
 abbrev pub setting_of : Store → Setting
 setting_of w = record { run = w.base.run; base = w.base.pairs; sessions = length w.sessions; capacity = w.kept.capacity }
 
--- what a run starts from that is given this base, so many sessions and this capacity
-abbrev pub starting : BaseFile → ℕ → ℕ → Setting
-starting base sessions capacity = record { run = base.run; base = base.pairs; sessions = sessions; capacity = capacity }
-
 -- the open transaction of the session; sessions are numbered from 1
 abbrev pub active_in : List (Option Active) → ℕ → Option Active
 active_in sessions s = slice_index_or sessions (s - 1) None

@@ -1,6 +1,6 @@
 //! What a text holds.
 ghost use Rattle.std.specs.Prelude.{◌≡◌, true};
-ghost use Rattle.pc_model.specs.Limits.{HasFewWrites};
+ghost use Rattle.pc_model.specs.FewWrites.{HasFewWrites};
 
 use crate::kinds::Kind;
 use pc_log::{LogText, encode_entry, encode_header, read_log};

@@ -1,9 +1,10 @@
 -- The words of a script's line, and what a line spells.
-use Rattle.std.specs.Prelude.{ℕ, ◌==◌, ◌&&◌, nat_lt, Bool, false, List, [], ◌∷◌, Option, Some, None, if◌then◌else◌, length, filter, codes}
+use Rattle.std.specs.Prelude.{ℕ, ◌==◌, ◌&&◌, nat_lt, nat_le, Bool, false, List, [], ◌∷◌, Option, Some, None, if◌then◌else◌, length, filter, codes}
 use Rattle.std.specs.List.{slice_split}
 use Rattle.std.specs.Str.{bytes_eq}
 use Rattle.pc_types.specs.declared.Event.TheVariants as asked
 use Rattle.pc_types.specs.declared.Refusal.TheVariants as why
+use Rattle.pc_types.specs.declared.limits.TheConstants.{MOST_KEY_BYTES, MOST_VALUE_BYTES}
 use Rattle.pc_lines.specs.declared.lines.Line.{Line}
 use Rattle.pc_lines.specs.declared.lines.Line.TheVariants as line
 use Rattle.pc_lines.specs.declared.lines.View.TheVariants as view
@@ -15,11 +16,11 @@ words_of text = filter (λ word. nat_lt 0 (length word)) (slice_split (λ b. b =
 
 -- a key has 1 to 255 bytes
 abbrev pub is_key : List ℕ → Bool
-is_key bytes = nat_lt 0 (length bytes) && nat_lt (length bytes) 256
+is_key bytes = nat_lt 0 (length bytes) && nat_le (length bytes) MOST_KEY_BYTES
 
 -- a value has at most 65,535 bytes
 abbrev pub is_value : List ℕ → Bool
-is_value bytes = nat_lt (length bytes) 65536
+is_value bytes = nat_le (length bytes) MOST_VALUE_BYTES
 
 -- a pair of the base, whose key is tested before its value
 abbrev pub base_line : Option (List ℕ) → Option (List ℕ) → Line

@@ -5,7 +5,7 @@ ghost use Rattle.pc_lines.specs.Words.{number_of, text_of};
 ghost use Rattle.pc_lines.specs.Lines.{words_of, is_key, is_value, base_line, get_line, del_line, put_line, one_word, numbered_line, two_words, three_words, four_words, spelled_by, is_comment, spelled};
 
 use crate::words::{number, text_of};
-use pc_types::{Event, FileNo, Key, Refusal, SessionNo, Value};
+use pc_types::{Event, FileNo, Key, MOST_KEY_BYTES, MOST_VALUE_BYTES, Refusal, SessionNo, Value};
 use std::alloc::{AllocError, Global};
 
 /// What a line of a script spells.
@@ -257,11 +257,11 @@ fn put_line(alloc: Global, session: u32, key: &[u8], value: &[u8]) -> Result<Lin
 fn is_key(bytes: &[u8]) -> bool
     ensures { result ≡ is_key bytes.now }
 {
-    !bytes.is_empty() && bytes.len() < 256
+    !bytes.is_empty() && bytes.len() <= MOST_KEY_BYTES
 }
 
 fn is_value(bytes: &[u8]) -> bool
     ensures { result ≡ is_value bytes.now }
 {
-    bytes.len() < 65536
+    bytes.len() <= MOST_VALUE_BYTES
 }

@@ -19,7 +19,7 @@ use Rattle.pc_types.specs.Fields.{◌>>=◌, where_true, bytes_at, number_at, ke
 use Rattle.pc_types.proofs.FieldLaws.{IsBytes-take, IsBytes-rest, bind_ok, guard_ok, where_ok, ok_is, Takes-then, bytes_take, wide16, wide32, number_takes, key_takes, content_takes}
 use Rattle.pc_types.specs.FieldForms.{IsBytes, Takes}
 use Rattle.pc_log.specs.declared.order.LastToken.{LastToken}
-use Rattle.pc_model.specs.Limits.{HasFewWrites}
+use Rattle.pc_model.specs.FewWrites.{HasFewWrites}
 use Rattle.pc_log.specs.Texts.{write_text, phase_number, body_text, entry_text, same_key, keys_of, IsWrite, IsEntry}
 use Rattle.pc_log.specs.Orders.{comes_next}
 use Rattle.pc_log.specs.Reading.{byte_at, is_written, write_at, writes_at, commit_at, phase_numbered, token_at, kind_at, body_at, entry_at}

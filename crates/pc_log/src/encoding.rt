@@ -2,7 +2,7 @@
 ghost use Rattle.std.specs.Prelude.{◌≡◌, ◌≤◌, ◌*◌, length, All};
 ghost use Rattle.std.specs.List.{flat_map};
 ghost use Rattle.pc_types.specs.Tallies.{Puts};
-ghost use Rattle.pc_model.specs.Limits.{HasFewWrites};
+ghost use Rattle.pc_model.specs.FewWrites.{HasFewWrites};
 ghost use Rattle.pc_log.specs.Texts.{header_text, write_text, body_text, commit_head_text, entry_text, log_text};
 ghost use Rattle.pc_types.specs.declared.Entry.TheVariants.{Token};
 

@@ -12,7 +12,8 @@ use Rattle.pc_model.specs.Sets as set
 use Rattle.pc_model.specs.Sets.{Set, number_order}
 use Rattle.pc_model.specs.Numbers.{same_number, is_one_of}
 use Rattle.pc_model.specs.Database.{Database, key_order}
-use Rattle.pc_model.specs.Log.{has_token, state_at, PrecedesNext}
+use Rattle.pc_model.specs.Log.{has_token, state_at}
+use Rattle.pc_model.specs.Standing.{PrecedesNext}
 use Rattle.pc_model.specs.Points.{AtPoint, is_among, touched, part_of, joined, later, laid_at, content, laid}
 use Rattle.pc_model.specs.Files.{same_content, differs, conflict, numbers_to}
 use Rattle.pc_model.proofs.MapLaws.{get-empty, get-entries, get-insert, same_map}

@@ -4,7 +4,8 @@ use Rattle.std.specs.Prelude.{if◌then◌else◌}
 use Rattle.pc_types.specs.declared.Entry.{Entry}
 use Rattle.pc_types.specs.declared.Entry.TheVariants.{Commit, Token}
 use Rattle.pc_model.specs.Database.{Database}
-use Rattle.pc_model.specs.Log.{after, front, behind, has_token, is_token_of, state_at, PrecedesNext}
+use Rattle.pc_model.specs.Log.{after, front, behind, has_token, is_token_of, state_at}
+use Rattle.pc_model.specs.Standing.{PrecedesNext}
 use Rattle.pc_model.specs.Points.{with_keys, with_written, cycle, touched, triples_of, part_of}
 use Rattle.pc_model.proofs.States.{cycle_next}
 

@@ -16,10 +16,10 @@ use Rattle.pc_model.specs.Log.{has_token, state_at}
 use Rattle.pc_model.specs.History.{History, Effect, effect, log_of, phase_of, point_of, entries_by}
 use Rattle.pc_model.specs.History.Effect.{Shelves, Joins}
 use Rattle.pc_model.specs.Points.{Triples, touched, taken, part_of, joined, content, laid, triples_of}
-use Rattle.pc_model.specs.Files.{File, file_of, triples_taken, joined_file, file_at, join_of, shelved_by, shelf, conflict, numbers_to}
+use Rattle.pc_model.specs.Files.{File, triples_taken, joined_file, file_at, join_of, shelved_by, shelf, conflict, numbers_to}
+use Rattle.pc_model.specs.Standing.{file_of, HasLegalEffects, IsOfItsPoints, JoinsWell, is_past_token}
 use Rattle.pc_model.specs.Replies.{Setting, closed_set}
 use Rattle.pc_model.specs.Headline.{TakesPointValue, IsMade, HasHeadline}
-use Rattle.pc_model.specs.Standing.{HasLegalEffects, IsOfItsPoints, JoinsWell, is_past_token}
 use Rattle.pc_model.specs.Headline.IsMade.{Shelved, Joined}
 use Rattle.pc_model.proofs.LogPieceLaws.{has_token-append}
 use Rattle.std.proofs.lemmas.Cmp.{eq_by_cmp_equiv}

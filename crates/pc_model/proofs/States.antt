@@ -6,7 +6,8 @@ use Rattle.pc_types.specs.declared.Entry.{Entry}
 use Rattle.pc_types.specs.declared.Entry.TheVariants.{Commit, Token}
 use Rattle.pc_model.specs.Maps.{get}
 use Rattle.pc_model.specs.Database.{Database, applied_all}
-use Rattle.pc_model.specs.Log.{after, front, behind, has_token, is_token_of, state_at, PrecedesNext}
+use Rattle.pc_model.specs.Log.{after, front, behind, has_token, is_token_of, state_at}
+use Rattle.pc_model.specs.Standing.{PrecedesNext}
 use Rattle.pc_model.specs.Points.{is_among, cycle, touched, part_of, laid, triples_of}
 use Rattle.pc_model.proofs.JoinLaws.{one_piece, after_other, is_among-with_written}
 

@@ -8,12 +8,12 @@ use Rattle.pc_types.specs.declared.Entry.{Entry}
 use Rattle.pc_types.specs.declared.Entry.TheVariants.{Commit, Token}
 use Rattle.pc_types.specs.declared.Phase.{Phase}
 use Rattle.pc_types.specs.declared.Phase.TheVariants.{Rest, Prepare, Resolve}
-use Rattle.pc_model.specs.Log.{front, behind, has_token, is_resolve, is_token_of, PrecedesNext}
+use Rattle.pc_model.specs.Log.{front, behind, has_token, is_resolve, is_token_of}
+use Rattle.pc_model.specs.Standing.{PrecedesNext, sealed_in}
 use Rattle.pc_model.specs.Database.{same_bytes}
 use Rattle.pc_model.specs.Points.{cycle, touched, with_keys, with_written}
 use Rattle.pc_model.specs.Replies.{without}
 use Rattle.pc_model.specs.Headline.{is_taking}
-use Rattle.pc_model.specs.Standing.{sealed_in}
 use Rattle.std.specs.List.{IsDistinct}
 use Rattle.pc_model.proofs.States.{cycle_next}
 use Rattle.pc_model.proofs.LogPieceLaws.{IsReached, has_token-append, front_past, behind_past, touched_kept, touched_more, order_kept}

@@ -8,7 +8,9 @@ use Rattle.pc_model.specs.Sets as set
 use Rattle.pc_model.specs.Log.{state_at}
 use Rattle.pc_model.specs.History.{log_of, contents}
 use Rattle.pc_model.specs.Points.{AtPoint}
-use Rattle.pc_model.specs.Files.{File, BaseFile, shelf, file_at, file_of, gap_above, laid_file}
+use Rattle.pc_model.specs.Files.{File, BaseFile, shelf, file_at}
+use Rattle.pc_model.specs.Standing.{file_of}
+use Rattle.pc_model.specs.LaidFiles.{gap_above, laid_file}
 use Rattle.pc_model.specs.Replies.{Setting, IsLegal, IsLegalHistory}
 use Rattle.pc_model.specs.Quiet.{IsQuiet}
 

@@ -14,7 +14,8 @@ use Rattle.pc_types.specs.declared.Outcome.TheVariants.{Granted, Queued, Died}
 use Rattle.pc_types.specs.declared.Request.{Request}
 use Rattle.pc_model.specs.Locks.{outcome, queue_after, queue_without}
 use Rattle.pc_model.specs.Points.{Triples, joined, laid}
-use Rattle.pc_model.specs.Files.{File, conflict, gap_above, laid_file}
+use Rattle.pc_model.specs.Files.{File, conflict}
+use Rattle.pc_model.specs.LaidFiles.{gap_above, laid_file}
 use Rattle.pc_model.specs.Replies.{Setting, first_refusal, transaction_causes, too_many, certain, join_refusal}
 use Rattle.pc_model.specs.Reads.{HasRightReads}
 use Rattle.pc_model.specs.Examples.{step, plain, a, b, k, v1, v2, v5, v6, v9}

@@ -1,12 +1,11 @@
--- Files and the shelf: how files are joined and laid on a base, and when they conflict or leave a gap.
-use Rattle.std.specs.Prelude.{ℕ, zero, suc, ◌-◌, ◌==◌, ◌&&◌, not, max, Bool, true, false, List, [], ◌∷◌, ◌++◌, Option, Some, None, if◌then◌else◌, fold, drop, find, slice_get}
+-- Files, bases and the shelf: how files are joined, and when they conflict.
+use Rattle.std.specs.Prelude.{ℕ, zero, suc, ◌-◌, ◌==◌, ◌&&◌, not, Bool, true, false, List, [], ◌∷◌, ◌++◌, Option, Some, None, if◌then◌else◌, slice_get}
 use Rattle.std.specs.List.{list_any}
 use Rattle.pc_model.specs.Maps as map
 use Rattle.pc_model.specs.Sets as set
 use Rattle.pc_model.specs.Sets.{Set, number_order}
-use Rattle.pc_types.specs.declared.Entry.{Entry}
 use Rattle.pc_model.specs.Database.{Database, same_bytes}
-use Rattle.pc_model.specs.Points.{Triples, AtPoint, joined, content, laid, taken}
+use Rattle.pc_model.specs.Points.{Triples, AtPoint, joined, content, taken}
 use Rattle.pc_model.specs.History.{History, Effect, effect}
 use Rattle.pc_model.specs.History.Effect.{Shelves, Joins}
 
@@ -15,10 +14,6 @@ pub record File : Type 0 where
   pub run : ℕ
   pub points : Set number_order
   pub triples : Triples
-
--- the file of a set of points, by the log of its run
-abbrev pub file_of : ℕ → Database → List Entry → Set number_order → File
-file_of run base log points = record { run = run; points = points; triples = content base log (set.items points) }
 
 -- the triples of what was taken, each at the point
 abbrev pub triples_taken : ℕ → List (List ℕ × Option (List ℕ)) → Triples
@@ -69,20 +64,8 @@ abbrev pub numbers_to : ℕ → List ℕ
 numbers_to zero = []
 numbers_to (suc n) = numbers_to n ++ suc n ∷ []
 
--- the greatest of the points, or 0
-abbrev pub greatest : Set number_order → ℕ
-greatest points = fold max 0 (set.items points)
-
--- Gap(p): p is the smallest point above this one and up to the greatest of the points that isn't one of them
-abbrev pub gap_above : ℕ → Set number_order → Option ℕ
-gap_above point points = find (λ p. not (set.contains points p)) (drop point (numbers_to (greatest points)))
-
 -- a base: a run, a point and the database at it
 pub record BaseFile : Type 0 where
   pub run : ℕ
   pub point : ℕ
   pub pairs : Database
-
--- the base with the file laid on it, where there is no gap
-abbrev pub laid_file : BaseFile → File → BaseFile
-laid_file base file = record { run = base.run; point = max base.point (greatest file.points); pairs = laid base.pairs base.point file.triples }

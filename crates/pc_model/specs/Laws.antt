@@ -6,7 +6,8 @@ use Rattle.pc_types.specs.declared.Reply.{Reply}
 use Rattle.pc_types.specs.declared.Step.{Step}
 use Rattle.pc_model.specs.Maps.{get}
 use Rattle.pc_model.specs.Database.{Database}
-use Rattle.pc_model.specs.Log.{after, state_at, PrecedesNext}
+use Rattle.pc_model.specs.Log.{after, state_at}
+use Rattle.pc_model.specs.Standing.{PrecedesNext, HasLegalEffects, HasTokensInOrder, IsOfItsPoints, JoinsWell, is_past_token}
 use Rattle.pc_model.specs.History.{History, log_of, phase_of, point_of, contents}
 use Rattle.pc_model.specs.Points.{is_among, cycle, touched, part_of, joined, content, laid}
 use Rattle.pc_model.specs.Sets as set
@@ -18,7 +19,6 @@ use Rattle.pc_model.specs.Queues.{IsLegalQueue}
 use Rattle.pc_model.specs.Reads.{HasRightReads}
 use Rattle.pc_model.specs.Quiet.{IsQuiet}
 use Rattle.pc_model.specs.Headline.{TakesEachKeyOnce, TakesPointValue, IsMade, HasHeadline, is_taking}
-use Rattle.pc_model.specs.Standing.{HasLegalEffects, HasTokensInOrder, IsOfItsPoints, JoinsWell, is_past_token}
 
 -- Replay of a log in two pieces is replay of the second on the replay of the first.
 abbrev pub ReplaysInPieces : Type 0

@@ -5,9 +5,11 @@ pub mod Places
 pub mod Log
 pub mod History
 pub mod Limits
+pub mod FewWrites
 pub mod Locks
 pub mod Points
 pub mod Files
+pub mod LaidFiles
 pub mod Ranges
 pub mod Replies
 pub mod Reads

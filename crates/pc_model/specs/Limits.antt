@@ -1,11 +1,8 @@
--- The limits that a run keeps to: the keys and values that are written, and the writes of a commit.
-use Rattle.std.specs.Prelude.{◌≤◌, [], ◌∷◌, length, ⊤}
+-- The limits of the keys and values that a run writes.
+use Rattle.std.specs.Prelude.{[], ◌∷◌, ⊤}
 use Rattle.pc_types.specs.Limits.{IsKey, IsValue}
-use Rattle.pc_types.specs.declared.Entry.{Entry}
-use Rattle.pc_types.specs.declared.Entry.TheVariants.{Commit, Token}
 use Rattle.pc_types.specs.declared.Event.{Event}
 use Rattle.pc_types.specs.declared.Event.TheVariants as asked
-use Rattle.pc_types.specs.declared.limits.TheConstants.{MOST_WRITES}
 use Rattle.pc_model.specs.History.{History}
 
 -- the key and the value that are to be written are within their limits
@@ -18,8 +15,3 @@ IsInLimits other = ⊤
 abbrev pub AreInLimits : History → Type 0
 AreInLimits [] = ⊤
 AreInLimits (step ∷ history) = IsInLimits step.event × AreInLimits history
-
--- a commit has at most 256 writes
-abbrev pub HasFewWrites : Entry → Type 0
-HasFewWrites (Commit session writes) = length writes ≤ MOST_WRITES
-HasFewWrites (Token phase point) = ⊤

@@ -57,8 +57,7 @@ abbrev pub outcome_beside : Queue → ℕ → Mode → Option Request → Outcom
 outcome_beside queue t mode None = outcome_of_new queue t mode
 outcome_beside queue t mode (Some own) = if is_exclusive own.mode || not (is_exclusive mode) then Granted else outcome_of_upgrade queue t
 
--- how a request of the transaction is answered. It is asked only where the transaction has no
--- request that waits.
+-- how a request of the transaction is answered, asked only where none of its requests waits
 abbrev pub outcome : Queue → ℕ → Mode → Outcome
 outcome queue t mode = outcome_beside queue t mode (request_in queue t)
 
@@ -97,7 +96,7 @@ abbrev pub queue_of : List ℕ → History → Queue
 queue_of key [] = []
 queue_of key (step ∷ history) = queue_by key (effect step) history (queue_of key history)
 
--- the session's transaction has a request that waits
+-- the key of the session's last request that had to wait, after one effect
 abbrev pub waits_by : ℕ → Effect → History → Option (List ℕ) → Option (List ℕ)
 waits_by s (Begins t) history was = if t == s then None else was
 waits_by s (Waits t key mode) history was = if t == s then Some key else was

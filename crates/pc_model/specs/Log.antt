@@ -1,5 +1,5 @@
 -- The log, its replay, and the states of points. A point of consistency is its resolve token in the log.
-use Rattle.std.specs.Prelude.{◌≡◌, ℕ, ◌+◌, ◌==◌, ◌&&◌, Bool, true, false, List, [], ◌∷◌, ◌⊎◌, IsTrue, if◌then◌else◌}
+use Rattle.std.specs.Prelude.{ℕ, ◌==◌, ◌&&◌, Bool, true, false, List, [], ◌∷◌, if◌then◌else◌}
 use Rattle.pc_types.specs.declared.Entry.{Entry}
 use Rattle.pc_types.specs.declared.Entry.TheVariants.{Commit, Token}
 use Rattle.pc_types.specs.declared.Phase.{Phase}
@@ -42,7 +42,3 @@ has_token point (Token phase m ∷ log) = if is_token_of point phase m then true
 -- the state of a point: the database after what was committed before its token; that of 0 is the base
 abbrev pub state_at : Database → List Entry → ℕ → Database
 state_at base log point = if point == 0 then base else after base (front point log)
-
--- the point is 0, or its token stands before that of the next point in the log
-abbrev pub PrecedesNext : ℕ → List Entry → Type 0
-PrecedesNext point log = (point ≡ 0) ⊎ IsTrue (has_token point (front (point + 1) log))

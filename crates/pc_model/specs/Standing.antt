@@ -4,12 +4,22 @@ use Rattle.pc_types.specs.declared.Phase.{Phase}
 use Rattle.pc_types.specs.declared.Phase.TheVariants.{Prepare, Resolve, Capture, Complete}
 use Rattle.pc_types.specs.declared.Entry.{Entry}
 use Rattle.pc_model.specs.Database.{Database}
-use Rattle.pc_model.specs.Log.{has_token, PrecedesNext}
+use Rattle.pc_model.specs.Log.{front, has_token}
 use Rattle.pc_model.specs.History.{History, effect, log_of, phase_of, point_of}
 use Rattle.pc_model.specs.History.Effect.{Nothing}
 use Rattle.pc_model.specs.Sets as set
-use Rattle.pc_model.specs.Files.{File, file_of, joined_file, conflict}
+use Rattle.pc_model.specs.Sets.{Set, number_order}
+use Rattle.pc_model.specs.Points.{content}
+use Rattle.pc_model.specs.Files.{File, joined_file, conflict}
 use Rattle.pc_model.specs.Replies.{Setting, IsLegal}
+
+-- the point is 0, or its token stands before that of the next point in the log
+abbrev pub PrecedesNext : ℕ → List Entry → Type 0
+PrecedesNext point log = (point ≡ 0) ⊎ IsTrue (has_token point (front (point + 1) log))
+
+-- the file of a set of points, by the log of its run
+abbrev pub file_of : ℕ → Database → List Entry → Set number_order → File
+file_of run base log points = record { run = run; points = points; triples = content base log (set.items points) }
 
 -- each step of the history was legal, or has no effect
 abbrev pub HasLegalEffects : Setting → History → Type 0

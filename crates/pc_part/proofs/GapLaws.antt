@@ -9,7 +9,8 @@ use Rattle.std.proofs.lemmas.Bool.{ltb-true, ltb-false}
 use Rattle.std.proofs.lemmas.List.{drop_all}
 use Rattle.pc_model.specs.Sets as set
 use Rattle.pc_model.specs.Sets.{Set, number_order}
-use Rattle.pc_model.specs.Files.{numbers_to, greatest, gap_above}
+use Rattle.pc_model.specs.Files.{numbers_to}
+use Rattle.pc_model.specs.LaidFiles.{greatest, gap_above}
 use Rattle.pc_part.specs.declared.ranges.Range.{Range}
 use Rattle.pc_part.specs.Parts.{points_from, points_of, RangesFrom}
 use Rattle.pc_part.proofs.RangePointLaws.{contains-points_of}

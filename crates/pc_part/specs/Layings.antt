@@ -6,7 +6,8 @@ use Rattle.pc_model.specs.Maps as map_of
 use Rattle.pc_model.specs.Database.{Database}
 use Rattle.pc_types.specs.declared.limits.TheConstants.{MOST_FILE_ENTRIES}
 use Rattle.pc_model.specs.Points.{AtPoint, Triples, laid_at, laid}
-use Rattle.pc_model.specs.Files.{File, BaseFile, gap_above}
+use Rattle.pc_model.specs.Files.{File, BaseFile}
+use Rattle.pc_model.specs.LaidFiles.{gap_above}
 
 -- what a key has once what is there of it in the triples is laid at the point on what it had
 abbrev pub laid_there : ℕ → Option (List ℕ) → Option AtPoint → Option (List ℕ)

@@ -1,7 +1,7 @@
 //! Laying a part on a base.
 ghost use Rattle.std.specs.Prelude.{◌≡◌, ◌+◌, ◌≤◌, ◌++◌, [], ◌∷◌, length, max, option_copied, IfOk, OnOk, Some};
 ghost use Rattle.pc_model.specs.Database.{KeysRise, database_of};
-ghost use Rattle.pc_model.specs.Files.{gap_above, greatest, laid_file};
+ghost use Rattle.pc_model.specs.LaidFiles.{gap_above, greatest, laid_file};
 ghost use Rattle.pc_model.specs.TripleLists.{entry_of, entries_of};
 ghost use Rattle.pc_model.specs.Points.{laid, laid_at};
 ghost use Rattle.pc_part.specs.Bases.{IsWithinLimit};

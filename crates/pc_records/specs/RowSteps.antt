@@ -1,7 +1,7 @@
 -- What each call makes of the rows, and what is asked of them.
-use Rattle.std.specs.Prelude.{ℕ, ◌==◌, ◌&&◌, ◌||◌, not, Bool, true, false, List, [], ◌∷◌, length, filter, Option, Some, None, is_some, is_none, if◌then◌else◌}
+use Rattle.std.specs.Prelude.{ℕ, ◌==◌, ◌&&◌, not, Bool, true, false, List, [], ◌∷◌, length, filter, Option, Some, None, is_none, if◌then◌else◌}
 use Rattle.std.specs.List.{list_any}
-use Rattle.std.specs.FinMap.{find, put as put_entry}
+use Rattle.std.specs.FinMap.{put as put_entry}
 use Rattle.pc_types.specs.declared.Mode.{Mode}
 use Rattle.pc_types.specs.declared.Write.{Write}
 use Rattle.pc_model.specs.Database.{key_cmp, same_bytes, written}
@@ -9,7 +9,6 @@ use Rattle.pc_types.specs.declared.Outcome.{Outcome}
 use Rattle.pc_model.specs.Locks.{Queue, request_in, is_ungranted, queue_after, queue_without}
 use Rattle.pc_types.specs.declared.Outcome.TheVariants.{Granted, Queued, Died}
 use Rattle.pc_model.specs.Queues.{stands_in}
-use Rattle.pc_model.specs.Replies.{is_empty}
 use Rattle.pc_records.specs.Rows.{Kept, Record, Row, is_in_closed_set, is_in_open_set, is_kept, record_of, requests_on}
 
 -- the same record, or none where nothing keeps it

@@ -1,14 +1,8 @@
 -- What the records of keys are seen as: rows that rise by key, each with what is kept of the key.
-use Rattle.std.specs.Prelude.{ℕ, ◌==◌, ◌&&◌, ◌||◌, not, Bool, true, false, List, [], ◌∷◌, length, filter, Option, Some, None, is_some, is_none, if◌then◌else◌}
-use Rattle.std.specs.List.{list_any}
-use Rattle.std.specs.FinMap.{find, put as put_entry}
-use Rattle.pc_types.specs.declared.Mode.{Mode}
-use Rattle.pc_types.specs.declared.Write.{Write}
-use Rattle.pc_model.specs.Database.{key_cmp, same_bytes, written}
-use Rattle.pc_types.specs.declared.Outcome.{Outcome}
-use Rattle.pc_model.specs.Locks.{Queue, request_in, is_ungranted, queue_after, queue_without}
-use Rattle.pc_types.specs.declared.Outcome.TheVariants.{Granted, Queued, Died}
-use Rattle.pc_model.specs.Queues.{stands_in}
+use Rattle.std.specs.Prelude.{ℕ, ◌||◌, not, Bool, false, List, [], Option, Some, None, is_some}
+use Rattle.std.specs.FinMap.{find}
+use Rattle.pc_model.specs.Database.{key_cmp}
+use Rattle.pc_model.specs.Locks.{Queue}
 use Rattle.pc_model.specs.Replies.{is_empty}
 
 -- What is kept of a key: the committed value, if it has one; whether it is in the open set, so that a commit since the last

@@ -11,7 +11,8 @@ use Rattle.std.proofs.lemmas.Bool.Decides.{nat_tests}
 use Rattle.std.proofs.lemmas.List.Folds.{list_all-append, find-append}
 use Rattle.pc_model.specs.Sets as sets
 use Rattle.pc_model.specs.Sets.{Set, number_order}
-use Rattle.pc_model.specs.Files.{File, greatest, numbers_to}
+use Rattle.pc_model.specs.Files.{File, numbers_to}
+use Rattle.pc_model.specs.LaidFiles.{greatest}
 use Rattle.pc_part.specs.declared.ranges.Range.{Range}
 use Rattle.pc_part.specs.Parts.{points_of}
 use Rattle.pc_part.proofs.RangePointLaws.{contains-points_of}

@@ -10,10 +10,11 @@ use Rattle.pc_types.specs.Fields.{◌>>=◌}
 use Rattle.pc_model.specs.Maps as map
 use Rattle.pc_model.specs.Sets as set
 use Rattle.pc_model.specs.Database.{Database}
-use Rattle.pc_model.specs.Log.{has_token, state_at, PrecedesNext}
+use Rattle.pc_model.specs.Log.{has_token, state_at}
+use Rattle.pc_model.specs.Standing.{PrecedesNext, IsOfItsPoints}
 use Rattle.pc_model.specs.Points.{laid}
-use Rattle.pc_model.specs.Files.{File, BaseFile, joined_file, laid_file, conflict, greatest, gap_above, numbers_to}
-use Rattle.pc_model.specs.Standing.{IsOfItsPoints}
+use Rattle.pc_model.specs.Files.{File, BaseFile, joined_file, conflict, numbers_to}
+use Rattle.pc_model.specs.LaidFiles.{laid_file, greatest, gap_above}
 use Rattle.pc_model.specs.Replies.{join_causes}
 use Rattle.pc_model.proofs.ContentLaws.{contains-items, contains-union, laid_content_from}
 use Rattle.pc_model.proofs.ShelfFileLaws.{join_well, joined_of_points, run_is, triples_is}

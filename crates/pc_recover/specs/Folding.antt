@@ -2,7 +2,8 @@
 use Rattle.std.specs.Prelude.{List, [], ◌∷◌, Option, Some, None, Result, Ok}
 use Rattle.pc_types.specs.declared.refusal.Refusal.{Refusal}
 use Rattle.pc_types.specs.Fields.{◌>>=◌}
-use Rattle.pc_model.specs.Files.{File, BaseFile, joined_file, laid_file}
+use Rattle.pc_model.specs.Files.{File, BaseFile, joined_file}
+use Rattle.pc_model.specs.LaidFiles.{laid_file}
 use Rattle.pc_model.specs.Replies.{join_causes}
 use Rattle.pc_part.specs.Joins.{first_cause}
 use Rattle.pc_part.specs.Layings.{lay_causes}

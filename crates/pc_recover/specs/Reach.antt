@@ -2,7 +2,8 @@
 use Rattle.std.specs.Prelude.{ℕ, ◌≡◌, ◌≤◌, min, List, Option, Some, None, fold, slice_index_or, if◌then◌else◌}
 use Rattle.pc_types.specs.declared.limits.TheConstants.{MOST_POINTS}
 use Rattle.pc_model.specs.Sets as set
-use Rattle.pc_model.specs.Files.{File, greatest}
+use Rattle.pc_model.specs.Files.{File}
+use Rattle.pc_model.specs.LaidFiles.{greatest}
 use Rattle.pc_recover.specs.Recovery.{recovered_point, first_missing}
 use Rattle.pc_recover.specs.declared.reach.Reach.{Reach}
 

@@ -8,7 +8,8 @@ use Rattle.pc_types.specs.Fields.{◌>>=◌, where_true}
 use Rattle.pc_types.specs.declared.limits.TheConstants.{MOST_POINTS}
 use Rattle.pc_model.specs.Sets as set
 use Rattle.pc_model.specs.Database.{Database, database_of}
-use Rattle.pc_model.specs.Files.{File, BaseFile, joined_file, laid_file, greatest, numbers_to}
+use Rattle.pc_model.specs.Files.{File, BaseFile, joined_file, numbers_to}
+use Rattle.pc_model.specs.LaidFiles.{laid_file, greatest}
 use Rattle.pc_model.specs.Log.{after, behind}
 use Rattle.pc_model.specs.Replies.{join_causes}
 use Rattle.pc_part.specs.Joins.{first_cause}

@@ -1,6 +1,6 @@
 //! How far files reach from a base.
 ghost use Rattle.std.specs.Prelude.{◌≡◌, ℕ, ◌≤◌, length, nat_le, None, ◌&&◌, IfOk, if◌then◌else◌};
-ghost use Rattle.pc_model.specs.Files.{greatest};
+ghost use Rattle.pc_model.specs.LaidFiles.{greatest};
 ghost use Rattle.pc_recover.specs.Recovery.{read_files};
 ghost use Rattle.pc_recover.specs.Reach.{AreTops, IsReach, lesser, noted, top_at};
 

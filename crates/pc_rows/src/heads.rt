@@ -2,6 +2,7 @@
 ghost use Rattle.std.specs.Prelude.{◌≤◌};
 
 use pc_script::Setup;
+use pc_types::{MOST_KEYS, MOST_SESSIONS};
 use std::alloc::Global;
 use std::str;
 
@@ -75,12 +76,13 @@ fn after(next: Next, word: &[u8]) -> Option<Next> {
 }
 
 fn setup_of(run: u32, sessions: u32, capacity: u32) -> Option<Setup> {
-    if capacity < 1 || 1_048_576 < capacity || sessions < 1 || 64 < sessions {
+    let sessions = u8::try_from(sessions).ok()?;
+    if capacity < 1 || MOST_KEYS < capacity || sessions < 1 || MOST_SESSIONS < sessions {
         return None;
     }
     Some(Setup {
         run,
-        sessions: sessions as u8,
+        sessions,
         capacity,
     })
 }

@@ -2,7 +2,8 @@
 use Rattle.std.specs.Prelude.{◌≡◌, ◌⊎◌, ◌↔◌, Bool, true, IsTrue, MatchOption}
 use Rattle.pc_types.specs.declared.Refusal.TheVariants as why
 use Rattle.pc_types.specs.declared.Reply.TheVariants as told
-use Rattle.pc_model.specs.Files.{File, BaseFile, shelf, file_at, laid_file}
+use Rattle.pc_model.specs.Files.{File, BaseFile, shelf, file_at}
+use Rattle.pc_model.specs.LaidFiles.{laid_file}
 use Rattle.pc_model.specs.History.{History}
 use Rattle.pc_model.specs.Replies.{Setting}
 use Rattle.pc_part.specs.Joins.{first_cause}

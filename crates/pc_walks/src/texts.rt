@@ -1,6 +1,6 @@
 //! What a store writes.
 ghost use Rattle.std.specs.Prelude.{All};
-ghost use Rattle.pc_model.specs.Limits.{HasFewWrites};
+ghost use Rattle.pc_model.specs.FewWrites.{HasFewWrites};
 
 use pc_engine::World;
 use pc_log::{encode_entry, encode_header};

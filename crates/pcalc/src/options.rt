@@ -3,6 +3,7 @@ ghost use Rattle.std.specs.Prelude.{◌≤◌};
 
 use clap::{Arg, ArgAction, ArgMatches, Command, Error};
 use pc_script::Setup;
+use pc_types::{MOST_KEYS, MOST_SESSIONS};
 use std::alloc::Global;
 
 /// What `pcalc --version` prints behind the program's name.
@@ -72,7 +73,7 @@ fn sessions_arg<'a>(alloc: Global) -> Arg<'a> {
         .long("sessions")
         .value_name("N")
         .help("How many sessions the store has, 1 to 64")
-        .value_parser(clap::value_parser!(u8).range(1..=64))
+        .value_parser(clap::value_parser!(u8).range(1..=i64::from(MOST_SESSIONS)))
         .default_value("8")
 }
 
@@ -81,7 +82,7 @@ fn capacity_arg<'a>(alloc: Global) -> Arg<'a> {
         .long("capacity")
         .value_name("N")
         .help("How many keys the store has room for, 1 to 1048576")
-        .value_parser(clap::value_parser!(u32).range(1..=1_048_576))
+        .value_parser(clap::value_parser!(u32).range(1..=i64::from(MOST_KEYS)))
         .default_value("1024")
 }
 
@@ -111,7 +112,7 @@ fn options_of<'a>(matches: &ArgMatches<'a>) -> Option<StepOptions<'a>> {
     let sessions = matches.get_one::<u8>("sessions")?;
     let capacity = matches.get_one::<u32>("capacity")?;
     let run = matches.get_one::<u32>("run")?;
-    if capacity < 1 || 1_048_576 < capacity || sessions < 1 || 64 < sessions {
+    if capacity < 1 || MOST_KEYS < capacity || sessions < 1 || MOST_SESSIONS < sessions {
         return None;
     }
     let setup = Setup {
