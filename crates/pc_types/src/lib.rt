@@ -1,9 +1,10 @@
-//! The words that every crate of the store speaks in: numbers, keys and values, events and replies, refusals, and
+//! The words that every crate of the store speaks in: numbers, keys and values, events and replies, refusals, gates, and
 //! readers and writers whose failures are counted.
 #![tactic(auto)]
 
 mod events;
 mod fields;
+mod gate;
 mod keys;
 mod limits;
 mod lists;
@@ -19,6 +20,7 @@ pub use fields::{
     read_bytes, read_content, read_key, read_magic, read_sized_key, read_u16, read_u32, read_u64,
     read_value,
 };
+pub use gate::{Gate, OpenGate, Place};
 pub use keys::Key;
 pub use limits::{
     MOST_FILE_ENTRIES, MOST_FILES, MOST_KEY_BYTES, MOST_KEYS, MOST_LOG_ENTRIES, MOST_POINTS,

@@ -1,0 +1,33 @@
+//! Gates: what a loop of threads passes on its way, so that a test can have one wait for another.
+use crate::{Phase, SessionNo};
+
+/// Where a loop stands.
+#[derive(Clone, Copy, Debug)]
+pub enum Place {
+    /// Before a transaction of this session begins.
+    Start(SessionNo),
+    /// The operation of this number, from 1, of the session's transaction was answered.
+    Step(SessionNo, u32),
+    /// The session's transaction has committed.
+    Committed(SessionNo),
+    /// Before the change into this phase is asked for.
+    Due(Phase),
+    /// This phase was entered.
+    Entered(Phase),
+    /// A key of a point was taken.
+    Took,
+    /// The collapser of this number, from 0, holds two files.
+    Pair(u8),
+}
+
+/// What a loop passes at each of its places. It may take its time, and changes nothing that a contract speaks of.
+pub trait Gate {
+    fn pass(&self, place: Place);
+}
+
+/// The gate that nothing waits at.
+pub struct OpenGate;
+
+impl Gate for OpenGate {
+    fn pass(&self, _place: Place) {}
+}
