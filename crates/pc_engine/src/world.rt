@@ -2,17 +2,17 @@
 ghost use Rattle.std.specs.Prelude.{◌≡◌, ◌≤◌, ◌<◌, ◌⊎◌, ◌↔◌, [], List, ℕ, true, IsTrue, All, IfOk, IfErr, option_copied};
 ghost use Rattle.pc_model.specs.Maps.{get, len};
 ghost use Rattle.pc_model.specs.Files.{file_at};
-ghost use Rattle.pc_model.specs.Database.{KeysRise, database_of, database_code};
+ghost use Rattle.pc_model.specs.Database.{KeysRise, database_of};
 ghost use Rattle.pc_model.specs.History.{History};
 ghost use Rattle.pc_model.specs.Limits.{IsInLimits};
 ghost use Rattle.pc_model.specs.FewWrites.{HasFewWrites};
 ghost use Rattle.pc_model.specs.Log.{after};
 ghost use Rattle.pc_log.specs.Laws.{IsLog};
 ghost use Rattle.pc_records.specs.Rows.{record_of, stored};
-ghost use Rattle.pc_engine.specs.Store.{setting_of, Store};
-ghost use Rattle.pc_engine.specs.Runs.{starting, IsRun};
+ghost use Rattle.pc_engine.specs.Store.{setting_of};
 ghost use Rattle.pc_engine.specs.Stands.{Stands, Follows, IfRefused};
 ghost use Rattle.pc_engine.specs.Checks.{IsSound};
+ghost use Rattle.pc_engine.specs.Runs.{starting, IsRun};
 
 use crate::checks::is_sound;
 use crate::sessions;
@@ -52,6 +52,8 @@ impl Model for World {
     ghost use Rattle.pc_log.specs.Logs.{entries_of};
     ghost use Rattle.pc_records.specs.Tables.{kept_of};
     ghost use Rattle.std.specs.Coded.{codes};
+    ghost use Rattle.pc_model.specs.Database.{database_code};
+    ghost use Rattle.pc_engine.specs.Store.{Store};
 
     ghost Value = { Store };
 
