@@ -1,13 +1,17 @@
--- The ranges of two parts, gone through by their first points.
-use Rattle.std.specs.Prelude.{◌≡◌, ℕ, ◌≤◌, ◌⊎◌, List, [], ◌∷◌}
+-- The union of ranges, which are added one after the other, by their first points.
+use Rattle.std.specs.Prelude.{◌+◌, nat_le, max, Bool, List, [], ◌∷◌, if◌then◌else◌}
 use Rattle.pc_part.specs.declared.ranges.Range.{Range}
 
--- the first of the ranges, if there is one, begins at this point or above
-abbrev pub BeginFrom : ℕ → List Range → Type 0
-BeginFrom least [] = Unit {0}
-BeginFrom least (r ∷ ranges) = least ≤ r.low
+-- no point is left out between a range and the next one
+abbrev pub meets : Range → Range → Bool
+meets last next = nat_le next.low (last.high + 1)
 
--- the range is the first of one of two lists, and the other begins no lower; these are then left of both
-abbrev pub IsFirst : List Range → List Range → Range → List Range → List Range → Type 0
-IsFirst left right range left_rest right_rest =
-    ((left ≡ range ∷ left_rest) × (right ≡ right_rest) × BeginFrom range.low right_rest) ⊎ ((right ≡ range ∷ right_rest) × (left ≡ left_rest) × BeginFrom range.low left_rest)
+-- the range up to the greater end of both
+abbrev pub widened : Range → Range → Range
+widened last next = record { low = last.low; high = max last.high next.high }
+
+-- the ranges with one more behind them, by which the last one is widened where they meet
+abbrev pub with_range : List Range → Range → List Range
+with_range [] range = range ∷ []
+with_range (last ∷ []) range = if meets last range then widened last range ∷ [] else last ∷ range ∷ []
+with_range (first ∷ second ∷ ranges) range = first ∷ with_range (second ∷ ranges) range
