@@ -2,6 +2,7 @@
 ghost use Rattle.std.specs.Prelude.{◌≤◌, ◌<◌};
 
 use clap::{Arg, ArgAction, ArgMatches, Command, Error};
+use pc_types::{MOST_KEYS, MOST_POINTS, MOST_WRITES};
 use std::alloc::Global;
 
 /// What is measured.
@@ -28,7 +29,7 @@ pub enum Work {
 pub struct Cycles {
     pub points: u16,
     pub keys: u32,
-    ghost in_range: { (1 ≤ keys) × (keys ≤ 1048576) },
+    ghost in_range: { (1 ≤ keys) × (keys ≤ MOST_KEYS) },
 }
 
 /// How many pairs of a request and a release are made, over how many slots, 1 to 1,048,576, and how many other requests
@@ -38,7 +39,7 @@ pub struct Pairs {
     pub pairs: u32,
     pub slots: u32,
     pub others: u16,
-    ghost in_range: { (1 ≤ slots) × (slots ≤ 1048576) },
+    ghost in_range: { (1 ≤ slots) × (slots ≤ MOST_KEYS) },
 }
 
 /// How many transactions there are, and how many keys each writes, all of them twice; at most 256.
@@ -46,7 +47,7 @@ pub struct Pairs {
 pub struct Batches {
     pub transactions: u32,
     pub keys: u16,
-    ghost in_range: { keys ≤ 256 },
+    ghost in_range: { keys ≤ MOST_WRITES },
 }
 
 /// How many transactions commit, each with one write, how many keys they go round, 1 to 1,048,576, and whether
@@ -56,7 +57,7 @@ pub struct Rounds {
     pub commits: u32,
     pub keys: u32,
     pub has_points: bool,
-    ghost in_range: { (1 ≤ keys) × (keys ≤ 1048576) },
+    ghost in_range: { (1 ≤ keys) × (keys ≤ MOST_KEYS) },
 }
 
 /// What is recovered: how many pairs the base has, 1 to 10,000,000, how many commits of one write the log has, at most
@@ -119,11 +120,11 @@ fn points_command<'a>(alloc: Global) -> Result<Command<'a>, Error> {
     let points = Arg::new(alloc, "POINTS")
         .help("How many points are taken, 1 to 65535")
         .required(true)
-        .value_parser(clap::value_parser!(u16).range(1..=65_535));
+        .value_parser(clap::value_parser!(u16).range(1..=i64::from(MOST_POINTS)));
     let keys = Arg::new(alloc, "KEYS")
         .help("How many keys are written and taken at each, 1 to 1048576")
         .required(true)
-        .value_parser(clap::value_parser!(u32).range(1..=1_048_576));
+        .value_parser(clap::value_parser!(u32).range(1..=i64::from(MOST_KEYS)));
     Ok(
         Command::new(alloc, "points")
             .about("Takes points over keys that are all written before each")
@@ -140,7 +141,7 @@ fn locks_command<'a>(alloc: Global) -> Result<Command<'a>, Error> {
     let slots = Arg::new(alloc, "SLOTS")
         .help("How many slots they go round, 1 to 1048576")
         .required(true)
-        .value_parser(clap::value_parser!(u32).range(1..=1_048_576));
+        .value_parser(clap::value_parser!(u32).range(1..=i64::from(MOST_KEYS)));
     let others = Arg::new(alloc, "OTHERS")
         .help("How many other requests stand in each queue, 0 to 1000")
         .required(true)
@@ -162,7 +163,7 @@ fn writes_command<'a>(alloc: Global) -> Result<Command<'a>, Error> {
     let keys = Arg::new(alloc, "KEYS")
         .help("How many keys each writes, all of them twice, 1 to 256")
         .required(true)
-        .value_parser(clap::value_parser!(u16).range(1..=256));
+        .value_parser(clap::value_parser!(u16).range(1..=MOST_WRITES as i64));
     Ok(
         Command::new(alloc, "writes")
             .about("Notes the writes of transactions, which end in turn by a commit and by an undo")
@@ -179,7 +180,7 @@ fn commits_command<'a>(alloc: Global) -> Result<Command<'a>, Error> {
     let keys = Arg::new(alloc, "KEYS")
         .help("How many keys they go round, 1 to 1048576")
         .required(true)
-        .value_parser(clap::value_parser!(u32).range(1..=1_048_576));
+        .value_parser(clap::value_parser!(u32).range(1..=i64::from(MOST_KEYS)));
     let points = Arg::new(alloc, "points")
         .long("points")
         .help("Takes checkpoints back to back, an event after each commit")
@@ -253,7 +254,7 @@ fn join_of(matches: &ArgMatches) -> Option<Work> {
 fn points_of(matches: &ArgMatches) -> Option<Work> {
     let points = matches.get_one::<u16>("POINTS")?;
     let keys = matches.get_one::<u32>("KEYS")?;
-    if keys < 1 || 1_048_576 < keys {
+    if keys < 1 || MOST_KEYS < keys {
         return None;
     }
     Some(Work::Points(Cycles { points, keys }))
@@ -263,7 +264,7 @@ fn locks_of(matches: &ArgMatches) -> Option<Work> {
     let pairs = matches.get_one::<u32>("PAIRS")?;
     let slots = matches.get_one::<u32>("SLOTS")?;
     let others = matches.get_one::<u16>("OTHERS")?;
-    if slots < 1 || 1_048_576 < slots {
+    if slots < 1 || MOST_KEYS < slots {
         return None;
     }
     Some(Work::Locks(Pairs {
@@ -276,7 +277,7 @@ fn locks_of(matches: &ArgMatches) -> Option<Work> {
 fn writes_of(matches: &ArgMatches) -> Option<Work> {
     let transactions = matches.get_one::<u32>("TRANSACTIONS")?;
     let keys = matches.get_one::<u16>("KEYS")?;
-    if 256 < keys {
+    if MOST_WRITES < usize::from(keys) {
         return None;
     }
     Some(Work::Writes(Batches { transactions, keys }))
@@ -285,7 +286,7 @@ fn writes_of(matches: &ArgMatches) -> Option<Work> {
 fn commits_of(matches: &ArgMatches) -> Option<Work> {
     let commits = matches.get_one::<u32>("COUNT")?;
     let keys = matches.get_one::<u32>("KEYS")?;
-    if keys == 0 || keys > 1_048_576 {
+    if keys < 1 || MOST_KEYS < keys {
         return None;
     }
     let has_points = matches.get_flag("points");

@@ -5,13 +5,13 @@ ghost use Rattle.pc_bench.specs.Writes.{AreKeyed};
 use crate::failure::Failure;
 use crate::options::Batches;
 use pc_txn::Transaction;
-use pc_types::{Key, Refusal, SlotId, TxnNo, Value, Write};
+use pc_types::{Key, MOST_WRITES, Refusal, SlotId, TxnNo, Value, Write};
 use std::alloc::Global;
 use std::rt::Clock;
 use std::time::{Duration, Instant};
 
 // How many rows a transaction may have.
-const MOST_ROWS: u64 = 256;
+const MOST_ROWS: u64 = MOST_WRITES as u64;
 
 /// What came of transactions.
 #[derive(Drop)]
@@ -32,7 +32,7 @@ pub fn measure_writes(
     batches: Batches,
 ) -> Result<Written, Failure>
     ensures writes { IfOk result (λ done. done.writes ≡ batches.transactions * (2 * batches.keys)) }
-    ensures rows { IfOk result (λ done. done.rows ≤ batches.transactions * 256) }
+    ensures rows { IfOk result (λ done. done.rows ≤ batches.transactions * MOST_WRITES) }
 {
     let mut writes = 0u64;
     let mut rows = 0u64;
@@ -90,7 +90,7 @@ fn write(alloc: Global, transaction: &mut Transaction, slot: u32) -> Result<(), 
 
 // Ends the transaction, and counts its rows.
 fn rows_at_end(transaction: Transaction) -> u64
-    ensures { result ≤ 256 }
+    ensures { result ≤ MOST_WRITES }
 {
     let mut transaction = transaction;
     if transaction.number().0 % 2 == 0 {
@@ -102,7 +102,7 @@ fn rows_at_end(transaction: Transaction) -> u64
 
 // Hands the writes out, and counts them.
 fn handed_out(transaction: Transaction) -> u64
-    ensures { result ≤ 256 }
+    ensures { result ≤ MOST_WRITES }
 {
     let count = transaction.writes().len() as u64;
     transaction.into_writes();
@@ -111,7 +111,7 @@ fn handed_out(transaction: Transaction) -> u64
 
 // Undoes all rows, and counts them.
 fn undone(transaction: &mut Transaction) -> u64
-    ensures { result ≤ 256 }
+    ensures { result ≤ MOST_WRITES }
 {
     for rows in 0..MOST_ROWS {
         if transaction.undo().is_none() {

@@ -5,7 +5,7 @@ ghost use Rattle.pc_model.specs.FewWrites.{HasFewWrites};
 use crate::sink::{Sink, went_out};
 use pc_asks::SIX_ENTRIES;
 use pc_log::{encode_entry, encode_header, encode_log, read_log};
-use pc_types::{Entry, Phase, Point, Refusal, Tally};
+use pc_types::{Entry, MOST_WRITES, Phase, Point, Refusal, Tally};
 use std::test::Fail;
 
 // Run 258, with one token.
@@ -16,7 +16,7 @@ fn has_few_writes(entry: &Entry) -> bool
     ensures { result ≡ true → HasFewWrites entry.now }
 {
     match entry {
-        Entry::Commit(_, writes) => writes.len() <= 256,
+        Entry::Commit(_, writes) => writes.len() <= MOST_WRITES,
         Entry::Token(_, _) => true,
     }
 }

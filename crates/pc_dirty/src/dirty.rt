@@ -4,7 +4,7 @@ ghost use Rattle.pc_chain.specs.Chains.{first_of, rest_of, AllHave};
 ghost use Rattle.pc_dirty.specs.Sets.{is_in, with_slot, HasNoRepeats};
 
 use crate::side::Side;
-use pc_types::SlotId;
+use pc_types::{MOST_KEYS, SlotId};
 use std::alloc::{AllocError, Global};
 use std::marker::Model;
 use std::mem;
@@ -31,7 +31,7 @@ impl Model for Dirty {
 impl Dirty {
     /// Two empty sets of the slots 0 to `slots` - 1, of which there are at most 2^20. It fails only where memory ran out.
     pub fn new(alloc: Global, slots: u32) -> Result<Dirty, AllocError>
-        requires { slots ≤ 1048576 }
+        requires { slots ≤ MOST_KEYS }
         ensures { IfOk result (λ sets. sets ≡ record { slots = slots; opened = []; closed = [] }) }
     {
         let opened = Side::new(alloc, slots)?;

@@ -7,6 +7,7 @@ use Rattle.pc_types.specs.declared.Reply.{Reply}
 use Rattle.pc_types.specs.declared.Reply.TheVariants as told
 use Rattle.pc_types.specs.declared.Refusal.{Refusal}
 use Rattle.pc_types.specs.declared.Refusal.TheVariants as why
+use Rattle.pc_types.specs.declared.limits.TheConstants.{MOST_FILES, MOST_LOG_ENTRIES, MOST_POINTS}
 use Rattle.pc_model.specs.Database.{written}
 use Rattle.pc_model.specs.Sets as set
 use Rattle.pc_model.specs.Files.{File, file_at, join_of, triples_taken}
@@ -36,7 +37,7 @@ is_in phase w = same_phase w.cycle.phase phase
 
 -- the log has as many entries as it may
 abbrev pub is_log_full : Store → Bool
-is_log_full w = length w.log == 16777216
+is_log_full w = length w.log == MOST_LOG_ENTRIES
 
 -- the causes of an open transaction's refusals, before these
 abbrev pub open_causes : Store → ℕ → List (Bool × Refusal) → List (Bool × Refusal)
@@ -127,7 +128,7 @@ after_moving phase point w = record w { log = w.log ++ Token phase point ∷ [];
 
 -- the causes of the refusals of a start of a cycle
 abbrev pub start_causes : Store → List (Bool × Refusal)
-start_causes w = (not (is_in phase.Rest w), why.WrongPhase) ∷ (w.cycle.point == 65535, why.PointsFull) ∷ (is_log_full w, why.LogFull) ∷ []
+start_causes w = (not (is_in phase.Rest w), why.WrongPhase) ∷ (w.cycle.point == MOST_POINTS, why.PointsFull) ∷ (is_log_full w, why.LogFull) ∷ []
 
 -- the cycle of the next point starts
 abbrev pub StartsPoint : Store → Reply → Store → Type 0
@@ -172,7 +173,7 @@ Takes old reply new = Owes (take_due old) old reply new (TakesFirst old.cycle.cl
 abbrev pub done_due : Store → Option Reply
 done_due w =
     or_else (first_refusal ((not (is_in phase.Capture w), why.WrongPhase) ∷ [])) (or_else (not_yet (length w.cycle.closed_set))
-    (first_refusal ((length w.shelf == 65536, why.ShelfFull) ∷ (is_log_full w, why.LogFull) ∷ [])))
+    (first_refusal ((length w.shelf == MOST_FILES, why.ShelfFull) ∷ (is_log_full w, why.LogFull) ∷ [])))
 
 -- the part of the point, of what was taken
 abbrev pub part_taken : Store → File

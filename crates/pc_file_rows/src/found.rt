@@ -5,7 +5,7 @@ ghost use Rattle.pc_model.specs.FewWrites.{HasFewWrites};
 use crate::kinds::Kind;
 use pc_log::{LogText, encode_entry, encode_header, read_log};
 use pc_part::{Base, Part};
-use pc_types::{Entry, Refusal, Tally};
+use pc_types::{Entry, MOST_WRITES, Refusal, Tally};
 use std::alloc::Global;
 use std::io::Write;
 
@@ -147,7 +147,7 @@ fn has_few_writes(entry: &Entry) -> bool
     ensures { result ≡ true → HasFewWrites entry.now }
 {
     match entry {
-        Entry::Commit(_, writes) => writes.len() <= 256,
+        Entry::Commit(_, writes) => writes.len() <= MOST_WRITES,
         Entry::Token(_, _) => true,
     }
 }

@@ -2,7 +2,7 @@
 ghost use Rattle.std.specs.Prelude.{◌≡◌, ◌<◌, ◌≤◌, length, IfOk};
 
 use pc_locks::Locks;
-use pc_types::{Mode, Outcome, SlotId, TxnNo};
+use pc_types::{MOST_KEYS, Mode, Outcome, SlotId, TxnNo};
 use std::alloc::{AllocError, Global};
 use std::test::Fail;
 
@@ -137,7 +137,7 @@ fn is_right(
 
 // Locks of so many slots; where memory is wanting they are made again.
 fn new_locks(alloc: Global, slots: u32) -> Result<Locks, AllocError>
-    requires { (1 ≤ slots) × (slots ≤ 1048576) }
+    requires { (1 ≤ slots) × (slots ≤ MOST_KEYS) }
     ensures { IfOk result (λ locks. slots ≤ length locks.queues) }
 {
     match Locks::new(alloc, slots) {

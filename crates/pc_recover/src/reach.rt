@@ -9,6 +9,9 @@ use pc_part::{Part, Range};
 use pc_types::{MOST_POINTS, Point};
 use std::alloc::{AllocError, Global};
 
+// A place for each point, and one for the start.
+const PLACES: usize = MOST_POINTS as usize + 1;
+
 /// How far files reach from a base.
 #[derive(Clone, Copy, Debug, PartialEq, Eq)]
 pub(crate) struct Reach {
@@ -51,10 +54,10 @@ pub(crate) fn reach_from(
 
 // Of each point, at its place, the least greatest point of the files that stand for it.
 fn least_tops(alloc: Global, files: &[Candidate]) -> Result<Vec<Option<Point>>, AllocError>
-    ensures len { IfOk result (λ tops. length tops.items ≡ 65536) }
+    ensures len { IfOk result (λ tops. length tops.items ≡ PLACES) }
     ensures tops { IfOk result (λ tops. AreTops tops.items (read_files files.now)) }
 {
-    let mut tops = no_tops(alloc, 65536)?;
+    let mut tops = no_tops(alloc, PLACES)?;
     for file in files {
         if let Ok(part) = file {
             note_part(&mut tops, part);
@@ -74,8 +77,8 @@ fn no_tops(alloc: Global, places: usize) -> Result<Vec<Option<Point>>, AllocErro
 
 // Notes the part's greatest point at its points.
 fn note_part(tops: &mut [Option<Point>], part: &Part)
-    requires { length tops.old ≡ 65536 }
-    ensures len { length tops.new ≡ 65536 }
+    requires { length tops.old ≡ PLACES }
+    ensures len { length tops.new ≡ PLACES }
     ensures tops { (point : ℕ) → point ≤ MOST_POINTS → top_at tops.new point ≡ noted point (top_at tops.old point) part.now }
 {
     let top = greatest_point(part);
@@ -86,8 +89,8 @@ fn note_part(tops: &mut [Option<Point>], part: &Part)
 
 // Notes the greatest point at the points of the range.
 fn note_range(tops: &mut [Option<Point>], range: Range, top: Point)
-    requires { length tops.old ≡ 65536 }
-    ensures len { length tops.new ≡ 65536 }
+    requires { length tops.old ≡ PLACES }
+    ensures len { length tops.new ≡ PLACES }
     ensures tops { (point : ℕ) → point ≤ MOST_POINTS → top_at tops.new point ≡ (if nat_le range.low point && nat_le point range.high then lesser (top_at tops.old point) top else top_at tops.old point) }
 {
     for place in usize::from(range.low.0)..usize::from(range.high.0) + 1 {
