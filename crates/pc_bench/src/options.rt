@@ -286,7 +286,7 @@ fn writes_of(matches: &ArgMatches) -> Option<Work> {
 fn commits_of(matches: &ArgMatches) -> Option<Work> {
     let commits = matches.get_one::<u32>("COUNT")?;
     let keys = matches.get_one::<u32>("KEYS")?;
-    if keys < 1 || MOST_KEYS < keys {
+    if keys == 0 || keys > MOST_KEYS {
         return None;
     }
     let has_points = matches.get_flag("points");
