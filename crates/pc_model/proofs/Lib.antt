@@ -4,6 +4,8 @@ pub mod PairMapLaws
 pub mod PlaceLaws
 pub mod JoinLaws
 pub mod RisingLaws
+pub mod MergeItemLaws
+pub mod MergeLaws
 pub mod CountLaws
 mod Queues
 mod Ample

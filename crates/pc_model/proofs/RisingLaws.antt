@@ -11,10 +11,34 @@ use Rattle.std.proofs.lemmas.Cmp.{eq_by_cmp_equiv}
 use Rattle.pc_model.specs.Database.{key_cmp, key_order, same_bytes}
 use Rattle.pc_model.proofs.JoinLaws.{one_key}
 
--- a test that holds: both of its parts hold
+-- a test that holds: both of its parts hold; and back
 pub both : (a b : Bool) → (a && b) ≡ true → (a ≡ true) × (b ≡ true)
 both true b e = (refl, e)
 both false b e = cc
+
+pub and_of : (a b : Bool) → a ≡ true → b ≡ true → (a && b) ≡ true
+and_of true b e f = f
+and_of false b e f = cc
+
+pub is_less : (o : Ordering) → is_lt o ≡ true → o ≡ Less
+is_less Less e = refl
+is_less Equal e = cc
+is_less Greater e = cc
+
+-- the key is less than those of the entries
+abbrev pub Below : {X : Type 0} → List ℕ → List (List ℕ × X) → Type 0
+Below key es = below_all key_cmp key es ≡ true
+
+-- the entries rise by key
+abbrev pub Rise : {X : Type 0} → List (List ℕ × X) → Type 0
+Rise es = is_sorted key_cmp es ≡ true
+
+-- a lesser key is below as well
+pub lesser_below : {X : Type 0} (k l : List ℕ) (es : List (List ℕ × X)) → key_cmp k l ≡ Less → Below l es → Below k es
+lesser_below k l [] less below = refl
+lesser_below k l (e ∷ es) less below =
+    let parts = both (is_lt (key_cmp l e.0)) (below_all key_cmp l es) below in
+    and_of (is_lt (key_cmp k e.0)) (below_all key_cmp k es) (ap is_lt (key_order.total.trans k l e.0 less (is_less (key_cmp l e.0) parts.0))) (lesser_below k l es less parts.1)
 
 apart : (o : Ordering) → is_lt o ≡ true → is_eq o ≡ false
 apart Less e = refl

@@ -33,3 +33,4 @@ pub mod Standing
 pub mod Quiet
 pub mod Numbers
 pub mod Entries
+pub mod Merges

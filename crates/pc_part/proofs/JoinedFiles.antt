@@ -27,10 +27,11 @@ use Rattle.pc_model.proofs.JoinLaws.{get-joined, one_key}
 use Rattle.pc_part.specs.Parts.{AreCovered, triples_of}
 use Rattle.itertools.specs.List.{by_ordering}
 use Rattle.itertools.specs.declared.either_or_both.EitherOrBoth.TheVariants.{Both, Left, Right}
-use Rattle.pc_part.specs.Merges.{gathered}
+use Rattle.pc_model.specs.Merges.{gathered}
 use Rattle.pc_part.specs.Joins.{clash_at, first_cause, triples_causes}
-use Rattle.pc_part.proofs.MergeLaws.{Rise, Below, both_of, find_below, Merges, merges, merged_items}
-use Rattle.pc_part.proofs.MergeRuns.{items}
+use Rattle.pc_model.proofs.MergeLaws.{Merges, merges, merged_items}
+use Rattle.pc_model.proofs.RisingLaws.{both, none_below, Below, Rise}
+use Rattle.pc_model.proofs.MergeItemLaws.{items}
 use Rattle.pc_part.proofs.JoinedLists.{joins, clashes}
 
 module _ (a b : List Triple) (rise_a : KeysRise (entries_of a)) (rise_b : KeysRise (entries_of b)) where
@@ -83,12 +84,12 @@ module _ (there : List ℕ → Option AtPoint) where
   pub none_differs : (es : List (List ℕ × AtPoint)) → Rise es → ((q : List ℕ) → clash_at (find key_cmp q es) (there q) ≡ None) → list_any (λ e. differs e.1 (there e.0)) es ≡ false
   none_differs [] rise none = refl
   none_differs (e ∷ es) rise none =
-      let parts = both_of (below_all key_cmp e.0 es) (is_sorted key_cmp es) rise in
+      let parts = both (below_all key_cmp e.0 es) (is_sorted key_cmp es) rise in
       ap (λ t. t || list_any (λ e. differs e.1 (there e.0)) es) (no_clash e.1 (there e.0) (ap (λ x. clash_at x (there e.0)) (sym (find_first e es)) ∙ none e.0))
       ∙ none_differs es parts.1 (λ q. by q (same_bytes q e.0) refl parts.0 (none q))
     where
       by : (q : List ℕ) (t : Bool) → same_bytes q e.0 ≡ t → Below e.0 es → clash_at (cond t (Some e.1) (find key_cmp q es)) (there q) ≡ None → clash_at (find key_cmp q es) (there q) ≡ None
-      by q true same below h = ap (λ x. clash_at x (there q)) (ap (λ k. find key_cmp k es) (one_key q e.0 same) ∙ find_below e.0 es below)
+      by q true same below h = ap (λ x. clash_at x (there q)) (ap (λ k. find key_cmp k es) (one_key q e.0 same) ∙ none_below e.0 es below)
       by q false same below h = h
 
   pub some_differs : (es : List (List ℕ × AtPoint)) (q : List ℕ) → clash_at (find key_cmp q es) (there q) ≡ Some tt → list_any (λ e. differs e.1 (there e.0)) es ≡ true

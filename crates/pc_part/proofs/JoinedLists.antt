@@ -1,6 +1,6 @@
 -- Two lists of triples merged key by key: the join, and where two triples clash.
 use Rattle.std.proofs.Common.{◌≡◌, ℕ, ◌+◌, ◌≤◌, ◌<◌, true, false, not, List, [], ◌∷◌, ◌++◌, length, get_or, drop, refl, sym, ap, ◌∙◌, arith}
-use Rattle.std.proofs.lemmas.List.{map-append, append-nil}
+use Rattle.std.proofs.lemmas.List.{map-append}
 use Rattle.itertools.specs.declared.either_or_both.EitherOrBoth.{EitherOrBoth}
 use Rattle.itertools.specs.declared.either_or_both.EitherOrBoth.TheVariants.{Both, Left, Right}
 use Rattle.pc_types.specs.declared.Triple.{Triple}
@@ -8,9 +8,9 @@ use Rattle.pc_model.specs.Points.{AtPoint, later}
 use Rattle.pc_model.specs.TripleLists.{entry_of, entries_of}
 use Rattle.pc_model.specs.Replies.{is_empty}
 use Rattle.pc_part.specs.Joins.{clash_at}
-use Rattle.pc_part.specs.Merges.{with_item, gathered, merged}
-use Rattle.pc_part.proofs.MergeLaws.{merged_items, one_more, counts_on, goes_on, none_left}
-use Rattle.pc_part.proofs.MergeRuns.{items}
+use Rattle.pc_model.specs.Merges.{with_item, gathered, merged}
+use Rattle.pc_model.proofs.MergeLaws.{merged_items, one_more, counts_on, goes_on, none_left, gathered_all}
+use Rattle.pc_model.proofs.MergeItemLaws.{items}
 
 abbrev pub joins : List Triple → List Triple → List (List ℕ × AtPoint)
 joins a b = merged later (entries_of a) (entries_of b)
@@ -80,4 +80,4 @@ module _ (a b : List Triple) (n : ℕ) (out : List Triple) (so_far : entries_of 
   one_merged m item t new at next made put = goes_on later (both_items a b) n m item _ (entries_of out) (entries_of new) _ at next made so_far (ap entries_of put ∙ map-append entry_of out (t ∷ []))
 
   pub all_merged : n ≡ length (both_items a b) → entries_of out ≡ joins a b
-  all_merged end = sym (append-nil (entries_of out)) ∙ ap (λ es. entries_of out ++ es) (sym (none_left later (both_items a b) n end)) ∙ so_far
+  all_merged end = gathered_all later (both_items a b) n (entries_of out) _ end so_far

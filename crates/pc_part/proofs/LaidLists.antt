@@ -1,6 +1,5 @@
 -- Rising triples laid on rising pairs, from the fronts of both.
 use Rattle.std.proofs.Common.{◌≡◌, ℕ, ◌≤◌, ◌<◌, nat_lt, false, ◌+◌, List, [], ◌∷◌, ◌++◌, true, length, drop, Option, Some, None, is_some, option_copied, Bor, refl, sym, ap, ◌∙◌, arith, lt-ltb}
-use Rattle.std.proofs.lemmas.List.{append-nil}
 use Rattle.std.proofs.lemmas.Bool.Decides.{nat_tests}
 use Rattle.std.specs.FinMap.{find}
 use Rattle.pc_types.specs.declared.Refusal.TheVariants.{Full}
@@ -15,10 +14,10 @@ use Rattle.pc_model.proofs.JoinLaws.{get-laid}
 use Rattle.pc_part.specs.Joins.{first_cause}
 use Rattle.itertools.specs.declared.either_or_both.EitherOrBoth.{EitherOrBoth}
 use Rattle.pc_part.specs.Layings.{laid_there, limit_causes}
-use Rattle.pc_part.specs.Merges.{gathered, merged, with_content}
+use Rattle.pc_model.specs.Merges.{gathered, merged, with_content}
 use Rattle.pc_part.specs.Parts.{triples_of}
-use Rattle.pc_part.proofs.MergeLaws.{Merges, merges, none_left}
-use Rattle.pc_part.proofs.MergeRuns.{items}
+use Rattle.pc_model.proofs.MergeLaws.{Merges, merges, none_left, gathered_all}
+use Rattle.pc_model.proofs.MergeItemLaws.{items}
 
 abbrev pub Pair : Type 0
 Pair = List ℕ × List ℕ
@@ -49,7 +48,7 @@ module _ (point : ℕ) (pairs : List Pair) (triples : List Triple) (n : ℕ) (en
   all_counted len so_far = let none = ap length (none_left (laid_there point) (laid_items pairs triples) n end) in omega (arith, none, so_far)
 
   pub all_laid : (out : List Pair) → out ++ lays_from point pairs triples n ≡ lays point pairs triples → out ≡ lays point pairs triples
-  all_laid out so_far = sym (append-nil out) ∙ ap (λ es. out ++ es) (sym (none_left (laid_there point) (laid_items pairs triples) n end)) ∙ so_far
+  all_laid out so_far = gathered_all (laid_there point) (laid_items pairs triples) n out _ end so_far
 
 -- what is laid so is laid as the definition says
 module _ (point : ℕ) (pairs : List Pair) (triples : List Triple) (rise_p : KeysRise pairs) (rise_t : KeysRise (entries_of triples)) where

@@ -8,8 +8,6 @@ mod JoinedFiles
 mod JoinedLists
 mod LaidLists
 mod LawfulParts
-pub mod MergeLaws
-mod MergeRuns
 pub mod PartFileLaws
 mod PartTexts
 pub mod RangePointLaws

@@ -2,7 +2,6 @@ pub mod Bases
 pub mod Joins
 pub mod Lawful
 pub mod Layings
-pub mod Merges
 pub mod Parts
 pub mod Reading
 pub mod RoundTrips

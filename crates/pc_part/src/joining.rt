@@ -9,7 +9,7 @@ ghost use Rattle.pc_part.specs.Bases.{IsWithinLimit};
 ghost use Rattle.pc_part.specs.Parts.{AreCovered, triples_of};
 ghost use Rattle.pc_model.specs.Replies.{is_empty, join_causes};
 ghost use Rattle.pc_part.specs.Joins.{clash_at, first_cause, triples_causes, IsRefusedBy};
-ghost use Rattle.pc_part.specs.Merges.{item_of, merged, with_item, IsOfOneKey};
+ghost use Rattle.pc_model.specs.Merges.{item_of, merged, with_item, IsOfOneKey};
 
 use crate::part::Part;
 use crate::uniting::union_ranges;

@@ -7,7 +7,7 @@ ghost use Rattle.pc_model.specs.Points.{laid, laid_at};
 ghost use Rattle.pc_part.specs.Bases.{IsWithinLimit};
 ghost use Rattle.pc_part.specs.Joins.{first_cause, IsRefusedBy};
 ghost use Rattle.pc_part.specs.Layings.{laid_there, lay_causes, limit_causes};
-ghost use Rattle.pc_part.specs.Merges.{item_of, merged, with_content, with_item};
+ghost use Rattle.pc_model.specs.Merges.{item_of, merged, with_content, with_item};
 ghost use Rattle.pc_part.specs.Parts.{AreRanges, points_of, triples_of};
 
 use crate::base::Base;

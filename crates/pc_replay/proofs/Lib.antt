@@ -2,6 +2,5 @@ mod AuditLemmas
 mod ChangeLemmas
 mod FirstOfEach
 mod Halving
-mod Moving
 mod TreeLemmas
 mod LaidInTurn

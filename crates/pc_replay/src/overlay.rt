@@ -1,16 +1,17 @@
 //! A database that is written over in place.
-ghost use Rattle.std.specs.Prelude.{◌≡◌, ℕ, ◌≤◌, ◌++◌, ◌∷◌, List, length, take, drop, reverse, Some, None, IfOk, OnOk};
+ghost use Rattle.std.specs.Prelude.{◌≡◌, [], Some, None, IfOk, OnOk};
+ghost use Rattle.std.specs.Option.{option_to_list};
 ghost use Rattle.std.specs.BTreeMap.{Updates};
 ghost use Rattle.std.specs.FinMap.{put as put_entry};
-ghost use Rattle.std.specs.declared.cmp.Ordering.TheVariants.{Less};
 ghost use Rattle.pc_model.specs.Maps as map;
-ghost use Rattle.pc_replay.specs.Changes.{overlaid, rejoined, IsBelow};
-ghost use Rattle.pc_model.specs.Database.{KeysRise, key_cmp, database_of, put, applied, applied_all};
+ghost use Rattle.pc_replay.specs.Changes.{overlaid, overlaid_there};
+ghost use Rattle.pc_model.specs.Database.{KeysRise, key_cmp, database_of, applied, applied_all};
+ghost use Rattle.pc_model.specs.Merges.{with_content, with_item};
 ghost use Rattle.pc_model.specs.Places.{IsAt};
 
-use crate::pairs::place;
 use crate::samples::KeySamples;
 use crate::tree::TreeKey;
+use itertools::{EitherOrBoth, Itertools};
 use pc_types::{Items, Key, Value, Write};
 use std::alloc::{AllocError, Global};
 use std::collections::BTreeMap;
@@ -154,7 +155,7 @@ fn forget(changes: &mut BTreeMap<TreeKey, Option<Value>>, key: Key)
     changes.remove(&TreeKey(key));
 }
 
-// The pairs with the changes laid over: from the greatest key down, each is moved once.
+// The pairs with the changes laid over: both are gone through together, from the least key up.
 fn merged(
     alloc: Global,
     pairs: Vec<(Key, Value)>,
@@ -165,70 +166,31 @@ fn merged(
     ensures overlaid { IfOk result (λ out. database_of out.items ≡ overlaid (database_of pairs.items) changes.entries) }
 {
     let mut out = Vec::with_capacity(alloc, pairs.len() + changes.len())?;
-    let mut left = pairs;
-    let mut changes = changes;
-    while let Some((key, content)) = changes.pop_last() {
-        let TreeKey(key) = key;
-        move_change(&mut out, &mut left, key, content)?;
-    }
-    move_back(&mut out, &mut left, 0)?;
-    out.reverse();
-    Ok(out)
-}
-
-// Moves the pairs above the key, and then the key with its new value, if there is one; a pair of the key is dropped.
-fn move_change(
-    out: &mut Vec<(Key, Value)>,
-    left: &mut Vec<(Key, Value)>,
-    key: Key,
-    content: Option<Value>,
-) -> Result<(), AllocError>
-    requires rise { KeysRise (rejoined left.old.items out.old.items) }
-    requires below { IsBelow key (reverse out.old.items) }
-    ensures rise { OnOk result (KeysRise (rejoined left.new.items out.new.items)) }
-    ensures put { OnOk result (database_of (rejoined left.new.items out.new.items) ≡ put (database_of (rejoined left.old.items out.old.items)) key content) }
-    ensures below { OnOk result ((k : List ℕ) → key_cmp k key ≡ Less → IsBelow k (reverse out.new.items)) }
-{
-    move_above(out, left, &key)?;
-    if let Some(value) = content {
-        out.push((key, value))?;
-    }
-    Ok(())
-}
-
-// Moves the pairs above the key; a pair of the key is dropped.
-fn move_above(
-    out: &mut Vec<(Key, Value)>,
-    left: &mut Vec<(Key, Value)>,
-    key: &Key,
-) -> Result<(), AllocError>
-    requires { KeysRise left.old.items }
-    ensures { OnOk result ((value : List ℕ) → put_entry key_cmp key.now value left.old.items ++ reverse out.old.items ≡ left.new.items ++ (key.now, value) ∷ reverse out.new.items) }
-{
-    match place(left, key) {
-        Ok(i) => {
-            move_back(out, left, i + 1)?;
-            left.pop();
-            Ok(())
-        }
-        Err(i) => move_back(out, left, i),
-    }
-}
-
-// Moves the pairs from the index on, the last one first.
-fn move_back(
-    out: &mut Vec<(Key, Value)>,
-    left: &mut Vec<(Key, Value)>,
-    from: usize,
-) -> Result<(), AllocError>
-    requires { from ≤ length left.old.items }
-    ensures left { OnOk result (left.new.items ≡ take from left.old.items) }
-    ensures moved { OnOk result (reverse out.new.items ≡ drop from left.old.items ++ reverse out.old.items) }
-{
-    while left.len() > from {
-        if let Some(pair) = left.pop() {
+    for item in pairs
+        .into_iter()
+        .merge_join_by(changes, |pair, change| pair.0.compare(&change.0.0))
+    {
+        if let Some(pair) = overlaid_item(item) {
             out.push(pair)?;
         }
     }
-    Ok(())
+    Ok(out)
+}
+
+// What a key has, once its change, if there is one, is laid over its pair, if there is one.
+fn overlaid_item(item: EitherOrBoth<(Key, Value), (TreeKey, Option<Value>)>) -> Option<(Key, Value)>
+    ensures { with_item overlaid_there item [] ≡ option_to_list result }
+{
+    match item {
+        EitherOrBoth::Left(pair) => Some(pair),
+        EitherOrBoth::Right(change) => changed(change.0.0, change.1),
+        EitherOrBoth::Both(pair, change) => changed(pair.0, change.1),
+    }
+}
+
+// The key with its new value; nothing where it is removed.
+fn changed(key: Key, content: Option<Value>) -> Option<(Key, Value)>
+    ensures { with_content key content [] ≡ option_to_list result }
+{
+    content.map(|value| (key, value))
 }

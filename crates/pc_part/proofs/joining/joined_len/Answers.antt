@@ -5,9 +5,9 @@ use Rattle.std.proofs.lemmas.Iterator.Consumers.{YieldsList-turn, YieldsList-end
 use Rattle.pc_types.specs.declared.refusal.Refusal.{Refusal}
 use Rattle.pc_types.specs.declared.refusal.Refusal.TheVariants.{Conflict}
 use Rattle.pc_model.specs.TripleLists.{entry_of, entries_of}
-use Rattle.pc_part.specs.Merges.{item_of}
+use Rattle.pc_model.specs.Merges.{item_of}
 use Rattle.pc_part.proofs.JoinedLists.{both_items, none_counted, count_one, stops, ends}
-use Rattle.pc_part.proofs.MergeRuns.{items_given, items_len}
+use Rattle.pc_model.proofs.MergeItemLaws.{items_given, items_len}
 use Rattle.pc_part.proofs.joining.joined_len.Goals as goal
 use Rattle.pc_part.proofs.joining.joined_len.Goals.{In-Some}
 

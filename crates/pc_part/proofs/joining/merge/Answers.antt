@@ -4,10 +4,10 @@ use Rattle.std.proofs.lemmas.Iterator.{YieldsList-from_slice}
 use Rattle.std.proofs.lemmas.Iterator.Consumers.{YieldsList-turn, YieldsList-end}
 use Rattle.pc_model.specs.Points.{later}
 use Rattle.pc_model.specs.TripleLists.{entry_of, entries_of}
-use Rattle.pc_part.specs.Merges.{item_of}
+use Rattle.pc_model.specs.Merges.{item_of}
 use Rattle.pc_part.proofs.JoinedLists.{both_items, joins_from, one_merged, all_merged}
-use Rattle.pc_part.proofs.MergeLaws.{merged_items}
-use Rattle.pc_part.proofs.MergeRuns.{items_given, of_one_key}
+use Rattle.pc_model.proofs.MergeLaws.{merged_items}
+use Rattle.pc_model.proofs.MergeItemLaws.{items_given, of_one_key}
 use Rattle.pc_part.proofs.joining.merge.Goals as goal
 use Rattle.pc_part.proofs.joining.merge.Goals.{In-Some}
 

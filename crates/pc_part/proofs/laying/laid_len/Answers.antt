@@ -4,10 +4,10 @@ use Rattle.std.proofs.lemmas.Iterator.{YieldsList-from_slice}
 use Rattle.std.proofs.lemmas.Iterator.Consumers.{YieldsList-turn, YieldsList-end}
 use Rattle.pc_model.specs.TripleLists.{entry_of, entries_of}
 use Rattle.pc_part.specs.Layings.{laid_there}
-use Rattle.pc_part.specs.Merges.{item_of}
+use Rattle.pc_model.specs.Merges.{item_of}
 use Rattle.pc_part.proofs.LaidLists.{laid_items, counted_one, counted_none, all_counted}
-use Rattle.pc_part.proofs.MergeLaws.{merged_items, counts_on}
-use Rattle.pc_part.proofs.MergeRuns.{items_given, items_len}
+use Rattle.pc_model.proofs.MergeLaws.{merged_items, counts_on}
+use Rattle.pc_model.proofs.MergeItemLaws.{items_given, items_len}
 use Rattle.pc_part.proofs.laying.laid_len.Goals as goal
 use Rattle.pc_part.proofs.laying.laid_len.Goals.{In-Some, Then-is_some, Else-is_some}
 

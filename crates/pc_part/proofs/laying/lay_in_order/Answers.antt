@@ -5,8 +5,8 @@ use Rattle.std.proofs.lemmas.Iterator.Consumers.{YieldsList-turn, YieldsList-end
 use Rattle.pc_model.specs.TripleLists.{entry_of, entries_of}
 use Rattle.pc_part.specs.Layings.{laid_there}
 use Rattle.pc_part.proofs.LaidLists.{laid_items, lays_from, all_laid}
-use Rattle.pc_part.proofs.MergeLaws.{merged_items, goes_on}
-use Rattle.pc_part.proofs.MergeRuns.{items_given}
+use Rattle.pc_model.proofs.MergeLaws.{merged_items, goes_on}
+use Rattle.pc_model.proofs.MergeItemLaws.{items_given}
 use Rattle.pc_part.proofs.laying.lay_in_order.Goals as goal
 
 pub loop-item-init : goal.loop-item-init

@@ -1,6 +1,6 @@
 -- What a merge of two rising lists has at each key, and its steps.
 use Rattle.std.proofs.Common.{◌≡◌, ℕ, Bool, true, false, cond, ◌&&◌, ◌+◌, ◌<◌, List, [], ◌∷◌, ◌++◌, map, length, get_or, drop, Option, Some, None, refl, sym, ap, subst, ◌∙◌, append_assoc, arith}
-use Rattle.std.proofs.lemmas.List.{at_drop_more, at_drop_all, length-append}
+use Rattle.std.proofs.lemmas.List.{at_drop_more, at_drop_all, append-nil, length-append}
 use Rattle.std.specs.Ordering.{is_eq, is_lt, ordering_reverse}
 use Rattle.std.specs.declared.cmp.Ordering.{Ordering}
 use Rattle.std.specs.declared.cmp.Ordering.TheVariants.{Less, Equal, Greater}
@@ -8,63 +8,23 @@ use Rattle.std.specs.FinMap.{find, is_sorted}
 use Rattle.std.specs.FinMap.Entries.{below_all}
 use Rattle.pc_model.specs.Database.{key_cmp, key_order, same_bytes}
 use Rattle.pc_model.proofs.JoinLaws.{one_key}
+use Rattle.pc_model.proofs.RisingLaws.{both, and_of, none_below, lesser_below, Below, Rise}
 use Rattle.itertools.specs.List.{by_ordering}
 use Rattle.itertools.specs.declared.either_or_both.EitherOrBoth.{EitherOrBoth}
 use Rattle.itertools.specs.declared.either_or_both.EitherOrBoth.TheVariants.{Both, Left, Right}
 use Rattle.itertools.proofs.ListLemmas.{merge_join_by-nil}
-use Rattle.pc_part.specs.Merges.{with_content, with_item, gathered, merged}
-use Rattle.pc_part.proofs.MergeRuns.{items}
+use Rattle.pc_model.specs.Merges.{with_content, with_item, gathered, merged}
+use Rattle.pc_model.proofs.MergeItemLaws.{items}
 
--- a test that holds: both of its parts hold; and back
-pub both_of : (a b : Bool) → (a && b) ≡ true → (a ≡ true) × (b ≡ true)
-both_of true b e = (refl, e)
-both_of false b e = cc
-
-pub and_of : (a b : Bool) → a ≡ true → b ≡ true → (a && b) ≡ true
-and_of true b e f = f
-and_of false b e f = cc
-
-pub is_less : (o : Ordering) → is_lt o ≡ true → o ≡ Less
-is_less Less e = refl
-is_less Equal e = cc
-is_less Greater e = cc
-
-apart : (o : Ordering) → is_lt o ≡ true → is_eq o ≡ false
-apart Less e = refl
-apart Equal e = cc
-apart Greater e = cc
-
--- the key is less than those of the entries
-abbrev pub Below : {X : Type 0} → List ℕ → List (List ℕ × X) → Type 0
-Below key es = below_all key_cmp key es ≡ true
-
--- the entries rise by key
-abbrev pub Rise : {X : Type 0} → List (List ℕ × X) → Type 0
-Rise es = is_sorted key_cmp es ≡ true
-
-pub flipped : (k l : List ℕ) → key_cmp k l ≡ Greater → key_cmp l k ≡ Less
+flipped : (k l : List ℕ) → key_cmp k l ≡ Greater → key_cmp l k ≡ Less
 flipped k l is = key_order.total.antisymm l k ∙ ap ordering_reverse is
 
--- no entry has a key that is below all
-pub find_below : {X : Type 0} (key : List ℕ) (es : List (List ℕ × X)) → Below key es → find key_cmp key es ≡ None
-find_below key [] below = refl
-find_below key (e ∷ es) below =
-    let parts = both_of (is_lt (key_cmp key e.0)) (below_all key_cmp key es) below in
-    ap (λ b. cond b (Some e.1) (find key_cmp key es)) (apart (key_cmp key e.0) parts.0) ∙ find_below key es parts.1
-
--- a lesser key is below as well
-pub lesser_below : {X : Type 0} (k l : List ℕ) (es : List (List ℕ × X)) → key_cmp k l ≡ Less → Below l es → Below k es
-lesser_below k l [] less below = refl
-lesser_below k l (e ∷ es) less below =
-    let parts = both_of (is_lt (key_cmp l e.0)) (below_all key_cmp l es) below in
-    and_of (is_lt (key_cmp k e.0)) (below_all key_cmp k es) (ap is_lt (key_order.total.trans k l e.0 less (is_less (key_cmp l e.0) parts.0))) (lesser_below k l es less parts.1)
-
 -- what entries have, where a key is below them
-pub find_apart : {X : Type 0} (key q : List ℕ) (es : List (List ℕ × X)) → Below key es → find key_cmp q es ≡ cond (same_bytes q key) None (find key_cmp q es)
+find_apart : {X : Type 0} (key q : List ℕ) (es : List (List ℕ × X)) → Below key es → find key_cmp q es ≡ cond (same_bytes q key) None (find key_cmp q es)
 find_apart {X} key q es below = by (same_bytes q key) refl
   where
     by : (b : Bool) → same_bytes q key ≡ b → find key_cmp q es ≡ cond b None (find key_cmp q es)
-    by true same = ap (λ k. find key_cmp k es) (one_key q key same) ∙ find_below key es below
+    by true same = ap (λ k. find key_cmp k es) (one_key q key same) ∙ none_below key es below
     by false same = refl
 
 find_with : {X : Type 0} (key q : List ℕ) (content : Option X) (es : List (List ℕ × X)) → Below key es → find key_cmp q (with_content key content es) ≡ cond (same_bytes q key) content (find key_cmp q es)
@@ -108,40 +68,40 @@ module _ {A B C : Type 0} (rule : Option A → Option B → Option C) where
     second_merges : (bs : List (List ℕ × B)) → Rise bs → Merges [] bs (gathered rule (items {X = A} [] bs))
     second_merges [] rise = record { finds = λ q. sym nothing; rise = refl; below = λ k in_a in_b. refl }
     second_merges (b ∷ bs) rise =
-        let parts = both_of (below_all key_cmp b.0 bs) (is_sorted key_cmp bs) rise in
+        let parts = both (below_all key_cmp b.0 bs) (is_sorted key_cmp bs) rise in
         one_step b.0 None (Some b.1) [] [] (b ∷ bs) bs (gathered rule (items {X = A} [] bs)) (λ q. find_apart b.0 q [] refl) (λ q. refl) refl parts.0
-        (λ k in_a in_b. let h = both_of (is_lt (key_cmp k b.0)) (below_all key_cmp k bs) in_b in record { less = h.0; first = refl; second = h.1 })
+        (λ k in_a in_b. let h = both (is_lt (key_cmp k b.0)) (below_all key_cmp k bs) in_b in record { less = h.0; first = refl; second = h.1 })
         (second_merges bs parts.1)
 
     merges_with : (a : List ℕ × A) (rest : List (List ℕ × A)) (again : (bs : List (List ℕ × B)) → Rise rest → Rise bs → Merges rest bs (gathered rule (items rest bs))) (bs : List (List ℕ × B)) →
         Rise (a ∷ rest) → Rise bs → Merges (a ∷ rest) bs (gathered rule (items (a ∷ rest) bs))
     merges_with a rest again [] rise_a rise_b =
-        let parts = both_of (below_all key_cmp a.0 rest) (is_sorted key_cmp rest) rise_a in
+        let parts = both (below_all key_cmp a.0 rest) (is_sorted key_cmp rest) rise_a in
         one_step a.0 (Some a.1) None (a ∷ rest) rest [] [] (gathered rule (map (λ x. Left x) rest)) (λ q. refl) (λ q. find_apart a.0 q [] refl) parts.0 refl
-        (λ k in_a in_b. let h = both_of (is_lt (key_cmp k a.0)) (below_all key_cmp k rest) in_a in record { less = h.0; first = h.1; second = refl })
+        (λ k in_a in_b. let h = both (is_lt (key_cmp k a.0)) (below_all key_cmp k rest) in_a in record { less = h.0; first = h.1; second = refl })
         (subst (λ l. Merges rest [] (gathered rule l)) (merge_join_by-nil (λ x y. key_cmp x.0 y.0) rest) (again [] parts.1 refl))
     merges_with a rest again (b ∷ bs) rise_a rise_b =
-        by (λ rise. merges_with a rest again bs rise_a rise) (key_cmp a.0 b.0) refl (both_of (below_all key_cmp a.0 rest) (is_sorted key_cmp rest) rise_a) (both_of (below_all key_cmp b.0 bs) (is_sorted key_cmp bs) rise_b)
+        by (λ rise. merges_with a rest again bs rise_a rise) (key_cmp a.0 b.0) refl (both (below_all key_cmp a.0 rest) (is_sorted key_cmp rest) rise_a) (both (below_all key_cmp b.0 bs) (is_sorted key_cmp bs) rise_b)
       where
         by : (Rise bs → Merges (a ∷ rest) bs (gathered rule (items (a ∷ rest) bs))) → (o : Ordering) → key_cmp a.0 b.0 ≡ o → (Below a.0 rest × Rise rest) → (Below b.0 bs × Rise bs) →
             Merges (a ∷ rest) (b ∷ bs) (gathered rule (by_ordering o (Left a ∷ items rest (b ∷ bs)) (Both a b ∷ items rest bs) (Right b ∷ items (a ∷ rest) bs)))
         by later Less is pa pb =
             let under : Below a.0 (b ∷ bs) = and_of (is_lt (key_cmp a.0 b.0)) (below_all key_cmp a.0 bs) (ap is_lt is) (lesser_below a.0 b.0 bs is pb.0) in
             one_step a.0 (Some a.1) None (a ∷ rest) rest (b ∷ bs) (b ∷ bs) (gathered rule (items rest (b ∷ bs))) (λ q. refl) (λ q. find_apart a.0 q (b ∷ bs) under) pa.0 under
-            (λ k in_a in_b. let h = both_of (is_lt (key_cmp k a.0)) (below_all key_cmp k rest) in_a in record { less = h.0; first = h.1; second = in_b })
+            (λ k in_a in_b. let h = both (is_lt (key_cmp k a.0)) (below_all key_cmp k rest) in_a in record { less = h.0; first = h.1; second = in_b })
             (again (b ∷ bs) pa.1 rise_b)
         by later Greater is pa pb =
             let turned = flipped a.0 b.0 is in
             let under : Below b.0 (a ∷ rest) = and_of (is_lt (key_cmp b.0 a.0)) (below_all key_cmp b.0 rest) (ap is_lt turned) (lesser_below b.0 a.0 rest turned pa.0) in
             one_step b.0 None (Some b.1) (a ∷ rest) (a ∷ rest) (b ∷ bs) bs (gathered rule (items (a ∷ rest) bs)) (λ q. find_apart b.0 q (a ∷ rest) under) (λ q. refl) under pb.0
-            (λ k in_a in_b. let h = both_of (is_lt (key_cmp k b.0)) (below_all key_cmp k bs) in_b in record { less = h.0; first = in_a; second = h.1 })
+            (λ k in_a in_b. let h = both (is_lt (key_cmp k b.0)) (below_all key_cmp k bs) in_b in record { less = h.0; first = in_a; second = h.1 })
             (later pb.1)
         by later Equal is pa pb =
             let keys : a.0 ≡ b.0 = key_order.exact a.0 b.0 is in
             one_step a.0 (Some a.1) (Some b.1) (a ∷ rest) rest (b ∷ bs) bs (gathered rule (items rest bs)) (λ q. refl) (λ q. ap (λ k. cond (same_bytes q k) (Some b.1) (find key_cmp q bs)) (sym keys))
             pa.0 (subst (λ k. Below k bs) (sym keys) pb.0)
-            (λ k in_a in_b. let h = both_of (is_lt (key_cmp k a.0)) (below_all key_cmp k rest) in_a in
-            record { less = h.0; first = h.1; second = (both_of (is_lt (key_cmp k b.0)) (below_all key_cmp k bs) in_b).1 })
+            (λ k in_a in_b. let h = both (is_lt (key_cmp k a.0)) (below_all key_cmp k rest) in_a in
+            record { less = h.0; first = h.1; second = (both (is_lt (key_cmp k b.0)) (below_all key_cmp k bs) in_b).1 })
             (again bs pa.1 pb.1)
 
     merges_items : (a : List (List ℕ × A)) (b : List (List ℕ × B)) → Rise a → Rise b → Merges a b (gathered rule (items a b))
@@ -187,3 +147,7 @@ module _ {A B C : Type 0} (rule : Option A → Option B → Option C) where
     -- no item is left
     pub none_left : (n : ℕ) → n ≡ length all → gathered rule (drop n all) ≡ []
     none_left n end = at_drop_all (gathered rule) all n (omega (arith, end))
+
+    -- and all is gathered
+    pub gathered_all : (n : ℕ) (out total : List (List ℕ × C)) → n ≡ length all → out ++ gathered rule (drop n all) ≡ total → out ≡ total
+    gathered_all n out total end so_far = sym (append-nil out) ∙ ap (λ es. out ++ es) (sym (none_left n end)) ∙ so_far

@@ -12,10 +12,10 @@ use Rattle.itertools.specs.List.{by_ordering, merge_join_at, merge_join_by}
 use Rattle.itertools.specs.TwoSources.{ActsAsAtBoth}
 use Rattle.itertools.specs.declared.either_or_both.EitherOrBoth.{EitherOrBoth}
 use Rattle.itertools.specs.declared.either_or_both.EitherOrBoth.TheVariants.{Both, Left, Right}
-use Rattle.itertools.proofs.TwoLemmas.{YieldsList-from_gives_of_both_refs}
+use Rattle.itertools.proofs.TwoLemmas.{YieldsList-from_gives_of_both, YieldsList-from_gives_of_both_refs}
 use denote.Param.Members.{Mut}
 use Rattle.pc_model.specs.Database.{key_cmp, key_order}
-use Rattle.pc_part.specs.Merges.{item_of, IsOfOneKey}
+use Rattle.pc_model.specs.Merges.{item_of, IsOfOneKey}
 
 -- the entries of two lists, in the order of their keys
 abbrev pub items : {X Y : Type 0} → List (List ℕ × X) → List (List ℕ × Y) → List (EitherOrBoth (List ℕ × X) (List ℕ × Y))
@@ -69,6 +69,22 @@ module _ {X Y : Type 0} where
   pub of_one_key : (xs : List (List ℕ × X)) (ys : List (List ℕ × Y)) (n : ℕ) (item : EitherOrBoth (List ℕ × X) (List ℕ × Y)) → (n < length (items xs ys)) × (item ≡ get_or (items xs ys) n item) → IsOfOneKey item
   of_one_key xs ys n item at = subst IsOfOneKey (sym at.1) (keys_of xs ys n item at.0)
 
+-- each run of an iterator over two sources gives what the order of its closure makes of the items of both, whatever these are
+abbrev MergesByOrder : {A B S T U F : Type 0} → (U → Option (EitherOrBoth A B) → U → Type 0) → U → (S → Option A → S → Type 0) → S → (T → Option B → T → Type 0) → T → Mut F (Bor A × (Bor B × ⊤)) Ordering → F → Type 0
+MergesByOrder {A} {B} steps s firsts x seconds y call compare =
+    EachRunBehindBoth steps s firsts x seconds y (λ p a b. EndsWithBoth p a b × ((h : A → B → Ordering) → ActsAsAtBoth call compare h → GivesOfBoth p a b (merge_join_by h)))
+
+-- so it gives what this order makes, and does so where a loop has taken it over
+merges_by : {A B S T U F : Type 0} {steps : U → Option (EitherOrBoth A B) → U → Type 0} {firsts : S → Option A → S → Type 0} {seconds : T → Option B → T → Type 0} {s t : U} {x : S} {y : T} (call : Mut F (Bor A × (Bor B × ⊤)) Ordering) (compare : F) (h : A → B → Ordering)
+    → t ≡ s → MergesByOrder steps s firsts x seconds y call compare → ActsAsAtBoth call compare h → EachRunBehindBoth steps t firsts x seconds y (λ p a b. GivesOfBoth p a b (merge_join_by h))
+merges_by call compare h same runs acts = rw same (λ p on at. let r = runs p on at in (r.0, r.1, (r.2.0, r.2.1, r.2.2.1 h acts)))
+
+-- one over entries that are taken over gives their items, one after the other
+pub items_taken : {X Y S T U F : Type 0} {steps : U → Option (EitherOrBoth (List ℕ × X) (List ℕ × Y)) → U → Type 0} {firsts : S → Option (List ℕ × X) → S → Type 0} {seconds : T → Option (List ℕ × Y) → T → Type 0} {s t : U} {x : S} {y : T} {xs : List (List ℕ × X)} {ys : List (List ℕ × Y)}
+    (call : Mut F (Bor (List ℕ × X) × (Bor (List ℕ × Y) × ⊤)) Ordering) (compare : F) → t ≡ s → MergesByOrder steps s firsts x seconds y call compare → ActsAsAtBoth call compare (λ x y. key_cmp x.0 y.0)
+    → YieldsList firsts (λ a. a) x xs → YieldsList seconds (λ b. b) y ys → YieldsList steps (λ item. item) t (items xs ys)
+items_taken call compare same runs acts = YieldsList-from_gives_of_both items (merges_by call compare (λ x y. key_cmp x.0 y.0) same runs acts)
+
 module _ {A B X Y : Type 0} (first : A → List ℕ × X) (second : B → List ℕ × Y) where
   -- how two references compare by the keys of their entries
   abbrev pub by_key : Bor A → Bor B → Ordering
@@ -105,12 +121,10 @@ module _ {A B X Y : Type 0} (first : A → List ℕ × X) (second : B → List �
   items_are [] vs = only_seconds vs
   items_are (u ∷ us) vs = items_at u us (items_are us) vs
 
-  -- such an iterator gives the items, one after the other
+  -- one over references gives the items of what they refer to
   pub items_given : {S T U F : Type 0} {steps : U → Option (EitherOrBoth (Bor A) (Bor B)) → U → Type 0} {firsts : S → Option (Bor A) → S → Type 0} {seconds : T → Option (Bor B) → T → Type 0} {s t : U} {x : S} {y : T} {xs : List A} {ys : List B}
       (call : Mut F (Bor (Bor A) × (Bor (Bor B) × ⊤)) Ordering) (compare : F) (es : List (List ℕ × X)) (ks : List (List ℕ × Y)) → map first xs ≡ es → map second ys ≡ ks → t ≡ s
-      → EachRunBehindBoth steps s firsts x seconds y (λ p a b. EndsWithBoth p a b × ((h : Bor A → Bor B → Ordering) → ActsAsAtBoth call compare h → GivesOfBoth p a b (merge_join_by h)))
-      → ActsAsAtBoth call compare by_key → YieldsList firsts (λ a. a.now) x xs → YieldsList seconds (λ b. b.now) y ys → YieldsList steps (item_of first second) t (items es ks)
-  items_given {steps = steps} {s = s} {xs = xs} {ys = ys} call compare es ks is_es is_ks same runs acts road road' =
-      let given : YieldsList steps (item_of first second) s (items (map first xs) (map second ys)) = YieldsList-from_gives_of_both_refs (item_of first second) (merge_join_by by_key) (λ xs ys. items (map first xs) (map second ys)) items_are
-      (λ p on at. let r = runs p on at in (r.0, r.1, (r.2.0, r.2.1, r.2.2.1 by_key acts))) road road' in
-      rw (same, ← is_es, ← is_ks) given
+      → MergesByOrder steps s firsts x seconds y call compare → ActsAsAtBoth call compare by_key
+      → YieldsList firsts (λ a. a.now) x xs → YieldsList seconds (λ b. b.now) y ys → YieldsList steps (item_of first second) t (items es ks)
+  items_given call compare es ks is_es is_ks same runs acts =
+      rw (← is_es, ← is_ks) (YieldsList-from_gives_of_both_refs (item_of first second) (merge_join_by by_key) (λ xs ys. items (map first xs) (map second ys)) items_are (merges_by call compare by_key same runs acts))
