@@ -1,0 +1,6 @@
+mod Histories
+mod Passing
+mod Sums
+mod Steps
+mod Seats
+mod Ends

@@ -1,0 +1,4 @@
+pub mod Calls
+pub mod Passes
+pub mod Laws
+pub mod Rules

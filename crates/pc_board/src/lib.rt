@@ -1,0 +1,17 @@
+//! A board that threads share without a lock: they claim numbers on it, each number once, and read the greatest point that was
+//! published on it.
+#![tactic(auto)]
+
+mod board;
+mod calls;
+mod laws;
+mod limits;
+mod rule;
+mod sight;
+#[cfg(test)]
+mod tests;
+
+pub use board::{Board, BoardPass, BoardTotals};
+pub use calls::{Call, Kind};
+pub use laws::{claims_rise, looks_never_fall};
+pub use limits::{MOST_CLAIMS, MOST_PASSES};

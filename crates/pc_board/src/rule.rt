@@ -1,0 +1,78 @@
+//! The rule that every atomic step on the board's two words keeps, and what each step tells.
+use crate::sight::Sight;
+use atomic_table::{Join, Play, Split, TableRule};
+
+/// The word that counts the claims.
+pub(crate) const CLAIM_COUNT: usize = 0;
+
+/// The word with the greatest point.
+pub(crate) const HORIZON: usize = 1;
+
+/// Both words are read off one legal history, of which every pass has seen a beginning with all of its own calls.
+pub struct OneHistory;
+
+impl<S> TableRule<S, Sight, u8> for OneHistory {
+    ghost use Rattle.pc_board.specs.declared.sight.Sight.TheVariants.{Dealer};
+    ghost use Rattle.pc_board.specs.Rules.{HasOneHistory};
+
+    ghost holds = { λ passes state. HasOneHistory passes state };
+
+    ghost first = { λ passes. Dealer 0 };
+}
+
+/// The step of a claim.
+pub struct ClaimStep;
+
+impl<S> Play<S, Sight> for ClaimStep {
+    ghost use Rattle.pc_board.specs.Rules.{Claims};
+
+    ghost then = { Claims };
+}
+
+/// The step of a publication.
+pub struct PublishStep;
+
+impl<S> Play<S, Sight> for PublishStep {
+    ghost use Rattle.pc_board.specs.Rules.{Publishes};
+
+    ghost then = { Publishes };
+}
+
+/// The step of a look.
+pub struct LookStep;
+
+impl<S> Play<S, Sight> for LookStep {
+    ghost use Rattle.pc_board.specs.Rules.{Looks};
+
+    ghost then = { Looks };
+}
+
+/// The dealer gives out the next pass.
+pub struct Deal;
+
+impl Split<Sight> for Deal {
+    ghost use Rattle.pc_board.specs.Rules.{dealer_after, next_holder};
+
+    ghost left = { dealer_after };
+
+    ghost right = { next_holder };
+}
+
+/// Passes are handed in to a closer, who begins with none.
+pub struct HandIn;
+
+impl<S> Play<S, Sight> for HandIn {
+    ghost use Rattle.std.specs.Prelude.{◌≡◌, []};
+    ghost use Rattle.pc_board.specs.declared.sight.Sight.TheVariants.{Closer};
+
+    ghost then = { λ step before found after. after.0 ≡ Closer [] };
+}
+
+impl Join<Sight> for HandIn {
+    ghost use Rattle.pc_board.specs.declared.sight.Sight.TheVariants.{Nobody};
+    ghost use Rattle.pc_board.specs.Rules.{closer_after};
+
+    ghost both = { closer_after };
+
+    ghost spent = { Nobody };
+}
