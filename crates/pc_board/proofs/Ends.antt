@@ -30,7 +30,7 @@ new_passes_are_ours board zero = λ k d lt. absurd (omega arith)
 new_passes_are_ours board (suc count) =
     let next : Pass = record { board = board.name; number = count; seen = [] } in
     All-append (λ (pass : Pass). IsOfBoard pass board) (new_passes board.name count) (next ∷ []) (new_passes_are_ours board count)
-        (All-cons (λ (pass : Pass). IsOfBoard pass board) next [] refl (λ k d lt. absurd (omega arith)))
+    (All-cons (λ (pass : Pass). IsOfBoard pass board) next [] refl (λ k d lt. absurd (omega arith)))
 
 -- each pass whose account is there has its calls in the history
 told_by : (history : List Call) (owner : ℕ → ℕ) (seat : ℕ) (passes : List Pass)
@@ -55,10 +55,10 @@ module _ {S : Type 0} (board : Board) (seat : ℕ) (sight : Sight) (words : List
   ends passes is =
       let r = final.1.0 in
       let told : Fits board.passes r.history r.owner seat (Closer (map account_of passes)) = r.each seat (Closer (map account_of passes)) (final.1.1 ∙ ap some is) in record {
-    history = r.history;
-    legal = r.legal;
-    ours = r.ours;
-    claims_are = sym (some-injective _ _ (ap (λ ws. get_elem? ws 0) (sym are) ∙ zeroth));
-    horizon_is = horizon_is;
-    each = told_by r.history r.owner seat passes told;
-  }
+        history = r.history;
+        legal = r.legal;
+        ours = r.ours;
+        claims_are = sym (some-injective _ _ (ap (λ ws. get_elem? ws 0) (sym are) ∙ zeroth));
+        horizon_is = horizon_is;
+        each = told_by r.history r.owner seat passes told;
+      }

@@ -30,7 +30,7 @@ none_is_legal (x ∷ xs) c after e = absurd (cc (e))
 pub longer_is_legal : (log : List Call) (c : Call) → IsLegal log → Answers c.kind log c.value → IsLegal (log ++ c ∷ [])
 longer_is_legal log c all last before d after e =
     ⊎_elim (λ (t : (log ≡ before) × (c ≡ d)). subst (λ (x : List Call × Call). Answers x.1.kind x.0 x.1.value) (λ i. (t.0 i, t.1 i)) last)
-        (λ (t : (rest : List Call) × (log ≡ before ++ d ∷ rest)). all before d t.0 t.1) (at_end log c before d after e)
+    (λ (t : (rest : List Call) × (log ≡ before ++ d ∷ rest)). all before d t.0 t.1) (at_end log c before d after e)
 
 pub prefix_self : {A : Type 0} (xs : List A) → IsPrefix xs xs
 prefix_self xs = ([], append-nil xs)
@@ -71,4 +71,4 @@ looks_never_fall calls earlier later legal s shown look =
     let b : later.value ≡ greatest_of (s.0 ++ earlier ∷ s.1) = subst (λ (k : Kind). Answers k (s.0 ++ earlier ∷ s.1) later.value) look (behind calls earlier later legal s) in
     let whole = greatest_of-append s.0 (earlier ∷ s.1) in
     ⊎_elim (λ (e : earlier.kind ≡ Publish). let c : point_in earlier.kind earlier.value ≡ earlier.value = ap (λ (k : Kind). point_in k earlier.value) e in omega (arith, whole))
-        (λ (e : earlier.kind ≡ Look). let a : earlier.value ≡ greatest_of s.0 = subst (λ (k : Kind). Answers k s.0 earlier.value) e (ahead calls earlier later legal s) in omega (arith, whole)) shown
+    (λ (e : earlier.kind ≡ Look). let a : earlier.value ≡ greatest_of s.0 = subst (λ (k : Kind). Answers k s.0 earlier.value) e (ahead calls earlier later legal s) in omega (arith, whole)) shown

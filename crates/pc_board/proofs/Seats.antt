@@ -49,8 +49,8 @@ accounts_fit : (passes : ℕ) (history : List Call) (owner : ℕ → ℕ) (seat 
     → SpeaksFor history owner other number seen → Fits passes history (with_owner owner number seat) seat (Closer (accounts ++ account number seen ∷ []))
 accounts_fit passes history owner seat other accounts number seen f s k x e =
     ⊎_elim (λ earlier. let g = f k x earlier in (owner_is_either owner seat number x.by g.0, g.1, g.2))
-        (λ (t : (k ≡ length accounts) × (account number seen ≡ x)). subst (λ (y : Account). SpeaksFor history (with_owner owner number seat) seat y.by y.seen) t.1 (owner_is owner number seat, s.1, s.2))
-        (at_longer accounts (account number seen) x k e)
+    (λ (t : (k ≡ length accounts) × (account number seen ≡ x)). subst (λ (y : Account). SpeaksFor history (with_owner owner number seat) seat y.by y.seen) t.1 (owner_is owner number seat, s.1, s.2))
+    (at_longer accounts (account number seen) x k e)
 
 -- as fits_set, of all seats but one
 fits_set_but : (passes : ℕ) (history : List Call) (owner : ℕ → ℕ) (sights : List Sight) (seat but : ℕ) (sight : Sight)
@@ -58,7 +58,7 @@ fits_set_but : (passes : ℕ) (history : List Call) (owner : ℕ → ℕ) (sight
     → (k : ℕ) (u : Sight) → k ≢ but → get_elem? (set sights seat sight) k ≡ some u → Fits passes history owner k u
 fits_set_but passes history owner sights seat but sight others mine k u near e =
     ⊎_elim (λ (t : (k ≡ seat) × (sight ≡ u)). subst (λ (y : ℕ × Sight). Fits passes history owner y.0 y.1) (λ i. (sym t.0 i, t.1 i)) mine)
-        (λ (t : (k ≢ seat) × (get_elem? sights k ≡ some u)). others k u t.0 near t.1) (at_set sights seat k sight u e)
+    (λ (t : (k ≢ seat) × (get_elem? sights k ≡ some u)). others k u t.0 near t.1) (at_set sights seat k sight u e)
 
 module _ {S : Type 0} (passes : ℕ) where
   -- the same history, with other seats or owners
@@ -103,10 +103,10 @@ module _ {S : Type 0} (passes : ℕ) where
       let new = length rest in
       let owner = with_owner r.owner next new in
       reseats s r owner (rest ++ Holder next [] ∷ []) (λ k u e.
-          ⊎_elim (fits_set passes r.history owner s.views seat (Dealer (next + 1)) (λ other v apart e'. still_fits passes r.history r.owner next new other (λ same. apart (same ∙ here.0)) v (r.each other v e'))
-              (λ n le lt'. let m = mine n (omega arith) lt' in (owner_stays r.owner next new n (λ same. absurd (omega arith)) ∙ m.0, m.1)) k u)
-              (λ (t : (k ≡ new) × (Holder next [] ≡ u)). subst (λ (y : ℕ × Sight). Fits passes r.history owner y.0 y.1) (λ i. (sym t.0 i, t.1 i)) (lt, (owner_is r.owner next new, prefix_none r.history, here.1)))
-              (at_longer rest (Holder next []) u k e))
+      ⊎_elim (fits_set passes r.history owner s.views seat (Dealer (next + 1)) (λ other v apart e'. still_fits passes r.history r.owner next new other (λ same. apart (same ∙ here.0)) v (r.each other v e'))
+      (λ n le lt'. let m = mine n (omega arith) lt' in (owner_stays r.owner next new n (λ same. absurd (omega arith)) ∙ m.0, m.1)) k u)
+      (λ (t : (k ≡ new) × (Holder next [] ≡ u)). subst (λ (y : ℕ × Sight). Fits passes r.history owner y.0 y.1) (λ i. (sym t.0 i, t.1 i)) (lt, (owner_is r.owner next new, prefix_none r.history, here.1)))
+      (at_longer rest (Holder next []) u k e))
 
   -- a closer takes a seat
   pub sits : (slots word : ℕ) → Enters (HasOneHistory {S = S} passes) slots word (λ found sight. sight ≡ Closer [])
@@ -114,7 +114,7 @@ module _ {S : Type 0} (passes : ℕ) where
     Closer [],
     reseats s r r.owner (s.views ++ Closer [] ∷ []) (λ k u e.
         ⊎_elim (r.each k u) (λ (t : (k ≡ length s.views) × (Closer [] ≡ u)). subst (λ (y : Sight). Fits passes r.history r.owner k y) t.1 (λ n x e'. absurd (some-ne-none x (sym e'))))
-            (at_longer s.views (Closer []) u k e)),
+        (at_longer s.views (Closer []) u k e)),
     refl,
   )
 
@@ -124,14 +124,14 @@ module _ {S : Type 0} (passes : ℕ) where
   takes_in seat accounts other number seen s r at apart there =
       let both = Closer (accounts ++ account number seen ∷ []) in
       let theirs = ⊎_elim (λ (t : (other ≡ seat) × (both ≡ Holder number seen)). absurd (apart t.0))
-              (λ (t : (other ≢ seat) × (get_elem? s.views other ≡ some (Holder number seen))). r.each other (Holder number seen) t.1) (at_set s.views seat other both (Holder number seen) there) in
+      (λ (t : (other ≢ seat) × (get_elem? s.views other ≡ some (Holder number seen))). r.each other (Holder number seen) t.1) (at_set s.views seat other both (Holder number seen) there) in
       let owner = with_owner r.owner number seat in
       let mine = accounts_fit passes r.history r.owner seat other accounts number seen (r.each seat (Closer accounts) at) theirs.1 in
       reseats s r owner (set (set s.views seat both) other Nobody) (λ k u e.
-          ⊎_elim (λ (t : (k ≡ other) × (Nobody ≡ u)). subst (λ (y : Sight). Fits passes r.history owner k y) t.1 tt)
-              (λ (t : (k ≢ other) × (get_elem? (set s.views seat both) k ≡ some u)).
-                  fits_set_but passes r.history owner s.views seat other both (λ i v far near e'. still_fits passes r.history r.owner number seat i (λ same. near (same ∙ theirs.1.0)) v (r.each i v e')) mine k u t.0 t.1)
-              (at_set (set s.views seat both) other k Nobody u e))
+      ⊎_elim (λ (t : (k ≡ other) × (Nobody ≡ u)). subst (λ (y : Sight). Fits passes r.history owner k y) t.1 tt)
+      (λ (t : (k ≢ other) × (get_elem? (set s.views seat both) k ≡ some u)).
+      fits_set_but passes r.history owner s.views seat other both (λ i v far near e'. still_fits passes r.history r.owner number seat i (λ same. near (same ∙ theirs.1.0)) v (r.each i v e')) mine k u t.0 t.1)
+      (at_set (set s.views seat both) other k Nobody u e))
 
   pub deals_as : (seat next : ℕ) (sight : Sight) → sight ≡ Dealer next → next < passes → Splits (HasOneHistory {S = S} passes) seat sight (dealer_after sight) (next_holder sight)
   deals_as seat next sight is lt = subst (λ (u : Sight). Splits (HasOneHistory {S = S} passes) seat u (dealer_after u) (next_holder u)) (sym is) (deals seat next lt)

@@ -45,7 +45,7 @@ pub fits_set : (passes : ℕ) (history : List Call) (owner : ℕ → ℕ) (sight
     → (other : ℕ) (u : Sight) → get_elem? (set sights seat sight) other ≡ some u → Fits passes history owner other u
 fits_set passes history owner sights seat sight others mine other u e =
     ⊎_elim (λ (x : (other ≡ seat) × (sight ≡ u)). subst (λ (y : ℕ × Sight). Fits passes history owner y.0 y.1) (λ i. (sym x.0 i, x.1 i)) mine)
-        (λ (x : (other ≢ seat) × (get_elem? sights other ≡ some u)). others other u x.0 x.1) (at_set sights seat other sight u e)
+    (λ (x : (other ≢ seat) × (get_elem? sights other ≡ some u)). others other u x.0 x.1) (at_set sights seat other sight u e)
 
 -- no pass is past its limit after a call for which its pass had room
 limits_still : (history : List Call) (c : Call) → ((number : ℕ) → claims_of (calls_by number history) ≤ MOST_CLAIMS) → claims_of (calls_by c.by history) + claims_in c.kind ≤ MOST_CLAIMS
@@ -66,16 +66,16 @@ module _ {S : Type 0} (passes seat number : ℕ) (seen : List Call) where
       let mine = r.each seat (Holder number seen) at in
       let own : r.owner c.by ≡ seat = ap r.owner by ∙ mine.1.0 in
       let after = r.history ++ c ∷ [] in record {
-    history = after;
-    owner = r.owner;
-    legal = longer_is_legal r.history c r.legal right;
-    words = are;
-    most_passes = r.most_passes;
-    most_claims = limits_still r.history c r.most_claims (subst (λ (n : ℕ). claims_of (calls_by n r.history) + claims_in c.kind ≤ MOST_CLAIMS) (sym by) room);
-    most_points = points;
-    ours = All-append (λ (d : Call). d.by < passes) r.history (c ∷ []) r.ours (All-cons (λ (d : Call). d.by < passes) c [] (subst (λ (n : ℕ). n < passes) (sym by) mine.0) (λ k d lt. absurd (omega arith)));
-    each = fits_set passes after r.owner s.views seat (Holder number after) (λ other u apart e. fits_still r.history r.owner seat other c apart own passes u (r.each other u e)) (mine.0, (mine.1.0, prefix_self after, refl));
-  }
+        history = after;
+        owner = r.owner;
+        legal = longer_is_legal r.history c r.legal right;
+        words = are;
+        most_passes = r.most_passes;
+        most_claims = limits_still r.history c r.most_claims (subst (λ (n : ℕ). claims_of (calls_by n r.history) + claims_in c.kind ≤ MOST_CLAIMS) (sym by) room);
+        most_points = points;
+        ours = All-append (λ (d : Call). d.by < passes) r.history (c ∷ []) r.ours (All-cons (λ (d : Call). d.by < passes) c [] (subst (λ (n : ℕ). n < passes) (sym by) mine.0) (λ k d lt. absurd (omega arith)));
+        each = fits_set passes after r.owner s.views seat (Holder number after) (λ other u apart e. fits_still r.history r.owner seat other c apart own passes u (r.each other u e)) (mine.0, (mine.1.0, prefix_self after, refl));
+      }
 
   -- what it tells of the call
   makes : (s : State S Sight) (r : HasOneHistory passes s) (c : Call) → get_elem? s.views seat ≡ some (Holder number seen) → c.by ≡ number → Answers c.kind r.history c.value

@@ -5,7 +5,9 @@ ghost use Rattle.pc_board.specs.Calls.{NoneAbove};
 ghost use Rattle.pc_board.specs.Passes.{IsOfBoard, IsSamePass, MakesCall, IsEnd, new_passes, claims_made};
 
 use crate::limits::{MOST_CLAIMS, MOST_PASSES};
-use crate::rule::{CLAIM_COUNT, ClaimStep, Deal, HORIZON, HandIn, LookStep, OneHistory, PublishStep};
+use crate::rule::{
+    CLAIM_COUNT, ClaimStep, Deal, HORIZON, HandIn, LookStep, OneHistory, PublishStep,
+};
 use crate::sight::Sight;
 use atomic_table::{Seat, Table};
 use pc_types::{Point, Refusal};
@@ -92,7 +94,10 @@ impl Board {
         if pass.claims == MOST_CLAIMS {
             return None;
         }
-        let number = self.table.shared.fetch_add::<ClaimStep>(&mut pass.seat, CLAIM_COUNT, 1);
+        let number = self
+            .table
+            .shared
+            .fetch_add::<ClaimStep>(&mut pass.seat, CLAIM_COUNT, 1);
         pass.claims += 1;
         Some(number)
     }
@@ -103,7 +108,10 @@ impl Board {
         ensures { MakesCall pass.old Publish point pass.new }
     {
         let Point(number) = point;
-        let _found = self.table.shared.fetch_max::<PublishStep>(&mut pass.seat, HORIZON, u64::from(number));
+        let _found = self
+            .table
+            .shared
+            .fetch_max::<PublishStep>(&mut pass.seat, HORIZON, u64::from(number));
     }
 
     /// The greatest point that any pass has published, 0 where none has. It is no less than each point that this pass has

@@ -13,8 +13,7 @@ fetch_add-number-requires c =
     let me = c.pass.inside.seat.me in
     let not_all = c.if-pass.false in
     let most : c.pass.inside.claims < 4294967296 = search rules in
-    let room : claims_of (calls_by (number_of me.0) (seen_of me.0)) < MOST_CLAIMS = omega (arith, c.pass.invariant.1, not_all, most) in
-    (
+    let room : claims_of (calls_by (number_of me.0) (seen_of me.0)) < MOST_CLAIMS = omega (arith, c.pass.invariant.1, not_all, most) in (
       ap (λ p. p.board) c.pass.view_is ∙ (c.requires ∙ sym (ap (λ b. b.name) c.self.view_is)),
       omega (arith, c.self.invariant.0),
       claims_as _ _ _ _ _ _ c.pass.invariant.0 room,
@@ -24,8 +23,7 @@ pub invariant_of-pass : goal.invariant_of-pass
 invariant_of-pass c =
     let e = c.fetch_add-number.ensures in
     let before = c.pass.inside.seat in
-    let after = c.fetch_add-number.new.seat in
-    (
+    let after = c.fetch_add-number.new.seat in (
       still_holder before.table_id after.table_id e.0 Claim c.fetch_add-number.result before.me after.me c.pass.invariant.0 e.2,
       omega (arith, c.pass.invariant.1, made_claims before.table_id after.table_id e.0 Claim c.fetch_add-number.result before.me after.me c.pass.invariant.0 e.2),
     )
@@ -36,7 +34,7 @@ returns-clause-some c =
     let before = c.pass.inside.seat in
     let after = c.fetch_add-number.new.seat in
     subst (λ (p : Pass). MakesCall p Claim c.fetch_add-number.result (pass_at after.table_id after.me)) c.pass.view_is
-        (makes_call before.table_id after.table_id e.0 Claim c.fetch_add-number.result before.me after.me c.pass.invariant.0 e.2)
+    (makes_call before.table_id after.table_id e.0 Claim c.fetch_add-number.result before.me after.me c.pass.invariant.0 e.2)
 
 pub returns-then-pass-clause-limit : goal.returns-then-pass-clause-limit
 returns-then-pass-clause-limit c =
