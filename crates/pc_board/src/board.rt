@@ -15,7 +15,7 @@ use std::alloc::Global;
 use std::marker::Model;
 
 /// A board, on which threads claim numbers and publish points. Each call is made with a pass of the board, and is one atomic
-/// step: it never waits, and takes no memory.
+/// step, which takes no memory and no handle to wait with.
 #[derive(Drop)]
 pub struct Board {
     table: Table<(), Sight, u8, OneHistory, Global>,
@@ -73,13 +73,13 @@ impl Board {
         ensures ours { IfOk result (λ made. All (λ pass. IsOfBoard pass made.0) made.1.items) }
         ensures memory { IfErr result (λ e. e ≡ Refusal.OutOfMemory) }
     {
-        let mut dealt = Vec::with_capacity(alloc, usize::from(passes))?;
+        let mut all = Vec::with_capacity(alloc, usize::from(passes))?;
         let (table, mut dealer) = Table::of_words(alloc, &[0, 0], &passes)?;
         for _ in 0..passes {
             let seat = table.shared.split_seat::<Deal>(&mut dealer);
-            dealt.push_reserved(BoardPass { claims: 0, seat });
+            all.push_reserved(BoardPass { claims: 0, seat });
         }
-        Ok((Board { table }, dealt))
+        Ok((Board { table }, all))
     }
 
     /// The next number that no pass has claimed, from 0. None exactly where this pass has made 4,294,967,295 claims; then it

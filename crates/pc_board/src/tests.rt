@@ -62,7 +62,7 @@ fn numbers(alloc: Global, board: &Board, mut pass: BoardPass) -> Result<Vec<u64>
 }
 
 // What two threads claimed beside each other, in order.
-fn claimed_beside<R: Threads + Sync>(
+fn claims_beside<R: Threads + Sync>(
     rt: &R,
     alloc: Global,
     board: &Board,
@@ -93,7 +93,7 @@ fn two_threads(rt: HostRuntime) -> Result<(), Fail> {
     let (board, mut passes) = Board::new(rt.alloc(), 2)?;
     let second = passes.pop().ok_or("no second pass")?;
     let first = passes.pop().ok_or("no first pass")?;
-    let all = claimed_beside(&rt, rt.alloc(), &board, first, second)?;
+    let all = claims_beside(&rt, rt.alloc(), &board, first, second)?;
     let totals = board.close(passes);
     assert!(rt;
         totals
