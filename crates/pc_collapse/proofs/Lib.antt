@@ -1,0 +1,5 @@
+mod FactLists
+mod FoldedFiles
+mod JoinedFacts
+mod KeyConflicts
+mod PointFolds

@@ -1,0 +1,4 @@
+pub mod Folds
+pub mod Laws
+pub mod Pieces
+pub mod Worth

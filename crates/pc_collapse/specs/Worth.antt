@@ -1,0 +1,61 @@
+-- What files are worth: which facts hold among them, and when some files may stand for others.
+use Rattle.std.specs.Prelude.{◌≡◌, ℕ, ◌≤◌, ◌⊎◌, List, [], ◌∷◌, Some, ⊤, IsTrue, IsFalse, MatchResult, Result}
+use Rattle.pc_types.specs.declared.Refusal.{Refusal}
+use Rattle.pc_model.specs.Maps as map_of
+use Rattle.pc_model.specs.Sets as set
+use Rattle.pc_model.specs.Points.{AtPoint}
+use Rattle.pc_model.specs.Files.{File}
+use Rattle.pc_collapse.specs.Folds.{has_other_run, IsCause}
+
+-- a fact of a file: it has this triple, this point, or this run
+pub data Fact : Type 0 where
+  HasTriple : List ℕ → AtPoint → Fact
+  HasPoint : ℕ → Fact
+  HasRun : ℕ → Fact
+
+-- the fact holds of the file
+abbrev pub Holds : Fact → File → Type 0
+Holds (HasTriple key x) file = map_of.get file.triples key ≡ Some x
+Holds (HasPoint p) file = IsTrue (set.contains file.points p)
+Holds (HasRun run) file = file.run ≡ run
+
+-- the fact holds of one of the files
+abbrev pub Among : Fact → List File → Type 0
+Among w [] = ⊥
+Among w (f ∷ fs) = Holds w f ⊎ Among w fs
+
+-- the fact has to stay: a triple does where none of its key in the files has a greater point
+abbrev pub Stays : Fact → List File → Type 0
+Stays (HasTriple key x) files = (u : AtPoint) → Among (HasTriple key u) files → u.point ≤ x.point
+Stays other files = ⊤
+
+-- each fact of some files is one of the given files
+abbrev pub AreSound : List File → List File → Type 0
+AreSound given files = (w : Fact) → Among w files → Among w given
+
+-- files that are worth the given ones: each triple is one of theirs, and so are points and runs; the points, the runs and of
+-- each key the triples of the greatest point are all there
+pub record AreWorth (given files : List File) : Type 0 where
+  pub sound : AreSound given files
+  pub whole : (w : Fact) → Stays w given → Among w given → Among w files
+
+-- there are files, and they are of one run
+abbrev pub AreOfOneRun : List File → Type 0
+AreOfOneRun [] = ⊥
+AreOfOneRun (first ∷ others) = IsFalse (has_other_run first others)
+
+-- it is a cause for which the fold of the given files, if they are of one run, may be refused
+abbrev pub IsCauseOf : List File → Refusal → Type 0
+IsCauseOf given why = (first : File) (others : List File) → given ≡ first ∷ others → IsFalse (has_other_run first others) → IsCause first others why
+
+-- whatever files these are made of, it is a cause for which the fold of those may be refused
+abbrev pub IsCauseFor : List File → Refusal → Type 0
+IsCauseFor files why = (given : List File) → AreSound given files → IsCauseOf given why
+
+-- some files become others that are worth them, or there is a cause why not
+abbrev pub Become : List File → Result (List File) Refusal → Type 0
+Become files result = MatchResult result (AreWorth files) (IsCauseFor files)
+
+-- the same of all of them and one file
+abbrev pub Joins : List File → Result File Refusal → Type 0
+Joins files result = MatchResult result (λ file. AreWorth files (file ∷ [])) (IsCauseFor files)

@@ -1,0 +1,126 @@
+//! The fold of many files, by halves.
+ghost use Rattle.std.specs.Prelude.{◌≡◌, ◌<◌, ◌++◌, ◌∷◌, [], IfErr, IfOk, MatchResult, vec_len};
+ghost use Rattle.pc_collapse.specs.Folds.{Folds, has_other_run};
+ghost use Rattle.pc_collapse.specs.Worth.{AreOfOneRun, Joins};
+
+use crate::piece::Piece;
+use pc_part::{Part, join};
+use pc_types::Refusal;
+use std::alloc::{AllocError, Global};
+
+/// The join of all the parts: it stands for the points of all, and has of each key the entry of the greatest point. The
+/// parts stay as they are; none of them is copied, unless it is the only one. Refuses, in this order:
+///
+/// - `NoFile` exactly where there are no parts;
+/// - `OtherRun` exactly where two are of different runs;
+/// - else for one of these causes: `Conflict` where some key has in two of them the same point and different contents (and
+///   no join is answered where that is a key's greatest point); `Full` where the join would have more than 4,294,967,295
+///   entries; `OutOfMemory` where memory ran out.
+pub fn fold(alloc: Global, parts: &[Part]) -> Result<Part, Refusal>
+    ensures { Folds parts.now result }
+{
+    check_runs(parts)?;
+    let pieces = given_pieces(alloc, parts)?;
+    fold_pieces(alloc, pieces)
+}
+
+/// The same of parts that are handed over: each ends as soon as it is joined, so that no more memory is used at any time
+/// than for the parts and a join of some of them.
+pub fn fold_owned(alloc: Global, parts: Vec<Part>) -> Result<Part, Refusal>
+    ensures { Folds parts.items result }
+{
+    check_runs(&parts)?;
+    let pieces = own_pieces(alloc, parts)?;
+    fold_pieces(alloc, pieces)
+}
+
+// Refuses no parts, and parts of two runs.
+pub(crate) fn check_runs(parts: &[Part]) -> Result<(), Refusal>
+    ensures { MatchResult result (λ _. AreOfOneRun parts.now) (λ why. Folds parts.now (Err why)) }
+{
+    match parts {
+        [] => Err(Refusal::NoFile),
+        [first, others @ ..] => {
+            if is_other_run(first, others) {
+                return Err(Refusal::OtherRun);
+            }
+            Ok(())
+        }
+    }
+}
+
+// Whether one of the parts is of another run than the first.
+fn is_other_run(first: &Part, others: &[Part]) -> bool
+    ensures { result ≡ has_other_run first.now others.now }
+{
+    others.iter().any(|part| part.run() != first.run())
+}
+
+// The parts, to be read.
+pub(crate) fn given_pieces(alloc: Global, parts: &[Part]) -> Result<Vec<Piece<'_>>, AllocError>
+    ensures { IfOk result (λ pieces. pieces.items ≡ parts.now) }
+{
+    let mut pieces = Vec::with_capacity(alloc, parts.len())?;
+    for part in parts {
+        pieces.push(Piece::given(part))?;
+    }
+    Ok(pieces)
+}
+
+// The parts, handed over.
+pub(crate) fn own_pieces<'a>(alloc: Global, parts: Vec<Part>) -> Result<Vec<Piece<'a>>, AllocError>
+    ensures { IfOk result (λ pieces. pieces.items ≡ parts.items) }
+{
+    let mut pieces = Vec::with_capacity(alloc, parts.len())?;
+    for part in parts {
+        pieces.push(Piece::own(part))?;
+    }
+    Ok(pieces)
+}
+
+// The join of all the pieces.
+pub(crate) fn fold_pieces(alloc: Global, pieces: Vec<Piece<'_>>) -> Result<Part, Refusal>
+    requires { 0 < vec_len pieces }
+    ensures { Joins pieces.entry.items result }
+{
+    let piece = fold_halves(alloc, pieces)?;
+    piece.into_part(alloc)
+}
+
+// The join of the first half and the second one; one piece stays as it is.
+fn fold_halves<'a>(alloc: Global, mut pieces: Vec<Piece<'a>>) -> Result<Piece<'a>, Refusal>
+    requires { 0 < vec_len pieces }
+    ensures { Joins pieces.entry.items result }
+{
+    let half = pieces.len() / 2;
+    if half == 0 {
+        return Ok(only(pieces));
+    }
+    let back = pieces.split_off(half)?;
+    let left = fold_halves(alloc, pieces)?;
+    let right = fold_halves(alloc, back)?;
+    join_pieces(alloc, &left, &right)
+}
+
+// The only piece.
+fn only(mut pieces: Vec<Piece<'_>>) -> Piece<'_>
+    requires { vec_len pieces ≡ 1 }
+    ensures { pieces.entry.items ≡ result ∷ [] }
+{
+    match pieces.pop() {
+        Some(piece) => piece,
+        None => unreachable!(),
+    }
+}
+
+// The join of two pieces.
+pub(crate) fn join_pieces<'a>(
+    alloc: Global,
+    first: &Piece<'_>,
+    second: &Piece<'_>,
+) -> Result<Piece<'a>, Refusal>
+    ensures { Joins (first.now ∷ second.now ∷ []) result }
+{
+    let part = join(alloc, first.part(), second.part())?;
+    Ok(Piece::own(part))
+}
