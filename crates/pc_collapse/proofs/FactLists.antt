@@ -70,9 +70,10 @@ worth_append a b c d p q = record {
 }
 
 -- files that are worth something are some
-pub worth_some : (f : File) (fs files : List File) → AreWorth (f ∷ fs) files → 0 < length files
-worth_some f fs [] worth = absurd (worth.whole (HasRun f.run) tt (inl refl))
-worth_some f fs (x ∷ xs) worth = omega arith
+pub worth_some : (given files : List File) → 0 < length given → AreWorth given files → 0 < length files
+worth_some [] files some worth = absurd (omega (arith, some))
+worth_some (f ∷ fs) [] some worth = absurd (worth.whole (HasRun f.run) tt (inl refl))
+worth_some (f ∷ fs) (x ∷ xs) some worth = omega arith
 
 -- the two halves of a list
 pub sound_halves : (half : ℕ) (all front back : List File) → front ≡ take half all → back ≡ drop half all → AreSound all front × AreSound all back × (all ≡ front ++ back)

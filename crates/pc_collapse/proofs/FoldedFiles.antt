@@ -273,5 +273,6 @@ pub halves_join : (all front back : List File) (a b : File) (r : Result File Ref
 halves_join all front back a b r is left right joins = joins_worth all (a ∷ b ∷ []) r (subst (λ (l : List File). AreWorth l (a ∷ b ∷ [])) (sym is) (worth_append front (a ∷ []) back (b ∷ []) left right)) joins
 
 -- a copy is a join with itself
-pub copy_joins : (a : File) (r : Result File Refusal) → IfOk r (λ file. file ≡ joined_file a a) → IsRefusedBy (first_cause (join_causes (Some a) (Some a))) r → Joins (a ∷ []) r
-copy_joins a r is due = joins_worth (a ∷ []) (a ∷ a ∷ []) r (worth_same (a ∷ []) (a ∷ a ∷ []) (λ w h. ⊎_elim (λ i. inl i) (λ i. i) h) (λ w h. inr h)) (join_joins a a r is due)
+pub copy_joins : (a b : File) (r : Result File Refusal) → IfOk r (λ file. file ≡ joined_file b b) → IsRefusedBy (first_cause (join_causes (Some b) (Some b))) r → b ≡ a → Joins (a ∷ []) r
+copy_joins a b r is due same = subst (λ (file : File). Joins (file ∷ []) r) same
+    (joins_worth (b ∷ []) (b ∷ b ∷ []) r (worth_same (b ∷ []) (b ∷ b ∷ []) (λ w h. ⊎_elim (λ i. inl i) (λ i. i) h) (λ w h. inr h)) (join_joins b b r is due))

@@ -1,3 +1,4 @@
+pub mod Bags
 pub mod Folds
 pub mod Laws
 pub mod Pieces

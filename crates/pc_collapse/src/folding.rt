@@ -1,12 +1,13 @@
 //! The fold of many files, by halves.
-ghost use Rattle.std.specs.Prelude.{◌≡◌, ◌<◌, ◌++◌, ◌∷◌, [], IfErr, IfOk, MatchResult, vec_len};
+ghost use Rattle.std.specs.Prelude.{◌≡◌, ◌<◌, ◌∷◌, [], length, IfOk, MatchResult, vec_len};
 ghost use Rattle.pc_collapse.specs.Folds.{Folds, has_other_run};
 ghost use Rattle.pc_collapse.specs.Worth.{AreOfOneRun, Joins};
 
-use crate::piece::Piece;
+use crate::piece::{Given, Piece};
 use pc_part::{Part, join};
 use pc_types::Refusal;
 use std::alloc::{AllocError, Global};
+use std::marker::Brand;
 
 /// The join of all the parts: it stands for the points of all, and has of each key the entry of the greatest point. The
 /// parts stay as they are; none of them is copied, unless it is the only one. Refuses, in this order:
@@ -20,8 +21,7 @@ pub fn fold(alloc: Global, parts: &[Part]) -> Result<Part, Refusal>
     ensures { Folds parts.now result }
 {
     check_runs(parts)?;
-    let pieces = given_pieces(alloc, parts)?;
-    fold_pieces(alloc, pieces)
+    fold_lent::<Brand>(alloc, parts)
 }
 
 /// The same of parts that are handed over: each ends as soon as it is joined, so that no more memory is used at any time
@@ -30,8 +30,7 @@ pub fn fold_owned(alloc: Global, parts: Vec<Part>) -> Result<Part, Refusal>
     ensures { Folds parts.items result }
 {
     check_runs(&parts)?;
-    let pieces = own_pieces(alloc, parts)?;
-    fold_pieces(alloc, pieces)
+    fold_handed::<Brand>(alloc, parts)
 }
 
 // Refuses no parts, and parts of two runs.
@@ -56,19 +55,44 @@ fn is_other_run(first: &Part, others: &[Part]) -> bool
     others.iter().any(|part| part.run() != first.run())
 }
 
+// The fold of parts that are only read.
+fn fold_lent<G: Given>(alloc: Global, parts: &[Part]) -> Result<Part, Refusal>
+    requires { (parts.now ≡ G.parts) × (0 < length parts.now) }
+    ensures { Joins parts.now result }
+{
+    let pieces = lent_pieces::<G>(alloc, parts)?;
+    fold_pieces(alloc, parts, pieces)
+}
+
+// The fold of parts that are handed over.
+fn fold_handed<G: Given>(alloc: Global, parts: Vec<Part>) -> Result<Part, Refusal>
+    requires { (G.parts ≡ []) × (0 < vec_len parts) }
+    ensures { Joins parts.items result }
+{
+    let pieces = own_pieces::<G>(alloc, parts)?;
+    fold_pieces(alloc, &[], pieces)
+}
+
 // The parts, to be read.
-pub(crate) fn given_pieces(alloc: Global, parts: &[Part]) -> Result<Vec<Piece<'_>>, AllocError>
+pub(crate) fn lent_pieces<G: Given>(
+    alloc: Global,
+    parts: &[Part],
+) -> Result<Vec<Piece<G>>, AllocError>
+    requires { parts.now ≡ G.parts }
     ensures { IfOk result (λ pieces. pieces.items ≡ parts.now) }
 {
     let mut pieces = Vec::with_capacity(alloc, parts.len())?;
-    for part in parts {
-        pieces.push(Piece::given(part))?;
+    for number in 0..parts.len() {
+        pieces.push(Piece::lent(number))?;
     }
     Ok(pieces)
 }
 
 // The parts, handed over.
-pub(crate) fn own_pieces<'a>(alloc: Global, parts: Vec<Part>) -> Result<Vec<Piece<'a>>, AllocError>
+pub(crate) fn own_pieces<G: Given>(
+    alloc: Global,
+    parts: Vec<Part>,
+) -> Result<Vec<Piece<G>>, AllocError>
     ensures { IfOk result (λ pieces. pieces.items ≡ parts.items) }
 {
     let mut pieces = Vec::with_capacity(alloc, parts.len())?;
@@ -79,33 +103,43 @@ pub(crate) fn own_pieces<'a>(alloc: Global, parts: Vec<Part>) -> Result<Vec<Piec
 }
 
 // The join of all the pieces.
-pub(crate) fn fold_pieces(alloc: Global, pieces: Vec<Piece<'_>>) -> Result<Part, Refusal>
-    requires { 0 < vec_len pieces }
-    ensures { Joins pieces.entry.items result }
+pub(crate) fn fold_pieces<G: Given>(
+    alloc: Global,
+    parts: &[Part],
+    pieces: Vec<Piece<G>>,
+) -> Result<Part, Refusal>
+    requires parts { parts.now ≡ G.parts }
+    requires some { 0 < vec_len pieces }
+    ensures { Joins pieces.items result }
 {
-    let piece = fold_halves(alloc, pieces)?;
-    piece.into_part(alloc)
+    let piece = fold_halves(alloc, parts, pieces)?;
+    piece.into_part(alloc, parts)
 }
 
 // The join of the first half and the second one; one piece stays as it is.
-fn fold_halves<'a>(alloc: Global, mut pieces: Vec<Piece<'a>>) -> Result<Piece<'a>, Refusal>
-    requires { 0 < vec_len pieces }
-    ensures { Joins pieces.entry.items result }
+fn fold_halves<G: Given>(
+    alloc: Global,
+    parts: &[Part],
+    mut pieces: Vec<Piece<G>>,
+) -> Result<Piece<G>, Refusal>
+    requires parts { parts.now ≡ G.parts }
+    requires some { 0 < vec_len pieces }
+    ensures { Joins pieces.items result }
 {
     let half = pieces.len() / 2;
     if half == 0 {
         return Ok(only(pieces));
     }
     let back = pieces.split_off(half)?;
-    let left = fold_halves(alloc, pieces)?;
-    let right = fold_halves(alloc, back)?;
-    join_pieces(alloc, &left, &right)
+    let left = fold_halves(alloc, parts, pieces)?;
+    let right = fold_halves(alloc, parts, back)?;
+    join_pieces(alloc, parts, &left, &right)
 }
 
 // The only piece.
-fn only(mut pieces: Vec<Piece<'_>>) -> Piece<'_>
+fn only<G: Given>(mut pieces: Vec<Piece<G>>) -> Piece<G>
     requires { vec_len pieces ≡ 1 }
-    ensures { pieces.entry.items ≡ result ∷ [] }
+    ensures { pieces.items ≡ result ∷ [] }
 {
     match pieces.pop() {
         Some(piece) => piece,
@@ -114,13 +148,15 @@ fn only(mut pieces: Vec<Piece<'_>>) -> Piece<'_>
 }
 
 // The join of two pieces.
-pub(crate) fn join_pieces<'a>(
+pub(crate) fn join_pieces<G: Given>(
     alloc: Global,
-    first: &Piece<'_>,
-    second: &Piece<'_>,
-) -> Result<Piece<'a>, Refusal>
+    parts: &[Part],
+    first: &Piece<G>,
+    second: &Piece<G>,
+) -> Result<Piece<G>, Refusal>
+    requires { parts.now ≡ G.parts }
     ensures { Joins (first.now ∷ second.now ∷ []) result }
 {
-    let part = join(alloc, first.part(), second.part())?;
+    let part = join(alloc, first.part(parts), second.part(parts))?;
     Ok(Piece::own(part))
 }

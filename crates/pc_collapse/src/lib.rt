@@ -1,9 +1,12 @@
 //! Many part files joined to one.
 #![tactic(auto)]
 
+mod bag;
 mod folding;
 mod laws;
 mod piece;
+mod rule;
 
+pub use bag::{collapse_bag, collapse_bag_owned};
 pub use folding::{fold, fold_owned};
 pub use laws::{files_fold_well, folds_are_states};

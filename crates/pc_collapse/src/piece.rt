@@ -1,26 +1,47 @@
-//! What is joined: parts that were given to be read, and parts of one's own, which end as soon as they are joined.
-ghost use Rattle.std.specs.Prelude.{◌≡◌, [], ◌∷◌};
+//! What is joined: parts that are lent to be read, by their numbers, and parts of one's own, which end as soon as they are
+//! joined.
+ghost use Rattle.std.specs.Prelude.{◌≡◌, ◌<◌, [], ◌∷◌, length};
+ghost use Rattle.pc_collapse.specs.Pieces.{file_at};
 ghost use Rattle.pc_collapse.specs.Worth.{Joins};
 
 use pc_part::{Part, join};
 use pc_types::Refusal;
 use std::alloc::Global;
-use std::marker::Model;
+use std::marker::{Brand, Model, PhantomData};
+
+// Which parts are lent, and which files are joined.
+pub(crate) trait Given {
+    ghost use Rattle.std.specs.Prelude.{List};
+    ghost use Rattle.pc_model.specs.Files.{File};
+
+    ghost parts: { List File };
+
+    ghost files: { List File };
+}
+
+impl Given for Brand {
+    ghost use Rattle.std.specs.Prelude.{[]};
+
+    ghost parts = { [] };
+
+    ghost files = { [] };
+}
 
 // Whose part it is.
 #[derive(Drop)]
-enum Source<'a> {
-    Given(&'a Part),
+enum Source {
+    Lent(usize),
     Own(Part),
 }
 
-// A part that takes part in a fold. A contract sees it as its file.
+// A part that takes part in a join. A contract sees it as its file.
 #[derive(Drop)]
-pub(crate) struct Piece<'a> {
-    source: Source<'a>,
+pub(crate) struct Piece<G: Given> {
+    source: Source,
+    of: PhantomData<G>,
 }
 
-impl<'a> Model for Piece<'a> {
+impl<G: Given> Model for Piece<G> {
     ghost use Rattle.pc_model.specs.Files.{File};
     ghost use Rattle.pc_part.specs.Parts.{file_code};
 
@@ -28,46 +49,56 @@ impl<'a> Model for Piece<'a> {
 
     ghost coded = { file_code };
 
-    ghost use Rattle.pc_collapse.specs.Pieces.{file_of};
+    ghost use Rattle.pc_collapse.specs.Pieces.{file_of, IsLentOf};
 
-    ghost view = { λ p. file_of p.source };
+    ghost view = { λ p. file_of G.parts p.source };
+
+    ghost invariant = { λ p. IsLentOf G.parts p.source };
 }
 
-impl<'a> Piece<'a> {
-    // A part that is only read.
-    pub(crate) fn given(part: &'a Part) -> Piece<'a>
-        ensures { result ≡ part.now }
+impl<G: Given> Piece<G> {
+    // The lent part of this number, from 0.
+    pub(crate) fn lent(number: usize) -> Piece<G>
+        requires { number < length G.parts }
+        ensures { result ≡ file_at G.parts number }
     {
         Piece {
-            source: Source::Given(part),
+            source: Source::Lent(number),
+            of: PhantomData,
         }
     }
 
     // A part that is handed over.
-    pub(crate) fn own(part: Part) -> Piece<'a>
+    pub(crate) fn own(part: Part) -> Piece<G>
         ensures { result ≡ part }
     {
         Piece {
             source: Source::Own(part),
+            of: PhantomData,
         }
     }
 
     // The part, to be read.
-    pub(crate) fn part(&self) -> &Part
+    pub(crate) fn part<'a>(&'a self, parts: &'a [Part]) -> &'a Part
+        requires { parts.now ≡ G.parts }
         ensures { result.now ≡ self.now }
     {
         match &self.source {
-            Source::Given(part) => part,
+            Source::Lent(number) => &parts[*number],
             Source::Own(part) => part,
         }
     }
 
-    // The part, to be kept. One that was given is copied, which is to join it with itself.
-    pub(crate) fn into_part(self, alloc: Global) -> Result<Part, Refusal>
-        ensures { Joins (self.entry ∷ []) result }
+    // The part, to be kept. One that is lent is copied, which is to join it with itself.
+    pub(crate) fn into_part(self, alloc: Global, parts: &[Part]) -> Result<Part, Refusal>
+        requires { parts.now ≡ G.parts }
+        ensures { Joins (self ∷ []) result }
     {
         match self.source {
-            Source::Given(part) => join(alloc, part, part),
+            Source::Lent(number) => {
+                let part = &parts[number];
+                join(alloc, part, part)
+            }
             Source::Own(part) => Ok(part),
         }
     }

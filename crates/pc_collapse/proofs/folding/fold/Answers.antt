@@ -1,8 +1,5 @@
-use Rattle.std.proofs.Common.{List, subst}
-use Rattle.pc_model.specs.Files.{File}
-use Rattle.pc_collapse.specs.Worth.{Joins}
 use Rattle.pc_collapse.proofs.FoldedFiles.{joins_fold}
 use Rattle.pc_collapse.proofs.folding.fold.Goals as goal
 
 pub returns : goal.returns
-returns c = joins_fold c.args.parts.now _ c.in_ok-check_runs.ensures (subst (λ (files : List File). Joins files c.fold_pieces.result) c.in_ok-pieces.ensures c.fold_pieces.ensures)
+returns c = joins_fold c.args.parts.now _ c.in_ok-check_runs.ensures c.fold_lent.ensures

@@ -1,8 +1,7 @@
-use Rattle.std.proofs.Common.{List, subst}
-use Rattle.pc_model.specs.Files.{File}
-use Rattle.pc_collapse.specs.Worth.{Joins, AreOfOneRun}
+use Rattle.std.proofs.Common.{subst}
+use Rattle.pc_collapse.specs.Worth.{AreOfOneRun}
 use Rattle.pc_collapse.proofs.FoldedFiles.{joins_fold}
 use Rattle.pc_collapse.proofs.folding.fold_owned.Goals as goal
 
 pub returns : goal.returns
-returns c = joins_fold c.args.parts.items _ (subst AreOfOneRun c.deref.ensures.value c.in_ok-check_runs.ensures) (subst (λ (files : List File). Joins files c.fold_pieces.result) c.in_ok-pieces.ensures c.fold_pieces.ensures)
+returns c = joins_fold c.args.parts.items _ (subst AreOfOneRun c.deref.ensures.value c.in_ok-check_runs.ensures) c.fold_handed.ensures

@@ -3,4 +3,4 @@ use Rattle.std.specs.Vec.Iter.{into_iter_items}
 use Rattle.pc_collapse.proofs.folding.own_pieces.Given as goal
 
 abbrev pub invariant-loop-part : goal.invariant-loop-part
-invariant-loop-part l = l.pieces.items ++ into_iter_items l.part-iterator ≡ l.fn.parts.items
+invariant-loop-part g l = l.pieces.items ++ into_iter_items l.part-iterator ≡ l.fn.parts.items

@@ -1,0 +1,12 @@
+-- A lent part, read at its number.
+use Rattle.std.proofs.Common.{◌≡◌, ℕ, ◌<◌, List, length, get_or, sym, ap, subst, ◌∙◌}
+use Rattle.std.proofs.lemmas.List.{get_or_default}
+use Rattle.pc_model.specs.Files.{File}
+use Rattle.pc_collapse.specs.declared.piece.Source.{Source}
+use Rattle.pc_collapse.specs.declared.piece.Source.TheVariants.{Lent}
+use Rattle.pc_collapse.specs.Pieces.{file_of, IsLentOf}
+
+pub lent_is : (lent parts : List File) (number : ℕ) (source : Source) (read file : File) → parts ≡ lent → source ≡ Lent number → IsLentOf lent source → file_of lent source ≡ file → read ≡ get_or parts number read → read ≡ file
+lent_is lent parts number source read file same is inside view at =
+    let bound : number < length lent = subst (IsLentOf lent) is inside in
+    at ∙ ap (λ (l : List File). get_or l number read) same ∙ get_or_default lent number read _ bound ∙ sym (ap (file_of lent) is) ∙ view

@@ -1,0 +1,7 @@
+use Rattle.std.proofs.Common.{◌≡◌}
+use Rattle.crossbeam_queue.specs.Passes.{view, IsPassOf}
+use Rattle.pc_collapse.specs.Bags.{hand, all_parts}
+use Rattle.pc_collapse.proofs.bag.drain.Given as goal
+
+abbrev pub invariant-loop : goal.invariant-loop
+invariant-loop g l = IsPassOf l.bag l.pass × (view l.pass ≡ hand all_parts l.left.items)

@@ -1,0 +1,51 @@
+-- What the bag and the collapsers' hands hold together.
+use Rattle.std.specs.Prelude.{◌≡◌, ℕ, ◌+◌, ◌≤◌, List, [], ◌∷◌, ◌++◌, length, Option, IfSome}
+use mathlib.Core.Option.{some}
+use lib.ListN.{get_elem?}
+use Rattle.pc_model.specs.Files.{File}
+use Rattle.crossbeam_queue.specs.Passes.{view, IsPassOf}
+use Rattle.crossbeam_queue.specs.declared.array_queue.Doing.{Doing}
+use Rattle.crossbeam_queue.specs.declared.array_queue.Slotted.{Slotted}
+use Rattle.pc_collapse.specs.Worth.{AreWorth, IsCauseFor}
+use Rattle.pc_collapse.specs.declared.bag.Collapser.{Collapser}
+use Rattle.pc_collapse.specs.declared.rule.Hand.{Hand}
+
+-- a hand with so many parts of the right to know the whole
+abbrev pub hand : ℕ → List File → Hand
+hand parts held = record { parts = parts; held = held }
+
+-- the right to know the whole: a part for each of 64 collapsers, and one for the caller
+abbrev pub all_parts : ℕ
+all_parts = 65
+
+-- what all hands hold
+abbrev pub held_by : List Hand → List File
+held_by [] = []
+held_by (v ∷ vs) = v.held ++ held_by vs
+
+-- the parts of the right to know the whole, added up
+abbrev pub parts_of : List Hand → ℕ
+parts_of [] = 0
+parts_of (v ∷ vs) = v.parts + parts_of vs
+
+-- The rule: what the bag and the hands hold together is worth the given files, and is no more of them. A hand without a part
+-- of the right to know the whole holds nothing.
+pub record Bagged (given items : List File) (views : List Hand) : Type 0 where
+  pub worth : AreWorth given (items ++ held_by views)
+  pub few : length items + length (held_by views) ≤ length given
+  pub parts : parts_of views ≡ all_parts
+  pub idle : (pass : ℕ) (v : Hand) → get_elem? views pass ≡ some v → v.parts ≡ 0 → v.held ≡ []
+
+-- what is held without the file that was taken last
+abbrev pub rest_of : List File → List File
+rest_of [] = []
+rest_of (f ∷ fs) = fs
+
+module _ {G Q A : Type 0} (bag : Slotted (Option File) (Doing File Hand) Q A) where
+  -- a collapser that holds nothing
+  abbrev pub IsReady : Collapser G → Type 0
+  IsReady c = IsPassOf bag c.pass × (view c.pass ≡ hand 1 [])
+
+-- the same, and where a join was refused, the fold of the given files may be refused for it
+abbrev pub IsDone : {G Q A : Type 0} → List File → Slotted (Option File) (Doing File Hand) Q A → Collapser G → Type 0
+IsDone given bag c = IsReady bag c × IfSome c.refused (IsCauseFor given)
