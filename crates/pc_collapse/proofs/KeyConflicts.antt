@@ -13,7 +13,7 @@ use Rattle.pc_model.specs.Files.{conflict, differs, same_content}
 use Rattle.pc_model.proofs.MapLaws.{get-entries}
 use Rattle.pc_model.proofs.PairMapLaws.{tested}
 use Rattle.pc_model.proofs.JoinLaws.{one_key}
-use Rattle.pc_part.proofs.MergeLaws.{Rise, Below, both_of, find_below}
+use Rattle.pc_model.proofs.RisingLaws.{Rise, Below, both, none_below}
 
 -- what the entries have at a key, where it differs nowhere from what is there
 abbrev Apart : (List ℕ → Option AtPoint) → (List ℕ → Option AtPoint) → Type 0
@@ -47,11 +47,11 @@ module _ (there : List ℕ → Option AtPoint) where
   none_differs : (es : List (List ℕ × AtPoint)) → Rise es → Apart (λ q. find key_cmp q es) there → any_differs es ≡ false
   none_differs [] rise apart = refl
   none_differs (e ∷ es) rise apart =
-      let parts = both_of (below_all key_cmp e.0 es) (is_sorted key_cmp es) rise in
+      let parts = both (below_all key_cmp e.0 es) (is_sorted key_cmp es) rise in
       ap (λ t. t || any_differs es) (apart e.0 e.1 (find_first e es)) ∙ none_differs es parts.1 (λ q a is. by q a (same_bytes q e.0) refl parts.0 is (apart q a))
     where
       by : (q : List ℕ) (a : AtPoint) (t : Bool) → same_bytes q e.0 ≡ t → Below e.0 es → find key_cmp q es ≡ Some a → (cond t (Some e.1) (find key_cmp q es) ≡ Some a → differs a (there q) ≡ false) → differs a (there q) ≡ false
-      by q a true same below is h = let none : None ≡ Some a = sym (find_below e.0 es below) ∙ ap (λ k. find key_cmp k es) (sym (one_key q e.0 same)) ∙ is in absurd cc
+      by q a true same below is h = let none : None ≡ Some a = sym (none_below e.0 es below) ∙ ap (λ k. find key_cmp k es) (sym (one_key q e.0 same)) ∙ is in absurd cc
       by q a false same below is h = h is
 
 -- ---- what one point has
