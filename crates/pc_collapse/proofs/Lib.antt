@@ -1,4 +1,5 @@
 mod BagMoves
+mod DealtFiles
 mod FactLists
 mod FoldedFiles
 mod Gathered

@@ -2,4 +2,5 @@ pub mod Bags
 pub mod Folds
 pub mod Laws
 pub mod Pieces
+pub mod Rounds
 pub mod Worth

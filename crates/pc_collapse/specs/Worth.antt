@@ -52,10 +52,6 @@ IsCauseOf given why = (first : File) (others : List File) → given ≡ first �
 abbrev pub IsCauseFor : List File → Refusal → Type 0
 IsCauseFor files why = (given : List File) → AreSound given files → IsCauseOf given why
 
--- some files become others that are worth them, or there is a cause why not
-abbrev pub Become : List File → Result (List File) Refusal → Type 0
-Become files result = MatchResult result (AreWorth files) (IsCauseFor files)
-
--- the same of all of them and one file
+-- the files are joined to one that is worth them, or there is a cause why not
 abbrev pub Joins : List File → Result File Refusal → Type 0
 Joins files result = MatchResult result (λ file. AreWorth files (file ∷ [])) (IsCauseFor files)

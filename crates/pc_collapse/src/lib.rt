@@ -5,8 +5,10 @@ mod bag;
 mod folding;
 mod laws;
 mod piece;
+mod rounds;
 mod rule;
 
 pub use bag::{collapse_bag, collapse_bag_owned};
 pub use folding::{fold, fold_owned};
 pub use laws::{files_fold_well, folds_are_states};
+pub use rounds::{collapse_rounds, collapse_rounds_owned};

@@ -1,0 +1,5 @@
+use Rattle.pc_collapse.specs.Worth.{AreWorth}
+use Rattle.pc_collapse.proofs.rounds.rounds.Given as goal
+
+abbrev pub invariant-loop : goal.invariant-loop
+invariant-loop g l = AreWorth l.fn.pieces.items l.left.items
