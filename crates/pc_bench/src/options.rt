@@ -1,5 +1,6 @@
 //! The command line.
 ghost use Rattle.std.specs.Prelude.{◌≤◌, ◌<◌};
+ghost use Rattle.pc_types.specs.declared.limits.TheConstants.{MOST_KEYS, MOST_WRITES};
 
 use clap::{Arg, ArgAction, ArgMatches, Command, Error};
 use pc_types::{MOST_KEYS, MOST_POINTS, MOST_WRITES};
