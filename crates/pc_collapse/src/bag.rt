@@ -1,11 +1,11 @@
 //! Collapsers that join files out of one bag.
-ghost use Rattle.std.specs.Prelude.{◌≡◌, ◌<◌, ◌≤◌, ◌+◌, [], ◌∷◌, length, IfSome, IfOk, IfErr, All, vec_len, MatchResult};
+ghost use Rattle.std.specs.Prelude.{◌≡◌, ◌<◌, ◌≤◌, ◌+◌, [], ◌∷◌, ◌++◌, length, IfSome, IfOk, IfErr, All, vec_len, MatchResult};
 ghost use Rattle.crossbeam_queue.specs.Passes.{view, IsPassOf, ruled_capacity};
 ghost use Rattle.pc_collapse.specs.Bags.{hand, all_parts, IsReady, IsDone};
 ghost use Rattle.pc_collapse.specs.Folds.{Folds};
 ghost use Rattle.pc_collapse.specs.Worth.{AreWorth, IsCauseFor, Joins};
 
-use crate::folding::{check_runs, fold_pieces, join_pieces, lent_pieces, own_pieces};
+use crate::folding::{check_runs, fold_pieces, join_pieces, pieces_of};
 use crate::piece::{Given, Piece};
 use crate::rule::{Bag, BagPass, Drains, Puts, PutsBack, Shares, Takes};
 use pc_part::Part;
@@ -31,7 +31,7 @@ pub fn collapse_bag<E: Gate + Sync, R: Threads + Wait + Sync>(
     ensures { Folds parts.now result }
 {
     check_runs(parts)?;
-    collapse_lent::<Brand, E, R>(rt, alloc, parts, workers, gate)
+    collapse::<Brand, E, R>(rt, alloc, parts, Vec::new(alloc), workers, gate)
 }
 
 /// The same of parts that are handed over: each ends as soon as it is joined.
@@ -46,55 +46,24 @@ pub fn collapse_bag_owned<E: Gate + Sync, R: Threads + Wait + Sync>(
     ensures { Folds parts.items result }
 {
     check_runs(&parts)?;
-    collapse_handed::<Brand, E, R>(rt, alloc, parts, workers, gate)
+    collapse::<Brand, E, R>(rt, alloc, &[], parts, workers, gate)
 }
 
-// The join of parts that are only read.
-fn collapse_lent<G: Given + Send + Sync, E: Gate + Sync, R: Threads + Wait + Sync>(
-    rt: &R,
-    alloc: Global,
-    parts: &[Part],
-    workers: u8,
-    gate: &E,
-) -> Result<Part, Refusal>
-    requires workers { (1 ≤ workers) × (workers ≤ 64) }
-    requires given { (parts.now ≡ G.parts) × (G.files ≡ G.parts) × (0 < length parts.now) }
-    ensures { Joins parts.now result }
-{
-    let pieces = lent_pieces::<G>(alloc, parts)?;
-    collapse(rt, alloc, parts, pieces, workers, gate)
-}
-
-// The join of parts that are handed over.
-fn collapse_handed<G: Given + Send + Sync, E: Gate + Sync, R: Threads + Wait + Sync>(
-    rt: &R,
-    alloc: Global,
-    parts: Vec<Part>,
-    workers: u8,
-    gate: &E,
-) -> Result<Part, Refusal>
-    requires workers { (1 ≤ workers) × (workers ≤ 64) }
-    requires given { (G.parts ≡ []) × (G.files ≡ parts.items) × (0 < vec_len parts) }
-    ensures { Joins parts.items result }
-{
-    let pieces = own_pieces::<G>(alloc, parts)?;
-    collapse(rt, alloc, &[], pieces, workers, gate)
-}
-
-// The join of all the pieces.
+// The join of parts that are lent and others that are handed over.
 fn collapse<G: Given + Send + Sync, E: Gate + Sync, R: Threads + Wait + Sync>(
     rt: &R,
     alloc: Global,
     parts: &[Part],
-    pieces: Vec<Piece<G>>,
+    own: Vec<Part>,
     workers: u8,
     gate: &E,
 ) -> Result<Part, Refusal>
     requires workers { (1 ≤ workers) × (workers ≤ 64) }
     requires parts { parts.now ≡ G.parts }
-    requires files { (G.files ≡ pieces.items) × (0 < vec_len pieces) }
-    ensures { Joins pieces.items result }
+    requires files { (G.files ≡ parts.now ++ own.items) × (0 < length G.files) }
+    ensures { Joins G.files result }
 {
+    let pieces = pieces_of::<G>(alloc, parts, own)?;
     let (bag, mut pass) = Bag::<G>::ruled(alloc, pieces.len())?;
     fill(rt, &bag, &mut pass, pieces);
     let mut all = hands(alloc, &bag, &mut pass, workers)?;

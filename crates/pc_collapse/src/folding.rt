@@ -1,5 +1,5 @@
 //! The fold of many files, by halves.
-ghost use Rattle.std.specs.Prelude.{◌≡◌, ◌<◌, ◌∷◌, [], length, IfOk, MatchResult, vec_len};
+ghost use Rattle.std.specs.Prelude.{◌≡◌, ◌<◌, ◌++◌, ◌∷◌, [], length, IfOk, MatchResult, vec_len};
 ghost use Rattle.pc_collapse.specs.Folds.{Folds, has_other_run};
 ghost use Rattle.pc_collapse.specs.Worth.{AreOfOneRun, Joins};
 
@@ -21,7 +21,7 @@ pub fn fold(alloc: Global, parts: &[Part]) -> Result<Part, Refusal>
     ensures { Folds parts.now result }
 {
     check_runs(parts)?;
-    fold_lent::<Brand>(alloc, parts)
+    fold_all::<Brand>(alloc, parts, Vec::new(alloc))
 }
 
 /// The same of parts that are handed over: each ends as soon as it is joined, so that no more memory is used at any time
@@ -30,7 +30,7 @@ pub fn fold_owned(alloc: Global, parts: Vec<Part>) -> Result<Part, Refusal>
     ensures { Folds parts.items result }
 {
     check_runs(&parts)?;
-    fold_handed::<Brand>(alloc, parts)
+    fold_all::<Brand>(alloc, &[], parts)
 }
 
 // Refuses no parts, and parts of two runs.
@@ -55,49 +55,40 @@ fn is_other_run(first: &Part, others: &[Part]) -> bool
     others.iter().any(|part| part.run() != first.run())
 }
 
-// The fold of parts that are only read.
-fn fold_lent<G: Given>(alloc: Global, parts: &[Part]) -> Result<Part, Refusal>
-    requires { (parts.now ≡ G.parts) × (0 < length parts.now) }
-    ensures { Joins parts.now result }
+// The fold of parts that are lent and others that are handed over.
+fn fold_all<G: Given>(alloc: Global, lent: &[Part], own: Vec<Part>) -> Result<Part, Refusal>
+    requires lent { lent.now ≡ G.parts }
+    requires some { 0 < length (lent.now ++ own.items) }
+    ensures { Joins (lent.now ++ own.items) result }
 {
-    let pieces = lent_pieces::<G>(alloc, parts)?;
-    fold_pieces(alloc, parts, pieces)
+    let pieces = pieces_of::<G>(alloc, lent, own)?;
+    fold_pieces(alloc, lent, pieces)
 }
 
-// The fold of parts that are handed over.
-fn fold_handed<G: Given>(alloc: Global, parts: Vec<Part>) -> Result<Part, Refusal>
-    requires { (G.parts ≡ []) × (0 < vec_len parts) }
-    ensures { Joins parts.items result }
-{
-    let pieces = own_pieces::<G>(alloc, parts)?;
-    fold_pieces(alloc, &[], pieces)
-}
-
-// The parts, to be read.
-pub(crate) fn lent_pieces<G: Given>(
+// The lent parts, and behind them the others.
+pub(crate) fn pieces_of<G: Given>(
     alloc: Global,
-    parts: &[Part],
+    lent: &[Part],
+    own: Vec<Part>,
 ) -> Result<Vec<Piece<G>>, AllocError>
-    requires { parts.now ≡ G.parts }
-    ensures { IfOk result (λ pieces. pieces.items ≡ parts.now) }
+    requires { lent.now ≡ G.parts }
+    ensures { IfOk result (λ pieces. pieces.items ≡ lent.now ++ own.items) }
 {
-    let mut pieces = Vec::with_capacity(alloc, parts.len())?;
-    for number in 0..parts.len() {
-        pieces.push(Piece::lent(number))?;
+    let mut pieces = lent_pieces(alloc, lent)?;
+    for part in own {
+        pieces.push(Piece::own(part))?;
     }
     Ok(pieces)
 }
 
-// The parts, handed over.
-pub(crate) fn own_pieces<G: Given>(
-    alloc: Global,
-    parts: Vec<Part>,
-) -> Result<Vec<Piece<G>>, AllocError>
-    ensures { IfOk result (λ pieces. pieces.items ≡ parts.items) }
+// The lent parts.
+fn lent_pieces<G: Given>(alloc: Global, lent: &[Part]) -> Result<Vec<Piece<G>>, AllocError>
+    requires { lent.now ≡ G.parts }
+    ensures { IfOk result (λ pieces. pieces.items ≡ lent.now) }
 {
-    let mut pieces = Vec::with_capacity(alloc, parts.len())?;
-    for part in parts {
-        pieces.push(Piece::own(part))?;
+    let mut pieces = Vec::with_capacity(alloc, lent.len())?;
+    for number in 0..lent.len() {
+        pieces.push(Piece::lent(number))?;
     }
     Ok(pieces)
 }

@@ -7,6 +7,8 @@ mod laws;
 mod piece;
 mod rounds;
 mod rule;
+#[cfg(test)]
+mod tests;
 
 pub use bag::{collapse_bag, collapse_bag_owned};
 pub use folding::{fold, fold_owned};

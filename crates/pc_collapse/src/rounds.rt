@@ -5,7 +5,7 @@ ghost use Rattle.pc_collapse.specs.Folds.{Folds};
 ghost use Rattle.pc_collapse.specs.Rounds.{AllBecome, Become, EachBecomes, dealt_files, files_of, hand_files, together};
 ghost use Rattle.pc_collapse.specs.Worth.{AreWorth, Joins};
 
-use crate::folding::{check_runs, fold_pieces, join_pieces, lent_pieces, own_pieces};
+use crate::folding::{check_runs, fold_pieces, join_pieces, pieces_of};
 use crate::piece::{Given, Piece};
 use pc_part::Part;
 use pc_types::{Gate, Place, Refusal};
@@ -32,7 +32,7 @@ pub fn collapse_rounds<E: Gate + Sync, R: Threads + Wait + Sync>(
     ensures { Folds parts.now result }
 {
     check_runs(parts)?;
-    rounds_of_lent::<Brand, E, R>(rt, alloc, parts, workers, gate)
+    rounds::<Brand, E, R>(rt, alloc, parts, Vec::new(alloc), workers, gate)
 }
 
 /// The same of parts that are handed over: each ends as soon as it is joined.
@@ -47,55 +47,25 @@ pub fn collapse_rounds_owned<E: Gate + Sync, R: Threads + Wait + Sync>(
     ensures { Folds parts.items result }
 {
     check_runs(&parts)?;
-    rounds_of_handed::<Brand, E, R>(rt, alloc, parts, workers, gate)
+    rounds::<Brand, E, R>(rt, alloc, &[], parts, workers, gate)
 }
 
-// The join of parts that are only read.
-fn rounds_of_lent<G: Given + Send + Sync, E: Gate + Sync, R: Threads + Wait + Sync>(
-    rt: &R,
-    alloc: Global,
-    parts: &[Part],
-    workers: u8,
-    gate: &E,
-) -> Result<Part, Refusal>
-    requires workers { 1 ≤ workers }
-    requires given { (parts.now ≡ G.parts) × (0 < length parts.now) }
-    ensures { Joins parts.now result }
-{
-    let pieces = lent_pieces::<G>(alloc, parts)?;
-    rounds(rt, alloc, parts, pieces, workers, gate)
-}
-
-// The join of parts that are handed over.
-fn rounds_of_handed<G: Given + Send + Sync, E: Gate + Sync, R: Threads + Wait + Sync>(
-    rt: &R,
-    alloc: Global,
-    parts: Vec<Part>,
-    workers: u8,
-    gate: &E,
-) -> Result<Part, Refusal>
-    requires workers { 1 ≤ workers }
-    requires given { (G.parts ≡ []) × (0 < vec_len parts) }
-    ensures { Joins parts.items result }
-{
-    let pieces = own_pieces::<G>(alloc, parts)?;
-    rounds(rt, alloc, &[], pieces, workers, gate)
-}
-
-// The join of all the pieces. Each round halves them, so that there are no more rounds than bits in their number.
+// The join of parts that are lent and others that are handed over. Each round halves them, so that there are no more rounds
+// than bits in their number.
 fn rounds<G: Given + Send + Sync, E: Gate + Sync, R: Threads + Wait + Sync>(
     rt: &R,
     alloc: Global,
     parts: &[Part],
-    pieces: Vec<Piece<G>>,
+    own: Vec<Part>,
     workers: u8,
     gate: &E,
 ) -> Result<Part, Refusal>
     requires workers { 1 ≤ workers }
     requires parts { parts.now ≡ G.parts }
-    requires some { 0 < vec_len pieces }
-    ensures { Joins pieces.items result }
+    requires some { 0 < length (parts.now ++ own.items) }
+    ensures { Joins (parts.now ++ own.items) result }
 {
+    let pieces = pieces_of::<G>(alloc, parts, own)?;
     let mut left = pieces;
     for _ in 0..usize::BITS {
         if left.len() < 2 {

@@ -1,4 +1,5 @@
+use Rattle.std.proofs.Common.{◌++◌}
 use Rattle.pc_collapse.proofs.bag.collapse_bag.Given as goal
 
-abbrev pub ghosts-collapse_lent : goal.ghosts-collapse_lent
-ghosts-collapse_lent g a = record { parts = a.parts.now; files = a.parts.now }
+abbrev pub ghosts-collapse : goal.ghosts-collapse
+ghosts-collapse g a = record { parts = a.parts.now; files = a.parts.now ++ a.own.items }

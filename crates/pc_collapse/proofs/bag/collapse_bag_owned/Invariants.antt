@@ -1,5 +1,5 @@
-use Rattle.std.proofs.Common.{[]}
+use Rattle.std.proofs.Common.{◌++◌}
 use Rattle.pc_collapse.proofs.bag.collapse_bag_owned.Given as goal
 
-abbrev pub ghosts-collapse_handed : goal.ghosts-collapse_handed
-ghosts-collapse_handed g a = record { parts = []; files = a.parts.items }
+abbrev pub ghosts-collapse : goal.ghosts-collapse
+ghosts-collapse g a = record { parts = a.parts.now; files = a.parts.now ++ a.own.items }

@@ -1,5 +1,5 @@
 use Rattle.std.proofs.Common.{[]}
 use Rattle.pc_collapse.proofs.folding.fold.Given as goal
 
-abbrev pub ghosts-fold_lent : goal.ghosts-fold_lent
-ghosts-fold_lent a = record { parts = a.parts.now; files = [] }
+abbrev pub ghosts-fold_all : goal.ghosts-fold_all
+ghosts-fold_all a = record { parts = a.lent.now; files = [] }

@@ -4,4 +4,4 @@ use Rattle.pc_collapse.proofs.FoldedFiles.{joins_fold}
 use Rattle.pc_collapse.proofs.rounds.collapse_rounds_owned.Goals as goal
 
 pub returns : goal.returns
-returns g c = joins_fold c.args.parts.items _ (subst AreOfOneRun c.deref.ensures.value c.in_ok-check_runs.ensures) c.rounds_of_handed.ensures
+returns g c = joins_fold c.args.parts.items _ (subst AreOfOneRun c.deref.ensures.value c.in_ok-check_runs.ensures) c.rounds.ensures
