@@ -27,7 +27,7 @@ const ABSENCE: u8 = 0;
 const VALUE: u8 = 1;
 
 /// Writes what stands before the entries of the run. It takes no memory, and refuses with `Device` exactly where the device
-/// failed; then a beginning of the text went out.
+/// failed; then a beginning of the text went out, and not all of it.
 pub fn encode_header<W: io::Write>(out: &mut Tally<W>, run: u64) -> Result<(), Refusal>
     ensures { Puts W.contents out.old out.new result (header_text run) }
 {
@@ -37,7 +37,7 @@ pub fn encode_header<W: io::Write>(out: &mut Tally<W>, run: u64) -> Result<(), R
 }
 
 /// Writes the text of the entry, which has at most 256 writes. It takes no memory, and refuses with `Device` exactly where
-/// the device failed; then a beginning of the text went out.
+/// the device failed; then a beginning of the text went out, and not all of it.
 pub fn encode_entry<W: io::Write>(out: &mut Tally<W>, entry: &Entry) -> Result<(), Refusal>
     requires { HasFewWrites entry.now }
     ensures { Puts W.contents out.old out.new result (entry_text entry.now) }
@@ -53,7 +53,7 @@ pub fn encode_entry<W: io::Write>(out: &mut Tally<W>, entry: &Entry) -> Result<(
 }
 
 /// Writes the text of a log: the header of the run, and the entries, each of which has at most 256 writes. It takes no memory,
-/// and refuses with `Device` exactly where the device failed; then a beginning of the text went out.
+/// and refuses with `Device` exactly where the device failed; then a beginning of the text went out, and not all of it.
 pub fn encode_log<W: io::Write>(
     out: &mut Tally<W>,
     run: u64,

@@ -14,7 +14,7 @@ const MAGIC: [u8; 8] = *b"PCALCB01";
 
 impl Base {
     /// Writes the one text of the base, from which `decode` reads the same base. It takes no memory, and refuses with
-    /// `Device` exactly where the device failed; then a beginning of the text went out.
+    /// `Device` exactly where the device failed; then a beginning of the text went out, and not all of it.
     pub fn encode<W: Write>(&self, out: &mut Tally<W>) -> Result<(), Refusal>
         ensures text { Puts W.contents out.old out.new result (base_text self.now) }
         ensures lawful { OnOk result (IsBaseFile self.now) }

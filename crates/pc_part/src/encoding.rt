@@ -24,7 +24,7 @@ const VALUE: u8 = 1;
 
 impl Part {
     /// Writes the one text of the part, from which `decode` reads the same part. It takes no memory, and refuses with
-    /// `Device` exactly where the device failed; then a beginning of the text went out.
+    /// `Device` exactly where the device failed; then a beginning of the text went out, and not all of it.
     pub fn encode<W: Write>(&self, out: &mut Tally<W>) -> Result<(), Refusal>
         ensures text { Puts W.contents out.old out.new result (part_text self.now) }
         ensures lawful { OnOk result (IsPartFile self.now) }

@@ -1,6 +1,7 @@
 -- What is recovered of a folder whose files were read.
 use Rattle.std.proofs.Common.{◌≡◌, ◌≢◌, ◌⊎◌, inl, inr, ℕ, List, Option, Result, Ok, Err, refl}
 use Rattle.std.specs.Io.KnownBytes.{Keeps}
+use Rattle.pc_types.proofs.KnownBytesLaws.{part_begins}
 use Rattle.pc_types.specs.Counted.{AppendsBeginning}
 use Rattle.pc_types.specs.Tallies.{Puts}
 use Rattle.pc_types.specs.declared.tally.Tally.{Tally}
@@ -34,4 +35,4 @@ nothing_out remaining contents folder out lost.Output other = absurd (other refl
 -- a text that went out, or a beginning of it, and then a flush
 pub puts_begin : {T : Type 0} (contents : T → Option (List ℕ)) (a b c : Tally T) (put : Result (Unit {0}) Refusal) (x : List ℕ) → Puts contents a b put x → Keeps (contents b.inner) (contents c.inner) → AppendsBeginning (contents a.inner) (contents c.inner) x
 puts_begin contents a b c (Ok u) x p kept = begins_kept (contents a.inner) (contents b.inner) (contents c.inner) x (whole_begins (contents a.inner) (contents b.inner) x p.0) kept
-puts_begin contents a b c (Err e) x p kept = begins_kept (contents a.inner) (contents b.inner) (contents c.inner) x p.2 kept
+puts_begin contents a b c (Err e) x p kept = begins_kept (contents a.inner) (contents b.inner) (contents c.inner) x (part_begins (contents a.inner) (contents b.inner) x p.2) kept

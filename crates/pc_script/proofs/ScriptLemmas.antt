@@ -155,7 +155,7 @@ pub at_lines : (setup : Setup) (script : List ℕ) (old b : Option (List ℕ)) (
 at_lines setup script old b m st all left e h = subst (λ (z : List (List ℕ)). SoFar setup old b m st z left) e h
 
 -- what is said of an error whatever it is
-pub in_err : {P : Type 0} (r : Result Status Refusal) → P → IfErr r (λ e. P)
+pub in_err : {A P : Type 0} (r : Result A Refusal) → P → IfErr r (λ e. P)
 in_err (Ok s) p = tt
 in_err (Err e) p = p
 

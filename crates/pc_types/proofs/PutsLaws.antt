@@ -5,18 +5,18 @@ use Rattle.std.specs.Io.KnownBytes.{Appends}
 use Rattle.pc_types.specs.Tallies.{Puts}
 use Rattle.pc_types.specs.declared.tally.Tally.{Tally}
 use Rattle.pc_types.specs.declared.refusal.Refusal.{Refusal}
-use Rattle.pc_types.proofs.KnownBytesLaws.{appends_then, begins_longer, begins_after}
+use Rattle.pc_types.proofs.KnownBytesLaws.{appends_then, part_longer, part_after}
 use Rattle.pc_types.proofs.Pieces.{stops_within}
 
 module _ {T : Type 0} (contents : T → Option (List ℕ)) where
   -- a text, and then another
   pub puts_then : (a b c : Tally T) (r : Result (Unit {0}) Refusal) (x y : List ℕ) → Puts contents a b (Ok tt) x → Puts contents b c r y → Puts contents a c r (x ++ y)
   puts_then a b c (Ok u) x y p q = (appends_then (contents a.inner) (contents b.inner) (contents c.inner) x y p.0 q.0, omega arith)
-  puts_then a b c (Err e) x y p q = (q.0, omega (arith, q.1, p.1), begins_after (contents a.inner) (contents b.inner) (contents c.inner) x y p.0 q.2)
+  puts_then a b c (Err e) x y p q = (q.0, omega (arith, q.1, p.1), part_after (contents a.inner) (contents b.inner) (contents c.inner) x y p.0 q.2)
 
   -- a text that went out in part is in part the longer text
   pub puts_stop : (a b : Tally T) (e : Refusal) (x y : List ℕ) → Puts contents a b (Err e) x → Puts contents a b (Err e) (x ++ y)
-  puts_stop a b e x y p = (p.0, p.1, begins_longer (contents a.inner) (contents b.inner) x y p.2)
+  puts_stop a b e x y p = (p.0, p.1, part_longer (contents a.inner) (contents b.inner) x y p.2)
 
   -- one of several pieces went out in part
   pub puts_stop_at : {X : Type 0} (f : X → List ℕ) (xs : List X) (i : ℕ) (d : X) (a b c : Tally T) (e : Refusal) → i < length xs

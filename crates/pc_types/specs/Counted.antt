@@ -1,5 +1,5 @@
 -- How failures are counted.
-use Rattle.std.specs.Prelude.{◌≡◌, ◌≤◌, ◌+◌, ◌-◌, ◌^◌, ℕ, nat_lt, ◌&&◌, min, List, ◌++◌, length, take, Option, Some, None, Result, Ok, Err, ⊤, if◌then◌else◌}
+use Rattle.std.specs.Prelude.{◌≡◌, ◌≤◌, ◌<◌, ◌+◌, ◌-◌, ◌^◌, ℕ, nat_lt, ◌&&◌, min, List, ◌++◌, length, take, Option, Some, None, Result, Ok, Err, ⊤, if◌then◌else◌}
 
 -- one more failure; the count stays at the greatest u64
 abbrev pub one_more : ℕ → ℕ
@@ -29,3 +29,9 @@ abbrev pub AppendsBeginning : Option (List ℕ) → Option (List ℕ) → List �
 AppendsBeginning None new text = ⊤
 AppendsBeginning (Some xs) None text = ⊥
 AppendsBeginning (Some xs) (Some ys) text = (n : ℕ) × (n ≤ length text) × (ys ≡ xs ++ take n text)
+
+-- known bytes grow by a beginning of the text that isn't all of it
+abbrev pub AppendsPart : Option (List ℕ) → Option (List ℕ) → List ℕ → Type 0
+AppendsPart None new text = ⊤
+AppendsPart (Some xs) None text = ⊥
+AppendsPart (Some xs) (Some ys) text = (n : ℕ) × (n < length text) × (ys ≡ xs ++ take n text)

@@ -94,7 +94,7 @@ impl<W: Write> Write for Tally<W> {
 
 impl<W: Write> Tally<W> {
     /// Writes all of the bytes. `Device` is answered exactly where the count rose in this call; then a beginning of
-    /// them went out.
+    /// them went out, and not all of them.
     #[tactic(auto, using(crate::proofs::KnownBytesLaws::appends_nothing))]
     pub fn put(&mut self, bytes: &[u8]) -> Result<(), Refusal>
         ensures { Puts W.contents self.old self.new result bytes.now }
@@ -111,7 +111,7 @@ impl<W: Write> Tally<W> {
     }
 
     /// Writes the pieces in order. `Device` is answered exactly where the count rose in this call; then a beginning of
-    /// them went out.
+    /// them went out, and not all of them.
     pub fn put_all(&mut self, pieces: &[&[u8]]) -> Result<(), Refusal>
         ensures { Puts W.contents self.old self.new result (flat_map (λ piece. piece.now) pieces.now) }
     {
