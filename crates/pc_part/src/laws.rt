@@ -1,6 +1,6 @@
 //! Laws of the join, and of reading. Each function does nothing, and its contract is a law.
 ghost use Rattle.pc_part.specs.Joins.{ConflictsAreMutual, JoinsAreIdempotent, JoinsAssociate, JoinsCommute, JoinsMakeNoConflict};
-ghost use Rattle.pc_part.specs.RoundTrips.{BaseTextsAreRead, PartTextsAreRead, ReadBasesAreTexts, ReadPartsAreTexts};
+ghost use Rattle.pc_part.specs.RoundTrips.{BaseTextsAreRead, CutBaseTextsAreShort, CutPartTextsAreShort, PartTextsAreRead, ReadBasesAreTexts, ReadPartsAreTexts};
 
 /// Two files of one run without conflict are joined to one file, whichever comes first.
 pub fn joins_commute()
@@ -37,6 +37,11 @@ pub fn read_parts_are_texts()
     ensures { ReadPartsAreTexts }
 {}
 
+/// The text of a part file that is cut off anywhere is read as short.
+pub fn cut_part_texts_are_short()
+    ensures { CutPartTextsAreShort }
+{}
+
 /// The text of a base file is read as the base.
 pub fn base_texts_are_read()
     ensures { BaseTextsAreRead }
@@ -45,4 +50,9 @@ pub fn base_texts_are_read()
 /// Bytes that are read as a base file are the text of that base.
 pub fn read_bases_are_texts()
     ensures { ReadBasesAreTexts }
+{}
+
+/// The text of a base file that is cut off anywhere is read as short.
+pub fn cut_base_texts_are_short()
+    ensures { CutBaseTextsAreShort }
 {}

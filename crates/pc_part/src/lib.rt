@@ -17,9 +17,9 @@ mod uniting;
 pub use base::Base;
 pub use joining::join;
 pub use laws::{
-    base_texts_are_read, conflicts_are_mutual, joins_are_idempotent, joins_associate,
-    joins_commute, joins_make_no_conflict, part_texts_are_read, read_bases_are_texts,
-    read_parts_are_texts,
+    base_texts_are_read, conflicts_are_mutual, cut_base_texts_are_short, cut_part_texts_are_short,
+    joins_are_idempotent, joins_associate, joins_commute, joins_make_no_conflict,
+    part_texts_are_read, read_bases_are_texts, read_parts_are_texts,
 };
 pub use laying::lay;
 pub use part::Part;
