@@ -33,6 +33,8 @@ class Case(typing.NamedTuple):
     memory: typing.Optional[int] = None
     # where the output goes, if not to the caller
     output: typing.Optional[str] = None
+    # files of the folder, and what each is to have afterwards; None where it is not to be there
+    files: dict = {}
 
 
 def written(folder, name, content):
@@ -74,7 +76,7 @@ def usage_cases(folder):
     yield Case("no folder", ("recover",), 2, err=[b"error: the following required arguments were not provided:\n  <DIR>\n"])
     yield Case("an option twice", ("step", "empty.pcs", "--run", "1", "--run", "2"), 2, err=[b"error: the argument '--run <N>' cannot be used multiple times\n"])
     yield Case("--version", ("--version",), 0, b"pcalc 0.1.0\n")
-    yield Case("--help", ("--help",), 0, parts=[b"Usage: pcalc", b"\n  step ", b"\n  recover "])
+    yield Case("--help", ("--help",), 0, parts=[b"Usage: pcalc", b"\n  step ", b"\n  collapse ", b"\n  recover "])
     options = [b"<SCRIPT>", b"--sessions <N>", b"[default: 8]", b"--capacity <N>", b"[default: 1024]", b"--run <N>", b"[default: 1]"]
     yield Case("step --help", ("step", "--help"), 0, parts=options)
     yield Case("step -h", ("step", "-h"), 0, parts=options)
@@ -207,7 +209,88 @@ def memory_cases(folder):
     yield Case("a log that memory has no room for", ("recover", "large_log"), 1, err=b"pcalc: log.pcl: OutOfMemory\n", memory=LITTLE)
 
 
+def collapse_usage_cases(folder):
+    """Faults of usage of a collapse, and its help."""
+    written(folder, "in.pcp", PART)
+    for wrong in (0, 65):
+        told = b"error: invalid value '%d' for '--collapsers <N>': %d is not in 1..=64\n" % (wrong, wrong)
+        yield Case(f"--collapsers {wrong}", ("collapse", "out.pcp", "in.pcp", "--collapsers", str(wrong)), 2, err=[told], files={"out.pcp": None})
+    told = b"error: the following required arguments were not provided:\n  <IN>..."
+    yield Case("no inputs", ("collapse", "out.pcp"), 2, err=[told], files={"out.pcp": None})
+    yield Case("no file to write", ("collapse",), 2, err=[b"  <OUT>\n  <IN>..."])
+    told = b"pcalc: in.pcp: an input has this name\n"
+    yield Case("a file to write that is an input", ("collapse", "in.pcp", "none.pcp", "in.pcp"), 2, err=told, files={"in.pcp": PART})
+    yield Case("collapse --help", ("collapse", "--help"), 0, parts=[b"<OUT>", b"<IN>...", b"--collapsers <N>", b"[default: 2]"])
+
+
+POINTS = {
+    "one.pcp": plain_files.Part(1, [(1, 1)], {b"a": (1, b"1"), b"b": (1, b"1")}),
+    "two.pcp": plain_files.Part(1, [(2, 2)], {b"a": (2, b"2")}),
+    "three.pcp": plain_files.Part(1, [(3, 3)], {b"b": (3, None)}),
+}
+ALL = bytes.fromhex("5043414c43503031 0000000000000001 00000001 00000001 00000003 0001 61 00000002 01 00000001 32 0001 62 00000003 00 0000 00000002")
+
+
+def collapse_cases(folder):
+    """What collapses print and write, for one collapser and many."""
+    for name, part in POINTS.items():
+        written(folder, name, part.text())
+    told = b"points 1-3 entries 2\n"
+    yield Case("three points", ("collapse", "all.pcp", "one.pcp", "two.pcp", "three.pcp"), 0, told, files={"all.pcp": ALL})
+    for number in (1, 3, 64):
+        words = ("collapse", f"--collapsers={number}", "again.pcp", "three.pcp", "one.pcp", "one.pcp", "two.pcp")
+        yield Case(f"the same in another order, by {number}", words, 0, told, files={"again.pcp": ALL})
+    yield Case("what has been joined", ("collapse", "again.pcp", "all.pcp", "two.pcp"), 0, told, files={"again.pcp": ALL})
+    one = POINTS["one.pcp"].text()
+    yield Case("one file, over a longer one", ("collapse", "again.pcp", "one.pcp"), 0, b"points 1 entries 2\n", files={"again.pcp": one})
+    told = b"points 1,3 entries 2\n"
+    gap = plain_files.join(POINTS["one.pcp"], POINTS["three.pcp"]).text()
+    yield Case("points with a gap", ("collapse", "gap.pcp", "one.pcp", "three.pcp"), 0, told, files={"gap.pcp": gap})
+    yield Case("a collapse whose output is full", ("collapse", "told.pcp", "one.pcp", "two.pcp"), 1, output=FULL, files={"told.pcp": plain_files.join(*list(POINTS.values())[:2]).text()})
+    names, joined = [], None
+    for point in range(1, 65):
+        part = plain_files.Part(7, [(point, point)], {b"key%04d" % (number * point % 3001): (point, None if number % 7 == 0 else b"%d" % point) for number in range(1000)})
+        names.append(f"many/{point}.pcp")
+        written(folder, names[-1], part.text())
+        joined = part if joined is None else plain_files.join(joined, part)
+    told = b"points 1-64 entries %d\n" % len(joined.entries)
+    yield Case("64 files of 1,000 entries", ("collapse", "many.pcp", *names), 0, told, files={"many.pcp": joined.text()})
+
+
+def collapse_fault_cases(folder):
+    """Collapses that fail: which fault is told, and what stands in the file afterwards."""
+
+    def fault(name, words, told, files):
+        return Case(name, ("collapse", *words), 1, err=told, files=files)
+
+    lost = {"lost.pcp": None}
+    for name, part in POINTS.items():
+        written(folder, name, part.text())
+    written(folder, "run.pcp", plain_files.Part(2, [(1, 1)], {}).text())
+    written(folder, "clash.pcp", plain_files.Part(1, [(1, 1)], {b"b": (1, b"2")}).text())
+    written(folder, "cut.pcp", ALL[:-1])
+    written(folder, "more.pcp", ALL + b"\0")
+    yield fault("another run", ("lost.pcp", "one.pcp", "run.pcp"), b"pcalc: lost.pcp: OtherRun\n", lost)
+    yield fault("files that differ", ("lost.pcp", "one.pcp", "clash.pcp"), b"pcalc: lost.pcp: Conflict\n", lost)
+    yield fault("a file that is cut off", ("lost.pcp", "one.pcp", "cut.pcp", "more.pcp"), b"pcalc: lost.pcp: Short\n", lost)
+    yield fault("a file that isn't there", ("lost.pcp", "one.pcp", "none.pcp"), b"pcalc: none.pcp: NoFile\n", lost)
+    yield fault("a file that isn't there, behind a longer one", ("lost.pcp", "more.pcp", "none.pcp"), b"pcalc: lost.pcp: Trailing\n", lost)
+    yield fault("a file that isn't there, before a longer one", ("lost.pcp", "none.pcp", "more.pcp"), b"pcalc: none.pcp: NoFile\n", lost)
+    written(folder, "kept.pcp", b"as it was")
+    yield fault("a refusal where the file stands", ("kept.pcp", "one.pcp", "run.pcp"), b"pcalc: kept.pcp: OtherRun\n", {"kept.pcp": b"as it was"})
+    os.makedirs(os.path.join(folder, "folder.pcp"))
+    yield fault("an input that is a folder", ("lost.pcp", "one.pcp", "folder.pcp"), b"pcalc: lost.pcp: Device\n", lost)
+    yield fault("a file to write that is a folder", ("folder.pcp", "one.pcp"), b"pcalc: folder.pcp: Device\n", {})
+    yield fault("a file to write in no folder", ("none/out.pcp", "one.pcp"), b"pcalc: none/out.pcp: Device\n", {"none/out.pcp": None})
+    yield fault("a file to write on a full device", (FULL, "one.pcp"), b"pcalc: /dev/full: Device\n", {})
+    os.chmod(written(folder, "closed.pcp", ALL), 0)
+    yield Case("an input without permission", ("collapse", "lost.pcp", "one.pcp", "closed.pcp"), 1, err=b"pcalc: closed.pcp: Device\n", is_other_user=True, files=lost)
+    sparse(folder, "large.pcp", MANY)
+    yield Case("an input that memory has no room for", ("collapse", "lost.pcp", "large.pcp"), 1, err=b"pcalc: lost.pcp: OutOfMemory\n", memory=LITTLE, files=lost)
+
+
 def cases(folder):
     """Each case, whose files are written into the folder right before it."""
-    for some in (usage_cases, option_cases, script_cases, folder_cases, listed_cases, long_folder_cases, memory_cases):
+    together = (usage_cases, option_cases, script_cases, folder_cases, listed_cases, long_folder_cases, memory_cases)
+    for some in (*together, collapse_usage_cases, collapse_cases, collapse_fault_cases):
         yield from some(folder)

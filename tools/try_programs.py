@@ -2,7 +2,7 @@
 """Runs the programs that the gate has built on what is stored of them, and compares what they print: `.ci/run` calls it last.
 
     examples/NAME.pcs     `pcalc step` prints NAME.out; the status is that of NAME.status, or 0
-    examples/NAME/        a folder: `pcalc recover` prints NAME.out
+    examples/NAME/        a folder: `pcalc recover` prints NAME.out, or `pcalc collapse` of its files where it has no base
     bench/counts.txt      a line `$ WORDS` is a command of pc_bench, and the lines up to the next one what it prints
     program_cases.py      options, files that can't be had, long files, a full output, little memory
 
@@ -51,7 +51,10 @@ def examples():
         name = script.removesuffix(".pcs")
         yield os.path.relpath(script, ROOT), (program_of("pcalc"), "step", script), int(text_of(name + ".status", "0")), text_of(name + ".out")
     for folder in sorted(filter(os.path.isdir, glob.glob(os.path.join(ROOT, "examples", "*")))):
-        yield os.path.relpath(folder, ROOT), (program_of("pcalc"), "recover", folder), 0, text_of(folder + ".out")
+        words = ("recover", folder)
+        if not os.path.exists(os.path.join(folder, "base.pcb")):
+            words = ("collapse", os.devnull, *sorted(glob.glob(os.path.join(folder, "*.pcp"))))
+        yield os.path.relpath(folder, ROOT), (program_of("pcalc"), *words), 0, text_of(folder + ".out")
 
 
 def counts():
@@ -99,7 +102,18 @@ def cases():
             else:
                 continue
             wanted = case.parts if case.parts is not None else case.out
-            yield f"pcalc {' '.join(case.words)}: {case.name}", differences(told, case.status, wanted, case.err)
+            lines = differences(told, case.status, wanted, case.err)
+            lines += [f"{name} is not as wanted" for name, content in case.files.items() if content_of(folder, name) != content]
+            yield f"pcalc {' '.join(case.words)}: {case.name}", lines
+
+
+def content_of(folder, name):
+    """What a file has, or None where it isn't there."""
+    try:
+        with open(os.path.join(folder, name), "rb") as it:
+            return it.read()
+    except FileNotFoundError:
+        return None
 
 
 def is_as_wanted(got, wanted):

@@ -2,8 +2,8 @@ pub mod BaseFileLaws
 mod BaseTexts
 mod CompleteParts
 mod CoveringRanges
-mod CutBases
-mod CutParts
+pub mod CutBaseLaws
+pub mod CutPartLaws
 pub mod GapLaws
 mod JoinLemmas
 mod JoinedFiles

@@ -13,7 +13,7 @@ ghost use Rattle.pc_script.specs.Reports.{recovery_text};
 ghost use Rattle.pc_script.specs.Recoveries.{AreAllOpened, AreOpened, ArePartsOpened, GoesOut, Holds, HoldsLog, HoldEach, HoldParts, HoldsAll, IsEachLost, IsListLost, IsLogFault, IsLogOpened, IsLost, IsTold, bytes_of, names_of};
 
 use crate::reports::put_recovered;
-use crate::run::{read_opened, report_bytes};
+use crate::run::{read_opened, report};
 use pc_recover::{Recovered, recover};
 use pc_types::{Refusal, Tally, read_all};
 use std::alloc::{AllocError, Global};
@@ -122,10 +122,10 @@ fn tell<E: Write>(dir: &str, lost: &Lost, errors: &mut Tally<E>)
     ensures { IsTold E.contents errors.old errors.new dir.now lost.now }
 {
     let _ = match lost {
-        Lost::Base(why) => report_bytes(b"base.pcb", *why, errors),
-        Lost::Part(name, why) => report_bytes(name, *why, errors),
-        Lost::Log(why) => report_bytes(b"log.pcl", *why, errors),
-        Lost::Folder(why) => report_bytes(dir.as_bytes(), *why, errors),
+        Lost::Base(why) => report(b"base.pcb", *why, errors),
+        Lost::Part(name, why) => report(name, *why, errors),
+        Lost::Log(why) => report(b"log.pcl", *why, errors),
+        Lost::Folder(why) => report(dir.as_bytes(), *why, errors),
         Lost::Output => Ok(()),
     };
 }

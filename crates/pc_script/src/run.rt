@@ -56,7 +56,7 @@ pub fn run_script<R: Read + Drop, W: Write, E: Write>(
     match answer_opened(alloc, setup, opened, out) {
         Ok(status) => exit_code(status),
         Err(Fault::Script(why)) => {
-            let _ = report(name, why, errors);
+            let _ = report(name.as_bytes(), why, errors);
             1
         }
         Err(Fault::Output) => 1,
@@ -119,15 +119,9 @@ pub(crate) fn read_opened<R: Read + Drop>(
     }
 }
 
-// Tells why there is no status of the script's own.
-fn report<E: Write>(name: &str, why: Refusal, errors: &mut Tally<E>) -> Result<(), Refusal>
-    ensures { Puts E.contents errors.old errors.new result (report_text name.now why) }
-{
-    report_bytes(name.as_bytes(), why, errors)
-}
-
-/// Tells why there is no result, by the name of a file or of a word of the command line.
-pub(crate) fn report_bytes<E: Write>(
+/// Writes the line that tells why a command failed, by the name of a file or a word of the command line. `Device` is answered
+/// exactly where the device failed in this call.
+pub fn report<E: Write>(
     name: &[u8],
     why: Refusal,
     errors: &mut Tally<E>,

@@ -93,3 +93,7 @@ hex_line bytes = (codes "text " ++ flat_map hex_byte bytes) ++ codes "\n"
 -- what a check found, with the end of the line
 abbrev pub check_line : Bool → List ℕ
 check_line sound = if sound then codes "check ok\n" else codes "check failed\n"
+
+-- what tells of a joined file of these points, with so many entries, with the end of the line
+abbrev pub joined_line : List ℕ → ℕ → List ℕ
+joined_line points count = (codes "points " ++ ranges_text (ranges_of points)) ++ (codes " entries " ++ (decimal count ++ codes "\n"))

@@ -4,7 +4,7 @@ ghost use Rattle.std.specs.List.{flat_map};
 ghost use Rattle.std.specs.Char.{digit_char};
 ghost use Rattle.pc_types.specs.Tallies.{Puts};
 ghost use Rattle.pc_model.specs.Ranges.{ranges_of};
-ghost use Rattle.pc_texts.specs.Texts.{printed_byte, printed, printed_value, phase_name, range_text, ranges_text, refusal_text, reply_text, pair_text, state_head, state_text, hex_byte, hex_line, check_line};
+ghost use Rattle.pc_texts.specs.Texts.{printed_byte, printed, printed_value, phase_name, range_text, ranges_text, refusal_text, reply_text, pair_text, state_head, state_text, hex_byte, hex_line, check_line, joined_line};
 
 use itoa::Buffer;
 use pc_lines::is_plain;
@@ -124,14 +124,19 @@ fn put_file<W: Write>(
         (codes "file " ++ (decimal file ++ (codes " points " ++ (ranges_text (ranges_of points.now) ++ (codes " entries " ++ decimal entries))))) }
 {
     put_number(out, b"file ", file)?;
-    put_points(out, points)?;
+    put_points(out, b" points ", points)?;
     put_number(out, b" entries ", entries)
 }
 
-fn put_points<W: Write>(out: &mut Tally<W>, points: &[Point]) -> Result<(), Refusal>
-    ensures { Puts W.contents out.old out.new result (codes " points " ++ ranges_text (ranges_of points.now)) }
+// A word and the ranges of points that rise.
+fn put_points<W: Write>(
+    out: &mut Tally<W>,
+    word: &[u8],
+    points: &[Point],
+) -> Result<(), Refusal>
+    ensures { Puts W.contents out.old out.new result (word.now ++ ranges_text (ranges_of points.now)) }
 {
-    out.put(b" points ")?;
+    out.put(word)?;
     put_ranges(out, points)
 }
 
@@ -169,6 +174,26 @@ fn put_range<W: Write>(out: &mut Tally<W>, low: u16, high: u16, end: &[u8]) -> R
         high_text.format(high).as_bytes(),
         end,
     ])
+}
+
+/// Writes the line that tells of a joined file: its points, which rise, and how many entries it has.
+pub fn put_joined<W: Write>(
+    out: &mut Tally<W>,
+    points: &[Point],
+    entries: u64,
+) -> Result<(), Refusal>
+    ensures { Puts W.contents out.old out.new result (joined_line points.now entries) }
+{
+    put_points(out, b"points ", points)?;
+    put_entries(out, entries)
+}
+
+// How many entries there are, and the end of the line.
+fn put_entries<W: Write>(out: &mut Tally<W>, entries: u64) -> Result<(), Refusal>
+    ensures { Puts W.contents out.old out.new result (codes " entries " ++ (decimal entries ++ codes "\n")) }
+{
+    let mut buffer = Buffer::new();
+    out.put_all(&[b" entries ", buffer.format(entries).as_bytes(), b"\n"])
 }
 
 fn put_refusal<W: Write>(out: &mut Tally<W>, why: Refusal) -> Result<(), Refusal>

@@ -1,28 +1,33 @@
-//! Runs a script of transactions against a store, or recovers what a folder's files are worth.
+//! Runs a script of transactions against a store, joins part files, or recovers what a folder's files are worth.
 #![tactic(auto)]
 
 mod folder;
 mod late;
 mod options;
+mod parts;
 
 use clap::error::ErrorKind;
 use folder::{open_folder, why_not};
-use options::{StepOptions, Task, task_of};
+use options::{CollapseOptions, StepOptions, Task, task_of};
+use parts::{NewFile, open_parts};
+use pc_collapse_files::{Inputs, run_collapse};
 use pc_script::{run_recover, run_script};
 use pc_types::{Refusal, Tally};
 use std::fs::File;
 use std::io::BufWriter;
 use std::process::ExitCode;
+use std::sync::Wait;
+use std::thread::Threads;
 use std::{env, fs, io};
 
 fn main(rt: HostRuntime) -> ExitCode {
-    match run_command(&rt) {
+    match run_command(&rt, &rt) {
         Ok(status) => ExitCode::from(status),
         Err(_) => ExitCode::from(1),
     }
 }
 
-fn run_command(rt: &HostRuntime) -> io::Result<u8> {
+fn run_command<H: Threads + Wait + Sync>(rt: &HostRuntime, threads: &H) -> io::Result<u8> {
     let alloc = rt.alloc();
     let mut texts = Vec::new(alloc);
     for text in env::args(rt)? {
@@ -33,7 +38,7 @@ fn run_command(rt: &HostRuntime) -> io::Result<u8> {
         words.push(text.as_str())?;
     }
     match task_of(alloc, &words) {
-        Ok(Some(task)) => run_task(rt, task),
+        Ok(Some(task)) => run_task(rt, threads, task),
         Ok(None) => Ok(2),
         Err(e) if e.kind() == ErrorKind::OutOfMemory => Ok(1),
         Err(e) => {
@@ -43,7 +48,11 @@ fn run_command(rt: &HostRuntime) -> io::Result<u8> {
     }
 }
 
-fn run_task(rt: &HostRuntime, task: Task) -> io::Result<u8> {
+fn run_task<H: Threads + Wait + Sync>(
+    rt: &HostRuntime,
+    threads: &H,
+    task: Task,
+) -> io::Result<u8> {
     let alloc = rt.alloc();
     let mut out = Tally::new(BufWriter::new(alloc, io::writer(rt))?);
     let stderr = rt.stderr();
@@ -53,6 +62,18 @@ fn run_task(rt: &HostRuntime, task: Task) -> io::Result<u8> {
             let StepOptions { script, setup } = options;
             let opened = open_script(rt, script);
             Ok(run_script(alloc, setup, script, opened, &mut out, &mut errors))
+        }
+        Task::Collapse(options) => {
+            let CollapseOptions {
+                target,
+                inputs,
+                collapsers,
+            } = options;
+            let files = open_parts(rt, &inputs)?;
+            let inputs = Inputs { files, collapsers };
+            let maker = NewFile { rt, path: target };
+            let ended = run_collapse(threads, alloc, target, inputs, maker, &mut out, &mut errors);
+            Ok(ended.status)
         }
         Task::Recover(dir) => {
             let folder = open_folder(rt, dir)?;

@@ -4,7 +4,7 @@ ghost use Rattle.std.specs.Prelude.{◌≤◌};
 use clap::{Arg, ArgAction, ArgMatches, Command, Error};
 use pc_script::Setup;
 use pc_types::{MOST_KEYS, MOST_SESSIONS};
-use std::alloc::Global;
+use std::alloc::{AllocError, Global};
 
 /// What `pcalc --version` prints behind the program's name.
 const VERSION: &str = "0.1.0";
@@ -18,11 +18,25 @@ pub struct StepOptions<'a> {
     pub setup: Setup,
 }
 
+/// What `pcalc collapse` is asked to do.
+#[derive(Drop)]
+pub struct CollapseOptions<'a> {
+    /// The file that is written.
+    pub target: &'a str,
+    /// The part files, in the order in which they are read.
+    pub inputs: Vec<&'a str>,
+    /// How many collapsers join them, 1 to 64.
+    pub collapsers: u8,
+    ghost in_range: { (1 ≤ collapsers) × (collapsers ≤ 64) },
+}
+
 /// What the program is asked to do.
 #[derive(Drop)]
 pub enum Task<'a> {
     /// `pcalc step`.
     Step(StepOptions<'a>),
+    /// `pcalc collapse`.
+    Collapse(CollapseOptions<'a>),
     /// `pcalc recover` of the files of this folder.
     Recover(&'a str),
 }
@@ -32,6 +46,9 @@ pub fn task_of<'a>(alloc: Global, words: &'a [&'a str]) -> Result<Option<Task<'a
     let matches = command(alloc)?.try_get_matches_from(words)?;
     if let Some(matches) = matches.subcommand_matches("step") {
         return Ok(options_of(matches).map(|options| Task::Step(options)));
+    }
+    if let Some(matches) = matches.subcommand_matches("collapse") {
+        return Ok(collapse_options_of(alloc, matches)?.map(|options| Task::Collapse(options)));
     }
     match matches.subcommand_matches("recover") {
         Some(matches) => Ok(matches.get_str("DIR").map(|dir| Task::Recover(dir))),
@@ -46,6 +63,7 @@ fn command<'a>(alloc: Global) -> Result<Command<'a>, Error> {
             .version(VERSION)
             .subcommand_required(true)
             .subcommand(step_command(alloc)?)?
+            .subcommand(collapse_command(alloc)?)?
             .subcommand(recover_command(alloc)?)?,
     )
 }
@@ -95,6 +113,40 @@ fn run_arg<'a>(alloc: Global) -> Arg<'a> {
         .default_value("1")
 }
 
+fn collapse_command<'a>(alloc: Global) -> Result<Command<'a>, Error> {
+    Ok(
+        Command::new(alloc, "collapse")
+            .about("Joins part files into one")
+            .arg(target_arg(alloc))?
+            .arg(inputs_arg(alloc))?
+            .arg(collapsers_arg(alloc))?,
+    )
+}
+
+fn target_arg<'a>(alloc: Global) -> Arg<'a> {
+    Arg::new(alloc, "OUT")
+        .help("The file that is written")
+        .required(true)
+        .action(ArgAction::Set)
+}
+
+fn inputs_arg<'a>(alloc: Global) -> Arg<'a> {
+    Arg::new(alloc, "IN")
+        .help("The part files that are joined")
+        .required(true)
+        .num_args(1..)
+        .action(ArgAction::Append)
+}
+
+fn collapsers_arg<'a>(alloc: Global) -> Arg<'a> {
+    Arg::new(alloc, "collapsers")
+        .long("collapsers")
+        .value_name("N")
+        .help("How many threads join them, 1 to 64")
+        .value_parser(clap::value_parser!(u8).range(1..=64))
+        .default_value("2")
+}
+
 fn recover_command<'a>(alloc: Global) -> Result<Command<'a>, Error> {
     let dir = Arg::new(alloc, "DIR")
         .help("The folder of base.pcb, the .pcp files and log.pcl")
@@ -121,4 +173,28 @@ fn options_of<'a>(matches: &ArgMatches<'a>) -> Option<StepOptions<'a>> {
         capacity,
     };
     Some(StepOptions { script, setup })
+}
+
+fn collapse_options_of<'a>(
+    alloc: Global,
+    matches: &ArgMatches<'a>,
+) -> Result<Option<CollapseOptions<'a>>, AllocError> {
+    let Some(target) = matches.get_str("OUT") else {
+        return Ok(None);
+    };
+    let Some(collapsers) = matches.get_one::<u8>("collapsers") else {
+        return Ok(None);
+    };
+    if collapsers < 1 || 64 < collapsers {
+        return Ok(None);
+    }
+    let mut inputs = Vec::new(alloc);
+    for input in matches.get_strs("IN").unwrap_or(&[]) {
+        inputs.push(*input)?;
+    }
+    Ok(Some(CollapseOptions {
+        target,
+        inputs,
+        collapsers,
+    }))
 }

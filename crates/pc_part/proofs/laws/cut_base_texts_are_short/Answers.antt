@@ -1,4 +1,4 @@
-use Rattle.pc_part.proofs.CutBases.{base_cut}
+use Rattle.pc_part.proofs.CutBaseLaws.{base_cut}
 use Rattle.pc_part.proofs.laws.cut_base_texts_are_short.Goals as goal
 
 pub returns : goal.returns

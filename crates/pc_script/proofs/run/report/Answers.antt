@@ -2,7 +2,7 @@ use Rattle.std.proofs.Common.{◌++◌, codes}
 use Rattle.std.proofs.lemmas.Result.{err_from_is_err_and}
 use Rattle.pc_types.specs.Names.{name_of}
 use Rattle.pc_types.proofs.PutsLaws.{puts_then, puts_stop}
-use Rattle.pc_script.proofs.run.report_bytes.Goals as goal
+use Rattle.pc_script.proofs.run.report.Goals as goal
 
 pub returns-in_err-put_name : goal.returns-in_err-put_name
 returns-in_err-put_name g c =

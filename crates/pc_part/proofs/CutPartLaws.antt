@@ -5,7 +5,7 @@ use Rattle.std.specs.Prelude.{◌==◌, nat_lt}
 use Rattle.std.specs.Int.{w16, w32, w64}
 use Rattle.pc_types.specs.declared.Refusal.TheVariants.{Short, BadRanges, BadLength}
 use Rattle.pc_types.specs.Fields.{number_at, magic_at, sized_key_at, content_at}
-use Rattle.pc_types.proofs.CutFields.{IsCut, ReadsAlike, Never, short_is_cut, cut_behind, cut_then, cut_where, cut_tested, cut_either, cut_end, cut_is_short, number_cut, magic_cut, sized_key_cut, content_cut}
+use Rattle.pc_types.proofs.CutFieldLaws.{IsCut, ReadsAlike, Never, short_is_cut, cut_behind, cut_then, cut_where, cut_tested, cut_either, cut_end, cut_is_short, number_cut, magic_cut, sized_key_cut, content_cut}
 use Rattle.pc_types.proofs.FieldLaws.{bind_ok}
 use Rattle.pc_model.specs.Files.{File}
 use Rattle.pc_part.specs.declared.ranges.Range.{Range}

@@ -4,14 +4,14 @@ use Rattle.std.specs.Prelude.{nat_le}
 use Rattle.std.specs.Int.{w16, w32, w64}
 use Rattle.pc_types.specs.declared.Refusal.TheVariants.{Short, BadRanges}
 use Rattle.pc_types.specs.Fields.{number_at, magic_at, value_at}
-use Rattle.pc_types.proofs.CutFields.{IsCut, ReadsAlike, Never, cut_behind, cut_then, cut_where, cut_end, cut_is_short, number_cut, magic_cut, value_cut}
+use Rattle.pc_types.proofs.CutFieldLaws.{IsCut, ReadsAlike, Never, cut_behind, cut_then, cut_where, cut_end, cut_is_short, number_cut, magic_cut, value_cut}
 use Rattle.pc_types.proofs.FieldLaws.{bind_ok}
 use Rattle.pc_model.specs.Files.{BaseFile}
 use Rattle.pc_part.specs.Lawful.{IsBaseFile}
 use Rattle.pc_part.specs.Reading.{next_key_at, pair_at, pairs_at, BaseFields, base_fields_at, base_of_fields, base_at}
 use Rattle.pc_part.specs.Texts.{base_magic, base_text}
 use Rattle.pc_part.proofs.BaseFileLaws.{after_magic, after_run, after_point, after_lawful, after_count, after_pairs, base_again}
-use Rattle.pc_part.proofs.CutParts.{next_key_cut}
+use Rattle.pc_part.proofs.CutPartLaws.{next_key_cut}
 
 pair_cut : (last bytes more : List ℕ) → IsCut (ReadsAlike more) (pair_at last (bytes ++ more)) (pair_at last bytes)
 unfolding pair_at

@@ -1,0 +1,147 @@
+//! A collapse of part files, from their readers to the status.
+ghost use Rattle.std.specs.Prelude.{◌≡◌, ◌⊎◌, None, Some, IfOk, IfErr, OnOk, MatchBool};
+ghost use Rattle.std.specs.declared.result.Result.{Result};
+ghost use Rattle.pc_types.specs.declared.refusal.Refusal.{Refusal};
+ghost use Rattle.pc_types.specs.Tallies.{Puts};
+ghost use Rattle.pc_model.specs.Files.{File};
+ghost use Rattle.pc_script.specs.Recoveries.{AreOpened};
+ghost use Rattle.pc_collapse_files.specs.Collapses.{IsCause, IsDone, IsInputFault, IsJoinOf, IsLeft, IsTextOf, IsTold, is_one_of, usage_text};
+ghost use Rattle.pc_collapse_files.specs.declared.inputs.Fault.{Fault};
+
+use crate::inputs::{Fault, Inputs, is_input, join_files};
+use crate::output::{Maker, Text, Unfinished, print, text_of, write_file};
+use pc_script::report;
+use pc_types::{Refusal, Tally};
+use std::alloc::Global;
+use std::io::{Read, Write};
+use std::sync::Wait;
+use std::thread::Threads;
+
+/// How a collapse ended: its exit status, and the file that was made, where one was.
+#[derive(Drop)]
+pub struct Ended<F> {
+    pub status: u8,
+    pub file: Option<F>,
+}
+
+/// Reads the part files, joins them on as many threads as told, makes the file of this name, writes the join to it, and
+/// prints its points and how many entries it has. It gives the status
+///
+/// - 0 where all of that was done;
+/// - 2 where an input has the name of the file that is to be written: nothing is read or made, and a line on the error
+///   writer says so;
+/// - else 1, and a line on the error writer tells of the first fault: by the name of the input that can't be opened; else by
+///   the name of the file that is to be written, where an input can't be read or is refused, the parts can't be joined, memory
+///   ran out, or the file can't be made or written. Of an output that fails nothing is told.
+///
+/// No file is made before all inputs are read and joined. One that was made, and could not be written whole, holds what is
+/// read as `Short`.
+pub fn run_collapse<
+    R: Read + Drop,
+    F: Write + Drop,
+    M: Maker<F> + Drop,
+    W: Write,
+    E: Write,
+    H: Threads + Wait + Sync,
+>(
+    rt: &H,
+    alloc: Global,
+    name: &str,
+    inputs: Inputs<R>,
+    maker: M,
+    out: &mut Tally<W>,
+    errors: &mut Tally<E>,
+) -> Ended<F>
+    ensures status { (result.status ≡ 0) ⊎ (result.status ≡ 1) ⊎ (result.status ≡ 2) }
+    ensures usage { MatchBool (is_one_of inputs.files.items name.now)
+        ((result.status ≡ 2) × (result.file ≡ None) × (out.new ≡ out.old) × ((told : Result (Unit {0}) Refusal) × Puts E.contents errors.old errors.new told (usage_text name.now)))
+        (¬ (result.status ≡ 2)) }
+    ensures done { result.status ≡ 0 → IsDone R.remaining F.contents W.contents inputs.files.items result.file out.old out.new × (errors.new ≡ errors.old) }
+    ensures cause { result.status ≡ 1 → (fault : Fault) × IsCause R.remaining inputs.files.items fault
+        × IsLeft R.remaining F.contents W.contents inputs.files.items fault result.file out.old out.new × IsTold E.contents errors.old errors.new name.now fault }
+{
+    if is_input(&inputs.files, name.as_bytes()) {
+        let _ = put_usage(name, errors);
+        let (status, file) = (2, None);
+        return Ended { status, file };
+    }
+    match collapse(rt, alloc, inputs, maker, out) {
+        Ok(file) => {
+            let (status, file) = (0, Some(file));
+            Ended { status, file }
+        }
+        Err(Unfinished { file, fault }) => {
+            tell(name, &fault, errors);
+            Ended { status: 1, file }
+        }
+    }
+}
+
+// Tells that an input has the name of the file that is to be written.
+fn put_usage<E: Write>(name: &str, errors: &mut Tally<E>) -> Result<(), Refusal>
+    ensures { Puts E.contents errors.old errors.new result (usage_text name.now) }
+{
+    errors.put_all(&[b"pcalc: ", name.as_bytes(), b": an input has this name\n"])
+}
+
+// Tells of the fault.
+fn tell<E: Write>(name: &str, fault: &Fault, errors: &mut Tally<E>)
+    ensures { IsTold E.contents errors.old errors.new name.now fault.now }
+{
+    let _ = match fault {
+        Fault::Unopened(input, why) => report(input, *why, errors),
+        Fault::Refused(why) => report(name.as_bytes(), *why, errors),
+        Fault::Unmade(why) => report(name.as_bytes(), *why, errors),
+        Fault::Unwritten => report(name.as_bytes(), Refusal::Device, errors),
+        Fault::Output => Ok(()),
+    };
+}
+
+// The file that was made and written.
+fn collapse<
+    R: Read + Drop,
+    F: Write + Drop,
+    M: Maker<F> + Drop,
+    W: Write,
+    H: Threads + Wait + Sync,
+>(
+    rt: &H,
+    alloc: Global,
+    inputs: Inputs<R>,
+    maker: M,
+    out: &mut Tally<W>,
+) -> Result<F, Unfinished<F>>
+    ensures done { IfOk result (λ file. IsDone R.remaining F.contents W.contents inputs.files.items (Some file) out.old out.new) }
+    ensures cause { IfErr result (λ unfinished. IsCause R.remaining inputs.files.items unfinished.fault) }
+    ensures left { IfErr result (λ unfinished. IsLeft R.remaining F.contents W.contents inputs.files.items unfinished.fault unfinished.file out.old out.new) }
+{
+    let text = match join_text(rt, alloc, inputs) {
+        Ok(text) => text,
+        Err(fault) => return Err(Unfinished { file: None, fault }),
+    };
+    let file = write_file(maker, &text.bytes)?;
+    match print(out, text.points.as_slice(), text.entries) {
+        Ok(()) => Ok(file),
+        Err(fault) => {
+            let file = Some(file);
+            Err(Unfinished { file, fault })
+        }
+    }
+}
+
+// The text of the join of the parts that the files hold.
+fn join_text<R: Read + Drop, H: Threads + Wait + Sync>(
+    rt: &H,
+    alloc: Global,
+    inputs: Inputs<R>,
+) -> Result<Text, Fault>
+    ensures text { IfOk result (λ text. (file : File) × IsJoinOf R.remaining inputs.files.items file × IsTextOf file text) }
+    ensures opened { OnOk result (AreOpened inputs.files.items) }
+    ensures cause { IfErr result (IsInputFault R.remaining inputs.files.items) }
+{
+    let joined = join_files(rt, alloc, inputs)?;
+    match text_of(alloc, &joined) {
+        Ok(text) => Ok(text),
+        Err(why) => Err(Fault::Refused(why)),
+    }
+}

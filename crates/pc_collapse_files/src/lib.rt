@@ -1,0 +1,10 @@
+//! Part files are read and joined into one, over any readers, writers and maker of a file.
+#![tactic(auto)]
+
+mod collapse;
+mod inputs;
+mod output;
+
+pub use collapse::{Ended, run_collapse};
+pub use inputs::{Fault, Inputs};
+pub use output::Maker;

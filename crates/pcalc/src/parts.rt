@@ -1,0 +1,57 @@
+//! The part files that a collapse reads, and the file that it writes.
+use crate::folder::why_not;
+use crate::late::LateFile;
+use pc_collapse_files::Maker;
+use pc_script::NamedFile;
+use pc_types::Refusal;
+use std::alloc::AllocError;
+use std::fs::File;
+use std::string::String;
+use std::{fs, io};
+
+/// The part files of these paths. Each is tried now and opened once more when it is read, so that of many one is open at a
+/// time. It is an error only where memory ran out.
+pub fn open_parts<'a>(
+    rt: &'a HostRuntime,
+    paths: &[&str],
+) -> Result<Vec<NamedFile<LateFile<'a>>>, AllocError> {
+    let alloc = rt.alloc();
+    let mut files = Vec::new(alloc);
+    for path in paths {
+        let name = Vec::from_slice(alloc, path.as_bytes())?;
+        let opened = open_late(rt, path)?;
+        files.push(NamedFile { name, opened })?;
+    }
+    Ok(files)
+}
+
+// The file, which is there and can be opened, or why it can't be.
+fn open_late<'a>(
+    rt: &'a HostRuntime,
+    path: &str,
+) -> Result<Result<LateFile<'a>, Refusal>, AllocError> {
+    match fs::open(rt, path) {
+        Ok(_) => {
+            let path = String::from_str(rt.alloc(), path)?;
+            Ok(Ok(LateFile::new(rt, path)))
+        }
+        Err(e) => Ok(Err(why_not(&e))),
+    }
+}
+
+/// A file that is to be made, by its path. What a file of this path had is lost when it is made.
+#[derive(Drop)]
+pub struct NewFile<'a> {
+    pub rt: &'a HostRuntime,
+    pub path: &'a str,
+}
+
+impl<'a> Maker<File> for NewFile<'a> {
+    fn make(self) -> Result<File, Refusal> {
+        match fs::create(self.rt, self.path) {
+            Ok(file) => Ok(file),
+            Err(e) if e.kind() == io::ErrorKind::OutOfMemory => Err(Refusal::OutOfMemory),
+            Err(_) => Err(Refusal::Device),
+        }
+    }
+}
