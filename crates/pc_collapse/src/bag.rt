@@ -227,11 +227,11 @@ fn turn<G: Given, E: Gate, R: Wait>(
             put(rt, bag, pass, file);
             Ok(true)
         }
-        Err((first, second, why)) => {
-            let Ok(()) = bag.push_as::<PutsBack<G>, R>(rt, pass, second) else {
+        Err((one, other, why)) => {
+            let Ok(()) = bag.push_as::<PutsBack<G>, R>(rt, pass, other) else {
                 unreachable!()
             };
-            put(rt, bag, pass, first);
+            put(rt, bag, pass, one);
             Err(why)
         }
     }
