@@ -7,6 +7,7 @@ use Rattle.crossbeam_queue.specs.Passes.{view, IsPassOf}
 use Rattle.crossbeam_queue.specs.declared.array_queue.Doing.{Doing}
 use Rattle.crossbeam_queue.specs.declared.array_queue.Slotted.{Slotted}
 use Rattle.pc_collapse.specs.Worth.{AreWorth, IsCauseFor}
+use Rattle.pc_collapse.specs.declared.limits.TheConstants.{MOST_COLLAPSERS}
 use Rattle.pc_collapse.specs.declared.bag.Collapser.{Collapser}
 use Rattle.pc_collapse.specs.declared.rule.Hand.{Hand}
 
@@ -14,9 +15,9 @@ use Rattle.pc_collapse.specs.declared.rule.Hand.{Hand}
 abbrev pub hand : ℕ → List File → Hand
 hand parts held = record { parts = parts; held = held }
 
--- the right to know the whole: a part for each of 64 collapsers, and one for the caller
+-- the right to know the whole: a part for each collapser there may be, and one for the caller
 abbrev pub all_parts : ℕ
-all_parts = 65
+all_parts = MOST_COLLAPSERS + 1
 
 -- what all hands hold
 abbrev pub held_by : List Hand → List File

@@ -6,6 +6,7 @@ ghost use Rattle.pc_collapse.specs.Folds.{Folds};
 ghost use Rattle.pc_collapse.specs.Worth.{AreWorth, IsCauseFor, Joins};
 
 use crate::folding::{check_runs, fold_pieces, join_pieces, pieces_of};
+use crate::limits::MOST_COLLAPSERS;
 use crate::piece::{Given, Piece};
 use crate::rule::{Bag, BagPass, Drains, Puts, PutsBack, Shares, Takes};
 use pc_part::Part;
@@ -27,7 +28,7 @@ pub fn collapse_bag<E: Gate + Sync, R: Threads + Wait + Sync>(
     workers: u8,
     gate: &E,
 ) -> Result<Part, Refusal>
-    requires workers { (1 ≤ workers) × (workers ≤ 64) }
+    requires workers { (1 ≤ workers) × (workers ≤ MOST_COLLAPSERS) }
     ensures { Folds parts.now result }
 {
     check_runs(parts)?;
@@ -42,7 +43,7 @@ pub fn collapse_bag_owned<E: Gate + Sync, R: Threads + Wait + Sync>(
     workers: u8,
     gate: &E,
 ) -> Result<Part, Refusal>
-    requires workers { (1 ≤ workers) × (workers ≤ 64) }
+    requires workers { (1 ≤ workers) × (workers ≤ MOST_COLLAPSERS) }
     ensures { Folds parts.items result }
 {
     check_runs(&parts)?;
@@ -58,7 +59,7 @@ fn collapse<G: Given + Send + Sync, E: Gate + Sync, R: Threads + Wait + Sync>(
     workers: u8,
     gate: &E,
 ) -> Result<Part, Refusal>
-    requires workers { (1 ≤ workers) × (workers ≤ 64) }
+    requires workers { (1 ≤ workers) × (workers ≤ MOST_COLLAPSERS) }
     requires parts { parts.now ≡ G.parts }
     requires files { (G.files ≡ parts.now ++ own.items) × (0 < length G.files) }
     ensures { Joins G.files result }
@@ -103,7 +104,7 @@ fn hands<G: Given>(
     pass: &mut BagPass<G>,
     workers: u8,
 ) -> Result<Vec<Collapser<G>>, AllocError>
-    requires workers { workers ≤ 64 }
+    requires workers { workers ≤ MOST_COLLAPSERS }
     requires queue { IsPassOf bag.now pass.old × (view pass.old ≡ hand all_parts []) }
     ensures queue { IsPassOf bag.now pass.new }
     ensures parts { IfOk result (λ all. (view pass.new).parts + vec_len all ≡ all_parts) }

@@ -4,6 +4,7 @@
 mod bag;
 mod folding;
 mod laws;
+mod limits;
 mod piece;
 mod rounds;
 mod rule;
@@ -13,4 +14,5 @@ mod tests;
 pub use bag::{collapse_bag, collapse_bag_owned};
 pub use folding::{fold, fold_owned};
 pub use laws::{files_fold_well, folds_are_states};
+pub use limits::MOST_COLLAPSERS;
 pub use rounds::{collapse_rounds, collapse_rounds_owned};

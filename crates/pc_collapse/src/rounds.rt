@@ -6,6 +6,7 @@ ghost use Rattle.pc_collapse.specs.Rounds.{AllBecome, Become, EachBecomes, dealt
 ghost use Rattle.pc_collapse.specs.Worth.{AreWorth, Joins};
 
 use crate::folding::{check_runs, fold_pieces, join_pieces, pieces_of};
+use crate::limits::MOST_COLLAPSERS;
 use crate::piece::{Given, Piece};
 use pc_part::Part;
 use pc_types::{Gate, Place, Refusal};
@@ -28,7 +29,7 @@ pub fn collapse_rounds<E: Gate + Sync, R: Threads + Wait + Sync>(
     workers: u8,
     gate: &E,
 ) -> Result<Part, Refusal>
-    requires workers { (1 ≤ workers) × (workers ≤ 64) }
+    requires workers { (1 ≤ workers) × (workers ≤ MOST_COLLAPSERS) }
     ensures { Folds parts.now result }
 {
     check_runs(parts)?;
@@ -43,7 +44,7 @@ pub fn collapse_rounds_owned<E: Gate + Sync, R: Threads + Wait + Sync>(
     workers: u8,
     gate: &E,
 ) -> Result<Part, Refusal>
-    requires workers { (1 ≤ workers) × (workers ≤ 64) }
+    requires workers { (1 ≤ workers) × (workers ≤ MOST_COLLAPSERS) }
     ensures { Folds parts.items result }
 {
     check_runs(&parts)?;

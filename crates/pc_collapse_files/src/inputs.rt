@@ -2,6 +2,7 @@
 ghost use Rattle.std.specs.Prelude.{◌≡◌, ◌≤◌, ◌++◌, ◌∷◌, [], IsOk, IfOk, IfErr, OnOk};
 ghost use Rattle.pc_types.specs.declared.refusal.Refusal.{Refusal};
 ghost use Rattle.pc_types.specs.Fields.{Gives};
+ghost use Rattle.pc_collapse.specs.declared.limits.TheConstants.{MOST_COLLAPSERS};
 ghost use Rattle.pc_part.specs.Reading.{part_at};
 ghost use Rattle.pc_script.specs.Recoveries.{AreOpened};
 ghost use Rattle.pc_collapse_files.specs.Collapses.{AreReadAs, IsBadPart, IsInputFault, IsJoinOf, IsReadAs, is_one_of};
@@ -22,7 +23,7 @@ use std::thread::Threads;
 pub struct Inputs<R> {
     pub files: Vec<NamedFile<R>>,
     pub collapsers: u8,
-    ghost in_range: { (1 ≤ collapsers) × (collapsers ≤ 64) },
+    ghost in_range: { (1 ≤ collapsers) × (collapsers ≤ MOST_COLLAPSERS) },
 }
 
 /// Why no file was written, or why it isn't told of.

@@ -1,7 +1,9 @@
 //! The command line.
 ghost use Rattle.std.specs.Prelude.{◌≤◌};
+ghost use Rattle.pc_collapse.specs.declared.limits.TheConstants.{MOST_COLLAPSERS};
 
 use clap::{Arg, ArgAction, ArgMatches, Command, Error};
+use pc_collapse::MOST_COLLAPSERS;
 use pc_script::Setup;
 use pc_types::{MOST_KEYS, MOST_SESSIONS};
 use std::alloc::{AllocError, Global};
@@ -27,7 +29,7 @@ pub struct CollapseOptions<'a> {
     pub inputs: Vec<&'a str>,
     /// How many collapsers join them, 1 to 64.
     pub collapsers: u8,
-    ghost in_range: { (1 ≤ collapsers) × (collapsers ≤ 64) },
+    ghost in_range: { (1 ≤ collapsers) × (collapsers ≤ MOST_COLLAPSERS) },
 }
 
 /// What the program is asked to do.
@@ -143,7 +145,7 @@ fn collapsers_arg<'a>(alloc: Global) -> Arg<'a> {
         .long("collapsers")
         .value_name("N")
         .help("How many threads join them, 1 to 64")
-        .value_parser(clap::value_parser!(u8).range(1..=64))
+        .value_parser(clap::value_parser!(u8).range(1..=i64::from(MOST_COLLAPSERS)))
         .default_value("2")
 }
 
@@ -185,7 +187,7 @@ fn collapse_options_of<'a>(
     let Some(collapsers) = matches.get_one::<u8>("collapsers") else {
         return Ok(None);
     };
-    if collapsers < 1 || 64 < collapsers {
+    if collapsers < 1 || MOST_COLLAPSERS < collapsers {
         return Ok(None);
     }
     let mut inputs = Vec::new(alloc);
