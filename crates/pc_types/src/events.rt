@@ -1,12 +1,13 @@
 //! Events and replies, and the entries of the log.
-ghost use Rattle.std.specs.Prelude.{◌≡◌};
+ghost use Rattle.std.specs.Prelude.{◌≡◌, IfOk};
 ghost use Rattle.pc_types.specs.Phases.{same_phase};
 
 use crate::keys::Key;
 use crate::lists::Items;
 use crate::numbers::{FileNo, Lsn, Point, SessionNo, TxnNo};
 use crate::refusal::Refusal;
-use crate::values::Value;
+use crate::values::{Value, copy_content};
+use std::alloc::{AllocError, Global};
 
 /// The five phases of a checkpoint's cycle, in their order; rest stands between two cycles.
 #[derive(Clone, Copy, Debug, PartialEq, Eq)]
@@ -45,6 +46,17 @@ pub struct Write {
     pub value: Option<Value>,
 }
 
+impl Write {
+    /// The same write once more. It fails only where memory ran out.
+    pub fn copy(&self, alloc: Global) -> Result<Write, AllocError>
+        ensures { IfOk result (λ write. write ≡ self.now) }
+    {
+        let key = self.key.copy(alloc)?;
+        let value = copy_content(alloc, &self.value)?;
+        Ok(Write { key, value })
+    }
+}
+
 /// An entry of the log.
 #[derive(Drop)]
 pub enum Entry {
@@ -52,6 +64,32 @@ pub enum Entry {
     Commit(SessionNo, Items<Write>),
     /// The phase changed, in the cycle of this point.
     Token(Phase, Point),
+}
+
+impl Entry {
+    /// The same entry once more; a commit's writes take no more room than they are many. It fails only where memory ran out.
+    pub fn copy(&self, alloc: Global) -> Result<Entry, AllocError>
+        ensures { IfOk result (λ entry. entry ≡ self.now) }
+    {
+        match self {
+            Entry::Commit(session, writes) => {
+                let writes = copy_writes(alloc, writes.as_slice())?;
+                Ok(Entry::Commit(*session, Items::from_vec(writes)))
+            }
+            Entry::Token(phase, point) => Ok(Entry::Token(*phase, *point)),
+        }
+    }
+}
+
+// The same writes once more.
+fn copy_writes(alloc: Global, writes: &[Write]) -> Result<Vec<Write>, AllocError>
+    ensures { IfOk result (λ copies. copies.items ≡ writes.now) }
+{
+    let mut copies = Vec::with_capacity(alloc, writes.len())?;
+    for write in writes {
+        copies.push_reserved(write.copy(alloc)?);
+    }
+    Ok(copies)
 }
 
 /// What a client or the checkpointer asks of the store.

@@ -1,5 +1,5 @@
-//! The words that every crate of the store speaks in: numbers, keys and values, events and replies, refusals, gates, and
-//! readers and writers whose failures are counted.
+//! The words that every crate of the store speaks in: numbers, keys and values, events and replies, receipts, refusals, gates,
+//! and readers and writers whose failures are counted.
 #![tactic(auto)]
 
 mod events;
@@ -10,6 +10,7 @@ mod limits;
 mod lists;
 mod locking;
 mod numbers;
+mod receipts;
 mod refusal;
 mod tally;
 mod triples;
@@ -29,6 +30,7 @@ pub use limits::{
 pub use lists::Items;
 pub use locking::{Mode, Outcome, Request};
 pub use numbers::{FileNo, Lsn, Point, ReqId, SessionNo, SlotId, TxnNo};
+pub use receipts::Receipt;
 pub use refusal::Refusal;
 pub use tally::{Tally, read_all};
 pub use triples::Triple;
