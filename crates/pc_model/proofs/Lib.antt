@@ -41,3 +41,9 @@ pub mod WrittenKeyLaws
 mod SessionLocks
 pub mod LegalQueueLaws
 pub mod OccupiedKeyLaws
+pub mod BeginningLaws
+pub mod OwnCallLaws
+pub mod ReplyKindLaws
+pub mod SessionCallLaws
+pub mod ReceiptLaws
+pub mod FileNumberLaws

@@ -14,7 +14,11 @@ pub mod Ranges
 pub mod Replies
 pub mod Reads
 pub mod Headline
+pub mod Calls
+pub mod ReplyKinds
+pub mod Receipts
 pub mod Laws
+pub mod SessionLaws
 pub mod TripleLists
 pub mod Examples
 pub mod ExamplesOfTransactions

@@ -1,0 +1,47 @@
+//! Laws of sessions' calls and receipts, and of beginnings of histories. Each function does nothing, and its contract is a law.
+ghost use Rattle.pc_model.specs.SessionLaws.{BeginningsAreLegal, WritesAreOwnCalls, OwnIsOfOwnCalls, CallsMakeOwn, ReceiptsAreExact, LegalRepliesFit, LogsGrow, FilesStay, FilesAreNumbered};
+
+/// A beginning of a legal history is legal.
+pub fn beginnings_are_legal()
+    ensures { BeginningsAreLegal }
+{}
+
+/// What a session has written is told by its own calls.
+pub fn writes_are_own_calls()
+    ensures { WritesAreOwnCalls }
+{}
+
+/// So is all that a session keeps: whether its transaction is open, its writes and reads, and its receipts.
+pub fn own_is_of_own_calls()
+    ensures { OwnIsOfOwnCalls }
+{}
+
+/// What a session keeps after a call is what the call makes of what it kept before, whatever others asked between.
+pub fn calls_make_own()
+    ensures { CallsMakeOwn }
+{}
+
+/// After a legal history each session's receipts are those of its commits in the log, with what was read before each.
+pub fn receipts_are_exact()
+    ensures { ReceiptsAreExact }
+{}
+
+/// A legal reply is of a kind that its event may have.
+pub fn legal_replies_fit()
+    ensures { LegalRepliesFit }
+{}
+
+/// The log of a beginning of a history is a beginning of its log.
+pub fn logs_grow()
+    ensures { LogsGrow }
+{}
+
+/// What is the file of its points by a beginning of a legal history is so by all of it.
+pub fn files_stay()
+    ensures { FilesStay }
+{}
+
+/// In a legal history without joins the file of number f is that of point f.
+pub fn files_are_numbered()
+    ensures { FilesAreNumbered }
+{}
