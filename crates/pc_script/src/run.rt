@@ -121,11 +121,7 @@ pub(crate) fn read_opened<R: Read + Drop>(
 
 /// Writes the line that tells why a command failed, by the name of a file or a word of the command line. `Device` is answered
 /// exactly where the device failed in this call.
-pub fn report<E: Write>(
-    name: &[u8],
-    why: Refusal,
-    errors: &mut Tally<E>,
-) -> Result<(), Refusal>
+pub fn report<E: Write>(name: &[u8], why: Refusal, errors: &mut Tally<E>) -> Result<(), Refusal>
     ensures { Puts E.contents errors.old errors.new result (report_text name.now why) }
 {
     put_name(name, errors)?;

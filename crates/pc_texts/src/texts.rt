@@ -129,11 +129,7 @@ fn put_file<W: Write>(
 }
 
 // A word and the ranges of points that rise.
-fn put_points<W: Write>(
-    out: &mut Tally<W>,
-    word: &[u8],
-    points: &[Point],
-) -> Result<(), Refusal>
+fn put_points<W: Write>(out: &mut Tally<W>, word: &[u8], points: &[Point]) -> Result<(), Refusal>
     ensures { Puts W.contents out.old out.new result (word.now ++ ranges_text (ranges_of points.now)) }
 {
     out.put(word)?;

@@ -48,11 +48,7 @@ fn run_command<H: Threads + Wait + Sync>(rt: &HostRuntime, threads: &H) -> io::R
     }
 }
 
-fn run_task<H: Threads + Wait + Sync>(
-    rt: &HostRuntime,
-    threads: &H,
-    task: Task,
-) -> io::Result<u8> {
+fn run_task<H: Threads + Wait + Sync>(rt: &HostRuntime, threads: &H, task: Task) -> io::Result<u8> {
     let alloc = rt.alloc();
     let mut out = Tally::new(BufWriter::new(alloc, io::writer(rt))?);
     let stderr = rt.stderr();
