@@ -34,7 +34,7 @@ module _ {R : Type 0} (remaining : R → Option (List ℕ)) (files : List (Named
     input_leaves fault.Output is = absurd is
 
   -- a text that isn't written is a cause, where there was one
-  pub unwritten_cause : {F : Type 0} (contents : F → Option (List ℕ)) (text : List ℕ) (made : Option F) (f : Fault) (file : File) → IsUnwritten contents text made f → AreOpened files → IsJoinOf remaining files file
+  pub unwritten_cause : {F : Type 0} (contents : F → Option (List ℕ)) (text : List ℕ) (made : Option (Tally F)) (f : Fault) (file : File) → IsUnwritten contents text made f → AreOpened files → IsJoinOf remaining files file
       → IsCause remaining files f
   unwritten_cause contents text made (fault.Unopened name why) file is opened join = absurd is
   unwritten_cause contents text made (fault.Refused why) file is opened join = absurd is
@@ -44,14 +44,14 @@ module _ {R : Type 0} (remaining : R → Option (List ℕ)) (files : List (Named
 
   module _ {F W : Type 0} (contents : F → Option (List ℕ)) (printed : W → Option (List ℕ)) (out : Tally W) where
     -- what is left of a text that isn't written
-    pub unwritten_leaves : (made : Option F) (f : Fault) (file : File) (text : Text) → IsTextOf file text → IsUnwritten contents text.bytes.items made f → IsLeft remaining contents printed files f made out out
+    pub unwritten_leaves : (made : Option (Tally F)) (f : Fault) (file : File) (text : Text) → IsTextOf file text → IsUnwritten contents text.bytes.items made f → IsLeft remaining contents printed files f made out out
     unwritten_leaves made (fault.Unopened name why) file text of is = absurd is
     unwritten_leaves made (fault.Refused why) file text of is = absurd is
     unwritten_leaves made (fault.Unmade why) file text of is = (is, refl)
     unwritten_leaves None fault.Unwritten file text of is = absurd is
-    unwritten_leaves (Some made) fault.Unwritten file text of is = (λ known. short_of (is known), refl)
+    unwritten_leaves (Some made) fault.Unwritten file text of is = ((is.0, λ known. short_of (is.1 known)), refl)
       where
-        short_of : ((n : ℕ) × (n < length text.bytes.items) × (contents made ≡ Some (take n text.bytes.items))) → (bytes : List ℕ) × (contents made ≡ Some bytes) × (part_at bytes ≡ Err Short)
+        short_of : ((n : ℕ) × (n < length text.bytes.items) × (contents made.inner ≡ Some (take n text.bytes.items))) → (bytes : List ℕ) × (contents made.inner ≡ Some bytes) × (part_at bytes ≡ Err Short)
         short_of part = (take part.0 text.bytes.items, part.2, rw of.bytes (part_cut file part.0 of.lawful (rw (← of.bytes) part.1)))
     unwritten_leaves made fault.Output file text of is = absurd is
 

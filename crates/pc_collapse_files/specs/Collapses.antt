@@ -105,21 +105,25 @@ abbrev pub AreKnown : {F : Type 0} → (F → Option (List ℕ)) → Type 0
 AreKnown {F} contents = (file : F) → IsSome (contents file)
 
 -- a file that was made holds this text, and nothing else
-abbrev pub IsWholeIn : {F : Type 0} → (F → Option (List ℕ)) → List ℕ → F → Type 0
-IsWholeIn contents text file = AreKnown contents → contents file ≡ Some text
+abbrev pub IsWholeIn : {F : Type 0} → (F → Option (List ℕ)) → List ℕ → Tally F → Type 0
+IsWholeIn contents text file = AreKnown contents → contents (inner_of file) ≡ Some text
 
 -- it holds a beginning of the text that isn't all of it
-abbrev pub IsPartIn : {F : Type 0} → (F → Option (List ℕ)) → List ℕ → F → Type 0
-IsPartIn contents text file = AreKnown contents → (n : ℕ) × (n < length text) × (contents file ≡ Some (take n text))
+abbrev pub IsPartIn : {F : Type 0} → (F → Option (List ℕ)) → List ℕ → Tally F → Type 0
+IsPartIn contents text file = AreKnown contents → (n : ℕ) × (n < length text) × (contents (inner_of file) ≡ Some (take n text))
 
 -- it holds what is read as Short
-abbrev pub IsShortIn : {F : Type 0} → (F → Option (List ℕ)) → F → Type 0
-IsShortIn contents file = AreKnown contents → (bytes : List ℕ) × (contents file ≡ Some bytes) × (part_at bytes ≡ Err Short)
+abbrev pub IsShortIn : {F : Type 0} → (F → Option (List ℕ)) → Tally F → Type 0
+IsShortIn contents file = AreKnown contents → (bytes : List ℕ) × (contents (inner_of file) ≡ Some bytes) × (part_at bytes ≡ Err Short)
 
--- the text wasn't written: no file was made, or one that holds a beginning alone
-abbrev pub IsUnwritten : {F : Type 0} → (F → Option (List ℕ)) → List ℕ → Option F → Fault → Type 0
+-- a call of the file's own failed
+abbrev pub HasFailed : {F : Type 0} → Tally F → Type 0
+HasFailed file = 0 < failures_of file
+
+-- the text wasn't written: no file was made, or one that failed and holds a beginning alone
+abbrev pub IsUnwritten : {F : Type 0} → (F → Option (List ℕ)) → List ℕ → Option (Tally F) → Fault → Type 0
 IsUnwritten contents text file (fault.Unmade why) = file ≡ None
-IsUnwritten contents text file fault.Unwritten = MatchOption file ⊥ (IsPartIn contents text)
+IsUnwritten contents text file fault.Unwritten = MatchOption file ⊥ (λ f. HasFailed f × IsPartIn contents text f)
 IsUnwritten contents text file other = ⊥
 
 -- the line that tells of a joined file
@@ -127,7 +131,7 @@ abbrev pub line_of : File → List ℕ
 line_of file = joined_line (set.items file.points) (map_of.len file.triples)
 
 -- the fold of the parts that the files hold was written whole to a file that was made, and told of
-pub record IsDone {R F W : Type 0} (remaining : R → Option (List ℕ)) (contents : F → Option (List ℕ)) (printed : W → Option (List ℕ)) (files : List (NamedFile R)) (made : Option F) (old new : Tally W) : Type 0 where
+pub record IsDone {R F W : Type 0} (remaining : R → Option (List ℕ)) (contents : F → Option (List ℕ)) (printed : W → Option (List ℕ)) (files : List (NamedFile R)) (made : Option (Tally F)) (old new : Tally W) : Type 0 where
   pub opened : AreOpened files
   pub file : File
   pub join : IsJoinOf remaining files file
@@ -136,17 +140,17 @@ pub record IsDone {R F W : Type 0} (remaining : R → Option (List ℕ)) (conten
   pub sound : failures_of new ≡ failures_of old
 
 -- the same, but that the output failed: a beginning of the line went out
-pub record IsUntold {R F W : Type 0} (remaining : R → Option (List ℕ)) (contents : F → Option (List ℕ)) (printed : W → Option (List ℕ)) (files : List (NamedFile R)) (made : Option F) (old new : Tally W) : Type 0 where
+pub record IsUntold {R F W : Type 0} (remaining : R → Option (List ℕ)) (contents : F → Option (List ℕ)) (printed : W → Option (List ℕ)) (files : List (NamedFile R)) (made : Option (Tally F)) (old new : Tally W) : Type 0 where
   pub file : File
   pub join : IsJoinOf remaining files file
   pub written : MatchOption made ⊥ (IsWholeIn contents (part_text file))
   pub line : AppendsBeginning (printed (inner_of old)) (printed (inner_of new)) (line_of file)
   pub counted : HasRisen (failures_of old) (failures_of new)
 
--- What a fault leaves: a file only where it was begun, which is read as Short unless it was the output that failed; and nothing
--- printed but a beginning of the line where it was.
-abbrev pub IsLeft : {R F W : Type 0} → (R → Option (List ℕ)) → (F → Option (List ℕ)) → (W → Option (List ℕ)) → List (NamedFile R) → Fault → Option F → Tally W → Tally W → Type 0
-IsLeft remaining contents printed files fault.Unwritten made old new = MatchOption made ⊥ (IsShortIn contents) × (new ≡ old)
+-- What a fault leaves: a file only where it was begun, which failed and is read as Short unless it was the output that failed;
+-- and nothing printed but a beginning of the line where it was.
+abbrev pub IsLeft : {R F W : Type 0} → (R → Option (List ℕ)) → (F → Option (List ℕ)) → (W → Option (List ℕ)) → List (NamedFile R) → Fault → Option (Tally F) → Tally W → Tally W → Type 0
+IsLeft remaining contents printed files fault.Unwritten made old new = MatchOption made ⊥ (λ f. HasFailed f × IsShortIn contents f) × (new ≡ old)
 IsLeft remaining contents printed files fault.Output made old new = IsUntold remaining contents printed files made old new
 IsLeft remaining contents printed files other made old new = (made ≡ None) × (new ≡ old)
 

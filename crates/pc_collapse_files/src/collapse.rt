@@ -17,11 +17,11 @@ use std::io::{Read, Write};
 use std::sync::Wait;
 use std::thread::Threads;
 
-/// How a collapse ended: its exit status, and the file that was made, where one was.
+/// How a collapse ended: its exit status, and the file that was made, where one was, with how many of its calls failed.
 #[derive(Drop)]
 pub struct Ended<F> {
     pub status: u8,
-    pub file: Option<F>,
+    pub file: Option<Tally<F>>,
 }
 
 /// Reads the part files, joins them on as many threads as told, makes the file of this name, writes the join to it, and
@@ -34,8 +34,8 @@ pub struct Ended<F> {
 ///   the name of the file that is to be written, where an input can't be read or is refused, the parts can't be joined, memory
 ///   ran out, or the file can't be made or written. Of an output that fails nothing is told.
 ///
-/// No file is made before all inputs are read and joined. One that was made, and could not be written whole, holds what is
-/// read as `Short`.
+/// No file is made before all inputs are read and joined. One that was made, and could not be written whole, has failed in a
+/// call of its own and holds what is read as `Short`.
 pub fn run_collapse<
     R: Read + Drop,
     F: Write + Drop,
@@ -110,7 +110,7 @@ fn collapse<
     inputs: Inputs<R>,
     maker: M,
     out: &mut Tally<W>,
-) -> Result<F, Unfinished<F>>
+) -> Result<Tally<F>, Unfinished<F>>
     ensures done { IfOk result (λ file. IsDone R.remaining F.contents W.contents inputs.files.items (Some file) out.old out.new) }
     ensures cause { IfErr result (λ unfinished. IsCause R.remaining inputs.files.items unfinished.fault) }
     ensures left { IfErr result (λ unfinished. IsLeft R.remaining F.contents W.contents inputs.files.items unfinished.fault unfinished.file out.old out.new) }

@@ -52,7 +52,7 @@ pub(crate) fn text_of(alloc: Global, part: &Part) -> Result<Text, Refusal>
 // A collapse that ended by a fault, with the file where it was made.
 #[derive(Drop)]
 pub(crate) struct Unfinished<F> {
-    pub(crate) file: Option<F>,
+    pub(crate) file: Option<Tally<F>>,
     pub(crate) fault: Fault,
 }
 
@@ -60,7 +60,7 @@ pub(crate) struct Unfinished<F> {
 pub(crate) fn write_file<F: Write + Drop, M: Maker<F>>(
     maker: M,
     bytes: &[u8],
-) -> Result<F, Unfinished<F>>
+) -> Result<Tally<F>, Unfinished<F>>
     ensures written { IfOk result (IsWholeIn F.contents bytes.now) }
     ensures unwritten { IfErr result (λ unfinished. IsUnwritten F.contents bytes.now unfinished.file unfinished.fault) }
 {
@@ -73,7 +73,6 @@ pub(crate) fn write_file<F: Write + Drop, M: Maker<F>>(
     };
     let mut file = Tally::new(file);
     let put = file.put(bytes);
-    let file = file.into_inner();
     match put {
         Ok(()) => Ok(file),
         Err(_) => {
