@@ -10,3 +10,4 @@ pub mod Stands
 pub mod Runs
 pub mod Checks
 pub mod Laws
+pub mod Asking

@@ -4,6 +4,7 @@
 mod checks;
 mod laws;
 mod points;
+mod refusing;
 mod sessions;
 mod shelving;
 mod transactions;
@@ -15,3 +16,4 @@ pub use laws::{
 };
 pub use pc_types::{Event, Reply};
 pub use world::{World, run};
+pub use writes::{is_unwritten, note_write};

@@ -52,7 +52,7 @@ impl World {
     }
 
     // Why an event of the session's open transaction is refused, whatever else it asks, if it is.
-    fn open_cause(&self, session: SessionNo) -> Option<Refusal>
+    pub(crate) fn open_cause(&self, session: SessionNo) -> Option<Refusal>
         ensures { OpenCause self.now session result }
     {
         if is_no_session(self.sessions.len(), session) {
@@ -128,7 +128,7 @@ impl World {
     }
 
     // Why a write of the key is refused whatever memory there is, if it is.
-    fn write_cause(&self, session: SessionNo, key: &Key) -> Option<Refusal>
+    pub(crate) fn write_cause(&self, session: SessionNo, key: &Key) -> Option<Refusal>
         ensures { WriteCause self.now session key.now result }
     {
         if let Some(why) = self.open_cause(session) {

@@ -22,7 +22,7 @@ use pc_log::Log;
 use pc_part::{Base, Part};
 use pc_phase::{Change, Phases};
 use pc_records::Records;
-use pc_types::{Entry, Event, FileNo, Key, MOST_KEYS, MOST_SESSIONS, Refusal, Reply, Value};
+use pc_types::{Entry, Event, FileNo, Key, MOST_KEYS, MOST_SESSIONS, Phase, Refusal, Reply, Value};
 use std::alloc::Global;
 use std::collections::VecDeque;
 use std::marker::Model;
@@ -155,6 +155,13 @@ impl World {
         self.log.entries()
     }
 
+    /// The phase of the checkpoint's cycle.
+    pub fn phase(&self) -> Phase
+        ensures { result ≡ self.now.cycle.phase }
+    {
+        self.phases.phase()
+    }
+
     /// The shelf's file of this number; the file that was shelved first has number 1.
     pub fn file(&self, number: FileNo) -> Option<&Part>
         ensures { option_copied result ≡ file_at self.now.shelf number }
@@ -202,7 +209,7 @@ impl World {
 }
 
 // What an event asks to write is within the limits of keys and values: their types say so.
-fn in_limits(event: &Event)
+pub(crate) fn in_limits(event: &Event)
     ensures { IsInLimits event.now }
 {
     match event {

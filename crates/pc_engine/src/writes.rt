@@ -22,8 +22,8 @@ pub(crate) fn written_at(writes: &[Write], key: &Key) -> Option<usize>
     None
 }
 
-// Whether the key is not written.
-fn is_unwritten(writes: &[Write], key: &Key) -> bool
+/// Whether the key is not written.
+pub fn is_unwritten(writes: &[Write], key: &Key) -> bool
     ensures { result ≡ is_none (written writes.now key.now) }
 {
     match written_at(writes, key) {
@@ -39,8 +39,8 @@ pub(crate) fn is_one_too_many(writes: &[Write], key: &Key) -> bool
     writes.len() == MOST_WRITES && is_unwritten(writes, key)
 }
 
-// Adds a write, in the place of the earlier one of its key.
-pub(crate) fn note_write(writes: &mut Vec<Write>, write: Write)
+/// Adds a write, in the place of the earlier one of its key. There is room for one more.
+pub fn note_write(writes: &mut Vec<Write>, write: Write)
     requires { vec_len writes.old < vec_capacity writes.old }
     ensures { writes.new.items ≡ with_write writes.old.items write }
 {

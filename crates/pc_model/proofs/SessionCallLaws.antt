@@ -14,7 +14,8 @@ use Rattle.pc_model.specs.Database.{with_write}
 use Rattle.pc_model.specs.History.{History, is_open, has_died}
 use Rattle.pc_model.specs.Locks.{is_waiting}
 use Rattle.pc_model.specs.Replies.{Setting, first_refusal, or_else, no_session, is_full, too_many, log_is_full, certain, Answers, IsLegal, IsLegalHistory}
-use Rattle.pc_model.specs.Calls.{step_of, session_of, calls_of, Extends, IsAnswered}
+use Rattle.pc_model.specs.Calls.{step_of, session_of, calls_of, Extends, IsAnswered, AsksOpen}
+use Rattle.pc_model.specs.Calls.AsksOpen.{Gets, Puts, Dels, Commits, Aborts}
 use Rattle.pc_model.specs.Receipts.{Read, with_read, Own, own, receipt_of, own_by, own_of}
 use Rattle.pc_model.proofs.BeginningLaws.{calls_of-append, beginning_self}
 use Rattle.pc_model.proofs.OwnCallLaws.{own_own}
@@ -70,14 +71,6 @@ second : (a b : Bool) (more : List (Bool × Refusal)) → a ≡ false → b ≡ 
 second false false more known idle = refl
 second false true more known idle = absurd (true≢false idle)
 second true b more known idle = absurd (true≢false known)
-
--- the events of an open transaction
-pub data AsksOpen (s : ℕ) : Event → Type 0 where
-  Gets : (key : List ℕ) → AsksOpen s (asked.Get s key)
-  Puts : (key value : List ℕ) → AsksOpen s (asked.Put s key value)
-  Dels : (key : List ℕ) → AsksOpen s (asked.Del s key)
-  Commits : AsksOpen s (asked.Commit s)
-  Aborts : AsksOpen s (asked.Abort s)
 
 module _ (st : Setting) (s : ℕ) (h : History) (known : no_session st s ≡ false) (idle : is_open s h ≡ false) where
   due : (o : Option Reply) (X : Type 0) → o ≡ Some (told.Refused why.NoTransaction) → MatchOption o (X ⊎ (told.Refused why.NoTransaction ≡ told.Refused why.OutOfMemory)) (λ due. told.Refused why.NoTransaction ≡ due)

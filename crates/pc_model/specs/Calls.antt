@@ -1,6 +1,6 @@
 -- Sessions' calls in a history: which steps are a session's own, and what a session that has seen a beginning of a history
 -- knows of it.
-use Rattle.std.specs.Prelude.{◌≡◌, ◌==◌, ◌&&◌, ℕ, Bool, true, false, [], ◌∷◌, ◌++◌}
+use Rattle.std.specs.Prelude.{◌≡◌, ◌==◌, ◌&&◌, ℕ, Bool, true, false, List, [], ◌∷◌, ◌++◌}
 use Rattle.std.specs.List.{filter}
 use Rattle.pc_types.specs.declared.Event.{Event}
 use Rattle.pc_types.specs.declared.Event.TheVariants as asked
@@ -53,3 +53,11 @@ HasCallsOf history s seen = IsBeginning seen history × (calls_of s history ≡ 
 -- the reply is legal after some legal history that begins with what the session has seen, and has no other call of it
 abbrev pub IsAnswered : Setting → ℕ → History → Event → Reply → Type 0
 IsAnswered st s seen event reply = (history : History) × IsLegalHistory st history × HasCallsOf history s seen × IsLegal st history event reply
+
+-- what the session asks of an open transaction
+pub data AsksOpen (s : ℕ) : Event → Type 0 where
+  Gets : (key : List ℕ) → AsksOpen s (asked.Get s key)
+  Puts : (key value : List ℕ) → AsksOpen s (asked.Put s key value)
+  Dels : (key : List ℕ) → AsksOpen s (asked.Del s key)
+  Commits : AsksOpen s (asked.Commit s)
+  Aborts : AsksOpen s (asked.Abort s)

@@ -1,0 +1,31 @@
+-- What tickets are worth.
+use Rattle.std.specs.Prelude.{◌≡◌, ◌<◌, ⊤, ℕ, List, All, Option, None, MatchOption, length, get_or}
+use Rattle.pc_types.specs.declared.Refusal.{Refusal}
+use Rattle.pc_types.specs.declared.Refusal.TheVariants as why
+use Rattle.pc_model.specs.History.{History, log_of}
+use Rattle.pc_model.specs.Files.{File, file_at, shelf}
+use Rattle.pc_model.specs.Standing.{IsOfItsPoints}
+use Rattle.pc_model.specs.Replies.{Setting, IsLegalHistory}
+use Rattle.pc_model.specs.Calls.{IsBeginning}
+
+-- the history begins with each of these
+abbrev pub BeginsWith : History → List History → Type 0
+BeginsWith history seen = All (λ h. IsBeginning h history) seen
+
+-- by whatever legal history begins with all of these the file is that of its points
+abbrev pub IsWorth : Setting → List History → File → Type 0
+IsWorth st seen file = (h : History) → IsLegalHistory st h → BeginsWith h seen → IsOfItsPoints st.run st.base (log_of h) file
+
+-- each is what it was, or has grown
+abbrev pub HaveGrown : List History → List History → Type 0
+HaveGrown old new = (length new ≡ length old) × ((k : ℕ) (d : History) → k < length old → IsBeginning (get_or old k d) (get_or new k d))
+
+-- why there is no ticket of the file of this number: after some legal history the shelf has no such file; or memory ran out
+abbrev pub IsNoTicket : Setting → ℕ → Refusal → Type 0
+IsNoTicket st number why.NoFile = (h : History) × IsLegalHistory st h × (file_at (shelf st.run h) number ≡ None)
+IsNoTicket st number why.OutOfMemory = ⊤
+IsNoTicket st number other = ⊥
+
+-- why two tickets aren't joined: the refusal that is due, or, where none is, that memory ran out
+abbrev pub IsRefusedJoin : Option Refusal → Refusal → Type 0
+IsRefusedJoin due given = MatchOption due (given ≡ why.OutOfMemory) (λ refusal. given ≡ refusal)

@@ -1,0 +1,213 @@
+//! What lies under the latch: the world, and the keeper of its history.
+ghost use Rattle.std.specs.Prelude.{◌≡◌, ◌≤◌, ◌+◌, ◌∷◌, ◌++◌, [], false, IfOk, IfErr, OnOk, OnErr, length, take};
+ghost use Rattle.pc_types.specs.declared.Event.TheVariants.{Take};
+ghost use Rattle.pc_model.specs.History.{History, log_of, phase_of};
+ghost use Rattle.pc_model.specs.Headline.{TakesPointValue};
+ghost use Rattle.pc_model.specs.Replies.{IsLegalHistory};
+ghost use Rattle.pc_model.specs.Calls.{step_of, session_of, counts, IsAnswered};
+ghost use Rattle.pc_model.specs.ReplyKinds.{IsReplyTo};
+ghost use Rattle.pc_model.specs.SessionLaws.{IsNoJoin};
+ghost use Rattle.pc_engine.specs.Asking.{AsksOfOpen};
+ghost use Rattle.pc_engine.specs.Store.{setting_of};
+ghost use Rattle.pc_engine.specs.Stands.{Stands, Follows};
+ghost use Rattle.pc_tie.specs.Seats.{MovesOn};
+ghost use Rattle.pc_latch.specs.Cycles.{next_event};
+ghost use Rattle.pc_model.specs.Sets as set;
+ghost use Rattle.pc_latch.specs.Tickets.{IsNoTicket};
+
+use crate::pass::{LogPass, next_of};
+use crate::ticket::{PartTicket, copy_of};
+use pc_engine::World;
+use pc_tie::{Keeper, SessionSeat, StoreName, Tie};
+use pc_types::{Entry, Event, FileNo, Phase, Refusal, Reply, Step};
+use std::alloc::Global;
+use std::marker::Model;
+
+/// The world of a shared store, and the keeper of its history. Contracts see the history, after which the world stands.
+#[derive(Drop)]
+pub struct Latched<N: StoreName> {
+    world: World,
+    keeper: Keeper<N>,
+}
+
+impl<N: StoreName> Model for Latched<N> {
+    ghost use Rattle.std.specs.Prelude.{◌≡◌, []};
+    ghost use Rattle.pc_model.specs.History.{History};
+    ghost use Rattle.pc_model.specs.SessionLaws.{HasNoJoins};
+    ghost use Rattle.pc_engine.specs.Store.{setting_of};
+    ghost use Rattle.pc_engine.specs.Stands.{Stands};
+
+    ghost Value = { History };
+
+    ghost view = { λ l. l.keeper.history };
+
+    ghost invariant = { λ l. (l.keeper.guests ≡ []) × Stands l.world l.keeper.history × (setting_of l.world ≡ N.name.setting) × HasNoJoins l.keeper.history };
+}
+
+// Asks the world; where whoever asks has no room for the answer, the world refuses.
+fn ask(world: &mut World, event: &Event, has_room: bool) -> Reply
+    requires { has_room ≡ false → AsksOfOpen event.now }
+    ensures follows { (history : History) → Stands world.old history → Follows (setting_of world.old) history event.now result world.new }
+    ensures setting { setting_of world.new ≡ setting_of world.old }
+    ensures room { has_room ≡ false → counts result ≡ false }
+{
+    if has_room {
+        world.step(event)
+    } else {
+        world.refuse(event)
+    }
+}
+
+// The event that ends the phase.
+fn next_event(phase: Phase) -> Event
+    ensures { result ≡ next_event phase }
+{
+    match phase {
+        Phase::Rest => Event::StartPoint,
+        Phase::Prepare => Event::Seal,
+        Phase::Resolve => Event::OpenCapture,
+        Phase::Capture => Event::Done,
+        Phase::Complete => Event::Rest,
+    }
+}
+
+impl<N: StoreName> Latched<N> {
+    /// A world in which nothing has happened, and the keeper of its history.
+    pub fn new(world: World, keeper: Keeper<N>) -> Latched<N>
+        requires keeper { (keeper.history ≡ []) × (keeper.guests ≡ []) }
+        requires world { Stands world [] × (setting_of world ≡ N.name.setting) }
+        ensures { result ≡ [] }
+    {
+        Latched { world, keeper }
+    }
+
+    /// An event of the session, and its reply. Where the session has no room for the answer, the event is refused: with the
+    /// cause that stands before, or else with `OutOfMemory`. What the session has seen moves on by the step, where that counts.
+    pub fn call(
+        &mut self,
+        tie: &Tie<N>,
+        session: &mut SessionSeat<N>,
+        event: Event,
+        has_room: bool,
+    ) -> (Event, Reply)
+        requires own { session_of event ≡ session.old.number }
+        requires asks { has_room ≡ false → AsksOfOpen event }
+        requires no_join { IsNoJoin event }
+        ensures event { result.0 ≡ event }
+        ensures kind { IsReplyTo event result.1 }
+        ensures history { self.new ≡ step_of event result.1 ∷ self.old }
+        ensures number { session.new.number ≡ session.old.number }
+        ensures moves { MovesOn N.name.setting session.old.seen (step_of event result.1) session.new.seen }
+        ensures answered { IsAnswered N.name.setting session.old.number session.old.seen event result.1 }
+        ensures room { has_room ≡ false → counts result.1 ≡ false }
+    {
+        let before = self.world.log().len() as u64;
+        let reply = ask(&mut self.world, &event, has_room);
+        let after = self.world.log().len() as u64;
+        let step = Step { event, reply };
+        self.keeper.note(tie, session, before, after, &step);
+        let Step { event, reply } = step;
+        (event, reply)
+    }
+
+    // An event of no session.
+    fn call_own(&mut self, tie: &Tie<N>, event: Event) -> Reply
+        requires own { session_of event ≡ 0 }
+        requires no_join { IsNoJoin event }
+        ensures kind { IsReplyTo event result }
+        ensures history { self.new ≡ step_of event result ∷ self.old }
+        ensures legal { IsLegalHistory N.name.setting (step_of event result ∷ self.old) }
+        ensures values { TakesPointValue N.name.setting.base (step_of event result ∷ self.old) }
+    {
+        let before = self.world.log().len() as u64;
+        let reply = self.world.step(&event);
+        let after = self.world.log().len() as u64;
+        let step = Step { event, reply };
+        self.keeper.note_own(tie, before, after, &step);
+        let Step { event, reply } = step;
+        drop(event);
+        reply
+    }
+
+    /// Asks for the event that ends the phase.
+    pub fn advance(&mut self, tie: &Tie<N>) -> Reply
+        ensures history { self.new ≡ step_of (next_event (phase_of self.old)) result ∷ self.old }
+        ensures legal { IsLegalHistory N.name.setting (step_of (next_event (phase_of self.old)) result ∷ self.old) }
+    {
+        let event = next_event(self.world.phase());
+        self.call_own(tie, event)
+    }
+
+    /// Takes one key of the point.
+    pub fn take(&mut self, tie: &Tie<N>) -> Reply
+        ensures history { self.new ≡ step_of Take result ∷ self.old }
+        ensures legal { IsLegalHistory N.name.setting (step_of Take result ∷ self.old) }
+        ensures values { TakesPointValue N.name.setting.base (step_of Take result ∷ self.old) }
+    {
+        self.call_own(tie, Event::Take)
+    }
+
+    /// The next entries of the log, at most so many, after those that the pass has handed out; the pass then has them too.
+    /// Refuses with `OutOfMemory` alone, and the pass stays.
+    pub fn log_next(
+        &mut self,
+        alloc: Global,
+        tie: &Tie<N>,
+        pass: &mut LogPass<N>,
+        most: usize,
+    ) -> Result<Vec<Entry>, Refusal>
+        ensures held { self.new ≡ self.old }
+        ensures list { IfOk result (λ entries. pass.new ≡ pass.old ++ entries.items) }
+        ensures next { OnOk result (pass.new ≡ take (length pass.old + most) (log_of self.old)) }
+        ensures most { IfOk result (λ entries. length entries.items ≤ most) }
+        ensures same { OnErr result (pass.new ≡ pass.old) }
+        ensures memory { IfErr result (λ e. e ≡ Refusal.OutOfMemory) }
+    {
+        self.keeper.renew(tie, &mut pass.witness);
+        let entries = match next_of(alloc, self.world.log(), pass.count, most) {
+            Ok(entries) => entries,
+            Err(why) => return Err(why),
+        };
+        pass.count += entries.len();
+        Ok(entries)
+    }
+
+    /// The world, which stands after the history, and the keeper of the history.
+    pub fn into_parts(self) -> (World, Keeper<N>)
+        ensures stands { Stands result.0 self × (setting_of result.0 ≡ N.name.setting) }
+        ensures keeper { (result.1.history ≡ self) × (result.1.guests ≡ []) }
+    {
+        let Latched { world, keeper } = self;
+        (world, keeper)
+    }
+
+    /// A ticket of the shelf's file of this number. Refuses with `NoFile` where there is none, and else only with `OutOfMemory`.
+    pub fn take_part(
+        &mut self,
+        alloc: Global,
+        tie: &Tie<N>,
+        number: FileNo,
+    ) -> Result<PartTicket<N>, Refusal>
+        ensures same { self.new ≡ self.old }
+        ensures ticket { IfOk result (λ t. t.points ≡ set.insert set.empty number) }
+        ensures refused { IfErr result (λ why. IsNoTicket N.name.setting number why) }
+    {
+        let Some(part) = self.world.file(number) else {
+            return Err(Refusal::NoFile);
+        };
+        let part = match copy_of(alloc, part) {
+            Ok(part) => part,
+            Err(_) => return Err(Refusal::OutOfMemory),
+        };
+        let mut witnesses = Vec::new(alloc);
+        if witnesses.reserve(1).is_err() {
+            return Err(Refusal::OutOfMemory);
+        }
+        witnesses.push_reserved(self.keeper.witness(tie));
+        Ok(PartTicket {
+            alloc,
+            part,
+            witnesses,
+        })
+    }
+}

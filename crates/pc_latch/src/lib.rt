@@ -1,0 +1,11 @@
+//! What lies under the latch of a store that threads share: one world and the keeper of its history; and what was handed out of
+//! it, tickets of parts and the logger's pass.
+#![tactic(auto)]
+
+mod latched;
+mod pass;
+mod ticket;
+
+pub use latched::Latched;
+pub use pass::LogPass;
+pub use ticket::{PartTicket, renew_tickets};

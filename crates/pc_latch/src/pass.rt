@@ -1,0 +1,97 @@
+//! The logger's pass: how far the log was handed out.
+ghost use Rattle.std.specs.Prelude.{◌≡◌, ◌≤◌, [], IfOk, IfErr, length, take, drop};
+ghost use Rattle.pc_model.specs.History.{log_of};
+
+use pc_tie::{Keeper, StoreName, Tie, Witness};
+use pc_types::{Entry, Refusal};
+use std::alloc::Global;
+use std::marker::Model;
+
+/// How far the log was handed out. Contracts see the entries that were: the first of the log, so many.
+#[derive(Drop)]
+pub struct LogPass<N: StoreName> {
+    pub(crate) run: u64,
+    pub(crate) count: usize,
+    pub(crate) witness: Witness<N>,
+}
+
+impl<N: StoreName> Model for LogPass<N> {
+    ghost use Rattle.std.specs.Prelude.{◌≡◌, ◌≤◌, List, length, take};
+    ghost use Rattle.pc_types.specs.declared.Entry.{Entry};
+    ghost use Rattle.pc_model.specs.History.{log_of};
+
+    ghost Value = { List Entry };
+
+    ghost view = { λ p. take p.count (log_of p.witness) };
+
+    ghost invariant = { λ p. (p.count ≤ length (log_of p.witness)) × (p.run ≡ N.name.setting.run) };
+}
+
+impl<N: StoreName> LogPass<N> {
+    /// The pass of a new store, of which nothing was handed out.
+    pub fn new(run: u64, witness: Witness<N>) -> LogPass<N>
+        requires run { run ≡ N.name.setting.run }
+        ensures { result ≡ [] }
+    {
+        LogPass {
+            run,
+            count: 0,
+            witness,
+        }
+    }
+
+    /// The run of the store's base.
+    pub fn run(&self) -> u64
+        ensures { result ≡ N.name.setting.run }
+    {
+        self.run
+    }
+
+    /// Ends the pass: how many entries of the keeper's log were handed out, the first ones.
+    pub fn close(self, tie: &Tie<N>, keeper: &mut Keeper<N>) -> usize
+        requires { keeper.old.guests ≡ [] }
+        ensures same { keeper.new ≡ keeper.old }
+        ensures list { self ≡ take result (log_of keeper.old.history) }
+        ensures within { result ≤ length (log_of keeper.old.history) }
+    {
+        let LogPass {
+            run: _,
+            count,
+            mut witness,
+        } = self;
+        keeper.renew(tie, &mut witness);
+        count
+    }
+}
+
+// The same entries once more.
+fn copied(alloc: Global, entries: &[Entry]) -> Result<Vec<Entry>, Refusal>
+    ensures entries { IfOk result (λ copies. copies.items ≡ entries.now) }
+    ensures memory { IfErr result (λ e. e ≡ Refusal.OutOfMemory) }
+{
+    let mut copies = Vec::with_capacity(alloc, entries.len())?;
+    for entry in entries.iter() {
+        copies.push_reserved(entry.copy(alloc)?);
+    }
+    Ok(copies)
+}
+
+// The next entries, at most so many, after the first ones.
+pub(crate) fn next_of(
+    alloc: Global,
+    log: &[Entry],
+    first: usize,
+    most: usize,
+) -> Result<Vec<Entry>, Refusal>
+    requires { first ≤ length log.now }
+    ensures entries { IfOk result (λ entries. entries.items ≡ take most (drop first log.now)) }
+    ensures memory { IfErr result (λ e. e ≡ Refusal.OutOfMemory) }
+{
+    let rest = &log[first..];
+    let next = if rest.len() < most {
+        rest
+    } else {
+        &rest[..most]
+    };
+    copied(alloc, next)
+}

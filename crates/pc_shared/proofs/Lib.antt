@@ -1,0 +1,3 @@
+mod Calling
+mod Keeping
+mod Settling

@@ -1,0 +1,14 @@
+use Rattle.std.proofs.Common.{ℕ, sym, subst}
+use Rattle.pc_shared.specs.Sitters.{Keeps}
+use Rattle.pc_shared.proofs.Keeping.{begin_keeps}
+use Rattle.pc_shared.proofs.store.Shared.begin.Goals as goal
+
+pub invariant_of-session-2 : goal.invariant_of-session-2
+invariant_of-session-2 g c =
+    let w = c.session.inside.work in
+    let v = c.begin.new.self in
+    let e = c.begin.ensures in
+    let f = c.session.inside.seat in
+    let after = c.begin_as.new.seat.seen in
+    subst (λ (m : ℕ). Keeps v.busy v.writes.items v.reads.items v.receipts.items m after) (sym c.begin_as.ensures.number)
+    (begin_keeps g.N.StoreName.name.setting f.number f.seen after w.busy v.busy w.writes.items v.writes.items w.reads.items v.reads.items w.receipts.items v.receipts.items c.in-Ok.t c.session.invariant c.in-Ok.ensures.call e.0 e.1 e.2 e.3)

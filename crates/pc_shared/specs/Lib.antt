@@ -1,0 +1,3 @@
+pub mod Asked
+pub mod Answers
+pub mod Sitters

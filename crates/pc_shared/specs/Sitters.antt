@@ -1,0 +1,78 @@
+-- What contracts see of a session, and what is known of sessions when their store is closed.
+use Rattle.std.specs.Prelude.{◌≡◌, ◌<◌, ◌≤◌, ◌+◌, ◌==◌, false, All, take, length, get_or, ℕ, zero, suc, Bool, true, List, [], ◌∷◌, ◌++◌}
+use Rattle.std.specs.List.{list_any}
+use Rattle.pc_types.specs.declared.Entry.{Entry}
+use Rattle.pc_types.specs.declared.Receipt.{Receipt}
+use Rattle.pc_types.specs.declared.Write.{Write}
+use Rattle.pc_model.specs.History.{History, log_of, is_open}
+use Rattle.pc_model.specs.Files.{BaseFile, File}
+use Rattle.pc_model.specs.Standing.{IsOfItsPoints}
+use Rattle.pc_model.specs.Replies.{Setting, IsLegalHistory}
+use Rattle.pc_model.specs.Calls.{HasCallsOf}
+use Rattle.pc_model.specs.Receipts.{Read, own, own_of, AreExact}
+use Rattle.pc_tie.specs.declared.sight.Sitting.{Sitting}
+use Rattle.pc_tie.specs.Rules.{sitting}
+
+-- a session's number, the history that it has seen, and its receipts
+pub record Sitter : Type 0 where
+  pub number : ℕ
+  pub seen : History
+  pub receipts : List Receipt
+
+abbrev pub sitter : ℕ → History → List Receipt → Sitter
+sitter number seen receipts = record { number = number; seen = seen; receipts = receipts }
+
+-- The session is busy where its transaction is open; its receipts are those that its history gives it, and while it is busy so
+-- are the writes and reads.
+pub record Keeps (busy : Bool) (writes : List Write) (reads : List Read) (receipts : List Receipt) (s : ℕ) (seen : History) : Type 0 where
+  pub when_open : is_open s seen ≡ busy
+  pub of_commits : receipts ≡ (own_of s seen).receipts
+  pub while_busy : busy ≡ true → own busy writes reads receipts ≡ own_of s seen
+
+-- its number, and what it has seen
+abbrev pub sitting_of : Sitter → Sitting
+sitting_of s = sitting s.number s.seen
+
+-- sessions that have seen nothing, numbered from 1
+abbrev pub new_sitters : ℕ → List Sitter
+new_sitters zero = []
+new_sitters (suc k) = new_sitters k ++ sitter (suc k) [] [] ∷ []
+
+-- it has a number, and the receipts that its history gives it
+abbrev pub IsSeated : Sitter → Type 0
+IsSeated s = (0 < s.number) × (s.receipts ≡ (own_of s.number s.seen).receipts)
+
+-- The history begins with what the session has seen, and has no other call of it; its receipts are those that the history gives
+-- it, and exact by the log.
+pub record IsSettled (st : Setting) (history : History) (s : Sitter) : Type 0 where
+  pub calls : HasCallsOf history s.number s.seen
+  pub own : s.receipts ≡ (own_of s.number history).receipts
+  pub exact : AreExact st.base (log_of history) s.number s.receipts
+
+-- no two of the sessions have one number
+abbrev pub AreApart : List Sitter → Type 0
+AreApart ss = (i j : ℕ) (d : Sitter) → i < length ss → j < length ss → (get_or ss i d).number ≡ (get_or ss j d).number → i ≡ j
+
+-- the session of this number is there
+abbrev pub is_there : List Sitter → ℕ → Bool
+is_there ss n = list_any (λ s. s.number == n) ss
+
+-- the sessions of the numbers 1 to count are there
+abbrev pub HasAll : ℕ → List Sitter → Type 0
+HasAll count ss = (k : ℕ) → k < count → is_there ss (k + 1) ≡ true
+
+-- one of them isn't
+abbrev pub LacksOne : ℕ → List Sitter → Type 0
+LacksOne count ss = (k : ℕ) × (k < count) × (is_there ss (k + 1) ≡ false)
+
+-- What a store leaves, by one legal history: the base is that of the start, and the log that of the history; each session has
+-- seen a beginning of it with just its calls, and has exact receipts; each part is the file of its points; and the entries that
+-- were handed out are the first of the log, so many.
+pub record IsLeft (st : Setting) (start : BaseFile) (log : List Entry) (logged : ℕ) (sessions : List Sitter) (parts : List File) (given : List Entry) (history : History) : Type 0 where
+  pub legal : IsLegalHistory st history
+  pub base : start ≡ record { run = st.run; point = 0; pairs = st.base }
+  pub log_is : log ≡ log_of history
+  pub settled : All (IsSettled st history) sessions
+  pub worth : All (IsOfItsPoints st.run st.base log) parts
+  pub list : given ≡ take logged log
+  pub within : logged ≤ length log

@@ -1,0 +1,183 @@
+//! What a session's seat asks of the store, event by event.
+ghost use Rattle.std.specs.Prelude.{◌≡◌, true, IfOk, IfErr, OnErr};
+ghost use Rattle.pc_types.specs.declared.Event.TheVariants.{Begin, Get, Put, Del, Commit, Abort};
+ghost use Rattle.pc_types.specs.declared.Reply.TheVariants.{Begun, Committed, Aborted, Refused};
+ghost use Rattle.pc_model.specs.Calls.{step_of, Extends, IsAnswered};
+ghost use Rattle.pc_shared.specs.Asked.{IsGot, IsMade};
+ghost use Rattle.pc_shared.specs.Answers.{answer_of};
+
+use crate::session::Answer;
+use crate::store::Shared;
+use pc_tie::{SessionSeat, StoreName};
+use pc_types::{Event, Key, Lsn, Refusal, Reply, TxnNo, Value};
+use std::sync::Wait;
+
+/// What a read was answered.
+#[derive(Drop)]
+pub enum Got {
+    Found(Value),
+    Absent,
+    Died,
+}
+
+impl Got {
+    // How the session is told of it.
+    pub(crate) fn answer(&self) -> Answer
+        ensures { result ≡ answer_of self.now }
+    {
+        match self {
+            Got::Found(_) => Answer::Found,
+            Got::Absent => Answer::Absent,
+            Got::Died => Answer::Died,
+        }
+    }
+}
+
+impl<N: StoreName> Shared<N> {
+    // Begins a transaction.
+    pub(crate) fn begin_as<R: Wait>(
+        &self,
+        rt: &R,
+        seat: &mut SessionSeat<N>,
+    ) -> Result<TxnNo, Refusal>
+        ensures number { seat.new.number ≡ seat.old.number }
+        ensures call { IfOk result (λ t. Extends N.name.setting seat.old.seen (step_of (Begin seat.old.number) (Begun t)) seat.new.seen) }
+        ensures refused { IfErr result (λ why. IsAnswered N.name.setting seat.old.number seat.old.seen (Begin seat.old.number) (Refused why)) }
+        ensures same { OnErr result (seat.new.seen ≡ seat.old.seen) }
+    {
+        let event = Event::Begin(seat.number());
+        let (event, reply) = self.step_as(rt, seat, event, true);
+        drop(event);
+        match reply {
+            Reply::Begun(t) => Ok(t),
+            Reply::Refused(why) => Err(why),
+            _ => unreachable!(),
+        }
+    }
+
+    // Reads the key, and gives it back.
+    pub(crate) fn get_as<R: Wait>(
+        &self,
+        rt: &R,
+        seat: &mut SessionSeat<N>,
+        key: Key,
+        has_room: bool,
+    ) -> Result<(Key, Got), Refusal>
+        ensures number { seat.new.number ≡ seat.old.number }
+        ensures key { IfOk result (λ r. r.0 ≡ key) }
+        ensures room { IfOk result (λ _. has_room ≡ true) }
+        ensures call { IfOk result (λ r. IsGot N.name.setting seat.old.seen seat.old.number key r.1 seat.new.seen) }
+        ensures refused { IfErr result (λ why. IsAnswered N.name.setting seat.old.number seat.old.seen (Get seat.old.number key) (Refused why)) }
+        ensures same { OnErr result (seat.new.seen ≡ seat.old.seen) }
+    {
+        let event = Event::Get(seat.number(), key);
+        let (event, reply) = self.step_as(rt, seat, event, has_room);
+        let Event::Get(_, key) = event else {
+            unreachable!()
+        };
+        match reply {
+            Reply::Found(value) => Ok((key, Got::Found(value))),
+            Reply::Absent => Ok((key, Got::Absent)),
+            Reply::Died => Ok((key, Got::Died)),
+            Reply::Refused(why) => Err(why),
+            _ => unreachable!(),
+        }
+    }
+
+    // Sets the key to the value, and gives both back; false where the request died.
+    pub(crate) fn put_as<R: Wait>(
+        &self,
+        rt: &R,
+        seat: &mut SessionSeat<N>,
+        key: Key,
+        value: Value,
+        has_room: bool,
+    ) -> Result<(Key, Value, bool), Refusal>
+        ensures number { seat.new.number ≡ seat.old.number }
+        ensures given { IfOk result (λ r. (r.0 ≡ key) × (r.1 ≡ value)) }
+        ensures room { IfOk result (λ _. has_room ≡ true) }
+        ensures call { IfOk result (λ r. IsMade N.name.setting seat.old.seen (Put seat.old.number key value) r.2 seat.new.seen) }
+        ensures refused { IfErr result (λ why. IsAnswered N.name.setting seat.old.number seat.old.seen (Put seat.old.number key value) (Refused why)) }
+        ensures same { OnErr result (seat.new.seen ≡ seat.old.seen) }
+    {
+        let event = Event::Put(seat.number(), key, value);
+        let (event, reply) = self.step_as(rt, seat, event, has_room);
+        let Event::Put(_, key, value) = event else {
+            unreachable!()
+        };
+        match reply {
+            Reply::Ok => Ok((key, value, true)),
+            Reply::Died => Ok((key, value, false)),
+            Reply::Refused(why) => Err(why),
+            _ => unreachable!(),
+        }
+    }
+
+    // Removes the key, and gives it back; false where the request died.
+    pub(crate) fn del_as<R: Wait>(
+        &self,
+        rt: &R,
+        seat: &mut SessionSeat<N>,
+        key: Key,
+        has_room: bool,
+    ) -> Result<(Key, bool), Refusal>
+        ensures number { seat.new.number ≡ seat.old.number }
+        ensures given { IfOk result (λ r. r.0 ≡ key) }
+        ensures room { IfOk result (λ _. has_room ≡ true) }
+        ensures call { IfOk result (λ r. IsMade N.name.setting seat.old.seen (Del seat.old.number key) r.1 seat.new.seen) }
+        ensures refused { IfErr result (λ why. IsAnswered N.name.setting seat.old.number seat.old.seen (Del seat.old.number key) (Refused why)) }
+        ensures same { OnErr result (seat.new.seen ≡ seat.old.seen) }
+    {
+        let event = Event::Del(seat.number(), key);
+        let (event, reply) = self.step_as(rt, seat, event, has_room);
+        let Event::Del(_, key) = event else {
+            unreachable!()
+        };
+        match reply {
+            Reply::Ok => Ok((key, true)),
+            Reply::Died => Ok((key, false)),
+            Reply::Refused(why) => Err(why),
+            _ => unreachable!(),
+        }
+    }
+
+    // Commits, and gives the number of the entry.
+    pub(crate) fn commit_as<R: Wait>(
+        &self,
+        rt: &R,
+        seat: &mut SessionSeat<N>,
+        has_room: bool,
+    ) -> Result<Lsn, Refusal>
+        ensures number { seat.new.number ≡ seat.old.number }
+        ensures room { IfOk result (λ _. has_room ≡ true) }
+        ensures call { IfOk result (λ n. Extends N.name.setting seat.old.seen (step_of (Commit seat.old.number) (Committed n)) seat.new.seen) }
+        ensures refused { IfErr result (λ why. IsAnswered N.name.setting seat.old.number seat.old.seen (Commit seat.old.number) (Refused why)) }
+        ensures same { OnErr result (seat.new.seen ≡ seat.old.seen) }
+    {
+        let event = Event::Commit(seat.number());
+        let (event, reply) = self.step_as(rt, seat, event, has_room);
+        drop(event);
+        match reply {
+            Reply::Committed(n) => Ok(n),
+            Reply::Refused(why) => Err(why),
+            _ => unreachable!(),
+        }
+    }
+
+    // Aborts.
+    pub(crate) fn abort_as<R: Wait>(&self, rt: &R, seat: &mut SessionSeat<N>) -> Result<(), Refusal>
+        ensures number { seat.new.number ≡ seat.old.number }
+        ensures call { IfOk result (λ _. Extends N.name.setting seat.old.seen (step_of (Abort seat.old.number) Aborted) seat.new.seen) }
+        ensures refused { IfErr result (λ why. IsAnswered N.name.setting seat.old.number seat.old.seen (Abort seat.old.number) (Refused why)) }
+        ensures same { OnErr result (seat.new.seen ≡ seat.old.seen) }
+    {
+        let event = Event::Abort(seat.number());
+        let (event, reply) = self.step_as(rt, seat, event, true);
+        drop(event);
+        match reply {
+            Reply::Aborted => Ok(()),
+            Reply::Refused(why) => Err(why),
+            _ => unreachable!(),
+        }
+    }
+}

@@ -1,0 +1,222 @@
+//! Sessions, and their calls.
+ghost use Rattle.std.specs.Prelude.{◌≡◌, ◌∷◌, ◌++◌, [], true, false, Some, None, IfOk, IfErr, OnErr};
+ghost use Rattle.pc_types.specs.declared.Event.{Event};
+ghost use Rattle.pc_types.specs.declared.Event.TheVariants.{Begin, Get, Put, Del, Commit, Abort};
+ghost use Rattle.pc_types.specs.declared.Reply.TheVariants.{Begun, Committed, Aborted, Refused};
+ghost use Rattle.pc_model.specs.History.{is_open};
+ghost use Rattle.pc_model.specs.Calls.{step_of, Extends, IsAnswered, AsksOpen};
+ghost use Rattle.pc_model.specs.Receipts.{own_of, receipt_of};
+ghost use Rattle.pc_shared.specs.Answers.{IsRead, IsWritten};
+
+use crate::store::Shared;
+use crate::work::{Work, has_room};
+use pc_tie::{SessionSeat, StoreName};
+use pc_types::{Key, Lsn, Receipt, Refusal, SessionNo, TxnNo, Value};
+use std::marker::Model;
+use std::sync::Wait;
+
+/// How a read or a write of a session was answered.
+#[derive(Clone, Copy, Debug, PartialEq, Eq)]
+pub enum Answer {
+    /// The key has a value.
+    Found,
+    /// The key has no value.
+    Absent,
+    /// The write was made.
+    Ok,
+    /// The request of the key's lock died; the transaction accepts only an abort.
+    Died,
+}
+
+/// A session of a store. Contracts see its number, the history that it has seen, and its receipts.
+#[derive(Drop)]
+pub struct Session<N: StoreName> {
+    pub(crate) seat: SessionSeat<N>,
+    pub(crate) work: Work,
+}
+
+impl<N: StoreName> Model for Session<N> {
+    ghost use Rattle.pc_shared.specs.Sitters.{Sitter, sitter, Keeps};
+
+    ghost Value = { Sitter };
+
+    ghost view = { λ s. sitter s.seat.number s.seat.seen s.work.receipts.items };
+
+    ghost invariant = { λ s. Keeps s.work.busy s.work.writes.items s.work.reads.items s.work.receipts.items s.seat.number s.seat.seen };
+}
+
+impl<N: StoreName> Session<N> {
+    /// Its number.
+    pub fn number(&self) -> SessionNo
+        ensures { result ≡ self.now.number }
+    {
+        self.seat.number()
+    }
+
+    /// Its receipts: one for each of its commits, in their order.
+    pub fn receipts(&self) -> &[Receipt]
+        ensures { result.now ≡ self.now.receipts }
+    {
+        self.work.receipts.as_slice()
+    }
+}
+
+// A session that has no transaction open is told so.
+fn told_idle<N: StoreName>(seat: &SessionSeat<N>) -> Refusal
+    requires { is_open seat.now.number seat.now.seen ≡ false }
+    ensures told { result ≡ Refusal.NoTransaction }
+    ensures answered { (event : Event) → AsksOpen seat.now.number event → IsAnswered N.name.setting seat.now.number seat.now.seen event (Refused Refusal.NoTransaction) }
+{
+    let _ = seat.number();
+    Refusal::NoTransaction
+}
+
+impl<N: StoreName> Shared<N> {
+    /// The session begins a transaction, and is told its number. A refusal is one that the store may answer after some legal
+    /// history with all that the session has seen and no other call of it, and changes nothing: `AlreadyBegun` where its
+    /// transaction is open, `LogFull` where the store has begun as many as it may.
+    pub fn begin<R: Wait>(&self, rt: &R, session: &mut Session<N>) -> Result<TxnNo, Refusal>
+        ensures number { session.new.number ≡ session.old.number }
+        ensures receipts { session.new.receipts ≡ session.old.receipts }
+        ensures call { IfOk result (λ t. Extends N.name.setting session.old.seen (step_of (Begin session.old.number) (Begun t)) session.new.seen) }
+        ensures refused { IfErr result (λ why. IsAnswered N.name.setting session.old.number session.old.seen (Begin session.old.number) (Refused why)) }
+        ensures same { OnErr result (session.new ≡ session.old) }
+    {
+        let t = match self.begin_as(rt, &mut session.seat) {
+            Ok(t) => t,
+            Err(why) => return Err(why),
+        };
+        session.work.begin();
+        Ok(t)
+    }
+
+    /// The session's transaction reads the key, once its lock is granted: it is found or absent, or the request died. A refusal
+    /// is one that the store may answer after some legal history with all that the session has seen and no other call of it,
+    /// and changes nothing: the first of `NoTransaction`, `MustAbort` and `Full` that stands, else `OutOfMemory`.
+    pub fn get<R: Wait>(
+        &self,
+        rt: &R,
+        session: &mut Session<N>,
+        key: Key,
+    ) -> Result<Answer, Refusal>
+        ensures number { session.new.number ≡ session.old.number }
+        ensures receipts { session.new.receipts ≡ session.old.receipts }
+        ensures call { IfOk result (λ answer. IsRead N.name.setting session.old.seen session.old.number key answer session.new.seen) }
+        ensures refused { IfErr result (λ why. IsAnswered N.name.setting session.old.number session.old.seen (Get session.old.number key) (Refused why)) }
+        ensures same { OnErr result (session.new ≡ session.old) }
+    {
+        if !session.work.busy {
+            return Err(told_idle(&session.seat));
+        }
+        let has_room = has_room(&mut session.work.reads);
+        let (key, got) = match self.get_as(rt, &mut session.seat, key, has_room) {
+            Ok((key, got)) => (key, got),
+            Err(why) => return Err(why),
+        };
+        let answer = got.answer();
+        session.work.read(key, got);
+        Ok(answer)
+    }
+
+    /// The session's transaction sets the key to the value, once its lock is granted, or the request died. A refusal is one
+    /// that the store may answer after some legal history with all that the session has seen and no other call of it, and
+    /// changes nothing: the first of `NoTransaction`, `MustAbort`, `TooManyWrites` and `Full` that stands, else `OutOfMemory`.
+    pub fn put<R: Wait>(
+        &self,
+        rt: &R,
+        session: &mut Session<N>,
+        key: Key,
+        value: Value,
+    ) -> Result<Answer, Refusal>
+        ensures number { session.new.number ≡ session.old.number }
+        ensures receipts { session.new.receipts ≡ session.old.receipts }
+        ensures call { IfOk result (λ answer. IsWritten N.name.setting session.old.seen (Put session.old.number key value) answer session.new.seen) }
+        ensures refused { IfErr result (λ why. IsAnswered N.name.setting session.old.number session.old.seen (Put session.old.number key value) (Refused why)) }
+        ensures same { OnErr result (session.new ≡ session.old) }
+    {
+        if !session.work.busy {
+            return Err(told_idle(&session.seat));
+        }
+        let has_room = has_room(&mut session.work.writes);
+        let (key, value, made) = match self.put_as(rt, &mut session.seat, key, value, has_room) {
+            Ok((key, value, made)) => (key, value, made),
+            Err(why) => return Err(why),
+        };
+        if !made {
+            return Ok(Answer::Died);
+        }
+        session.work.write(key, Some(value));
+        Ok(Answer::Ok)
+    }
+
+    /// The session's transaction removes the key, once its lock is granted, or the request died. Refusals are those of `put`.
+    pub fn del<R: Wait>(
+        &self,
+        rt: &R,
+        session: &mut Session<N>,
+        key: Key,
+    ) -> Result<Answer, Refusal>
+        ensures number { session.new.number ≡ session.old.number }
+        ensures receipts { session.new.receipts ≡ session.old.receipts }
+        ensures call { IfOk result (λ answer. IsWritten N.name.setting session.old.seen (Del session.old.number key) answer session.new.seen) }
+        ensures refused { IfErr result (λ why. IsAnswered N.name.setting session.old.number session.old.seen (Del session.old.number key) (Refused why)) }
+        ensures same { OnErr result (session.new ≡ session.old) }
+    {
+        if !session.work.busy {
+            return Err(told_idle(&session.seat));
+        }
+        let has_room = has_room(&mut session.work.writes);
+        let (key, made) = match self.del_as(rt, &mut session.seat, key, has_room) {
+            Ok((key, made)) => (key, made),
+            Err(why) => return Err(why),
+        };
+        if !made {
+            return Ok(Answer::Died);
+        }
+        session.work.write(key, None);
+        Ok(Answer::Ok)
+    }
+
+    /// The session's transaction commits, and the session has its receipt: the number of its entry in the log, and what it has
+    /// written and read by the session's history. A refusal is one that the store may answer after some legal history with all
+    /// that the session has seen and no other call of it, and changes nothing: the first of `NoTransaction`, `MustAbort` and
+    /// `LogFull` that stands, else `OutOfMemory`.
+    pub fn commit<R: Wait>(&self, rt: &R, session: &mut Session<N>) -> Result<Lsn, Refusal>
+        ensures number { session.new.number ≡ session.old.number }
+        ensures call { IfOk result (λ n. Extends N.name.setting session.old.seen (step_of (Commit session.old.number) (Committed n)) session.new.seen) }
+        ensures receipt { IfOk result (λ n. session.new.receipts ≡ session.old.receipts ++ receipt_of session.old.number n (own_of session.old.number session.old.seen) ∷ []) }
+        ensures refused { IfErr result (λ why. IsAnswered N.name.setting session.old.number session.old.seen (Commit session.old.number) (Refused why)) }
+        ensures same { OnErr result (session.new ≡ session.old) }
+    {
+        if !session.work.busy {
+            return Err(told_idle(&session.seat));
+        }
+        let has_room = has_room(&mut session.work.receipts);
+        let number = session.seat.number();
+        let n = match self.commit_as(rt, &mut session.seat, has_room) {
+            Ok(n) => n,
+            Err(why) => return Err(why),
+        };
+        session.work.commit(self.alloc, number, n);
+        Ok(n)
+    }
+
+    /// The session's transaction ends without effect. Refuses with `NoTransaction` exactly where none is open.
+    pub fn abort<R: Wait>(&self, rt: &R, session: &mut Session<N>) -> Result<(), Refusal>
+        ensures number { session.new.number ≡ session.old.number }
+        ensures receipts { session.new.receipts ≡ session.old.receipts }
+        ensures call { IfOk result (λ _. Extends N.name.setting session.old.seen (step_of (Abort session.old.number) Aborted) session.new.seen) }
+        ensures refused { IfErr result (λ why. IsAnswered N.name.setting session.old.number session.old.seen (Abort session.old.number) (Refused why)) }
+        ensures same { OnErr result (session.new ≡ session.old) }
+    {
+        if !session.work.busy {
+            return Err(told_idle(&session.seat));
+        }
+        match self.abort_as(rt, &mut session.seat) {
+            Ok(()) => {}
+            Err(why) => return Err(why),
+        }
+        session.work.busy = false;
+        Ok(())
+    }
+}

@@ -1,0 +1,245 @@
+//! The store that threads share.
+ghost use Rattle.std.specs.Prelude.{◌≡◌, ◌≢◌, ◌≤◌, ◌<◌, ◌⊎◌, ◌++◌, [], false, length, IfOk, IfErr, OnErr, MatchBool};
+ghost use Rattle.pc_model.specs.Maps.{len};
+ghost use Rattle.pc_types.specs.declared.Reply.TheVariants.{Wait};
+ghost use Rattle.pc_model.specs.Calls.{step_of, session_of, counts, IsAnswered};
+ghost use Rattle.pc_model.specs.ReplyKinds.{IsReplyTo};
+ghost use Rattle.pc_model.specs.SessionLaws.{IsNoJoin};
+ghost use Rattle.pc_engine.specs.Asking.{AsksOfOpen};
+ghost use Rattle.pc_engine.specs.Runs.{starting};
+ghost use Rattle.pc_engine.specs.Store.{setting_of};
+ghost use Rattle.pc_tie.specs.Seats.{MovesOn};
+ghost use Rattle.pc_latch.specs.Cycles.{IsAdvance, IsTaken};
+ghost use Rattle.pc_model.specs.History.{History};
+ghost use Rattle.pc_model.specs.Sets as set;
+ghost use Rattle.pc_latch.specs.Tickets.{IsNoTicket};
+ghost use Rattle.pc_shared.specs.Sitters.{new_sitters, IsLeft, AreApart, HasAll, LacksOne};
+
+use crate::closing::Closed;
+use crate::latched::Latched;
+use crate::pass::LogPass;
+use crate::session::Session;
+use crate::ticket::PartTicket;
+use crate::work::Work;
+use pc_engine::World;
+use pc_part::Base;
+use pc_tie::{SessionSeat, StoreName, Tie, Untied};
+use pc_types::{Entry, Event, FileNo, MOST_KEYS, MOST_SESSIONS, Refusal, Reply};
+use std::alloc::Global;
+use std::marker::Model;
+use std::sync::{Condvar, Mutex, Wait};
+
+/// A store that was opened, and has no name yet. Contracts see the name that it can be given.
+#[derive(Drop)]
+pub struct Opened {
+    alloc: Global,
+    tie: Untied,
+    world: World,
+    count: u8,
+}
+
+impl Model for Opened {
+    ghost use Rattle.std.specs.Prelude.{◌≡◌, ◌≤◌, []};
+    ghost use Rattle.std.specs.Coded.{codes};
+    ghost use Rattle.pc_model.specs.Database.{database_code};
+    ghost use Rattle.pc_engine.specs.Store.{setting_of};
+    ghost use Rattle.pc_engine.specs.Stands.{Stands};
+    ghost use Rattle.pc_tie.specs.Seats.{Name};
+
+    ghost Value = { Name };
+
+    ghost coded = { Prim.hlevel (codes, database_code) };
+
+    ghost view = { λ o. o.tie };
+
+    ghost invariant = { λ o. Stands o.world [] × (setting_of o.world ≡ o.tie.setting) × ((setting_of o.world).sessions ≡ o.count) × (o.count ≤ 64) };
+}
+
+impl Opened {
+    /// Opens a store that starts from the base, with this many sessions and room for as many keys as the capacity. Refuses with
+    /// `Full` exactly where the base's pairs are more than there is room for, and else only with `OutOfMemory`. The base stands
+    /// at point 0.
+    pub fn new(alloc: Global, base: Base, sessions: u8, capacity: u32) -> Result<Opened, Refusal>
+        requires start { base.point ≡ 0 }
+        requires sessions { (1 ≤ sessions) × (sessions ≤ MOST_SESSIONS) }
+        requires capacity { (1 ≤ capacity) × (capacity ≤ MOST_KEYS) }
+        ensures setting { IfOk result (λ o. o.setting ≡ starting base sessions capacity) }
+        ensures refusals { IfErr result (λ e. ((e ≡ Refusal.Full) × (capacity < len base.pairs)) ⊎ (e ≡ Refusal.OutOfMemory)) }
+    {
+        let world = World::new(alloc, base, sessions, capacity)?;
+        let tie = Untied::new(alloc, &world)?;
+        Ok(Opened {
+            alloc,
+            tie,
+            world,
+            count: sessions,
+        })
+    }
+
+    /// The store under its name, its sessions, numbered from 1, which have seen nothing, and its logger's pass, to which nothing
+    /// was handed out. Refuses with `OutOfMemory` alone.
+    pub fn named<N: StoreName>(self) -> Result<(Shared<N>, Vec<Session<N>>, LogPass<N>), Refusal>
+        requires { self ≡ N.name }
+        ensures sessions { IfOk result (λ r. r.1.items ≡ new_sitters N.name.setting.sessions) }
+        ensures pass { IfOk result (λ r. r.2 ≡ []) }
+        ensures memory { IfErr result (λ e. e ≡ Refusal.OutOfMemory) }
+    {
+        let Opened {
+            alloc,
+            tie,
+            world,
+            count,
+        } = self;
+        let (tie, mut dealer) = tie.named::<N>();
+        let mut sessions = Vec::new(alloc);
+        for _ in 0..count {
+            sessions.reserve(1)?;
+            let seat = dealer.deal(&tie);
+            sessions.push_reserved(Session {
+                seat,
+                work: Work::new(alloc),
+            });
+        }
+        let pass = LogPass::new(world.base().run(), dealer.witness(&tie));
+        let shared = Shared {
+            alloc,
+            tie,
+            latch: Mutex::new(Latched::new(world, dealer.into_keeper())),
+            granted: Condvar::new(),
+            count,
+        };
+        Ok((shared, sessions, pass))
+    }
+}
+
+/// A store that threads share: one world under one latch, and one legal history, of which each session knows a beginning with
+/// all of its own calls.
+#[derive(Drop)]
+pub struct Shared<N: StoreName> {
+    pub(crate) alloc: Global,
+    pub(crate) tie: Tie<N>,
+    pub(crate) latch: Mutex<Latched<N>>,
+    pub(crate) granted: Condvar,
+    pub(crate) count: u8,
+    ghost count_is: { N.name.setting.sessions ≡ count },
+}
+
+// Whether the reply ends a transaction, and so lets locks go.
+fn ends_transaction(reply: &Reply) -> bool {
+    matches!(reply, Reply::Committed(_) | Reply::Aborted)
+}
+
+impl<N: StoreName> Shared<N> {
+    // Wakes those who wait for a lock, where there are any and the reply ends a transaction.
+    fn wake(&self, waiting: u64, reply: &Reply) {
+        if waiting > 0 && ends_transaction(reply) {
+            self.granted.notify_all();
+        }
+    }
+
+    // Asks until the answer is no wait. Nobody else is woken but where locks were let go and somebody waits for one.
+    pub(crate) fn step_as<R: Wait>(
+        &self,
+        rt: &R,
+        seat: &mut SessionSeat<N>,
+        event: Event,
+        has_room: bool,
+    ) -> (Event, Reply)
+        requires own { session_of event ≡ seat.old.number }
+        requires asks { has_room ≡ false → AsksOfOpen event }
+        requires no_join { IsNoJoin event }
+        ensures event { result.0 ≡ event }
+        ensures kind { IsReplyTo event result.1 }
+        ensures number { seat.new.number ≡ seat.old.number }
+        ensures moves { MovesOn N.name.setting seat.old.seen (step_of event result.1) seat.new.seen }
+        ensures answered { IsAnswered N.name.setting seat.old.number seat.old.seen event result.1 }
+        ensures room { has_room ≡ false → counts result.1 ≡ false }
+        ensures no_wait { result.1 ≢ Wait }
+    {
+        let mut held = self.latch.lock(rt);
+        let mut event = event;
+        for _ in rt.forever() {
+            let (again, reply) = held.call(&self.tie, seat, event, has_room);
+            event = again;
+            if let Reply::Wait = reply {
+                held.waiting = held.waiting.saturating_add(1);
+                held = self.granted.wait(rt, held);
+                held.waiting = held.waiting.saturating_sub(1);
+            } else {
+                self.wake(held.waiting, &reply);
+                return (event, reply);
+            }
+        }
+        unreachable!()
+    }
+
+    /// Asks for the event that ends the phase of the checkpoint's cycle, and answers at once: the phase that it is then, or the
+    /// point's part where a capture is done; that transactions or keys are still in the way; or a refusal.
+    pub fn advance<R: Wait>(&self, rt: &R) -> Reply
+        ensures { IsAdvance N.name.setting result }
+    {
+        self.latch.lock(rt).advance(&self.tie)
+    }
+
+    /// Takes one key of the point: the key with what it had there, that none is left, or a refusal.
+    pub fn take<R: Wait>(&self, rt: &R) -> Reply
+        ensures { IsTaken N.name.setting result }
+    {
+        self.latch.lock(rt).take(&self.tie)
+    }
+
+    /// The next entries of the log, at most so many, after those that the pass has handed out; the pass then has them too.
+    /// Refuses with `OutOfMemory` alone, and the pass stays.
+    pub fn log_next<R: Wait>(
+        &self,
+        rt: &R,
+        pass: &mut LogPass<N>,
+        most: usize,
+    ) -> Result<Vec<Entry>, Refusal>
+        ensures list { IfOk result (λ entries. pass.new ≡ pass.old ++ entries.items) }
+        ensures most { IfOk result (λ entries. length entries.items ≤ most) }
+        ensures same { OnErr result (pass.new ≡ pass.old) }
+        ensures memory { IfErr result (λ e. e ≡ Refusal.OutOfMemory) }
+    {
+        self.latch
+            .lock(rt)
+            .log_next(self.alloc, &self.tie, pass, most)
+    }
+
+    /// Ends the store, and tells by one legal history what it leaves: the base that it started from and the log of that history,
+    /// of which each session handed in has seen a beginning with all of its own calls; their receipts are exact. Each ticket's
+    /// part, a joined one too, is the file of its points by that log. The entries that the pass has handed out are the first of
+    /// the log. No two sessions have one number; `all` says whether every session of the store is there. It takes no memory.
+    pub fn close(
+        self,
+        sessions: Vec<Session<N>>,
+        tickets: Vec<PartTicket<N>>,
+        pass: LogPass<N>,
+    ) -> Closed<N>
+        ensures left { (h : History) × IsLeft N.name.setting result.world.base result.world.log result.logged sessions.items tickets.items pass h }
+        ensures apart { AreApart sessions.items }
+        ensures receipts { result.receipts.items ≡ sessions.items }
+        ensures parts { result.parts.items ≡ tickets.items }
+        ensures all { MatchBool result.all (HasAll N.name.setting.sessions sessions.items) (LacksOne N.name.setting.sessions sessions.items) }
+    {
+        let Shared {
+            alloc: _,
+            tie,
+            latch,
+            granted: _,
+            count,
+        } = self;
+        latch
+            .into_inner()
+            .close(&tie, count, sessions, tickets, pass)
+    }
+
+    /// A ticket of the shelf's file of this number, which is the file of the point of this number. Refuses with `NoFile` where
+    /// there is no such file, and else only with `OutOfMemory`.
+    pub fn take_part<R: Wait>(&self, rt: &R, number: FileNo) -> Result<PartTicket<N>, Refusal>
+        ensures ticket { IfOk result (λ t. t.points ≡ set.insert set.empty number) }
+        ensures refused { IfErr result (λ why. IsNoTicket N.name.setting number why) }
+    {
+        self.latch.lock(rt).take_part(self.alloc, &self.tie, number)
+    }
+}

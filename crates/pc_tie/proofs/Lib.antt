@@ -1,0 +1,3 @@
+mod Owners
+mod Steps
+mod Visits

@@ -1,0 +1,158 @@
+-- The rule of a store's word, and what the steps on it tell. Its seats are the keeper's, which knows the whole history; those
+-- of sessions, and of witnesses with the number 0, which know a beginning; and such as are gone.
+use Rattle.std.specs.Prelude.{◌≡◌, ℕ, ◌+◌, ◌<◌, ◌≤◌, Bool, true, false, cond, List, [], ◌∷◌, ◌++◌, length}
+use mathlib.Core.Option.{Option, none, some}
+use lib.ListN.{get_elem?}
+use Rattle.atomic_table.specs.Table.{State, Me, Step as Exchange}
+use Rattle.pc_types.specs.declared.Step.{Step}
+use Rattle.pc_model.specs.History.{History, log_of}
+use Rattle.pc_model.specs.Replies.{Setting, IsLegalHistory}
+use Rattle.pc_model.specs.Calls.{counts, session_of, calls_of, IsBeginning}
+use Rattle.pc_tie.specs.declared.sight.Sitting.{Sitting}
+use Rattle.pc_tie.specs.declared.sight.Sight.{Sight}
+use Rattle.pc_tie.specs.declared.sight.Sight.TheVariants.{Whole, Front, Gone}
+
+-- a session's number, or 0, and the history that it has seen
+abbrev pub sitting : ℕ → History → Sitting
+sitting n seen = record { number = n; seen = seen }
+
+-- the history that a seat has seen
+abbrev pub hist_of : Sight → History
+hist_of (Whole hist dealt guests) = hist
+hist_of (Front n seen) = seen
+hist_of Gone = []
+
+-- how many sessions' seats the keeper has dealt, or 0
+abbrev pub dealt_of : Sight → ℕ
+dealt_of (Whole hist dealt guests) = dealt
+dealt_of (Front n seen) = 0
+dealt_of Gone = 0
+
+-- the seats that the keeper has taken in, the last one first
+abbrev pub guests_of : Sight → List Sitting
+guests_of (Whole hist dealt guests) = guests
+guests_of (Front n seen) = []
+guests_of Gone = []
+
+-- the number of the session, or 0
+abbrev pub number_of : Sight → ℕ
+number_of (Whole hist dealt guests) = 0
+number_of (Front n seen) = n
+number_of Gone = 0
+
+-- what the seat of a badge has seen
+abbrev pub seen_in : List Sight → History
+seen_in [] = []
+seen_in (v ∷ vs) = hist_of v
+
+-- how many sessions' seats it has dealt
+abbrev pub dealt_in : List Sight → ℕ
+dealt_in [] = 0
+dealt_in (v ∷ vs) = dealt_of v
+
+-- what is seen is a beginning of the history; and where n is a session's number, the seat speaks for it, and has seen all of
+-- its calls
+abbrev pub Knows : History → ℕ → (ℕ → ℕ) → ℕ → ℕ → History → Type 0
+Knows history dealt owner id n seen = IsBeginning seen history × (n ≤ dealt) × (0 < n → (owner n ≡ id) × (calls_of n history ≡ calls_of n seen))
+
+-- no session's seat was taken in twice
+abbrev pub AreApart : List Sitting → Type 0
+AreApart guests = (i j : ℕ) (x y : Sitting) → get_elem? guests i ≡ some x → get_elem? guests j ≡ some y → 0 < x.number → x.number ≡ y.number → i ≡ j
+
+-- what a seat knows fits the history
+abbrev pub Fits : History → ℕ → ℕ → (ℕ → ℕ) → ℕ → Sight → Type 0
+Fits history keeper dealt owner id (Whole hist g guests) = (id ≡ keeper) × (hist ≡ history) × (g ≡ dealt) × ((k : ℕ) (x : Sitting) → get_elem? guests k ≡ some x → Knows history dealt owner id x.number x.seen) × AreApart guests
+Fits history keeper dealt owner id (Front n seen) = Knows history dealt owner id n seen
+Fits history keeper dealt owner id Gone = Unit {0}
+
+-- There is one legal history, which the keeper knows whole. The word is the number of entries of its log. Each session has an
+-- owner among the seats, and what each seat knows fits.
+pub record HasOneHistory {S : Type 0} (st : Setting) (s : State S Sight) : Type 0 where
+  pub history : History
+  pub keeper : ℕ
+  pub dealt : ℕ
+  pub owner : ℕ → ℕ
+  pub legal : IsLegalHistory st history
+  pub words : s.words ≡ length (log_of history) ∷ []
+  pub spare : (n : ℕ) → dealt < n → owner n ≡ keeper
+  pub each : (id : ℕ) (v : Sight) → get_elem? s.views id ≡ some v → Fits history keeper dealt owner id v
+
+-- what a session has seen after a step: one that doesn't count leaves it
+abbrev pub sight_after : Step → History → History → History
+sight_after c hist seen = cond (counts c.reply) (c ∷ hist) seen
+
+-- the seat that is taken in, after a step
+abbrev pub guests_after : Step → History → List Sitting → List Sitting
+guests_after c hist [] = []
+guests_after c hist (x ∷ xs) = sitting x.number (sight_after c hist x.seen) ∷ []
+
+-- the step that is said, as it is
+abbrev pub said_step : Step → Step
+said_step s = s
+
+-- a fact of the step that is said, if one is
+abbrev pub told : Option Step → (Step → Type 0) → Type 0
+told none P = Unit {0}
+told (some s) P = P (said_step s)
+
+-- the first seat that was taken in knew a beginning of the history, and all calls of its session
+abbrev pub KnewFirst : History → List Sitting → Type 0
+KnewFirst hist [] = Unit {0}
+KnewFirst hist (x ∷ xs) = IsBeginning x.seen hist × (0 < x.number → calls_of x.number hist ≡ calls_of x.number x.seen)
+
+-- the keeper adds the step that is said to the history
+abbrev pub Applied : Exchange Step → Me Step Sight → ℕ → Me Step Sight → Type 0
+Applied st v found w = told st.said (λ c. (w ≡ (Whole (c ∷ hist_of v.0) (dealt_of v.0) (guests_after c (hist_of v.0) (guests_of v.0)), v.1)) × KnewFirst (hist_of v.0) (guests_of v.0))
+
+-- a seat is taken in
+abbrev pub entered : Sight → Sight → Sight
+entered v w = Whole (hist_of v) (dealt_of v) (sitting (number_of w) (hist_of w) ∷ guests_of v)
+
+-- all but the first
+abbrev pub rest_of : List Sitting → List Sitting
+rest_of [] = []
+rest_of (x ∷ xs) = xs
+
+-- the keeper without the seat that it took in last
+abbrev pub parted : Sight → Sight
+parted v = Whole (hist_of v) (dealt_of v) (rest_of (guests_of v))
+
+-- the keeper without the seats that it took in
+abbrev pub emptied : Sight → Sight
+emptied v = Whole (hist_of v) (dealt_of v) []
+
+-- the first of them, as a seat of its own
+abbrev pub first_out : List Sitting → Sight
+first_out [] = Gone
+first_out (x ∷ xs) = Front x.number x.seen
+
+-- the seat that was taken in last
+abbrev pub left_out : Sight → Sight
+left_out v = first_out (guests_of v)
+
+-- the step is that of the one seat that was taken in, or of no session
+abbrev pub Asked : Step → List Sitting → Type 0
+Asked c [] = session_of c.event ≡ 0
+Asked c (x ∷ []) = session_of c.event ≡ x.number
+Asked c (x ∷ y ∷ ys) = ⊥
+
+-- the next session's seat is dealt
+abbrev pub after_dealing : Sight → Sight
+after_dealing v = Whole (hist_of v) (dealt_of v + 1) (guests_of v)
+
+-- the seat that is dealt, which has seen nothing
+abbrev pub new_front : Sight → Sight
+new_front v = Front (dealt_of v + 1) []
+
+-- each seat that was taken in had seen a beginning of the history with all calls of its session, and no session's seat is there
+-- twice
+abbrev pub AreTold : History → List Sitting → Type 0
+AreTold hist guests = ((k : ℕ) (x : Sitting) → get_elem? guests k ≡ some x → IsBeginning x.seen hist × (0 < x.number → calls_of x.number hist ≡ calls_of x.number x.seen)) × AreApart guests
+
+-- what a look tells of the seats that were taken in; it changes nothing
+abbrev pub Compared : Exchange Step → Me Step Sight → ℕ → Me Step Sight → Type 0
+Compared st v found w = (w ≡ v) × AreTold (hist_of v.0) (guests_of v.0)
+
+-- a seat that has seen the whole history
+abbrev pub shown_out : Sight → Sight
+shown_out v = Front 0 (hist_of v)

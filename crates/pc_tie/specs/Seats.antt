@@ -1,0 +1,58 @@
+-- What contracts see of the seats at a store's word.
+use Rattle.std.specs.Prelude.{◌≡◌, ◌<◌, ◌≤◌, ℕ, List, [], ◌∷◌, MatchBool, length, get_or}
+use Rattle.atomic_table.specs.Seated.{TableId}
+use Rattle.atomic_table.specs.declared.badge.Badge.{Badge}
+use Rattle.pc_types.specs.declared.Step.{Step}
+use Rattle.pc_model.specs.History.{History}
+use Rattle.pc_model.specs.Replies.{Setting, IsLegalHistory}
+use Rattle.pc_model.specs.Calls.{counts, IsBeginning, Extends, HasCallsOf}
+use Rattle.pc_tie.specs.declared.sight.Sitting.{Sitting}
+use Rattle.pc_tie.specs.declared.sight.Sight.{Sight}
+use Rattle.pc_tie.specs.declared.sight.Sight.TheVariants.{Front}
+use Rattle.pc_tie.specs.Rules.{sitting, number_of, hist_of}
+
+-- which word it is, and what the store's run starts from
+pub record Name : Type 0 where
+  pub table : TableId
+  pub setting : Setting
+
+-- what the seat of a badge knows: a number, and the history that it has seen
+abbrev pub sitting_in : List Sight → Sitting
+sitting_in [] = sitting 0 []
+sitting_in (v ∷ vs) = sitting (number_of v) (hist_of v)
+
+-- the badge is that of a session's or a witness's seat at the word
+abbrev pub IsSeatAt : TableId → Badge Sight → Type 0
+IsSeatAt table badge = (badge.table_id ≡ table) × (badge.views ≡ Front (sitting_in badge.views).number (sitting_in badge.views).seen ∷ [])
+
+-- the number is that of a session, and what it has seen is a legal history
+pub record IsSession (st : Setting) (s : Sitting) : Type 0 where
+  pub from_one : 0 < s.number
+  pub within : s.number ≤ st.sessions
+  pub legal : IsLegalHistory st s.seen
+
+-- A step moves a session on: where its reply counts, what it has seen is extended by the step; else it stays.
+abbrev pub MovesOn : Setting → History → Step → History → Type 0
+MovesOn st old step new = MatchBool (counts step.reply) (Extends st old step new) (new ≡ old)
+
+-- what the keeper knows: the history, how many sessions' seats it has dealt, and those that it has taken in, the last one first
+pub record Meeting : Type 0 where
+  pub history : History
+  pub dealt : ℕ
+  pub guests : List Sitting
+
+abbrev pub meeting : History → ℕ → List Sitting → Meeting
+meeting history dealt guests = record { history = history; dealt = dealt; guests = guests }
+
+-- the number of the first, or 0 where there is none
+abbrev pub first_number : List Sitting → ℕ
+first_number [] = 0
+first_number (s ∷ ss) = s.number
+
+-- no two sessions have one number
+abbrev pub NoTwoAlike : List Sitting → Type 0
+NoTwoAlike ss = (i j : ℕ) (d : Sitting) → i < length ss → j < length ss → 0 < (get_or ss i d).number → (get_or ss i d).number ≡ (get_or ss j d).number → i ≡ j
+
+-- the session, or the witness, has seen a beginning of the history; and a session all of its own calls
+abbrev pub IsFrontOf : History → Sitting → Type 0
+IsFrontOf history s = IsBeginning s.seen history × (0 < s.number → HasCallsOf history s.number s.seen)

@@ -1,0 +1,277 @@
+//! Who deals the seats of a store, and who keeps its history.
+ghost use Rattle.std.specs.Prelude.{◌≡◌, ◌<◌, ◌≤◌, ◌+◌, ◌∷◌, [], All, List, length};
+ghost use Rattle.pc_model.specs.History.{log_of};
+ghost use Rattle.pc_model.specs.Replies.{IsLegalHistory};
+ghost use Rattle.pc_model.specs.Calls.{session_of, IsBeginning, HasCallsOf};
+ghost use Rattle.pc_tie.specs.declared.sight.Sitting.{Sitting};
+ghost use Rattle.pc_tie.specs.declared.sight.Sight.TheVariants.{Whole};
+ghost use Rattle.pc_tie.specs.Rules.{sitting, Asked, guests_after, KnewFirst, AreTold};
+ghost use Rattle.pc_tie.specs.Seats.{meeting, sitting_in, IsSeatAt, IsSession, MovesOn, first_number, NoTwoAlike, IsFrontOf};
+
+use crate::name::StoreName;
+use crate::rule::{Append, Compare, Deal, Show, Visit};
+use crate::seats::{SessionSeat, Witness};
+use crate::sight::Sight;
+use crate::tie::Tie;
+use atomic_table::{Badge, Seat};
+use pc_types::{SessionNo, Step};
+use std::marker::{Model, PhantomData};
+use std::mem;
+
+/// The keeper of a store's history. Contracts see the history, how many sessions' seats were dealt, and the seats that it has
+/// taken in.
+#[derive(Drop)]
+pub struct Keeper<N: StoreName> {
+    seat: Seat<Step, Sight>,
+    name: PhantomData<N>,
+}
+
+impl<N: StoreName> Model for Keeper<N> {
+    ghost use Rattle.std.specs.Prelude.{◌≡◌, []};
+    ghost use Rattle.pc_tie.specs.declared.sight.Sight.TheVariants.{Whole};
+    ghost use Rattle.pc_tie.specs.Rules.{hist_of, dealt_of, guests_of};
+    ghost use Rattle.pc_tie.specs.Seats.{Meeting, meeting};
+
+    ghost Value = { Meeting };
+
+    ghost view = { λ k. meeting (hist_of k.seat.me.0) (dealt_of k.seat.me.0) (guests_of k.seat.me.0) };
+
+    ghost invariant = { λ k. (k.seat.table_id ≡ N.name.table) × (k.seat.me ≡ (Whole (hist_of k.seat.me.0) (dealt_of k.seat.me.0) (guests_of k.seat.me.0), [])) };
+}
+
+/// Deals the seats of a store in which nothing has happened. Contracts see how many sessions' seats it has dealt.
+#[derive(Drop)]
+pub struct Dealer<N: StoreName> {
+    keeper: Keeper<N>,
+    dealt: u8,
+}
+
+impl<N: StoreName> Model for Dealer<N> {
+    ghost use Rattle.std.specs.Prelude.{◌≡◌, ℕ, []};
+    ghost use Rattle.pc_tie.specs.Seats.{meeting};
+
+    ghost Value = { ℕ };
+
+    ghost view = { λ d. d.dealt };
+
+    ghost invariant = { λ d. d.keeper ≡ meeting [] d.dealt [] };
+}
+
+impl<N: StoreName> Dealer<N> {
+    // The dealer of a new word.
+    pub(crate) fn new(seat: Seat<Step, Sight>) -> Dealer<N>
+        requires { (seat.table_id ≡ N.name.table) × (seat.me ≡ (Whole [] 0 [], [])) }
+        ensures { result ≡ 0 }
+    {
+        let keeper = Keeper {
+            seat,
+            name: PhantomData,
+        };
+        Dealer { keeper, dealt: 0 }
+    }
+
+    /// The seat of the next session, which has seen nothing.
+    pub fn deal(&mut self, tie: &Tie<N>) -> SessionSeat<N>
+        requires { (self.old < 64) × (self.old < N.name.setting.sessions) }
+        ensures dealt { self.new ≡ self.old + 1 }
+        ensures seat { result ≡ sitting (self.old + 1) [] }
+    {
+        let badge = self.keeper.deal(tie);
+        self.dealt += 1;
+        SessionSeat {
+            number: SessionNo(u32::from(self.dealt)),
+            badge,
+            name: PhantomData,
+        }
+    }
+
+    /// A witness that nothing has happened.
+    pub fn witness(&mut self, tie: &Tie<N>) -> Witness<N>
+        ensures same { self.new ≡ self.old }
+        ensures witness { result ≡ [] }
+    {
+        self.keeper.witness(tie)
+    }
+
+    /// The keeper of the history, which is empty.
+    pub fn into_keeper(self) -> Keeper<N>
+        ensures { result ≡ meeting [] self [] }
+    {
+        let Dealer { keeper, dealt: _ } = self;
+        keeper
+    }
+}
+
+impl<N: StoreName> Keeper<N> {
+    // The seat of the next session.
+    fn deal(&mut self, tie: &Tie<N>) -> Badge<Sight>
+        requires { (self.old.history ≡ []) × (self.old.guests ≡ []) }
+        ensures keeper { self.new ≡ meeting [] (self.old.dealt + 1) [] }
+        ensures seat { IsSeatAt N.name.table result }
+        ensures sitting { sitting_in result.views ≡ sitting (self.old.dealt + 1) [] }
+    {
+        tie.table
+            .shared
+            .split_seat::<Deal>(&mut self.seat)
+            .into_badge()
+    }
+
+    // Takes a seat in.
+    fn enter(&mut self, tie: &Tie<N>, badge: Badge<Sight>)
+        requires { IsSeatAt N.name.table badge }
+        ensures { self.new ≡ meeting self.old.history self.old.dealt (sitting_in badge.views ∷ self.old.guests) }
+    {
+        tie.table
+            .shared
+            .join_seat::<Visit>(&mut self.seat, badge.into_seat());
+    }
+
+    // The seat leaves that came last.
+    fn leave(&mut self, tie: &Tie<N>) -> Badge<Sight>
+        requires { (guest : Sitting) × (others : List Sitting) × (self.old.guests ≡ guest ∷ others) }
+        ensures keeper { self.new ≡ meeting self.old.history self.old.dealt self.new.guests }
+        ensures guests { self.old.guests ≡ sitting_in result.views ∷ self.new.guests }
+        ensures seat { IsSeatAt N.name.table result }
+    {
+        tie.table
+            .shared
+            .split_seat::<Visit>(&mut self.seat)
+            .into_badge()
+    }
+
+    // A witness of the history leaves, in place of all seats that were taken in.
+    fn show(&mut self, tie: &Tie<N>) -> Badge<Sight>
+        ensures keeper { self.new ≡ meeting self.old.history self.old.dealt [] }
+        ensures seat { IsSeatAt N.name.table result }
+        ensures sitting { sitting_in result.views ≡ sitting 0 self.old.history }
+    {
+        tie.table
+            .shared
+            .split_seat::<Show>(&mut self.seat)
+            .into_badge()
+    }
+
+    // Looks at what the seats that were taken in had seen.
+    fn look(&mut self, tie: &Tie<N>)
+        ensures keeper { self.new ≡ self.old }
+        ensures told { AreTold self.old.history self.old.guests }
+    {
+        let _found = tie.table.shared.load::<Compare>(&mut self.seat, 0);
+    }
+
+    // Adds a step to the history: that of the one seat that was taken in, or of no session. `before` and `after` are the
+    // numbers of entries of the log.
+    fn append(&mut self, tie: &Tie<N>, before: u64, after: u64, step: &Step)
+        requires asked { Asked step.now self.old.guests }
+        requires legal { IsLegalHistory N.name.setting (step.now ∷ self.old.history) }
+        requires before { before ≡ length (log_of self.old.history) }
+        requires after { after ≡ length (log_of (step.now ∷ self.old.history)) }
+        ensures keeper { self.new ≡ meeting (step.now ∷ self.old.history) self.old.dealt (guests_after step.now self.old.history self.old.guests) }
+        ensures knew { KnewFirst self.old.history self.old.guests }
+    {
+        let _found = tie
+            .table
+            .shared
+            .compare_exchange_with::<Append>(&mut self.seat, 0, before, after, step);
+    }
+
+    /// Adds a step of the session to the history. `before` and `after` are the numbers of entries of the log.
+    pub fn note(
+        &mut self,
+        tie: &Tie<N>,
+        session: &mut SessionSeat<N>,
+        before: u64,
+        after: u64,
+        step: &Step,
+    )
+        requires alone { self.old.guests ≡ [] }
+        requires own { session_of step.now.event ≡ session.old.number }
+        requires legal { IsLegalHistory N.name.setting (step.now ∷ self.old.history) }
+        requires before { before ≡ length (log_of self.old.history) }
+        requires after { after ≡ length (log_of (step.now ∷ self.old.history)) }
+        ensures keeper { self.new ≡ meeting (step.now ∷ self.old.history) self.old.dealt [] }
+        ensures number { session.new.number ≡ session.old.number }
+        ensures moves { MovesOn N.name.setting session.old.seen step.now session.new.seen }
+        ensures knew { HasCallsOf self.old.history session.old.number session.old.seen }
+    {
+        let badge = mem::replace(&mut session.badge, Badge::blank());
+        self.enter(tie, badge);
+        self.append(tie, before, after, step);
+        session.badge = self.leave(tie);
+    }
+
+    /// Adds a step of no session to the history. `before` and `after` are the numbers of entries of the log.
+    pub fn note_own(&mut self, tie: &Tie<N>, before: u64, after: u64, step: &Step)
+        requires alone { self.old.guests ≡ [] }
+        requires own { session_of step.now.event ≡ 0 }
+        requires legal { IsLegalHistory N.name.setting (step.now ∷ self.old.history) }
+        requires before { before ≡ length (log_of self.old.history) }
+        requires after { after ≡ length (log_of (step.now ∷ self.old.history)) }
+        ensures { self.new ≡ meeting (step.now ∷ self.old.history) self.old.dealt [] }
+    {
+        self.append(tie, before, after, step);
+    }
+
+    /// A witness that has seen the history as it is.
+    pub fn witness(&mut self, tie: &Tie<N>) -> Witness<N>
+        requires alone { self.old.guests ≡ [] }
+        ensures same { self.new ≡ self.old }
+        ensures witness { result ≡ self.old.history }
+    {
+        Witness {
+            badge: self.show(tie),
+            name: PhantomData,
+        }
+    }
+
+    /// The witness sees the history as it is, of which it had seen a beginning.
+    pub fn renew(&mut self, tie: &Tie<N>, witness: &mut Witness<N>)
+        requires alone { self.old.guests ≡ [] }
+        ensures same { self.new ≡ self.old }
+        ensures sees { witness.new ≡ self.old.history }
+        ensures had_seen { IsBeginning witness.old self.old.history }
+    {
+        let badge = mem::replace(&mut witness.badge, Badge::blank());
+        self.enter(tie, badge);
+        self.look(tie);
+        witness.badge = self.show(tie);
+    }
+
+    /// Takes a session's seat in.
+    pub fn take_in(&mut self, tie: &Tie<N>, session: SessionSeat<N>)
+        ensures { self.new ≡ meeting self.old.history self.old.dealt (session ∷ self.old.guests) }
+    {
+        let SessionSeat {
+            number: _,
+            badge,
+            name: _,
+        } = session;
+        self.enter(tie, badge);
+    }
+
+    /// Gives back the seat that was taken in last, which is the one of the session of this number.
+    pub fn give_back(&mut self, tie: &Tie<N>, number: SessionNo) -> SessionSeat<N>
+        requires first { first_number self.old.guests ≡ number }
+        requires session { All (IsSession N.name.setting) self.old.guests }
+        requires some { (guest : Sitting) × (others : List Sitting) × (self.old.guests ≡ guest ∷ others) }
+        ensures keeper { self.new ≡ meeting self.old.history self.old.dealt self.new.guests }
+        ensures guests { self.old.guests ≡ result ∷ self.new.guests }
+    {
+        let badge = self.leave(tie);
+        SessionSeat {
+            number,
+            badge,
+            name: PhantomData,
+        }
+    }
+
+    /// Compares the history with what the seats that were taken in had seen: each a beginning of it, with all of its session's
+    /// calls; and no two are of one session.
+    pub fn compare(&mut self, tie: &Tie<N>)
+        ensures same { self.new ≡ self.old }
+        ensures fronts { All (IsFrontOf self.old.history) self.old.guests }
+        ensures apart { NoTwoAlike self.old.guests }
+    {
+        self.look(tie);
+    }
+}

@@ -1,0 +1,16 @@
+//! What ties the sessions of a store to its one history: seats at one word that threads share, each of which knows the history
+//! or a beginning of it.
+#![tactic(auto)]
+
+mod keeper;
+mod name;
+mod rule;
+mod seats;
+mod sight;
+mod tie;
+
+pub use keeper::{Dealer, Keeper};
+pub use name::StoreName;
+pub use seats::{SessionSeat, Witness};
+pub use sight::{Sight, Sitting};
+pub use tie::{Tie, Untied};

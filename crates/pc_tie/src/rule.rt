@@ -1,0 +1,80 @@
+//! The rule that every atomic step on a store's word keeps, and what each step tells.
+use crate::sight::Sight;
+use atomic_table::{Join, Play, Split, TableRule};
+use pc_engine::World;
+use pc_types::Step;
+
+/// The word is read off one legal history, of which each seat knows a beginning. The rule's key is the world as it was at the
+/// start.
+pub struct OneHistory;
+
+impl<S> TableRule<S, Sight, World> for OneHistory {
+    ghost use Rattle.std.specs.Prelude.{[]};
+    ghost use Rattle.pc_engine.specs.Store.{setting_of};
+    ghost use Rattle.pc_tie.specs.declared.sight.Sight.TheVariants.{Whole};
+    ghost use Rattle.pc_tie.specs.Rules.{HasOneHistory};
+
+    ghost holds = { λ world state. HasOneHistory (setting_of world) state };
+
+    ghost first = { λ world. Whole [] 0 [] };
+}
+
+/// The keeper adds a step to the history.
+pub struct Append;
+
+impl Play<Step, Sight> for Append {
+    ghost use Rattle.pc_tie.specs.Rules.{Applied};
+
+    ghost then = { Applied };
+}
+
+/// The keeper looks at what the seats had seen that it has taken in.
+pub struct Compare;
+
+impl Play<Step, Sight> for Compare {
+    ghost use Rattle.pc_tie.specs.Rules.{Compared};
+
+    ghost then = { Compared };
+}
+
+/// A seat is taken in by the keeper, and the one that came last leaves.
+pub struct Visit;
+
+impl Join<Sight> for Visit {
+    ghost use Rattle.pc_tie.specs.declared.sight.Sight.TheVariants.{Gone};
+    ghost use Rattle.pc_tie.specs.Rules.{entered};
+
+    ghost both = { entered };
+
+    ghost spent = { Gone };
+}
+
+impl Split<Sight> for Visit {
+    ghost use Rattle.pc_tie.specs.Rules.{parted, left_out};
+
+    ghost left = { parted };
+
+    ghost right = { left_out };
+}
+
+/// A witness of the history so far leaves the keeper, in place of all that were taken in.
+pub struct Show;
+
+impl Split<Sight> for Show {
+    ghost use Rattle.pc_tie.specs.Rules.{emptied, shown_out};
+
+    ghost left = { emptied };
+
+    ghost right = { shown_out };
+}
+
+/// The next session's seat is dealt.
+pub struct Deal;
+
+impl Split<Sight> for Deal {
+    ghost use Rattle.pc_tie.specs.Rules.{after_dealing, new_front};
+
+    ghost left = { after_dealing };
+
+    ghost right = { new_front };
+}
