@@ -1,26 +1,15 @@
 -- Histories that grow at their end, and beginnings of them.
-use Rattle.std.proofs.Common.{◌≡◌, ◌⊎◌, ◌+◌, ◌≤◌, ℕ, List, [], ◌∷◌, ◌++◌, refl, ap, sym, ◌∙◌, subst, inl, inr, ⊎_elim, append_assoc, arith}
+use Rattle.std.proofs.Common.{◌≡◌, ◌+◌, ◌≤◌, ℕ, List, [], ◌∷◌, ◌++◌, refl, ap, sym, ◌∙◌, subst, ⊎_elim, append_assoc, arith}
 use Rattle.std.proofs.lemmas.List.{append-nil}
 use Rattle.std.proofs.lemmas.List.Elements.{All-cons}
 use mathlib.Core.List.{IsPrefix}
+use Rattle.pc_types.proofs.ListEndLaws.{at_end}
 use Rattle.pc_board.specs.declared.calls.Kind.{Kind}
 use Rattle.pc_board.specs.declared.calls.Kind.TheVariants.{Publish, Look}
 use Rattle.pc_board.specs.declared.calls.Call.{Call}
 use Rattle.pc_board.specs.Calls.{claims_in, claims_of, greatest_of, point_in, Answers, IsLegal, NoneAbove}
 use Rattle.pc_board.specs.Laws.{StandIn, ClaimsRise, LooksNeverFall}
 use Rattle.pc_board.proofs.Sums.{claims_of-append, greatest_of-append}
-
--- an item of a list that is one longer is the last one, or one of the shorter list's
-at_end : {C : Type 0} (log : List C) (c : C) (before : List C) (d : C) (after : List C) → log ++ c ∷ [] ≡ before ++ d ∷ after
-    → ((log ≡ before) × (c ≡ d)) ⊎ ((rest : List C) × (log ≡ before ++ d ∷ rest))
-at_end [] c [] d after e = inl (refl, cc (e))
-at_end [] c (x ∷ []) d after e = absurd (cc (e))
-at_end [] c (x ∷ y ∷ ys) d after e = absurd (cc (e))
-at_end (y ∷ ys) c [] d after e = inr (ys, cc (e))
-at_end (y ∷ ys) c (x ∷ xs) d after e =
-    let same : y ≡ x = cc (e) in
-    let tails : ys ++ c ∷ [] ≡ xs ++ d ∷ after = cc (e) in
-    ⊎_elim (λ (t : (ys ≡ xs) × (c ≡ d)). inl (cc (same, t.0), t.1)) (λ (t : (rest : List _) × (ys ≡ xs ++ d ∷ rest)). inr (t.0, cc (same, t.1))) (at_end ys c xs d after tails)
 
 pub none_is_legal : IsLegal []
 none_is_legal [] c after e = absurd (cc (e))

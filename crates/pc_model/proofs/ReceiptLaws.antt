@@ -15,6 +15,7 @@ use Rattle.pc_types.specs.declared.Entry.{Entry}
 use Rattle.pc_types.specs.declared.Entry.TheVariants as logged
 use Rattle.pc_types.specs.declared.Step.{Step}
 use Rattle.pc_types.specs.declared.Write.{Write}
+use Rattle.pc_types.proofs.ListEndLaws.{at_end}
 use Rattle.pc_model.specs.Maps.{get}
 use Rattle.pc_model.specs.Database.{Database, written}
 use Rattle.pc_model.specs.Log.{after}
@@ -27,18 +28,6 @@ use Rattle.pc_model.proofs.RightReadLaws.{reads_right}
 use Rattle.pc_types.specs.declared.Receipt.{Receipt}
 use Rattle.pc_model.specs.Receipts.{Read, is_read, with_read, reads_by, Own, receipt_of, receipts_by, own_of, AreRight, IsReceipt, IsEarlier, AreExact}
 use Rattle.pc_model.proofs.OwnCallLaws.{own_writes}
-
--- an entry of a list that is one longer is the last one, or it is one of the shorter list's
-at_end : {C : Type 0} (log : List C) (c : C) (before : List C) (d : C) (behind : List C) → log ++ c ∷ [] ≡ before ++ d ∷ behind
-    → ((log ≡ before) × (c ≡ d)) ⊎ ((rest : List C) × (log ≡ before ++ d ∷ rest))
-at_end [] c [] d behind e = inl (refl, cc (e))
-at_end [] c (x ∷ []) d behind e = absurd (cc (e))
-at_end [] c (x ∷ y ∷ ys) d behind e = absurd (cc (e))
-at_end (y ∷ ys) c [] d behind e = inr (ys, cc (e))
-at_end (y ∷ ys) c (x ∷ xs) d behind e =
-    let same : y ≡ x = cc (e) in
-    let tails : ys ++ c ∷ [] ≡ xs ++ d ∷ behind = cc (e) in
-    ⊎_elim (λ (t : (ys ≡ xs) × (c ≡ d)). inl (cc (same, t.0), t.1)) (λ (t : (rest : List _) × (ys ≡ xs ++ d ∷ rest)). inr (t.0, cc (same, t.1))) (at_end ys c xs d behind tails)
 
 -- what an effect adds to the log: nothing, a token, or a commit
 data Adds (s : ℕ) : List Entry → Type 0 where
