@@ -2,28 +2,16 @@
 use Rattle.std.proofs.Common.{◌≡◌, List, [], ◌∷◌, Bool, true, false, Some, None, refl, cond}
 use Rattle.std.specs.Prelude.{IfSome}
 use Rattle.pc_types.specs.declared.Event.{Event}
-use Rattle.pc_types.specs.declared.Event.TheVariants as asked
 use Rattle.pc_types.specs.declared.Reply.TheVariants as told
 use Rattle.pc_types.specs.declared.Refusal.{Refusal}
 use Rattle.pc_model.specs.History.{effect_of}
 use Rattle.pc_model.specs.History.Effect.{Nothing}
 use Rattle.pc_model.specs.Replies.{first_refusal}
+use Rattle.pc_model.proofs.EffectCases.{by_event}
 
 -- a refusal does nothing
 pub refused_does_nothing : (event : Event) (w : Refusal) → effect_of event (told.Refused w) ≡ Nothing
-refused_does_nothing (asked.Begin s) w = refl
-refused_does_nothing (asked.Get s key) w = refl
-refused_does_nothing (asked.Put s key value) w = refl
-refused_does_nothing (asked.Del s key) w = refl
-refused_does_nothing (asked.Commit s) w = refl
-refused_does_nothing (asked.Abort s) w = refl
-refused_does_nothing asked.StartPoint w = refl
-refused_does_nothing asked.Seal w = refl
-refused_does_nothing asked.OpenCapture w = refl
-refused_does_nothing asked.Take w = refl
-refused_does_nothing asked.Done w = refl
-refused_does_nothing asked.Rest w = refl
-refused_does_nothing (asked.Join a b) w = refl
+refused_does_nothing event w = by_event (λ e. e ≡ Nothing) (told.Refused w) (λ s. refl) (λ s key. refl) (λ s key value. refl) (λ s. refl) (λ s. refl) refl refl refl (λ a b. refl) event
 
 -- what the first cause gives is a refusal
 pub first_refusal_refuses : (causes : List (Bool × Refusal)) → IfSome (first_refusal causes) (λ due. (r : Refusal) × (due ≡ told.Refused r))

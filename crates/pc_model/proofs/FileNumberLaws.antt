@@ -9,7 +9,6 @@ use Rattle.pc_types.specs.declared.Phase.TheVariants.{Rest, Prepare, Resolve, Ca
 use Rattle.pc_types.specs.declared.Event.{Event}
 use Rattle.pc_types.specs.declared.Event.TheVariants as asked
 use Rattle.pc_types.specs.declared.Reply.{Reply}
-use Rattle.pc_types.specs.declared.Reply.TheVariants as told
 use Rattle.pc_model.specs.Sets as set
 use Rattle.pc_model.specs.History.{History, Effect, effect, effect_of, phase_by, phase_of, point_by, point_of}
 use Rattle.pc_model.specs.History.Effect.{Moves, Shelves, Joins}
@@ -18,6 +17,7 @@ use Rattle.pc_model.specs.Files.{File, shelf, shelved_by, file_at, triples_taken
 use Rattle.pc_model.specs.Standing.{HasLegalEffects}
 use Rattle.pc_model.specs.Replies.{Setting}
 use Rattle.pc_model.specs.LegalEffects.{Fits}
+use Rattle.pc_model.proofs.EffectCases.{begin_case, get_case, write_case, commit_case, abort_case, move_case, take_case, done_case}
 use Rattle.pc_model.proofs.LegalEffectLaws.{effect_fits}
 use Rattle.pc_model.specs.SessionLaws.{IsNoJoin, HasNoJoins}
 
@@ -45,37 +45,18 @@ IsNoJoined (Joins a b) = ⊥
 IsNoJoined other = ⊤
 
 no_joined : (e : Event) (r : Reply) → IsNoJoin e → IsNoJoined (effect_of e r)
-no_joined (asked.Begin s) (told.Begun t) n = tt
-no_joined (asked.Begin s) other n = tt
-no_joined (asked.Get s key) (told.Found v) n = tt
-no_joined (asked.Get s key) told.Absent n = tt
-no_joined (asked.Get s key) told.Wait n = tt
-no_joined (asked.Get s key) told.Died n = tt
-no_joined (asked.Get s key) other n = tt
-no_joined (asked.Put s key value) told.Ok n = tt
-no_joined (asked.Put s key value) told.Wait n = tt
-no_joined (asked.Put s key value) told.Died n = tt
-no_joined (asked.Put s key value) other n = tt
-no_joined (asked.Del s key) told.Ok n = tt
-no_joined (asked.Del s key) told.Wait n = tt
-no_joined (asked.Del s key) told.Died n = tt
-no_joined (asked.Del s key) other n = tt
-no_joined (asked.Commit s) (told.Committed l) n = tt
-no_joined (asked.Commit s) other n = tt
-no_joined (asked.Abort s) told.Aborted n = tt
-no_joined (asked.Abort s) other n = tt
-no_joined asked.StartPoint (told.Phase p m) n = tt
-no_joined asked.StartPoint other n = tt
-no_joined asked.Seal (told.Phase p m) n = tt
-no_joined asked.Seal other n = tt
-no_joined asked.OpenCapture (told.Phase p m) n = tt
-no_joined asked.OpenCapture other n = tt
-no_joined asked.Take (told.Took key v) n = tt
-no_joined asked.Take other n = tt
-no_joined asked.Done (told.PartDone p f m) n = tt
-no_joined asked.Done other n = tt
-no_joined asked.Rest (told.Phase p m) n = tt
-no_joined asked.Rest other n = tt
+no_joined (asked.Begin s) r n = begin_case IsNoJoined tt s r (λ counts. tt)
+no_joined (asked.Get s key) r n = get_case IsNoJoined tt s key r (λ answer counts. tt) tt tt
+no_joined (asked.Put s key value) r n = write_case IsNoJoined tt s key (Some value) r (λ counts. tt) tt tt
+no_joined (asked.Del s key) r n = write_case IsNoJoined tt s key None r (λ counts. tt) tt tt
+no_joined (asked.Commit s) r n = commit_case IsNoJoined tt s r (λ counts. tt)
+no_joined (asked.Abort s) r n = abort_case IsNoJoined tt s r (λ counts. tt)
+no_joined asked.StartPoint r n = move_case IsNoJoined tt r (λ phase point. tt)
+no_joined asked.Seal r n = move_case IsNoJoined tt r (λ phase point. tt)
+no_joined asked.OpenCapture r n = move_case IsNoJoined tt r (λ phase point. tt)
+no_joined asked.Take r n = take_case IsNoJoined tt r (λ key content. tt)
+no_joined asked.Done r n = done_case IsNoJoined tt r (λ point. tt)
+no_joined asked.Rest r n = move_case IsNoJoined tt r (λ phase point. tt)
 no_joined (asked.Join a b) r n = absurd n
 
 pushed : {A : Type 0} (xs : List A) (x y : A) (k : ℕ) → slice_get (xs ++ x ∷ []) k ≡ Some y → (slice_get xs k ≡ Some y) ⊎ ((k ≡ length xs) × (x ≡ y))

@@ -1,6 +1,6 @@
 -- What a legal effect says of the history before it.
 use Rattle.std.proofs.Common.{◌≡◌, ℕ, zero, suc, ◌≤◌, List, [], ◌∷◌, ◌++◌, length, eqb, not, ◌||◌, Option, Some, None, refl, sym, ap, subst, ◌∙◌, cond, Bool, true, false, ◌⊎◌, inl, inr, arith}
-use Rattle.std.specs.Prelude.{MatchOption, IfSome}
+use Rattle.std.specs.Prelude.{MatchOption}
 use Rattle.std.specs.List.{list_any}
 use Rattle.std.proofs.lemmas.Bool.Decides.{nat_tests}
 use Rattle.std.proofs.lemmas.List.Folds.{list_any-append}
@@ -18,64 +18,32 @@ use Rattle.pc_types.specs.declared.Class.{Class}
 use Rattle.pc_types.specs.declared.Class.TheVariants.{Before, During, After}
 use Rattle.pc_model.specs.Locks.{is_waiting}
 use Rattle.pc_model.specs.Files.{shelf, numbers_to}
-use Rattle.pc_model.specs.Replies.{Setting, is_in, active_in, closed_set, is_empty, first_refusal, or_else, no_session, log_is_full, transaction_causes, not_yet, wrong_phase, held_back, TakesFirst, certain, Answers, IsLegal, IsLegalHistory}
+use Rattle.pc_model.specs.Replies.{Setting, is_in, closed_set, is_empty, first_refusal, or_else, no_session, log_is_full, transaction_causes, not_yet, wrong_phase, held_back, TakesFirst, certain, Answers, IsLegal, IsLegalHistory}
 use Rattle.pc_model.specs.LegalEffects.{some_active, Fits, IsIdle, IsIdleIfAny}
 use Rattle.pc_types.specs.Phases.{same_phase}
 use Rattle.pc_model.specs.Standing.{HasLegalEffects}
-use Rattle.pc_model.proofs.EffectLaws.{refused_does_nothing, first_refusal_refuses, no_first, no_other}
+use Rattle.pc_model.proofs.EffectCases.{by_event, begin_case, get_case, write_case, abort_case, join_case}
+use Rattle.pc_model.proofs.EffectLaws.{refused_does_nothing, no_first, no_other}
+use Rattle.pc_model.proofs.CertainReplies.{answer_or_kind, by_either, by_causes, by_phase, by_count, by_held}
 
 refused_idle : (w : Refusal) → IsIdle (told.Refused w)
 refused_idle w event = refused_does_nothing event w
 
 pub not_yet_does_nothing : (event : Event) (n : ℕ) → effect_of event (told.NotYet n) ≡ Nothing
-not_yet_does_nothing (asked.Begin s) n = refl
-not_yet_does_nothing (asked.Get s key) n = refl
-not_yet_does_nothing (asked.Put s key value) n = refl
-not_yet_does_nothing (asked.Del s key) n = refl
-not_yet_does_nothing (asked.Commit s) n = refl
-not_yet_does_nothing (asked.Abort s) n = refl
-not_yet_does_nothing asked.StartPoint n = refl
-not_yet_does_nothing asked.Seal n = refl
-not_yet_does_nothing asked.OpenCapture n = refl
-not_yet_does_nothing asked.Take n = refl
-not_yet_does_nothing asked.Done n = refl
-not_yet_does_nothing asked.Rest n = refl
-not_yet_does_nothing (asked.Join a b) n = refl
+not_yet_does_nothing event n = by_event (λ e. e ≡ Nothing) (told.NotYet n) (λ s. refl) (λ s key. refl) (λ s key value. refl) (λ s. refl) (λ s. refl) refl refl refl (λ a b. refl) event
 
 none_left_does_nothing : (event : Event) → effect_of event told.NoneLeft ≡ Nothing
-none_left_does_nothing (asked.Begin s) = refl
-none_left_does_nothing (asked.Get s key) = refl
-none_left_does_nothing (asked.Put s key value) = refl
-none_left_does_nothing (asked.Del s key) = refl
-none_left_does_nothing (asked.Commit s) = refl
-none_left_does_nothing (asked.Abort s) = refl
-none_left_does_nothing asked.StartPoint = refl
-none_left_does_nothing asked.Seal = refl
-none_left_does_nothing asked.OpenCapture = refl
-none_left_does_nothing asked.Take = refl
-none_left_does_nothing asked.Done = refl
-none_left_does_nothing asked.Rest = refl
-none_left_does_nothing (asked.Join a b) = refl
+none_left_does_nothing event = by_event (λ e. e ≡ Nothing) told.NoneLeft (λ s. refl) (λ s key. refl) (λ s key value. refl) (λ s. refl) (λ s. refl) refl refl refl (λ a b. refl) event
 
 -- what the first cause gives is idle
 pub causes_idle : (causes : List (Bool × Refusal)) → IsIdleIfAny (first_refusal causes)
-causes_idle causes = by_cause (first_refusal causes) (first_refusal_refuses causes)
-  where
-    by_cause : (o : Option Reply) → IfSome o (λ due. (r : Refusal) × (due ≡ told.Refused r)) → IsIdleIfAny o
-    by_cause None refuses = tt
-    by_cause (Some due) refuses = λ event. ap (effect_of event) refuses.1 ∙ refused_idle refuses.0 event
+causes_idle = by_causes IsIdle refused_idle
 
 pub or_else_idle : (o p : Option Reply) → IsIdleIfAny o → IsIdleIfAny p → IsIdleIfAny (or_else o p)
-or_else_idle None p first second = second
-or_else_idle (Some due) p first second = first
-
-not_yet_idle : (count : ℕ) → IsIdleIfAny (not_yet count)
-not_yet_idle count = elim (eqb count 0) as (λ b. IsIdleIfAny (cond b None (Some (told.NotYet count)))) [ true ↦ tt | false ↦ λ event. not_yet_does_nothing event count ]
+or_else_idle = by_either IsIdle
 
 pub held_back_idle : (st : Setting) (from : Phase) (class : Class) (h : History) → IsIdleIfAny (held_back st from class h)
-held_back_idle st from class h =
-    or_else_idle (wrong_phase from h) _ (causes_idle ((not (is_in from h), why.WrongPhase) ∷ []))
-    (or_else_idle (not_yet (active_in st class h)) _ (not_yet_idle (active_in st class h)) (causes_idle ((log_is_full h, why.LogFull) ∷ [])))
+held_back_idle = by_held IsIdle refused_idle (λ count event. not_yet_does_nothing event count)
 
 none_left_idle : (b : Bool) → IsIdleIfAny (cond b (Some told.NoneLeft) None)
 none_left_idle true = none_left_does_nothing
@@ -83,9 +51,7 @@ none_left_idle false = tt
 
 -- a legal reply is idle, or the answer where no reply was certain
 pub settled : (o : Option Reply) (Answer : Type 0) (reply : Reply) → IsIdleIfAny o → MatchOption o (Answer ⊎ (reply ≡ told.Refused why.OutOfMemory)) (λ due. reply ≡ due) → ((o ≡ None) × Answer) ⊎ IsIdle reply
-settled None Answer reply idle (inl answer) = inl (refl, answer)
-settled None Answer reply idle (inr out) = inr (λ event. ap (effect_of event) out ∙ refused_idle why.OutOfMemory event)
-settled (Some due) Answer reply idle same = inr (λ event. ap (effect_of event) same ∙ idle event)
+settled o Answer reply idle = answer_or_kind IsIdle (refused_idle why.OutOfMemory) o idle Answer reply
 
 idle_fits : (st : Setting) (h : History) (event : Event) (reply : Reply) → IsIdle reply → Fits st h (effect_of event reply)
 idle_fits st h event reply idle = let P : Effect → Type 0 = Fits st h in subst P (sym (idle event)) tt
@@ -158,56 +124,25 @@ module _ (st : Setting) (h : History) where
       let open_then : is_open s h ≡ true = turned (is_open s h) (no_first (not (is_open s h), why.NoTransaction) waits (no_other (no_session st s, why.NoSession) closed none)) in
       among_numbers (λ t. is_open t h) st.sessions s session.0 session.1 open_then
 
-  begin_fits : (s : ℕ) (reply : Reply) → Fits st h (effect_of (asked.Begin s) reply)
-  begin_fits s (told.Begun t) = tt
-  begin_fits s other = tt
-
-  get_fits : (s : ℕ) (key : List ℕ) (reply : Reply) → Fits st h (effect_of (asked.Get s key) reply)
-  get_fits s key (told.Found value) = tt
-  get_fits s key told.Absent = tt
-  get_fits s key told.Wait = tt
-  get_fits s key told.Died = tt
-  get_fits s key other = tt
-
-  put_fits : (s : ℕ) (key value : List ℕ) (reply : Reply) → Fits st h (effect_of (asked.Put s key value) reply)
-  put_fits s key value told.Ok = tt
-  put_fits s key value told.Wait = tt
-  put_fits s key value told.Died = tt
-  put_fits s key value other = tt
-
-  del_fits : (s : ℕ) (key : List ℕ) (reply : Reply) → Fits st h (effect_of (asked.Del s key) reply)
-  del_fits s key told.Ok = tt
-  del_fits s key told.Wait = tt
-  del_fits s key told.Died = tt
-  del_fits s key other = tt
-
-  abort_fits : (s : ℕ) (reply : Reply) → Fits st h (effect_of (asked.Abort s) reply)
-  abort_fits s told.Aborted = tt
-  abort_fits s other = tt
-
-  join_fits : (a b : ℕ) (reply : Reply) → Fits st h (effect_of (asked.Join a b) reply)
-  join_fits a b (told.File file points entries) = tt
-  join_fits a b other = tt
-
   take_fits : (reply : Reply) (keys : List (List ℕ)) → closed_set h ≡ keys → phase_of h ≡ Capture → TakesFirst keys reply → Fits st h (effect_of asked.Take reply)
   take_fits reply [] is from first = absurd first
   take_fits reply (key ∷ keys) is from first = let P : Reply → Type 0 = (λ r. Fits st h (effect_of asked.Take r)) in subst P (sym first.1) (from, keys, is)
 
   -- the effect of a legal reply fits
   pub legal_fits : (event : Event) (reply : Reply) → IsLegal st h event reply → Fits st h (effect_of event reply)
-  legal_fits (asked.Begin s) reply legal = begin_fits s reply
-  legal_fits (asked.Get s key) reply legal = get_fits s key reply
-  legal_fits (asked.Put s key value) reply legal = put_fits s key value reply
-  legal_fits (asked.Del s key) reply legal = del_fits s key reply
+  legal_fits (asked.Begin s) reply legal = begin_case (Fits st h) tt s reply (λ counts. tt)
+  legal_fits (asked.Get s key) reply legal = get_case (Fits st h) tt s key reply (λ answer counts. tt) tt tt
+  legal_fits (asked.Put s key value) reply legal = write_case (Fits st h) tt s key (Some value) reply (λ counts. tt) tt tt
+  legal_fits (asked.Del s key) reply legal = write_case (Fits st h) tt s key None reply (λ counts. tt) tt tt
   legal_fits (asked.Commit s) reply legal =
       elim (settled (certain st h (asked.Commit s)) (Answers st h (asked.Commit s) reply) reply (causes_idle (transaction_causes st s h ++ (log_is_full h, why.LogFull) ∷ [])) legal) [
         | inl answered ↦ let P : Reply → Type 0 = (λ r. Fits st h (effect_of (asked.Commit s) r)) in subst P (sym answered.1) (commit_active s answered.0)
         | inr idle ↦ idle_fits st h (asked.Commit s) reply idle
       ]
-  legal_fits (asked.Abort s) reply legal = abort_fits s reply
+  legal_fits (asked.Abort s) reply legal = abort_case (Fits st h) tt s reply (λ counts. tt)
   legal_fits asked.StartPoint reply legal =
       elim (settled (certain st h asked.StartPoint) (Answers st h asked.StartPoint reply) reply
-      (or_else_idle (wrong_phase Rest h) _ (causes_idle ((not (is_in Rest h), why.WrongPhase) ∷ [])) (causes_idle ((eqb (point_of h) 65535, why.PointsFull) ∷ (log_is_full h, why.LogFull) ∷ []))) legal) [
+      (by_phase IsIdle refused_idle Rest h _ (causes_idle ((eqb (point_of h) 65535, why.PointsFull) ∷ (log_is_full h, why.LogFull) ∷ []))) legal) [
         | inl answered ↦ let P : Reply → Type 0 = (λ r. Fits st h (effect_of asked.StartPoint r)) in subst P (sym answered.1) (right_phase Rest h (or_else_none (wrong_phase Rest h) _ answered.0).0, refl)
         | inr idle ↦ idle_fits st h asked.StartPoint reply idle
       ]
@@ -223,15 +158,15 @@ module _ (st : Setting) (h : History) where
       ]
   legal_fits asked.Take reply legal =
       elim (settled (certain st h asked.Take) (Answers st h asked.Take reply) reply
-      (or_else_idle (wrong_phase Capture h) _ (causes_idle ((not (is_in Capture h), why.WrongPhase) ∷ [])) (none_left_idle (is_empty (closed_set h)))) legal) [
+      (by_phase IsIdle refused_idle Capture h _ (none_left_idle (is_empty (closed_set h)))) legal) [
         | inl answered ↦ take_fits reply (closed_set h) refl (right_phase Capture h (or_else_none (wrong_phase Capture h) _ answered.0).0) answered.1
         | inr idle ↦ idle_fits st h asked.Take reply idle
       ]
   legal_fits asked.Done reply legal =
       let full = first_refusal ((eqb (length (shelf st.run h)) 65536, why.ShelfFull) ∷ (log_is_full h, why.LogFull) ∷ []) in
       elim (settled (certain st h asked.Done) (Answers st h asked.Done reply) reply
-      (or_else_idle (wrong_phase Capture h) _ (causes_idle ((not (is_in Capture h), why.WrongPhase) ∷ []))
-      (or_else_idle (not_yet (length (closed_set h))) full (not_yet_idle (length (closed_set h))) (causes_idle ((eqb (length (shelf st.run h)) 65536, why.ShelfFull) ∷ (log_is_full h, why.LogFull) ∷ [])))) legal) [
+      (by_phase IsIdle refused_idle Capture h _
+      (by_count IsIdle refused_idle (λ count event. not_yet_does_nothing event count) (length (closed_set h)) full (causes_idle ((eqb (length (shelf st.run h)) 65536, why.ShelfFull) ∷ (log_is_full h, why.LogFull) ∷ [])))) legal) [
         | inl answered ↦
             let parts = or_else_none (wrong_phase Capture h) (or_else (not_yet (length (closed_set h))) full) answered.0 in
             let P : Reply → Type 0 = (λ r. Fits st h (effect_of asked.Done r)) in
@@ -243,7 +178,7 @@ module _ (st : Setting) (h : History) where
         | inl answered ↦ let P : Reply → Type 0 = (λ r. Fits st h (effect_of asked.Rest r)) in subst P (sym answered.1) (held_back_phase st Complete After h answered.0, refl)
         | inr idle ↦ idle_fits st h asked.Rest reply idle
       ]
-  legal_fits (asked.Join a b) reply legal = join_fits a b reply
+  legal_fits (asked.Join a b) reply legal = join_case (Fits st h) tt a b reply tt
 
   -- and so does no effect
   pub nothing_fits : (e : Effect) → e ≡ Nothing → Fits st h e

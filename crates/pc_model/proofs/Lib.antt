@@ -10,7 +10,9 @@ pub mod CountLaws
 mod Queues
 mod Ample
 mod Causes
+pub mod EffectCases
 pub mod EffectLaws
+mod CertainReplies
 pub mod LogLaws
 pub mod RightReadLaws
 mod States

@@ -1,5 +1,5 @@
 -- Which keys are occupied, key by key. A request stands only on a key that was asked for.
-use Rattle.std.proofs.Common.{◌≡◌, ℕ, List, [], ◌∷◌, ◌++◌, is_some, refl, sym, ap, ◌∙◌, cond, true, false, Bool, not, ◌||◌, ◌&&◌}
+use Rattle.std.proofs.Common.{◌≡◌, ℕ, List, [], ◌∷◌, ◌++◌, Option, Some, None, is_some, refl, sym, ap, ◌∙◌, cond, true, false, Bool, not, ◌||◌, ◌&&◌}
 use Rattle.std.specs.List.{list_any}
 use Rattle.std.specs.FinMap.Entries.{is_some-find}
 use Rattle.std.proofs.lemmas.Cmp.{eq_by_cmp_equiv}
@@ -8,17 +8,17 @@ use Rattle.std.proofs.lemmas.Map.Views.{any-filter_same}
 use Rattle.pc_types.specs.declared.Event.{Event}
 use Rattle.pc_types.specs.declared.Event.TheVariants as asked
 use Rattle.pc_types.specs.declared.Reply.{Reply}
-use Rattle.pc_types.specs.declared.Reply.TheVariants as told
 use Rattle.pc_types.specs.declared.Mode.TheVariants.{Shared, Exclusive}
 use Rattle.pc_model.specs.Maps as map_of
 use Rattle.pc_model.specs.Sets as set
 use Rattle.pc_model.specs.Database.{Database, key_cmp, key_order, same_bytes}
 use Rattle.pc_model.specs.Points.{is_among, with_key}
-use Rattle.pc_model.specs.History.{History, contents, effect_of, number_of}
+use Rattle.pc_model.specs.History.{History, Effect, contents, effect_of, effect_of_write, number_of}
 use Rattle.pc_types.specs.declared.Request.{Request}
 use Rattle.pc_model.specs.Locks.{Queue, queue_of, queue_by, queue_after, queue_without, granted_behind}
 use Rattle.pc_types.specs.declared.Outcome.TheVariants.{Granted, Queued}
 use Rattle.pc_model.specs.Replies.{Setting, occupied, is_empty, requested, asked_for, asked_by, open_set, closed_set}
+use Rattle.pc_model.proofs.EffectCases.{begin_case, get_case, write_case, commit_case, abort_case, move_case, take_case, done_case, join_case}
 use Rattle.pc_model.proofs.JoinLaws.{one_key}
 use Rattle.pc_model.proofs.MapLaws.{get-entries}
 use Rattle.pc_model.proofs.SetLaws.{contains-from_list}
@@ -67,68 +67,40 @@ asked_now true c now before has was = refl
 asked_now false c now before has was = was has
 
 module _ (h : History) (q : List ℕ) (was : Has (queue_of q h) → is_among (asked_for h) q ≡ true) where
+  -- the key was asked for, of those asked for then, where a request of it stands after this effect
+  abbrev Then : List (List ℕ) → Effect → Type 0
+  Then keys e = Has (queue_by q e h (queue_of q h)) → is_among keys q ≡ true
+
+  -- a request of a key that was asked for just now: one after it, or none
+  now : (k : List ℕ) (queue : Queue) → Has (cond (same_bytes k q) queue (queue_of q h)) → is_among (with_key (asked_for h) k) q ≡ true
+  now k queue has = among_with_key (asked_for h) k q ∙ asked_now (same_bytes k q) (is_among (asked_for h) q) queue (queue_of q h) has was
+
+  still : (k : List ℕ) → Has (queue_of q h) → is_among (with_key (asked_for h) k) q ≡ true
+  still k has = among_with_key (asked_for h) k q ∙ or_second (same_bytes k q) (is_among (asked_for h) q) (was has)
+
+  ended : (s : ℕ) → Has (queue_without (queue_of q h) (number_of s h)) → is_among (asked_for h) q ≡ true
+  ended s has = was (ended_has (queue_of q h) (number_of s h) has)
+
+  written : (s : ℕ) (k : List ℕ) (value : Option (List ℕ)) (reply : Reply) → Then (with_key (asked_for h) k) (effect_of_write s k value reply)
+  written s k value reply =
+      write_case (Then (with_key (asked_for h) k)) (still k) s k value reply (λ counts. now k (queue_after (queue_of q h) (number_of s h) Exclusive Granted)) (now k (queue_after (queue_of q h) (number_of s h) Exclusive Queued)) (still k)
+
   -- what is asked for and answered
-  asked_get : (s : ℕ) (k : List ℕ) (reply : Reply) → Has (queue_by q (effect_of (asked.Get s k) reply) h (queue_of q h)) → is_among (with_key (asked_for h) k) q ≡ true
-  asked_get s k (told.Found v) has = among_with_key (asked_for h) k q ∙ asked_now (same_bytes k q) (is_among (asked_for h) q) (queue_after (queue_of q h) (number_of s h) Shared Granted) (queue_of q h) has was
-  asked_get s k told.Absent has = among_with_key (asked_for h) k q ∙ asked_now (same_bytes k q) (is_among (asked_for h) q) (queue_after (queue_of q h) (number_of s h) Shared Granted) (queue_of q h) has was
-  asked_get s k told.Wait has = among_with_key (asked_for h) k q ∙ asked_now (same_bytes k q) (is_among (asked_for h) q) (queue_after (queue_of q h) (number_of s h) Shared Queued) (queue_of q h) has was
-  asked_get s k told.Died has = among_with_key (asked_for h) k q ∙ or_second (same_bytes k q) (is_among (asked_for h) q) (was has)
-  asked_get s k other has = among_with_key (asked_for h) k q ∙ or_second (same_bytes k q) (is_among (asked_for h) q) (was has)
-
-  asked_put : (s : ℕ) (k v : List ℕ) (reply : Reply) → Has (queue_by q (effect_of (asked.Put s k v) reply) h (queue_of q h)) → is_among (with_key (asked_for h) k) q ≡ true
-  asked_put s k v told.Ok has = among_with_key (asked_for h) k q ∙ asked_now (same_bytes k q) (is_among (asked_for h) q) (queue_after (queue_of q h) (number_of s h) Exclusive Granted) (queue_of q h) has was
-  asked_put s k v told.Wait has = among_with_key (asked_for h) k q ∙ asked_now (same_bytes k q) (is_among (asked_for h) q) (queue_after (queue_of q h) (number_of s h) Exclusive Queued) (queue_of q h) has was
-  asked_put s k v told.Died has = among_with_key (asked_for h) k q ∙ or_second (same_bytes k q) (is_among (asked_for h) q) (was has)
-  asked_put s k v other has = among_with_key (asked_for h) k q ∙ or_second (same_bytes k q) (is_among (asked_for h) q) (was has)
-
-  asked_del : (s : ℕ) (k : List ℕ) (reply : Reply) → Has (queue_by q (effect_of (asked.Del s k) reply) h (queue_of q h)) → is_among (with_key (asked_for h) k) q ≡ true
-  asked_del s k told.Ok has = among_with_key (asked_for h) k q ∙ asked_now (same_bytes k q) (is_among (asked_for h) q) (queue_after (queue_of q h) (number_of s h) Exclusive Granted) (queue_of q h) has was
-  asked_del s k told.Wait has = among_with_key (asked_for h) k q ∙ asked_now (same_bytes k q) (is_among (asked_for h) q) (queue_after (queue_of q h) (number_of s h) Exclusive Queued) (queue_of q h) has was
-  asked_del s k told.Died has = among_with_key (asked_for h) k q ∙ or_second (same_bytes k q) (is_among (asked_for h) q) (was has)
-  asked_del s k other has = among_with_key (asked_for h) k q ∙ or_second (same_bytes k q) (is_among (asked_for h) q) (was has)
-
-  asked_begin : (s : ℕ) (reply : Reply) → Has (queue_by q (effect_of (asked.Begin s) reply) h (queue_of q h)) → is_among (asked_for h) q ≡ true
-  asked_begin s (told.Begun t) has = was has
-  asked_begin s other has = was has
-
-  asked_commit : (s : ℕ) (reply : Reply) → Has (queue_by q (effect_of (asked.Commit s) reply) h (queue_of q h)) → is_among (asked_for h) q ≡ true
-  asked_commit s (told.Committed n) has = was (ended_has (queue_of q h) (number_of s h) has)
-  asked_commit s other has = was has
-
-  asked_abort : (s : ℕ) (reply : Reply) → Has (queue_by q (effect_of (asked.Abort s) reply) h (queue_of q h)) → is_among (asked_for h) q ≡ true
-  asked_abort s told.Aborted has = was (ended_has (queue_of q h) (number_of s h) has)
-  asked_abort s other has = was has
-
-  asked_move : (reply : Reply) → Has (queue_by q (effect_of asked.Seal reply) h (queue_of q h)) → is_among (asked_for h) q ≡ true
-  asked_move (told.Phase phase n) has = was has
-  asked_move other has = was has
-
-  asked_take : (reply : Reply) → Has (queue_by q (effect_of asked.Take reply) h (queue_of q h)) → is_among (asked_for h) q ≡ true
-  asked_take (told.Took k c) has = was has
-  asked_take other has = was has
-
-  asked_done : (reply : Reply) → Has (queue_by q (effect_of asked.Done reply) h (queue_of q h)) → is_among (asked_for h) q ≡ true
-  asked_done (told.PartDone n f e) has = was has
-  asked_done other has = was has
-
-  asked_join : (a b : ℕ) (reply : Reply) → Has (queue_by q (effect_of (asked.Join a b) reply) h (queue_of q h)) → is_among (asked_for h) q ≡ true
-  asked_join a b (told.File f points e) has = was has
-  asked_join a b other has = was has
-
-  asked_by_event : (event : Event) (reply : Reply) → Has (queue_by q (effect_of event reply) h (queue_of q h)) → is_among (asked_by event (asked_for h)) q ≡ true
-  asked_by_event (asked.Begin s) reply has = asked_begin s reply has
-  asked_by_event (asked.Get s k) reply has = asked_get s k reply has
-  asked_by_event (asked.Put s k v) reply has = asked_put s k v reply has
-  asked_by_event (asked.Del s k) reply has = asked_del s k reply has
-  asked_by_event (asked.Commit s) reply has = asked_commit s reply has
-  asked_by_event (asked.Abort s) reply has = asked_abort s reply has
-  asked_by_event asked.StartPoint reply has = asked_move reply has
-  asked_by_event asked.Seal reply has = asked_move reply has
-  asked_by_event asked.OpenCapture reply has = asked_move reply has
-  asked_by_event asked.Take reply has = asked_take reply has
-  asked_by_event asked.Done reply has = asked_done reply has
-  asked_by_event asked.Rest reply has = asked_move reply has
-  asked_by_event (asked.Join a b) reply has = asked_join a b reply has
+  asked_by_event : (event : Event) (reply : Reply) → Then (asked_by event (asked_for h)) (effect_of event reply)
+  asked_by_event (asked.Begin s) reply = begin_case (Then (asked_for h)) was s reply (λ counts. was)
+  asked_by_event (asked.Get s k) reply =
+      get_case (Then (with_key (asked_for h) k)) (still k) s k reply (λ answer counts. now k (queue_after (queue_of q h) (number_of s h) Shared Granted)) (now k (queue_after (queue_of q h) (number_of s h) Shared Queued)) (still k)
+  asked_by_event (asked.Put s k v) reply = written s k (Some v) reply
+  asked_by_event (asked.Del s k) reply = written s k None reply
+  asked_by_event (asked.Commit s) reply = commit_case (Then (asked_for h)) was s reply (λ counts. ended s)
+  asked_by_event (asked.Abort s) reply = abort_case (Then (asked_for h)) was s reply (λ counts. ended s)
+  asked_by_event asked.StartPoint reply = move_case (Then (asked_for h)) was reply (λ phase point. was)
+  asked_by_event asked.Seal reply = move_case (Then (asked_for h)) was reply (λ phase point. was)
+  asked_by_event asked.OpenCapture reply = move_case (Then (asked_for h)) was reply (λ phase point. was)
+  asked_by_event asked.Take reply = take_case (Then (asked_for h)) was reply (λ key content. was)
+  asked_by_event asked.Done reply = done_case (Then (asked_for h)) was reply (λ point. was)
+  asked_by_event asked.Rest reply = move_case (Then (asked_for h)) was reply (λ phase point. was)
+  asked_by_event (asked.Join a b) reply = join_case (Then (asked_for h)) was a b reply was
 
 -- a request stands only on a key that was asked for
 pub was_asked : (h : History) (q : List ℕ) → is_empty (queue_of q h) ≡ false → is_among (asked_for h) q ≡ true

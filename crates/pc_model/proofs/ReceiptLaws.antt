@@ -1,10 +1,11 @@
 -- After a legal history each session's receipts are exact.
-use Rattle.std.proofs.Common.{◌≡◌, ◌≢◌, ◌==◌, ◌||◌, ◌⊎◌, ℕ, ◌+◌, ◌<◌, Bool, true, false, true≢false, cond, List, [], ◌∷◌, ◌++◌, length, length-append, refl, ap, sym, ◌∙◌, subst, inl, inr, ⊎_elim, arith, append_assoc, All, eq-eqb}
-use Rattle.std.specs.Prelude.{⊤, Option, Some, None, is_some, MatchOption, MatchBool, IfSome, get_or}
+use Rattle.std.proofs.Common.{◌≡◌, ◌≢◌, ◌==◌, ◌||◌, ℕ, ◌+◌, ◌<◌, Bool, true, false, true≢false, cond, List, [], ◌∷◌, ◌++◌, length, length-append, refl, ap, sym, ◌∙◌, subst, ⊎_elim, arith, append_assoc, All, eq-eqb}
+use Rattle.std.specs.Prelude.{⊤, Option, Some, None, is_some, MatchBool, get_or}
 use Rattle.std.proofs.lemmas.List.{append-nil}
 use Rattle.std.proofs.lemmas.List.Elements.{All-nil, All-push}
 use Rattle.std.proofs.lemmas.List.Quantifiers.{all_pairs_push}
 use Rattle.std.proofs.lemmas.Bool.Decides.{nat_tests}
+use Rattle.pc_types.specs.declared.Phase.{Phase}
 use Rattle.pc_types.specs.declared.Event.{Event}
 use Rattle.pc_types.specs.declared.Event.TheVariants as asked
 use Rattle.pc_types.specs.declared.Reply.{Reply}
@@ -19,11 +20,12 @@ use Rattle.pc_types.proofs.ListEndLaws.{at_end}
 use Rattle.pc_model.specs.Maps.{get}
 use Rattle.pc_model.specs.Database.{Database, written}
 use Rattle.pc_model.specs.Log.{after}
-use Rattle.pc_model.specs.History.{History, Effect, effect, effect_of, effect_of_begin, effect_of_get, effect_of_write, effect_of_commit, effect_of_abort, effect_of_move, effect_of_take, effect_of_done, effect_of_join, entries_by, log_of, writes_of, contents}
-use Rattle.pc_model.specs.History.Effect.{Begins, Reads, Commits}
+use Rattle.pc_model.specs.History.{History, Effect, effect, effect_of, effect_of_commit, entries_by, log_of, writes_of, contents}
+use Rattle.pc_model.specs.History.Effect.{Begins, Reads, Commits, Moves}
 use Rattle.pc_model.specs.Reads.{HasRightReads, HasReadFrom, ReadBy, RightBy}
-use Rattle.pc_model.specs.Replies.{Setting, first_refusal, transaction_causes, log_is_full, value_read, IsLegal, IsLegalHistory}
-use Rattle.pc_model.proofs.EffectLaws.{first_refusal_refuses}
+use Rattle.pc_model.specs.Replies.{Setting, transaction_causes, log_is_full, value_read, IsLegal, IsLegalHistory}
+use Rattle.pc_model.proofs.EffectCases.{begin_case, get_case, write_case, abort_case, move_case, take_case, done_case, join_case}
+use Rattle.pc_model.proofs.CertainReplies.{answer_or_refusal}
 use Rattle.pc_model.proofs.RightReadLaws.{reads_right}
 use Rattle.pc_types.specs.declared.Receipt.{Receipt}
 use Rattle.pc_model.specs.Receipts.{Read, is_read, with_read, reads_by, Own, receipt_of, receipts_by, own_of, AreRight, IsReceipt, IsEarlier, AreExact}
@@ -97,61 +99,6 @@ module _ (db : Database) (s : ℕ) where
   has_read [] m = All-nil (λ (r : Read). r.1 ≡ get db r.0)
   has_read (c ∷ h) m = by_effect h (own_of s h).writes (own_of s h).reads (HasReadFrom db s h) (own_writes s h) (λ e. has_read h e) (effect c) m
 
--- a commit's legal reply
-commit_reply : (st : Setting) (h : History) (t : ℕ) (reply : Reply) → IsLegal st h (asked.Commit t) reply → (reply ≡ told.Committed (length (log_of h) + 1)) ⊎ ((r : Refusal) × (reply ≡ told.Refused r))
-commit_reply st h t reply legal = by_cause (first_refusal causes) (first_refusal_refuses causes) legal
-  where
-    causes : List (Bool × Refusal)
-    causes = transaction_causes st t h ++ (log_is_full h, why.LogFull) ∷ []
-
-    by_cause : (o : Option Reply) → IfSome o (λ due. (r : Refusal) × (due ≡ told.Refused r))
-        → MatchOption o ((reply ≡ told.Committed (length (log_of h) + 1)) ⊎ (reply ≡ told.Refused why.OutOfMemory)) (λ due. reply ≡ due)
-        → (reply ≡ told.Committed (length (log_of h) + 1)) ⊎ ((r : Refusal) × (reply ≡ told.Refused r))
-    by_cause (Some due) refuses same = inr (refuses.0, same ∙ refuses.1)
-    by_cause None refuses (inl answer) = inl answer
-    by_cause None refuses (inr out) = inr (why.OutOfMemory, out)
-
-token : (s : ℕ) (e : Entry) → ((ws : List Write) → e ≢ logged.Commit s ws) → Adds s (e ∷ [])
-token s e other = Other e other
-
-module _ (s : ℕ) (h : History) where
-  adds_begin : (t : ℕ) (r : Reply) → Adds s (entries_by (effect_of_begin t r) h)
-  adds_begin t (told.Begun n) = Nought
-  adds_begin t other = Nought
-
-  adds_get : (t : ℕ) (key : List ℕ) (r : Reply) → Adds s (entries_by (effect_of_get t key r) h)
-  adds_get t key (told.Found v) = Nought
-  adds_get t key told.Absent = Nought
-  adds_get t key told.Wait = Nought
-  adds_get t key told.Died = Nought
-  adds_get t key other = Nought
-
-  adds_write : (t : ℕ) (key : List ℕ) (value : Option (List ℕ)) (r : Reply) → Adds s (entries_by (effect_of_write t key value r) h)
-  adds_write t key value told.Ok = Nought
-  adds_write t key value told.Wait = Nought
-  adds_write t key value told.Died = Nought
-  adds_write t key value other = Nought
-
-  adds_abort : (t : ℕ) (r : Reply) → Adds s (entries_by (effect_of_abort t r) h)
-  adds_abort t told.Aborted = Nought
-  adds_abort t other = Nought
-
-  adds_move : (r : Reply) → Adds s (entries_by (effect_of_move r) h)
-  adds_move (told.Phase p n) = Other _ (λ ws is. cc (is))
-  adds_move other = Nought
-
-  adds_take : (r : Reply) → Adds s (entries_by (effect_of_take r) h)
-  adds_take (told.Took key v) = Nought
-  adds_take other = Nought
-
-  adds_done : (r : Reply) → Adds s (entries_by (effect_of_done r) h)
-  adds_done (told.PartDone p f n) = Other _ (λ ws is. cc (is))
-  adds_done other = Nought
-
-  adds_join : (a b : ℕ) (r : Reply) → Adds s (entries_by (effect_of_join a b r) h)
-  adds_join a b (told.File f ps n) = Nought
-  adds_join a b other = Nought
-
 module _ (st : Setting) (s : ℕ) (h : History) (x : AreExact st.base (log_of h) s (own_of s h).receipts) where
   abbrev Goal : Event → Reply → Type 0
   Goal e r = AreExact st.base (log_of h ++ entries_by (effect_of e r) h) s (receipts_by s e r (own_of s h))
@@ -171,23 +118,29 @@ module _ (st : Setting) (s : ℕ) (h : History) (x : AreExact st.base (log_of h)
           (exact_commit st.base (log_of h) s (own_of s h).receipts (own_of s h) (has_read (contents st.base h) s h (subst (λ (n : ℕ). HasReadFrom (contents st.base h) n h) is read)) x)
       by_case false e = more (logged.Commit t (writes_of t h) ∷ []) (Other _ (λ ws is. absurd (true≢false (sym (eq-eqb t s (cc (is))) ∙ e))))
 
+  abbrev Then : Effect → Type 0
+  Then e = Adds s (entries_by e h)
+
+  moved : (phase : Phase) (point : ℕ) → Then (Moves phase point)
+  moved phase point = Other _ (λ ws is. cc (is))
+
   exact_step : (e : Event) (r : Reply) → IsLegal st h e r → ((t : ℕ) → effect_of e r ≡ Commits t → HasReadFrom (contents st.base h) t h) → Goal e r
-  exact_step (asked.Begin t) r legal read = more _ (adds_begin s h t r)
-  exact_step (asked.Get t key) r legal read = more _ (adds_get s h t key r)
-  exact_step (asked.Put t key value) r legal read = more _ (adds_write s h t key (Some value) r)
-  exact_step (asked.Del t key) r legal read = more _ (adds_write s h t key None r)
+  exact_step (asked.Begin t) r legal read = more _ (begin_case Then Nought t r (λ counts. Nought))
+  exact_step (asked.Get t key) r legal read = more _ (get_case Then Nought t key r (λ answer counts. Nought) Nought Nought)
+  exact_step (asked.Put t key value) r legal read = more _ (write_case Then Nought t key (Some value) r (λ counts. Nought) Nought Nought)
+  exact_step (asked.Del t key) r legal read = more _ (write_case Then Nought t key None r (λ counts. Nought) Nought Nought)
   exact_step (asked.Commit t) r legal read =
-      ⊎_elim (λ (is : r ≡ told.Committed (length (log_of h) + 1)). subst (λ (q : Reply). Goal (asked.Commit t) q) (sym is) (committed t (read t (ap (effect_of_commit t) is))))
+      ⊎_elim (λ answered. subst (λ (q : Reply). Goal (asked.Commit t) q) (sym answered.1) (committed t (read t (ap (effect_of_commit t) answered.1))))
       (λ (is : (w : Refusal) × (r ≡ told.Refused w)). subst (λ (q : Reply). Goal (asked.Commit t) q) (sym is.1) (more [] Nought))
-      (commit_reply st h t r legal)
-  exact_step (asked.Abort t) r legal read = more _ (adds_abort s h t r)
-  exact_step asked.StartPoint r legal read = more _ (adds_move s h r)
-  exact_step asked.Seal r legal read = more _ (adds_move s h r)
-  exact_step asked.OpenCapture r legal read = more _ (adds_move s h r)
-  exact_step asked.Take r legal read = more _ (adds_take s h r)
-  exact_step asked.Done r legal read = more _ (adds_done s h r)
-  exact_step asked.Rest r legal read = more _ (adds_move s h r)
-  exact_step (asked.Join a b) r legal read = more _ (adds_join s h a b r)
+      (answer_or_refusal (transaction_causes st t h ++ (log_is_full h, why.LogFull) ∷ []) (r ≡ told.Committed (length (log_of h) + 1)) r legal)
+  exact_step (asked.Abort t) r legal read = more _ (abort_case Then Nought t r (λ counts. Nought))
+  exact_step asked.StartPoint r legal read = more _ (move_case Then Nought r moved)
+  exact_step asked.Seal r legal read = more _ (move_case Then Nought r moved)
+  exact_step asked.OpenCapture r legal read = more _ (move_case Then Nought r moved)
+  exact_step asked.Take r legal read = more _ (take_case Then Nought r (λ key content. Nought))
+  exact_step asked.Done r legal read = more _ (done_case Then Nought r (λ point. Other _ (λ ws is. cc (is))))
+  exact_step asked.Rest r legal read = more _ (move_case Then Nought r moved)
+  exact_step (asked.Join a b) r legal read = more _ (join_case Then Nought a b r Nought)
 
 right_now : (base : Database) (c : Step) (h : History) → HasRightReads base (c ∷ h) → (t : ℕ) → effect c ≡ Commits t → HasReadFrom (contents base h) t h
 right_now base c h right t is = subst (λ (e : Effect). RightBy base e h) is right.0

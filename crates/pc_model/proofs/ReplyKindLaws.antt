@@ -1,5 +1,5 @@
 -- Of which kind a legal reply is.
-use Rattle.std.proofs.Common.{◌≡◌, ◌⊎◌, ◌==◌, ◌+◌, not, length, ℕ, Bool, true, false, cond, List, [], ◌∷◌, ◌++◌, sym, subst, inl, inr}
+use Rattle.std.proofs.Common.{◌≡◌, ◌⊎◌, ◌==◌, ◌+◌, not, length, ℕ, Bool, true, false, cond, List, [], ◌∷◌, ◌++◌, sym, subst, ⊎_elim}
 use Rattle.std.specs.Prelude.{Option, Some, None, MatchOption, IfSome, is_none, ◌||◌}
 use Rattle.pc_types.specs.declared.Phase.{Phase}
 use Rattle.pc_types.specs.declared.Phase.TheVariants as phase
@@ -21,48 +21,22 @@ use Rattle.pc_model.specs.History.{History, is_open, begun, writes_of, number_of
 use Rattle.pc_model.specs.Points.{taken}
 use Rattle.pc_model.specs.Files.{File, shelf, file_at, join_of}
 use Rattle.pc_model.specs.Locks.{outcome, queue_of}
-use Rattle.pc_model.specs.Replies.{Setting, first_refusal, or_else, no_session, is_full, log_is_full, transaction_causes, write_causes, not_yet, wrong_phase, held_back, active_in, closed_set, is_in, is_empty, join_causes, value_read, read_reply, by_outcome, TakesFirst, IsFileReply, IsLegal}
+use Rattle.pc_model.specs.Replies.{Setting, first_refusal, or_else, no_session, is_full, log_is_full, transaction_causes, write_causes, not_yet, wrong_phase, held_back, closed_set, is_empty, join_causes, value_read, read_reply, by_outcome, TakesFirst, IsFileReply, IsLegal}
 use Rattle.pc_model.specs.ReplyKinds.{IsBeginReply, IsGetReply, IsWriteReply, IsCommitReply, IsAbortReply, IsMoveReply, IsTakeReply, IsDoneReply, IsJoinReply, IsReplyTo}
-use Rattle.pc_model.proofs.EffectLaws.{first_refusal_refuses}
+use Rattle.pc_model.proofs.CertainReplies.{answer_or_kind, by_either, by_causes, by_phase, by_count, by_held}
 
 -- where what is certain is of the kind, and so are the answer and a refusal, a legal reply is
 by_due : (Kind : Reply → Type 0) → Kind (told.Refused why.OutOfMemory) → (o : Option Reply) → IfSome o Kind → (Answer : Type 0) (reply : Reply) → (Answer → Kind reply)
     → MatchOption o (Answer ⊎ (reply ≡ told.Refused why.OutOfMemory)) (λ due. reply ≡ due) → Kind reply
-by_due Kind out (Some due) is Answer reply fits same = subst Kind (sym same) is
-by_due Kind out None is Answer reply fits (inl answer) = fits answer
-by_due Kind out None is Answer reply fits (inr memory) = subst Kind (sym memory) out
+by_due Kind out o is Answer reply fits legal = ⊎_elim (λ answered. fits answered.1) (λ kind. kind) (answer_or_kind Kind out o is Answer reply legal)
 
 -- an answer that is this one is of the kind where this one is
 as_told : (Kind : Reply → Type 0) (answer reply : Reply) → Kind answer → reply ≡ answer → Kind reply
 as_told Kind answer reply fits is = subst Kind (sym is) fits
 
 module _ (Kind : Reply → Type 0) (refused : (r : Refusal) → Kind (told.Refused r)) where
-  refuses : (o : Option Reply) → IfSome o (λ due. (r : Refusal) × (due ≡ told.Refused r)) → IfSome o Kind
-  refuses (Some due) is = subst Kind (sym is.1) (refused is.0)
-  refuses None is = tt
-
-  by_causes : (causes : List (Bool × Refusal)) → IfSome (first_refusal causes) Kind
-  by_causes causes = refuses (first_refusal causes) (first_refusal_refuses causes)
-
-  by_either : (o p : Option Reply) → IfSome o Kind → IfSome p Kind → IfSome (or_else o p) Kind
-  by_either (Some due) p is other = is
-  by_either None p is other = other
-
   legal_kind : (causes : List (Bool × Refusal)) (Answer : Type 0) (reply : Reply) → (Answer → Kind reply) → MatchOption (first_refusal causes) (Answer ⊎ (reply ≡ told.Refused why.OutOfMemory)) (λ due. reply ≡ due) → Kind reply
-  legal_kind causes = by_due Kind (refused why.OutOfMemory) (first_refusal causes) (by_causes causes)
-
-  module _ (waits : (count : ℕ) → Kind (told.NotYet count)) where
-    not_yet_kind : (count : ℕ) → IfSome (not_yet count) Kind
-    not_yet_kind count = by_case (count == 0)
-      where
-        by_case : (b : Bool) → IfSome (cond b None (Some (told.NotYet count))) Kind
-        by_case true = tt
-        by_case false = waits count
-
-    held_kind : (st : Setting) (from : Phase) (class : Class) (h : History) → IfSome (held_back st from class h) Kind
-    held_kind st from class h =
-        by_either (wrong_phase from h) (or_else (not_yet (active_in st class h)) (first_refusal ((log_is_full h, why.LogFull) ∷ []))) (by_causes ((not (is_in from h), why.WrongPhase) ∷ []))
-        (by_either (not_yet (active_in st class h)) (first_refusal ((log_is_full h, why.LogFull) ∷ [])) (not_yet_kind (active_in st class h)) (by_causes ((log_is_full h, why.LogFull) ∷ [])))
+  legal_kind causes = by_due Kind (refused why.OutOfMemory) (first_refusal causes) (by_causes Kind refused causes)
 
 read_kind : (o : Outcome) (found : Option (List ℕ)) → IsGetReply (by_outcome o (read_reply found))
 read_kind Granted None = tt
@@ -90,7 +64,7 @@ file_kind (f ∷ fs) number reply is = subst IsJoinReply (sym is) tt
 move_kind : (st : Setting) (from : Phase) (class : Class) (h : History) (to : Phase) (reply : Reply)
     → MatchOption (held_back st from class h) ((reply ≡ told.Phase to (point_of h)) ⊎ (reply ≡ told.Refused why.OutOfMemory)) (λ due. reply ≡ due) → IsMoveReply reply
 move_kind st from class h to reply =
-    by_due IsMoveReply tt (held_back st from class h) (held_kind IsMoveReply (λ r. tt) (λ count. tt) st from class h) (reply ≡ told.Phase to (point_of h)) reply (as_told IsMoveReply (told.Phase to (point_of h)) reply tt)
+    by_due IsMoveReply tt (held_back st from class h) (by_held IsMoveReply (λ r. tt) (λ count. tt) st from class h) (reply ≡ told.Phase to (point_of h)) reply (as_told IsMoveReply (told.Phase to (point_of h)) reply tt)
 
 pub reply_kind : (st : Setting) (h : History) (e : Event) (r : Reply) → IsLegal st h e r → IsReplyTo e r
 reply_kind st h (asked.Begin s) r legal =
@@ -110,22 +84,22 @@ reply_kind st h (asked.Commit s) r legal =
     legal_kind IsCommitReply (λ w. tt) (transaction_causes st s h ++ (log_is_full h, why.LogFull) ∷ []) (r ≡ answer) r (as_told IsCommitReply answer r tt) legal
 reply_kind st h (asked.Abort s) r legal =
     let causes : List (Bool × Refusal) = (no_session st s, why.NoSession) ∷ (not (is_open s h), why.NoTransaction) ∷ [] in
-    by_due IsAbortReply tt (or_else (first_refusal causes) (Some told.Aborted)) (by_either IsAbortReply (λ w. tt) (first_refusal causes) (Some told.Aborted) (by_causes IsAbortReply (λ w. tt) causes) tt) ⊥ r (λ none. absurd none) legal
+    by_due IsAbortReply tt (or_else (first_refusal causes) (Some told.Aborted)) (by_either IsAbortReply (first_refusal causes) (Some told.Aborted) (by_causes IsAbortReply (λ w. tt) causes) tt) ⊥ r (λ none. absurd none) legal
 reply_kind st h asked.StartPoint r legal =
     let causes : List (Bool × Refusal) = (point_of h == MOST_POINTS, why.PointsFull) ∷ (log_is_full h, why.LogFull) ∷ [] in
     let answer : Reply = told.Phase phase.Prepare (point_of h + 1) in
-    by_due IsMoveReply tt (or_else (wrong_phase phase.Rest h) (first_refusal causes)) (by_either IsMoveReply (λ w. tt) (wrong_phase phase.Rest h) (first_refusal causes) (by_causes IsMoveReply (λ w. tt) ((not (is_in phase.Rest h), why.WrongPhase) ∷ [])) (by_causes IsMoveReply (λ w. tt) causes)) (r ≡ answer) r (as_told IsMoveReply answer r tt) legal
+    by_due IsMoveReply tt (or_else (wrong_phase phase.Rest h) (first_refusal causes)) (by_phase IsMoveReply (λ w. tt) phase.Rest h (first_refusal causes) (by_causes IsMoveReply (λ w. tt) causes)) (r ≡ answer) r (as_told IsMoveReply answer r tt) legal
 reply_kind st h asked.Seal r legal = move_kind st phase.Prepare Before h phase.Resolve r legal
 reply_kind st h asked.OpenCapture r legal = move_kind st phase.Resolve During h phase.Capture r legal
 reply_kind st h asked.Take r legal =
     let none : Option Reply = cond (is_empty (closed_set h)) (Some told.NoneLeft) None in
-    by_due IsTakeReply tt (or_else (wrong_phase phase.Capture h) none) (by_either IsTakeReply (λ w. tt) (wrong_phase phase.Capture h) none (by_causes IsTakeReply (λ w. tt) ((not (is_in phase.Capture h), why.WrongPhase) ∷ [])) (none_left_kind (is_empty (closed_set h)))) (TakesFirst (closed_set h) r) r (took_kind (closed_set h) r) legal
+    by_due IsTakeReply tt (or_else (wrong_phase phase.Capture h) none) (by_phase IsTakeReply (λ w. tt) phase.Capture h none (none_left_kind (is_empty (closed_set h)))) (TakesFirst (closed_set h) r) r (took_kind (closed_set h) r) legal
 reply_kind st h asked.Done r legal =
     let causes : List (Bool × Refusal) = (length (shelf st.run h) == MOST_FILES, why.ShelfFull) ∷ (log_is_full h, why.LogFull) ∷ [] in
     let answer : Reply = told.PartDone (point_of h) (length (shelf st.run h) + 1) (length (taken h)) in
     let later : Option Reply = or_else (not_yet (length (closed_set h))) (first_refusal causes) in
     by_due IsDoneReply tt (or_else (wrong_phase phase.Capture h) later)
-    (by_either IsDoneReply (λ w. tt) (wrong_phase phase.Capture h) later (by_causes IsDoneReply (λ w. tt) ((not (is_in phase.Capture h), why.WrongPhase) ∷ [])) (by_either IsDoneReply (λ w. tt) (not_yet (length (closed_set h))) (first_refusal causes) (not_yet_kind IsDoneReply (λ w. tt) (λ count. tt) (length (closed_set h))) (by_causes IsDoneReply (λ w. tt) causes))) (r ≡ answer) r (as_told IsDoneReply answer r tt) legal
+    (by_phase IsDoneReply (λ w. tt) phase.Capture h later (by_count IsDoneReply (λ w. tt) (λ count. tt) (length (closed_set h)) (first_refusal causes) (by_causes IsDoneReply (λ w. tt) causes))) (r ≡ answer) r (as_told IsDoneReply answer r tt) legal
 reply_kind st h asked.Rest r legal = move_kind st phase.Complete After h phase.Rest r legal
 reply_kind st h (asked.Join a b) r legal =
     let x = file_at (shelf st.run h) a in

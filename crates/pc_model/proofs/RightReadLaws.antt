@@ -27,7 +27,9 @@ use Rattle.pc_model.specs.Reads.{HasRightReads, HasReadFrom, ReadBy, RightBy}
 use Rattle.pc_model.specs.Standing.{HasLegalEffects}
 use Rattle.pc_model.specs.Replies.{Setting, first_refusal, or_else, transaction_causes, write_causes, too_many, is_full, log_is_full, no_session, read_reply, value_read, by_outcome, Answers, IsLegal, IsLegalHistory}
 use Rattle.pc_model.proofs.EffectLaws.{refused_does_nothing, first_refusal_refuses, no_first, no_other}
-use Rattle.pc_model.proofs.LegalEffectLaws.{legal_has_legal_effects}
+use Rattle.pc_model.proofs.EffectCases.{move_case, take_case, done_case, join_case}
+use Rattle.pc_model.proofs.CertainReplies.{answer_or_refusal}
+use Rattle.pc_model.proofs.LegalEffectLaws.{turned, legal_has_legal_effects}
 use Rattle.pc_model.proofs.LogLaws.{after-append}
 use Rattle.pc_model.proofs.WrittenKeyLaws.{unwritten_stays}
 use Rattle.pc_model.proofs.Holding.{alone}
@@ -45,24 +47,9 @@ IsAnswer base history other = ⊤
 abbrev IsSound : Database → History → Effect → Type 0
 IsSound base history e = IsAllowed history e × IsAnswer base history e
 
--- a legal reply is a refusal, or the answer where no cause stands, for events that are only refused or answered
-refused_or_answer : (causes : List (Bool × Refusal)) (Answer : Type 0) (reply : Reply) → MatchOption (first_refusal causes) (Answer ⊎ (reply ≡ told.Refused why.OutOfMemory)) (λ due. reply ≡ due) →
-    ((r : Refusal) × (reply ≡ told.Refused r)) ⊎ ((first_refusal causes ≡ None) × Answer)
-refused_or_answer causes Answer reply legal = by_cause (first_refusal causes) refl (first_refusal_refuses causes) legal
-  where
-    by_cause : (o : Option Reply) → first_refusal causes ≡ o → IfSome o (λ due. (r : Refusal) × (due ≡ told.Refused r)) → MatchOption o (Answer ⊎ (reply ≡ told.Refused why.OutOfMemory)) (λ due. reply ≡ due) →
-        ((r : Refusal) × (reply ≡ told.Refused r)) ⊎ ((first_refusal causes ≡ None) × Answer)
-    by_cause (Some due) is refuses same = inl (refuses.0, same ∙ refuses.1)
-    by_cause None is refuses (inl answer) = inr (is, answer)
-    by_cause None is refuses (inr out) = inl (why.OutOfMemory, out)
-
 -- a refusal is sound
 refused_sound : (base : Database) (history : History) (event : Event) (reply : Reply) → ((r : Refusal) × (reply ≡ told.Refused r)) → IsSound base history (effect_of event reply)
 refused_sound base history event reply refused = let P : Effect → Type 0 = IsSound base history in subst P (sym (ap (effect_of event) refused.1 ∙ refused_does_nothing event refused.0)) (tt, tt)
-
-turned : (b : Bool) → not b ≡ false → b ≡ true
-turned true e = refl
-turned false e = cc
 
 module _ (st : Setting) (history : History) where
   -- where no cause of a transaction's refusals stands, it may ask
@@ -91,10 +78,10 @@ module _ (st : Setting) (history : History) where
   begin_sound s reply legal =
       let full : List (Bool × Refusal) = (eqb (begun history) 1099511627776, why.LogFull) ∷ [] in
       let opened : List (Bool × Refusal) = (is_open s history, why.AlreadyBegun) ∷ full in
-      elim (refused_or_answer ((no_session st s, why.NoSession) ∷ opened) (Answers st history (asked.Begin s) reply) reply legal) [
-        | inl refused ↦ refused_sound st.base history (asked.Begin s) reply refused
-        | inr answered ↦ let P : Reply → Type 0 = (λ r. IsSound st.base history (effect_of (asked.Begin s) r)) in
+      elim (answer_or_refusal ((no_session st s, why.NoSession) ∷ opened) (Answers st history (asked.Begin s) reply) reply legal) [
+        | inl answered ↦ let P : Reply → Type 0 = (λ r. IsSound st.base history (effect_of (asked.Begin s) r)) in
             subst P (sym answered.1) (no_first (is_open s history, why.AlreadyBegun) full (no_other (no_session st s, why.NoSession) opened answered.0), tt)
+        | inr refused ↦ refused_sound st.base history (asked.Begin s) reply refused
       ]
 
   abort_sound : (s : ℕ) (reply : Reply) → IsLegal st history (asked.Abort s) reply → IsSound st.base history (effect_of (asked.Abort s) reply)
@@ -114,59 +101,43 @@ module _ (st : Setting) (history : History) where
           opened : first_refusal ((no_session st s, why.NoSession) ∷ (not (is_open s history), why.NoTransaction) ∷ []) ≡ None → is_open s history ≡ true
           opened none = turned (is_open s history) (no_first (not (is_open s history), why.NoTransaction) [] (no_other (no_session st s, why.NoSession) ((not (is_open s history), why.NoTransaction) ∷ []) none))
 
-  move_sound : (reply : Reply) → IsSound st.base history (effect_of asked.Seal reply)
-  move_sound (told.Phase phase point) = (tt, tt)
-  move_sound other = (tt, tt)
-
-  take_sound : (reply : Reply) → IsSound st.base history (effect_of asked.Take reply)
-  take_sound (told.Took key value) = (tt, tt)
-  take_sound other = (tt, tt)
-
-  done_sound : (reply : Reply) → IsSound st.base history (effect_of asked.Done reply)
-  done_sound (told.PartDone point file entries) = (tt, tt)
-  done_sound other = (tt, tt)
-
-  join_sound : (a b : ℕ) (reply : Reply) → IsSound st.base history (effect_of (asked.Join a b) reply)
-  join_sound a b (told.File file points entries) = (tt, tt)
-  join_sound a b other = (tt, tt)
-
   -- a write that was legally answered
   written_sound : (s : ℕ) (key : List ℕ) (content : Option (List ℕ)) (event : Event) (reply : Reply) →
       ((r : Reply) → effect_of event r ≡ effect_of_write s key content r) →
       MatchOption (first_refusal (write_causes st s key history)) ((reply ≡ by_outcome (outcome (queue_of key history) (number_of s history) Exclusive) told.Ok) ⊎ (reply ≡ told.Refused why.OutOfMemory)) (λ due. reply ≡ due) →
       IsSound st.base history (effect_of event reply)
   written_sound s key content event reply same legal =
-      elim (refused_or_answer (write_causes st s key history) (reply ≡ by_outcome (outcome (queue_of key history) (number_of s history) Exclusive) told.Ok) reply legal) [
-        | inl refused ↦ refused_sound st.base history event reply refused
-        | inr answered ↦ let P : Effect → Type 0 = IsSound st.base history in
+      elim (answer_or_refusal (write_causes st s key history) (reply ≡ by_outcome (outcome (queue_of key history) (number_of s history) Exclusive) told.Ok) reply legal) [
+        | inl answered ↦ let P : Effect → Type 0 = IsSound st.base history in
             let may = may_ask s ((too_many s key history, why.TooManyWrites) ∷ (is_full st key history, why.Full) ∷ []) answered.0 in
             subst P (sym (ap (effect_of event) answered.1 ∙ same (by_outcome (outcome (queue_of key history) (number_of s history) Exclusive) told.Ok)))
             (write_sound s key content (outcome (queue_of key history) (number_of s history) Exclusive) may refl)
+        | inr refused ↦ refused_sound st.base history event reply refused
       ]
 
   legal_sound : (event : Event) (reply : Reply) → IsLegal st history event reply → IsSound st.base history (effect_of event reply)
   legal_sound (asked.Begin s) reply legal = begin_sound s reply legal
-  legal_sound (asked.Get s key) reply legal = elim (refused_or_answer (transaction_causes st s history ++ (is_full st key history, why.Full) ∷ []) (Answers st history (asked.Get s key) reply) reply legal) [
-    | inl refused ↦ refused_sound st.base history (asked.Get s key) reply refused
-    | inr answered ↦ let P : Reply → Type 0 = (λ r. IsSound st.base history (effect_of (asked.Get s key) r)) in
+  legal_sound (asked.Get s key) reply legal = elim (answer_or_refusal (transaction_causes st s history ++ (is_full st key history, why.Full) ∷ []) (Answers st history (asked.Get s key) reply) reply legal) [
+    | inl answered ↦ let P : Reply → Type 0 = (λ r. IsSound st.base history (effect_of (asked.Get s key) r)) in
         subst P (sym answered.1) (read_sound s key (outcome (queue_of key history) (number_of s history) Shared) (value_read (written (writes_of s history) key) (get (contents st.base history) key))
         (may_ask s ((is_full st key history, why.Full) ∷ []) answered.0) refl refl)
+    | inr refused ↦ refused_sound st.base history (asked.Get s key) reply refused
   ]
   legal_sound (asked.Put s key value) reply legal = written_sound s key (Some value) (asked.Put s key value) reply (λ r. refl) legal
   legal_sound (asked.Del s key) reply legal = written_sound s key None (asked.Del s key) reply (λ r. refl) legal
-  legal_sound (asked.Commit s) reply legal = elim (refused_or_answer (transaction_causes st s history ++ (log_is_full history, why.LogFull) ∷ []) (Answers st history (asked.Commit s) reply) reply legal) [
-    | inl refused ↦ refused_sound st.base history (asked.Commit s) reply refused
-    | inr answered ↦ let P : Reply → Type 0 = (λ r. IsSound st.base history (effect_of (asked.Commit s) r)) in
+  legal_sound (asked.Commit s) reply legal = elim (answer_or_refusal (transaction_causes st s history ++ (log_is_full history, why.LogFull) ∷ []) (Answers st history (asked.Commit s) reply) reply legal) [
+    | inl answered ↦ let P : Reply → Type 0 = (λ r. IsSound st.base history (effect_of (asked.Commit s) r)) in
         subst P (sym answered.1) ((may_ask s ((log_is_full history, why.LogFull) ∷ []) answered.0).0, tt)
+    | inr refused ↦ refused_sound st.base history (asked.Commit s) reply refused
   ]
   legal_sound (asked.Abort s) reply legal = abort_sound s reply legal
-  legal_sound asked.StartPoint reply legal = move_sound reply
-  legal_sound asked.Seal reply legal = move_sound reply
-  legal_sound asked.OpenCapture reply legal = move_sound reply
-  legal_sound asked.Take reply legal = take_sound reply
-  legal_sound asked.Done reply legal = done_sound reply
-  legal_sound asked.Rest reply legal = move_sound reply
-  legal_sound (asked.Join a b) reply legal = join_sound a b reply
+  legal_sound asked.StartPoint reply legal = move_case (IsSound st.base history) (tt, tt) reply (λ phase point. (tt, tt))
+  legal_sound asked.Seal reply legal = move_case (IsSound st.base history) (tt, tt) reply (λ phase point. (tt, tt))
+  legal_sound asked.OpenCapture reply legal = move_case (IsSound st.base history) (tt, tt) reply (λ phase point. (tt, tt))
+  legal_sound asked.Take reply legal = take_case (IsSound st.base history) (tt, tt) reply (λ key content. (tt, tt))
+  legal_sound asked.Done reply legal = done_case (IsSound st.base history) (tt, tt) reply (λ point. (tt, tt))
+  legal_sound asked.Rest reply legal = move_case (IsSound st.base history) (tt, tt) reply (λ phase point. (tt, tt))
+  legal_sound (asked.Join a b) reply legal = join_case (IsSound st.base history) (tt, tt) a b reply (tt, tt)
 
 effect_sound : (st : Setting) (history : History) (step : Step) → (IsLegal st history step.event step.reply ⊎ (effect step ≡ Nothing)) → IsSound st.base history (effect step)
 effect_sound st history step (inl legal) = legal_sound st history step.event step.reply legal
