@@ -11,18 +11,18 @@ use Rattle.pc_types.specs.declared.Entry.TheVariants.{Commit, Token}
 use Rattle.pc_types.specs.declared.Event.{Event}
 use Rattle.pc_types.specs.declared.Event.TheVariants as asked
 use Rattle.pc_types.specs.declared.Reply.{Reply}
-use Rattle.pc_types.specs.declared.Reply.TheVariants as told
 use Rattle.pc_types.specs.declared.Refusal.TheVariants as why
 use Rattle.pc_types.specs.declared.Phase.{Phase}
 use Rattle.pc_types.specs.declared.Phase.TheVariants.{Rest, Prepare, Resolve, Capture, Complete}
 use Rattle.pc_types.specs.declared.Class.TheVariants.{Before, During, After}
 use Rattle.pc_types.specs.Limits.{IsKey, IsValue}
-use Rattle.pc_model.specs.History.{History, Effect, effect, effect_of, effect_of_write, effect_of_commit, log_of, entries_by, phase_of, phase_by, point_of, point_by, writes_of, writes_by, is_open, has_died}
+use Rattle.pc_model.specs.History.{History, Effect, effect, effect_of, log_of, entries_by, phase_of, phase_by, point_of, point_by, writes_of, writes_by, is_open, has_died}
 use Rattle.pc_model.specs.History.Effect.{Begins, Reads, Writes, Waits, Dies, Commits, Aborts, Moves, Takes, Shelves, Joins, Nothing}
 use Rattle.pc_model.specs.Database.{written, with_write}
 use Rattle.pc_model.specs.Replies.{Setting, certain, Answers, IsLegal, first_refusal, no_session, is_in, log_is_full, too_many, is_full, write_causes, transaction_causes, wrong_phase}
 use Rattle.pc_model.specs.Standing.{HasLegalEffects}
 use Rattle.pc_model.specs.Limits.{IsInLimits, AreInLimits}
+use Rattle.pc_model.proofs.EffectCases.{begin_case, get_case, write_case, commit_case, abort_case, take_case, done_case, join_case}
 use Rattle.pc_model.proofs.EffectLaws.{no_first, no_other}
 use Rattle.pc_model.proofs.LegalEffectLaws.{settled, causes_idle, or_else_idle, or_else_none, held_back_idle, is_a_session, effect_fits}
 use Rattle.pc_model.specs.LegalEffects.{Fits, FitsMove, IsIdle}
@@ -49,12 +49,6 @@ module _ (st : Setting) (h : History) (few : st.sessions ≤ 64) where
   idle_lawful : (event : Event) (reply : Reply) → IsIdle reply → IsLawful h (effect_of event reply)
   idle_lawful event reply idle = let P : Effect → Type 0 = IsLawful h in subst P (sym (idle event)) tt
 
-  write_lawful : (s : ℕ) (key : List ℕ) (content : Option (List ℕ)) (reply : Reply) → IsLawful h (Writes s key content) → IsLawful h (effect_of_write s key content reply)
-  write_lawful s key content told.Ok is = is
-  write_lawful s key content told.Wait is = tt
-  write_lawful s key content told.Died is = tt
-  write_lawful s key content other is = tt
-
   not_too_many : (s : ℕ) (key : List ℕ) → first_refusal (write_causes st s key h) ≡ None → too_many s key h ≡ false
   not_too_many s key none =
       let full = (is_full st key h, why.Full) ∷ [] in
@@ -65,56 +59,27 @@ module _ (st : Setting) (h : History) (few : st.sessions ≤ 64) where
       no_first (too_many s key h, why.TooManyWrites) full (no_other (has_died s h, why.MustAbort) many (no_other (is_waiting s h, why.StillWaiting) died
       (no_other (not (is_open s h), why.NoTransaction) waits (no_other (no_session st s, why.NoSession) closed none))))
 
-  commit_lawful : (s : ℕ) (reply : Reply) → no_session st s ≡ false → IsLawful h (effect_of_commit s reply)
-  commit_lawful s (told.Committed lsn) is = let session = is_a_session st h s is in (session.0, omega (arith, session.1, few))
-  commit_lawful s other is = tt
-
-  begin_lawful : (s : ℕ) (reply : Reply) → IsLawful h (effect_of (asked.Begin s) reply)
-  begin_lawful s (told.Begun t) = tt
-  begin_lawful s other = tt
-
-  get_lawful : (s : ℕ) (key : List ℕ) (reply : Reply) → IsLawful h (effect_of (asked.Get s key) reply)
-  get_lawful s key (told.Found value) = tt
-  get_lawful s key told.Absent = tt
-  get_lawful s key told.Wait = tt
-  get_lawful s key told.Died = tt
-  get_lawful s key other = tt
-
-  abort_lawful : (s : ℕ) (reply : Reply) → IsLawful h (effect_of (asked.Abort s) reply)
-  abort_lawful s told.Aborted = tt
-  abort_lawful s other = tt
-
-  take_lawful : (reply : Reply) → IsLawful h (effect_of asked.Take reply)
-  take_lawful (told.Took key value) = tt
-  take_lawful other = tt
-
-  done_lawful : (reply : Reply) → IsLawful h (effect_of asked.Done reply)
-  done_lawful (told.PartDone point file entries) = tt
-  done_lawful other = tt
-
-  join_lawful : (a b : ℕ) (reply : Reply) → IsLawful h (effect_of (asked.Join a b) reply)
-  join_lawful a b (told.File file points entries) = tt
-  join_lawful a b other = tt
-
   legal_lawful : (event : Event) (reply : Reply) → IsLegal st h event reply → IsInLimits event → IsLawful h (effect_of event reply)
-  legal_lawful (asked.Begin s) reply legal limits = begin_lawful s reply
-  legal_lawful (asked.Get s key) reply legal limits = get_lawful s key reply
+  legal_lawful (asked.Begin s) reply legal limits = begin_case (IsLawful h) tt s reply (λ counts. tt)
+  legal_lawful (asked.Get s key) reply legal limits = get_case (IsLawful h) tt s key reply (λ answer counts. tt) tt tt
   legal_lawful (asked.Put s key value) reply legal limits =
       elim (settled (certain st h (asked.Put s key value)) (Answers st h (asked.Put s key value) reply) reply (causes_idle (write_causes st s key h)) legal) [
-        | inl answered ↦ write_lawful s key (Some value) reply (not_too_many s key answered.0, limits.0, limits.1)
+        | inl answered ↦ write_case (IsLawful h) tt s key (Some value) reply (λ counts. (not_too_many s key answered.0, limits.0, limits.1)) tt tt
         | inr idle ↦ idle_lawful (asked.Put s key value) reply idle
       ]
   legal_lawful (asked.Del s key) reply legal limits =
       elim (settled (certain st h (asked.Del s key)) (Answers st h (asked.Del s key) reply) reply (causes_idle (write_causes st s key h)) legal) [
-        | inl answered ↦ write_lawful s key None reply (not_too_many s key answered.0, limits, tt)
+        | inl answered ↦ write_case (IsLawful h) tt s key None reply (λ counts. (not_too_many s key answered.0, limits, tt)) tt tt
         | inr idle ↦ idle_lawful (asked.Del s key) reply idle
       ]
   legal_lawful (asked.Commit s) reply legal limits =
       elim (settled (certain st h (asked.Commit s)) (Answers st h (asked.Commit s) reply) reply (causes_idle (transaction_causes st s h ++ (log_is_full h, why.LogFull) ∷ [])) legal) [
-        | inl answered ↦ commit_lawful s reply (no_first (no_session st s, why.NoSession) ((not (is_open s h), why.NoTransaction) ∷ (is_waiting s h, why.StillWaiting) ∷ (has_died s h, why.MustAbort) ∷ (log_is_full h, why.LogFull) ∷ []) answered.0)
+        | inl answered ↦
+            let session = is_a_session st h s (no_first (no_session st s, why.NoSession) ((not (is_open s h), why.NoTransaction) ∷ (is_waiting s h, why.StillWaiting) ∷ (has_died s h, why.MustAbort) ∷ (log_is_full h, why.LogFull) ∷ []) answered.0) in
+            commit_case (IsLawful h) tt s reply (λ counts. (session.0, omega (arith, session.1, few)))
         | inr idle ↦ idle_lawful (asked.Commit s) reply idle
       ]
-  legal_lawful (asked.Abort s) reply legal limits = abort_lawful s reply
+  legal_lawful (asked.Abort s) reply legal limits = abort_case (IsLawful h) tt s reply (λ counts. tt)
   legal_lawful asked.StartPoint reply legal limits =
       elim (settled (certain st h asked.StartPoint) (Answers st h asked.StartPoint reply) reply
       (or_else_idle (wrong_phase Rest h) _ (causes_idle ((not (is_in Rest h), why.WrongPhase) ∷ [])) (causes_idle ((eqb (point_of h) 65535, why.PointsFull) ∷ (log_is_full h, why.LogFull) ∷ []))) legal) [
@@ -133,14 +98,14 @@ module _ (st : Setting) (h : History) (few : st.sessions ≤ 64) where
         | inl answered ↦ let P : Reply → Type 0 = (λ r. IsLawful h (effect_of asked.OpenCapture r)) in subst P (sym answered.1) tt
         | inr idle ↦ idle_lawful asked.OpenCapture reply idle
       ]
-  legal_lawful asked.Take reply legal limits = take_lawful reply
-  legal_lawful asked.Done reply legal limits = done_lawful reply
+  legal_lawful asked.Take reply legal limits = take_case (IsLawful h) tt reply (λ key content. tt)
+  legal_lawful asked.Done reply legal limits = done_case (IsLawful h) tt reply (λ point. tt)
   legal_lawful asked.Rest reply legal limits =
       elim (settled (certain st h asked.Rest) (Answers st h asked.Rest reply) reply (held_back_idle st Complete After h) legal) [
         | inl answered ↦ let P : Reply → Type 0 = (λ r. IsLawful h (effect_of asked.Rest r)) in subst P (sym answered.1) tt
         | inr idle ↦ idle_lawful asked.Rest reply idle
       ]
-  legal_lawful (asked.Join a b) reply legal limits = join_lawful a b reply
+  legal_lawful (asked.Join a b) reply legal limits = join_case (IsLawful h) tt a b reply tt
 
   pub effect_lawful : (event : Event) (reply : Reply) → IsLegal st h event reply ⊎ (effect_of event reply ≡ Nothing) → IsInLimits event → IsLawful h (effect_of event reply)
   effect_lawful event reply (inl legal) limits = legal_lawful event reply legal limits
