@@ -1,19 +1,21 @@
 -- The text of a part file that is cut off.
-use Rattle.std.proofs.Common.{◌≡◌, ℕ, zero, suc, ◌+◌, ◌<◌, ◌≤◌, List, [], ◌∷◌, ◌++◌, length, take, Ok, Err, refl, arith}
+use Rattle.std.proofs.Common.{◌≡◌, ℕ, zero, suc, ◌<◌, ◌≤◌, List, [], ◌∷◌, ◌++◌, length, take, Ok, Err, refl, arith}
 use Rattle.std.proofs.lemmas.List.{length-append}
 use Rattle.std.specs.Prelude.{◌==◌, nat_lt}
-use Rattle.std.specs.Int.{w16, w32, w64}
-use Rattle.pc_types.specs.declared.Refusal.TheVariants.{Short, BadRanges, BadLength}
-use Rattle.pc_types.specs.Fields.{number_at, magic_at, sized_key_at, content_at}
-use Rattle.pc_types.proofs.CutFieldLaws.{IsCut, ReadsAlike, Never, short_is_cut, cut_behind, cut_then, cut_where, cut_tested, cut_either, cut_end, cut_is_short, number_cut, magic_cut, sized_key_cut, content_cut}
+use Rattle.std.specs.Int.{w16, w32}
+use Rattle.pc_types.specs.declared.Refusal.TheVariants.{Short, BadLength}
+use Rattle.pc_types.specs.Fields.{number_at, sized_key_at, content_at}
+use Rattle.pc_types.proofs.CutFieldLaws.{IsCut, ReadsAlike, Never, short_is_cut, cut_then, cut_where, cut_tested, cut_either, cut_end, cut_is_short, number_cut, sized_key_cut, content_cut}
 use Rattle.pc_types.proofs.FieldLaws.{bind_ok}
 use Rattle.pc_model.specs.Files.{File}
 use Rattle.pc_part.specs.declared.ranges.Range.{Range}
 use Rattle.pc_part.specs.Lawful.{IsPartFile}
 use Rattle.pc_part.specs.Reading.{range_at, ranges_at, next_key_at, point_at, entry_at, entries_at, PartFields, part_fields_at, part_of_fields, part_at}
 use Rattle.pc_part.specs.Texts.{part_magic, part_text}
+use Rattle.pc_part.proofs.CutHeadLaws.{head_cut}
+use Rattle.pc_part.proofs.ItemLaws.{items_cut}
 use Rattle.pc_part.proofs.PartFileLaws.{part_again}
-use Rattle.pc_part.proofs.ReadParts.{after_magic, after_run, after_count, after_some, after_ranges, after_entries, after_total, after_rest}
+use Rattle.pc_part.proofs.ReadParts.{after_some, after_ranges, after_entries, after_total, after_rest}
 
 range_cut : (least : ℕ) (bytes more : List ℕ) → IsCut (ReadsAlike more) (range_at least (bytes ++ more)) (range_at least bytes)
 unfolding range_at
@@ -21,14 +23,6 @@ range_cut least bytes more =
     cut_then more (ReadsAlike more) (number_at Short w32 (bytes ++ more)) (number_at Short w32 bytes) _ _ (number_cut w32 bytes more) (λ low rest.
     cut_then more (ReadsAlike more) (number_at Short w32 (rest ++ more)) (number_at Short w32 rest) _ _ (number_cut w32 rest more) (λ high left.
     cut_tested (ReadsAlike more) _ _ _ _ (refl, refl)))
-
-ranges_cut : (count least : ℕ) (bytes more : List ℕ) → IsCut (ReadsAlike more) (ranges_at count least (bytes ++ more)) (ranges_at count least bytes)
-unfolding ranges_at
-ranges_cut zero least bytes more = (refl, refl)
-ranges_cut (suc count) least bytes more =
-    cut_then more (ReadsAlike more) (range_at least (bytes ++ more)) (range_at least bytes) _ _ (range_cut least bytes more) (λ first rest.
-    cut_then more (ReadsAlike more) (ranges_at count (first.high + 2) (rest ++ more)) (ranges_at count (first.high + 2) rest) _ _ (ranges_cut count (first.high + 2) rest more) (λ others left.
-    (refl, refl)))
 
 pub next_key_cut : (last : List ℕ) (count : ℕ) (bytes more : List ℕ) → IsCut (ReadsAlike more) (next_key_at last count (bytes ++ more)) (next_key_at last count bytes)
 unfolding next_key_at
@@ -68,15 +62,12 @@ unfolding part_fields_at
 fields_cut bytes byte rest =
     let more = byte ∷ rest in
     let Q = Never {X = PartFields} in
-    cut_behind more Q (magic_at part_magic (bytes ++ more)) (magic_at part_magic bytes) after_magic after_magic (magic_cut part_magic bytes more) (λ start.
-    cut_then more Q (number_at Short w64 (start ++ more)) (number_at Short w64 start) after_run after_run (number_cut w64 start more) (λ run r1.
-    cut_then more Q (number_at Short w32 (r1 ++ more)) (number_at Short w32 r1) (after_count run) (after_count run) (number_cut w32 r1 more) (λ count r2.
-    cut_where Q (nat_lt 0 count) BadRanges count count (after_some run (r2 ++ more)) (after_some run r2) (
-    cut_then more Q (ranges_at count 1 (r2 ++ more)) (ranges_at count 1 r2) (after_ranges run) (after_ranges run) (ranges_cut count 1 r2 more) (λ ranges r3.
+    head_cut part_magic (λ count. nat_lt 0 count) (λ run count left. after_some run left count) Q more (λ run count r2.
+    cut_then more Q (ranges_at count 1 (r2 ++ more)) (ranges_at count 1 r2) (after_ranges run) (after_ranges run) (items_cut _ _ more (λ least left. range_cut least left more) count 1 r2) (λ ranges r3.
     cut_then more Q (entries_at (length (r3 ++ more)) ranges [] (r3 ++ more)) (entries_at (length r3) ranges [] r3) (after_entries run ranges) (after_entries run ranges) (entries_cut (length (r3 ++ more)) (length r3) ranges [] r3 more (omega (arith, length-append r3 more))) (λ entries r4.
     cut_then more Q (number_at Short w32 (r4 ++ more)) (number_at Short w32 r4) (after_total run ranges entries) (after_total run ranges entries) (number_cut w32 r4 more) (λ total r5.
     cut_where Q (total == length entries) BadLength (r5 ++ more) r5 (after_rest run ranges entries) (after_rest run ranges entries) (
-    cut_end r5 byte rest (record { run = run; ranges = ranges; entries = entries }) (after_rest run ranges entries r5)))))))))
+    cut_end r5 byte rest (record { run = run; ranges = ranges; entries = entries }) (after_rest run ranges entries r5)))))) bytes
 
 pub part_cut : (file : File) (n : ℕ) → IsPartFile file → n < length (part_text file) → part_at (take n (part_text file)) ≡ Err Short
 part_cut file n lawful lt =

@@ -3,8 +3,10 @@ mod BaseTexts
 mod CompleteParts
 mod CoveringRanges
 pub mod CutBaseLaws
+mod CutHeadLaws
 pub mod CutPartLaws
 pub mod GapLaws
+mod ItemLaws
 mod JoinLemmas
 mod JoinedFiles
 mod JoinedLists

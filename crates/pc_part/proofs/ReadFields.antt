@@ -21,6 +21,7 @@ use Rattle.pc_part.specs.Lawful.{HasLimits, IsPair}
 use Rattle.pc_part.specs.Parts.{RangesFrom, covers}
 use Rattle.pc_part.specs.Reading.{range_at, ranges_at, next_key_at, point_at, entry_at, entries_at, pair_at, pairs_at}
 use Rattle.pc_part.specs.Texts.{bounds_text, triple_text, pair_text}
+use Rattle.pc_part.proofs.ItemLaws.{items_take, items_again}
 use Rattle.pc_part.proofs.ReadLists.{range_steps, covered_fits}
 
 abbrev Pair : Type 0
@@ -28,12 +29,12 @@ Pair = List ℕ × List ℕ
 
 -- ---- ranges
 
-range_takes : (least : ℕ) (bytes : List ℕ) (x : Range × List ℕ) → IsBytes bytes → range_at least bytes ≡ Ok x → Takes bytes (bounds_text x.0) x.1
+range_takes : (least : ℕ) (bytes : List ℕ) (x : Range × List ℕ) → IsBytes bytes → range_at least bytes ≡ Ok x → Takes bytes (bounds_text x.0) x.1 × (least ≤ x.0.low) × (x.0.low ≤ x.0.high) × (x.0.high ≤ 65535)
 range_takes least bytes x fits e =
     let s = range_steps least bytes x e in
     let low = number_takes Short w32 (2 ^ 32) wide32 bytes x.0.low s.0 fits s.1 in
     let high = number_takes Short w32 (2 ^ 32) wide32 s.0 x.0.high x.1 low.0.rest_fits s.2 in
-    Takes-then bytes (to_be_bytes w32 x.0.low) s.0 (to_be_bytes w32 x.0.high) x.1 low.0 high.0
+    (Takes-then bytes (to_be_bytes w32 x.0.low) s.0 (to_be_bytes w32 x.0.high) x.1 low.0 high.0, s.3, s.4, s.5)
 
 range_again : (least : ℕ) (r : Range) (rest : List ℕ) → least ≤ r.low → r.low ≤ r.high → r.high ≤ 65535 → range_at least (bounds_text r ++ rest) ≡ Ok (r, rest)
 unfolding range_at
@@ -43,24 +44,12 @@ range_again least r rest from ends limit =
     let lawful : (nat_le least r.low && nat_le r.low r.high && nat_le r.high 65535) ≡ true = grind (arith, nat_tests) in
     rw (low, number_again Short w32 (2 ^ 32) wide32 r.high rest (omega arith), lawful) refl
 
-pub ranges_take : (count least : ℕ) (bytes : List ℕ) (x : List Range × List ℕ) → IsBytes bytes → ranges_at count least bytes ≡ Ok x → Takes bytes (flat_map bounds_text x.0) x.1
-unfolding ranges_at
-ranges_take zero least bytes x fits e = subst (λ (y : List Range × List ℕ). Takes bytes (flat_map bounds_text y.0) y.1) (ok_is ([], bytes) x e) (record { parts = refl; rest_fits = fits })
-ranges_take (suc count) least bytes x fits e =
-    let a = bind_ok (range_at least bytes) (λ first. ranges_at count (first.0.high + 2) first.1 >>= λ others. Ok (first.0 ∷ others.0, others.1)) x e in
-    let b = bind_ok (ranges_at count (a.0.0.high + 2) a.0.1) (λ others. Ok (a.0.0 ∷ others.0, others.1)) x a.2 in
-    let first = range_takes least bytes a.0 fits a.1 in
-    let others = ranges_take count (a.0.0.high + 2) a.0.1 b.0 first.rest_fits b.1 in
-    let made : List Range × List ℕ = (a.0.0 ∷ b.0.0, b.0.1) in
-    subst (λ (y : List Range × List ℕ). Takes bytes (flat_map bounds_text y.0) y.1) {x = made} (ok_is made x b.2)
-    (rw flat_map-cons (Takes-then bytes (bounds_text a.0.0) a.0.1 (flat_map bounds_text b.0.0) b.0.1 first others))
+-- ranges that were read are those of the text, as many as asked for, and rise with gaps between them
+pub ranges_take : (count least : ℕ) (bytes : List ℕ) (x : List Range × List ℕ) → IsBytes bytes → ranges_at count least bytes ≡ Ok x → Takes bytes (flat_map bounds_text x.0) x.1 × (length x.0 ≡ count) × RangesFrom least x.0
+ranges_take = items_take _ _ bounds_text RangesFrom (λ least. tt) (λ least bytes x fits e. let taken = range_takes least bytes x fits e in (taken.0, λ others rise. (taken.1, taken.2, taken.3, rise)))
 
 pub ranges_again : (least : ℕ) (ranges : List Range) (rest : List ℕ) → RangesFrom least ranges → ranges_at (length ranges) least (flat_map bounds_text ranges ++ rest) ≡ Ok (ranges, rest)
-unfolding ranges_at
-ranges_again least [] rest h = refl
-ranges_again least (r ∷ ranges) rest h =
-    let parts : flat_map bounds_text (r ∷ ranges) ++ rest ≡ bounds_text r ++ (flat_map bounds_text ranges ++ rest) = ap (λ (t : List ℕ). t ++ rest) (flat_map-cons bounds_text r ranges) ∙ append_assoc (bounds_text r) (flat_map bounds_text ranges) rest in
-    ap (ranges_at (suc (length ranges)) least) parts ∙ rw (range_again least r (flat_map bounds_text ranges ++ rest) h.0 h.1 h.2, ranges_again (r.high + 2) ranges rest h.3) refl
+ranges_again = items_again _ _ bounds_text RangesFrom (λ least r ranges rest h. (range_again least r rest h.0 h.1 h.2, h.3))
 
 -- ---- keys, entries and pairs
 
@@ -212,20 +201,7 @@ pair_again last pair rest above lawful =
     regrouped len key value rest = simp append_assoc
 
 pub pairs_take : (count : ℕ) (last bytes : List ℕ) (x : List Pair × List ℕ) → IsBytes bytes → pairs_at count last bytes ≡ Ok x → Takes bytes (flat_map pair_text x.0) x.1 × (length x.0 ≡ count) × PairsFrom last x.0
-unfolding pairs_at
-pairs_take zero last bytes x fits e = subst (λ (y : List Pair × List ℕ). Takes bytes (flat_map pair_text y.0) y.1 × (length y.0 ≡ 0) × PairsFrom last y.0) (ok_is ([], bytes) x e) (record { parts = refl; rest_fits = fits }, refl, tt)
-pairs_take (suc count) last bytes x fits e =
-    let a = bind_ok (pair_at last bytes) (λ first. pairs_at count first.0.0 first.1 >>= λ others. Ok (first.0 ∷ others.0, others.1)) x e in
-    let b = bind_ok (pairs_at count a.0.0.0 a.0.1) (λ others. Ok (a.0.0 ∷ others.0, others.1)) x a.2 in
-    let first = pair_takes last bytes a.0 fits a.1 in
-    let others = pairs_take count a.0.0.0 a.0.1 b.0 first.0.rest_fits b.1 in
-    let made : List Pair × List ℕ = (a.0.0 ∷ b.0.0, b.0.1) in
-    subst (λ (y : List Pair × List ℕ). Takes bytes (flat_map pair_text y.0) y.1 × (length y.0 ≡ suc count) × PairsFrom last y.0) {x = made} (ok_is made x b.2)
-    (rw flat_map-cons (Takes-then bytes (pair_text a.0.0) a.0.1 (flat_map pair_text b.0.0) b.0.1 first.0 others.0), ap suc others.1, (first.1, first.2, others.2))
+pairs_take = items_take _ _ pair_text PairsFrom (λ last. tt) (λ last bytes x fits e. let taken = pair_takes last bytes x fits e in (taken.0, λ others rise. (taken.1, taken.2, rise)))
 
 pub pairs_again : (last : List ℕ) (pairs : List Pair) (rest : List ℕ) → PairsFrom last pairs → pairs_at (length pairs) last (flat_map pair_text pairs ++ rest) ≡ Ok (pairs, rest)
-unfolding pairs_at
-pairs_again last [] rest h = refl
-pairs_again last (p ∷ pairs) rest h =
-    let parts : flat_map pair_text (p ∷ pairs) ++ rest ≡ pair_text p ++ (flat_map pair_text pairs ++ rest) = ap (λ (t : List ℕ). t ++ rest) (flat_map-cons pair_text p pairs) ∙ append_assoc (pair_text p) (flat_map pair_text pairs) rest in
-    ap (pairs_at (suc (length pairs)) last) parts ∙ rw (pair_again last p (flat_map pair_text pairs ++ rest) h.0 h.1, pairs_again p.0 pairs rest h.2) refl
+pairs_again = items_again _ _ pair_text PairsFrom (λ last pair pairs rest h. (pair_again last pair rest h.0 h.1, h.2))

@@ -1,20 +1,18 @@
 -- Reading one after the other, as a loop does, and what is read so.
-use Rattle.std.proofs.Common.{◌≡◌, ℕ, zero, suc, ◌+◌, ◌-◌, ◌<◌, ◌≤◌, ◌&&◌, ◌||◌, nat_le, eqb, true, false, List, [], ◌∷◌, ◌++◌, length, Result, Ok, Err, refl, sym, ap, subst, ◌∙◌, append_assoc, arith}
+use Rattle.std.proofs.Common.{◌≡◌, ℕ, suc, ◌+◌, ◌-◌, ◌<◌, ◌≤◌, ◌&&◌, ◌||◌, nat_le, eqb, true, false, List, [], ◌∷◌, ◌++◌, Result, Ok, Err, refl, sym, ap, subst, ◌∙◌, arith}
 use Rattle.std.specs.Int.{w16, w32}
 use Rattle.std.proofs.lemmas.Bool.Decides.{nat_tests}
 use Rattle.std.proofs.lemmas.List.{append-nil}
 use Rattle.pc_types.specs.declared.Refusal.{Refusal}
 use Rattle.pc_types.specs.declared.Refusal.TheVariants.{Short, BadRanges}
 use Rattle.pc_types.specs.Fields.{◌>>=◌, where_true, number_at}
-use Rattle.pc_types.proofs.FieldLaws.{bind_ok, where_ok, ok_is}
+use Rattle.pc_types.proofs.FieldLaws.{bind_ok, where_ok}
 use Rattle.pc_model.specs.Points.{AtPoint}
 use Rattle.pc_types.specs.declared.Triple.{Triple}
 use Rattle.pc_part.specs.declared.ranges.Range.{Range}
 use Rattle.pc_part.specs.Parts.{RangesFrom, covers}
-use Rattle.pc_part.specs.Reading.{range_at, ranges_at, next_key_at, entry_at, entries_at, pair_at, pairs_at}
-
-abbrev Pair : Type 0
-Pair = List ℕ × List ℕ
+use Rattle.pc_part.specs.Reading.{range_at, next_key_at, entry_at, entries_at}
+use Rattle.pc_part.proofs.ItemLaws.{with_front, regroup}
 
 -- a point of such ranges is at most 65,535
 pub covered_fits : (least : ℕ) (ranges : List Range) (point : ℕ) → RangesFrom least ranges → covers ranges point ≡ true → point ≤ 65535
@@ -25,59 +23,6 @@ covered_fits least (r ∷ ranges) point h e =
       | true ↦ λ is _. grind (arith, nat_tests)
       | false ↦ λ _ rest. covered_fits (r.high + 2) ranges point h.3 rest
     ] refl e
-
-module _ {X : Type 0} where
-  -- what was read before, and what is still read
-  abbrev pub with_front : List X → Result (List X × List ℕ) Refusal → Result (List X × List ℕ) Refusal
-  with_front front read = read >>= λ x. Ok (front ++ x.0, x.1)
-
-  regroup : (front : List X) (n : X) (read : Result (List X × List ℕ) Refusal) → with_front front (read >>= λ x. Ok (n ∷ x.0, x.1)) ≡ with_front (front ++ n ∷ []) read
-  regroup front n (Ok x) = ap (λ (ns : List X). Ok (ns, x.1)) (simp append_assoc)
-  regroup front n (Err f) = refl
-
-module _ (front : List Range) (count i least : ℕ) (bytes : List ℕ) (total : Result (List Range × List ℕ) Refusal) (so_far : with_front front (ranges_at (count - i) least bytes) ≡ total) where
-  pub range_goes_on : (r : Range) (after : List ℕ) → i < count → range_at least bytes ≡ Ok (r, after) → with_front (front ++ r ∷ []) (ranges_at (count - (i + 1)) (r.high + 2) after) ≡ total
-  unfolding ranges_at
-  range_goes_on r after more h =
-      let k : count - i ≡ suc (count - (i + 1)) = omega arith in
-      let one : with_front front (ranges_at (count - i) least bytes) ≡ with_front (front ++ r ∷ []) (ranges_at (count - (i + 1)) (r.high + 2) after) = rw (k, h) (regroup front r (ranges_at (count - (i + 1)) (r.high + 2) after)) in
-      sym one ∙ so_far
-
-  pub range_stops : (e : Refusal) → i < count → range_at least bytes ≡ Err e → total ≡ Err e
-  unfolding ranges_at
-  range_stops e more h =
-      let k : count - i ≡ suc (count - (i + 1)) = omega arith in
-      let one : with_front front (ranges_at (count - i) least bytes) ≡ Err e = rw (k, h) refl in
-      sym so_far ∙ one
-
-  pub ranges_done : count ≤ i → total ≡ Ok (front, bytes)
-  unfolding ranges_at
-  ranges_done le =
-      let k : count - i ≡ 0 = omega arith in
-      let one : with_front front (ranges_at (count - i) least bytes) ≡ Ok (front, bytes) = rw k (ap (λ (rs : List Range). Ok (rs, bytes)) (append-nil front)) in
-      sym so_far ∙ one
-
-module _ (front : List Pair) (count i : ℕ) (last bytes : List ℕ) (total : Result (List Pair × List ℕ) Refusal) (so_far : with_front front (pairs_at (count - i) last bytes) ≡ total) where
-  pub pair_goes_on : (pair : Pair) (after : List ℕ) → i < count → pair_at last bytes ≡ Ok (pair, after) → with_front (front ++ pair ∷ []) (pairs_at (count - (i + 1)) pair.0 after) ≡ total
-  unfolding pairs_at
-  pair_goes_on pair after more h =
-      let k : count - i ≡ suc (count - (i + 1)) = omega arith in
-      let one : with_front front (pairs_at (count - i) last bytes) ≡ with_front (front ++ pair ∷ []) (pairs_at (count - (i + 1)) pair.0 after) = rw (k, h) (regroup front pair (pairs_at (count - (i + 1)) pair.0 after)) in
-      sym one ∙ so_far
-
-  pub pair_stops : (e : Refusal) → i < count → pair_at last bytes ≡ Err e → total ≡ Err e
-  unfolding pairs_at
-  pair_stops e more h =
-      let k : count - i ≡ suc (count - (i + 1)) = omega arith in
-      let one : with_front front (pairs_at (count - i) last bytes) ≡ Err e = rw (k, h) refl in
-      sym so_far ∙ one
-
-  pub pairs_done : count ≤ i → total ≡ Ok (front, bytes)
-  unfolding pairs_at
-  pairs_done le =
-      let k : count - i ≡ 0 = omega arith in
-      let one : with_front front (pairs_at (count - i) last bytes) ≡ Ok (front, bytes) = rw k (ap (λ (pairs : List Pair). Ok (pairs, bytes)) (append-nil front)) in
-      sym so_far ∙ one
 
 -- one turn of reading entries: nothing at the end mark, else an entry
 module _ (front : List Triple) (count i : ℕ) (ranges : List Range) (last bytes : List ℕ) (total : Result (List Triple × List ℕ) Refusal) (so_far : with_front front (entries_at (count - i) ranges last bytes) ≡ total) where
@@ -132,14 +77,3 @@ range_steps least bytes x e =
     let lawful : (least ≤ a.0.0) × (a.0.0 ≤ b.0.0) × (b.0.0 ≤ 65535) = grind (arith, g.0, nat_tests) in
     subst (λ (y : Range × List ℕ). (rest : List ℕ) × (number_at Short w32 bytes ≡ Ok (y.0.low, rest)) × (number_at Short w32 rest ≡ Ok (y.0.high, y.1)) × (least ≤ y.0.low) × (y.0.low ≤ y.0.high) × (y.0.high ≤ 65535)) {x = made} g.1
     (a.0.1, a.1, b.1, lawful.0, lawful.1, lawful.2)
-
--- ranges that were read rise with gaps between them, and are so many
-pub ranges_rise : (count least : ℕ) (bytes : List ℕ) (x : List Range × List ℕ) → ranges_at count least bytes ≡ Ok x → RangesFrom least x.0 × (length x.0 ≡ count)
-unfolding ranges_at
-ranges_rise zero least bytes x e = subst (λ (y : List Range × List ℕ). RangesFrom least y.0 × (length y.0 ≡ 0)) (ok_is ([], bytes) x e) (tt, refl)
-ranges_rise (suc count) least bytes x e =
-    let a = bind_ok (range_at least bytes) (λ first. ranges_at count (first.0.high + 2) first.1 >>= λ others. Ok (first.0 ∷ others.0, others.1)) x e in
-    let b = bind_ok (ranges_at count (a.0.0.high + 2) a.0.1) (λ others. Ok (a.0.0 ∷ others.0, others.1)) x a.2 in
-    let first = range_steps least bytes a.0 a.1 in
-    let others = ranges_rise count (a.0.0.high + 2) a.0.1 b.0 b.1 in
-    subst (λ (y : List Range × List ℕ). RangesFrom least y.0 × (length y.0 ≡ suc count)) (ok_is (a.0.0 ∷ b.0.0, b.0.1) x b.2) ((first.3, first.4, first.5, others.0), ap suc others.1)

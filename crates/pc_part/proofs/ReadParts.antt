@@ -17,7 +17,6 @@ use Rattle.pc_part.specs.Parts.{AreRanges}
 use Rattle.pc_part.specs.Reading.{ranges_at, entries_at, PartFields, part_fields_at}
 use Rattle.pc_part.specs.Texts.{part_magic, head_text, bounds_text, triple_text, end_text}
 use Rattle.pc_part.proofs.PartTexts.{few_ranges}
-use Rattle.pc_part.proofs.ReadLists.{ranges_rise}
 use Rattle.pc_part.proofs.ReadFields.{EntriesFrom, end_mark, ranges_take, ranges_again, entries_take, entries_again, few_entries}
 
 -- the text of a part's fields
@@ -97,16 +96,15 @@ fields_take bytes x fits e =
     let run = number_takes Short w64 (2 ^ 64) wide64 a.0 b.0.0 b.0.1 magic.rest_fits b.1 in
     let count = number_takes Short w32 (2 ^ 32) wide32 b.0.1 c.0.0 c.0.1 run.0.rest_fits c.1 in
     let ranges = ranges_take d.0 1 c.0.1 r.0 count.0.rest_fits r.1 in
-    let apart = ranges_rise d.0 1 c.0.1 r.0 r.1 in
-    let entries = entries_take (length r.0.1) r.0.0 [] r.0.1 s.0 ranges.rest_fits s.1 in
+    let entries = entries_take (length r.0.1) r.0.0 [] r.0.1 s.0 ranges.0.rest_fits s.1 in
     let total = number_takes Short w32 (2 ^ 32) wide32 s.0.1 n.0.0 n.0.1 entries.0.rest_fits n.1 in
-    let many : c.0.0 ≡ length r.0.0 = some.1 ∙ sym apart.1 in
+    let many : c.0.0 ≡ length r.0.0 = some.1 ∙ sym ranges.1 in
     let total_is : n.0.0 ≡ length s.0.0 = eqb-true n.0.0 (length s.0.0) counted.0 in
     let nothing : n.0.1 ≡ [] = counted.1 ∙ nil_from_length k.0 (eqb-true (length k.0) 0 ended.0) in
     let positive : 0 < c.0.0 = grind (arith, some.0, nat_tests) in
     subst (λ (y : PartFields). IsPartFields y × (bytes ≡ fields_text y)) {x = made} ended.1 (
-      record { run = run.1; apart = (omega (arith, many, positive), apart.0); entries = entries.1; limit = omega (arith, total_is, total.1) },
-      whole made bytes a.0 b.0.1 c.0.1 r.0.1 s.0.1 magic run.0 (subst (λ (m : ℕ). Takes b.0.1 (to_be_bytes w32 m) c.0.1) many count.0) ranges entries.0
+      record { run = run.1; apart = (omega (arith, many, positive), ranges.2); entries = entries.1; limit = omega (arith, total_is, total.1) },
+      whole made bytes a.0 b.0.1 c.0.1 r.0.1 s.0.1 magic run.0 (subst (λ (m : ℕ). Takes b.0.1 (to_be_bytes w32 m) c.0.1) many count.0) ranges.0 entries.0
           (subst (λ (m : ℕ). Takes s.0.1 (to_be_bytes w32 m) []) total_is (subst (λ (l : List ℕ). Takes s.0.1 (to_be_bytes w32 n.0.0) l) nothing total.0)),
     )
 

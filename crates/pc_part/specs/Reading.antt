@@ -14,6 +14,14 @@ use Rattle.pc_part.specs.declared.ranges.Range.{Range}
 use Rattle.pc_part.specs.Parts.{covers, points_of, triples_of}
 use Rattle.pc_part.specs.Texts.{part_magic, base_magic}
 
+-- so many items, one after the other, each read with what the one before it leaves
+unfoldable pub items_at : {S X : Type 0} → (S → List ℕ → Result (X × List ℕ) Refusal) → (X → S) → ℕ → S → List ℕ → Result (List X × List ℕ) Refusal
+items_at read leaves zero state bytes = Ok ([], bytes)
+items_at read leaves (suc count) state bytes = do
+  first ← read state bytes
+  others ← items_at read leaves count (leaves first.0) first.1
+  Ok (first.0 ∷ others.0, others.1)
+
 -- a range that begins at this point or above
 unfoldable pub range_at : ℕ → List ℕ → Result (Range × List ℕ) Refusal
 range_at least bytes = do
@@ -22,12 +30,8 @@ range_at least bytes = do
   where_true (nat_le least low.0 && nat_le low.0 high.0 && nat_le high.0 MOST_POINTS) BadRanges (record { low = low.0; high = high.0 }, high.1)
 
 -- so many ranges, each with at least one point left out before the next, and the first from this point on
-unfoldable pub ranges_at : ℕ → ℕ → List ℕ → Result (List Range × List ℕ) Refusal
-ranges_at zero least bytes = Ok ([], bytes)
-ranges_at (suc count) least bytes = do
-  first ← range_at least bytes
-  others ← ranges_at count (first.0.high + 2) first.1
-  Ok (first.0 ∷ others.0, others.1)
+abbrev pub ranges_at : ℕ → ℕ → List ℕ → Result (List Range × List ℕ) Refusal
+ranges_at = items_at range_at (λ (r : Range). r.high + 2)
 
 -- a key of so many bytes that comes after the last one
 unfoldable pub next_key_at : List ℕ → ℕ → List ℕ → Result (List ℕ × List ℕ) Refusal
@@ -95,12 +99,8 @@ pair_at last bytes = do
   Ok ((key.0, value.0), value.1)
 
 -- so many pairs, whose keys rise, the first above this one
-unfoldable pub pairs_at : ℕ → List ℕ → List ℕ → Result (List (List ℕ × List ℕ) × List ℕ) Refusal
-pairs_at zero last bytes = Ok ([], bytes)
-pairs_at (suc count) last bytes = do
-  first ← pair_at last bytes
-  others ← pairs_at count first.0.0 first.1
-  Ok (first.0 ∷ others.0, others.1)
+abbrev pub pairs_at : ℕ → List ℕ → List ℕ → Result (List (List ℕ × List ℕ) × List ℕ) Refusal
+pairs_at = items_at pair_at (λ (pair : List ℕ × List ℕ). pair.0)
 
 -- a base file's run, point and pairs
 pub record BaseFields : Type 0 where

@@ -1,6 +1,6 @@
 use Rattle.std.proofs.Common.{◌≡◌, ◌-◌, []}
 use Rattle.pc_part.specs.Reading.{pairs_at}
-use Rattle.pc_part.proofs.ReadLists.{with_front}
+use Rattle.pc_part.proofs.ItemLaws.{with_front}
 use Rattle.pc_part.proofs.base_decoding.read_pairs.Given as goal
 
 -- what was read, and what is still read, is what is read of all

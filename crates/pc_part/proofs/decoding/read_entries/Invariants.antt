@@ -1,6 +1,6 @@
 use Rattle.std.proofs.Common.{◌≡◌, ◌-◌, length, []}
 use Rattle.pc_part.specs.Reading.{entries_at}
-use Rattle.pc_part.proofs.ReadLists.{with_front}
+use Rattle.pc_part.proofs.ItemLaws.{with_front}
 use Rattle.pc_part.proofs.decoding.read_entries.Given as goal
 
 -- what was read, and what is still read, is what is read of all
