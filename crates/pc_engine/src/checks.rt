@@ -6,7 +6,7 @@ ghost use Rattle.pc_model.specs.Log.{after};
 ghost use Rattle.pc_replay.specs.Audits.{IsRight, TriplesRise};
 ghost use Rattle.pc_engine.specs.Checks.{IsFileRight};
 
-use pc_part::{Base, Part};
+use pc_part::{Base, Part, SharedPart};
 use pc_replay::{CompleteFile, audit, is_replay};
 use pc_types::{Entry, Key, Triple, Value};
 use std::alloc::{AllocError, Global};
@@ -17,7 +17,7 @@ pub(crate) fn is_sound(
     alloc: Global,
     base: &Base,
     log: &[Entry],
-    files: &[Part],
+    files: &[SharedPart],
     pairs: &[(Key, Value)],
 ) -> Result<bool, AllocError>
     ensures { IfOk result (λ sound. IsTrue sound ↔ ((database_of pairs.now ≡ after base.now.pairs log.now) × All (IsFileRight base.now.pairs log.now) files.now)) }
@@ -31,13 +31,13 @@ pub(crate) fn is_sound(
 }
 
 // A copy of each file of the points 1 to some n.
-fn complete_files(alloc: Global, files: &[Part]) -> Result<Vec<CompleteFile>, AllocError>
+fn complete_files(alloc: Global, files: &[SharedPart]) -> Result<Vec<CompleteFile>, AllocError>
     ensures rise { IfOk result (λ complete. All TriplesRise complete.items) }
     ensures right { (base : Database) (log : List Entry) → IfOk result (λ complete. All (IsRight base log) complete.items ↔ All (IsFileRight base log) files.now) }
 {
     let mut complete = Vec::new(alloc);
     for file in files {
-        push_complete(alloc, &mut complete, file)?;
+        push_complete(alloc, &mut complete, file.part())?;
     }
     Ok(complete)
 }

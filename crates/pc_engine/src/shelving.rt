@@ -5,7 +5,7 @@ ghost use Rattle.pc_model.specs.Database.{KeysRise};
 ghost use Rattle.pc_model.specs.Files.{triples_taken, file_at};
 ghost use Rattle.pc_engine.specs.Shelves.{IsJoin, IsShelvable};
 
-use pc_part::{Part, join};
+use pc_part::{Part, SharedPart, join};
 use pc_replay::first_of_each;
 use pc_types::{FileNo, Items, Key, MOST_FILE_ENTRIES, MOST_FILES, Point, Refusal, Value};
 use std::alloc::{AllocError, Global};
@@ -16,13 +16,14 @@ pub(crate) fn part_of(
     run: u64,
     point: Point,
     taken: &[(Key, Option<Value>)],
-) -> Result<Part, Refusal>
+) -> Result<SharedPart, Refusal>
     requires point { 1 ≤ point }
     requires limit { length taken.now ≤ MOST_FILE_ENTRIES }
     ensures { IfOk result (λ part. part ≡ record { run = run; points = set.insert set.empty point; triples = triples_taken point taken.now }) }
 {
     let entries = rising(alloc, taken)?;
-    Part::of_point(alloc, run, point, entries)
+    let part = Part::of_point(alloc, run, point, entries)?;
+    SharedPart::new(alloc, part)
 }
 
 // The first pair of each key, rising by key.
@@ -37,8 +38,8 @@ fn rising(
     first_of_each(alloc, taken)
 }
 
-/// The shelf's file of this number, from 1 on.
-pub(crate) fn file_at(shelf: &[Part], number: FileNo) -> Option<&Part>
+/// The owner on the shelf of the file of this number, from 1 on.
+pub(crate) fn shared_at(shelf: &[SharedPart], number: FileNo) -> Option<&SharedPart>
     ensures { option_copied result ≡ file_at shelf.now number }
 {
     if number.0 == 0 {
@@ -47,10 +48,20 @@ pub(crate) fn file_at(shelf: &[Part], number: FileNo) -> Option<&Part>
     shelf.get(number.0 as usize - 1)
 }
 
+/// The shelf's file of this number, from 1 on.
+pub(crate) fn file_at(shelf: &[SharedPart], number: FileNo) -> Option<&Part>
+    ensures { option_copied result ≡ file_at shelf.now number }
+{
+    match shared_at(shelf, number) {
+        Some(shared) => Some(shared.part()),
+        None => None,
+    }
+}
+
 /// A part that is about to be shelved, with its points and how many entries it has.
 #[derive(Drop)]
 pub(crate) struct Shelvable {
-    pub(crate) part: Part,
+    pub(crate) part: SharedPart,
     pub(crate) points: Items<Point>,
     pub(crate) entries: u32,
 }
@@ -58,7 +69,7 @@ pub(crate) struct Shelvable {
 /// The join of two shelved files.
 pub(crate) fn joined(
     alloc: Global,
-    shelf: &[Part],
+    shelf: &[SharedPart],
     first: FileNo,
     second: FileNo,
 ) -> Result<Shelvable, Refusal>
@@ -84,6 +95,7 @@ fn with_points(alloc: Global, part: Part) -> Result<Shelvable, Refusal>
 {
     let points = part.points(alloc)?;
     let entries = part.entries().len() as u32;
+    let part = SharedPart::new(alloc, part)?;
     Ok(Shelvable {
         part,
         points,

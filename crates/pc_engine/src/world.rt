@@ -1,5 +1,5 @@
 //! The world, and its run over a list of events.
-ghost use Rattle.std.specs.Prelude.{◌≡◌, ◌≤◌, ◌<◌, ◌⊎◌, ◌↔◌, [], List, ℕ, true, IsTrue, All, IfOk, IfErr, option_copied};
+ghost use Rattle.std.specs.Prelude.{◌≡◌, ◌≤◌, ◌<◌, ◌⊎◌, ◌↔◌, [], List, ℕ, true, IsTrue, All, None, Some, Err, IfOk, IfErr, option_copied};
 ghost use Rattle.pc_model.specs.Maps.{get, len};
 ghost use Rattle.pc_model.specs.Files.{file_at};
 ghost use Rattle.pc_model.specs.Database.{KeysRise, database_of};
@@ -17,9 +17,9 @@ ghost use Rattle.pc_engine.specs.Runs.{starting, IsRun};
 use crate::checks::is_sound;
 use crate::sessions;
 use crate::sessions::Transaction;
-use crate::shelving::file_at;
+use crate::shelving::{file_at, shared_at};
 use pc_log::Log;
-use pc_part::{Base, Part};
+use pc_part::{Base, Part, SharedPart};
 use pc_phase::{Change, Phases};
 use pc_records::Records;
 use pc_types::{Entry, Event, FileNo, Key, MOST_KEYS, MOST_SESSIONS, Phase, Refusal, Reply, Value};
@@ -40,7 +40,7 @@ pub struct World {
     pub(crate) open_set: VecDeque<Key>,
     pub(crate) closed_set: VecDeque<Key>,
     pub(crate) taken: Vec<(Key, Option<Value>)>,
-    pub(crate) shelf: Vec<Part>,
+    pub(crate) shelf: Vec<SharedPart>,
 }
 
 impl Model for World {
@@ -169,8 +169,22 @@ impl World {
         file_at(&self.shelf, number)
     }
 
+    /// One more owner of the shelf's file of this number. It takes a constant time and no memory, and copies nothing.
+    /// Refuses with `NoFile` exactly where there is none, and else only with `OutOfMemory`, where the file has as many owners
+    /// as it may have.
+    pub fn hand_out(&self, number: FileNo) -> Result<SharedPart, Refusal>
+        ensures file { IfOk result (λ shared. file_at self.now.shelf number ≡ Some shared) }
+        ensures none { (result ≡ Err Refusal.NoFile) ↔ (file_at self.now.shelf number ≡ None) }
+        ensures refusals { IfErr result (λ e. (e ≡ Refusal.NoFile) ⊎ (e ≡ Refusal.OutOfMemory)) }
+    {
+        let Some(shared) = shared_at(&self.shelf, number) else {
+            return Err(Refusal::NoFile);
+        };
+        shared.again()
+    }
+
     /// The files on the shelf, in the order of shelving; at most 65,536.
-    pub fn files(&self) -> &[Part]
+    pub fn files(&self) -> &[SharedPart]
         ensures { result.now ≡ self.now.shelf }
     {
         self.shelf.as_slice()

@@ -45,11 +45,19 @@ const ONE_PAIR: [Pair; 1] = [(b"b", b"1")];
 
 const TWO_PAIRS: [Pair; 2] = [(b"a", b"2"), (b"b", b"1")];
 
-// How long the log is, how many files there are, and how many of the numbers 0 to 3 have a file.
+// Whether the store has a file of this number, and hands it out.
+fn is_handed_out(world: &World, number: FileNo) -> bool {
+    match world.hand_out(number) {
+        Ok(_) => world.file(number).is_some(),
+        Err(_) => false,
+    }
+}
+
+// How long the log is, how many files there are, and how many of the numbers 0 to 3 have a file that is handed out.
 fn shown(world: &World) -> (usize, usize, usize) {
     let mut found = 0usize;
     for number in 0..4u32 {
-        if world.file(FileNo(number)).is_some() {
+        if is_handed_out(world, FileNo(number)) {
             found = found.wrapping_add(1);
         }
     }
@@ -114,6 +122,21 @@ fn wrong_of_pair(alloc: Global) -> Result<Option<usize>, Refusal> {
 #[test]
 fn shows_what_it_holds(rt: HostRuntime) -> Result<(), Fail> {
     assert_eq!(rt; wrong_of_pair(rt.alloc())?, None);
+    Ok(())
+}
+
+// How many entries a file has that was handed out before its store went.
+fn entries_of_handed(alloc: Global) -> Result<usize, Refusal> {
+    let mut world = world_of_pair(alloc, true)?;
+    first_not_shown(alloc, &mut world)?;
+    let shared = world.hand_out(FileNo(2))?;
+    drop(world);
+    Ok(shared.part().entries().len())
+}
+
+#[test]
+fn a_file_outlasts_its_store(rt: HostRuntime) -> Result<(), Fail> {
+    assert_eq!(rt; entries_of_handed(rt.alloc())?, 1usize);
     Ok(())
 }
 

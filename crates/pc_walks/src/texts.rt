@@ -4,7 +4,7 @@ ghost use Rattle.pc_model.specs.FewWrites.{HasFewWrites};
 
 use pc_engine::World;
 use pc_log::{encode_entry, encode_header};
-use pc_part::{Base, Part};
+use pc_part::{Base, Part, SharedPart};
 use pc_types::{Entry, Refusal, Tally};
 use std::alloc::Global;
 
@@ -33,10 +33,10 @@ fn part_text(alloc: Global, part: &Part) -> Result<Vec<u8>, Refusal> {
     Ok(out.into_inner())
 }
 
-fn part_texts(alloc: Global, parts: &[Part]) -> Result<Vec<Vec<u8>>, Refusal> {
+fn part_texts(alloc: Global, parts: &[SharedPart]) -> Result<Vec<Vec<u8>>, Refusal> {
     let mut texts = Vec::new(alloc);
-    for part in parts {
-        texts.push(part_text(alloc, part)?)?;
+    for shared in parts {
+        texts.push(part_text(alloc, shared.part())?)?;
     }
     Ok(texts)
 }

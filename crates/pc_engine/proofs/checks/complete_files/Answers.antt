@@ -10,7 +10,7 @@ pub loop-file-preserved : goal.loop-file-preserved
 loop-file-preserved c = (
   c.in_ok-push_complete.ensures.rise c.loop-file.invariant.0,
   λ base log. one_more base log c.loop-file.complete.items c.push_complete.new.complete.items c.args.files.now c.loop-file.file-index c.file-item.result c.loop-file-test.true c.file-item.is
-      (c.in_ok-push_complete.ensures.right base log) (c.loop-file.invariant.1 base log),
+      (rw c.part.ensures at c.in_ok-push_complete.ensures.right base log) (c.loop-file.invariant.1 base log),
 )
 
 pub returns-clause-right : goal.returns-clause-right
