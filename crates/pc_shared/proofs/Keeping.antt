@@ -1,9 +1,11 @@
 -- What each call leaves a session with.
 use Rattle.std.proofs.Common.{◌≡◌, ℕ, Bool, true, false, true≢false, List, [], ◌∷◌, ◌++◌, ap, sym, ◌∙◌}
 use Rattle.std.specs.Prelude.{Option, Some, None}
+use Rattle.pc_types.specs.declared.Event.{Event}
 use Rattle.pc_types.specs.declared.Event.TheVariants as asked
 use Rattle.pc_types.specs.declared.Reply.TheVariants as told
 use Rattle.pc_types.specs.declared.Receipt.{Receipt}
+use Rattle.pc_types.specs.declared.Step.{Step}
 use Rattle.pc_types.specs.declared.Write.{Write}
 use Rattle.pc_model.specs.Database.{with_write}
 use Rattle.pc_model.specs.History.{History}
@@ -15,6 +17,7 @@ use Rattle.pc_model.proofs.SessionCallLaws.{begun_own, found_own, absent_own, ge
 use Rattle.pc_shared.specs.declared.asks.Got.{Got}
 use Rattle.pc_shared.specs.declared.asks.Got.TheVariants as got
 use Rattle.pc_shared.specs.Asked.{IsGot, IsMade, reads_after, write_event}
+use Rattle.pc_shared.specs.Finds.{found_by, found_in, value_of}
 use Rattle.pc_shared.specs.Sitters.{Keeps}
 
 -- what a session is left with is all that is asked
@@ -58,3 +61,16 @@ module _ (st : Setting) (n : ℕ) (before after : History) where
 
     pub abort_keeps : Extends st before (step_of (asked.Abort n) told.Aborted) after → then ≡ false → ks' ≡ ks → Keeps then ws' rs' ks' n after
     abort_keeps x over s = idle then ws ws' rs rs' ks ks' n after over (aborted_own st n before after busy ws rs ks is x) s
+
+-- what the newest step found
+pub step_found : (st : Setting) (before after : History) (step : Step) → Extends st before step after → found_in after ≡ found_by step.reply
+step_found st before after step x = ap found_in x.1.1.0
+
+pub got_found : (st : Setting) (n : ℕ) (before after : History) (key : List ℕ) (g : Got) → IsGot st before n key g after → found_in after ≡ value_of g
+got_found st n before after key (got.Found v) x = step_found st before after (step_of (asked.Get n key) (told.Found v)) x
+got_found st n before after key got.Absent x = step_found st before after (step_of (asked.Get n key) told.Absent) x
+got_found st n before after key got.Died x = step_found st before after (step_of (asked.Get n key) told.Died) x
+
+pub made_found : (st : Setting) (before after : History) (event : Event) (made : Bool) → IsMade st before event made after → found_in after ≡ None
+made_found st before after event true x = step_found st before after (step_of event told.Ok) x
+made_found st before after event false x = step_found st before after (step_of event told.Died) x

@@ -1,3 +1,4 @@
 pub mod Asked
 pub mod Answers
+pub mod Finds
 pub mod Sitters

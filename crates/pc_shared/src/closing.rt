@@ -1,11 +1,15 @@
 //! What a store leaves when it is closed.
-ghost use Rattle.std.specs.Prelude.{◌≡◌, ◌++◌, All, MatchBool, map, vec_capacity};
+ghost use Rattle.std.specs.Prelude.{◌≡◌, ◌≤◌, ◌++◌, All, MatchBool, length, map, take, vec_capacity};
+ghost use Rattle.pc_model.specs.History.{log_of};
+ghost use Rattle.pc_model.specs.Standing.{IsOfItsPoints};
+ghost use Rattle.pc_engine.specs.Stands.{Stands};
+ghost use Rattle.pc_engine.specs.Store.{setting_of};
 ghost use Rattle.pc_tie.specs.Seats.{IsSession, IsFrontOf, NoTwoAlike};
-ghost use Rattle.pc_shared.specs.Sitters.{sitting_of, IsSeated, is_there, HasAll, LacksOne};
+ghost use Rattle.pc_shared.specs.Sitters.{sitting_of, IsSeated, IsSettled, AreApart, is_there, HasAll, LacksOne};
 
 use crate::session::Session;
-use crate::ticket::PartTicket;
 use pc_engine::World;
+use pc_latch::{Latched, LogPass, PartTicket, renew_tickets};
 use pc_part::Base;
 use pc_tie::{Keeper, StoreName, Tie};
 use pc_types::Entry;
@@ -85,4 +89,38 @@ pub(crate) fn has_all<N: StoreName>(sessions: &[Session<N>], count: u8) -> bool
         }
     }
     true
+}
+
+// Compares the history with all that the sessions, the tickets and the pass have seen.
+pub(crate) fn close<N: StoreName>(
+    tie: &Tie<N>,
+    count: u8,
+    latched: Latched<N>,
+    sessions: Vec<Session<N>>,
+    tickets: Vec<PartTicket<N>>,
+    pass: LogPass<N>,
+) -> Closed<N>
+    ensures stands { Stands result.world latched × (setting_of result.world ≡ N.name.setting) }
+    ensures receipts { result.receipts.items ≡ sessions.items }
+    ensures settled { All (IsSettled N.name.setting latched) sessions.items }
+    ensures apart { AreApart sessions.items }
+    ensures parts { result.parts.items ≡ tickets.items }
+    ensures worth { All (IsOfItsPoints N.name.setting.run N.name.setting.base (log_of latched)) tickets.items }
+    ensures list { (pass ≡ take result.logged (log_of latched)) × (result.logged ≤ length (log_of latched)) }
+    ensures all { MatchBool result.all (HasAll count sessions.items) (LacksOne count sessions.items) }
+{
+    let (world, mut keeper) = latched.into_parts();
+    let mut sessions = sessions;
+    compare_all(tie, &mut keeper, &mut sessions);
+    let mut tickets = tickets;
+    renew_tickets(tie, &mut keeper, &mut tickets);
+    let logged = pass.close(tie, &mut keeper);
+    let all = has_all(sessions.as_slice(), count);
+    Closed {
+        world,
+        logged,
+        receipts: sessions,
+        parts: tickets,
+        all,
+    }
 }

@@ -3,18 +3,15 @@
 
 mod asks;
 mod closing;
-mod latched;
-mod pass;
 mod session;
 mod store;
-mod ticket;
+mod waits;
 mod work;
 
 pub use asks::Got;
 pub use closing::Closed;
-pub use latched::Latched;
-pub use pass::LogPass;
+pub use pc_latch::{LogPass, PartTicket};
 pub use session::{Answer, Session};
-pub use store::{Opened, Shared};
-pub use ticket::PartTicket;
-pub use work::Work;
+pub use store::{Held, Opened, Shared};
+pub use waits::{Waits, Woken};
+pub use work::{Latest, Work};

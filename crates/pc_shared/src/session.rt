@@ -1,5 +1,5 @@
 //! Sessions, and their calls.
-ghost use Rattle.std.specs.Prelude.{◌≡◌, ◌∷◌, ◌++◌, [], true, false, Some, None, IfOk, IfErr, OnErr};
+ghost use Rattle.std.specs.Prelude.{◌≡◌, ◌∷◌, ◌++◌, [], true, false, Some, None, IfOk, IfErr, OnErr, option_copied};
 ghost use Rattle.pc_types.specs.declared.Event.{Event};
 ghost use Rattle.pc_types.specs.declared.Event.TheVariants.{Begin, Get, Put, Del, Commit, Abort};
 ghost use Rattle.pc_types.specs.declared.Reply.TheVariants.{Begun, Committed, Aborted, Refused};
@@ -7,6 +7,7 @@ ghost use Rattle.pc_model.specs.History.{is_open};
 ghost use Rattle.pc_model.specs.Calls.{step_of, Extends, IsAnswered, AsksOpen};
 ghost use Rattle.pc_model.specs.Receipts.{own_of, receipt_of};
 ghost use Rattle.pc_shared.specs.Answers.{IsRead, IsWritten};
+ghost use Rattle.pc_shared.specs.Finds.{found_in};
 
 use crate::store::Shared;
 use crate::work::{Work, has_room};
@@ -18,7 +19,7 @@ use std::sync::Wait;
 /// How a read or a write of a session was answered.
 #[derive(Clone, Copy, Debug, PartialEq, Eq)]
 pub enum Answer {
-    /// The key has a value.
+    /// The key has a value, which `Session::found` gives.
     Found,
     /// The key has no value.
     Absent,
@@ -36,13 +37,15 @@ pub struct Session<N: StoreName> {
 }
 
 impl<N: StoreName> Model for Session<N> {
+    ghost use Rattle.std.specs.Prelude.{◌≡◌};
+    ghost use Rattle.pc_shared.specs.Finds.{kept_in, found_in};
     ghost use Rattle.pc_shared.specs.Sitters.{Sitter, sitter, Keeps};
 
     ghost Value = { Sitter };
 
     ghost view = { λ s. sitter s.seat.number s.seat.seen s.work.receipts.items };
 
-    ghost invariant = { λ s. Keeps s.work.busy s.work.writes.items s.work.reads.items s.work.receipts.items s.seat.number s.seat.seen };
+    ghost invariant = { λ s. Keeps s.work.busy s.work.writes.items s.work.reads.items s.work.receipts.items s.seat.number s.seat.seen × (kept_in s.work.latest s.work.reads.items ≡ found_in s.seat.seen) };
 }
 
 impl<N: StoreName> Session<N> {
@@ -58,6 +61,14 @@ impl<N: StoreName> Session<N> {
         ensures { result.now ≡ self.now.receipts }
     {
         self.work.receipts.as_slice()
+    }
+
+    /// The value that its latest call found, where that was a `get` answered with Found; it is there until the session's next
+    /// call that isn't refused.
+    pub fn found(&self) -> Option<&Value>
+        ensures { option_copied result ≡ found_in self.now.seen }
+    {
+        self.work.found()
     }
 }
 
@@ -143,6 +154,7 @@ impl<N: StoreName> Shared<N> {
             Err(why) => return Err(why),
         };
         if !made {
+            session.work.die();
             return Ok(Answer::Died);
         }
         session.work.write(key, Some(value));
@@ -171,6 +183,7 @@ impl<N: StoreName> Shared<N> {
             Err(why) => return Err(why),
         };
         if !made {
+            session.work.die();
             return Ok(Answer::Died);
         }
         session.work.write(key, None);
@@ -216,7 +229,7 @@ impl<N: StoreName> Shared<N> {
             Ok(()) => {}
             Err(why) => return Err(why),
         }
-        session.work.busy = false;
+        session.work.abort();
         Ok(())
     }
 }

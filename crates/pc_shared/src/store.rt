@@ -7,6 +7,7 @@ ghost use Rattle.pc_model.specs.ReplyKinds.{IsReplyTo};
 ghost use Rattle.pc_model.specs.SessionLaws.{IsNoJoin};
 ghost use Rattle.pc_engine.specs.Asking.{AsksOfOpen};
 ghost use Rattle.pc_engine.specs.Runs.{starting};
+ghost use Rattle.pc_engine.specs.Stands.{Stands};
 ghost use Rattle.pc_engine.specs.Store.{setting_of};
 ghost use Rattle.pc_tie.specs.Seats.{MovesOn};
 ghost use Rattle.pc_latch.specs.Cycles.{IsAdvance, IsTaken};
@@ -15,15 +16,14 @@ ghost use Rattle.pc_model.specs.Sets as set;
 ghost use Rattle.pc_latch.specs.Tickets.{IsNoTicket};
 ghost use Rattle.pc_shared.specs.Sitters.{new_sitters, IsLeft, AreApart, HasAll, LacksOne};
 
-use crate::closing::Closed;
-use crate::latched::Latched;
-use crate::pass::LogPass;
+use crate::closing::{Closed, close};
 use crate::session::Session;
-use crate::ticket::PartTicket;
+use crate::waits::{Waits, Woken};
 use crate::work::Work;
 use pc_engine::World;
+use pc_latch::{Latched, LogPass, PartTicket};
 use pc_part::Base;
-use pc_tie::{SessionSeat, StoreName, Tie, Untied};
+use pc_tie::{Keeper, SessionSeat, StoreName, Tie, Untied};
 use pc_types::{Entry, Event, FileNo, MOST_KEYS, MOST_SESSIONS, Refusal, Reply};
 use std::alloc::Global;
 use std::marker::Model;
@@ -42,7 +42,8 @@ impl Model for Opened {
     ghost use Rattle.std.specs.Prelude.{◌≡◌, ◌≤◌, []};
     ghost use Rattle.std.specs.Coded.{codes};
     ghost use Rattle.pc_model.specs.Database.{database_code};
-    ghost use Rattle.pc_engine.specs.Store.{setting_of};
+    ghost use Rattle.pc_engine.specs.Stands.{Stands};
+ghost use Rattle.pc_engine.specs.Store.{setting_of};
     ghost use Rattle.pc_engine.specs.Stands.{Stands};
     ghost use Rattle.pc_tie.specs.Seats.{Name};
 
@@ -104,8 +105,9 @@ impl Opened {
         let shared = Shared {
             alloc,
             tie,
-            latch: Mutex::new(Latched::new(world, dealer.into_keeper())),
+            latch: Mutex::new(Held::new(world, dealer.into_keeper())),
             granted: Condvar::new(),
+            changed: Condvar::new(),
             count,
         };
         Ok((shared, sessions, pass))
@@ -118,22 +120,41 @@ impl Opened {
 pub struct Shared<N: StoreName> {
     pub(crate) alloc: Global,
     pub(crate) tie: Tie<N>,
-    pub(crate) latch: Mutex<Latched<N>>,
+    pub(crate) latch: Mutex<Held<N>>,
     pub(crate) granted: Condvar,
+    pub(crate) changed: Condvar,
     pub(crate) count: u8,
     ghost count_is: { N.name.setting.sessions ≡ count },
 }
 
-// Whether the reply ends a transaction, and so lets locks go.
-fn ends_transaction(reply: &Reply) -> bool {
-    matches!(reply, Reply::Committed(_) | Reply::Aborted)
+/// What lies under the latch: the world with its history, and who waits.
+#[derive(Drop)]
+pub struct Held<N: StoreName> {
+    pub(crate) latched: Latched<N>,
+    pub(crate) waits: Waits,
+}
+
+impl<N: StoreName> Held<N> {
+    // A world in which nothing has happened, and nobody waits.
+    fn new(world: World, keeper: Keeper<N>) -> Held<N>
+        requires keeper { (keeper.history ≡ []) × (keeper.guests ≡ []) }
+        requires world { Stands world [] × (setting_of world ≡ N.name.setting) }
+    {
+        Held {
+            latched: Latched::new(world, keeper),
+            waits: Waits::new(),
+        }
+    }
 }
 
 impl<N: StoreName> Shared<N> {
-    // Wakes those who wait for a lock, where there are any and the reply ends a transaction.
-    fn wake(&self, waiting: u64, reply: &Reply) {
-        if waiting > 0 && ends_transaction(reply) {
+    // Wakes those who can go on.
+    fn wake(&self, woken: Woken) {
+        if woken.for_locks {
             self.granted.notify_all();
+        }
+        if woken.for_change {
+            self.changed.notify_all();
         }
     }
 
@@ -159,14 +180,14 @@ impl<N: StoreName> Shared<N> {
         let mut held = self.latch.lock(rt);
         let mut event = event;
         for _ in rt.forever() {
-            let (again, reply) = held.call(&self.tie, seat, event, has_room);
+            let (again, reply) = held.latched.call(&self.tie, seat, event, has_room);
             event = again;
             if let Reply::Wait = reply {
-                held.waiting = held.waiting.saturating_add(1);
+                held.waits.for_locks = held.waits.for_locks.saturating_add(1);
                 held = self.granted.wait(rt, held);
-                held.waiting = held.waiting.saturating_sub(1);
+                held.waits.for_locks = held.waits.for_locks.saturating_sub(1);
             } else {
-                self.wake(held.waiting, &reply);
+                self.wake(held.waits.note(&reply));
                 return (event, reply);
             }
         }
@@ -178,14 +199,20 @@ impl<N: StoreName> Shared<N> {
     pub fn advance<R: Wait>(&self, rt: &R) -> Reply
         ensures { IsAdvance N.name.setting result }
     {
-        self.latch.lock(rt).advance(&self.tie)
+        let mut held = self.latch.lock(rt);
+        let reply = held.latched.advance(&self.tie);
+        self.wake(held.waits.note(&reply));
+        reply
     }
 
     /// Takes one key of the point: the key with what it had there, that none is left, or a refusal.
     pub fn take<R: Wait>(&self, rt: &R) -> Reply
         ensures { IsTaken N.name.setting result }
     {
-        self.latch.lock(rt).take(&self.tie)
+        let mut held = self.latch.lock(rt);
+        let reply = held.latched.take(&self.tie);
+        self.wake(held.waits.note(&reply));
+        reply
     }
 
     /// The next entries of the log, at most so many, after those that the pass has handed out; the pass then has them too.
@@ -201,9 +228,8 @@ impl<N: StoreName> Shared<N> {
         ensures same { OnErr result (pass.new ≡ pass.old) }
         ensures memory { IfErr result (λ e. e ≡ Refusal.OutOfMemory) }
     {
-        self.latch
-            .lock(rt)
-            .log_next(self.alloc, &self.tie, pass, most)
+        let mut held = self.latch.lock(rt);
+        held.latched.log_next(self.alloc, &self.tie, pass, most)
     }
 
     /// Ends the store, and tells by one legal history what it leaves: the base that it started from and the log of that history,
@@ -227,11 +253,11 @@ impl<N: StoreName> Shared<N> {
             tie,
             latch,
             granted: _,
+            changed: _,
             count,
         } = self;
-        latch
-            .into_inner()
-            .close(&tie, count, sessions, tickets, pass)
+        let Held { latched, waits: _ } = latch.into_inner();
+        close(&tie, count, latched, sessions, tickets, pass)
     }
 
     /// A ticket of the shelf's file of this number, which is the file of the point of this number. Refuses with `NoFile` where
@@ -240,6 +266,41 @@ impl<N: StoreName> Shared<N> {
         ensures ticket { IfOk result (λ t. t.points ≡ set.insert set.empty number) }
         ensures refused { IfErr result (λ why. IsNoTicket N.name.setting number why) }
     {
-        self.latch.lock(rt).take_part(self.alloc, &self.tie, number)
+        let mut held = self.latch.lock(rt);
+        held.latched.take_part(self.alloc, &self.tie, number)
+    }
+
+    /// Waits until the count of changes isn't `seen`, and gives the count. Each answer but a refusal, `NotYet` and `NoneLeft` is a
+    /// change, and so is a mark of the end; after the greatest `u64` the count goes on from 0. Who looks at the store first, and
+    /// then waits with the count from before the look, misses no change.
+    pub fn until_changed<R: Wait>(&self, rt: &R, seen: u64) -> u64
+        ensures { result ≢ seen }
+    {
+        let mut held = self.latch.lock(rt);
+        for _ in rt.forever() {
+            let count = held.waits.changes;
+            if count != seen {
+                return count;
+            }
+            held.waits.for_change = held.waits.for_change.saturating_add(1);
+            held = self.changed.wait(rt, held);
+            held.waits.for_change = held.waits.for_change.saturating_sub(1);
+        }
+        unreachable!()
+    }
+
+    /// Marks the end, for loops that ask whether it is marked. It is a change, and ends nothing by itself.
+    pub fn mark_end<R: Wait>(&self, rt: &R) {
+        let mut held = self.latch.lock(rt);
+        let for_change = held.waits.end();
+        self.wake(Woken {
+            for_locks: false,
+            for_change,
+        });
+    }
+
+    /// Whether the end was marked.
+    pub fn ended<R: Wait>(&self, rt: &R) -> bool {
+        self.latch.lock(rt).waits.has_ended
     }
 }

@@ -1,8 +1,10 @@
 //! What a session has written and read, and its receipts.
-ghost use Rattle.std.specs.Prelude.{◌≡◌, ◌<◌, ◌∷◌, ◌++◌, [], true, false, vec_len, vec_capacity};
-ghost use Rattle.pc_model.specs.Database.{with_write};
+ghost use Rattle.std.specs.Prelude.{◌≡◌, ◌<◌, ◌∷◌, ◌++◌, ◌||◌, [], not, true, false, is_some, Some, None, option_copied, slice_get, vec_len, vec_capacity};
+ghost use Rattle.pc_model.specs.Database.{with_write, written};
 ghost use Rattle.pc_model.specs.Receipts.{own, receipt_of, is_read, with_read};
 ghost use Rattle.pc_shared.specs.Asked.{reads_after};
+ghost use Rattle.pc_shared.specs.declared.work.Latest.TheVariants.{Nothing};
+ghost use Rattle.pc_shared.specs.Finds.{content_of, kept_in, value_of};
 
 use crate::asks::Got;
 use pc_engine::{is_unwritten, note_write};
@@ -10,32 +12,58 @@ use pc_types::{Items, Key, Lsn, Receipt, SessionNo, Value, Write};
 use std::alloc::Global;
 use std::mem;
 
-/// What a session keeps: whether its transaction is open, what that has written and read, and a receipt for each commit.
+/// The value that the latest call found.
+#[derive(Drop)]
+pub enum Latest {
+    /// It found none.
+    Nothing,
+    /// That of the read that is noted at this place.
+    Noted(usize),
+    /// One that no read notes.
+    Loose(Value),
+}
+
+/// What a session keeps: whether its transaction is open, what that has written and read, a receipt for each commit, and what the
+/// latest call found.
 #[derive(Drop)]
 pub struct Work {
     pub(crate) busy: bool,
     pub(crate) writes: Vec<Write>,
     pub(crate) reads: Vec<(Key, Option<Value>)>,
     pub(crate) receipts: Vec<Receipt>,
+    pub(crate) latest: Latest,
 }
 
 impl Work {
     // Nothing yet.
     pub(crate) fn new(alloc: Global) -> Work
-        ensures { (result.busy ≡ false) × (result.writes.items ≡ []) × (result.reads.items ≡ []) × (result.receipts.items ≡ []) }
+        ensures { (result.busy ≡ false) × (result.writes.items ≡ []) × (result.reads.items ≡ []) × (result.receipts.items ≡ []) × (result.latest ≡ Nothing) }
     {
         Work {
             busy: false,
             writes: Vec::new(alloc),
             reads: Vec::new(alloc),
             receipts: Vec::new(alloc),
+            latest: Latest::Nothing,
+        }
+    }
+
+    // The value that the latest call found.
+    pub(crate) fn found(&self) -> Option<&Value>
+        ensures { option_copied result ≡ kept_in self.now.latest self.now.reads.items }
+    {
+        match &self.latest {
+            Latest::Nothing => None,
+            Latest::Noted(place) => content_at(self.reads.as_slice(), *place),
+            Latest::Loose(value) => Some(value),
         }
     }
 
     // A transaction begins.
     pub(crate) fn begin(&mut self)
-        ensures { (self.new.busy ≡ true) × (self.new.writes.items ≡ []) × (self.new.reads.items ≡ []) × (self.new.receipts.items ≡ self.old.receipts.items) }
+        ensures { (self.new.busy ≡ true) × (self.new.writes.items ≡ []) × (self.new.reads.items ≡ []) × (self.new.receipts.items ≡ self.old.receipts.items) × (self.new.latest ≡ Nothing) }
     {
+        self.latest = Latest::Nothing;
         self.writes.clear();
         self.reads.clear();
         self.busy = true;
@@ -45,8 +73,9 @@ impl Work {
     pub(crate) fn write(&mut self, key: Key, value: Option<Value>)
         requires { vec_len self.old.writes < vec_capacity self.old.writes }
         ensures writes { self.new.writes.items ≡ with_write self.old.writes.items (record { key = key; value = value }) }
-        ensures others { (self.new.busy ≡ self.old.busy) × (self.new.reads.items ≡ self.old.reads.items) × (self.new.receipts.items ≡ self.old.receipts.items) }
+        ensures others { (self.new.busy ≡ self.old.busy) × (self.new.reads.items ≡ self.old.reads.items) × (self.new.receipts.items ≡ self.old.receipts.items) × (self.new.latest ≡ Nothing) }
     {
+        self.latest = Latest::Nothing;
         note_write(&mut self.writes, Write { key, value });
     }
 
@@ -54,16 +83,33 @@ impl Work {
     pub(crate) fn read(&mut self, key: Key, got: Got)
         requires { vec_len self.old.reads < vec_capacity self.old.reads }
         ensures reads { self.new.reads.items ≡ reads_after got self.old.writes.items self.old.reads.items key }
+        ensures latest { kept_in self.new.latest self.new.reads.items ≡ value_of got }
         ensures others { (self.new.busy ≡ self.old.busy) × (self.new.writes.items ≡ self.old.writes.items) × (self.new.receipts.items ≡ self.old.receipts.items) }
     {
-        note_got(self.writes.as_slice(), &mut self.reads, key, got);
+        self.latest = note_got(self.writes.as_slice(), &mut self.reads, key, got);
+    }
+
+    // A request died.
+    pub(crate) fn die(&mut self)
+        ensures { (self.new.busy ≡ self.old.busy) × (self.new.writes.items ≡ self.old.writes.items) × (self.new.reads.items ≡ self.old.reads.items) × (self.new.receipts.items ≡ self.old.receipts.items) × (self.new.latest ≡ Nothing) }
+    {
+        self.latest = Latest::Nothing;
+    }
+
+    // The transaction was aborted.
+    pub(crate) fn abort(&mut self)
+        ensures { (self.new.busy ≡ false) × (self.new.receipts.items ≡ self.old.receipts.items) × (self.new.latest ≡ Nothing) }
+    {
+        self.latest = Latest::Nothing;
+        self.busy = false;
     }
 
     // The transaction was committed: what it did becomes a receipt.
     pub(crate) fn commit(&mut self, alloc: Global, session: SessionNo, number: Lsn)
         requires { vec_len self.old.receipts < vec_capacity self.old.receipts }
-        ensures { (self.new.busy ≡ false) × (self.new.receipts.items ≡ self.old.receipts.items ++ receipt_of session number (own self.old.busy self.old.writes.items self.old.reads.items self.old.receipts.items) ∷ []) }
+        ensures { (self.new.busy ≡ false) × (self.new.receipts.items ≡ self.old.receipts.items ++ receipt_of session number (own self.old.busy self.old.writes.items self.old.reads.items self.old.receipts.items) ∷ []) × (self.new.latest ≡ Nothing) }
     {
+        self.latest = Latest::Nothing;
         let writes = mem::replace(&mut self.writes, Vec::new(alloc));
         let reads = mem::replace(&mut self.reads, Vec::new(alloc));
         self.receipts.push_reserved(Receipt {
@@ -91,29 +137,69 @@ fn was_read(reads: &[(Key, Option<Value>)], key: &Key) -> bool
     reads.iter().any(|read| read.0.is(key))
 }
 
-// Notes the read, where the key was neither written nor read before.
-fn note_read(
-    writes: &[Write],
-    reads: &mut Vec<(Key, Option<Value>)>,
-    key: Key,
-    answer: Option<Value>,
-)
-    requires { vec_len reads.old < vec_capacity reads.old }
-    ensures { reads.new.items ≡ with_read writes.now reads.old.items key answer }
+// What was read at this place.
+fn content_at(reads: &[(Key, Option<Value>)], place: usize) -> Option<&Value>
+    ensures { option_copied result ≡ content_of (slice_get reads.now place) }
 {
-    if is_unwritten(writes, &key) && !was_read(reads.as_slice(), &key) {
-        reads.push_reserved((key, answer));
+    match reads.get(place) {
+        Some(read) => read.1.as_ref(),
+        None => None,
     }
 }
 
-// Notes what a read was answered.
-fn note_got(writes: &[Write], reads: &mut Vec<(Key, Option<Value>)>, key: Key, got: Got)
+// Whether the key was neither written nor read.
+fn is_first(writes: &[Write], reads: &[(Key, Option<Value>)], key: &Key) -> bool
+    ensures { result ≡ not (is_some (written writes.now key.now) || is_read reads.now key.now) }
+{
+    is_unwritten(writes, key) && !was_read(reads, key)
+}
+
+// Notes the read of a key that has no value, where it is the first.
+fn note_absence(writes: &[Write], reads: &mut Vec<(Key, Option<Value>)>, key: Key)
     requires { vec_len reads.old < vec_capacity reads.old }
-    ensures { reads.new.items ≡ reads_after got writes.now reads.old.items key }
+    ensures { reads.new.items ≡ with_read writes.now reads.old.items key None }
+{
+    if is_first(writes, reads.as_slice(), &key) {
+        reads.push_reserved((key, None));
+    }
+}
+
+// Notes the read of the value, where it is the first of its key.
+fn note_value(
+    writes: &[Write],
+    reads: &mut Vec<(Key, Option<Value>)>,
+    key: Key,
+    value: Value,
+) -> Latest
+    requires { vec_len reads.old < vec_capacity reads.old }
+    ensures reads { reads.new.items ≡ with_read writes.now reads.old.items key (Some value) }
+    ensures latest { kept_in result reads.new.items ≡ Some value }
+{
+    if !is_first(writes, reads.as_slice(), &key) {
+        return Latest::Loose(value);
+    }
+    let place = reads.len();
+    reads.push_reserved((key, Some(value)));
+    Latest::Noted(place)
+}
+
+// Notes what a read was answered.
+fn note_got(
+    writes: &[Write],
+    reads: &mut Vec<(Key, Option<Value>)>,
+    key: Key,
+    got: Got,
+) -> Latest
+    requires { vec_len reads.old < vec_capacity reads.old }
+    ensures reads { reads.new.items ≡ reads_after got writes.now reads.old.items key }
+    ensures latest { kept_in result reads.new.items ≡ value_of got }
 {
     match got {
-        Got::Found(value) => note_read(writes, reads, key, Some(value)),
-        Got::Absent => note_read(writes, reads, key, None),
-        Got::Died => {}
+        Got::Found(value) => note_value(writes, reads, key, value),
+        Got::Absent => {
+            note_absence(writes, reads, key);
+            Latest::Nothing
+        }
+        Got::Died => Latest::Nothing,
     }
 }

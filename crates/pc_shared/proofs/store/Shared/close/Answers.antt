@@ -11,7 +11,7 @@ returns-clause-left g c =
     let e = c.close.ensures in
     let s = e.stands.0 in
     let is = e.stands.1 in
-    let h = c.into_inner.result in
+    let h = c.into_inner-latched.result.latched in
     let log = s.parts.log in (
       h,
       record {
