@@ -64,7 +64,7 @@ module _ (st : Setting) (n : ℕ) (before after : History) where
 
 -- what the newest step found
 pub step_found : (st : Setting) (before after : History) (step : Step) → Extends st before step after → found_in after ≡ found_by step.reply
-step_found st before after step x = ap found_in x.1.1.0
+step_found st before after step x = ap found_in x.1.1
 
 pub got_found : (st : Setting) (n : ℕ) (before after : History) (key : List ℕ) (g : Got) → IsGot st before n key g after → found_in after ≡ value_of g
 got_found st n before after key (got.Found v) x = step_found st before after (step_of (asked.Get n key) (told.Found v)) x

@@ -1,6 +1,5 @@
-use Rattle.std.proofs.Common.{◌≡◌, ◌≤◌, List, length, take, All, sym, ap, ◌∙◌, subst}
+use Rattle.std.proofs.Common.{◌≡◌, ◌≤◌, length, take, All, sym, ap, ◌∙◌, subst}
 use Rattle.std.proofs.lemmas.List.Elements.{All-nil}
-use Rattle.pc_types.specs.declared.Entry.{Entry}
 use Rattle.pc_model.specs.History.{History, log_of}
 use Rattle.pc_model.specs.Standing.{IsOfItsPoints}
 use Rattle.pc_model.specs.Replies.{Setting, IsLegalHistory}

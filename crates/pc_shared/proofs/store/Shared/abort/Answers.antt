@@ -1,11 +1,12 @@
-use Rattle.std.proofs.Common.{ℕ, false, refl, sym, subst}
+use Rattle.std.proofs.Common.{ℕ, sym, ap, ◌∙◌, subst}
 use Rattle.pc_types.specs.declared.Event.TheVariants as asked
 use Rattle.pc_types.specs.declared.Refusal.{Refusal}
-use Rattle.pc_types.specs.declared.Reply.TheVariants.{Refused}
-use Rattle.pc_model.specs.Calls.{IsAnswered}
+use Rattle.pc_types.specs.declared.Reply.TheVariants.{Aborted, Refused}
+use Rattle.pc_model.specs.Calls.{step_of, IsAnswered}
 use Rattle.pc_model.specs.Calls.AsksOpen.{Aborts}
+use Rattle.pc_shared.specs.Finds.{kept_in}
 use Rattle.pc_shared.specs.Sitters.{Sitter, Keeps}
-use Rattle.pc_shared.proofs.Keeping.{abort_keeps}
+use Rattle.pc_shared.proofs.Keeping.{abort_keeps, step_found}
 use Rattle.pc_shared.proofs.store.Shared.abort.Goals as goal
 
 pub invariant_of-session-2 : goal.invariant_of-session-2
@@ -13,8 +14,11 @@ invariant_of-session-2 g c =
     let w = c.session.inside.work in
     let f = c.session.inside.seat in
     let after = c.abort_as.new.seat.seen in
-    subst (λ (m : ℕ). Keeps false w.writes.items w.reads.items w.receipts.items m after) (sym c.abort_as.ensures.number)
-    (abort_keeps g.N.StoreName.name.setting f.number f.seen after w.busy false w.writes.items w.writes.items w.reads.items w.reads.items w.receipts.items w.receipts.items (c.session.invariant.while_busy c.if-not-session.false) c.in-Ok.ensures.call refl refl)
+    let v = c.abort.new.self in
+    let e = c.abort.ensures in
+    (subst (λ (m : ℕ). Keeps v.busy v.writes.items v.reads.items v.receipts.items m after) (sym c.abort_as.ensures.number)
+    (abort_keeps g.N.StoreName.name.setting f.number f.seen after w.busy v.busy w.writes.items v.writes.items w.reads.items v.reads.items w.receipts.items v.receipts.items (c.session.invariant.0.while_busy c.if-not-session.false) c.in-Ok.ensures.call e.0 e.1),
+    ap (λ l. kept_in l v.reads.items) e.2 ∙ sym (step_found g.N.StoreName.name.setting f.seen after (step_of (asked.Abort f.number) Aborted) c.in-Ok.ensures.call))
 
 pub returns-then-not-session-clause-refused : goal.returns-then-not-session-clause-refused
 returns-then-not-session-clause-refused g c =

@@ -3,12 +3,13 @@ use Rattle.pc_types.specs.declared.Receipt.{Receipt}
 use Rattle.pc_model.specs.Receipts.{own, receipt_of}
 use Rattle.pc_types.specs.declared.Event.TheVariants as asked
 use Rattle.pc_types.specs.declared.Refusal.{Refusal}
-use Rattle.pc_types.specs.declared.Reply.TheVariants.{Refused}
-use Rattle.pc_model.specs.Calls.{IsAnswered}
+use Rattle.pc_types.specs.declared.Reply.TheVariants.{Committed, Refused}
+use Rattle.pc_model.specs.Calls.{step_of, IsAnswered}
 use Rattle.pc_model.specs.Calls.AsksOpen.{Commits}
 use Rattle.pc_model.specs.Receipts.{own_of}
+use Rattle.pc_shared.specs.Finds.{kept_in}
 use Rattle.pc_shared.specs.Sitters.{Sitter, Keeps}
-use Rattle.pc_shared.proofs.Keeping.{commit_keeps}
+use Rattle.pc_shared.proofs.Keeping.{commit_keeps, step_found}
 use Rattle.pc_shared.proofs.store.Shared.commit.Goals as goal
 
 pub invariant_of-session-2 : goal.invariant_of-session-2
@@ -20,8 +21,9 @@ invariant_of-session-2 g c =
     let e = c.commit.ensures in
     let added : (n : ℕ) → (ks : List Receipt) → List Receipt = (λ n ks. ks ++ receipt_of n c.in-Ok.n (own w.busy w.writes.items w.reads.items ks) ∷ []) in
     let receipts : v.receipts.items ≡ added f.number w.receipts.items = e.1 ∙ (ap (λ (n : ℕ). added n c.has_room-has_room.new.items.items) c.number-number.ensures.number ∙ ap (added f.number) c.has_room-has_room.ensures.same) in
-    subst (λ (m : ℕ). Keeps v.busy v.writes.items v.reads.items v.receipts.items m after) (sym c.commit_as.ensures.number)
-    (commit_keeps g.N.StoreName.name.setting f.number f.seen after w.busy v.busy w.writes.items v.writes.items w.reads.items v.reads.items w.receipts.items v.receipts.items (c.session.invariant.while_busy c.if-not-session.false) c.in-Ok.n c.in-Ok.ensures.call e.0 receipts)
+    (subst (λ (m : ℕ). Keeps v.busy v.writes.items v.reads.items v.receipts.items m after) (sym c.commit_as.ensures.number)
+    (commit_keeps g.N.StoreName.name.setting f.number f.seen after w.busy v.busy w.writes.items v.writes.items w.reads.items v.reads.items w.receipts.items v.receipts.items (c.session.invariant.0.while_busy c.if-not-session.false) c.in-Ok.n c.in-Ok.ensures.call e.0 receipts),
+    ap (λ l. kept_in l v.reads.items) e.2 ∙ sym (step_found g.N.StoreName.name.setting f.seen after (step_of (asked.Commit f.number) (Committed c.in-Ok.n)) c.in-Ok.ensures.call))
 
 pub returns-then-not-session-clause-refused : goal.returns-then-not-session-clause-refused
 returns-then-not-session-clause-refused g c =
@@ -39,5 +41,5 @@ returns-clause-receipt g c =
     let n = c.in-Ok.n in
     let added : (m : ℕ) → (ks : List Receipt) → List Receipt = (λ m ks. ks ++ receipt_of m n (own w.busy w.writes.items w.reads.items ks) ∷ []) in
     let receipts : c.commit.new.self.receipts.items ≡ added f.number w.receipts.items = e.1 ∙ (ap (λ (m : ℕ). added m c.has_room-has_room.new.items.items) c.number-number.ensures.number ∙ ap (added f.number) c.has_room-has_room.ensures.same) in
-    let is = c.session.invariant.while_busy c.if-not-session.false in
+    let is = c.session.invariant.0.while_busy c.if-not-session.false in
     receipts ∙ ((λ k. w.receipts.items ++ receipt_of f.number n (is k) ∷ []) ∙ (λ k. (c.session.view_is k).receipts ++ receipt_of (c.session.view_is k).number n (own_of (c.session.view_is k).number (c.session.view_is k).seen) ∷ []))
