@@ -3,13 +3,11 @@ use Rattle.std.specs.Prelude.{ℕ, Bool, true, false, List, Option, Some, None}
 use Rattle.pc_types.specs.declared.Event.{Event}
 use Rattle.pc_types.specs.declared.Event.TheVariants as asked
 use Rattle.pc_types.specs.declared.Reply.TheVariants as told
-use Rattle.pc_types.specs.declared.Write.{Write}
 use Rattle.pc_model.specs.History.{History}
 use Rattle.pc_model.specs.Replies.{Setting}
 use Rattle.pc_model.specs.Calls.{step_of, Extends}
-use Rattle.pc_model.specs.Receipts.{Read, with_read}
-use Rattle.pc_shared.specs.declared.asks.Got.{Got}
-use Rattle.pc_shared.specs.declared.asks.Got.TheVariants as got
+use Rattle.pc_receipts.specs.declared.got.Got.{Got}
+use Rattle.pc_receipts.specs.declared.got.Got.TheVariants as got
 
 -- a read was so answered, and the session has then seen the second history
 abbrev pub IsGot : Setting → History → ℕ → List ℕ → Got → History → Type 0
@@ -26,9 +24,3 @@ IsMade st before event false after = Extends st before (step_of event told.Died)
 abbrev pub write_event : ℕ → List ℕ → Option (List ℕ) → Event
 write_event s key (Some value) = asked.Put s key value
 write_event s key None = asked.Del s key
-
--- the reads after such an answer
-abbrev pub reads_after : Got → List Write → List Read → List ℕ → List Read
-reads_after (got.Found value) writes reads key = with_read writes reads key (Some value)
-reads_after got.Absent writes reads key = with_read writes reads key None
-reads_after got.Died writes reads key = reads

@@ -8,28 +8,19 @@ ghost use Rattle.pc_shared.specs.Answers.{answer_of};
 
 use crate::session::Answer;
 use crate::store::Shared;
+use pc_receipts::Got;
 use pc_tie::{SessionSeat, StoreName};
 use pc_types::{Event, Key, Lsn, Refusal, Reply, TxnNo, Value};
 use std::sync::Wait;
 
-/// What a read was answered.
-#[derive(Drop)]
-pub enum Got {
-    Found(Value),
-    Absent,
-    Died,
-}
-
-impl Got {
-    // How the session is told of it.
-    pub(crate) fn answer(&self) -> Answer
-        ensures { result ≡ answer_of self.now }
-    {
-        match self {
-            Got::Found(_) => Answer::Found,
-            Got::Absent => Answer::Absent,
-            Got::Died => Answer::Died,
-        }
+// How a session is told of what a read was answered.
+pub(crate) fn answer_of(got: &Got) -> Answer
+    ensures { result ≡ answer_of got.now }
+{
+    match got {
+        Got::Found(_) => Answer::Found,
+        Got::Absent => Answer::Absent,
+        Got::Died => Answer::Died,
     }
 }
 

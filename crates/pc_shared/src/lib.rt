@@ -6,12 +6,9 @@ mod closing;
 mod session;
 mod store;
 mod waits;
-mod work;
 
-pub use asks::Got;
 pub use closing::Closed;
 pub use pc_latch::{LogPass, PartTicket};
 pub use session::{Answer, Session};
 pub use store::{Held, Opened, Shared};
 pub use waits::{Waits, Woken};
-pub use work::{Latest, Work};

@@ -9,8 +9,9 @@ ghost use Rattle.pc_model.specs.Receipts.{own_of, receipt_of};
 ghost use Rattle.pc_shared.specs.Answers.{IsRead, IsWritten};
 ghost use Rattle.pc_shared.specs.Finds.{found_in};
 
+use crate::asks::answer_of;
 use crate::store::Shared;
-use crate::work::{Work, has_room};
+use pc_receipts::{Work, has_room};
 use pc_tie::{SessionSeat, StoreName};
 use pc_types::{Key, Lsn, Receipt, Refusal, SessionNo, TxnNo, Value};
 use std::marker::Model;
@@ -38,7 +39,8 @@ pub struct Session<N: StoreName> {
 
 impl<N: StoreName> Model for Session<N> {
     ghost use Rattle.std.specs.Prelude.{◌≡◌};
-    ghost use Rattle.pc_shared.specs.Finds.{kept_in, found_in};
+    ghost use Rattle.pc_receipts.specs.Notes.{kept_in};
+    ghost use Rattle.pc_shared.specs.Finds.{found_in};
     ghost use Rattle.pc_shared.specs.Sitters.{Sitter, sitter, Keeps};
 
     ghost Value = { Sitter };
@@ -124,7 +126,7 @@ impl<N: StoreName> Shared<N> {
             Ok((key, got)) => (key, got),
             Err(why) => return Err(why),
         };
-        let answer = got.answer();
+        let answer = answer_of(&got);
         session.work.read(key, got);
         Ok(answer)
     }

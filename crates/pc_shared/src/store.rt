@@ -19,10 +19,10 @@ ghost use Rattle.pc_shared.specs.Sitters.{new_sitters, IsLeft, AreApart, HasAll,
 use crate::closing::{Closed, close};
 use crate::session::Session;
 use crate::waits::{Waits, Woken};
-use crate::work::Work;
 use pc_engine::World;
 use pc_latch::{Latched, LogPass, PartTicket};
 use pc_part::Base;
+use pc_receipts::Work;
 use pc_tie::{Keeper, SessionSeat, StoreName, Tie, Untied};
 use pc_types::{Entry, Event, FileNo, MOST_KEYS, MOST_SESSIONS, Refusal, Reply};
 use std::alloc::Global;

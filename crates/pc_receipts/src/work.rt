@@ -1,12 +1,11 @@
-//! What a session has written and read, and its receipts.
+//! What a session has written and read, its receipts, and what it found.
 ghost use Rattle.std.specs.Prelude.{◌≡◌, ◌<◌, ◌∷◌, ◌++◌, ◌||◌, [], not, true, false, is_some, Some, None, option_copied, slice_get, vec_len, vec_capacity};
 ghost use Rattle.pc_model.specs.Database.{with_write, written};
 ghost use Rattle.pc_model.specs.Receipts.{own, receipt_of, is_read, with_read};
-ghost use Rattle.pc_shared.specs.Asked.{reads_after};
-ghost use Rattle.pc_shared.specs.declared.work.Latest.TheVariants.{Nothing};
-ghost use Rattle.pc_shared.specs.Finds.{content_of, kept_in, value_of};
+ghost use Rattle.pc_receipts.specs.Notes.{reads_after, content_of, kept_in, value_of};
+ghost use Rattle.pc_receipts.specs.declared.work.Latest.TheVariants.{Nothing};
 
-use crate::asks::Got;
+use crate::got::Got;
 use pc_engine::{is_unwritten, note_write};
 use pc_types::{Items, Key, Lsn, Receipt, SessionNo, Value, Write};
 use std::alloc::Global;
@@ -27,16 +26,21 @@ pub enum Latest {
 /// latest call found.
 #[derive(Drop)]
 pub struct Work {
-    pub(crate) busy: bool,
-    pub(crate) writes: Vec<Write>,
-    pub(crate) reads: Vec<(Key, Option<Value>)>,
-    pub(crate) receipts: Vec<Receipt>,
-    pub(crate) latest: Latest,
+    /// Whether its transaction is open.
+    pub busy: bool,
+    /// What the open transaction has written: the final write of each key, in the order of first writes.
+    pub writes: Vec<Write>,
+    /// What the open transaction has read: the first read of each key that it had not written.
+    pub reads: Vec<(Key, Option<Value>)>,
+    /// A receipt for each commit, in their order.
+    pub receipts: Vec<Receipt>,
+    /// What the latest call found.
+    pub latest: Latest,
 }
 
 impl Work {
-    // Nothing yet.
-    pub(crate) fn new(alloc: Global) -> Work
+    /// Nothing yet.
+    pub fn new(alloc: Global) -> Work
         ensures { (result.busy ≡ false) × (result.writes.items ≡ []) × (result.reads.items ≡ []) × (result.receipts.items ≡ []) × (result.latest ≡ Nothing) }
     {
         Work {
@@ -48,8 +52,8 @@ impl Work {
         }
     }
 
-    // The value that the latest call found.
-    pub(crate) fn found(&self) -> Option<&Value>
+    /// The value that the latest call found.
+    pub fn found(&self) -> Option<&Value>
         ensures { option_copied result ≡ kept_in self.now.latest self.now.reads.items }
     {
         match &self.latest {
@@ -59,8 +63,8 @@ impl Work {
         }
     }
 
-    // A transaction begins.
-    pub(crate) fn begin(&mut self)
+    /// A transaction begins.
+    pub fn begin(&mut self)
         ensures { (self.new.busy ≡ true) × (self.new.writes.items ≡ []) × (self.new.reads.items ≡ []) × (self.new.receipts.items ≡ self.old.receipts.items) × (self.new.latest ≡ Nothing) }
     {
         self.latest = Latest::Nothing;
@@ -69,8 +73,8 @@ impl Work {
         self.busy = true;
     }
 
-    // A write was made.
-    pub(crate) fn write(&mut self, key: Key, value: Option<Value>)
+    /// A write was made: the value that the key was set to, or its removal.
+    pub fn write(&mut self, key: Key, value: Option<Value>)
         requires { vec_len self.old.writes < vec_capacity self.old.writes }
         ensures writes { self.new.writes.items ≡ with_write self.old.writes.items (record { key = key; value = value }) }
         ensures others { (self.new.busy ≡ self.old.busy) × (self.new.reads.items ≡ self.old.reads.items) × (self.new.receipts.items ≡ self.old.receipts.items) × (self.new.latest ≡ Nothing) }
@@ -79,8 +83,8 @@ impl Work {
         note_write(&mut self.writes, Write { key, value });
     }
 
-    // A read was answered.
-    pub(crate) fn read(&mut self, key: Key, got: Got)
+    /// A read was answered.
+    pub fn read(&mut self, key: Key, got: Got)
         requires { vec_len self.old.reads < vec_capacity self.old.reads }
         ensures reads { self.new.reads.items ≡ reads_after got self.old.writes.items self.old.reads.items key }
         ensures latest { kept_in self.new.latest self.new.reads.items ≡ value_of got }
@@ -89,23 +93,23 @@ impl Work {
         self.latest = note_got(self.writes.as_slice(), &mut self.reads, key, got);
     }
 
-    // A request died.
-    pub(crate) fn die(&mut self)
+    /// A request died.
+    pub fn die(&mut self)
         ensures { (self.new.busy ≡ self.old.busy) × (self.new.writes.items ≡ self.old.writes.items) × (self.new.reads.items ≡ self.old.reads.items) × (self.new.receipts.items ≡ self.old.receipts.items) × (self.new.latest ≡ Nothing) }
     {
         self.latest = Latest::Nothing;
     }
 
-    // The transaction was aborted.
-    pub(crate) fn abort(&mut self)
+    /// The transaction was aborted.
+    pub fn abort(&mut self)
         ensures { (self.new.busy ≡ false) × (self.new.receipts.items ≡ self.old.receipts.items) × (self.new.latest ≡ Nothing) }
     {
         self.latest = Latest::Nothing;
         self.busy = false;
     }
 
-    // The transaction was committed: what it did becomes a receipt.
-    pub(crate) fn commit(&mut self, alloc: Global, session: SessionNo, number: Lsn)
+    /// The transaction was committed with this number: what it did becomes a receipt of the session.
+    pub fn commit(&mut self, alloc: Global, session: SessionNo, number: Lsn)
         requires { vec_len self.old.receipts < vec_capacity self.old.receipts }
         ensures { (self.new.busy ≡ false) × (self.new.receipts.items ≡ self.old.receipts.items ++ receipt_of session number (own self.old.busy self.old.writes.items self.old.reads.items self.old.receipts.items) ∷ []) × (self.new.latest ≡ Nothing) }
     {
@@ -122,8 +126,8 @@ impl Work {
     }
 }
 
-// Room for one more, or false where memory ran out.
-pub(crate) fn has_room<T>(items: &mut Vec<T>) -> bool
+/// Makes room for one more, or answers false where memory ran out.
+pub fn has_room<T>(items: &mut Vec<T>) -> bool
     ensures same { items.new.items ≡ items.old.items }
     ensures room { result ≡ true → vec_len items.new < vec_capacity items.new }
 {
