@@ -16,7 +16,7 @@ ghost use Rattle.pc_model.specs.Sets as set;
 ghost use Rattle.pc_latch.specs.Tickets.{IsNoTicket};
 
 use crate::pass::{LogPass, next_of};
-use crate::ticket::{PartTicket, copy_of};
+use crate::ticket::PartTicket;
 use pc_engine::World;
 use pc_tie::{Keeper, SessionSeat, StoreName, Tie};
 use pc_types::{Entry, Event, FileNo, Phase, Refusal, Reply, Step};
@@ -192,12 +192,9 @@ impl<N: StoreName> Latched<N> {
         ensures ticket { IfOk result (λ t. t.points ≡ set.insert set.empty number) }
         ensures refused { IfErr result (λ why. IsNoTicket N.name.setting number why) }
     {
-        let Some(part) = self.world.file(number) else {
-            return Err(Refusal::NoFile);
-        };
-        let part = match copy_of(alloc, part) {
+        let part = match self.world.hand_out(number) {
             Ok(part) => part,
-            Err(_) => return Err(Refusal::OutOfMemory),
+            Err(why) => return Err(why),
         };
         let mut witnesses = Vec::new(alloc);
         if witnesses.reserve(1).is_err() {

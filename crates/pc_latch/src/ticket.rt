@@ -4,10 +4,10 @@ ghost use Rattle.pc_model.specs.Files.{joined_file};
 ghost use Rattle.pc_model.specs.History.{log_of};
 ghost use Rattle.pc_model.specs.Replies.{IsLegalHistory, join_causes};
 ghost use Rattle.pc_model.specs.Standing.{IsOfItsPoints};
-ghost use Rattle.pc_part.specs.Joins.{first_cause};
+ghost use Rattle.pc_part.specs.Joins.{first_cause, IsRefusedBy};
 ghost use Rattle.pc_latch.specs.Tickets.{BeginsWith, HaveGrown, IsRefusedJoin};
 
-use pc_part::{Part, join, joins_are_idempotent};
+use pc_part::{Part, SharedPart, join};
 use pc_tie::{Keeper, StoreName, Tie, Witness};
 use pc_types::Refusal;
 use std::alloc::Global;
@@ -18,7 +18,7 @@ use std::marker::Model;
 #[derive(Drop)]
 pub struct PartTicket<N: StoreName> {
     pub(crate) alloc: Global,
-    pub(crate) part: Part,
+    pub(crate) part: SharedPart,
     pub(crate) witnesses: Vec<Witness<N>>,
 }
 
@@ -36,16 +36,13 @@ impl<N: StoreName> Model for PartTicket<N> {
     ghost invariant = { λ t. IsWorth N.name.setting t.witnesses.items t.part };
 }
 
-// The same part once more; it fails only where memory ran out.
-pub(crate) fn copy_of(alloc: Global, part: &Part) -> Result<Part, Refusal>
-    ensures same { IfOk result (λ copy. copy ≡ part.now) }
-    ensures memory { IfErr result (λ e. e ≡ Refusal.OutOfMemory) }
+// The join of both parts.
+fn join_shared(alloc: Global, a: &SharedPart, b: &SharedPart) -> Result<SharedPart, Refusal>
+    ensures joined { IfOk result (λ part. part ≡ joined_file a.now b.now) }
+    ensures refused { IsRefusedBy (first_cause (join_causes (Some a.now) (Some b.now))) result }
 {
-    joins_are_idempotent();
-    match join(alloc, part, part) {
-        Ok(copy) => Ok(copy),
-        Err(_) => Err(Refusal::OutOfMemory),
-    }
+    let part = join(alloc, a.part(), b.part())?;
+    SharedPart::new(alloc, part)
 }
 
 // Takes the second ones to the first, or says that memory ran out.
@@ -90,11 +87,11 @@ impl<N: StoreName> PartTicket<N> {
     pub fn part(&self) -> &Part
         ensures { result.now ≡ self.now }
     {
-        &self.part
+        self.part.part()
     }
 
-    /// Its part, taken out.
-    pub fn into_part(self) -> Part
+    /// Its part, taken out; others may own it too.
+    pub fn into_part(self) -> SharedPart
         ensures { result ≡ self }
     {
         let PartTicket {
@@ -127,7 +124,7 @@ impl<N: StoreName> PartTicket<N> {
     {
         let mut first = self;
         let mut second = other;
-        let part = match join(first.alloc, &first.part, &second.part) {
+        let part = match join_shared(first.alloc, &first.part, &second.part) {
             Ok(part) => part,
             Err(why) => return Err((why, first, second)),
         };
