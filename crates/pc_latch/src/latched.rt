@@ -1,6 +1,7 @@
 //! What lies under the latch: the world, and the keeper of its history.
-ghost use Rattle.std.specs.Prelude.{◌≡◌, ◌≤◌, ◌+◌, ◌∷◌, ◌++◌, [], false, IfOk, IfErr, OnOk, OnErr, length, take};
+ghost use Rattle.std.specs.Prelude.{◌≡◌, ◌≤◌, ◌+◌, ◌∷◌, ◌++◌, [], false, IfOk, IfErr, OnOk, OnErr, All, length, take};
 ghost use Rattle.pc_types.specs.declared.Event.TheVariants.{Take};
+ghost use Rattle.pc_model.specs.FewWrites.{HasFewWrites};
 ghost use Rattle.pc_model.specs.History.{History, log_of, phase_of};
 ghost use Rattle.pc_model.specs.Headline.{TakesPointValue};
 ghost use Rattle.pc_model.specs.Replies.{IsLegalHistory};
@@ -160,6 +161,7 @@ impl<N: StoreName> Latched<N> {
         ensures list { IfOk result (λ entries. pass.new ≡ pass.old ++ entries.items) }
         ensures next { OnOk result (pass.new ≡ take (length pass.old + most) (log_of self.old)) }
         ensures most { IfOk result (λ entries. length entries.items ≤ most) }
+        ensures few { IfOk result (λ entries. All HasFewWrites entries.items) }
         ensures same { OnErr result (pass.new ≡ pass.old) }
         ensures memory { IfErr result (λ e. e ≡ Refusal.OutOfMemory) }
     {

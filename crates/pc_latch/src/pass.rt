@@ -1,5 +1,6 @@
 //! The logger's pass: how far the log was handed out.
-ghost use Rattle.std.specs.Prelude.{◌≡◌, ◌≤◌, [], IfOk, IfErr, length, take, drop};
+ghost use Rattle.std.specs.Prelude.{◌≡◌, ◌≤◌, [], IfOk, IfErr, All, length, take, drop};
+ghost use Rattle.pc_model.specs.FewWrites.{HasFewWrites};
 ghost use Rattle.pc_model.specs.History.{log_of};
 
 use pc_tie::{Keeper, StoreName, Tie, Witness};
@@ -83,8 +84,10 @@ pub(crate) fn next_of(
     first: usize,
     most: usize,
 ) -> Result<Vec<Entry>, Refusal>
-    requires { first ≤ length log.now }
+    requires first { first ≤ length log.now }
+    requires few { All HasFewWrites log.now }
     ensures entries { IfOk result (λ entries. entries.items ≡ take most (drop first log.now)) }
+    ensures few { IfOk result (λ entries. All HasFewWrites entries.items) }
     ensures memory { IfErr result (λ e. e ≡ Refusal.OutOfMemory) }
 {
     let rest = &log[first..];
