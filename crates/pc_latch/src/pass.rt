@@ -48,6 +48,13 @@ impl<N: StoreName> LogPass<N> {
         self.run
     }
 
+    /// How many entries were handed out.
+    pub fn len(&self) -> usize
+        ensures { result ≡ length self.now }
+    {
+        self.count
+    }
+
     /// Ends the pass: how many entries of the keeper's log were handed out, the first ones.
     pub fn close(self, tie: &Tie<N>, keeper: &mut Keeper<N>) -> usize
         requires { keeper.old.guests ≡ [] }
