@@ -1,5 +1,6 @@
 //! What a store leaves when it is closed.
 ghost use Rattle.std.specs.Prelude.{◌≡◌, ◌≤◌, ◌++◌, All, MatchBool, length, map, take, vec_capacity};
+ghost use Rattle.pc_model.specs.FewWrites.{HasFewWrites};
 ghost use Rattle.pc_model.specs.History.{log_of};
 ghost use Rattle.pc_model.specs.Standing.{IsOfItsPoints};
 ghost use Rattle.pc_engine.specs.Stands.{Stands};
@@ -38,7 +39,8 @@ impl<N: StoreName> Closed<N> {
 
     /// The log.
     pub fn log(&self) -> &[Entry]
-        ensures { result.now ≡ self.now.world.log }
+        ensures log { result.now ≡ self.now.world.log }
+        ensures few { All HasFewWrites result.now }
     {
         self.world.log()
     }

@@ -1,5 +1,6 @@
 //! The store that threads share.
-ghost use Rattle.std.specs.Prelude.{◌≡◌, ◌≢◌, ◌≤◌, ◌<◌, ◌⊎◌, ◌++◌, [], false, length, IfOk, IfErr, OnErr, MatchBool};
+ghost use Rattle.std.specs.Prelude.{◌≡◌, ◌≢◌, ◌≤◌, ◌<◌, ◌⊎◌, ◌++◌, [], false, length, IfOk, IfErr, OnErr, All, MatchBool};
+ghost use Rattle.pc_model.specs.FewWrites.{HasFewWrites};
 ghost use Rattle.pc_model.specs.Maps.{len};
 ghost use Rattle.pc_types.specs.declared.Reply.TheVariants.{Wait};
 ghost use Rattle.pc_model.specs.Calls.{step_of, session_of, counts, IsAnswered};
@@ -225,6 +226,7 @@ impl<N: StoreName> Shared<N> {
     ) -> Result<Vec<Entry>, Refusal>
         ensures list { IfOk result (λ entries. pass.new ≡ pass.old ++ entries.items) }
         ensures most { IfOk result (λ entries. length entries.items ≤ most) }
+        ensures few { IfOk result (λ entries. All HasFewWrites entries.items) }
         ensures same { OnErr result (pass.new ≡ pass.old) }
         ensures memory { IfErr result (λ e. e ≡ Refusal.OutOfMemory) }
     {
