@@ -1,0 +1,24 @@
+-- What a logger writes.
+use Rattle.std.specs.Prelude.{◌≡◌, ◌⊎◌, ◌++◌, ℕ, List, Option, Result, Ok, Err, drop}
+use Rattle.std.specs.List.{flat_map}
+use Rattle.pc_types.specs.Tallies.{Puts}
+use Rattle.pc_types.specs.declared.Entry.{Entry}
+use Rattle.pc_types.specs.declared.refusal.Refusal.{Refusal}
+use Rattle.pc_types.specs.declared.refusal.Refusal.TheVariants.{OutOfMemory}
+use Rattle.pc_types.specs.declared.tally.Tally.{Tally}
+use Rattle.pc_log.specs.Texts.{entry_text}
+
+-- All of the text went out, on Ok and where memory ran out; or the device failed, and then a beginning of the text went out,
+-- but not all of it.
+abbrev pub Logged : {T X : Type 0} → (T → Option (List ℕ)) → Tally T → Tally T → Result X Refusal → List ℕ → Type 0
+Logged contents old new (Ok x) text = Puts contents old new (Ok tt) text
+Logged contents old new (Err e) text = ((e ≡ OutOfMemory) × Puts contents old new (Ok tt) text) ⊎ Puts contents old new (Err e) text
+
+-- more entries were handed out, and so was their text written
+abbrev pub LogsMore : {T X : Type 0} → (T → Option (List ℕ)) → Tally T → Tally T → Result X Refusal → List Entry → List Entry → Type 0
+LogsMore contents old new result before after =
+    (more : List Entry) × (after ≡ before ++ more) × Logged contents old new result (flat_map entry_text more)
+
+-- the text of the entries behind the first so many
+abbrev pub rest_text : ℕ → List Entry → List ℕ
+rest_text count log = flat_map entry_text (drop count log)
