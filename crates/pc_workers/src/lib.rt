@@ -1,5 +1,8 @@
+//! What the threads of a shared store run: loops of clients, of the checkpointer and of the logger.
 #![tactic(auto)]
 
+mod checkpointing;
 mod logging;
 
+pub use checkpointing::checkpoint_loop;
 pub use logging::{MOST_BATCH, log_loop, log_rest};

@@ -1,0 +1,93 @@
+//! The checkpointer's loop: it takes one point after the other.
+ghost use Rattle.std.specs.Prelude.{◌≡◌, IfOk, IfErr};
+ghost use Rattle.pc_types.specs.declared.Reply.TheVariants.{Refused};
+ghost use Rattle.pc_latch.specs.Cycles.{IsAdvance, IsTaken};
+ghost use Rattle.pc_workers.specs.Checkpointing.{IsRefusal};
+
+use pc_shared::Shared;
+use pc_tie::StoreName;
+use pc_types::{Gate, Phase, Place, Refusal, Reply};
+use std::sync::Wait;
+
+// Asks for the event that ends the phase, until it is answered with another phase; while others are in the way it waits until
+// the count of changes is another than the one from before it asked.
+fn change_phase<N: StoreName, R: Wait>(rt: &R, shared: &Shared<N>) -> Result<(), Refusal>
+    ensures { IfErr result (λ why. IsAdvance N.name.setting (Refused why)) }
+{
+    let mut seen = 0;
+    for _ in rt.forever() {
+        match shared.advance(rt) {
+            Reply::NotYet(_) => seen = shared.until_changed(rt, seen),
+            Reply::Refused(why) => return Err(why),
+            _ => return Ok(()),
+        }
+    }
+    unreachable!()
+}
+
+// Enters the phase, which is the next one.
+fn enter<N: StoreName, R: Wait, G: Gate>(
+    rt: &R,
+    shared: &Shared<N>,
+    phase: Phase,
+    gate: &G,
+) -> Result<(), Refusal>
+    ensures { IfErr result (λ why. IsAdvance N.name.setting (Refused why)) }
+{
+    gate.pass(Place::Due(phase));
+    change_phase(rt, shared)?;
+    gate.pass(Place::Entered(phase));
+    Ok(())
+}
+
+// Takes the keys of the point, until none is left.
+fn take_keys<N: StoreName, R: Wait, G: Gate>(
+    rt: &R,
+    shared: &Shared<N>,
+    gate: &G,
+) -> Result<(), Refusal>
+    ensures { IfErr result (λ why. IsTaken N.name.setting (Refused why)) }
+{
+    for _ in rt.forever() {
+        match shared.take(rt) {
+            Reply::NoneLeft => return Ok(()),
+            Reply::Refused(why) => return Err(why),
+            _ => gate.pass(Place::Took),
+        }
+    }
+    unreachable!()
+}
+
+// Takes one point: a whole cycle, from rest to rest.
+fn take_point<N: StoreName, R: Wait, G: Gate>(
+    rt: &R,
+    shared: &Shared<N>,
+    gate: &G,
+) -> Result<(), Refusal>
+    ensures { IfErr result (IsRefusal N.name.setting) }
+{
+    enter(rt, shared, Phase::Prepare, gate)?;
+    enter(rt, shared, Phase::Resolve, gate)?;
+    enter(rt, shared, Phase::Capture, gate)?;
+    take_keys(rt, shared, gate)?;
+    enter(rt, shared, Phase::Complete, gate)?;
+    enter(rt, shared, Phase::Rest, gate)
+}
+
+/// Takes so many points, one after the other, and answers how many. It passes the gate before and after each change of the
+/// phase, and after each key. The first refusal ends it: one that the store may answer, after some legal history, to the event
+/// that ends a phase or to a take. No other thread may ask for these events beside it.
+pub fn checkpoint_loop<N: StoreName, R: Wait, G: Gate>(
+    rt: &R,
+    shared: &Shared<N>,
+    points: u32,
+    gate: &G,
+) -> Result<u32, Refusal>
+    ensures points { IfOk result (λ n. n ≡ points) }
+    ensures refused { IfErr result (IsRefusal N.name.setting) }
+{
+    for _ in 0..points {
+        take_point(rt, shared, gate)?;
+    }
+    Ok(points)
+}
