@@ -1,2 +1,3 @@
 pub mod Logging
 pub mod Checkpointing
+pub mod Clients

@@ -2,7 +2,9 @@
 #![tactic(auto)]
 
 mod checkpointing;
+mod clients;
 mod logging;
 
 pub use checkpointing::checkpoint_loop;
+pub use clients::{Count, Job, MOST_TRIES, Op, client_loop};
 pub use logging::{MOST_BATCH, log_loop, log_rest};

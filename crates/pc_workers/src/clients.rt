@@ -1,0 +1,204 @@
+//! A client's loop: a session runs jobs, each as a transaction.
+ghost use Rattle.std.specs.Prelude.{◌≡◌, ◌<◌, ◌-◌, ◌^◌, ◌+◌, length};
+ghost use Rattle.pc_workers.specs.Clients.{HasCommits, commits_of};
+
+use pc_shared::{Answer, Session, Shared};
+use pc_tie::StoreName;
+use pc_types::{Gate, Items, Key, Place, Refusal, Value};
+use std::alloc::Global;
+use std::sync::Wait;
+
+/// An operation of a transaction.
+#[derive(Drop)]
+pub enum Op {
+    Get(Key),
+    Put(Key, Value),
+    Del(Key),
+}
+
+/// What one transaction does, in order.
+#[derive(Drop)]
+pub struct Job {
+    pub ops: Items<Op>,
+}
+
+/// How many jobs were committed, and how many were given up.
+#[derive(Clone, Copy, Debug, PartialEq, Eq)]
+pub struct Count {
+    pub commits: u64,
+    pub given_up: u64,
+}
+
+impl Count {
+    // Counts a job that ended so.
+    fn note(&mut self, ended: Ended)
+        requires { self.old.commits + self.old.given_up < 2 ^ 64 - 1 }
+        ensures commits { self.new.commits ≡ self.old.commits + commits_of ended }
+        ensures all { self.new.commits + self.new.given_up ≡ self.old.commits + self.old.given_up + 1 }
+    {
+        match ended {
+            Ended::Committed => self.commits += 1,
+            Ended::Died | Ended::Refused => self.given_up += 1,
+        }
+    }
+}
+
+/// A job is begun at most so many times.
+pub const MOST_TRIES: u32 = 10_000;
+
+// How a transaction ended.
+#[derive(Clone, Copy)]
+pub enum Ended {
+    // It was committed.
+    Committed,
+    // One of its requests died.
+    Died,
+    // A call was refused, or memory ran out.
+    Refused,
+}
+
+// Makes the operation.
+fn make<N: StoreName, R: Wait>(
+    rt: &R,
+    alloc: Global,
+    shared: &Shared<N>,
+    session: &mut Session<N>,
+    op: &Op,
+) -> Result<Answer, Refusal>
+    ensures { HasCommits 0 session.old session.new }
+{
+    match op {
+        Op::Get(key) => {
+            let key = key.copy(alloc)?;
+            shared.get(rt, session, key)
+        }
+        Op::Put(key, value) => {
+            let key = key.copy(alloc)?;
+            let value = value.copy(alloc)?;
+            shared.put(rt, session, key, value)
+        }
+        Op::Del(key) => {
+            let key = key.copy(alloc)?;
+            shared.del(rt, session, key)
+        }
+    }
+}
+
+// Makes the operations, until one dies: then false.
+fn make_all<N: StoreName, R: Wait, G: Gate>(
+    rt: &R,
+    alloc: Global,
+    shared: &Shared<N>,
+    session: &mut Session<N>,
+    ops: &[Op],
+    gate: &G,
+) -> Result<bool, Refusal>
+    ensures { HasCommits 0 session.old session.new }
+{
+    let number = session.number();
+    let mut step = 0u32;
+    for op in ops {
+        let answer = make(rt, alloc, shared, session, op)?;
+        step = step.saturating_add(1);
+        gate.pass(Place::Step(number, step));
+        if let Answer::Died = answer {
+            return Ok(false);
+        }
+    }
+    Ok(true)
+}
+
+// Begins, makes the operations and commits; where it doesn't commit, the transaction stays open, if it was begun.
+fn transact<N: StoreName, R: Wait, G: Gate>(
+    rt: &R,
+    alloc: Global,
+    shared: &Shared<N>,
+    session: &mut Session<N>,
+    ops: &[Op],
+    gate: &G,
+) -> Ended
+    ensures { HasCommits (commits_of result) session.old session.new }
+{
+    let number = session.number();
+    gate.pass(Place::Start(number));
+    if shared.begin(rt, session).is_err() {
+        return Ended::Refused;
+    }
+    match make_all(rt, alloc, shared, session, ops, gate) {
+        Ok(true) => {}
+        Ok(false) => return Ended::Died,
+        Err(_) => return Ended::Refused,
+    }
+    if shared.commit(rt, session).is_err() {
+        return Ended::Refused;
+    }
+    gate.pass(Place::Committed(number));
+    Ended::Committed
+}
+
+// A transaction that is over when it returns: it commits, or is aborted.
+fn attempt<N: StoreName, R: Wait, G: Gate>(
+    rt: &R,
+    alloc: Global,
+    shared: &Shared<N>,
+    session: &mut Session<N>,
+    ops: &[Op],
+    gate: &G,
+) -> Ended
+    ensures { HasCommits (commits_of result) session.old session.new }
+{
+    match transact(rt, alloc, shared, session, ops, gate) {
+        Ended::Committed => Ended::Committed,
+        ended => {
+            let _ = shared.abort(rt, session);
+            ended
+        }
+    }
+}
+
+// Runs the job, again after each time that it died, and answers how it ended the last time.
+fn run<N: StoreName, R: Wait, G: Gate>(
+    rt: &R,
+    alloc: Global,
+    shared: &Shared<N>,
+    session: &mut Session<N>,
+    job: &Job,
+    gate: &G,
+) -> Ended
+    ensures { HasCommits (commits_of result) session.old session.new }
+{
+    for _ in 0..MOST_TRIES {
+        match attempt(rt, alloc, shared, session, job.ops.as_slice(), gate) {
+            Ended::Died => {}
+            ended => return ended,
+        }
+    }
+    Ended::Died
+}
+
+/// The session runs the jobs in order, each as a transaction. Where a request died the transaction is aborted and the job is
+/// begun again, at most 10,000 times in all; after that, and after any refusal, its open transaction is aborted and the job is
+/// given up. Want of memory for the copy of a key or a value counts as a refusal. Answers how many jobs were committed, each of
+/// which has added a receipt, and how many were given up.
+pub fn client_loop<N: StoreName, R: Wait, G: Gate>(
+    rt: &R,
+    alloc: Global,
+    shared: &Shared<N>,
+    session: &mut Session<N>,
+    jobs: &[Job],
+    gate: &G,
+) -> Count
+    ensures commits { HasCommits result.commits session.old session.new }
+    ensures receipts { length session.new.receipts ≡ length session.old.receipts + result.commits }
+    ensures all { result.commits + result.given_up ≡ length jobs.now }
+{
+    let mut count = Count {
+        commits: 0,
+        given_up: 0,
+    };
+    for job in jobs {
+        let ended = run(rt, alloc, shared, session, job, gate);
+        count.note(ended);
+    }
+    count
+}
