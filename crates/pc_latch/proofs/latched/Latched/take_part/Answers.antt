@@ -6,8 +6,8 @@ use Rattle.pc_latch.specs.Tickets.{IsNoTicket}
 use Rattle.pc_latch.proofs.Worths.{worth_new, shelved_worth, shelved_points, no_ticket}
 use Rattle.pc_latch.proofs.latched.Latched.take_part.Goals as goal
 
-pub returns-in_Err-clause-refused : goal.returns-in_Err-clause-refused
-returns-in_Err-clause-refused g c =
+pub returns-in-Err-clause-refused : goal.returns-in-Err-clause-refused
+returns-in-Err-clause-refused g c =
     let st = g.N.StoreName.name.setting in
     let n = c.args.number in
     ⊎_elim
