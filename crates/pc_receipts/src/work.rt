@@ -188,12 +188,7 @@ fn note_value(
 }
 
 // Notes what a read was answered.
-fn note_got(
-    writes: &[Write],
-    reads: &mut Vec<(Key, Option<Value>)>,
-    key: Key,
-    got: Got,
-) -> Latest
+fn note_got(writes: &[Write], reads: &mut Vec<(Key, Option<Value>)>, key: Key, got: Got) -> Latest
     requires { vec_len reads.old < vec_capacity reads.old }
     ensures reads { reads.new.items ≡ reads_after got writes.now reads.old.items key }
     ensures latest { kept_in result reads.new.items ≡ value_of got }

@@ -1,40 +1,47 @@
 //! What each thread does.
-use pc_shared::{Answer, PartTicket, Session, Shared};
+use pc_shared::{Answer, Session, Shared};
 use pc_tie::StoreName;
-use pc_types::{FileNo, Key, Phase, Refusal, Reply, Value};
+use pc_types::{Gate, Items, Key, Place, Refusal, Value};
+use pc_workers::{Count, Job, Op, checkpoint_loop, client_loop};
 use std::alloc::Global;
 use std::sync::Wait;
 
 // How many transactions a client commits.
-const COMMITS: u32 = 1000;
+const COMMITS: u64 = 1000;
 
-/// Commits transactions over one key, each of which reads it and sets it anew; the number of those that were.
+/// A gate that nothing waits at.
+#[derive(Drop)]
+struct Open;
+
+impl Gate for Open {
+    fn pass(&self, _place: Place) {}
+}
+
+/// Commits transactions over one key call by call, each of which reads it and sets it anew; the number of those that were.
 pub fn commit_often<N: StoreName, R: Wait>(
     rt: &R,
     alloc: Global,
     shared: &Shared<N>,
     session: &mut Session<N>,
-    name: u8,
-) -> Result<u32, Refusal> {
+) -> Result<u64, Refusal> {
     for _ in 0..COMMITS {
-        commit_one(rt, alloc, shared, session, name)?;
+        commit_one(rt, alloc, shared, session)?;
     }
     Ok(COMMITS)
 }
 
-// One transaction: the key is read, and set to the byte that follows the one that was found.
-fn commit_one<N: StoreName, R: Wait>(
+/// One transaction: the key is read, and set to the byte that follows the one that was found.
+pub fn commit_one<N: StoreName, R: Wait>(
     rt: &R,
     alloc: Global,
     shared: &Shared<N>,
     session: &mut Session<N>,
-    name: u8,
 ) -> Result<(), Refusal> {
     shared.begin(rt, session)?;
-    let key = Key::new(alloc, &[name])?;
+    let key = Key::new(alloc, b"a")?;
     let answer = shared.get(rt, session, key)?;
     let next = next_byte(session, answer);
-    let key = Key::new(alloc, &[name])?;
+    let key = Key::new(alloc, b"a")?;
     let value = Value::new(alloc, &[next])?;
     shared.put(rt, session, key, value)?;
     shared.commit(rt, session)?;
@@ -59,44 +66,40 @@ fn first_byte(value: &Value) -> u8 {
     }
 }
 
-/// Takes so many points, and a ticket of the part of each.
-pub fn take_points<N: StoreName, R: Wait>(
+/// Runs jobs over another key by the client's loop; how many were committed.
+pub fn run_jobs<N: StoreName, R: Wait>(
     rt: &R,
     alloc: Global,
     shared: &Shared<N>,
+    session: &mut Session<N>,
+) -> Result<u64, Refusal> {
+    let mut jobs = Vec::new(alloc);
+    for _ in 0..COMMITS {
+        jobs.push(job_of(alloc)?)?;
+    }
+    let Count {
+        commits,
+        given_up: _,
+    } = client_loop(rt, alloc, shared, session, &jobs, &Open);
+    Ok(commits)
+}
+
+// A transaction that reads the key, sets it, and removes another one.
+fn job_of(alloc: Global) -> Result<Job, Refusal> {
+    let mut ops = Vec::new(alloc);
+    ops.push(Op::Get(Key::new(alloc, b"b")?))?;
+    ops.push(Op::Put(Key::new(alloc, b"b")?, Value::new(alloc, b"1")?))?;
+    ops.push(Op::Del(Key::new(alloc, b"c")?))?;
+    Ok(Job {
+        ops: Items::from_vec(ops),
+    })
+}
+
+/// Takes so many points.
+pub fn take_points<N: StoreName, R: Wait>(
+    rt: &R,
+    shared: &Shared<N>,
     points: u32,
-) -> Result<Vec<PartTicket<N>>, Refusal> {
-    let mut tickets = Vec::new(alloc);
-    for point in 0..points {
-        take_point(rt, shared)?;
-        tickets.push(shared.take_part(rt, FileNo(point + 1))?)?;
-    }
-    Ok(tickets)
-}
-
-// Goes once round the phases, and waits where transactions are in the way.
-fn take_point<N: StoreName, R: Wait>(rt: &R, shared: &Shared<N>) -> Result<(), Refusal> {
-    let mut seen = 0;
-    for _ in rt.forever() {
-        match shared.advance(rt) {
-            Reply::Phase(Phase::Rest, _) => return Ok(()),
-            Reply::Phase(Phase::Capture, _) => take_keys(rt, shared)?,
-            Reply::NotYet(_) => seen = shared.until_changed(rt, seen),
-            Reply::Refused(why) => return Err(why),
-            _ => {}
-        }
-    }
-    unreachable!()
-}
-
-// Takes keys until none is left.
-fn take_keys<N: StoreName, R: Wait>(rt: &R, shared: &Shared<N>) -> Result<(), Refusal> {
-    for _ in rt.forever() {
-        match shared.take(rt) {
-            Reply::NoneLeft => return Ok(()),
-            Reply::Refused(why) => return Err(why),
-            _ => {}
-        }
-    }
-    unreachable!()
+) -> Result<u32, Refusal> {
+    checkpoint_loop(rt, shared, points, &Open)
 }

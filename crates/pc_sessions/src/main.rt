@@ -1,8 +1,9 @@
-//! Two sessions on threads of their own, and a checkpointer beside them, over one store in memory: an example of the library.
+//! Two sessions on threads of their own, a checkpointer beside them, and a logger, over one store in memory: an example of the library.
 //! It prints what they leave.
 #![tactic(auto)]
 
 mod clients;
+mod log;
 mod store;
 
 use pc_part::Base;
@@ -36,7 +37,10 @@ fn run<H: Threads + Wait + Sync>(rt: &HostRuntime, threads: &H) -> io::Result<()
 }
 
 fn tell(rt: &HostRuntime, left: &Left) -> io::Result<()> {
-    let text = format!(in rt.alloc(); "commits {}\nreceipts {}\nentries {}\nlogged {}\nparts {}\nall {}\n", left.commits, left.receipts, left.entries, left.logged, left.parts, left.all)?;
+    let text = format!(in rt.alloc();
+        "commits {}\nreceipts {}\nentries {}\nparts {}\nall {}\nlogged {}\n",
+        left.commits, left.receipts, left.entries, left.parts, left.all, left.is_logged
+    )?;
     io::writer(rt).write_all(text.as_bytes())
 }
 

@@ -44,7 +44,7 @@ impl Model for Opened {
     ghost use Rattle.std.specs.Coded.{codes};
     ghost use Rattle.pc_model.specs.Database.{database_code};
     ghost use Rattle.pc_engine.specs.Stands.{Stands};
-ghost use Rattle.pc_engine.specs.Store.{setting_of};
+    ghost use Rattle.pc_engine.specs.Store.{setting_of};
     ghost use Rattle.pc_engine.specs.Stands.{Stands};
     ghost use Rattle.pc_tie.specs.Seats.{Name};
 

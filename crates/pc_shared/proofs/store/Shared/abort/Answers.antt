@@ -15,10 +15,11 @@ invariant_of-session-2 g c =
     let f = c.session.inside.seat in
     let after = c.abort_as.new.seat.seen in
     let v = c.abort.new.self in
-    let e = c.abort.ensures in
-    (subst (λ (m : ℕ). Keeps v.busy v.writes.items v.reads.items v.receipts.items m after) (sym c.abort_as.ensures.number)
-    (abort_keeps g.N.StoreName.name.setting f.number f.seen after w.busy v.busy w.writes.items v.writes.items w.reads.items v.reads.items w.receipts.items v.receipts.items (c.session.invariant.0.while_busy c.if-not-session.false) c.in-Ok.ensures.call e.0 e.1),
-    ap (λ l. kept_in l v.reads.items) e.2 ∙ sym (step_found g.N.StoreName.name.setting f.seen after (step_of (asked.Abort f.number) Aborted) c.in-Ok.ensures.call))
+    let e = c.abort.ensures in (
+      subst (λ (m : ℕ). Keeps v.busy v.writes.items v.reads.items v.receipts.items m after) (sym c.abort_as.ensures.number)
+          (abort_keeps g.N.StoreName.name.setting f.number f.seen after w.busy v.busy w.writes.items v.writes.items w.reads.items v.reads.items w.receipts.items v.receipts.items (c.session.invariant.0.while_busy c.if-not-session.false) c.in-Ok.ensures.call e.0 e.1),
+      ap (λ l. kept_in l v.reads.items) e.2 ∙ sym (step_found g.N.StoreName.name.setting f.seen after (step_of (asked.Abort f.number) Aborted) c.in-Ok.ensures.call),
+    )
 
 pub returns-then-not-session-clause-refused : goal.returns-then-not-session-clause-refused
 returns-then-not-session-clause-refused g c =

@@ -13,7 +13,8 @@ invariant_of-session-2 g c =
     let v = c.begin.new.self in
     let e = c.begin.ensures in
     let f = c.session.inside.seat in
-    let after = c.begin_as.new.seat.seen in
-    (subst (λ (m : ℕ). Keeps v.busy v.writes.items v.reads.items v.receipts.items m after) (sym c.begin_as.ensures.number)
-    (begin_keeps g.N.StoreName.name.setting f.number f.seen after w.busy v.busy w.writes.items v.writes.items w.reads.items v.reads.items w.receipts.items v.receipts.items c.in-Ok.t c.session.invariant.0 c.in-Ok.ensures.call e.0 e.1 e.2 e.3),
-    ap (λ l. kept_in l v.reads.items) e.4 ∙ sym (step_found g.N.StoreName.name.setting f.seen after (step_of (Begin f.number) (Begun c.in-Ok.t)) c.in-Ok.ensures.call))
+    let after = c.begin_as.new.seat.seen in (
+      subst (λ (m : ℕ). Keeps v.busy v.writes.items v.reads.items v.receipts.items m after) (sym c.begin_as.ensures.number)
+          (begin_keeps g.N.StoreName.name.setting f.number f.seen after w.busy v.busy w.writes.items v.writes.items w.reads.items v.reads.items w.receipts.items v.receipts.items c.in-Ok.t c.session.invariant.0 c.in-Ok.ensures.call e.0 e.1 e.2 e.3),
+      ap (λ l. kept_in l v.reads.items) e.4 ∙ sym (step_found g.N.StoreName.name.setting f.seen after (step_of (Begin f.number) (Begun c.in-Ok.t)) c.in-Ok.ensures.call),
+    )

@@ -20,10 +20,11 @@ invariant_of-session-2 g c =
     let after = c.commit_as.new.seat.seen in
     let e = c.commit.ensures in
     let added : (n : ℕ) → (ks : List Receipt) → List Receipt = (λ n ks. ks ++ receipt_of n c.in-Ok.n (own w.busy w.writes.items w.reads.items ks) ∷ []) in
-    let receipts : v.receipts.items ≡ added f.number w.receipts.items = e.1 ∙ (ap (λ (n : ℕ). added n c.has_room-has_room.new.items.items) c.number-number.ensures.number ∙ ap (added f.number) c.has_room-has_room.ensures.same) in
-    (subst (λ (m : ℕ). Keeps v.busy v.writes.items v.reads.items v.receipts.items m after) (sym c.commit_as.ensures.number)
-    (commit_keeps g.N.StoreName.name.setting f.number f.seen after w.busy v.busy w.writes.items v.writes.items w.reads.items v.reads.items w.receipts.items v.receipts.items (c.session.invariant.0.while_busy c.if-not-session.false) c.in-Ok.n c.in-Ok.ensures.call e.0 receipts),
-    ap (λ l. kept_in l v.reads.items) e.2 ∙ sym (step_found g.N.StoreName.name.setting f.seen after (step_of (asked.Commit f.number) (Committed c.in-Ok.n)) c.in-Ok.ensures.call))
+    let receipts : v.receipts.items ≡ added f.number w.receipts.items = e.1 ∙ (ap (λ (n : ℕ). added n c.has_room-has_room.new.items.items) c.number-number.ensures.number ∙ ap (added f.number) c.has_room-has_room.ensures.same) in (
+      subst (λ (m : ℕ). Keeps v.busy v.writes.items v.reads.items v.receipts.items m after) (sym c.commit_as.ensures.number)
+          (commit_keeps g.N.StoreName.name.setting f.number f.seen after w.busy v.busy w.writes.items v.writes.items w.reads.items v.reads.items w.receipts.items v.receipts.items (c.session.invariant.0.while_busy c.if-not-session.false) c.in-Ok.n c.in-Ok.ensures.call e.0 receipts),
+      ap (λ l. kept_in l v.reads.items) e.2 ∙ sym (step_found g.N.StoreName.name.setting f.seen after (step_of (asked.Commit f.number) (Committed c.in-Ok.n)) c.in-Ok.ensures.call),
+    )
 
 pub returns-then-not-session-clause-refused : goal.returns-then-not-session-clause-refused
 returns-then-not-session-clause-refused g c =

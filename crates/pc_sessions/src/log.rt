@@ -1,0 +1,56 @@
+//! The text of the log, as a logger writes it.
+ghost use Rattle.std.specs.Prelude.{◌≡◌, ◌≤◌, [], length};
+
+use pc_log::encode_log;
+use pc_shared::{Closed, LogPass, Shared};
+use pc_tie::StoreName;
+use pc_types::{Refusal, Tally};
+use pc_workers::{log_loop, log_rest};
+use std::alloc::Global;
+use std::sync::Wait;
+
+/// What a logger has written.
+#[derive(Drop)]
+pub struct TextOfLog {
+    out: Tally<Vec<u8>>,
+}
+
+impl TextOfLog {
+    /// Nothing yet.
+    pub fn new(alloc: Global) -> TextOfLog {
+        TextOfLog {
+            out: Tally::new(Vec::new(alloc)),
+        }
+    }
+
+    /// Writes the log until the end is marked and no entry is left.
+    pub fn write<N: StoreName, R: Wait>(
+        &mut self,
+        rt: &R,
+        shared: &Shared<N>,
+        pass: &mut LogPass<N>,
+    ) -> Result<usize, Refusal>
+        requires { pass.old ≡ [] }
+    {
+        log_loop(rt, shared, pass, &mut self.out)
+    }
+
+    /// Writes the rest of a closed log.
+    pub fn write_rest<N: StoreName>(&mut self, closed: &Closed<N>) -> Result<(), Refusal>
+        requires { closed.now.logged ≤ length closed.now.world.log }
+    {
+        log_rest(closed, &mut self.out)
+    }
+}
+
+/// Whether the text is that of the closed log.
+pub fn is_text_of<N: StoreName>(
+    alloc: Global,
+    text: TextOfLog,
+    closed: &Closed<N>,
+) -> Result<bool, Refusal> {
+    let mut whole = Tally::new(Vec::new(alloc));
+    encode_log(&mut whole, closed.base().run(), closed.log())?;
+    let TextOfLog { out } = text;
+    Ok(out.into_inner().as_slice() == whole.into_inner().as_slice())
+}
