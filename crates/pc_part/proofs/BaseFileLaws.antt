@@ -42,22 +42,22 @@ pub record IsBaseFields (x : BaseFields) : Type 0 where
 
 -- ---- the steps of reading, from the last
 
-abbrev pub after_pairs : ℕ → ℕ → List Pair × List ℕ → Result BaseFields Refusal
+abbrev after_pairs : ℕ → ℕ → List Pair × List ℕ → Result BaseFields Refusal
 after_pairs run point pairs = where_true (eqb (length pairs.1) 0) Trailing (record { run = run; point = point; pairs = pairs.0 })
 
-abbrev pub after_count : ℕ → ℕ → ℕ × List ℕ → Result BaseFields Refusal
+abbrev after_count : ℕ → ℕ → ℕ × List ℕ → Result BaseFields Refusal
 after_count run point count = pairs_at count.0 [] count.1 >>= after_pairs run point
 
-abbrev pub after_lawful : ℕ → List ℕ → ℕ → Result BaseFields Refusal
+abbrev after_lawful : ℕ → List ℕ → ℕ → Result BaseFields Refusal
 after_lawful run rest lawful = number_at Short w32 rest >>= after_count run lawful
 
-abbrev pub after_point : ℕ → ℕ × List ℕ → Result BaseFields Refusal
+abbrev after_point : ℕ → ℕ × List ℕ → Result BaseFields Refusal
 after_point run point = where_true (nat_le point.0 65535) BadRanges point.0 >>= after_lawful run point.1
 
-abbrev pub after_run : ℕ × List ℕ → Result BaseFields Refusal
+abbrev after_run : ℕ × List ℕ → Result BaseFields Refusal
 after_run run = number_at Short w32 run.1 >>= after_point run.0
 
-abbrev pub after_magic : List ℕ → Result BaseFields Refusal
+abbrev after_magic : List ℕ → Result BaseFields Refusal
 after_magic start = number_at Short w64 start >>= after_run
 
 grouped : (m r p c ps : List ℕ) → (m ++ (r ++ (p ++ (c ++ ps)))) ≡ (m ++ (r ++ (p ++ c))) ++ ps

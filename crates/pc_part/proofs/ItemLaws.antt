@@ -80,6 +80,6 @@ module _ {S X : Type 0} (read : S → List ℕ → Result (X × List ℕ) Refusa
   unfolding items_at
   items_cut more one zero state bytes = (refl, refl)
   items_cut more one (suc count) state bytes =
-      cut_then more (ReadsAlike more) (read state (bytes ++ more)) (read state bytes) _ _ (one state bytes) (λ first rest.
-      cut_then more (ReadsAlike more) (items_at read leaves count (leaves first) (rest ++ more)) (items_at read leaves count (leaves first) rest) _ _ (items_cut more one count (leaves first) rest) (λ others left.
+      cut_then _ _ _ _ _ _ (one state bytes) (λ first rest.
+      cut_then _ _ _ _ _ _ (items_cut more one count (leaves first) rest) (λ others left.
       (refl, refl)))

@@ -3,7 +3,6 @@ mod BaseTexts
 mod CompleteParts
 mod CoveringRanges
 pub mod CutBaseLaws
-mod CutHeadLaws
 pub mod CutPartLaws
 pub mod GapLaws
 mod ItemLaws

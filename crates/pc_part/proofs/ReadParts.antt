@@ -32,28 +32,28 @@ pub record IsPartFields (x : PartFields) : Type 0 where
 
 -- ---- the steps of reading, from the last
 
-abbrev pub after_rest : ℕ → List Range → List Triple → List ℕ → Result PartFields Refusal
+abbrev after_rest : ℕ → List Range → List Triple → List ℕ → Result PartFields Refusal
 after_rest run ranges entries rest = where_true (eqb (length rest) 0) Trailing (record { run = run; ranges = ranges; entries = entries })
 
-abbrev pub after_total : ℕ → List Range → List Triple → ℕ × List ℕ → Result PartFields Refusal
+abbrev after_total : ℕ → List Range → List Triple → ℕ × List ℕ → Result PartFields Refusal
 after_total run ranges entries total = where_true (eqb total.0 (length entries)) BadLength total.1 >>= after_rest run ranges entries
 
-abbrev pub after_entries : ℕ → List Range → List Triple × List ℕ → Result PartFields Refusal
+abbrev after_entries : ℕ → List Range → List Triple × List ℕ → Result PartFields Refusal
 after_entries run ranges entries = number_at Short w32 entries.1 >>= after_total run ranges entries.0
 
-abbrev pub after_ranges : ℕ → List Range × List ℕ → Result PartFields Refusal
+abbrev after_ranges : ℕ → List Range × List ℕ → Result PartFields Refusal
 after_ranges run ranges = entries_at (length ranges.1) ranges.0 [] ranges.1 >>= after_entries run ranges.0
 
-abbrev pub after_some : ℕ → List ℕ → ℕ → Result PartFields Refusal
+abbrev after_some : ℕ → List ℕ → ℕ → Result PartFields Refusal
 after_some run rest some = ranges_at some 1 rest >>= after_ranges run
 
-abbrev pub after_count : ℕ → ℕ × List ℕ → Result PartFields Refusal
+abbrev after_count : ℕ → ℕ × List ℕ → Result PartFields Refusal
 after_count run count = where_true (nat_lt 0 count.0) BadRanges count.0 >>= after_some run count.1
 
-abbrev pub after_run : ℕ × List ℕ → Result PartFields Refusal
+abbrev after_run : ℕ × List ℕ → Result PartFields Refusal
 after_run run = number_at Short w32 run.1 >>= after_count run.0
 
-abbrev pub after_magic : List ℕ → Result PartFields Refusal
+abbrev after_magic : List ℕ → Result PartFields Refusal
 after_magic start = number_at Short w64 start >>= after_run
 
 -- ---- what is read was written
