@@ -1,0 +1,91 @@
+#!/usr/bin/env python3
+"""Measures a store that threads share, by the program `pc_shared_bench`, beside one thread that steps a store, by `pc_bench`.
+
+    bench/shared.py                  500,000 transactions of one put each a thread, over 1,000 keys a thread
+    bench/shared.py COMMITS KEYS     so many, over so many
+
+Told are the committed transactions a second of one thread that steps a store, of 1, 2 and 4 threads that share one, and how often a second as
+many threads would go through a bare mutex that is locked three times a transaction: of several runs the best and the worst, and what the best
+ones are to each other. Then the calls of a store that one thread shares with nobody, with a point and its logging behind each round of
+the keys: the mean and the longest time of each, which is no less than its hold of the latch. And last the system calls that a transaction of
+one thread makes, counted by `strace` where it is there: those of two runs, one of twice the transactions, the difference for each.
+
+Build the programs first, by `rt run` in the folders crates/pc_bench and crates/pc_shared_bench.
+"""
+
+import os
+import shutil
+import subprocess
+import sys
+import tempfile
+
+CRATES = os.path.join(os.path.dirname(os.path.abspath(__file__)), "..", "crates")
+RUNS = 7
+THREADS = (1, 2, 4)
+
+
+def program(name):
+    return os.path.join(CRATES, name, "out", name)
+
+
+def told(name, *words):
+    """The lines that the program prints, each by its first word."""
+    ran = subprocess.run([program(name), "--times", *map(str, words)], check=True, capture_output=True, text=True)
+    return {line.split()[0]: line.split()[1:] for line in ran.stdout.splitlines()}
+
+
+def rates(name, count, field, *words):
+    """How many a second, of the best and the worst run."""
+    found = [count / int(told(name, *words)[field][0]) * 1e6 for _ in range(RUNS)]
+    return max(found), min(found)
+
+
+def tell(text, rate, base=None):
+    beside = "" if base is None else ", %.2f of the stepped store" % (rate[0] / base[0])
+    print("%s: %.0f a second (from %.0f)%s" % (text, *rate, beside), flush=True)
+
+
+def tell_rates(commits, keys):
+    stepped = rates("pc_bench", commits, "commit_us", "commits", commits, keys)
+    tell("one thread, stepped", stepped)
+    for threads in THREADS:
+        tell("%d threads, shared" % threads, rates("pc_shared_bench", commits * threads, "us", "shared", threads, commits, keys), stepped)
+        tell("%d threads, a bare mutex" % threads, rates("pc_shared_bench", commits * threads, "us", "mutex", threads, commits, keys), stepped)
+
+
+def tell_calls(commits, keys):
+    runs = [told("pc_shared_bench", "calls", 1, commits, keys) for _ in range(RUNS)]
+    for name in runs[0]:
+        count = runs[0][name][0]
+        mean = min(int(run[name][2]) for run in runs)
+        longest = [int(run[name][4]) for run in runs]
+        print("%s: %s calls, mean %d ns at best, the longest %.1f us at best and %.1f at worst" % (name, count, mean, min(longest) / 1e3, max(longest) / 1e3))
+
+
+def system_calls(commits, keys):
+    """How often each system call was made, all threads together."""
+    with tempfile.NamedTemporaryFile("r") as counts:
+        words = ["strace", "-f", "-qq", "-c", "-U", "calls,name", "-o", counts.name, program("pc_shared_bench"), "shared", "1", str(commits), str(keys)]
+        subprocess.run(words, check=True, stdout=subprocess.DEVNULL)
+        lines = [line.split() for line in counts]
+    return {line[1]: int(line[0]) for line in lines if len(line) == 2 and line[0].isdigit() and line[1] != "total"}
+
+
+def tell_system_calls(commits, keys):
+    if not shutil.which("strace"):
+        print("strace isn't there: no system calls counted")
+        return
+    once, twice = system_calls(commits, keys), system_calls(2 * commits, keys)
+    more = {name: twice[name] - once.get(name, 0) for name in sorted(twice) if twice[name] != once.get(name, 0)}
+    print("system calls of %d transactions more: %s" % (commits, ", ".join("%s %d" % it for it in more.items()) or "none"))
+
+
+def main():
+    commits, keys = (int(word) for word in sys.argv[1:3] or (500_000, 1000))
+    tell_rates(commits, keys)
+    tell_calls(commits // 10, keys)
+    tell_system_calls(commits // 10, keys)
+
+
+if __name__ == "__main__":
+    main()

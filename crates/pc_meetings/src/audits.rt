@@ -1,0 +1,70 @@
+//! The tickets' files beside the log.
+use pc_part::Part;
+use pc_replay::{CompleteFile, audit};
+use pc_shared::{Closed, PartTicket, Shared};
+use pc_tie::StoreName;
+use pc_types::{FileNo, Refusal, Triple};
+use std::alloc::Global;
+use std::sync::Wait;
+
+/// A ticket of each point's file, and one of the join of them all.
+pub fn take_parts<N: StoreName, R: Wait>(
+    rt: &R,
+    alloc: Global,
+    shared: &Shared<N>,
+    points: u32,
+) -> Result<Vec<PartTicket<N>>, Refusal> {
+    let mut tickets = Vec::new(alloc);
+    if points == 0 {
+        return Ok(tickets);
+    }
+    let mut joined = shared.take_part(rt, FileNo(1))?;
+    tickets.push(shared.take_part(rt, FileNo(1))?)?;
+    for number in 2..=points {
+        tickets.push(shared.take_part(rt, FileNo(number))?)?;
+        let next = shared.take_part(rt, FileNo(number))?;
+        joined = join_tickets(joined, next)?;
+    }
+    tickets.push(joined)?;
+    Ok(tickets)
+}
+
+fn join_tickets<N: StoreName>(
+    a: PartTicket<N>,
+    b: PartTicket<N>,
+) -> Result<PartTicket<N>, Refusal> {
+    match a.join(b) {
+        Ok(joined) => Ok(joined),
+        Err((why, a, b)) => {
+            drop(a);
+            drop(b);
+            Err(why)
+        }
+    }
+}
+
+/// How many of the tickets' files are of all points from the first on, where each of these is right by the log.
+pub fn right_files<N: StoreName>(
+    alloc: Global,
+    closed: &Closed<N>,
+) -> Result<Option<usize>, Refusal> {
+    let mut files = Vec::new(alloc);
+    for ticket in &closed.parts {
+        if let Some(file) = complete_file(alloc, ticket.part())? {
+            files.push(file)?;
+        }
+    }
+    let is_right = audit(alloc, closed.base().pairs(), closed.log(), files.as_slice())?;
+    Ok(if is_right { Some(files.len()) } else { None })
+}
+
+fn complete_file(alloc: Global, part: &Part) -> Result<Option<CompleteFile>, Refusal> {
+    let Some(point) = part.complete_to() else {
+        return Ok(None);
+    };
+    let mut triples: Vec<Triple> = Vec::new(alloc);
+    for triple in part.entries() {
+        triples.push(triple.copy(alloc)?)?;
+    }
+    Ok(Some(CompleteFile { point, triples }))
+}

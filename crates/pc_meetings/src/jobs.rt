@@ -1,0 +1,140 @@
+//! What the clients do.
+use pc_types::{Items, Key, Refusal, Value};
+use pc_workers::{Job, Op};
+use std::alloc::Global;
+
+/// An operation, as plain data: keys are of one byte, values of as many bytes as don't lie inline.
+#[derive(Clone, Copy)]
+pub enum Ask {
+    Get(u8),
+    Put(u8, u8),
+}
+
+/// A transaction of at most two operations.
+pub type Asks = [Option<Ask>; 2];
+
+/// What the sessions do, from the first on.
+#[derive(Clone, Copy)]
+pub enum Work {
+    /// Two sessions, with at most two transactions each.
+    Listed([[Option<Asks>; 2]; 2]),
+    /// So many sessions, so many transactions each, as they are made.
+    Made(u8, u16, Made),
+}
+
+/// How transactions are made.
+#[derive(Clone, Copy)]
+pub enum Made {
+    /// One put of a key that no other transaction has.
+    Apart,
+    /// A read and two puts of three of ten keys, in an order that is the transaction's own.
+    Crowded,
+}
+
+impl Work {
+    /// The jobs of each session.
+    pub fn jobs(&self, alloc: Global) -> Result<Vec<Vec<Job>>, Refusal> {
+        match *self {
+            Work::Listed(sessions) => listed(alloc, &sessions),
+            Work::Made(sessions, count, made) => all_made(alloc, sessions, count, made),
+        }
+    }
+}
+
+// A value of 20 times the byte.
+fn value_of(alloc: Global, byte: u8) -> Result<Value, Refusal> {
+    Value::new(alloc, &[byte; 20])
+}
+
+fn op_of(alloc: Global, ask: Ask) -> Result<Op, Refusal> {
+    Ok(match ask {
+        Ask::Get(key) => Op::Get(Key::new(alloc, &[key])?),
+        Ask::Put(key, value) => Op::Put(Key::new(alloc, &[key])?, value_of(alloc, value)?),
+    })
+}
+
+fn job_of(alloc: Global, asks: &[Option<Ask>]) -> Result<Job, Refusal> {
+    let mut ops = Vec::new(alloc);
+    for ask in asks {
+        if let Some(ask) = ask {
+            ops.push(op_of(alloc, *ask)?)?;
+        }
+    }
+    Ok(Job {
+        ops: Items::from_vec(ops),
+    })
+}
+
+fn jobs_of(alloc: Global, transactions: &[Option<Asks>]) -> Result<Vec<Job>, Refusal> {
+    let mut jobs = Vec::new(alloc);
+    for asks in transactions {
+        if let Some(asks) = asks {
+            jobs.push(job_of(alloc, asks)?)?;
+        }
+    }
+    Ok(jobs)
+}
+
+fn listed(alloc: Global, sessions: &[[Option<Asks>; 2]; 2]) -> Result<Vec<Vec<Job>>, Refusal> {
+    let mut all = Vec::new(alloc);
+    for transactions in sessions {
+        all.push(jobs_of(alloc, transactions)?)?;
+    }
+    Ok(all)
+}
+
+fn all_made(alloc: Global, sessions: u8, count: u16, made: Made) -> Result<Vec<Vec<Job>>, Refusal> {
+    let mut all = Vec::new(alloc);
+    for session in 0..sessions {
+        all.push(made_by(alloc, session, count, made)?)?;
+    }
+    Ok(all)
+}
+
+fn made_by(alloc: Global, session: u8, count: u16, made: Made) -> Result<Vec<Job>, Refusal> {
+    let mut jobs = Vec::new(alloc);
+    for number in 0..count {
+        jobs.push(match made {
+            Made::Apart => job_apart(alloc, session, number)?,
+            Made::Crowded => job_in_crowd(alloc, session, number)?,
+        })?;
+    }
+    Ok(jobs)
+}
+
+fn job_apart(alloc: Global, session: u8, number: u16) -> Result<Job, Refusal> {
+    let [high, low] = number.to_be_bytes();
+    let key = Key::new(alloc, &[session, high, low])?;
+    let mut ops = Vec::new(alloc);
+    ops.push(Op::Put(key, value_of(alloc, session)?))?;
+    Ok(Job {
+        ops: Items::from_vec(ops),
+    })
+}
+
+fn job_in_crowd(alloc: Global, session: u8, number: u16) -> Result<Job, Refusal> {
+    let [first, second, third] = keys_of(session, number);
+    let [_, low] = number.to_be_bytes();
+    let asks = [
+        Some(Ask::Get(first)),
+        Some(Ask::Put(second, session)),
+        Some(Ask::Put(third, low)),
+    ];
+    job_of(alloc, &asks)
+}
+
+// Three of ten keys.
+fn keys_of(session: u8, number: u16) -> [u8; 3] {
+    let own = u16::from(session).wrapping_mul(3).wrapping_add(number);
+    [
+        digit(own),
+        digit(own.wrapping_mul(7).wrapping_add(1)),
+        digit(own.wrapping_mul(3).wrapping_add(2)),
+    ]
+}
+
+// The last of the number's decimal digits, as it is written.
+fn digit(number: u16) -> u8 {
+    let [_, low] = (number % 10).to_be_bytes();
+    low.wrapping_add(b'0')
+}

@@ -1,0 +1,83 @@
+//! Clients, a checkpointer and a logger on threads of their own over one store, some of which stand at gates until others have come to
+//! theirs. It prints what each such meeting leaves, which is the same in every run.
+#![tactic(auto)]
+
+mod audits;
+mod gate;
+mod jobs;
+mod meeting;
+mod plans;
+mod receipts;
+mod signs;
+
+use meeting::{Left, Plan, meet};
+use pc_part::Base;
+use pc_shared::Opened;
+use pc_types::{MOST_SESSIONS, Refusal};
+use plans::PLANS;
+use std::alloc::Global;
+use std::io::{self, Write};
+use std::marker::Brand;
+use std::process::ExitCode;
+use std::sync::Wait;
+use std::thread::Threads;
+
+// How many keys a store has room for.
+const CAPACITY: u32 = 8192;
+
+// The status is 1 where memory or the output failed, or threads missed one another, after which no more meetings are run.
+fn main(rt: HostRuntime) -> ExitCode {
+    match run(&rt, &rt) {
+        Ok(()) => ExitCode::from(0),
+        Err(_) => ExitCode::from(1),
+    }
+}
+
+fn run<H: Threads + Wait + Sync>(rt: &HostRuntime, threads: &H) -> io::Result<()> {
+    for (name, plan) in PLANS {
+        match meet_by(threads, rt.alloc(), &plan) {
+            Ok(left) => {
+                tell(rt, name, &left)?;
+                if !left.have_met {
+                    return Err(io::ErrorKind::Other.into());
+                }
+            }
+            Err(why) => tell_refusal(rt, name, why)?,
+        }
+    }
+    Ok(())
+}
+
+fn meet_by<H: Threads + Wait + Sync>(
+    threads: &H,
+    alloc: Global,
+    plan: &Plan,
+) -> Result<Left, Refusal> {
+    if plan.sessions == 0 || MOST_SESSIONS < plan.sessions {
+        return Err(Refusal::NoSession);
+    }
+    let base = Base::start(1, Vec::new(alloc));
+    let opened = Opened::new(alloc, base, plan.sessions, CAPACITY)?;
+    meet::<Brand, _>(threads, alloc, opened, plan)
+}
+
+// What depends on the threads' order isn't printed: in a crowd that is how many jobs were given up.
+fn tell(rt: &HostRuntime, name: &str, left: &Left) -> io::Result<()> {
+    let jobs = left.commits.saturating_add(left.given_up);
+    let text = format!(in rt.alloc();
+        "{name}: met {}, jobs {jobs}, each commit kept {}, tokens {}, all {}, written {}, exact {}, right files {:?}\n",
+        left.have_met,
+        left.is_each_kept(),
+        left.tokens,
+        left.all,
+        left.is_written,
+        left.are_exact,
+        left.right_files
+    )?;
+    io::writer(rt).write_all(text.as_bytes())
+}
+
+fn tell_refusal(rt: &HostRuntime, name: &str, why: Refusal) -> io::Result<()> {
+    let text = format!(in rt.alloc(); "{name}: refused {}\n", why.name())?;
+    io::writer(rt).write_all(text.as_bytes())
+}

@@ -1,0 +1,236 @@
+//! A store from its opening to its close, with its clients, its checkpointer and its logger on threads of their own.
+ghost use Rattle.std.specs.Prelude.{◌≡◌, []};
+
+use crate::audits::{right_files, take_parts};
+use crate::gate::{Meeting, Stop};
+use crate::jobs::Work;
+use crate::receipts::{are_exact, count_of};
+use pc_log::encode_log;
+use pc_shared::{Closed, LogPass, Opened, PartTicket, Session, Shared};
+use pc_tie::StoreName;
+use pc_types::{Entry, Lsn, Refusal, Tally};
+use pc_workers::{Count, Job, checkpoint_loop, client_loop, log_loop, log_rest};
+use std::alloc::Global;
+use std::sync::Wait;
+use std::sync::atomic::{AtomicU64, Ordering};
+use std::thread::{self, Threads, join};
+
+/// What is to be done in a store, and who stands where for whom.
+#[derive(Clone, Copy)]
+pub struct Plan {
+    pub sessions: u8,
+    pub points: u32,
+    pub work: Work,
+    pub stops: [Option<Stop>; 4],
+}
+
+/// What the threads leave.
+#[derive(Drop)]
+pub struct Left {
+    /// Whether all came where one stood for them.
+    pub have_met: bool,
+    /// How many jobs were committed, and how many were given up.
+    pub commits: u64,
+    pub given_up: u64,
+    /// How many receipts the sessions have.
+    pub receipts: usize,
+    /// How many commits the log has, and how many tokens.
+    pub entries: usize,
+    pub tokens: usize,
+    /// Whether every session is there.
+    pub all: bool,
+    /// Whether what the logger wrote is the text of the log.
+    pub is_written: bool,
+    /// Whether the receipts are exact.
+    pub are_exact: bool,
+    /// How many files of all points from the first on there are, where they are right.
+    pub right_files: Option<usize>,
+}
+
+impl Left {
+    /// Whether there is a receipt and an entry of the log for each commit.
+    pub fn is_each_kept(&self) -> bool {
+        self.receipts == self.entries && self.entries as u64 == self.commits
+    }
+}
+
+// How many jobs all clients committed, and how many they gave up.
+#[derive(Drop)]
+struct Done {
+    commits: AtomicU64,
+    given_up: AtomicU64,
+}
+
+// What the clients have, beside their sessions.
+#[derive(Clone, Copy)]
+struct Room<'a, N: StoreName> {
+    alloc: Global,
+    shared: &'a Shared<N>,
+    jobs: &'a [Vec<Job>],
+    gate: &'a Meeting,
+    done: &'a Done,
+}
+
+impl Done {
+    fn new() -> Done {
+        Done {
+            commits: AtomicU64::new(0),
+            given_up: AtomicU64::new(0),
+        }
+    }
+
+    fn note(&self, count: Count) {
+        self.commits.fetch_add(count.commits, Ordering::SeqCst);
+        self.given_up.fetch_add(count.given_up, Ordering::SeqCst);
+    }
+}
+
+// The jobs of the session at this place.
+fn run_client<N: StoreName, R: Wait>(
+    rt: &R,
+    room: &Room<N>,
+    place: usize,
+    session: &mut Session<N>,
+) {
+    let Some(jobs) = room.jobs.get(place) else {
+        return;
+    };
+    let count = client_loop(
+        rt,
+        room.alloc,
+        room.shared,
+        session,
+        jobs.as_slice(),
+        room.gate,
+    );
+    room.done.note(count);
+}
+
+// As many as a store may have sessions.
+const MOST_THREADS: usize = 64;
+
+// All clients, each on a thread of its own.
+fn run_clients<N: StoreName + Send + Sync, R: Threads + Wait + Sync>(
+    rt: &R,
+    room: &Room<N>,
+    sessions: &mut [Session<N>],
+) {
+    thread::for_each_mut(
+        rt,
+        sessions,
+        MOST_THREADS,
+        &|place, session| { run_client(rt, room, place, session) },
+    );
+}
+
+// The clients and the checkpointer; once they are through, the end is marked.
+fn run_to_the_end<N: StoreName + Send + Sync, R: Threads + Wait + Sync>(
+    rt: &R,
+    room: &Room<N>,
+    points: u32,
+    sessions: &mut [Session<N>],
+) -> Result<u32, Refusal> {
+    let (points, ()) = join(
+        rt,
+        || checkpoint_loop(rt, room.shared, points, room.gate),
+        || run_clients(rt, room, sessions),
+    );
+    room.shared.mark_end(rt);
+    points
+}
+
+// All of them beside the logger. Then the tickets are taken.
+fn run_all<N: StoreName + Send + Sync, R: Threads + Wait + Sync>(
+    rt: &R,
+    room: &Room<N>,
+    points: u32,
+    text: &mut Tally<Vec<u8>>,
+    pass: &mut LogPass<N>,
+    sessions: &mut [Session<N>],
+) -> Result<Vec<PartTicket<N>>, Refusal>
+    requires { pass.old ≡ [] }
+{
+    let (ended, logged) = join(
+        rt,
+        || run_to_the_end(rt, room, points, sessions),
+        || -> Result<Lsn, Refusal>
+            requires { pass.now ≡ [] }
+        { log_loop(rt, room.shared, pass, text) },
+    );
+    ended?;
+    logged?;
+    take_parts(rt, room.alloc, room.shared, points)
+}
+
+/// Opens no store, but runs this one to its close by the plan, and tells what it leaves.
+pub fn meet<N: StoreName + Send + Sync, R: Threads + Wait + Sync>(
+    rt: &R,
+    alloc: Global,
+    opened: Opened,
+    plan: &Plan,
+) -> Result<Left, Refusal>
+    requires { opened ≡ N.name }
+{
+    let jobs = plan.work.jobs(alloc)?;
+    let gate = Meeting::new(plan.stops);
+    let done = Done::new();
+    let mut text = Tally::new(Vec::new(alloc));
+    let (shared, mut sessions, mut pass) = opened.named::<N>()?;
+    let room = Room {
+        alloc,
+        shared: &shared,
+        jobs: &jobs,
+        gate: &gate,
+        done: &done,
+    };
+    let tickets = run_all(rt, &room, plan.points, &mut text, &mut pass, &mut sessions)?;
+    let closed = shared.close(sessions, tickets, pass);
+    log_rest(&closed, &mut text)?;
+    left_by(alloc, &closed, &gate, &done, text)
+}
+
+fn left_by<N: StoreName>(
+    alloc: Global,
+    closed: &Closed<N>,
+    gate: &Meeting,
+    done: &Done,
+    text: Tally<Vec<u8>>,
+) -> Result<Left, Refusal> {
+    let (entries, tokens) = counts_of(closed.log());
+    Ok(Left {
+        have_met: gate.have_met(),
+        commits: done.commits.load(Ordering::SeqCst),
+        given_up: done.given_up.load(Ordering::SeqCst),
+        receipts: count_of(&closed.receipts),
+        entries,
+        tokens,
+        all: closed.all,
+        is_written: is_text_of(alloc, text, closed)?,
+        are_exact: are_exact(alloc, closed.log(), &closed.receipts)?,
+        right_files: right_files(alloc, closed)?,
+    })
+}
+
+// How many commits the log has, and how many tokens.
+fn counts_of(log: &[Entry]) -> (usize, usize) {
+    let mut commits = 0usize;
+    let mut tokens = 0usize;
+    for entry in log {
+        match entry {
+            Entry::Commit(_, _) => commits = commits.saturating_add(1),
+            Entry::Token(_, _) => tokens = tokens.saturating_add(1),
+        }
+    }
+    (commits, tokens)
+}
+
+// Whether the text is that of the closed log.
+fn is_text_of<N: StoreName>(
+    alloc: Global,
+    text: Tally<Vec<u8>>,
+    closed: &Closed<N>,
+) -> Result<bool, Refusal> {
+    let mut whole = Tally::new(Vec::new(alloc));
+    encode_log(&mut whole, closed.base().run(), closed.log())?;
+    Ok(text.into_inner().as_slice() == whole.into_inner().as_slice())
+}

@@ -1,0 +1,143 @@
+//! The meetings.
+use crate::gate::Stop;
+use crate::jobs::{Ask, Made, Work};
+use crate::meeting::Plan;
+use crate::signs::Sign;
+
+// Session 2 commits c before the point is begun. Session 1 begins once the phase is resolve, and stands with a locked until
+// session 2, which begins again only then, has committed b, and a key of the point was taken.
+const BESIDE_A_POINT: Plan = Plan {
+    sessions: 2,
+    points: 1,
+    work: Work::Listed([
+        [Some([Some(Ask::Put(b'a', 1)), None]), None],
+        [
+            Some([Some(Ask::Put(b'c', 1)), None]),
+            Some([Some(Ask::Put(b'b', 1)), None]),
+        ],
+    ]),
+    stops: [
+        Some(Stop {
+            at: Sign::PrepareIsDue,
+            time: 1,
+            until: [(Sign::SecondCommits, 1), (Sign::SecondCommits, 1)],
+        }),
+        Some(Stop {
+            at: Sign::FirstStarts,
+            time: 1,
+            until: [(Sign::EntersResolve, 1), (Sign::EntersResolve, 1)],
+        }),
+        Some(Stop {
+            at: Sign::SecondStarts,
+            time: 2,
+            until: [(Sign::FirstSteps, 1), (Sign::FirstSteps, 1)],
+        }),
+        Some(Stop {
+            at: Sign::FirstSteps,
+            time: 1,
+            until: [(Sign::SecondCommits, 2), (Sign::Takes, 1)],
+        }),
+    ],
+};
+
+// Session 1 begins once session 2 has committed, and reads what that has written.
+const READ_BACK: Plan = Plan {
+    sessions: 2,
+    points: 0,
+    work: Work::Listed([
+        [Some([Some(Ask::Get(b'k')), None]), None],
+        [Some([Some(Ask::Put(b'k', 1)), None]), None],
+    ]),
+    stops: [
+        Some(Stop {
+            at: Sign::FirstStarts,
+            time: 1,
+            until: [(Sign::SecondCommits, 1), (Sign::SecondCommits, 1)],
+        }),
+        None,
+        None,
+        None,
+    ],
+};
+
+// Each session stands with a key of its own locked until the other one does.
+const SESSIONS_MEET: Plan = Plan {
+    sessions: 2,
+    points: 0,
+    work: Work::Listed([
+        [Some([Some(Ask::Put(b'a', 1)), None]), None],
+        [Some([Some(Ask::Put(b'b', 1)), None]), None],
+    ]),
+    stops: [
+        Some(Stop {
+            at: Sign::FirstSteps,
+            time: 1,
+            until: [(Sign::SecondSteps, 1), (Sign::SecondSteps, 1)],
+        }),
+        Some(Stop {
+            at: Sign::SecondSteps,
+            time: 1,
+            until: [(Sign::FirstSteps, 1), (Sign::FirstSteps, 1)],
+        }),
+        None,
+        None,
+    ],
+};
+
+// Session 2 is the younger one. It asks for what session 1 has locked, dies, and begins again; session 1 commits only then, and
+// session 2 goes on once it has.
+const YOUNGER_DIES: Plan = Plan {
+    sessions: 2,
+    points: 0,
+    work: Work::Listed([
+        [Some([Some(Ask::Put(b'a', 1)), None]), None],
+        [
+            Some([Some(Ask::Put(b'b', 2)), Some(Ask::Put(b'a', 2))]),
+            None,
+        ],
+    ]),
+    stops: [
+        Some(Stop {
+            at: Sign::SecondStarts,
+            time: 1,
+            until: [(Sign::FirstSteps, 1), (Sign::FirstSteps, 1)],
+        }),
+        Some(Stop {
+            at: Sign::FirstSteps,
+            time: 1,
+            until: [(Sign::SecondStarts, 2), (Sign::SecondStarts, 2)],
+        }),
+        Some(Stop {
+            at: Sign::SecondStarts,
+            time: 2,
+            until: [(Sign::FirstCommits, 1), (Sign::FirstCommits, 1)],
+        }),
+        None,
+    ],
+};
+
+// Four sessions put keys of their own, a thousand each.
+const APART: Plan = Plan {
+    sessions: 4,
+    points: 0,
+    work: Work::Made(4, 1000, Made::Apart),
+    stops: [None, None, None, None],
+};
+
+// As many sessions as there may be, over ten keys, beside points.
+const CROWD: Plan = Plan {
+    sessions: 64,
+    points: 8,
+    work: Work::Made(64, 2, Made::Crowded),
+    stops: [None, None, None, None],
+};
+
+/// All of them, with their names.
+pub const PLANS: [(&str, Plan); 6] = [
+    ("beside a point", BESIDE_A_POINT),
+    ("read back", READ_BACK),
+    ("sessions meet", SESSIONS_MEET),
+    ("the younger one dies", YOUNGER_DIES),
+    ("four apart", APART),
+    ("a crowd over ten keys", CROWD),
+];

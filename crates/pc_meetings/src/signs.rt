@@ -1,0 +1,94 @@
+//! What threads have passed of each other's ways.
+use pc_types::{Phase, Place, SessionNo};
+use std::sync::atomic::{AtomicU64, Ordering};
+
+/// A place that is counted: of sessions 1 and 2 the beginnings of transactions, their first operations and their commits; of the
+/// checkpointer some of its phases, and its keys.
+#[derive(Clone, Copy, Debug, PartialEq, Eq)]
+pub enum Sign {
+    FirstStarts,
+    SecondStarts,
+    FirstSteps,
+    SecondSteps,
+    FirstCommits,
+    SecondCommits,
+    PrepareIsDue,
+    EntersResolve,
+    EntersComplete,
+    Takes,
+}
+
+/// The sign of the place, where it is counted.
+pub fn sign_of(place: Place) -> Option<Sign> {
+    match place {
+        Place::Start(SessionNo(1)) => Some(Sign::FirstStarts),
+        Place::Start(SessionNo(2)) => Some(Sign::SecondStarts),
+        Place::Step(SessionNo(1), 1) => Some(Sign::FirstSteps),
+        Place::Step(SessionNo(2), 1) => Some(Sign::SecondSteps),
+        Place::Committed(SessionNo(1)) => Some(Sign::FirstCommits),
+        Place::Committed(SessionNo(2)) => Some(Sign::SecondCommits),
+        Place::Due(Phase::Prepare) => Some(Sign::PrepareIsDue),
+        Place::Entered(Phase::Resolve) => Some(Sign::EntersResolve),
+        Place::Entered(Phase::Complete) => Some(Sign::EntersComplete),
+        Place::Took => Some(Sign::Takes),
+        _ => None,
+    }
+}
+
+/// How often each was passed.
+#[derive(Drop)]
+pub struct Counts {
+    first_starts: AtomicU64,
+    second_starts: AtomicU64,
+    first_steps: AtomicU64,
+    second_steps: AtomicU64,
+    first_commits: AtomicU64,
+    second_commits: AtomicU64,
+    prepare_is_due: AtomicU64,
+    enters_resolve: AtomicU64,
+    enters_complete: AtomicU64,
+    takes: AtomicU64,
+}
+
+impl Counts {
+    /// Nothing was passed.
+    pub fn new() -> Counts {
+        Counts {
+            first_starts: AtomicU64::new(0),
+            second_starts: AtomicU64::new(0),
+            first_steps: AtomicU64::new(0),
+            second_steps: AtomicU64::new(0),
+            first_commits: AtomicU64::new(0),
+            second_commits: AtomicU64::new(0),
+            prepare_is_due: AtomicU64::new(0),
+            enters_resolve: AtomicU64::new(0),
+            enters_complete: AtomicU64::new(0),
+            takes: AtomicU64::new(0),
+        }
+    }
+
+    fn of(&self, sign: Sign) -> &AtomicU64 {
+        match sign {
+            Sign::FirstStarts => &self.first_starts,
+            Sign::SecondStarts => &self.second_starts,
+            Sign::FirstSteps => &self.first_steps,
+            Sign::SecondSteps => &self.second_steps,
+            Sign::FirstCommits => &self.first_commits,
+            Sign::SecondCommits => &self.second_commits,
+            Sign::PrepareIsDue => &self.prepare_is_due,
+            Sign::EntersResolve => &self.enters_resolve,
+            Sign::EntersComplete => &self.enters_complete,
+            Sign::Takes => &self.takes,
+        }
+    }
+
+    /// Counts the sign once more, and gives its count.
+    pub fn note(&self, sign: Sign) -> u64 {
+        self.of(sign).fetch_add(1, Ordering::SeqCst).wrapping_add(1)
+    }
+
+    /// How often it was passed.
+    pub fn get(&self, sign: Sign) -> u64 {
+        self.of(sign).load(Ordering::SeqCst)
+    }
+}

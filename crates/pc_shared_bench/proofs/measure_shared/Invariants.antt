@@ -1,0 +1,5 @@
+use Rattle.pc_shared_bench.proofs.measure_shared.Given as goal
+
+-- the name of the store that was just opened
+abbrev pub ghosts-share : goal.ghosts-share
+ghosts-share g a = record { name = a.opened }
