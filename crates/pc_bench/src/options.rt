@@ -33,7 +33,7 @@ pub struct Cycles {
     ghost in_range: { (1 ≤ keys) × (keys ≤ MOST_KEYS) },
 }
 
-/// How many pairs of a request and a release are made, over how many slots, 1 to 1,048,576, and how many other requests
+/// Pairs of a request and a release, over how many slots, 1 to 1,048,576, and how many other requests
 /// stand in each queue meanwhile.
 #[derive(Clone, Copy, Debug)]
 pub struct Pairs {
@@ -43,7 +43,7 @@ pub struct Pairs {
     ghost in_range: { (1 ≤ slots) × (slots ≤ MOST_KEYS) },
 }
 
-/// How many transactions there are, and how many keys each writes, all of them twice; at most 256.
+/// Transactions, and how many keys each writes, all of them twice; at most 256.
 #[derive(Clone, Copy, Debug)]
 pub struct Batches {
     pub transactions: u32,
@@ -85,150 +85,139 @@ pub fn options_of<'a>(alloc: Global, words: &'a [&'a str]) -> Result<Option<Opti
     Ok(asked(&matches))
 }
 
+// A number that a command asks for: its name, what it says, and its limits.
+type Number = (&'static str, &'static str, u32, u32);
+
+// A command: its name, what it does, the numbers that it asks for, and whether points may be asked for too.
+#[derive(Clone, Copy)]
+struct CommandShape {
+    name: &'static str,
+    about: &'static str,
+    numbers: [Option<Number>; 3],
+    has_points: bool,
+}
+
+const COMMANDS: [CommandShape; 7] = [
+    CommandShape {
+        name: "join",
+        about: "Joins two parts and encodes the join",
+        numbers: [
+            Some(("ENTRIES", "Entries of each part", 1, 100_000_000)),
+            None,
+            None,
+        ],
+        has_points: false,
+    },
+    CommandShape {
+        name: "points",
+        about: "Takes points over keys that are all written before each",
+        numbers: [
+            Some(("POINTS", "Points that are taken", 1, MOST_POINTS as u32)),
+            Some(("KEYS", "Keys written and taken at each", 1, MOST_KEYS)),
+            None,
+        ],
+        has_points: false,
+    },
+    CommandShape {
+        name: "locks",
+        about: "Requests and releases shared locks",
+        numbers: [
+            Some((
+                "PAIRS",
+                "Pairs of a request and a release",
+                1,
+                1_000_000_000,
+            )),
+            Some(("SLOTS", "Slots that they go round", 1, MOST_KEYS)),
+            Some(("OTHERS", "Other requests in each queue", 0, 1_000)),
+        ],
+        has_points: false,
+    },
+    CommandShape {
+        name: "writes",
+        about: "Notes the writes of transactions, which end in turn by a commit and by an undo",
+        numbers: [
+            Some(("TRANSACTIONS", "Transactions", 1, 100_000_000)),
+            Some((
+                "KEYS",
+                "Keys each of them writes twice",
+                1,
+                MOST_WRITES as u32,
+            )),
+            None,
+        ],
+        has_points: false,
+    },
+    CommandShape {
+        name: "commits",
+        about: "Commits transactions of one write each, with or without checkpoints beside them",
+        numbers: [
+            Some(("COUNT", "Transactions of one write", 1, 10_000_000)),
+            Some(("KEYS", "Keys that they go round", 1, MOST_KEYS)),
+            None,
+        ],
+        has_points: true,
+    },
+    CommandShape {
+        name: "recover",
+        about: "Recovers the state of a base, parts and a log",
+        numbers: [
+            Some(("PAIRS", "Pairs of the base", 1, 10_000_000)),
+            Some(("COMMITS", "Commits of one write in the log", 1, 10_000_000)),
+            Some(("PARTS", "Parts, fewer than commits", 0, 1000)),
+        ],
+        has_points: false,
+    },
+    CommandShape {
+        name: "files",
+        about: "Writes a part to memory and reads it again",
+        numbers: [
+            Some(("ENTRIES", "Entries of the part", 1, 10_000_000)),
+            None,
+            None,
+        ],
+        has_points: false,
+    },
+];
+
+const POINTS_HELP: &str = "Takes checkpoints back to back, an event after each commit";
+
 fn command<'a>(alloc: Global) -> Result<Command<'a>, Error> {
-    let times = Arg::new(alloc, "times")
-        .long("times")
-        .help("Tells times too")
-        .action(ArgAction::SetTrue);
-    Ok(
-        Command::new(alloc, "pc_bench")
-            .about("Measures calls of the libraries")
-            .subcommand_required(true)
-            .arg(times)?
-            .subcommand(join_command(alloc)?)?
-            .subcommand(points_command(alloc)?)?
-            .subcommand(locks_command(alloc)?)?
-            .subcommand(writes_command(alloc)?)?
-            .subcommand(commits_command(alloc)?)?
-            .subcommand(recover_command(alloc)?)?
-            .subcommand(files_command(alloc)?)?,
-    )
+    let mut command = Command::new(alloc, "pc_bench")
+        .about("Measures calls of the libraries")
+        .subcommand_required(true)
+        .arg(flag(alloc, "times", "Tells times too"))?;
+    for shape in COMMANDS {
+        command = command.subcommand(subcommand(alloc, shape)?)?;
+    }
+    Ok(command)
 }
 
-fn join_command<'a>(alloc: Global) -> Result<Command<'a>, Error> {
-    let entries = Arg::new(alloc, "ENTRIES")
-        .help("How many entries each part has, 1 to 100000000")
-        .required(true)
-        .value_parser(clap::value_parser!(u32).range(1..=100_000_000));
-    Ok(
-        Command::new(alloc, "join")
-            .about("Joins two parts and encodes the join")
-            .arg(entries)?,
-    )
+fn subcommand<'a>(alloc: Global, shape: CommandShape) -> Result<Command<'a>, Error> {
+    let mut command = Command::new(alloc, shape.name).about(shape.about);
+    for number in shape.numbers {
+        if let Some(number) = number {
+            command = command.arg(number_arg(alloc, number))?;
+        }
+    }
+    if shape.has_points {
+        command = command.arg(flag(alloc, "points", POINTS_HELP))?;
+    }
+    Ok(command)
 }
 
-fn points_command<'a>(alloc: Global) -> Result<Command<'a>, Error> {
-    let points = Arg::new(alloc, "POINTS")
-        .help("How many points are taken, 1 to 65535")
-        .required(true)
-        .value_parser(clap::value_parser!(u16).range(1..=i64::from(MOST_POINTS)));
-    let keys = Arg::new(alloc, "KEYS")
-        .help("How many keys are written and taken at each, 1 to 1048576")
-        .required(true)
-        .value_parser(clap::value_parser!(u32).range(1..=i64::from(MOST_KEYS)));
-    Ok(
-        Command::new(alloc, "points")
-            .about("Takes points over keys that are all written before each")
-            .arg(points)?
-            .arg(keys)?,
-    )
+fn flag<'a>(alloc: Global, name: &'a str, help: &'a str) -> Arg<'a> {
+    Arg::new(alloc, name)
+        .long(name)
+        .help(help)
+        .action(ArgAction::SetTrue)
 }
 
-fn locks_command<'a>(alloc: Global) -> Result<Command<'a>, Error> {
-    let pairs = Arg::new(alloc, "PAIRS")
-        .help("How many pairs of a request and a release are made, 1 to 1000000000")
-        .required(true)
-        .value_parser(clap::value_parser!(u32).range(1..=1_000_000_000));
-    let slots = Arg::new(alloc, "SLOTS")
-        .help("How many slots they go round, 1 to 1048576")
-        .required(true)
-        .value_parser(clap::value_parser!(u32).range(1..=i64::from(MOST_KEYS)));
-    let others = Arg::new(alloc, "OTHERS")
-        .help("How many other requests stand in each queue, 0 to 1000")
-        .required(true)
-        .value_parser(clap::value_parser!(u16).range(0..=1_000));
-    Ok(
-        Command::new(alloc, "locks")
-            .about("Requests and releases shared locks")
-            .arg(pairs)?
-            .arg(slots)?
-            .arg(others)?,
-    )
-}
-
-fn writes_command<'a>(alloc: Global) -> Result<Command<'a>, Error> {
-    let transactions = Arg::new(alloc, "TRANSACTIONS")
-        .help("How many transactions there are, 1 to 100000000")
-        .required(true)
-        .value_parser(clap::value_parser!(u32).range(1..=100_000_000));
-    let keys = Arg::new(alloc, "KEYS")
-        .help("How many keys each writes, all of them twice, 1 to 256")
-        .required(true)
-        .value_parser(clap::value_parser!(u16).range(1..=MOST_WRITES as i64));
-    Ok(
-        Command::new(alloc, "writes")
-            .about("Notes the writes of transactions, which end in turn by a commit and by an undo")
-            .arg(transactions)?
-            .arg(keys)?,
-    )
-}
-
-fn commits_command<'a>(alloc: Global) -> Result<Command<'a>, Error> {
-    let commits = Arg::new(alloc, "COUNT")
-        .help("How many transactions of one write each commit, 1 to 10000000")
-        .required(true)
-        .value_parser(clap::value_parser!(u32).range(1..=10_000_000));
-    let keys = Arg::new(alloc, "KEYS")
-        .help("How many keys they go round, 1 to 1048576")
-        .required(true)
-        .value_parser(clap::value_parser!(u32).range(1..=i64::from(MOST_KEYS)));
-    let points = Arg::new(alloc, "points")
-        .long("points")
-        .help("Takes checkpoints back to back, an event after each commit")
-        .action(ArgAction::SetTrue);
-    Ok(
-        Command::new(alloc, "commits")
-            .about(
-                "Commits transactions of one write each, with or without checkpoints beside them",
-            )
-            .arg(commits)?
-            .arg(keys)?
-            .arg(points)?,
-    )
-}
-
-fn recover_command<'a>(alloc: Global) -> Result<Command<'a>, Error> {
-    let pairs = Arg::new(alloc, "PAIRS")
-        .help("How many pairs the base has, 1 to 10000000")
-        .required(true)
-        .value_parser(clap::value_parser!(u32).range(1..=10_000_000));
-    let commits = Arg::new(alloc, "COMMITS")
-        .help("How many commits of one write the log has, 1 to 10000000")
-        .required(true)
-        .value_parser(clap::value_parser!(u32).range(1..=10_000_000));
-    let parts = Arg::new(alloc, "PARTS")
-        .help("How many parts there are, 0 to 1000, fewer than commits")
-        .required(true)
-        .value_parser(clap::value_parser!(u16).range(0..=1000));
-    Ok(
-        Command::new(alloc, "recover")
-            .about("Recovers the state of a base, parts and a log")
-            .arg(pairs)?
-            .arg(commits)?
-            .arg(parts)?,
-    )
-}
-
-fn files_command<'a>(alloc: Global) -> Result<Command<'a>, Error> {
-    let entries = Arg::new(alloc, "ENTRIES")
-        .help("How many entries the part has, 1 to 10000000")
-        .required(true)
-        .value_parser(clap::value_parser!(u32).range(1..=10_000_000));
-    Ok(
-        Command::new(alloc, "files")
-            .about("Writes a part to memory and reads it again")
-            .arg(entries)?,
-    )
+fn number_arg<'a>(alloc: Global, number: Number) -> Arg<'a> {
+    let (name, help, least, most) = number;
+    Arg::new(alloc, name).help(help).required(true).value_parser(clap::value_parser!(u32).range(
+        i64::from(least)..=i64::from(most),
+    ))
 }
 
 fn asked(matches: &ArgMatches) -> Option<Options> {
@@ -253,7 +242,7 @@ fn join_of(matches: &ArgMatches) -> Option<Work> {
 }
 
 fn points_of(matches: &ArgMatches) -> Option<Work> {
-    let points = matches.get_one::<u16>("POINTS")?;
+    let points = u16::try_from(matches.get_one::<u32>("POINTS")?).ok()?;
     let keys = matches.get_one::<u32>("KEYS")?;
     if keys < 1 || MOST_KEYS < keys {
         return None;
@@ -264,7 +253,7 @@ fn points_of(matches: &ArgMatches) -> Option<Work> {
 fn locks_of(matches: &ArgMatches) -> Option<Work> {
     let pairs = matches.get_one::<u32>("PAIRS")?;
     let slots = matches.get_one::<u32>("SLOTS")?;
-    let others = matches.get_one::<u16>("OTHERS")?;
+    let others = u16::try_from(matches.get_one::<u32>("OTHERS")?).ok()?;
     if slots < 1 || MOST_KEYS < slots {
         return None;
     }
@@ -277,7 +266,7 @@ fn locks_of(matches: &ArgMatches) -> Option<Work> {
 
 fn writes_of(matches: &ArgMatches) -> Option<Work> {
     let transactions = matches.get_one::<u32>("TRANSACTIONS")?;
-    let keys = matches.get_one::<u16>("KEYS")?;
+    let keys = u16::try_from(matches.get_one::<u32>("KEYS")?).ok()?;
     if MOST_WRITES < usize::from(keys) {
         return None;
     }
@@ -301,7 +290,7 @@ fn commits_of(matches: &ArgMatches) -> Option<Work> {
 fn recover_of(matches: &ArgMatches) -> Option<Work> {
     let pairs = matches.get_one::<u32>("PAIRS")?;
     let commits = matches.get_one::<u32>("COMMITS")?;
-    let parts = matches.get_one::<u16>("PARTS")?;
+    let parts = u16::try_from(matches.get_one::<u32>("PARTS")?).ok()?;
     if pairs < 1 || 10_000_000 < pairs || 10_000_000 < commits || 1000 < parts {
         return None;
     }
