@@ -64,8 +64,7 @@ fn copies(alloc: Global, triples: &[Triple]) -> Result<Vec<Triple>, AllocError>
 {
     let mut copies = Vec::new(alloc);
     for triple in triples {
-        let copy = triple.copy(alloc)?;
-        copies.push(copy)?;
+        copies.push(triple.copy(alloc)?)?;
     }
     Ok(copies)
 }

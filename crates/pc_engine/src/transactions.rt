@@ -14,8 +14,7 @@ ghost use Rattle.pc_engine.specs.Sessions.{actives_of, with_session, number_in, 
 ghost use Rattle.pc_engine.specs.Store.{active_in};
 ghost use Rattle.pc_engine.specs.Steps.{OpenCause, WriteCause, Begins, Gets, WritesKey, Commits, Aborts};
 
-use crate::sessions;
-use crate::sessions::Transaction;
+use crate::sessions::{self, Transaction};
 use crate::world::World;
 use crate::writes::{is_one_too_many, new_keys, write_of};
 use pc_log::Log;
@@ -189,7 +188,7 @@ impl World {
 }
 
 // The session's transaction is committed and logged, and then over: its writes are committed where they stand, and its
-// locks are released. It gives its class, and the number of its entry.
+// locks are released. The entry's list takes no more room than its writes. It gives its class, and the number of its entry.
 fn commit_open(
     sessions: &mut Vec<Option<Transaction>>,
     records: &mut Records,
@@ -214,6 +213,8 @@ fn commit_open(
         unreachable!();
     };
     records.commit(writes.as_slice());
+    let mut writes = writes;
+    writes.shrink_to_fit();
     let entry_number = log.append_reserved(Entry::Commit(session, Items::from_vec(writes)));
     records.release(number);
     (class, entry_number)

@@ -1,5 +1,6 @@
 //! The world, and its run over a list of events.
-ghost use Rattle.std.specs.Prelude.{◌≡◌, ◌≤◌, ◌<◌, ◌⊎◌, ◌↔◌, [], List, ℕ, true, IsTrue, All, None, Some, Err, IfOk, IfErr, option_copied};
+ghost use Rattle.std.specs.Prelude.{◌≡◌, ◌≤◌, ◌<◌, ◌⊎◌, ◌↔◌, [], List, ℕ, length, true, IsTrue, All, None, Some, Err, IfOk, IfErr, option_copied};
+ghost use Rattle.pc_types.specs.declared.limits.TheConstants.{MOST_LOG_ENTRIES};
 ghost use Rattle.pc_model.specs.Maps.{get, len};
 ghost use Rattle.pc_model.specs.Files.{file_at};
 ghost use Rattle.pc_model.specs.Database.{KeysRise, database_of};
@@ -15,8 +16,7 @@ ghost use Rattle.pc_engine.specs.Checks.{IsSound};
 ghost use Rattle.pc_engine.specs.Runs.{starting, IsRun};
 
 use crate::checks::is_sound;
-use crate::sessions;
-use crate::sessions::Transaction;
+use crate::sessions::{self, Transaction};
 use crate::shelving::{file_at, shared_at};
 use pc_log::Log;
 use pc_part::{Base, Part, SharedPart};
@@ -149,6 +149,7 @@ impl World {
     /// `pc_log` writes: its entries are within the limits of the format, and its tokens keep their order.
     pub fn log(&self) -> &[Entry]
         ensures log { result.now ≡ self.now.log }
+        ensures limit { length result.now ≤ MOST_LOG_ENTRIES }
         ensures few { All HasFewWrites result.now }
         ensures lawful { (history : History) → Stands self.now history → IsLog result.now }
     {

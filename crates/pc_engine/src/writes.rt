@@ -76,8 +76,7 @@ fn add_new(
     ensures { OnOk result (keys.new.items ≡ keys.old.items ++ with_new (is_in_open_set (record_of records.now.rows key.now)) key.now []) }
 {
     if !records.is_in_open_set(key) {
-        let key = key.copy(alloc)?;
-        keys.push_back(key)?;
+        keys.push_back(key.copy(alloc)?)?;
     }
     Ok(())
 }

@@ -33,13 +33,31 @@ still_first n seen hist p lt = let g = logs_grow seen hist p in ap (take n) g.1 
 pub first_length : (n : ℕ) (log given : List Entry) → n ≤ length log → take n log ≡ given → length given ≡ n
 first_length n log given lt is = ap length (sym is) ∙ length-take-le n log lt
 
-module _ (n most : ℕ) (log next : List Entry) (is : next ≡ take most (drop n log)) where
-  pub more_first : take (n + length next) log ≡ take n log ++ next
+-- A pass had handed out n entries of what its witness had seen, which now sees the latch's history; the next entries of the log,
+-- at most so many, are handed out.
+module _ (n most size : ℕ) (seen hist now : History) (log next : List Entry) (told : IsBeginning seen hist) (sees : now ≡ hist)
+    (lt : n ≤ length (log_of seen)) (log_is : log ≡ log_of hist) (is : next ≡ take most (drop n log)) (len : size ≡ length next) where
+  next_is : next ≡ take most (drop n (log_of hist))
+  next_is = is ∙ ap (λ (l : List Entry). take most (drop n l)) log_is
+
+  log_now : log_of now ≡ log_of hist
+  log_now = ap log_of sees
+
+  more_first : take (n + size) (log_of hist) ≡ take n (log_of hist) ++ next
   more_first =
-      take-add n (length next) log ∙ ap (λ l. take n log ++ l) (ap (λ l. take (length l) (drop n log)) is ∙ (taken_again most (drop n log) ∙ sym is))
+      ap (λ k. take (n + k) (log_of hist)) len ∙ (take-add n (length next) (log_of hist)
+      ∙ ap (λ l. take n (log_of hist) ++ l) (ap (λ l. take (length l) (drop n (log_of hist))) next_is ∙ (taken_again most (drop n (log_of hist)) ∙ sym next_is)))
 
-  pub all_first : take (n + most) log ≡ take n log ++ next
-  all_first = take-add n most log ∙ ap (λ l. take n log ++ l) (sym is)
+  all_first : take (n + most) (log_of hist) ≡ take n (log_of hist) ++ next
+  all_first = take-add n most (log_of hist) ∙ ap (λ l. take n (log_of hist) ++ l) (sym next_is)
 
-  pub more_within : n ≤ length log → n + length next ≤ length log
-  more_within lt = let t = taken_within most (drop n log) in omega (arith, t, lt, ap length is, length-drop n log)
+  pub more_within : n + size ≤ length log
+  more_within =
+      let t = taken_within most (drop n (log_of hist)) in
+      omega (arith, t, still_within n seen hist told lt, ap length next_is, length-drop n (log_of hist), len, ap length log_is)
+
+  pub more_listed : take (n + size) (log_of now) ≡ take n (log_of seen) ++ next
+  more_listed = ap (take (n + size)) log_now ∙ (more_first ∙ ap (λ (l : List Entry). l ++ next) (still_first n seen hist told lt))
+
+  pub more_next : take (n + size) (log_of now) ≡ take (n + most) (log_of hist)
+  more_next = ap (take (n + size)) log_now ∙ (more_first ∙ sym all_first)

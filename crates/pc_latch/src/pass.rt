@@ -4,7 +4,7 @@ ghost use Rattle.pc_model.specs.FewWrites.{HasFewWrites};
 ghost use Rattle.pc_model.specs.History.{log_of};
 
 use pc_tie::{Keeper, StoreName, Tie, Witness};
-use pc_types::{Entry, Refusal};
+use pc_types::{Entry, MOST_LOG_ENTRIES, Refusal};
 use std::alloc::Global;
 use std::marker::Model;
 
@@ -19,13 +19,14 @@ pub struct LogPass<N: StoreName> {
 impl<N: StoreName> Model for LogPass<N> {
     ghost use Rattle.std.specs.Prelude.{◌≡◌, ◌≤◌, List, length, take};
     ghost use Rattle.pc_types.specs.declared.Entry.{Entry};
+    ghost use Rattle.pc_types.specs.declared.limits.TheConstants.{MOST_LOG_ENTRIES};
     ghost use Rattle.pc_model.specs.History.{log_of};
 
     ghost Value = { List Entry };
 
     ghost view = { λ p. take p.count (log_of p.witness) };
 
-    ghost invariant = { λ p. (p.count ≤ length (log_of p.witness)) × (p.run ≡ N.name.setting.run) };
+    ghost invariant = { λ p. (p.count ≤ length (log_of p.witness)) × (p.count ≤ MOST_LOG_ENTRIES) × (p.run ≡ N.name.setting.run) };
 }
 
 impl<N: StoreName> LogPass<N> {
@@ -48,9 +49,10 @@ impl<N: StoreName> LogPass<N> {
         self.run
     }
 
-    /// How many entries were handed out.
+    /// How many entries were handed out, at most 16,777,216.
     pub fn len(&self) -> usize
-        ensures { result ≡ length self.now }
+        ensures len { result ≡ length self.now }
+        ensures limit { result ≤ MOST_LOG_ENTRIES }
     {
         self.count
     }

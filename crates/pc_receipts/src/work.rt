@@ -108,14 +108,17 @@ impl Work {
         self.busy = false;
     }
 
-    /// The transaction was committed with this number: what it did becomes a receipt of the session.
+    /// The transaction was committed with this number: what it did becomes a receipt of the session, whose lists have no more
+    /// room than they take.
     pub fn commit(&mut self, alloc: Global, session: SessionNo, number: Lsn)
         requires { vec_len self.old.receipts < vec_capacity self.old.receipts }
         ensures { (self.new.busy ≡ false) × (self.new.receipts.items ≡ self.old.receipts.items ++ receipt_of session number (own self.old.busy self.old.writes.items self.old.reads.items self.old.receipts.items) ∷ []) × (self.new.latest ≡ Nothing) }
     {
         self.latest = Latest::Nothing;
-        let writes = mem::replace(&mut self.writes, Vec::new(alloc));
-        let reads = mem::replace(&mut self.reads, Vec::new(alloc));
+        let mut writes = mem::replace(&mut self.writes, Vec::new(alloc));
+        let mut reads = mem::replace(&mut self.reads, Vec::new(alloc));
+        writes.shrink_to_fit();
+        reads.shrink_to_fit();
         self.receipts.push_reserved(Receipt {
             number,
             session,

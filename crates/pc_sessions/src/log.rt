@@ -4,7 +4,7 @@ ghost use Rattle.std.specs.Prelude.{◌≡◌, ◌≤◌, [], length};
 use pc_log::encode_log;
 use pc_shared::{Closed, LogPass, Shared};
 use pc_tie::StoreName;
-use pc_types::{Refusal, Tally};
+use pc_types::{Lsn, Refusal, Tally};
 use pc_workers::{log_loop, log_rest};
 use std::alloc::Global;
 use std::sync::Wait;
@@ -29,7 +29,7 @@ impl TextOfLog {
         rt: &R,
         shared: &Shared<N>,
         pass: &mut LogPass<N>,
-    ) -> Result<usize, Refusal>
+    ) -> Result<Lsn, Refusal>
         requires { pass.old ≡ [] }
     {
         log_loop(rt, shared, pass, &mut self.out)

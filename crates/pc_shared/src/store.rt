@@ -27,8 +27,9 @@ use pc_receipts::Work;
 use pc_tie::{Keeper, SessionSeat, StoreName, Tie, Untied};
 use pc_types::{Entry, Event, FileNo, MOST_KEYS, MOST_SESSIONS, Refusal, Reply};
 use std::alloc::Global;
+use std::hint;
 use std::marker::Model;
-use std::sync::{Condvar, Mutex, Wait};
+use std::sync::{Condvar, Mutex, MutexGuard, Wait};
 
 /// A store that was opened, and has no name yet. Contracts see the name that it can be given.
 #[derive(Drop)]
@@ -148,7 +149,31 @@ impl<N: StoreName> Held<N> {
     }
 }
 
+// How often a thread looks for the latch before it sleeps until it has it. After each look it pauses twice as long as before, so
+// that whoever has the latch can make several calls while the store's data is near.
+const LOOKS: u32 = 12;
+
+// Lets so many moments go by.
+fn pause(moments: u32) {
+    for _ in 0..moments {
+        hint::spin_loop();
+    }
+}
+
 impl<N: StoreName> Shared<N> {
+    // Gets the latch.
+    fn get_latch<R: Wait>(&self, rt: &R) -> MutexGuard<'_, Held<N>> {
+        let mut moments = 1u32;
+        for _ in 0..LOOKS {
+            if let Some(held) = self.latch.try_lock() {
+                return held;
+            }
+            pause(moments);
+            moments = moments.saturating_mul(2);
+        }
+        self.latch.lock(rt)
+    }
+
     // Wakes those who can go on.
     fn wake(&self, woken: Woken) {
         if woken.for_locks {
@@ -178,7 +203,7 @@ impl<N: StoreName> Shared<N> {
         ensures room { has_room ≡ false → counts result.1 ≡ false }
         ensures no_wait { result.1 ≢ Wait }
     {
-        let mut held = self.latch.lock(rt);
+        let mut held = self.get_latch(rt);
         let mut event = event;
         for _ in rt.forever() {
             let (again, reply) = held.latched.call(&self.tie, seat, event, has_room);
@@ -200,7 +225,7 @@ impl<N: StoreName> Shared<N> {
     pub fn advance<R: Wait>(&self, rt: &R) -> Reply
         ensures { IsAdvance N.name.setting result }
     {
-        let mut held = self.latch.lock(rt);
+        let mut held = self.get_latch(rt);
         let reply = held.latched.advance(&self.tie);
         self.wake(held.waits.note(&reply));
         reply
@@ -210,7 +235,7 @@ impl<N: StoreName> Shared<N> {
     pub fn take<R: Wait>(&self, rt: &R) -> Reply
         ensures { IsTaken N.name.setting result }
     {
-        let mut held = self.latch.lock(rt);
+        let mut held = self.get_latch(rt);
         let reply = held.latched.take(&self.tie);
         self.wake(held.waits.note(&reply));
         reply
@@ -230,7 +255,7 @@ impl<N: StoreName> Shared<N> {
         ensures same { OnErr result (pass.new ≡ pass.old) }
         ensures memory { IfErr result (λ e. e ≡ Refusal.OutOfMemory) }
     {
-        let mut held = self.latch.lock(rt);
+        let mut held = self.get_latch(rt);
         held.latched.log_next(self.alloc, &self.tie, pass, most)
     }
 
@@ -268,7 +293,7 @@ impl<N: StoreName> Shared<N> {
         ensures ticket { IfOk result (λ t. t.points ≡ set.insert set.empty number) }
         ensures refused { IfErr result (λ why. IsNoTicket N.name.setting number why) }
     {
-        let mut held = self.latch.lock(rt);
+        let mut held = self.get_latch(rt);
         held.latched.take_part(self.alloc, &self.tie, number)
     }
 
@@ -278,7 +303,7 @@ impl<N: StoreName> Shared<N> {
     pub fn until_changed<R: Wait>(&self, rt: &R, seen: u64) -> u64
         ensures { result ≢ seen }
     {
-        let mut held = self.latch.lock(rt);
+        let mut held = self.get_latch(rt);
         for _ in rt.forever() {
             let count = held.waits.changes;
             if count != seen {
@@ -293,7 +318,7 @@ impl<N: StoreName> Shared<N> {
 
     /// Marks the end, for loops that ask whether it is marked. It is a change, and ends nothing by itself.
     pub fn mark_end<R: Wait>(&self, rt: &R) {
-        let mut held = self.latch.lock(rt);
+        let mut held = self.get_latch(rt);
         let for_change = held.waits.end();
         self.wake(Woken {
             for_locks: false,
@@ -303,6 +328,6 @@ impl<N: StoreName> Shared<N> {
 
     /// Whether the end was marked.
     pub fn ended<R: Wait>(&self, rt: &R) -> bool {
-        self.latch.lock(rt).waits.has_ended
+        self.get_latch(rt).waits.has_ended
     }
 }

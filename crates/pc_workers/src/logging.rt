@@ -9,7 +9,7 @@ ghost use Rattle.pc_workers.specs.Logging.{Logged, LogsMore, rest_text};
 use pc_log::{encode_entry, encode_header};
 use pc_shared::{Closed, LogPass, Shared};
 use pc_tie::StoreName;
-use pc_types::{Entry, Refusal, Tally};
+use pc_types::{Entry, Lsn, Refusal, Tally};
 use std::io;
 use std::sync::Wait;
 
@@ -64,7 +64,7 @@ fn turn<N: StoreName, R: Wait, W: io::Write>(
 }
 
 /// Writes the log as the store grows it: the header of the run, and each entry, until the end is marked and no entry is left.
-/// Answers how many entries the pass has then handed out. Whatever it answers, the pass has what was handed out: on Ok and where
+/// Answers the number of the last entry that the pass has then handed out, which is how many they are. Whatever it answers, the pass has what was handed out: on Ok and where
 /// memory ran out its whole text went out; `Device` is answered exactly where the device failed, and then a beginning of the text
 /// went out, and not all of it.
 pub fn log_loop<N: StoreName, R: Wait, W: io::Write>(
@@ -72,16 +72,16 @@ pub fn log_loop<N: StoreName, R: Wait, W: io::Write>(
     shared: &Shared<N>,
     pass: &mut LogPass<N>,
     out: &mut Tally<W>,
-) -> Result<usize, Refusal>
+) -> Result<Lsn, Refusal>
     requires { pass.old ≡ [] }
     ensures text { Logged W.contents out.old out.new result (log_text N.name.setting.run pass.new) }
-    ensures length { IfOk result (λ n. n ≡ length pass.new) }
+    ensures last { IfOk result (λ n. n ≡ length pass.new) }
 {
     encode_header(out, pass.run())?;
     let mut seen = 0;
     for _ in rt.forever() {
         if turn(rt, shared, pass, out, &mut seen)? {
-            return Ok(pass.len());
+            return Ok(Lsn(pass.len() as u32));
         }
     }
     unreachable!()

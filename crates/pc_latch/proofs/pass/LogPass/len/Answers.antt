@@ -2,5 +2,5 @@ use Rattle.std.proofs.Common.{sym}
 use Rattle.pc_latch.proofs.Passing.{first_length}
 use Rattle.pc_latch.proofs.pass.LogPass.len.Goals as goal
 
-pub returns : goal.returns
-returns g c = sym (first_length c.self.inside.count _ c.args.self.now c.self.invariant.0 c.self.view_is)
+pub returns-clause-len : goal.returns-clause-len
+returns-clause-len g c = sym (first_length c.self.inside.count _ c.args.self.now c.self.invariant.0 c.self.view_is)
