@@ -1,7 +1,8 @@
 -- The words of a script's line, and what a line spells.
-use Rattle.std.specs.Prelude.{ℕ, ◌==◌, ◌&&◌, nat_lt, nat_le, Bool, false, List, [], ◌∷◌, Option, Some, None, if◌then◌else◌, length, filter, codes}
+use Rattle.std.specs.Prelude.{ℕ, ◌==◌, ◌&&◌, nat_lt, nat_le, Bool, false, List, [], ◌∷◌, Option, Some, None, if◌then◌else◌, length, map, filter, codes}
 use Rattle.std.specs.List.{slice_split}
 use Rattle.std.specs.Str.{bytes_eq}
+use Rattle.bstr.specs.Text.{lines_of, without_terminator}
 use Rattle.pc_types.specs.declared.Event.TheVariants as asked
 use Rattle.pc_types.specs.declared.Refusal.TheVariants as why
 use Rattle.pc_types.specs.declared.limits.TheConstants.{MOST_KEY_BYTES, MOST_VALUE_BYTES}
@@ -9,6 +10,10 @@ use Rattle.pc_lines.specs.declared.lines.Line.{Line}
 use Rattle.pc_lines.specs.declared.lines.Line.TheVariants as line
 use Rattle.pc_lines.specs.declared.lines.View.TheVariants as view
 use Rattle.pc_lines.specs.Words.{number_of, text_of}
+
+-- the lines: each ends with a line feed, before which one carriage return is dropped; the last one may lack its line feed
+abbrev pub lines_in : List ℕ → List (List ℕ)
+lines_in script = map without_terminator (lines_of script)
 
 -- the words of a line: what stands between its spaces, without the empty pieces
 abbrev pub words_of : List ℕ → List (List ℕ)

@@ -46,7 +46,7 @@ pub fn read_line(alloc: Global, text: &[u8]) -> Result<Line, Refusal>
     if is_comment(text) {
         return Ok(Line::Silent);
     }
-    let words = words(alloc, text)?;
+    let words = words_of(alloc, text)?;
     spelled_by(alloc, &words)
 }
 
@@ -65,7 +65,8 @@ fn spelled_by(alloc: Global, words: &[&[u8]]) -> Result<Line, Refusal>
     }
 }
 
-fn is_comment(text: &[u8]) -> bool
+/// Whether the first byte of a line is `#`: such a line says nothing.
+pub fn is_comment(text: &[u8]) -> bool
     ensures { result ≡ is_comment text.now }
 {
     !text.is_empty() && text[0] == b'#'
@@ -78,7 +79,8 @@ fn pieces<'a>(alloc: Global, text: &'a [u8]) -> Result<Vec<&'a [u8]>, AllocError
     text.split(|b| *b == b' ').collect(alloc)
 }
 
-fn words<'a>(alloc: Global, text: &'a [u8]) -> Result<Vec<&'a [u8]>, AllocError>
+/// The words of a line, which are the longest runs of bytes other than space. It fails only where memory ran out.
+pub fn words_of<'a>(alloc: Global, text: &'a [u8]) -> Result<Vec<&'a [u8]>, AllocError>
     ensures { IfOk result (λ v. map (λ w. w.now) v.items ≡ words_of text.now) }
 {
     let mut words = Vec::new(alloc);
@@ -254,13 +256,15 @@ fn put_line(alloc: Global, session: u32, key: &[u8], value: &[u8]) -> Result<Lin
     Ok(Line::Asks(Event::Put(SessionNo(session), key, value)))
 }
 
-fn is_key(bytes: &[u8]) -> bool
+/// Whether the bytes can be a key: 1 to 255.
+pub fn is_key(bytes: &[u8]) -> bool
     ensures { result ≡ is_key bytes.now }
 {
     !bytes.is_empty() && bytes.len() <= MOST_KEY_BYTES
 }
 
-fn is_value(bytes: &[u8]) -> bool
+/// Whether the bytes can be a value: at most 65,535.
+pub fn is_value(bytes: &[u8]) -> bool
     ensures { result ≡ is_value bytes.now }
 {
     bytes.len() <= MOST_VALUE_BYTES

@@ -12,7 +12,8 @@ use Rattle.pc_model.specs.Maps.{empty}
 use Rattle.pc_script.specs.declared.script.Status.{Status}
 use Rattle.pc_script.specs.declared.setup.Setup.{Setup}
 use Rattle.pc_script.specs.Runs.{AnswersInPart}
-use Rattle.pc_script.specs.Scripts.{lines_in, IsAnswered, IsAnsweredInPart}
+use Rattle.pc_lines.specs.Lines.{lines_in}
+use Rattle.pc_script.specs.Scripts.{IsAnswered, IsAnsweredInPart}
 use Rattle.pc_script.specs.Scripts.Stage.{Reading}
 use Rattle.pc_script.proofs.Begun.{begins_kept, whole_begins}
 

@@ -23,8 +23,8 @@ use Rattle.pc_script.specs.declared.script.Made.TheVariants as made
 use Rattle.pc_script.specs.declared.script.Status.{Status}
 use Rattle.pc_script.specs.declared.script.Status.TheVariants as status
 use Rattle.pc_script.specs.declared.setup.Setup.{Setup}
-use Rattle.pc_lines.specs.Lines.{spelled}
-use Rattle.pc_script.specs.Scripts.{Stage, lines_in, setting, AnswersLine, AnswersFirst, Answers, answer_text, Prints, PrintsFrom, is_malformed, has_bad_line, status_of, IsAnswered, IsAnsweredInPart}
+use Rattle.pc_lines.specs.Lines.{lines_in, spelled}
+use Rattle.pc_script.specs.Scripts.{Stage, setting, AnswersLine, AnswersFirst, Answers, answer_text, Prints, PrintsFrom, is_malformed, has_bad_line, status_of, IsAnswered, IsAnsweredInPart}
 use Rattle.pc_script.specs.Scripts.Stage.{Reading, Running, Ended}
 use Rattle.pc_script.specs.Holding.{Holds, IsSaid, IsSaidInPart, is_ended}
 use Rattle.pc_script.proofs.Begun.{whole_begins}

@@ -1,8 +1,7 @@
 -- What a script prints. Its first lines may give the base of the store; the first line of another kind ends the base,
 -- and the store then stands on it. Memory may run out at any line, so this is a relation and no function.
-use Rattle.std.specs.Prelude.{◌≡◌, ℕ, ◌⊎◌, ◌&&◌, not, nat_lt, Bool, true, false, List, [], ◌∷◌, ◌++◌, MatchBool, if◌then◌else◌, is_none, map, codes}
+use Rattle.std.specs.Prelude.{◌≡◌, ℕ, ◌⊎◌, ◌&&◌, not, nat_lt, Bool, true, false, List, [], ◌∷◌, ◌++◌, MatchBool, if◌then◌else◌, is_none, codes}
 use Rattle.std.specs.List.{list_any}
-use Rattle.bstr.specs.Text.{lines_of, without_terminator}
 use Rattle.pc_types.specs.declared.Reply.{Reply}
 use Rattle.pc_types.specs.declared.Reply.TheVariants as told
 use Rattle.pc_types.specs.declared.Refusal.{Refusal}
@@ -18,13 +17,9 @@ use Rattle.pc_script.specs.declared.script.Answer.TheVariants as answer
 use Rattle.pc_script.specs.declared.setup.Setup.{Setup}
 use Rattle.pc_script.specs.declared.script.Status.{Status}
 use Rattle.pc_script.specs.declared.script.Status.TheVariants as status
-use Rattle.pc_lines.specs.Lines.{spelled}
+use Rattle.pc_lines.specs.Lines.{lines_in, spelled}
 use Rattle.pc_texts.specs.Texts.{reply_text, state_text, hex_line, check_line}
 use Rattle.pc_script.specs.Views.{AnswersView}
-
--- the lines: each ends with a line feed, before which one carriage return is dropped; the last one may lack its line feed
-abbrev pub lines_in : List ℕ → List (List ℕ)
-lines_in script = map without_terminator (lines_of script)
 
 -- how far a script has come
 pub data Stage : Type 0 where

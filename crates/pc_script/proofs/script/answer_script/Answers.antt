@@ -1,5 +1,5 @@
 use Rattle.std.proofs.Common.{◌≡◌, refl, sym, ◌∙◌, rules}
-use Rattle.pc_script.specs.Scripts.{lines_in}
+use Rattle.pc_lines.specs.Lines.{lines_in}
 use Rattle.pc_script.proofs.ScriptLemmas.{nothing_yet, empty_fits, goes_on, at_lines, in_err, stops_before, stops_within, ends_early}
 use Rattle.pc_script.proofs.script.answer_script.Goals as goal
 

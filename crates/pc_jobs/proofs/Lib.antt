@@ -1,0 +1,2 @@
+mod PhraseLemmas
+mod WorkloadLemmas

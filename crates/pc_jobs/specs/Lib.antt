@@ -1,0 +1,6 @@
+pub mod Prefixes
+pub mod Jobs
+pub mod Phrases
+pub mod Workloads
+pub mod Seeing
+pub mod Gathering

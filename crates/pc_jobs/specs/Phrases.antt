@@ -1,0 +1,101 @@
+-- What a line of a workload spells by itself.
+use Rattle.std.specs.Prelude.{ℕ, ◌&&◌, nat_le, Bool, List, [], ◌∷◌, Option, Some, None, if◌then◌else◌, codes}
+use Rattle.std.specs.Str.{bytes_eq}
+use Rattle.pc_lines.specs.Words.{number_of, text_of}
+use Rattle.pc_lines.specs.Lines.{words_of, is_key, is_value, is_comment}
+use Rattle.pc_jobs.specs.declared.works.Op.TheVariants as op
+use Rattle.pc_jobs.specs.declared.phrases.Phrase.{Phrase}
+use Rattle.pc_jobs.specs.declared.phrases.Phrase.TheVariants as phrase
+use Rattle.pc_jobs.specs.Prefixes.{is_prefix}
+
+-- a text of which a test holds
+abbrev pub text_with : (List ℕ → Bool) → Option (List ℕ) → Option (List ℕ)
+text_with test (Some text) = if test text then Some text else None
+text_with test None = None
+
+-- the key that a word spells
+abbrev pub key_of : List ℕ → Option (List ℕ)
+key_of word = text_with is_key (text_of word)
+
+-- the value that a word spells
+abbrev pub value_of : List ℕ → Option (List ℕ)
+value_of word = text_with is_value (text_of word)
+
+-- the prefix that a word spells
+abbrev pub prefix_of : List ℕ → Option (List ℕ)
+prefix_of word = text_with is_prefix (text_of word)
+
+-- a number within limits
+abbrev pub within : ℕ → ℕ → Option ℕ → Option ℕ
+within least most (Some n) = if nat_le least n && nat_le n most then Some n else None
+within least most None = None
+
+-- the number within limits that a word writes
+abbrev pub number_within : ℕ → ℕ → List ℕ → Option ℕ
+number_within least most word = within least most (number_of word)
+
+-- how many points are to be taken
+abbrev pub points_line : Option ℕ → Phrase
+points_line (Some points) = phrase.Points points
+points_line None = phrase.Malformed
+
+-- whose work follows
+abbrev pub client_line : Option ℕ → Phrase
+client_line (Some session) = phrase.Client session
+client_line None = phrase.Malformed
+
+-- a read
+abbrev pub get_line : Option (List ℕ) → Phrase
+get_line (Some key) = phrase.Does (op.Get key)
+get_line None = phrase.Malformed
+
+-- a removal
+abbrev pub del_line : Option (List ℕ) → Phrase
+del_line (Some key) = phrase.Does (op.Del key)
+del_line None = phrase.Malformed
+
+-- a put
+abbrev pub put_line : Option (List ℕ) → Option (List ℕ) → Phrase
+put_line (Some key) (Some value) = phrase.Does (op.Put key value)
+put_line key value = phrase.Malformed
+
+-- a fill
+abbrev pub fill_line : Option (List ℕ) → Option ℕ → Option (List ℕ) → Phrase
+fill_line (Some prefix) (Some count) (Some value) = phrase.Fill (record { prefix = prefix; count = count; value = value })
+fill_line prefix count value = phrase.Malformed
+
+-- what a word alone spells
+abbrev pub one_word : List ℕ → Phrase
+one_word verb =
+    if bytes_eq verb (codes "txn") then phrase.Begin
+    else (if bytes_eq verb (codes "end") then phrase.End else phrase.Malformed)
+
+-- what two words spell
+abbrev pub two_words : List ℕ → List ℕ → Phrase
+two_words verb word =
+    if bytes_eq verb (codes "points") then points_line (number_within 0 1000 word)
+    else (if bytes_eq verb (codes "client") then client_line (number_within 1 64 word)
+    else (if bytes_eq verb (codes "get") then get_line (key_of word)
+    else (if bytes_eq verb (codes "del") then del_line (key_of word) else phrase.Malformed)))
+
+-- what three words spell
+abbrev pub three_words : List ℕ → List ℕ → List ℕ → Phrase
+three_words verb key value = if bytes_eq verb (codes "put") then put_line (key_of key) (value_of value) else phrase.Malformed
+
+-- what four words spell
+abbrev pub four_words : List ℕ → List ℕ → List ℕ → List ℕ → Phrase
+four_words verb prefix count value =
+    if bytes_eq verb (codes "fill") then fill_line (prefix_of prefix) (number_within 1 1000000 count) (value_of value) else phrase.Malformed
+
+-- what the words of a line spell
+abbrev pub spelled_by : List (List ℕ) → Phrase
+spelled_by [] = phrase.Silent
+spelled_by (verb ∷ []) = one_word verb
+spelled_by (verb ∷ word ∷ []) = two_words verb word
+spelled_by (verb ∷ key ∷ value ∷ []) = three_words verb key value
+spelled_by (verb ∷ prefix ∷ count ∷ value ∷ []) = four_words verb prefix count value
+spelled_by words = phrase.Malformed
+
+-- what a line spells
+abbrev pub spelled : List ℕ → Phrase
+spelled text = if is_comment text then phrase.Silent else spelled_by (words_of text)

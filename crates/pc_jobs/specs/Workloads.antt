@@ -1,0 +1,114 @@
+-- What a workload's text is worth: the work that it gives, or the number of its first bad line. Which lines are bad is said of
+-- each by itself, from the lines before it and those behind it; what the lines give is said of lines none of which is bad.
+use Rattle.std.specs.Prelude.{◌+◌, ◌==◌, ◌||◌, not, ℕ, Bool, true, false, List, [], ◌∷◌, ◌++◌, Option, Some, None, if◌then◌else◌, length, map, fold}
+use Rattle.std.specs.List.{list_any}
+use Rattle.pc_lines.specs.Lines.{lines_in}
+use Rattle.pc_jobs.specs.declared.works.Op.{Op}
+use Rattle.pc_jobs.specs.declared.works.Work.{Work}
+use Rattle.pc_jobs.specs.declared.works.Work.TheVariants as work
+use Rattle.pc_jobs.specs.declared.works.Client.{Client}
+use Rattle.pc_jobs.specs.declared.works.Workload.{Workload}
+use Rattle.pc_jobs.specs.declared.phrases.Phrase.{Phrase}
+use Rattle.pc_jobs.specs.declared.phrases.Phrase.TheVariants as phrase
+use Rattle.pc_jobs.specs.declared.workloads.Reading.{Reading}
+use Rattle.pc_jobs.specs.declared.workloads.Reading.TheVariants as reading
+use Rattle.pc_jobs.specs.Phrases.{spelled}
+
+-- a line that gives the points
+abbrev pub is_points : Phrase → Bool
+is_points (phrase.Points points) = true
+is_points line = false
+
+-- a line that a client's work begins with
+abbrev pub is_client : Phrase → Bool
+is_client (phrase.Client session) = true
+is_client line = false
+
+-- that of this session
+abbrev pub is_client_of : ℕ → Phrase → Bool
+is_client_of session (phrase.Client s) = s == session
+is_client_of session line = false
+
+-- whether a transaction is open behind a line, where one was open before it or not
+abbrev pub is_open_behind : Bool → Phrase → Bool
+is_open_behind before phrase.Begin = true
+is_open_behind before (phrase.Does op) = before
+is_open_behind before phrase.Silent = before
+is_open_behind before line = false
+
+-- whether a transaction is open behind these lines
+abbrev pub is_open : List Phrase → Bool
+is_open lines = fold is_open_behind false lines
+
+-- whether the lines behind a `txn` end its transaction, or come to a line that is bad by itself
+abbrev pub closes : List Phrase → Bool
+closes [] = false
+closes (phrase.Silent ∷ lines) = closes lines
+closes (phrase.Does op ∷ lines) = closes lines
+closes (phrase.End ∷ lines) = true
+closes (phrase.Malformed ∷ lines) = true
+closes (line ∷ lines) = false
+
+-- whether a line is bad, by what stands before it and behind it
+abbrev pub is_bad : List Phrase → Phrase → List Phrase → Bool
+is_bad before phrase.Silent behind = false
+is_bad before (phrase.Points points) behind = list_any is_points before || list_any is_client before
+is_bad before (phrase.Client session) behind = list_any (is_client_of session) before
+is_bad before phrase.Begin behind = not (list_any is_client before) || not (closes behind)
+is_bad before (phrase.Does op) behind = not (is_open before)
+is_bad before phrase.End behind = not (is_open before)
+is_bad before (phrase.Fill fill) behind = not (list_any is_client before)
+is_bad before phrase.Malformed behind = true
+
+-- the number of the first bad line, from 1, of some lines with others before them
+abbrev pub first_bad : List Phrase → List Phrase → Option ℕ
+first_bad before [] = None
+first_bad before (line ∷ behind) = if is_bad before line behind then Some (length before + 1) else first_bad (before ++ line ∷ []) behind
+
+-- the operations of the transaction that is open before these lines
+abbrev pub ops_in : List Phrase → List Op
+ops_in [] = []
+ops_in (phrase.Silent ∷ lines) = ops_in lines
+ops_in (phrase.Does op ∷ lines) = op ∷ ops_in lines
+ops_in (line ∷ lines) = []
+
+-- the work of the client whose line stands before these lines
+abbrev pub works_in : List Phrase → List Work
+works_in [] = []
+works_in (phrase.Begin ∷ lines) = work.Once (record { ops = ops_in lines }) ∷ works_in lines
+works_in (phrase.Fill fill ∷ lines) = work.Fill fill ∷ works_in lines
+works_in (phrase.Client session ∷ lines) = []
+works_in (line ∷ lines) = works_in lines
+
+-- the clients of these lines
+abbrev pub clients_in : List Phrase → List Client
+clients_in [] = []
+clients_in (phrase.Client session ∷ lines) = record { session = session; works = works_in lines } ∷ clients_in lines
+clients_in (line ∷ lines) = clients_in lines
+
+-- how many points are to be taken: none where no line says it
+abbrev pub points_in : List Phrase → ℕ
+points_in [] = 0
+points_in (phrase.Points points ∷ lines) = points
+points_in (line ∷ lines) = points_in lines
+
+-- what the lines give, where none is bad
+abbrev pub workload_of : List Phrase → Workload
+workload_of lines = record { points = points_in lines; clients = clients_in lines }
+
+-- a bad line, if there is one, and else the workload
+abbrev pub outcome : Option ℕ → Workload → Reading
+outcome (Some line) workload = reading.BadLine line
+outcome None workload = reading.Runs workload
+
+-- what some lines are worth
+abbrev pub worth : List Phrase → Reading
+worth lines = outcome (first_bad [] lines) (workload_of lines)
+
+-- what the lines of a text spell
+abbrev pub phrases_in : List ℕ → List Phrase
+phrases_in text = map spelled (lines_in text)
+
+-- what a text is worth
+abbrev pub reading_of : List ℕ → Reading
+reading_of text = worth (phrases_in text)

@@ -1,0 +1,13 @@
+//! What clients are to do, and how the text of a workload spells it.
+#![tactic(auto)]
+
+mod fills;
+mod phrases;
+mod prefixes;
+mod workloads;
+mod works;
+
+pub use phrases::Phrase;
+pub use prefixes::Prefix;
+pub use workloads::{Reading, read_workload};
+pub use works::{Client, Fill, Job, Op, Work, Workload};

@@ -1,0 +1,55 @@
+//! What the clients of a workload are to do.
+use crate::prefixes::Prefix;
+use pc_types::{Items, Key, SessionNo, Value};
+
+/// An operation of a transaction.
+#[derive(Drop)]
+pub enum Op {
+    /// Reads the key.
+    Get(Key),
+    /// Sets the key to the value.
+    Put(Key, Value),
+    /// Removes the key.
+    Del(Key),
+}
+
+/// What one transaction does, in order.
+#[derive(Drop)]
+pub struct Job {
+    pub ops: Items<Op>,
+}
+
+/// Many transactions, each of which sets one key to the same value. The keys are the prefix with the numbers from 0 behind it,
+/// in six digits.
+#[derive(Drop)]
+pub struct Fill {
+    pub prefix: Prefix,
+    /// How many transactions: in a workload that was read, 1 to 1,000,000.
+    pub count: u32,
+    pub value: Value,
+}
+
+/// A piece of a client's work.
+#[derive(Drop)]
+pub enum Work {
+    /// One transaction.
+    Once(Job),
+    /// Many transactions, which are made one by one.
+    Fill(Fill),
+}
+
+/// What one client is to do, in order, and as which session.
+#[derive(Drop)]
+pub struct Client {
+    /// In a workload that was read, 1 to 64, and that of no other client.
+    pub session: SessionNo,
+    pub works: Items<Work>,
+}
+
+/// What all clients are to do, and how many points of consistency are to be taken meanwhile.
+#[derive(Drop)]
+pub struct Workload {
+    /// In a workload that was read, 0 to 1,000.
+    pub points: u32,
+    pub clients: Items<Client>,
+}
