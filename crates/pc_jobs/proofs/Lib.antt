@@ -1,2 +1,3 @@
 mod PhraseLemmas
 mod WorkloadLemmas
+mod ReadLemmas

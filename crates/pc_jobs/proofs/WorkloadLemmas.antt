@@ -16,7 +16,7 @@ or_false : (b : Bool) → (b || false) ≡ b
 or_false true = refl
 or_false false = refl
 
-any_more : (test : Phrase → Bool) (lines : List Phrase) (line : Phrase) → list_any test (lines ++ line ∷ []) ≡ (list_any test lines || test line)
+pub any_more : (test : Phrase → Bool) (lines : List Phrase) (line : Phrase) → list_any test (lines ++ line ∷ []) ≡ (list_any test lines || test line)
 any_more test lines line = list_any-append test lines (line ∷ []) ∙ ap (λ (b : Bool). list_any test lines || b) (or_false (test line))
 
 -- what was seen, and one line more

@@ -4,3 +4,4 @@ pub mod Phrases
 pub mod Workloads
 pub mod Seeing
 pub mod Gathering
+pub mod Written

@@ -2,7 +2,9 @@
 ghost use Rattle.std.specs.Prelude.{◌≡◌, [], ◌∷◌, List, Option, Some, IfOk, IfErr, MatchOption, reverse};
 ghost use Rattle.std.specs.List.{list_any};
 ghost use Rattle.pc_jobs.specs.declared.phrases.Phrase.{Phrase};
+ghost use Rattle.pc_jobs.specs.declared.works.Workload.{Workload};
 ghost use Rattle.pc_jobs.specs.Workloads.{is_points, is_client, is_client_of, is_open_behind, closes, is_bad, first_bad, workload_of, phrases_in, reading_of};
+ghost use Rattle.pc_jobs.specs.Written.{IsWritten};
 ghost use Rattle.pc_jobs.specs.Seeing.{seen_in, seen_behind};
 ghost use Rattle.pc_jobs.specs.Gathering.{gathered_of, closing};
 
@@ -24,6 +26,7 @@ pub enum Reading {
 /// Reads the text of a workload. Refuses only with `OutOfMemory`.
 pub fn read_workload(alloc: Global, text: &[u8]) -> Result<Reading, Refusal>
     ensures reading { IfOk result (λ reading. reading ≡ reading_of text.now) }
+    ensures written { IfOk result (λ reading. (workload : Workload) → reading ≡ Reading.Runs workload → IsWritten (phrases_in text.now) workload) }
     ensures refusals { IfErr result (λ e. e ≡ Refusal.OutOfMemory) }
 {
     let phrases = phrases_in(alloc, text)?;
