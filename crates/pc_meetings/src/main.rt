@@ -1,5 +1,5 @@
-//! Clients, a checkpointer and a logger on threads of their own over one store, some of which stand at gates until others have come to
-//! theirs. It prints what each such meeting leaves, which is the same in every run.
+//! Clients, a checkpointer, a logger and a collapser on threads of their own over one store, some of which stand at gates until
+//! others have come to theirs. It prints what each such meeting leaves, which is the same in every run.
 #![tactic(auto)]
 
 mod audits;

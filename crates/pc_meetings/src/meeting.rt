@@ -1,15 +1,17 @@
-//! A store from its opening to its close, with its clients, its checkpointer and its logger on threads of their own.
+//! A store from its opening to its close, with its clients, its checkpointer, its logger and a collapser on threads of their own.
 ghost use Rattle.std.specs.Prelude.{◌≡◌, []};
+ghost use Rattle.pc_board.specs.Passes.{IsOfBoard};
 
 use crate::audits::{right_files, take_parts};
 use crate::gate::{Meeting, Stop};
 use crate::jobs::Work;
 use crate::receipts::{are_exact, count_of};
+use pc_board::{Board, BoardPass};
 use pc_log::encode_log;
 use pc_shared::{Closed, LogPass, Opened, PartTicket, Session, Shared};
 use pc_tie::StoreName;
 use pc_types::{Entry, Lsn, Refusal, Tally};
-use pc_workers::{Count, Job, checkpoint_loop, client_loop, log_loop, log_rest};
+use pc_workers::{Count, Job, checkpoint_loop, client_loop, collapse_loop, log_loop, log_rest};
 use std::alloc::Global;
 use std::sync::Wait;
 use std::sync::atomic::{AtomicU64, Ordering};
@@ -20,6 +22,8 @@ use std::thread::{self, Threads, join};
 pub struct Plan {
     pub sessions: u8,
     pub points: u32,
+    /// Whether a collapser joins the points' files beside all others.
+    pub collapses: bool,
     pub work: Work,
     pub stops: [Option<Stop>; 4],
 }
@@ -61,11 +65,12 @@ struct Done {
     given_up: AtomicU64,
 }
 
-// What the clients have, beside their sessions.
+// What the threads have, beside what is their own.
 #[derive(Clone, Copy)]
 struct Room<'a, N: StoreName> {
     alloc: Global,
     shared: &'a Shared<N>,
+    plan: &'a Plan,
     jobs: &'a [Vec<Job>],
     gate: &'a Meeting,
     done: &'a Done,
@@ -127,39 +132,129 @@ fn run_clients<N: StoreName + Send + Sync, R: Threads + Wait + Sync>(
 fn run_to_the_end<N: StoreName + Send + Sync, R: Threads + Wait + Sync>(
     rt: &R,
     room: &Room<N>,
-    points: u32,
+    board: &Board,
+    pass: &mut BoardPass,
     sessions: &mut [Session<N>],
-) -> Result<u32, Refusal> {
+) -> Result<u32, Refusal>
+    requires { IsOfBoard pass.old board.now }
+{
+    let points = room.plan.points;
     let (points, ()) = join(
         rt,
-        || checkpoint_loop(rt, room.shared, points, room.gate),
+        || -> Result<u32, Refusal>
+            requires { IsOfBoard pass.now board.now }
+        { checkpoint_loop(rt, room.shared, board, pass, points, room.gate) },
         || run_clients(rt, room, sessions),
     );
     room.shared.mark_end(rt);
     points
 }
 
-// All of them beside the logger. Then the tickets are taken.
+// The collapser, where the plan has one, and the tickets that it is left with.
+fn collapse<N: StoreName, R: Wait>(
+    rt: &R,
+    room: &Room<N>,
+    board: &Board,
+    pass: &mut BoardPass,
+) -> Result<Vec<PartTicket<N>>, Refusal>
+    requires { IsOfBoard pass.old board.now }
+{
+    if !room.plan.collapses {
+        return Ok(Vec::new(room.alloc));
+    }
+    let points = room.plan.points;
+    collapse_loop(
+        rt,
+        room.alloc,
+        room.shared,
+        board,
+        pass,
+        0,
+        points,
+        room.gate,
+    )
+}
+
+// The logger, and beside it the collapser.
+fn log_beside_collapser<N: StoreName + Send + Sync, R: Threads + Wait + Sync>(
+    rt: &R,
+    room: &Room<N>,
+    board: &Board,
+    theirs: &mut BoardPass,
+    text: &mut Tally<Vec<u8>>,
+    pass: &mut LogPass<N>,
+) -> Result<Vec<PartTicket<N>>, Refusal>
+    requires theirs { IsOfBoard theirs.old board.now }
+    requires pass { pass.old ≡ [] }
+{
+    let (logged, held) = join(
+        rt,
+        || -> Result<Lsn, Refusal>
+            requires { pass.now ≡ [] }
+        { log_loop(rt, room.shared, pass, text) },
+        || -> Result<Vec<PartTicket<N>>, Refusal>
+            requires { IsOfBoard theirs.now board.now }
+        { collapse(rt, room, board, theirs) },
+    );
+    logged?;
+    held
+}
+
+// All of them on the board. The tickets are the collapser's.
+fn run_on<N: StoreName + Send + Sync, R: Threads + Wait + Sync>(
+    rt: &R,
+    room: &Room<N>,
+    board: &Board,
+    ours: &mut BoardPass,
+    theirs: &mut BoardPass,
+    text: &mut Tally<Vec<u8>>,
+    pass: &mut LogPass<N>,
+    sessions: &mut [Session<N>],
+) -> Result<Vec<PartTicket<N>>, Refusal>
+    requires ours { IsOfBoard ours.old board.now }
+    requires theirs { IsOfBoard theirs.old board.now }
+    requires pass { pass.old ≡ [] }
+{
+    let (ended, held) = join(
+        rt,
+        || -> Result<u32, Refusal>
+            requires { IsOfBoard ours.now board.now }
+        { run_to_the_end(rt, room, board, ours, sessions) },
+        || -> Result<Vec<PartTicket<N>>, Refusal>
+            requires { IsOfBoard theirs.now board.now × (pass.now ≡ []) }
+        { log_beside_collapser(rt, room, board, theirs, text, pass) },
+    );
+    ended?;
+    held
+}
+
+// All of them. Then the other tickets are taken.
 fn run_all<N: StoreName + Send + Sync, R: Threads + Wait + Sync>(
     rt: &R,
     room: &Room<N>,
-    points: u32,
     text: &mut Tally<Vec<u8>>,
     pass: &mut LogPass<N>,
     sessions: &mut [Session<N>],
 ) -> Result<Vec<PartTicket<N>>, Refusal>
     requires { pass.old ≡ [] }
 {
-    let (ended, logged) = join(
+    let (board, mut passes) = Board::new(room.alloc, 2)?;
+    let (Some(mut theirs), Some(mut ours)) = (passes.pop(), passes.pop()) else {
+        return Err(Refusal::NoSession);
+    };
+    let mut held = run_on(
         rt,
-        || run_to_the_end(rt, room, points, sessions),
-        || -> Result<Lsn, Refusal>
-            requires { pass.now ≡ [] }
-        { log_loop(rt, room.shared, pass, text) },
-    );
-    ended?;
-    logged?;
-    take_parts(rt, room.alloc, room.shared, points)
+        room,
+        &board,
+        &mut ours,
+        &mut theirs,
+        text,
+        pass,
+        sessions,
+    )?;
+    let mut tickets = take_parts(rt, room.alloc, room.shared, room.plan.points)?;
+    tickets.append(&mut held)?;
+    Ok(tickets)
 }
 
 /// Opens no store, but runs this one to its close by the plan, and tells what it leaves.
@@ -179,11 +274,12 @@ pub fn meet<N: StoreName + Send + Sync, R: Threads + Wait + Sync>(
     let room = Room {
         alloc,
         shared: &shared,
+        plan,
         jobs: &jobs,
         gate: &gate,
         done: &done,
     };
-    let tickets = run_all(rt, &room, plan.points, &mut text, &mut pass, &mut sessions)?;
+    let tickets = run_all(rt, &room, &mut text, &mut pass, &mut sessions)?;
     let closed = shared.close(sessions, tickets, pass);
     log_rest(&closed, &mut text)?;
     left_by(alloc, &closed, &gate, &done, text)

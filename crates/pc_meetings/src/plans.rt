@@ -9,6 +9,7 @@ use crate::signs::Sign;
 const BESIDE_A_POINT: Plan = Plan {
     sessions: 2,
     points: 1,
+    collapses: false,
     work: Work::Listed([
         [Some([Some(Ask::Put(b'a', 1)), None]), None],
         [
@@ -40,10 +41,34 @@ const BESIDE_A_POINT: Plan = Plan {
     ],
 };
 
+// Session 1 begins in the third point's phase resolve, and stands with a locked until the collapser holds two of the files. The end
+// is marked only after session 1, so a collapser that joins nothing before then lets it stand in vain.
+const COLLAPSE_BESIDE: Plan = Plan {
+    sessions: 1,
+    points: 3,
+    collapses: true,
+    work: Work::Listed([[Some([Some(Ask::Put(b'a', 1)), None]), None], [None, None]]),
+    stops: [
+        Some(Stop {
+            at: Sign::FirstStarts,
+            time: 1,
+            until: [(Sign::EntersResolve, 3), (Sign::EntersResolve, 3)],
+        }),
+        Some(Stop {
+            at: Sign::FirstSteps,
+            time: 1,
+            until: [(Sign::Pairs, 1), (Sign::Pairs, 1)],
+        }),
+        None,
+        None,
+    ],
+};
+
 // Session 1 begins once session 2 has committed, and reads what that has written.
 const READ_BACK: Plan = Plan {
     sessions: 2,
     points: 0,
+    collapses: false,
     work: Work::Listed([
         [Some([Some(Ask::Get(b'k')), None]), None],
         [Some([Some(Ask::Put(b'k', 1)), None]), None],
@@ -64,6 +89,7 @@ const READ_BACK: Plan = Plan {
 const SESSIONS_MEET: Plan = Plan {
     sessions: 2,
     points: 0,
+    collapses: false,
     work: Work::Listed([
         [Some([Some(Ask::Put(b'a', 1)), None]), None],
         [Some([Some(Ask::Put(b'b', 1)), None]), None],
@@ -89,6 +115,7 @@ const SESSIONS_MEET: Plan = Plan {
 const YOUNGER_DIES: Plan = Plan {
     sessions: 2,
     points: 0,
+    collapses: false,
     work: Work::Listed([
         [Some([Some(Ask::Put(b'a', 1)), None]), None],
         [
@@ -120,6 +147,7 @@ const YOUNGER_DIES: Plan = Plan {
 const APART: Plan = Plan {
     sessions: 4,
     points: 0,
+    collapses: false,
     work: Work::Made(4, 1000, Made::Apart),
     stops: [None, None, None, None],
 };
@@ -128,13 +156,15 @@ const APART: Plan = Plan {
 const CROWD: Plan = Plan {
     sessions: 64,
     points: 8,
+    collapses: false,
     work: Work::Made(64, 2, Made::Crowded),
     stops: [None, None, None, None],
 };
 
 /// All of them, with their names.
-pub const PLANS: [(&str, Plan); 6] = [
+pub const PLANS: [(&str, Plan); 7] = [
     ("beside a point", BESIDE_A_POINT),
+    ("collapse beside", COLLAPSE_BESIDE),
     ("read back", READ_BACK),
     ("sessions meet", SESSIONS_MEET),
     ("the younger one dies", YOUNGER_DIES),

@@ -3,7 +3,7 @@ use pc_types::{Phase, Place, SessionNo};
 use std::sync::atomic::{AtomicU64, Ordering};
 
 /// A place that is counted: of sessions 1 and 2 the beginnings of transactions, their first operations and their commits; of the
-/// checkpointer some of its phases, and its keys.
+/// checkpointer some of its phases, and its keys; and how often the first collapser holds two files.
 #[derive(Clone, Copy, Debug, PartialEq, Eq)]
 pub enum Sign {
     FirstStarts,
@@ -16,6 +16,7 @@ pub enum Sign {
     EntersResolve,
     EntersComplete,
     Takes,
+    Pairs,
 }
 
 /// The sign of the place, where it is counted.
@@ -31,6 +32,7 @@ pub fn sign_of(place: Place) -> Option<Sign> {
         Place::Entered(Phase::Resolve) => Some(Sign::EntersResolve),
         Place::Entered(Phase::Complete) => Some(Sign::EntersComplete),
         Place::Took => Some(Sign::Takes),
+        Place::Pair(0) => Some(Sign::Pairs),
         _ => None,
     }
 }
@@ -48,6 +50,7 @@ pub struct Counts {
     enters_resolve: AtomicU64,
     enters_complete: AtomicU64,
     takes: AtomicU64,
+    pairs: AtomicU64,
 }
 
 impl Counts {
@@ -64,6 +67,7 @@ impl Counts {
             enters_resolve: AtomicU64::new(0),
             enters_complete: AtomicU64::new(0),
             takes: AtomicU64::new(0),
+            pairs: AtomicU64::new(0),
         }
     }
 
@@ -79,6 +83,7 @@ impl Counts {
             Sign::EntersResolve => &self.enters_resolve,
             Sign::EntersComplete => &self.enters_complete,
             Sign::Takes => &self.takes,
+            Sign::Pairs => &self.pairs,
         }
     }
 

@@ -1,21 +1,16 @@
 //! What each thread does.
-use pc_shared::{Answer, Session, Shared};
+ghost use Rattle.pc_board.specs.Passes.{IsOfBoard};
+
+use pc_board::{Board, BoardPass};
+use pc_shared::{Answer, PartTicket, Session, Shared};
 use pc_tie::StoreName;
-use pc_types::{Gate, Items, Key, Place, Refusal, Value};
-use pc_workers::{Count, Job, Op, checkpoint_loop, client_loop};
+use pc_types::{Items, Key, OpenGate, Refusal, Value};
+use pc_workers::{Count, Job, Op, checkpoint_loop, client_loop, collapse_loop};
 use std::alloc::Global;
 use std::sync::Wait;
 
 // How many transactions a client commits.
 const COMMITS: u64 = 1000;
-
-/// A gate that nothing waits at.
-#[derive(Drop)]
-struct Open;
-
-impl Gate for Open {
-    fn pass(&self, _place: Place) {}
-}
 
 /// Commits transactions over one key call by call, each of which reads it and sets it anew; the number of those that were.
 pub fn commit_often<N: StoreName, R: Wait>(
@@ -80,7 +75,7 @@ pub fn run_jobs<N: StoreName, R: Wait>(
     let Count {
         commits,
         given_up: _,
-    } = client_loop(rt, alloc, shared, session, &jobs, &Open);
+    } = client_loop(rt, alloc, shared, session, &jobs, &OpenGate);
     Ok(commits)
 }
 
@@ -95,11 +90,29 @@ fn job_of(alloc: Global) -> Result<Job, Refusal> {
     })
 }
 
-/// Takes so many points.
+/// Takes so many points, and publishes each.
 pub fn take_points<N: StoreName, R: Wait>(
     rt: &R,
     shared: &Shared<N>,
+    board: &Board,
+    pass: &mut BoardPass,
     points: u32,
-) -> Result<u32, Refusal> {
-    checkpoint_loop(rt, shared, points, &Open)
+) -> Result<u32, Refusal>
+    requires { IsOfBoard pass.old board.now }
+{
+    checkpoint_loop(rt, shared, board, pass, points, &OpenGate)
+}
+
+/// Takes the files of so many points as they are published, and joins them.
+pub fn collapse_points<N: StoreName, R: Wait>(
+    rt: &R,
+    alloc: Global,
+    shared: &Shared<N>,
+    board: &Board,
+    pass: &mut BoardPass,
+    points: u32,
+) -> Result<Vec<PartTicket<N>>, Refusal>
+    requires { IsOfBoard pass.old board.now }
+{
+    collapse_loop(rt, alloc, shared, board, pass, 0, points, &OpenGate)
 }

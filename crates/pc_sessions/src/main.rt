@@ -1,4 +1,5 @@
-//! Two sessions on threads of their own, a checkpointer beside them, and a logger, over one store in memory: an example of the library.
+//! Two sessions on threads of their own, a checkpointer and a collapser beside them, and a logger, over one store in memory: an
+//! example of the library.
 //! It prints what they leave.
 #![tactic(auto)]
 
@@ -38,8 +39,14 @@ fn run<H: Threads + Wait + Sync>(rt: &HostRuntime, threads: &H) -> io::Result<()
 
 fn tell(rt: &HostRuntime, left: &Left) -> io::Result<()> {
     let text = format!(in rt.alloc();
-        "commits {}\nreceipts {}\nentries {}\nparts {}\nall {}\nlogged {}\n",
-        left.commits, left.receipts, left.entries, left.parts, left.all, left.is_logged
+        "commits {}\nreceipts {}\nentries {}\nparts {}\ncomplete to {}\nall {}\nlogged {}\n",
+        left.commits,
+        left.receipts,
+        left.entries,
+        left.parts,
+        left.complete_to,
+        left.all,
+        left.is_logged
     )?;
     io::writer(rt).write_all(text.as_bytes())
 }

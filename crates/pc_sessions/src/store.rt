@@ -1,11 +1,13 @@
 //! The store from its opening to its close.
 ghost use Rattle.std.specs.Prelude.{◌≡◌, []};
+ghost use Rattle.pc_board.specs.Passes.{IsOfBoard};
 
-use crate::clients::{commit_often, commit_one, run_jobs, take_points};
+use crate::clients::{collapse_points, commit_often, commit_one, run_jobs, take_points};
 use crate::log::{TextOfLog, is_text_of};
+use pc_board::{Board, BoardPass};
 use pc_shared::{Closed, LogPass, Opened, PartTicket, Session, Shared};
 use pc_tie::StoreName;
-use pc_types::{FileNo, Refusal};
+use pc_types::{Point, Refusal};
 use std::alloc::Global;
 use std::sync::Wait;
 use std::thread::{Threads, join};
@@ -24,14 +26,16 @@ pub struct Left {
     pub entries: usize,
     /// How many parts there are.
     pub parts: usize,
+    /// The last point of the first part, where that has all points from the first on; else 0.
+    pub complete_to: u16,
     /// Whether every session is there.
     pub all: bool,
     /// Whether what the logger wrote is the text of the log.
     pub is_logged: bool,
 }
 
-/// Two sessions commit on threads of their own, while points are taken on a third one. Then the log is written, and one more
-/// transaction is committed behind the logger.
+/// Two sessions commit on threads of their own, while points are taken on a third one and their files are joined on a fourth.
+/// Then the log is written, and one more transaction is committed behind the logger.
 pub fn use_store<N: StoreName + Send + Sync, R: Threads + Wait + Sync>(
     rt: &R,
     alloc: Global,
@@ -66,15 +70,68 @@ fn run_threads<N: StoreName + Send + Sync, R: Threads + Wait + Sync>(
 ) -> Result<Done<N>, Refusal>
     requires { pass.old ≡ [] }
 {
-    let commits = commit_beside_points(rt, alloc, shared, sessions.as_mut_slice())?;
-    shared.mark_end(rt);
+    let (board, mut passes) = Board::new(alloc, 2)?;
+    let (Some(mut theirs), Some(mut ours)) = (passes.pop(), passes.pop()) else {
+        return Err(Refusal::NoSession);
+    };
+    let done = use_board(
+        rt,
+        alloc,
+        shared,
+        &board,
+        &mut ours,
+        &mut theirs,
+        sessions.as_mut_slice(),
+    )?;
     text.write(rt, shared, pass)?;
     let Some(first) = sessions.first_mut() else {
         return Err(Refusal::NoSession);
     };
     commit_one(rt, alloc, shared, first)?;
-    let tickets = take_parts(rt, alloc, shared)?;
+    Ok(done)
+}
+
+// Beside all that goes on until the end is marked a collapser joins the files of the points.
+fn use_board<N: StoreName + Send + Sync, R: Threads + Wait + Sync>(
+    rt: &R,
+    alloc: Global,
+    shared: &Shared<N>,
+    board: &Board,
+    ours: &mut BoardPass,
+    theirs: &mut BoardPass,
+    sessions: &mut [Session<N>],
+) -> Result<Done<N>, Refusal>
+    requires ours { IsOfBoard ours.old board.now }
+    requires theirs { IsOfBoard theirs.old board.now }
+{
+    let (commits, tickets) = join(
+        rt,
+        || -> Result<u64, Refusal>
+            requires { IsOfBoard ours.now board.now }
+        { commit_to_the_end(rt, alloc, shared, board, ours, sessions) },
+        || -> Result<Vec<PartTicket<N>>, Refusal>
+            requires { IsOfBoard theirs.now board.now }
+        { collapse_points(rt, alloc, shared, board, theirs, POINTS) },
+    );
+    let commits = commits?;
+    let tickets = tickets?;
     Ok(Done { commits, tickets })
+}
+
+// Once the sessions and the checkpointer are through, the end is marked.
+fn commit_to_the_end<N: StoreName + Send + Sync, R: Threads + Wait + Sync>(
+    rt: &R,
+    alloc: Global,
+    shared: &Shared<N>,
+    board: &Board,
+    pass: &mut BoardPass,
+    sessions: &mut [Session<N>],
+) -> Result<u64, Refusal>
+    requires { IsOfBoard pass.old board.now }
+{
+    let committed = commit_beside_points(rt, alloc, shared, board, pass, sessions);
+    shared.mark_end(rt);
+    committed
 }
 
 // Both sessions commit, and beside them points are taken.
@@ -82,8 +139,12 @@ fn commit_beside_points<N: StoreName + Send + Sync, R: Threads + Wait + Sync>(
     rt: &R,
     alloc: Global,
     shared: &Shared<N>,
+    board: &Board,
+    pass: &mut BoardPass,
     sessions: &mut [Session<N>],
-) -> Result<u64, Refusal> {
+) -> Result<u64, Refusal>
+    requires { IsOfBoard pass.old board.now }
+{
     let Some((first, others)) = sessions.split_first_mut() else {
         return Err(Refusal::NoSession);
     };
@@ -93,7 +154,9 @@ fn commit_beside_points<N: StoreName + Send + Sync, R: Threads + Wait + Sync>(
     let (committed, points) = join(
         rt,
         || commit_both(rt, alloc, shared, first, second),
-        || take_points(rt, shared, POINTS),
+        || -> Result<u32, Refusal>
+            requires { IsOfBoard pass.now board.now }
+        { take_points(rt, shared, board, pass, POINTS) },
     );
     points?;
     committed
@@ -117,27 +180,25 @@ fn commit_both<N: StoreName + Send + Sync, R: Threads + Wait + Sync>(
     Ok(ours.saturating_add(theirs))
 }
 
-// A ticket of the part of each point.
-fn take_parts<N: StoreName, R: Wait>(
-    rt: &R,
-    alloc: Global,
-    shared: &Shared<N>,
-) -> Result<Vec<PartTicket<N>>, Refusal> {
-    let mut tickets = Vec::new(alloc);
-    for point in 0..POINTS {
-        tickets.push(shared.take_part(rt, FileNo(point + 1))?)?;
-    }
-    Ok(tickets)
-}
-
 fn left_by<N: StoreName>(commits: u64, closed: &Closed<N>, is_logged: bool) -> Left {
     Left {
         commits,
         receipts: receipts_of(&closed.receipts),
         entries: closed.log().len(),
         parts: closed.parts.len(),
+        complete_to: last_point(&closed.parts),
         all: closed.all,
         is_logged,
+    }
+}
+
+fn last_point<N: StoreName>(parts: &[PartTicket<N>]) -> u16 {
+    let Some(first) = parts.first() else {
+        return 0;
+    };
+    match first.part().complete_to() {
+        Some(Point(number)) => number,
+        None => 0,
     }
 }
 

@@ -1,1 +1,3 @@
 pub mod LoggingLaws
+mod BoardCalls
+mod Holding

@@ -1,3 +1,5 @@
 pub mod Logging
 pub mod Checkpointing
 pub mod Clients
+pub mod Boards
+pub mod Collapsing

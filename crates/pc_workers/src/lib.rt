@@ -1,10 +1,12 @@
-//! What the threads of a shared store run: loops of clients, of the checkpointer and of the logger.
+//! What the threads of a shared store run: loops of clients, of the checkpointer, of collapsers and of the logger.
 #![tactic(auto)]
 
 mod checkpointing;
 mod clients;
+mod collapsing;
 mod logging;
 
 pub use checkpointing::checkpoint_loop;
 pub use clients::{Count, Job, MOST_TRIES, Op, client_loop};
+pub use collapsing::collapse_loop;
 pub use logging::{MOST_BATCH, log_loop, log_rest};

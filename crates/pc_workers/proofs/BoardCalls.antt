@@ -1,0 +1,133 @@
+-- What a loop has called on a board, call after call.
+use Rattle.std.proofs.Common.{◌≡◌, ◌≢◌, ◌==◌, ◌≤◌, ◌<◌, ◌+◌, max, ℕ, Bool, cond, List, [], ◌∷◌, ◌++◌, All, map, length, refl, ap, sym, subst, ◌∙◌, eq-eqb, append_assoc, arith}
+use Rattle.std.proofs.lemmas.List.{append-nil, length-append, map-append}
+use Rattle.std.proofs.lemmas.List.Elements.{All-nil, All-cons, All-append, filter-append}
+use mathlib.Core.List.{IsPrefix}
+use Rattle.pc_model.specs.Replies.{Setting}
+use Rattle.pc_board.specs.declared.calls.Kind.{Kind}
+use Rattle.pc_board.specs.declared.calls.Kind.TheVariants.{Claim, Publish, Look}
+use Rattle.pc_board.specs.declared.calls.Call.{Call}
+use Rattle.pc_board.specs.Calls.{call, calls_by, greatest_of, point_in}
+use Rattle.pc_board.specs.Passes.{Pass, MakesCall}
+use Rattle.pc_workers.specs.Boards.{own_calls, MakesCalls, publications, IsShelved, HasPublished, HasPublishedSome, claimed_by, numbers_in, HasClaimed}
+
+by_append : (n : ℕ) (xs ys : List Call) → calls_by n (xs ++ ys) ≡ calls_by n xs ++ calls_by n ys
+by_append n xs ys = filter-append (λ (c : Call). c.by == n) xs ys
+
+by_itself : (c : Call) → calls_by c.by (c ∷ []) ≡ c ∷ []
+by_itself c = ap (λ (b : Bool). cond b (c ∷ []) []) (eq-eqb c.by c.by refl)
+
+prefix_on : {A : Type 0} (xs ys zs : List A) → IsPrefix xs ys → IsPrefix ys zs → IsPrefix xs zs
+prefix_on xs ys zs p q = (p.0 ++ q.0, sym (append_assoc xs p.0 q.0) ∙ (ap (λ w. w ++ q.0) p.1 ∙ q.1))
+
+makes_none : (pass : Pass) → MakesCalls pass pass []
+makes_none pass = record { same = (refl, refl); seen = ([], append-nil pass.seen); own = sym (append-nil (own_calls pass)) }
+
+makes_one : (before after : Pass) (kind : Kind) (value : ℕ) → MakesCall before kind value after → MakesCalls before after (call before.number kind value ∷ [])
+makes_one before after kind value m =
+    let c = call before.number kind value in
+    let between = m.last.0 in
+    let none : calls_by c.by (before.seen ++ between) ≡ own_calls before = by_append c.by before.seen between ∙ (ap (λ l. own_calls before ++ l) m.last.2 ∙ append-nil (own_calls before)) in
+    record {
+      same = m.same;
+      seen = (between ++ c ∷ [], sym (append_assoc before.seen between (c ∷ [])) ∙ sym m.last.1);
+      own =
+          (λ i. calls_by (m.same.1 i) (m.last.1 i))
+          ∙ (by_append c.by (before.seen ++ between) (c ∷ []) ∙ ((λ i. none i ++ calls_by c.by (c ∷ [])) ∙ ap (λ l. own_calls before ++ l) (by_itself c)));
+    }
+
+makes_on : (first middle last : Pass) (xs ys : List Call) → MakesCalls first middle xs → MakesCalls middle last ys → MakesCalls first last (xs ++ ys)
+makes_on first middle last xs ys a b = record {
+  same = (b.same.0 ∙ a.same.0, b.same.1 ∙ a.same.1);
+  seen = prefix_on first.seen middle.seen last.seen a.seen b.seen;
+  own = b.own ∙ (ap (λ l. l ++ ys) a.own ∙ append_assoc (own_calls first) xs ys);
+}
+
+module _ (st : Setting) where
+  pub published_none : (pass : Pass) → HasPublished st 0 pass pass
+  published_none pass = record { points = []; made = makes_none pass; count_is = refl; shelved = All-nil (IsShelved st) }
+
+  pub published_one : (before after : Pass) (point : ℕ) → IsShelved st point → MakesCall before Publish point after → HasPublished st 1 before after
+  published_one before after point is m =
+      record { points = point ∷ []; made = makes_one before after Publish point m; count_is = omega arith; shelved = All-cons (IsShelved st) point [] is (All-nil (IsShelved st)) }
+
+  pub published_on : (n k : ℕ) (first middle last : Pass) → HasPublished st n first middle → HasPublished st k middle last → HasPublished st (n + k) first last
+  published_on n k first middle last a b =
+      let by = first.number in
+      let both : publications by a.points ++ publications middle.number b.points ≡ publications by (a.points ++ b.points) =
+      (λ i. publications by a.points ++ publications (a.made.same.1 i) b.points) ∙ sym (map-append (λ point. call by Publish point) a.points b.points) in
+      record {
+        points = a.points ++ b.points;
+        made = subst (MakesCalls first last) both (makes_on first middle last (publications by a.points) (publications middle.number b.points) a.made b.made);
+        count_is = omega (arith, length-append a.points b.points, a.count_is, b.count_is);
+        shelved = All-append (IsShelved st) a.points b.points a.shelved b.shelved;
+      }
+
+  -- nothing at all is at most so much
+  pub some_none : (most : ℕ) (pass : Pass) → HasPublishedSome st most pass pass
+  some_none most pass = (0, omega arith, published_none pass)
+
+  -- behind points that were published others that are at most so many
+  pub some_on : (n k most : ℕ) (first middle last : Pass) → n + k ≤ most → HasPublished st n first middle → HasPublishedSome st k middle last → HasPublishedSome st most first last
+  some_on n k most first middle last le a b = (n + b.0, omega (arith, b.1), published_on n b.0 first middle last a b.2)
+
+-- what a pass has seen published it has still seen
+greatest_of_more : (xs ys : List Call) → greatest_of xs ≤ greatest_of (xs ++ ys)
+greatest_of_more [] ys = omega arith
+greatest_of_more (x ∷ xs) ys = omega (arith, greatest_of_more xs ys)
+
+greatest_with_look : (xs : List Call) (by value : ℕ) → greatest_of (xs ++ call by Look value ∷ []) ≡ greatest_of xs
+greatest_with_look [] by value = omega arith
+greatest_with_look (x ∷ xs) by value = omega (arith, greatest_with_look xs by value)
+
+-- a look gives the greatest point that the pass has then seen
+pub look_is_greatest : (before after : Pass) (value : ℕ) → MakesCall before Look value after → value ≡ greatest_of after.seen
+look_is_greatest before after value m =
+    let c = call before.number Look value in
+    let earlier = before.seen ++ m.last.0 in
+    m.legal earlier c [] m.last.1 ∙ (sym (greatest_with_look earlier before.number value) ∙ ap greatest_of (sym m.last.1))
+
+claimed_on_call : (kind : Kind) (value : ℕ) (xs ys zs : List ℕ) → zs ≡ xs ++ ys → claimed_by kind value zs ≡ claimed_by kind value xs ++ ys
+claimed_on_call Claim value xs ys zs e = ap (λ l. value ∷ l) e
+claimed_on_call Publish value xs ys zs e = e
+claimed_on_call Look value xs ys zs e = e
+
+numbers_append : (xs ys : List Call) → numbers_in (xs ++ ys) ≡ numbers_in xs ++ numbers_in ys
+numbers_append [] ys = refl
+numbers_append (c ∷ xs) ys = claimed_on_call c.kind c.value (numbers_in xs) (numbers_in ys) (numbers_in (xs ++ ys)) (numbers_append xs ys)
+
+abbrev NoPublish : Call → Type 0
+NoPublish c = c.kind ≢ Publish
+
+pub claimed_none : (pass : Pass) → HasClaimed pass pass []
+claimed_none pass = record { calls = []; made = makes_none pass; unpublished = All-nil NoPublish; claims = refl }
+
+pub claimed_one : (before after : Pass) (number : ℕ) → MakesCall before Claim number after → HasClaimed before after (number ∷ [])
+claimed_one before after number m = record {
+  calls = call before.number Claim number ∷ [];
+  made = makes_one before after Claim number m;
+  unpublished = All-cons NoPublish (call before.number Claim number) [] (λ e. absurd (cc e)) (All-nil NoPublish);
+  claims = refl;
+}
+
+pub looked : (before after : Pass) (point : ℕ) → MakesCall before Look point after → HasClaimed before after []
+looked before after point m = record {
+  calls = call before.number Look point ∷ [];
+  made = makes_one before after Look point m;
+  unpublished = All-cons NoPublish (call before.number Look point) [] (λ e. absurd (cc e)) (All-nil NoPublish);
+  claims = refl;
+}
+
+pub claimed_on : (first middle last : Pass) (xs ys : List ℕ) → HasClaimed first middle xs → HasClaimed middle last ys → HasClaimed first last (xs ++ ys)
+claimed_on first middle last xs ys a b = record {
+  calls = a.calls ++ b.calls;
+  made = makes_on first middle last a.calls b.calls a.made b.made;
+  unpublished = All-append NoPublish a.calls b.calls a.unpublished b.unpublished;
+  claims = numbers_append a.calls b.calls ∙ (λ i. a.claims i ++ b.claims i);
+}
+
+-- and the greatest point that it has seen is no less
+pub still_greatest : (before after : Pass) (numbers : List ℕ) → HasClaimed before after numbers → greatest_of before.seen ≤ greatest_of after.seen
+still_greatest before after numbers a =
+    let p = a.made.seen in
+    subst (λ l. greatest_of before.seen ≤ greatest_of l) p.1 (greatest_of_more before.seen p.0)

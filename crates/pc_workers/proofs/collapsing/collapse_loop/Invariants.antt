@@ -1,0 +1,6 @@
+use Rattle.pc_workers.proofs.Holding.{Holds}
+use Rattle.pc_workers.proofs.collapsing.collapse_loop.Given as goal
+
+-- what was claimed is held
+abbrev pub invariant-loop : goal.invariant-loop
+invariant-loop g l = Holds l.points l.fn.pass l.pass l.held.items

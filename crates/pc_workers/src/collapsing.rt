@@ -1,0 +1,126 @@
+//! A collapser's loop: it takes the files of points that were published, and joins them while the store is used.
+ghost use Rattle.std.specs.Prelude.{◌≡◌, ◌≤◌, ◌<◌, ◌||◌, ℕ, suc, [], IfErr, IfOk, IfSome, IfNone, MatchOption, vec_capacity, vec_len};
+ghost use Rattle.pc_model.specs.Sets as set;
+ghost use Rattle.pc_board.specs.Calls.{greatest_of};
+ghost use Rattle.pc_board.specs.Passes.{IsOfBoard};
+ghost use Rattle.pc_latch.specs.Tickets.{IsNoTicket};
+ghost use Rattle.pc_workers.specs.Boards.{HasClaimed};
+ghost use Rattle.pc_workers.specs.Collapsing.{has_point, HasCollapsed, HasEnded, HasShown, HasStopped};
+
+use pc_board::{Board, BoardPass};
+use pc_shared::{PartTicket, Shared};
+use pc_tie::StoreName;
+use pc_types::{FileNo, Gate, Place, Point, Refusal};
+use std::alloc::Global;
+use std::sync::Wait;
+
+// The file of the point behind the number, once a look shows the point; none where the end had been marked before a look that
+// doesn't. Between two looks it waits until the count of changes is another than the one from before.
+fn await_file<N: StoreName, R: Wait>(
+    rt: &R,
+    shared: &Shared<N>,
+    board: &Board,
+    pass: &mut BoardPass,
+    number: u64,
+) -> Option<FileNo>
+    requires { IsOfBoard pass.old board.now }
+    ensures calls { HasClaimed pass.old pass.new [] }
+    ensures some { IfSome result (λ file. (file ≡ suc number) × (number < greatest_of pass.new.seen)) }
+    ensures none { IfNone result (greatest_of pass.new.seen ≤ number) }
+{
+    let mut seen = 0;
+    for _ in rt.forever() {
+        let has_ended = shared.ended(rt);
+        let Point(horizon) = board.horizon(pass);
+        if number < u64::from(horizon) {
+            return Some(FileNo(number as u32 + 1));
+        }
+        if has_ended {
+            return None;
+        }
+        seen = shared.until_changed(rt, seen);
+    }
+    unreachable!()
+}
+
+// A ticket of the next number's file; none where no more files are taken.
+fn next_ticket<N: StoreName, R: Wait>(
+    rt: &R,
+    shared: &Shared<N>,
+    board: &Board,
+    pass: &mut BoardPass,
+    points: u32,
+) -> Result<Option<PartTicket<N>>, Refusal>
+    requires { IsOfBoard pass.old board.now }
+    ensures ticket { IfOk result (λ next. MatchOption next (HasEnded points pass.old pass.new) (λ ticket. (number : ℕ) × HasShown points pass.old pass.new number × (ticket.points ≡ set.insert set.empty (suc number)))) }
+    ensures refused { IfErr result (λ why. (number : ℕ) × HasShown points pass.old pass.new number × IsNoTicket N.name.setting (suc number) why) }
+{
+    let Some(number) = board.claim(pass) else {
+        return Ok(None);
+    };
+    if number >= u64::from(points) {
+        return Ok(None);
+    }
+    let Some(file) = await_file(rt, shared, board, pass, number) else {
+        return Ok(None);
+    };
+    match shared.take_part(rt, file) {
+        Ok(ticket) => Ok(Some(ticket)),
+        Err(why) => Err(why),
+    }
+}
+
+// Takes the ticket to those that are held, for which there is room: joined to the last of them, where that isn't refused.
+fn take_in<N: StoreName, G: Gate>(
+    held: &mut Vec<PartTicket<N>>,
+    ticket: PartTicket<N>,
+    collapser: u8,
+    gate: &G,
+)
+    requires { vec_len held.old < vec_capacity held.old }
+    ensures { (point : ℕ) → has_point held.new.items point ≡ (has_point held.old.items point || set.contains ticket.points point) }
+{
+    let Some(last) = held.pop() else {
+        held.push_reserved(ticket);
+        return;
+    };
+    gate.pass(Place::Pair(collapser));
+    match last.join(ticket) {
+        Ok(joined) => held.push_reserved(joined),
+        Err((_, last, ticket)) => {
+            held.push_reserved(last);
+            held.push_reserved(ticket);
+        }
+    }
+}
+
+/// Claims numbers with the pass, takes the file of the point behind each once that is published, and joins it at once to what it
+/// holds; before each join it passes the gate. It ends where a number isn't below `points`, where the end was marked before it
+/// looked and the number's point wasn't published, or where the pass can claim no more. It gives what it holds: none, one, or
+/// more where a join was refused; together they have just the points behind the claimed numbers but the last. Refuses as a
+/// ticket does, or with `OutOfMemory`; what it held is then let go.
+pub fn collapse_loop<N: StoreName, R: Wait, G: Gate>(
+    rt: &R,
+    alloc: Global,
+    shared: &Shared<N>,
+    board: &Board,
+    pass: &mut BoardPass,
+    collapser: u8,
+    points: u32,
+    gate: &G,
+) -> Result<Vec<PartTicket<N>>, Refusal>
+    requires { IsOfBoard pass.old board.now }
+    ensures held { IfOk result (λ tickets. HasCollapsed points pass.old pass.new tickets.items) }
+    ensures refused { IfErr result (HasStopped N.name.setting points pass.old pass.new) }
+{
+    let mut held = Vec::new(alloc);
+    for _ in rt.forever() {
+        held.reserve(1)?;
+        match next_ticket(rt, shared, board, pass, points) {
+            Ok(Some(ticket)) => take_in(&mut held, ticket, collapser, gate),
+            Ok(None) => return Ok(held),
+            Err(why) => return Err(why),
+        }
+    }
+    unreachable!()
+}
