@@ -1,6 +1,6 @@
 //! What the clients do.
+use pc_jobs::{Job, Op};
 use pc_types::{Items, Key, Refusal, Value};
-use pc_workers::{Job, Op};
 use std::alloc::Global;
 
 /// An operation, as plain data: keys are of one byte, values of as many bytes as don't lie inline.

@@ -2,10 +2,11 @@
 ghost use Rattle.pc_board.specs.Passes.{IsOfBoard};
 
 use pc_board::{Board, BoardPass};
+use pc_jobs::{Job, Op};
 use pc_shared::{Answer, PartTicket, Session, Shared};
 use pc_tie::StoreName;
 use pc_types::{Items, Key, OpenGate, Refusal, Value};
-use pc_workers::{Count, Job, Op, checkpoint_loop, client_loop, collapse_loop};
+use pc_workers::{Count, checkpoint_loop, client_loop, collapse_loop};
 use std::alloc::Global;
 use std::sync::Wait;
 

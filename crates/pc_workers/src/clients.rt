@@ -2,25 +2,12 @@
 ghost use Rattle.std.specs.Prelude.{◌≡◌, ◌<◌, ◌-◌, ◌^◌, ◌+◌, length};
 ghost use Rattle.pc_workers.specs.Clients.{HasCommits, commits_of};
 
+use pc_jobs::{Job, Op};
 use pc_shared::{Answer, Session, Shared};
 use pc_tie::StoreName;
-use pc_types::{Gate, Items, Key, Place, Refusal, Value};
+use pc_types::{Gate, Place, Refusal};
 use std::alloc::Global;
 use std::sync::Wait;
-
-/// An operation of a transaction.
-#[derive(Drop)]
-pub enum Op {
-    Get(Key),
-    Put(Key, Value),
-    Del(Key),
-}
-
-/// What one transaction does, in order.
-#[derive(Drop)]
-pub struct Job {
-    pub ops: Items<Op>,
-}
 
 /// How many jobs were committed, and how many were given up.
 #[derive(Clone, Copy, Debug, PartialEq, Eq)]

@@ -7,6 +7,6 @@ mod collapsing;
 mod logging;
 
 pub use checkpointing::checkpoint_loop;
-pub use clients::{Count, Job, MOST_TRIES, Op, client_loop};
+pub use clients::{Count, MOST_TRIES, client_loop};
 pub use collapsing::collapse_loop;
 pub use logging::{MOST_BATCH, log_loop, log_rest};
