@@ -3,7 +3,7 @@ use crate::texts::Texts;
 use pc_engine::World;
 use pc_recover::{Recovered, recover};
 use pc_replay::{Pairs, after, front_len};
-use pc_types::{Entry, Key, Point, Refusal, Value};
+use pc_types::{Key, Point, Refusal, Value};
 use std::alloc::{AllocError, Global};
 
 /// What was recovered of the cuts of logs.
@@ -74,23 +74,49 @@ fn whole_in(ends: &[usize], length: usize) -> usize {
     count
 }
 
-// The database after so many entries of the log, by the slow form.
-fn after_first(alloc: Global, world: &World, count: usize) -> Result<Pairs, Refusal> {
+// What a store's log says.
+#[derive(Drop)]
+struct Said {
+    // The database after each number of entries, from none to all, by the slow form.
+    states: Vec<Pairs>,
+    // How many entries stand before the token of each of the points 0 to 3: none before that of 0, which is the start.
+    fronts: [usize; 4],
+}
+
+// The base's database.
+fn base_of(alloc: Global, world: &World) -> Result<Pairs, Refusal> {
     let mut base = Pairs::new(alloc);
     for (key, value) in world.base().pairs() {
         base.insert(key.copy(alloc)?, value.copy(alloc)?)?;
     }
-    let log = world.log();
-    Ok(after(alloc, &base, &log[..count.min(log.len())])?)
+    Ok(base)
 }
 
-// How many entries stand before the token of the point: none before the start.
-fn before_point(log: &[Entry], point: usize) -> usize {
-    match point {
-        0 => 0,
-        1 => front_len(log, Point(1)),
-        2 => front_len(log, Point(2)),
-        _ => front_len(log, Point(3)),
+// What the store's log says.
+fn said_by(alloc: Global, world: &World) -> Result<Said, Refusal> {
+    let base = base_of(alloc, world)?;
+    let log = world.log();
+    let mut states = Vec::new(alloc);
+    for count in 0..log.len() {
+        states.push(after(alloc, &base, &log[..count])?)?;
+    }
+    states.push(after(alloc, &base, log)?)?;
+    Ok(Said {
+        states,
+        fronts: [
+            0,
+            front_len(log, Point(1)),
+            front_len(log, Point(2)),
+            front_len(log, Point(3)),
+        ],
+    })
+}
+
+// Whether the pairs are the database after so many entries.
+fn are_after(pairs: &[(Key, Value)], said: &Said, count: usize) -> bool {
+    match said.states.get(count) {
+        Some(wanted) => are_same(pairs, wanted.as_slice()),
+        None => false,
     }
 }
 
@@ -131,7 +157,7 @@ fn fault_in(ends: &[usize], length: usize) -> Option<Refusal> {
 // Whether the texts with the log cut to the length, and these parts, are worth what the store's log says.
 fn is_right(
     alloc: Global,
-    world: &World,
+    said: &Said,
     texts: &Texts,
     length: usize,
     choice: Choice,
@@ -141,10 +167,9 @@ fn is_right(
     let recovered = recover(alloc, &texts.base, &parts, log)?;
     let point = reached(choice, texts.parts.len());
     let whole = whole_in(&texts.ends, length);
-    let count = whole.max(before_point(world.log(), point));
-    let wanted = after_first(alloc, world, count)?;
+    let count = whole.max(said.fronts[point.min(3)]);
     Ok(
-        are_same(&recovered.pairs, wanted.as_slice())
+        are_after(&recovered.pairs, said, count)
             && usize::from(recovered.point.0) == point
             && recovered.entries == whole
             && recovered.fault == fault_in(&texts.ends, length)
@@ -165,7 +190,7 @@ fn is_of(choice: Choice, parts: usize) -> bool {
 // Recovers the log cut to the length, with each choice of the parts.
 fn recover_cut(
     alloc: Global,
-    world: &World,
+    said: &Said,
     texts: &Texts,
     length: usize,
     found: &mut Found,
@@ -173,7 +198,7 @@ fn recover_cut(
     found.cuts = found.cuts.saturating_add(1);
     for (i, choice) in CHOICES.iter().enumerate() {
         if is_of(*choice, texts.parts.len()) {
-            let is_right = is_right(alloc, world, texts, length, *choice)?;
+            let is_right = is_right(alloc, said, texts, length, *choice)?;
             note_choice(found, is_right, length, i);
         }
     }
@@ -199,9 +224,10 @@ pub fn recover_cuts(alloc: Global, world: &World, texts: &Texts) -> Result<Found
         right: 0,
         wrong: None,
     };
+    let said = said_by(alloc, world)?;
     for length in 0..texts.log.len() {
-        recover_cut(alloc, world, texts, length, &mut found)?;
+        recover_cut(alloc, &said, texts, length, &mut found)?;
     }
-    recover_cut(alloc, world, texts, texts.log.len(), &mut found)?;
+    recover_cut(alloc, &said, texts, texts.log.len(), &mut found)?;
     Ok(found)
 }
