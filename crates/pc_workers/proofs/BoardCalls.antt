@@ -1,5 +1,5 @@
 -- What a loop has called on a board, call after call.
-use Rattle.std.proofs.Common.{◌≡◌, ◌≢◌, ◌==◌, ◌≤◌, ◌<◌, ◌+◌, max, ℕ, Bool, cond, List, [], ◌∷◌, ◌++◌, All, map, length, refl, ap, sym, subst, ◌∙◌, eq-eqb, append_assoc, arith}
+use Rattle.std.proofs.Common.{◌≡◌, ◌≢◌, ◌==◌, ◌≤◌, ◌+◌, ℕ, Bool, cond, List, [], ◌∷◌, ◌++◌, refl, ap, sym, subst, ◌∙◌, eq-eqb, append_assoc, arith}
 use Rattle.std.proofs.lemmas.List.{append-nil, length-append, map-append}
 use Rattle.std.proofs.lemmas.List.Elements.{All-nil, All-cons, All-append, filter-append}
 use mathlib.Core.List.{IsPrefix}
@@ -7,7 +7,7 @@ use Rattle.pc_model.specs.Replies.{Setting}
 use Rattle.pc_board.specs.declared.calls.Kind.{Kind}
 use Rattle.pc_board.specs.declared.calls.Kind.TheVariants.{Claim, Publish, Look}
 use Rattle.pc_board.specs.declared.calls.Call.{Call}
-use Rattle.pc_board.specs.Calls.{call, calls_by, greatest_of, point_in}
+use Rattle.pc_board.specs.Calls.{call, calls_by, greatest_of}
 use Rattle.pc_board.specs.Passes.{Pass, MakesCall}
 use Rattle.pc_workers.specs.Boards.{own_calls, MakesCalls, publications, IsShelved, HasPublished, HasPublishedSome, claimed_by, numbers_in, HasClaimed}
 

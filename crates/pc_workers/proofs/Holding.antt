@@ -1,6 +1,6 @@
 -- What a collapser holds, ticket after ticket.
-use Rattle.std.proofs.Common.{◌≡◌, ◌≤◌, ◌<◌, ℕ, suc, Bool, true, false, ◌||◌, Option, Some, None, MatchOption, List, [], ◌∷◌, ◌++◌, All, map, is_some, refl, ap, sym, subst, ◌∙◌, inl, inr, arith}
-use Rattle.std.proofs.lemmas.List.{append-nil, map-append}
+use Rattle.std.proofs.Common.{◌≡◌, ℕ, suc, Bool, true, false, ◌||◌, Option, Some, None, MatchOption, List, [], ◌∷◌, ◌++◌, All, map, refl, ap, sym, subst, ◌∙◌, inl, inr, arith}
+use Rattle.std.proofs.lemmas.List.{map-append}
 use Rattle.std.proofs.lemmas.List.Elements.{All-nil, All-cons, All-append}
 use Rattle.std.proofs.lemmas.List.Folds.{list_any-append}
 use Rattle.pc_types.specs.declared.Refusal.{Refusal}
@@ -12,15 +12,11 @@ use Rattle.pc_model.specs.Sets as set
 use Rattle.pc_model.specs.Sets.{Set, number_order}
 use Rattle.pc_model.proofs.SetLaws.{contains-from_list}
 use Rattle.pc_model.proofs.ContentLaws.{contains-union}
-use Rattle.pc_board.specs.Calls.{greatest_of}
 use Rattle.pc_board.specs.Passes.{Pass}
 use Rattle.pc_latch.specs.Tickets.{IsNoTicket}
 use Rattle.pc_workers.specs.Boards.{HasClaimed}
-use Rattle.pc_workers.specs.Collapsing.{has_point, IsShown, IsAtEnd, HasCollapsed, HasStopped, HasShown, HasEnded}
+use Rattle.pc_workers.specs.Collapsing.{has_point, IsShown, HasCollapsed, HasStopped, HasShown, HasEnded}
 use Rattle.pc_workers.proofs.BoardCalls.{claimed_none, claimed_on, still_greatest}
-
-has_file : ℕ → File → Bool
-has_file point file = set.contains file.points point
 
 or_false : (a : Bool) → (a || false) ≡ a
 or_false true = refl
