@@ -1,4 +1,3 @@
 pub mod Commits
 pub mod Joins
 pub mod Restarts
-pub mod Writes

@@ -135,7 +135,7 @@ const COMMANDS: [CommandShape; 7] = [
     },
     CommandShape {
         name: "writes",
-        about: "Notes the writes of transactions, which end in turn by a commit and by an undo",
+        about: "Notes the writes of transactions, which end in turn by a commit and by an abort",
         numbers: [
             Some(("TRANSACTIONS", "Transactions", 1, 100_000_000)),
             Some((

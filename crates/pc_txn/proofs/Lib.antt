@@ -1,5 +1,4 @@
-mod Splits
-pub mod RowLaws
-mod Restoring
-pub mod KeyLaws
-mod KeyRows
+mod Halving
+mod Orders
+mod Written
+mod Noting

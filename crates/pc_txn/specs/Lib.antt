@@ -1,4 +1,2 @@
-pub mod Changes
-pub mod Indexes
-pub mod Keys
-pub mod Undoing
+pub mod Orders
+pub mod Sets

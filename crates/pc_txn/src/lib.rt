@@ -1,11 +1,11 @@
-//! What one transaction has written: the write set, which its log entry takes, and the undo list, which an abort takes.
+//! What one transaction has written and read, each key found by a search by halves.
 #![tactic(auto)]
 
-mod index;
-mod laws;
+mod order;
+mod reads;
 #[cfg(test)]
 mod tests;
-mod transaction;
+mod writes;
 
-pub use laws::{slots_and_keys_agree, undo_restores};
-pub use transaction::{Transaction, Undone};
+pub use reads::ReadSet;
+pub use writes::WriteSet;

@@ -1,0 +1,75 @@
+-- Writes and reads by the places of their keys.
+use Rattle.std.proofs.Common.{◌≡◌, ℕ, zero, suc, ◌+◌, ◌<◌, List, [], ◌∷◌, ◌++◌, length, set, Option, Some, None, option_map, is_some, refl, sym, ap, ◌∙◌, arith, cond, Bool, true, false, ◌||◌}
+use Rattle.std.specs.List.{list_any}
+use Rattle.pc_types.specs.declared.Write.{Write}
+use Rattle.pc_model.specs.Database.{same_bytes, with_write, written}
+use Rattle.pc_model.proofs.JoinLaws.{one_key}
+use Rattle.pc_model.specs.Receipts.{Read, is_read}
+use Rattle.pc_txn.specs.Orders.{place_of}
+use Rattle.pc_txn.specs.Sets.{written_keys, read_keys}
+
+-- a write of a key that has a place goes there
+pub written_again : (ws : List Write) (w : Write) (i : ℕ) → place_of (written_keys ws) w.key ≡ Some i → with_write ws w ≡ set ws i w
+written_again [] w i h = absurd cc
+written_again (v ∷ vs) w i h = by_test (same_bytes v.key w.key) (place_of (written_keys vs) w.key) i (written_again vs w) h
+  where
+    by_test : (b : Bool) (o : Option ℕ) (i : ℕ) → ((j : ℕ) → o ≡ Some j → with_write vs w ≡ set vs j w) → cond b (Some 0) (option_map suc o) ≡ Some i → cond b (w ∷ vs) (v ∷ with_write vs w) ≡ set (v ∷ vs) i w
+    by_test true o zero same h = refl
+    by_test true o (suc i) same h = let is : 0 ≡ suc i = cc in absurd (omega arith)
+    by_test false None i same h = absurd cc
+    by_test false (Some j) zero same h = let is : suc j ≡ 0 = cc in absurd (omega arith)
+    by_test false (Some j) (suc i) same h = let is : suc j ≡ suc i = cc in ap (λ rest. v ∷ rest) (same i (ap (λ n. Some n) (omega arith)))
+
+-- a write of a key that has no place goes to the end
+pub written_first : (ws : List Write) (w : Write) → place_of (written_keys ws) w.key ≡ None → with_write ws w ≡ ws ++ w ∷ []
+written_first [] w h = refl
+written_first (v ∷ vs) w h = by_test (same_bytes v.key w.key) (place_of (written_keys vs) w.key) (written_first vs w) h
+  where
+    by_test : (b : Bool) (o : Option ℕ) → (o ≡ None → with_write vs w ≡ vs ++ w ∷ []) → cond b (Some 0) (option_map suc o) ≡ None → cond b (w ∷ vs) (v ∷ with_write vs w) ≡ v ∷ vs ++ w ∷ []
+    by_test true o same h = absurd cc
+    by_test false None same h = ap (λ rest. v ∷ rest) (same refl)
+    by_test false (Some j) same h = absurd cc
+
+-- a write in the place of one of its key leaves the keys
+pub same_keys : (ws : List Write) (w : Write) (i : ℕ) → place_of (written_keys ws) w.key ≡ Some i → written_keys (set ws i w) ≡ written_keys ws
+same_keys [] w i h = absurd cc
+same_keys (v ∷ vs) w i h = by_test (same_bytes v.key w.key) refl (place_of (written_keys vs) w.key) i (same_keys vs w) h
+  where
+    by_test : (b : Bool) → same_bytes v.key w.key ≡ b → (o : Option ℕ) (i : ℕ) → ((j : ℕ) → o ≡ Some j → written_keys (set vs j w) ≡ written_keys vs) → cond b (Some 0) (option_map suc o) ≡ Some i → written_keys (set (v ∷ vs) i w) ≡ v.key ∷ written_keys vs
+    by_test true e o zero same h = ap (λ k. k ∷ written_keys vs) (sym (one_key v.key w.key e))
+    by_test true e o (suc i) same h = let is : 0 ≡ suc i = cc in absurd (omega arith)
+    by_test false e None i same h = absurd cc
+    by_test false e (Some j) zero same h = let is : suc j ≡ 0 = cc in absurd (omega arith)
+    by_test false e (Some j) (suc i) same h = let is : suc j ≡ suc i = cc in ap (λ ks. v.key ∷ ks) (same i (ap (λ n. Some n) (omega arith)))
+
+-- a place is within the list
+pub place_within : (keys : List (List ℕ)) (key : List ℕ) (i : ℕ) → place_of keys key ≡ Some i → i < length keys
+place_within [] key i h = absurd cc
+place_within (k ∷ ks) key i h = by_test (same_bytes k key) (place_of ks key) (place_within ks key) h
+  where
+    by_test : (b : Bool) (o : Option ℕ) → ((j : ℕ) → o ≡ Some j → j < length ks) → cond b (Some 0) (option_map suc o) ≡ Some i → i < suc (length ks)
+    by_test true o below h = let is : 0 ≡ i = cc in omega arith
+    by_test false None below h = absurd cc
+    by_test false (Some j) below h = let is : suc j ≡ i = cc in omega (arith, below j refl)
+
+later : (o : Option ℕ) → is_some (option_map suc o) ≡ is_some o
+later None = refl
+later (Some i) = refl
+
+-- a key that has a place among those of the writes is written
+pub has_written : (ws : List Write) (key : List ℕ) → is_some (place_of (written_keys ws) key) ≡ is_some (written ws key)
+has_written [] key = refl
+has_written (w ∷ ws) key = by_test (same_bytes w.key key) (has_written ws key)
+  where
+    by_test : (b : Bool) → is_some (place_of (written_keys ws) key) ≡ is_some (written ws key) → is_some (cond b (Some 0) (option_map suc (place_of (written_keys ws) key))) ≡ is_some (cond b (Some w.value) (written ws key))
+    by_test true behind = refl
+    by_test false behind = later (place_of (written_keys ws) key) ∙ behind
+
+-- a key that has a place among those of the reads is read
+pub has_read : (rs : List Read) (key : List ℕ) → is_some (place_of (read_keys rs) key) ≡ is_read rs key
+has_read [] key = refl
+has_read (r ∷ rs) key = by_test (same_bytes r.0 key) (has_read rs key)
+  where
+    by_test : (b : Bool) → is_some (place_of (read_keys rs) key) ≡ is_read rs key → is_some (cond b (Some 0) (option_map suc (place_of (read_keys rs) key))) ≡ (b || is_read rs key)
+    by_test true behind = refl
+    by_test false behind = later (place_of (read_keys rs) key) ∙ behind

@@ -1,0 +1,134 @@
+//! A read set: the first read of each key that was not written.
+ghost use Rattle.std.specs.Prelude.{◌≡◌, ◌<◌, [], slice_get, IsOk, OnOk, IfOk, IfErr, Some};
+ghost use Rattle.pc_model.specs.Places.{IsAt, IsGap};
+ghost use Rattle.pc_model.specs.Receipts.{is_read, with_read};
+ghost use Rattle.pc_txn.specs.Orders.{key_at, entries, IsOrder};
+ghost use Rattle.pc_txn.specs.Sets.{Roomy, read_keys};
+
+use crate::order::{self, Places};
+use crate::writes::WriteSet;
+use pc_types::{Items, Key, Value};
+use smallvec::SmallVec;
+use std::alloc::{AllocError, Global};
+use std::marker::Model;
+
+/// What one transaction has read of keys that it had not written: of each key the first read, in their order, with the
+/// value that it answered, or nothing. A key is found by a search by halves.
+#[derive(Drop)]
+pub struct ReadSet {
+    reads: Vec<(Key, Option<Value>)>,
+    order: Places,
+}
+
+impl Model for ReadSet {
+    ghost use Rattle.std.specs.Prelude.{◌-◌, length, min, vec_len, vec_capacity};
+    ghost use Rattle.pc_model.specs.Receipts.{Read};
+    ghost use Rattle.pc_txn.specs.Orders.{IsOrder};
+    ghost use Rattle.pc_txn.specs.Sets.{Roomy, read_keys};
+
+    ghost Value = { Roomy Read };
+
+    ghost view = { λ a. record { items = a.reads.items; room = min (vec_capacity a.reads - vec_len a.reads) (a.order.capacity - length a.order.items) } };
+
+    ghost invariant = { λ a. IsOrder (read_keys a.reads.items) a.order.items };
+}
+
+impl ReadSet {
+    /// No reads. It takes no memory.
+    pub fn new(alloc: Global) -> ReadSet
+        ensures { result.items ≡ [] }
+    {
+        ReadSet {
+            reads: Vec::new(alloc),
+            order: SmallVec::new(alloc),
+        }
+    }
+
+    /// The reads, in their order.
+    pub fn as_slice(&self) -> &[(Key, Option<Value>)]
+        ensures { result.now ≡ self.now.items }
+    {
+        self.reads.as_slice()
+    }
+
+    /// Whether the key is read.
+    pub fn has(&self, key: &Key) -> bool
+        ensures { result ≡ is_read self.now.items key.now }
+    {
+        position(self.reads.as_slice(), self.order.as_slice(), key).is_ok()
+    }
+
+    /// Makes room for a read. It fails only where memory ran out, never where there is room, and the reads stay.
+    pub fn reserve(&mut self) -> Result<(), AllocError>
+        ensures room { OnOk result (0 < self.new.room) }
+        ensures at_hand { 0 < self.old.room → IsOk result }
+        ensures same { self.new.items ≡ self.old.items }
+    {
+        self.reads.reserve(1)?;
+        self.order.reserve(1)?;
+        Ok(())
+    }
+
+    /// Notes the read of a key, for which there is room, where the key is not written and was not read before. It gives the
+    /// place of the read where it is noted, and else gives back what was read. It takes no memory.
+    pub fn note(
+        &mut self,
+        writes: &WriteSet,
+        key: Key,
+        content: Option<Value>,
+    ) -> Result<usize, Option<Value>>
+        requires { 0 < self.old.room }
+        ensures reads { self.new.items ≡ with_read writes.now.items self.old.items key content }
+        ensures noted { IfOk result (λ place. slice_get self.new.items place ≡ Some (key, content)) }
+        ensures other { IfErr result (λ back. back ≡ content) }
+    {
+        if writes.has(&key) {
+            return Err(content);
+        }
+        match position(self.reads.as_slice(), self.order.as_slice(), &key) {
+            Ok(_) => Err(content),
+            Err(at) => {
+                let place = self.reads.len();
+                order::add(&mut self.order, at, place);
+                self.reads.push_reserved((key, content));
+                Ok(place)
+            }
+        }
+    }
+
+    /// Takes all reads off.
+    pub fn clear(&mut self)
+        ensures { self.new.items ≡ [] }
+    {
+        self.reads.clear();
+        self.order.clear();
+    }
+
+    /// The reads, which are moved, in a list that has no more room than it takes. It takes no memory.
+    pub fn into_reads(self) -> Items<(Key, Option<Value>)>
+        ensures { result ≡ self.items }
+    {
+        let ReadSet { mut reads, .. } = self;
+        reads.shrink_to_fit();
+        Items::from_vec(reads)
+    }
+}
+
+// The bytes of the key at the place, none past the last one.
+fn bytes_at(reads: &[(Key, Option<Value>)], place: usize) -> &[u8]
+    ensures { result.now ≡ key_at (read_keys reads.now) place }
+{
+    match reads.get(place) {
+        Some(read) => read.0.as_bytes(),
+        None => &[],
+    }
+}
+
+// Where the key stands in the order, or else where it would go: a search by halves.
+fn position(reads: &[(Key, Option<Value>)], order: &[usize], key: &Key) -> Result<usize, usize>
+    requires { IsOrder (read_keys reads.now) order.now }
+    ensures at { IfOk result (IsAt (entries (read_keys reads.now) order.now) key.now) }
+    ensures gap { IfErr result (IsGap (entries (read_keys reads.now) order.now) key.now) }
+{
+    order.binary_search_by(|place| bytes_at(reads, *place).cmp(&key.as_bytes()))
+}

@@ -1,0 +1,143 @@
+//! A write set: the final write of each key.
+ghost use Rattle.std.specs.Prelude.{◌≡◌, ◌<◌, ◌==◌, ◌&&◌, [], length, slice_set, is_none, is_some, IsOk, OnOk, IfOk, IfErr};
+ghost use Rattle.pc_model.specs.Database.{with_write, written};
+ghost use Rattle.pc_model.specs.Places.{IsAt, IsGap};
+ghost use Rattle.pc_txn.specs.Orders.{key_at, entries, IsOrder};
+ghost use Rattle.pc_txn.specs.Sets.{Roomy, written_keys};
+
+use crate::order::{self, Places};
+use pc_types::{Items, Key, MOST_WRITES, Write};
+use smallvec::SmallVec;
+use std::alloc::{AllocError, Global};
+use std::marker::Model;
+
+/// What one transaction has written: the final write of each key, in the order of first writes. A key is found by a search
+/// by halves.
+#[derive(Drop)]
+pub struct WriteSet {
+    writes: Vec<Write>,
+    order: Places,
+}
+
+impl Model for WriteSet {
+    ghost use Rattle.std.specs.Prelude.{◌-◌, length, min, vec_len, vec_capacity};
+    ghost use Rattle.pc_types.specs.declared.Write.{Write};
+    ghost use Rattle.pc_txn.specs.Orders.{IsOrder};
+    ghost use Rattle.pc_txn.specs.Sets.{Roomy, written_keys};
+
+    ghost Value = { Roomy Write };
+
+    ghost view = { λ a. record { items = a.writes.items; room = min (vec_capacity a.writes - vec_len a.writes) (a.order.capacity - length a.order.items) } };
+
+    ghost invariant = { λ a. IsOrder (written_keys a.writes.items) a.order.items };
+}
+
+impl WriteSet {
+    /// No writes. It takes no memory.
+    pub fn new(alloc: Global) -> WriteSet
+        ensures { result.items ≡ [] }
+    {
+        WriteSet {
+            writes: Vec::new(alloc),
+            order: SmallVec::new(alloc),
+        }
+    }
+
+    /// The final write of each key, in the order of first writes.
+    pub fn as_slice(&self) -> &[Write]
+        ensures { result.now ≡ self.now.items }
+    {
+        self.writes.as_slice()
+    }
+
+    /// How many keys are written.
+    pub fn len(&self) -> usize
+        ensures { result ≡ length self.now.items }
+    {
+        self.writes.len()
+    }
+
+    /// Whether the key is written.
+    pub fn has(&self, key: &Key) -> bool
+        ensures { result ≡ is_some (written self.now.items key.now) }
+    {
+        position(self.writes.as_slice(), self.order.as_slice(), key).is_ok()
+    }
+
+    /// Whether a write of the key would be of a 257th key.
+    pub fn is_full_for(&self, key: &Key) -> bool
+        ensures { result ≡ ((length self.now.items == MOST_WRITES) && is_none (written self.now.items key.now)) }
+    {
+        self.writes.len() == MOST_WRITES && !self.has(key)
+    }
+
+    /// Makes room for a write. It fails only where memory ran out, never where there is room, and the writes stay.
+    pub fn reserve(&mut self) -> Result<(), AllocError>
+        ensures room { OnOk result (0 < self.new.room) }
+        ensures at_hand { 0 < self.old.room → IsOk result }
+        ensures same { self.new.items ≡ self.old.items }
+    {
+        self.writes.reserve(1)?;
+        self.order.reserve(1)?;
+        Ok(())
+    }
+
+    /// Notes a write, for which there is room: in the place of the earlier write of its key, or else at the end. It takes
+    /// no memory.
+    pub fn note(&mut self, write: Write)
+        requires { 0 < self.old.room }
+        ensures { self.new.items ≡ with_write self.old.items write }
+    {
+        match position(self.writes.as_slice(), self.order.as_slice(), &write.key) {
+            Ok(at) => replace(&mut self.writes, self.order.as_slice()[at], write),
+            Err(at) => {
+                order::add(&mut self.order, at, self.writes.len());
+                self.writes.push_reserved(write);
+            }
+        }
+    }
+
+    /// Takes all writes off.
+    pub fn clear(&mut self)
+        ensures { self.new.items ≡ [] }
+    {
+        self.writes.clear();
+        self.order.clear();
+    }
+
+    /// The writes, which are moved, in a list that has no more room than it takes. It takes no memory.
+    pub fn into_writes(self) -> Items<Write>
+        ensures { result ≡ self.items }
+    {
+        let WriteSet { mut writes, .. } = self;
+        writes.shrink_to_fit();
+        Items::from_vec(writes)
+    }
+}
+
+// The bytes of the key at the place, none past the last one.
+fn bytes_at(writes: &[Write], place: usize) -> &[u8]
+    ensures { result.now ≡ key_at (written_keys writes.now) place }
+{
+    match writes.get(place) {
+        Some(write) => write.key.as_bytes(),
+        None => &[],
+    }
+}
+
+// Where the key stands in the order, or else where it would go: a search by halves.
+fn position(writes: &[Write], order: &[usize], key: &Key) -> Result<usize, usize>
+    requires { IsOrder (written_keys writes.now) order.now }
+    ensures at { IfOk result (IsAt (entries (written_keys writes.now) order.now) key.now) }
+    ensures gap { IfErr result (IsGap (entries (written_keys writes.now) order.now) key.now) }
+{
+    order.binary_search_by(|place| bytes_at(writes, *place).cmp(&key.as_bytes()))
+}
+
+// Puts the write in the place of another.
+fn replace(writes: &mut Vec<Write>, place: usize, write: Write)
+    requires { place < length writes.old.items }
+    ensures { writes.new.items ≡ slice_set writes.old.items place write }
+{
+    writes[place] = write;
+}
