@@ -1,4 +1,3 @@
-mod WritePlaces
 mod Gathered
 mod SessionLemmas
 mod Causes

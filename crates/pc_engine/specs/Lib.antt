@@ -4,7 +4,6 @@ pub mod Counts
 pub mod Steps
 pub mod Limits
 pub mod Shelves
-pub mod Writes
 pub mod InPlace
 pub mod Stands
 pub mod Runs

@@ -11,10 +11,8 @@ mod transactions;
 mod world;
 mod writes;
 
-pub use checks::are_files_right;
 pub use laws::{
     standing_worlds_are_serial, standing_worlds_have_legal_queues, standing_worlds_keep_points,
 };
 pub use pc_types::{Event, Reply};
 pub use world::{World, run};
-pub use writes::{is_unwritten, note_write};

@@ -16,8 +16,8 @@ ghost use Rattle.pc_engine.specs.Store.{active_in};
 ghost use Rattle.pc_engine.specs.InPlace.{AreOpen, HoldTogether, StayTogether};
 ghost use Rattle.pc_records.specs.NewKeys.{is_one_too_many};
 
-use crate::writes::note_write;
 use pc_records::Records;
+use pc_txn::WriteSet;
 use pc_types::{Class, Key, Outcome, Reply, SessionNo, TxnNo, Value, Write, copy_content};
 use std::alloc::{AllocError, Global};
 
@@ -27,7 +27,7 @@ pub(crate) struct Transaction {
     pub(crate) number: TxnNo,
     pub(crate) class: Class,
     pub(crate) has_died: bool,
-    pub(crate) writes: Vec<Write>,
+    pub(crate) writes: WriteSet,
 }
 
 /// So many sessions without a transaction.
@@ -78,6 +78,20 @@ pub(crate) fn writes(sessions: &[Option<Transaction>], session: SessionNo) -> &[
     }
 }
 
+/// Whether a write of the key would be of a 257th key of the session's open transaction.
+pub(crate) fn is_one_too_many(
+    sessions: &[Option<Transaction>],
+    session: SessionNo,
+    key: &Key,
+) -> bool
+    ensures { result ≡ is_one_too_many (writes_in (active_in (actives_of sessions.now) session)) key.now }
+{
+    match active(sessions, session) {
+        Some(transaction) => transaction.writes.is_full_for(key),
+        None => false,
+    }
+}
+
 /// The session has this transaction now, or none.
 pub(crate) fn set(
     sessions: &mut Vec<Option<Transaction>>,
@@ -109,7 +123,7 @@ pub(crate) fn begin(
         number,
         class,
         has_died: false,
-        writes: Vec::new(alloc),
+        writes: WriteSet::new(alloc),
     };
     set(sessions, session, Some(transaction));
 }
@@ -225,12 +239,12 @@ fn request_write(
     ensures same_records { OnErr result (records.new ≡ records.old) }
     ensures same { OnErr result (active_of transaction.new ≡ active_of transaction.old) }
 {
-    transaction.writes.reserve(1)?;
+    transaction.writes.reserve()?;
     let value = copy_content(alloc, &write.value)?;
     let (number, class) = (transaction.number, transaction.class);
     let answer = records.write(alloc, number, class, &write.key, value)?;
     match answer {
-        Outcome::Granted => note_write(&mut transaction.writes, write),
+        Outcome::Granted => transaction.writes.note(write),
         Outcome::Queued => {}
         Outcome::Died => transaction.has_died = true,
     }

@@ -8,7 +8,7 @@ ghost use Rattle.pc_types.specs.declared.Phase.{Phase};
 ghost use Rattle.pc_log.specs.Logs.{entries_of, HasRoom};
 ghost use Rattle.pc_records.specs.RowSteps.{released_rows, written_row};
 ghost use Rattle.pc_engine.specs.InPlace.{AreOpen, HoldTogether, StayTogether};
-ghost use Rattle.pc_records.specs.NewKeys.{is_one_too_many, new_keys};
+ghost use Rattle.pc_records.specs.NewKeys.{new_keys};
 ghost use Rattle.pc_records.specs.Tables.{kept_of};
 ghost use Rattle.pc_engine.specs.Sessions.{actives_of, with_session, number_in, class_at, writes_in};
 ghost use Rattle.pc_engine.specs.Store.{active_in};
@@ -16,12 +16,12 @@ ghost use Rattle.pc_engine.specs.Steps.{OpenCause, WriteCause, Begins, Gets, Wri
 
 use crate::sessions::{self, Transaction};
 use crate::world::World;
-use crate::writes::{is_one_too_many, new_keys, write_of};
+use crate::writes::{new_keys, write_of};
 use pc_log::Log;
 use pc_records::Records;
 use pc_types::{
-    Class, Entry, Items, Key, Lsn, MOST_LOG_ENTRIES, MOST_TRANSACTIONS, Outcome, Phase, Refusal,
-    Reply, SessionNo, TxnNo, Value, Write,
+    Class, Entry, Key, Lsn, MOST_LOG_ENTRIES, MOST_TRANSACTIONS, Outcome, Phase, Refusal, Reply,
+    SessionNo, TxnNo, Value, Write,
 };
 use std::alloc::{AllocError, Global};
 
@@ -133,7 +133,7 @@ impl World {
         if let Some(why) = self.open_cause(session) {
             return Some(why);
         }
-        if is_one_too_many(sessions::writes(&self.sessions, session), key) {
+        if sessions::is_one_too_many(&self.sessions, session, key) {
             return Some(Refusal::TooManyWrites);
         }
         if self.records.is_full_for(key) {
@@ -213,9 +213,7 @@ fn commit_open(
         unreachable!();
     };
     records.commit(writes.as_slice());
-    let mut writes = writes;
-    writes.shrink_to_fit();
-    let entry_number = log.append_reserved(Entry::Commit(session, Items::from_vec(writes)));
+    let entry_number = log.append_reserved(Entry::Commit(session, writes.into_writes()));
     records.release(number);
     (class, entry_number)
 }

@@ -5,4 +5,4 @@ mod got;
 mod work;
 
 pub use got::Got;
-pub use work::{Latest, Work, has_room};
+pub use work::{Latest, Work, has_room, has_room_to_read, has_room_to_write};

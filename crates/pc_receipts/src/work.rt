@@ -1,13 +1,13 @@
 //! What a session has written and read, its receipts, and what it found.
-ghost use Rattle.std.specs.Prelude.{◌≡◌, ◌<◌, ◌∷◌, ◌++◌, ◌||◌, [], not, true, false, is_some, Some, None, option_copied, slice_get, vec_len, vec_capacity};
-ghost use Rattle.pc_model.specs.Database.{with_write, written};
-ghost use Rattle.pc_model.specs.Receipts.{own, receipt_of, is_read, with_read};
+ghost use Rattle.std.specs.Prelude.{◌≡◌, ◌<◌, ◌∷◌, ◌++◌, [], true, false, Some, option_copied, slice_get, vec_len, vec_capacity};
+ghost use Rattle.pc_model.specs.Database.{with_write};
+ghost use Rattle.pc_model.specs.Receipts.{own, receipt_of, with_read};
 ghost use Rattle.pc_receipts.specs.Notes.{reads_after, content_of, kept_in, value_of};
 ghost use Rattle.pc_receipts.specs.declared.work.Latest.TheVariants.{Nothing};
 
 use crate::got::Got;
-use pc_engine::{is_unwritten, note_write};
-use pc_types::{Items, Key, Lsn, Receipt, SessionNo, Value, Write};
+use pc_txn::{ReadSet, WriteSet};
+use pc_types::{Key, Lsn, Receipt, SessionNo, Value, Write};
 use std::alloc::Global;
 use std::mem;
 
@@ -29,9 +29,9 @@ pub struct Work {
     /// Whether its transaction is open.
     pub busy: bool,
     /// What the open transaction has written: the final write of each key, in the order of first writes.
-    pub writes: Vec<Write>,
+    pub writes: WriteSet,
     /// What the open transaction has read: the first read of each key that it had not written.
-    pub reads: Vec<(Key, Option<Value>)>,
+    pub reads: ReadSet,
     /// A receipt for each commit, in their order.
     pub receipts: Vec<Receipt>,
     /// What the latest call found.
@@ -45,8 +45,8 @@ impl Work {
     {
         Work {
             busy: false,
-            writes: Vec::new(alloc),
-            reads: Vec::new(alloc),
+            writes: WriteSet::new(alloc),
+            reads: ReadSet::new(alloc),
             receipts: Vec::new(alloc),
             latest: Latest::Nothing,
         }
@@ -75,22 +75,22 @@ impl Work {
 
     /// A write was made: the value that the key was set to, or its removal.
     pub fn write(&mut self, key: Key, value: Option<Value>)
-        requires { vec_len self.old.writes < vec_capacity self.old.writes }
+        requires { 0 < self.old.writes.room }
         ensures writes { self.new.writes.items ≡ with_write self.old.writes.items (record { key = key; value = value }) }
         ensures others { (self.new.busy ≡ self.old.busy) × (self.new.reads.items ≡ self.old.reads.items) × (self.new.receipts.items ≡ self.old.receipts.items) × (self.new.latest ≡ Nothing) }
     {
         self.latest = Latest::Nothing;
-        note_write(&mut self.writes, Write { key, value });
+        self.writes.note(Write { key, value });
     }
 
     /// A read was answered.
     pub fn read(&mut self, key: Key, got: Got)
-        requires { vec_len self.old.reads < vec_capacity self.old.reads }
+        requires { 0 < self.old.reads.room }
         ensures reads { self.new.reads.items ≡ reads_after got self.old.writes.items self.old.reads.items key }
         ensures latest { kept_in self.new.latest self.new.reads.items ≡ value_of got }
         ensures others { (self.new.busy ≡ self.old.busy) × (self.new.writes.items ≡ self.old.writes.items) × (self.new.receipts.items ≡ self.old.receipts.items) }
     {
-        self.latest = note_got(self.writes.as_slice(), &mut self.reads, key, got);
+        self.latest = note_got(&self.writes, &mut self.reads, key, got);
     }
 
     /// A request died.
@@ -115,15 +115,13 @@ impl Work {
         ensures { (self.new.busy ≡ false) × (self.new.receipts.items ≡ self.old.receipts.items ++ receipt_of session number (own self.old.busy self.old.writes.items self.old.reads.items self.old.receipts.items) ∷ []) × (self.new.latest ≡ Nothing) }
     {
         self.latest = Latest::Nothing;
-        let mut writes = mem::replace(&mut self.writes, Vec::new(alloc));
-        let mut reads = mem::replace(&mut self.reads, Vec::new(alloc));
-        writes.shrink_to_fit();
-        reads.shrink_to_fit();
+        let writes = mem::replace(&mut self.writes, WriteSet::new(alloc));
+        let reads = mem::replace(&mut self.reads, ReadSet::new(alloc));
         self.receipts.push_reserved(Receipt {
             number,
             session,
-            reads: Items::from_vec(reads),
-            writes: Items::from_vec(writes),
+            reads: reads.into_reads(),
+            writes: writes.into_writes(),
         });
         self.busy = false;
     }
@@ -137,11 +135,20 @@ pub fn has_room<T>(items: &mut Vec<T>) -> bool
     items.reserve(1).is_ok()
 }
 
-// Whether the key was read.
-fn was_read(reads: &[(Key, Option<Value>)], key: &Key) -> bool
-    ensures { result ≡ is_read reads.now key.now }
+/// Makes room for one more write, or answers false where memory ran out.
+pub fn has_room_to_write(writes: &mut WriteSet) -> bool
+    ensures same { writes.new.items ≡ writes.old.items }
+    ensures room { result ≡ true → 0 < writes.new.room }
 {
-    reads.iter().any(|read| read.0.is(key))
+    writes.reserve().is_ok()
+}
+
+/// Makes room for one more read, or answers false where memory ran out.
+pub fn has_room_to_read(reads: &mut ReadSet) -> bool
+    ensures same { reads.new.items ≡ reads.old.items }
+    ensures room { result ≡ true → 0 < reads.new.room }
+{
+    reads.reserve().is_ok()
 }
 
 // What was read at this place.
@@ -154,52 +161,29 @@ fn content_at(reads: &[(Key, Option<Value>)], place: usize) -> Option<&Value>
     }
 }
 
-// Whether the key was neither written nor read.
-fn is_first(writes: &[Write], reads: &[(Key, Option<Value>)], key: &Key) -> bool
-    ensures { result ≡ not (is_some (written writes.now key.now) || is_read reads.now key.now) }
-{
-    is_unwritten(writes, key) && !was_read(reads, key)
-}
-
-// Notes the read of a key that has no value, where it is the first.
-fn note_absence(writes: &[Write], reads: &mut Vec<(Key, Option<Value>)>, key: Key)
-    requires { vec_len reads.old < vec_capacity reads.old }
-    ensures { reads.new.items ≡ with_read writes.now reads.old.items key None }
-{
-    if is_first(writes, reads.as_slice(), &key) {
-        reads.push_reserved((key, None));
-    }
-}
-
 // Notes the read of the value, where it is the first of its key.
-fn note_value(
-    writes: &[Write],
-    reads: &mut Vec<(Key, Option<Value>)>,
-    key: Key,
-    value: Value,
-) -> Latest
-    requires { vec_len reads.old < vec_capacity reads.old }
-    ensures reads { reads.new.items ≡ with_read writes.now reads.old.items key (Some value) }
+fn note_value(writes: &WriteSet, reads: &mut ReadSet, key: Key, value: Value) -> Latest
+    requires { 0 < reads.old.room }
+    ensures reads { reads.new.items ≡ with_read writes.now.items reads.old.items key (Some value) }
     ensures latest { kept_in result reads.new.items ≡ Some value }
 {
-    if !is_first(writes, reads.as_slice(), &key) {
-        return Latest::Loose(value);
+    match reads.note(writes, key, Some(value)) {
+        Ok(place) => Latest::Noted(place),
+        Err(Some(value)) => Latest::Loose(value),
+        Err(None) => Latest::Nothing,
     }
-    let place = reads.len();
-    reads.push_reserved((key, Some(value)));
-    Latest::Noted(place)
 }
 
 // Notes what a read was answered.
-fn note_got(writes: &[Write], reads: &mut Vec<(Key, Option<Value>)>, key: Key, got: Got) -> Latest
-    requires { vec_len reads.old < vec_capacity reads.old }
-    ensures reads { reads.new.items ≡ reads_after got writes.now reads.old.items key }
+fn note_got(writes: &WriteSet, reads: &mut ReadSet, key: Key, got: Got) -> Latest
+    requires { 0 < reads.old.room }
+    ensures reads { reads.new.items ≡ reads_after got writes.now.items reads.old.items key }
     ensures latest { kept_in result reads.new.items ≡ value_of got }
 {
     match got {
         Got::Found(value) => note_value(writes, reads, key, value),
         Got::Absent => {
-            note_absence(writes, reads, key);
+            let _ = reads.note(writes, key, None);
             Latest::Nothing
         }
         Got::Died => Latest::Nothing,

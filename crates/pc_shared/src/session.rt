@@ -11,7 +11,7 @@ ghost use Rattle.pc_shared.specs.Finds.{found_in};
 
 use crate::asks::answer_of;
 use crate::store::Shared;
-use pc_receipts::{Work, has_room};
+use pc_receipts::{Work, has_room, has_room_to_read, has_room_to_write};
 use pc_tie::{SessionSeat, StoreName};
 use pc_types::{Key, Lsn, Receipt, Refusal, SessionNo, TxnNo, Value};
 use std::marker::Model;
@@ -121,7 +121,7 @@ impl<N: StoreName> Shared<N> {
         if !session.work.busy {
             return Err(told_idle(&session.seat));
         }
-        let has_room = has_room(&mut session.work.reads);
+        let has_room = has_room_to_read(&mut session.work.reads);
         let (key, got) = match self.get_as(rt, &mut session.seat, key, has_room) {
             Ok((key, got)) => (key, got),
             Err(why) => return Err(why),
@@ -150,7 +150,7 @@ impl<N: StoreName> Shared<N> {
         if !session.work.busy {
             return Err(told_idle(&session.seat));
         }
-        let has_room = has_room(&mut session.work.writes);
+        let has_room = has_room_to_write(&mut session.work.writes);
         let (key, value, made) = match self.put_as(rt, &mut session.seat, key, value, has_room) {
             Ok((key, value, made)) => (key, value, made),
             Err(why) => return Err(why),
@@ -179,7 +179,7 @@ impl<N: StoreName> Shared<N> {
         if !session.work.busy {
             return Err(told_idle(&session.seat));
         }
-        let has_room = has_room(&mut session.work.writes);
+        let has_room = has_room_to_write(&mut session.work.writes);
         let (key, made) = match self.del_as(rt, &mut session.seat, key, has_room) {
             Ok((key, made)) => (key, made),
             Err(why) => return Err(why),

@@ -97,7 +97,3 @@ check_line sound = if sound then codes "check ok\n" else codes "check failed\n"
 -- what tells of a joined file of these points, with so many entries, with the end of the line
 abbrev pub joined_line : List ℕ → ℕ → List ℕ
 joined_line points count = (codes "points " ++ ranges_text (ranges_of points)) ++ (codes " entries " ++ (decimal count ++ codes "\n"))
-
--- the line of the file of all points of a run
-abbrev pub collapsed_line : List ℕ → ℕ → List ℕ
-collapsed_line points count = (codes "collapsed " ++ ranges_text (ranges_of points)) ++ (codes " entries " ++ (decimal count ++ codes "\n"))

@@ -23,7 +23,7 @@ invariant_of-session-then-not-made g c =
     let event = write_event f.number c.args.key (None) in
     let call : IsMade st f.seen event false after = subst (λ (b : Bool). IsMade st f.seen event b after) c.if-not-made.true c.in-Ok.ensures.call in (
       subst (λ (m : ℕ). Keeps v.busy v.writes.items v.reads.items v.receipts.items m after) (sym c.del_as.ensures.number)
-          (died_keeps st f.number f.seen after w.busy v.busy w.writes.items v.writes.items w.reads.items v.reads.items w.receipts.items v.receipts.items (c.session.invariant.0.while_busy c.if-not-session.false) c.args.key (None) call e.0 (e.1 ∙ c.has_room-has_room.ensures.same) e.2 e.3),
+          (died_keeps st f.number f.seen after w.busy v.busy w.writes.items v.writes.items w.reads.items v.reads.items w.receipts.items v.receipts.items (c.session.invariant.0.while_busy c.if-not-session.false) c.args.key (None) call e.0 (e.1 ∙ c.has_room_to_write-has_room.ensures.same) e.2 e.3),
       ap (λ l. kept_in l v.reads.items) e.4 ∙ sym (made_found st f.seen after event false call),
     )
 
@@ -36,7 +36,7 @@ invariant_of-session-2 g c =
     let call : IsMade g.N.StoreName.name.setting f.seen (write_event f.number c.args.key (None)) true after = subst (λ (b : Bool). IsMade g.N.StoreName.name.setting f.seen (write_event f.number c.args.key (None)) b after) c.if-not-made.false c.in-Ok.ensures.call in
     let same = c.in-Ok.ensures.given in
     let writes : v.writes.items ≡ with_write w.writes.items (record { key = c.args.key; value = None }) =
-    c.write.ensures.writes ∙ (λ i. with_write (c.has_room-has_room.ensures.same i) (record { key = same i; value = None })) in (
+    c.write.ensures.writes ∙ (λ i. with_write (c.has_room_to_write-has_room.ensures.same i) (record { key = same i; value = None })) in (
       subst (λ (m : ℕ). Keeps v.busy v.writes.items v.reads.items v.receipts.items m after) (sym c.del_as.ensures.number)
           (write_keeps g.N.StoreName.name.setting f.number f.seen after w.busy v.busy w.writes.items v.writes.items w.reads.items v.reads.items w.receipts.items v.receipts.items (c.session.invariant.0.while_busy c.if-not-session.false) c.args.key (None) call c.write.ensures.others.0 writes c.write.ensures.others.1 c.write.ensures.others.2),
       ap (λ l. kept_in l v.reads.items) c.write.ensures.others.3 ∙ sym (made_found g.N.StoreName.name.setting f.seen after (write_event f.number c.args.key (None)) true call),

@@ -19,7 +19,7 @@ invariant_of-session-2 g c =
     let after = c.get_as.new.seat.seen in
     let got = c.in-Ok.got in
     let key = c.in-Ok.key in
-    let same : c.has_room-has_room.new.items.items ≡ w.reads.items = c.has_room-has_room.ensures.same in
+    let same : c.has_room_to_read-has_room.new.reads.items ≡ w.reads.items = c.has_room_to_read-has_room.ensures.same in
     let reads : v.reads.items ≡ reads_after got w.writes.items w.reads.items key = c.read.ensures.reads ∙ ap (λ (l : List Read). reads_after got w.writes.items l key) same in
     let call : IsGot g.N.StoreName.name.setting f.seen f.number key got after = subst (λ (k : List ℕ). IsGot g.N.StoreName.name.setting f.seen f.number k got after) (sym c.in-Ok.ensures.key) c.in-Ok.ensures.call in (
       subst (λ (m : ℕ). Keeps v.busy v.writes.items v.reads.items v.receipts.items m after) (sym c.get_as.ensures.number)
