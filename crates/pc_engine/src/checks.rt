@@ -25,9 +25,23 @@ pub(crate) fn is_sound(
     if !is_replay(alloc, base.pairs(), log, pairs)? {
         return Ok(false);
     }
+    let right = are_files_right(alloc, base, log, files)?;
+    Ok(right)
+}
+
+/// Whether each of the files that is of the points 1 to some n is right by the log: the token of n stands in it, and the base
+/// with the file laid on it is the state of n. Files of other points are passed by. It fails only where memory ran out.
+pub fn are_files_right(
+    alloc: Global,
+    base: &Base,
+    log: &[Entry],
+    files: &[SharedPart],
+) -> Result<bool, AllocError>
+    ensures { IfOk result (λ right. IsTrue right ↔ All (IsFileRight base.now.pairs log.now) files.now) }
+{
     let complete = complete_files(alloc, files)?;
-    let sound = audit(alloc, base.pairs(), log, complete.as_slice())?;
-    Ok(sound)
+    let right = audit(alloc, base.pairs(), log, complete.as_slice())?;
+    Ok(right)
 }
 
 // A copy of each file of the points 1 to some n.

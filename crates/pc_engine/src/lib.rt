@@ -11,6 +11,7 @@ mod transactions;
 mod world;
 mod writes;
 
+pub use checks::are_files_right;
 pub use laws::{
     standing_worlds_are_serial, standing_worlds_have_legal_queues, standing_worlds_keep_points,
 };

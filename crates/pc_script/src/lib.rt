@@ -9,6 +9,6 @@ mod setup;
 mod views;
 
 pub use recovery::{Folder, Lost, NamedFile, run_recover};
-pub use run::{report, run_script};
+pub use run::{read_opened, report, run_script};
 pub use script::Status;
 pub use setup::Setup;

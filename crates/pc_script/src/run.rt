@@ -101,7 +101,8 @@ fn answer_opened<R: Read + Drop, W: Write>(
     }
 }
 
-pub(crate) fn read_opened<R: Read + Drop>(
+/// All bytes of a file, or why they can't be had: it can't be opened or read, or memory ran out.
+pub fn read_opened<R: Read + Drop>(
     alloc: Global,
     opened: Result<R, Refusal>,
 ) -> Result<Vec<u8>, Refusal>

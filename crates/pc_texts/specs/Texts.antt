@@ -94,6 +94,14 @@ hex_line bytes = (codes "text " ++ flat_map hex_byte bytes) ++ codes "\n"
 abbrev pub check_line : Bool → List ℕ
 check_line sound = if sound then codes "check ok\n" else codes "check failed\n"
 
--- what tells of a joined file of these points, with so many entries, with the end of the line
+-- a word, the ranges of these points, and a number of entries, with the end of the line
+abbrev pub file_line : List ℕ → List ℕ → ℕ → List ℕ
+file_line word points count = (word ++ ranges_text (ranges_of points)) ++ (codes " entries " ++ (decimal count ++ codes "\n"))
+
+-- what tells of a joined file
 abbrev pub joined_line : List ℕ → ℕ → List ℕ
-joined_line points count = (codes "points " ++ ranges_text (ranges_of points)) ++ (codes " entries " ++ (decimal count ++ codes "\n"))
+joined_line points count = file_line (codes "points ") points count
+
+-- what tells of the file of all points of a run
+abbrev pub collapsed_line : List ℕ → ℕ → List ℕ
+collapsed_line points count = file_line (codes "collapsed ") points count

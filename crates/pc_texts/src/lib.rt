@@ -3,4 +3,6 @@
 
 mod texts;
 
-pub use texts::{put_check, put_joined, put_pairs, put_reason, put_reply, put_state, put_text};
+pub use texts::{
+    put_check, put_collapsed, put_joined, put_pairs, put_reason, put_reply, put_state, put_text,
+};

@@ -4,7 +4,7 @@ ghost use Rattle.std.specs.List.{flat_map};
 ghost use Rattle.std.specs.Char.{digit_char};
 ghost use Rattle.pc_types.specs.Tallies.{Puts};
 ghost use Rattle.pc_model.specs.Ranges.{ranges_of};
-ghost use Rattle.pc_texts.specs.Texts.{printed_byte, printed, printed_value, phase_name, range_text, ranges_text, refusal_text, reply_text, pair_text, state_head, state_text, hex_byte, hex_line, check_line, joined_line};
+ghost use Rattle.pc_texts.specs.Texts.{printed_byte, printed, printed_value, phase_name, range_text, ranges_text, refusal_text, reply_text, pair_text, state_head, state_text, hex_byte, hex_line, check_line, file_line, joined_line, collapsed_line};
 
 use itoa::Buffer;
 use pc_lines::is_plain;
@@ -180,7 +180,30 @@ pub fn put_joined<W: Write>(
 ) -> Result<(), Refusal>
     ensures { Puts W.contents out.old out.new result (joined_line points.now entries) }
 {
-    put_points(out, b"points ", points)?;
+    put_file_line(out, b"points ", points, entries)
+}
+
+/// Writes the line that tells of the file of all points of a run: its points, which rise, and how many entries it has.
+pub fn put_collapsed<W: Write>(
+    out: &mut Tally<W>,
+    points: &[Point],
+    entries: u64,
+) -> Result<(), Refusal>
+    ensures { Puts W.contents out.old out.new result (collapsed_line points.now entries) }
+{
+    put_file_line(out, b"collapsed ", points, entries)
+}
+
+// A word, the ranges of points that rise, and how many entries there are, with the end of the line.
+fn put_file_line<W: Write>(
+    out: &mut Tally<W>,
+    word: &[u8],
+    points: &[Point],
+    entries: u64,
+) -> Result<(), Refusal>
+    ensures { Puts W.contents out.old out.new result (file_line word.now points.now entries) }
+{
+    put_points(out, word, points)?;
     put_entries(out, entries)
 }
 

@@ -1,0 +1,139 @@
+//! What a run leaves, and how it is printed.
+ghost use Rattle.std.specs.Prelude.{◌≡◌};
+ghost use Rattle.pc_types.specs.Tallies.{Puts};
+ghost use Rattle.pc_outcomes.specs.Outcomes.{number_line, collapsed_lines, file_lines, left_text, counts_text, outcome_text, printed_text, status_of};
+
+use itoa::Buffer;
+use pc_texts::{put_check, put_collapsed};
+use pc_types::{Items, Point, Refusal, Tally};
+use std::io::Write;
+
+/// What a run left.
+#[derive(Drop)]
+pub struct Outcome {
+    /// How many transactions were committed.
+    pub commits: u64,
+    /// How many were given up.
+    pub given_up: u64,
+    /// How many points were taken.
+    pub points: u32,
+    /// What the store left.
+    pub left: Left,
+}
+
+/// What a closed store left.
+#[derive(Drop)]
+pub struct Left {
+    /// The file of all points, where there are any.
+    pub collapsed: Option<Collapsed>,
+    /// Whether each file of all points from the first on is right by the log.
+    pub is_right: bool,
+}
+
+/// The file of all points.
+#[derive(Drop)]
+pub struct Collapsed {
+    /// Its points, which rise.
+    pub points: Items<Point>,
+    /// How many entries it has.
+    pub entries: u64,
+    /// How many pairs the base has with the file laid on it.
+    pub pairs: usize,
+}
+
+/// What is printed of a workload.
+#[derive(Drop)]
+pub enum Printed {
+    /// The number of its first bad line, from 1.
+    BadLine(usize),
+    /// What its run left.
+    Whole(Outcome),
+}
+
+// A word and a number, alone in a line.
+fn put_number<W: Write>(out: &mut Tally<W>, word: &[u8], number: u64) -> Result<(), Refusal>
+    ensures { Puts W.contents out.old out.new result (number_line word.now number) }
+{
+    let mut buffer = Buffer::new();
+    out.put_all(&[word, buffer.format(number).as_bytes(), b"\n"])
+}
+
+impl Collapsed {
+    // Writes the lines of the file of all points.
+    fn put<W: Write>(&self, out: &mut Tally<W>) -> Result<(), Refusal>
+        ensures { Puts W.contents out.old out.new result (collapsed_lines self.now) }
+    {
+        put_collapsed(out, self.points.as_slice(), self.entries)?;
+        put_number(out, b"state pairs ", self.pairs as u64)
+    }
+}
+
+// The lines of the file of all points, or the line that says that there is none.
+fn put_file<W: Write>(out: &mut Tally<W>, collapsed: &Option<Collapsed>) -> Result<(), Refusal>
+    ensures { Puts W.contents out.old out.new result (file_lines collapsed.now) }
+{
+    match collapsed {
+        None => out.put(b"collapsed none\n"),
+        Some(file) => file.put(out),
+    }
+}
+
+impl Left {
+    // Writes the lines of the file of all points, and what the check found.
+    fn put<W: Write>(&self, out: &mut Tally<W>) -> Result<(), Refusal>
+        ensures { Puts W.contents out.old out.new result (left_text self.now) }
+    {
+        put_file(out, &self.collapsed)?;
+        put_check(out, self.is_right)
+    }
+}
+
+impl Outcome {
+    // Writes how many jobs were committed and given up, and how many points were taken.
+    fn put_counts<W: Write>(&self, out: &mut Tally<W>) -> Result<(), Refusal>
+        ensures { Puts W.contents out.old out.new result (counts_text self.now) }
+    {
+        let mut commits = Buffer::new();
+        let mut given_up = Buffer::new();
+        let mut points = Buffer::new();
+        out.put_all(&[
+            b"commits ",
+            commits.format(self.commits).as_bytes(),
+            b"\ngave up ",
+            given_up.format(self.given_up).as_bytes(),
+            b"\npoints ",
+            points.format(self.points).as_bytes(),
+            b"\n",
+        ])
+    }
+
+    // Writes the lines of a run.
+    fn put<W: Write>(&self, out: &mut Tally<W>) -> Result<(), Refusal>
+        ensures { Puts W.contents out.old out.new result (outcome_text self.now) }
+    {
+        self.put_counts(out)?;
+        self.left.put(out)
+    }
+}
+
+impl Printed {
+    /// Its exit status.
+    pub fn status(&self) -> u8
+        ensures { result ≡ status_of self.now }
+    {
+        match self {
+            Printed::BadLine(_) => 3,
+            Printed::Whole(_) => 0,
+        }
+    }
+
+    /// Writes its lines.
+    pub fn put<W: Write>(&self, out: &mut Tally<W>) -> Result<(), Refusal>
+        ensures { Puts W.contents out.old out.new result (printed_text self.now) }
+    {
+        match self {
+            Printed::BadLine(line) => put_number(out, b"bad line ", *line as u64),
+            Printed::Whole(outcome) => outcome.put(out),
+        }
+    }
+}
