@@ -7,7 +7,7 @@ use Rattle.std.proofs.Math.Seq.{get_or-append_seam}
 use Rattle.pc_types.specs.declared.Entry.{Entry}
 use Rattle.pc_model.specs.Database.{Database, database_of}
 use Rattle.pc_model.specs.Log.{after, has_token, state_at}
-use Rattle.pc_model.specs.Points.{laid}
+use Rattle.pc_model.specs.Points.{laid, content}
 use Rattle.pc_model.specs.Files.{BaseFile, File, shelf, numbers_to}
 use Rattle.pc_replay.specs.Audits.{IsRight, triples_from}
 use Rattle.pc_replay.specs.declared.audits.CompleteFile.{CompleteFile}
@@ -19,11 +19,15 @@ use Rattle.pc_model.specs.Maps as map_of
 use Rattle.pc_model.specs.Sets as set
 use Rattle.pc_model.specs.Sets.{Set, number_order}
 use Rattle.pc_model.specs.Numbers.{is_one_of}
-use Rattle.pc_model.specs.History.{History}
+use Rattle.pc_model.specs.History.{History, log_of}
 use Rattle.pc_model.specs.Headline.{IsMade}
 use Rattle.pc_model.specs.Headline.IsMade.{Shelved}
 use Rattle.pc_model.proofs.PairMapLaws.{same_database}
-use Rattle.pc_model.proofs.ContentLaws.{contains-items, one_of_numbers}
+use Rattle.pc_model.specs.Replies.{Setting, IsLegalHistory}
+use Rattle.pc_model.specs.Standing.{IsOfItsPoints, PrecedesNext}
+use Rattle.pc_model.proofs.ContentLaws.{contains-items, one_of_numbers, laid_content}
+use Rattle.pc_model.proofs.LegalEffectLaws.{legal_has_legal_effects}
+use Rattle.pc_model.proofs.ShelfFileLaws.{is_ordered}
 use Rattle.pc_records.specs.Rows.{record_of, stored}
 use Rattle.pc_engine.specs.Store.{Store}
 use Rattle.pc_engine.specs.Stands.{Stands}
@@ -97,12 +101,22 @@ sound_is w pairs b own compared = (
   λ sound. compared.1 (same_database (database_of pairs) (after w.base.pairs w.log) (λ key. own key ∙ sound.contents key), sound.files),
 )
 
--- a set of the numbers 1 to n has n
-has_last : (points : Set number_order) (n : ℕ) → 1 ≤ n → set.items points ≡ numbers_to n → set.contains points n ≡ true
-has_last points n some covers = contains-items points n ∙ ap (is_one_of n) covers ∙ one_of_numbers n n ∙ inside
+-- a set of the numbers 1 to n has each of them
+has_each : (points : Set number_order) (n p : ℕ) → 0 < p → p ≤ n → set.items points ≡ numbers_to n → set.contains points p ≡ true
+has_each points n p some within covers = contains-items points p ∙ ap (is_one_of p) covers ∙ one_of_numbers n p ∙ inside
   where
-    inside : (nat_lt 0 n && nat_le n n) ≡ true
-    inside = grind (arith, nat_tests, some)
+    inside : (nat_lt 0 p && nat_le p n) ≡ true
+    inside = grind (arith, nat_tests, some, within)
+
+-- a file that a legal history gives its points is right
+pub right_of_points : (st : Setting) (h : History) (file : File) → IsLegalHistory st h → IsOfItsPoints st.run st.base (log_of h) file → IsFileRight st.base (log_of h) file
+right_of_points st h file legal of n covers = (
+  of.has_tokens n (has_each file.points n n (omega (arith, covers.0)) (omega arith) covers.1),
+  ap (laid st.base 0) (ap (λ g. g.triples) of.is ∙ ap (content st.base (log_of h)) covers.1) ∙ laid_content st.base (log_of h) n in_order,
+)
+  where
+    in_order : (p : ℕ) → p < n → PrecedesNext p (log_of h)
+    in_order p below = (is_ordered st h (legal_has_legal_effects st h legal)).in_order p (of.has_tokens (p + 1) (has_each file.points n (p + 1) (omega arith) (omega (arith, below)) covers.1))
 
 -- the same of what the calls give
 pub sound_by : (w : Store) (pairs given : List (List ℕ × List ℕ)) (b : Bool) (base : BaseFile) (log : List Entry) (files : List File) → ((key : List ℕ) → map_of.get (database_of pairs) key ≡ stored (record_of w.kept.rows key)) →
@@ -124,7 +138,7 @@ stands_sound w history stands = record {
       let headline = (keeps_points w history stands).headline in
       let made : IsMade (shelf w.base.run history) file = Shelved file (subst (λ files. Contains files file) stands.parts.cycle.shelved (Contains-get_or w.shelf k d below)) in
       subst (λ log. IsStateOf w.base.pairs log file n) (sym stands.parts.log)
-      (headline.has_tokens file n made (has_last file.points n covers.0 covers.1), headline.is_the_state file n made covers.1);
+      (headline.has_tokens file n made (has_each file.points n n (omega (arith, covers.0)) (omega arith) covers.1), headline.is_the_state file n made covers.1);
 }
 
 -- so a check of it answers that it is

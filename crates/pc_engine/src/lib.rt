@@ -13,7 +13,8 @@ mod writes;
 
 pub use checks::are_files_right;
 pub use laws::{
-    standing_worlds_are_serial, standing_worlds_have_legal_queues, standing_worlds_keep_points,
+    files_of_their_points_are_right, standing_worlds_are_serial, standing_worlds_have_legal_queues,
+    standing_worlds_keep_points,
 };
 pub use pc_types::{Event, Reply};
 pub use world::{World, run};

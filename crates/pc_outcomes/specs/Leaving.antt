@@ -1,12 +1,20 @@
 -- What a closed store leaves: how many commits its log has, the file of all points, and whether its files are right.
-use Rattle.std.specs.Prelude.{◌≡◌, ◌↔◌, ℕ, Bool, true, false, List, [], ◌∷◌, ◌++◌, Option, Some, None, Ok, All, IsTrue, length, filter}
+use Rattle.std.specs.Prelude.{◌≡◌, ◌↔◌, ◌⊎◌, ℕ, Bool, true, false, List, [], ◌∷◌, ◌++◌, Option, Some, None, Ok, Err, All, IsTrue, length, filter}
 use Rattle.pc_types.specs.declared.Entry.{Entry}
 use Rattle.pc_types.specs.declared.Entry.TheVariants.{Commit, Token}
+use Rattle.pc_types.specs.declared.Refusal.{Refusal}
+use Rattle.pc_types.specs.declared.Refusal.TheVariants.{OutOfMemory}
 use Rattle.pc_model.specs.Maps.{len}
 use Rattle.pc_model.specs.Sets as set
 use Rattle.pc_model.specs.Files.{BaseFile, File}
+use Rattle.pc_model.specs.History.{History, log_of}
 use Rattle.pc_model.specs.LaidFiles.{laid_file}
+use Rattle.pc_model.specs.Replies.{Setting, IsLegalHistory}
+use Rattle.pc_model.specs.Standing.{IsOfItsPoints}
+use Rattle.pc_part.specs.Joins.{first_cause}
+use Rattle.pc_part.specs.Layings.{lay_causes}
 use Rattle.pc_collapse.specs.Folds.{Folds}
+use Rattle.pc_collapse.specs.Laws.{IsOfAllPoints}
 use Rattle.pc_engine.specs.Checks.{IsFileRight}
 use Rattle.pc_outcomes.specs.declared.outcome.Collapsed.{Collapsed}
 use Rattle.pc_outcomes.specs.declared.outcome.Left.{Left}
@@ -45,3 +53,35 @@ pub record IsLeft (base : BaseFile) (log : List Entry) (files some : List File) 
   pub folded : Folded some collapsed
   pub summary : left.collapsed ≡ summary_if_any base collapsed
   pub right : IsTrue left.is_right ↔ All (IsFileRight base.pairs log) (with_file files collapsed)
+
+-- there are files, and this is why they have no fold
+abbrev pub IsUnfolded : List File → Refusal → Type 0
+IsUnfolded files why = ¬ (files ≡ []) × Folds files (Err why)
+
+-- there is a file, and this is why the base can't have it laid on it
+abbrev pub IsUnlaid : BaseFile → Option File → Refusal → Type 0
+IsUnlaid base None why = ⊥
+IsUnlaid base (Some file) why = first_cause (lay_causes base file) ≡ Some why
+
+-- Why nothing is told of what is left: memory ran out, or the files have no fold, or the base can't have it laid on it.
+abbrev pub IsUntold : BaseFile → List File → Refusal → Type 0
+IsUntold base files why = (why ≡ OutOfMemory) ⊎ IsUnfolded files why ⊎ ((file : Option File) × Folded files file × IsUnlaid base file why)
+
+-- A legal history leaves this: the base is that of the start, the log that of the history, and each file that of its points.
+pub record AreLeftAfter (st : Setting) (history : History) (base : BaseFile) (log : List Entry) (files : List File) : Type 0 where
+  pub legal : IsLegalHistory st history
+  pub start : base ≡ record { run = st.run; point = 0; pairs = st.base }
+  pub log_is : log ≡ log_of history
+  pub worth : All (IsOfItsPoints st.run st.base log) files
+
+-- the file is the one that the log gives the points of all these; there is none of no files
+abbrev pub IsOfAll : BaseFile → List Entry → List File → Option File → Type 0
+IsOfAll base log files None = files ≡ []
+IsOfAll base log files (Some file) = IsOfAllPoints base.run base.pairs log files file
+
+-- What is told of a store that a legal history left: of one file of the points of all these, and that everything is right.
+pub record IsLegacy (base : BaseFile) (log : List Entry) (files : List File) (left : Left) : Type 0 where
+  pub collapsed : Option File
+  pub of_all : IsOfAll base log files collapsed
+  pub summary : left.collapsed ≡ summary_if_any base collapsed
+  pub right : left.is_right ≡ true

@@ -1,16 +1,19 @@
 //! What a closed store leaves: the file of all points, and whether its files are right by its log.
-ghost use Rattle.std.specs.Prelude.{◌≡◌, ◌≤◌, IfOk, drop, length};
+ghost use Rattle.std.specs.Prelude.{◌≡◌, ◌≤◌, ◌⊎◌, Some, IfOk, IfErr, drop, length};
+ghost use Rattle.pc_types.specs.declared.Refusal.TheVariants.{OutOfMemory};
 ghost use Rattle.pc_model.specs.Maps.{len};
+ghost use Rattle.pc_model.specs.History.{History};
 ghost use Rattle.pc_model.specs.LaidFiles.{laid_file};
+ghost use Rattle.pc_model.specs.Replies.{Setting};
 ghost use Rattle.pc_collapse.specs.declared.limits.TheConstants.{MOST_COLLAPSERS};
-ghost use Rattle.pc_outcomes.specs.Leaving.{is_commit, commits_in, summary_if_any, summary_of, with_file, Folded, IsLeft};
+ghost use Rattle.pc_outcomes.specs.Leaving.{is_commit, commits_in, summary_if_any, summary_of, with_file, Folded, AreLeftAfter, IsLeft, IsLegacy, IsUnfolded, IsUnlaid, IsUntold};
 
 use crate::outcome::{Collapsed, Left};
-use pc_collapse::collapse_bag_owned;
-use pc_engine::are_files_right;
-use pc_part::{Base, Part, SharedPart, join, joins_are_idempotent, lay};
+use pc_collapse::{collapse_bag_owned, files_fold_well};
+use pc_engine::{are_files_right, files_of_their_points_are_right};
+use pc_part::{Base, Part, SharedPart, lay};
 use pc_types::{Entry, Gate, Refusal};
-use std::alloc::Global;
+use std::alloc::{AllocError, Global};
 use std::sync::Wait;
 use std::thread::Threads;
 
@@ -36,15 +39,12 @@ fn is_commit(entry: &Entry) -> bool
     }
 }
 
-// Copies of the parts: a part joined with itself is the same once more.
-fn copies(alloc: Global, parts: &[SharedPart]) -> Result<Vec<Part>, Refusal>
+fn copies(alloc: Global, parts: &[SharedPart]) -> Result<Vec<Part>, AllocError>
     ensures { IfOk result (λ copies. copies.items ≡ parts.now) }
 {
-    joins_are_idempotent();
     let mut copies = Vec::new(alloc);
     for shared in parts {
-        let part = shared.part();
-        copies.push(join(alloc, part, part)?)?;
+        copies.push(shared.part().copy(alloc)?)?;
     }
     Ok(copies)
 }
@@ -58,7 +58,8 @@ fn collapsed<G: Gate + Sync, R: Threads + Wait + Sync>(
     gate: &G,
 ) -> Result<Option<Part>, Refusal>
     requires { (1 ≤ collapsers) × (collapsers ≤ MOST_COLLAPSERS) }
-    ensures { IfOk result (Folded parts.now) }
+    ensures folded { IfOk result (Folded parts.now) }
+    ensures refused { IfErr result (λ why. (why ≡ OutOfMemory) ⊎ IsUnfolded parts.now why) }
 {
     if parts.is_empty() {
         return Ok(None);
@@ -77,7 +78,8 @@ fn keys_in(part: &Part) -> usize
 
 // How many pairs the base has with the file laid on it.
 fn pairs_with(alloc: Global, base: &Base, part: &Part) -> Result<usize, Refusal>
-    ensures { IfOk result (λ pairs. pairs ≡ len (laid_file base.now part.now).pairs) }
+    ensures pairs { IfOk result (λ pairs. pairs ≡ len (laid_file base.now part.now).pairs) }
+    ensures refused { IfErr result (λ why. (why ≡ OutOfMemory) ⊎ IsUnlaid base.now (Some part.now) why) }
 {
     let laid = lay(alloc, base, part)?;
     Ok(laid.pairs().len())
@@ -85,7 +87,8 @@ fn pairs_with(alloc: Global, base: &Base, part: &Part) -> Result<usize, Refusal>
 
 // What is told of the file of all points.
 fn summary_of(alloc: Global, base: &Base, part: &Part) -> Result<Collapsed, Refusal>
-    ensures { IfOk result (λ summary. summary ≡ summary_of base.now part.now) }
+    ensures summary { IfOk result (λ summary. summary ≡ summary_of base.now part.now) }
+    ensures refused { IfErr result (λ why. (why ≡ OutOfMemory) ⊎ IsUnlaid base.now (Some part.now) why) }
 {
     let pairs = pairs_with(alloc, base, part)?;
     let points = part.points(alloc)?;
@@ -103,7 +106,8 @@ fn with_file(
     files: Vec<SharedPart>,
     part: Option<Part>,
 ) -> Result<Vec<SharedPart>, Refusal>
-    ensures { IfOk result (λ all. all.items ≡ with_file files.items part) }
+    ensures all { IfOk result (λ all. all.items ≡ with_file files.items part) }
+    ensures memory { IfErr result (λ why. why ≡ OutOfMemory) }
 {
     let mut files = files;
     if let Some(part) = part {
@@ -113,8 +117,13 @@ fn with_file(
 }
 
 // What is told of the file of all points, where there is one.
-fn summary_if_any(alloc: Global, base: &Base, part: &Option<Part>) -> Result<Option<Collapsed>, Refusal>
-    ensures { IfOk result (λ summary. summary ≡ summary_if_any base.now part.now) }
+fn summary_if_any(
+    alloc: Global,
+    base: &Base,
+    part: &Option<Part>,
+) -> Result<Option<Collapsed>, Refusal>
+    ensures summary { IfOk result (λ summary. summary ≡ summary_if_any base.now part.now) }
+    ensures refused { IfErr result (λ why. (why ≡ OutOfMemory) ⊎ IsUnlaid base.now part.now why) }
 {
     match part {
         Some(part) => Ok(Some(summary_of(alloc, base, part)?)),
@@ -131,7 +140,8 @@ fn behind(files: &[SharedPart], singles: usize) -> &[SharedPart]
 }
 
 /// What a closed store leaves of its files. Those behind the first so many are folded to one, by so many collapsers, 1 to 64;
-/// that one is audited too. Where it refuses nothing is told; no clause says yet for which causes it may.
+/// that one is audited too. After a legal history all is right. Refuses for what keeps them from being folded, or the base from having their fold laid on it, and
+/// else with `OutOfMemory` alone.
 pub fn left_by<G: Gate + Sync, R: Threads + Wait + Sync>(
     rt: &R,
     alloc: Global,
@@ -144,8 +154,12 @@ pub fn left_by<G: Gate + Sync, R: Threads + Wait + Sync>(
 ) -> Result<Left, Refusal>
     requires singles { singles ≤ length files.items }
     requires collapsers { (1 ≤ collapsers) × (collapsers ≤ MOST_COLLAPSERS) }
-    ensures { IfOk result (IsLeft base.now log.now files.items (drop singles files.items)) }
+    ensures left { IfOk result (IsLeft base.now log.now files.items (drop singles files.items)) }
+    ensures legacy { (st : Setting) (history : History) → AreLeftAfter st history base.now log.now files.items → IfOk result (IsLegacy base.now log.now (drop singles files.items)) }
+    ensures refused { IfErr result (IsUntold base.now (drop singles files.items)) }
 {
+    files_fold_well();
+    files_of_their_points_are_right();
     let part = collapsed(rt, alloc, behind(&files, singles), collapsers, gate)?;
     let collapsed = summary_if_any(alloc, base, &part)?;
     let files = with_file(alloc, files, part)?;

@@ -75,6 +75,19 @@ impl Part {
         }
     }
 
+    /// A copy of the part. It fails only where memory ran out.
+    pub fn copy(&self, alloc: Global) -> Result<Part, AllocError>
+        ensures { IfOk result (λ copy. copy ≡ self.now) }
+    {
+        let ranges = copies_of_ranges(alloc, &self.ranges)?;
+        let entries = copies_of_entries(alloc, &self.entries)?;
+        Ok(Part {
+            run: self.run,
+            ranges,
+            entries,
+        })
+    }
+
     /// The number of the run, by which files of one run know each other.
     pub fn run(&self) -> u64
         ensures { result ≡ self.now.run }
@@ -135,4 +148,20 @@ fn triples_at(
             content,
         })
         .collect(alloc)
+}
+
+fn copies_of_ranges(alloc: Global, ranges: &[Range]) -> Result<Vec<Range>, AllocError>
+    ensures { IfOk result (λ copies. copies.items ≡ ranges.now) }
+{
+    ranges.iter().copied().collect(alloc)
+}
+
+fn copies_of_entries(alloc: Global, entries: &[Triple]) -> Result<Vec<Triple>, AllocError>
+    ensures { IfOk result (λ copies. copies.items ≡ entries.now) }
+{
+    let mut copies = Vec::with_capacity(alloc, entries.len())?;
+    for entry in entries {
+        copies.push_reserved(entry.copy(alloc)?);
+    }
+    Ok(copies)
 }
