@@ -29,6 +29,8 @@ class Case(typing.NamedTuple):
     parts: typing.Optional[list] = None
     # a user without rights of its own runs it
     is_other_user: bool = False
+    # it may start no further thread
+    has_no_threads: bool = False
     # how many bytes of memory it may have
     memory: typing.Optional[int] = None
     # where the output goes, if not to the caller
@@ -76,7 +78,7 @@ def usage_cases(folder):
     yield Case("no folder", ("recover",), 2, err=[b"error: the following required arguments were not provided:\n  <DIR>\n"])
     yield Case("an option twice", ("step", "empty.pcs", "--run", "1", "--run", "2"), 2, err=[b"error: the argument '--run <N>' cannot be used multiple times\n"])
     yield Case("--version", ("--version",), 0, b"pcalc 0.1.0\n")
-    yield Case("--help", ("--help",), 0, parts=[b"Usage: pcalc", b"\n  step ", b"\n  collapse ", b"\n  recover "])
+    yield Case("--help", ("--help",), 0, parts=[b"Usage: pcalc", b"\n  step ", b"\n  run ", b"\n  collapse ", b"\n  recover "])
     options = [b"<SCRIPT>", b"--sessions <N>", b"[default: 8]", b"--capacity <N>", b"[default: 1024]", b"--run <N>", b"[default: 1]"]
     yield Case("step --help", ("step", "--help"), 0, parts=options)
     yield Case("step -h", ("step", "-h"), 0, parts=options)

@@ -26,6 +26,7 @@ HEADLINES = [
     [("pc_engine", "World::check")],
     [("pc_recover", "recover"), ("pc_restarts", "every_cut_of_a_world_is_recovered")],
     [("pc_script", "run_script")],
+    [("pc_runs", "run_workload")],
 ]
 IMPORT = re.compile(r"^\s*(?:ghost )?use Rattle\.(pc_\w+)\.specs\.([\w.]+?)(?:\.\{(.*?)\}| as (\w+));?\s*$", re.M)
 HEAD = re.compile(r"^(?:abbrev |unfoldable )?(?:pub )?(?:(?:record|data) )?([^\s:(){}]+) (?::|\(|\{)|^(?:pub )?(?:record|data) ([^\s:(){}]+)")

@@ -2,15 +2,18 @@
 """Runs the programs that the gate has built on what is stored of them, and compares what they print: `.ci/run` calls it last.
 
     examples/NAME.pcs     `pcalc step` prints NAME.out; the status is that of NAME.status, or 0
+    examples/NAME.pcw     `pcalc run` prints NAME.out
     examples/NAME/        a folder: `pcalc recover` prints NAME.out, or `pcalc collapse` of its files where it has no base
     bench/counts.txt      a line `$ WORDS` is a command of pc_bench, and the lines up to the next one what it prints
     program_cases.py      options, files that can't be had, long files, a full output, little memory
+    run_cases.py          workloads that are run on threads, and the folders that they leave
 
 What differs is shown, and the last line is 'N passed, M failed'; the status is 1 where one failed.
 """
 
 import difflib
 import glob
+import itertools
 import os
 import resource
 import shutil
@@ -19,6 +22,7 @@ import sys
 import tempfile
 
 import program_cases
+import run_cases
 
 ROOT = os.path.join(os.path.dirname(os.path.abspath(__file__)), "..")
 SECONDS = 60
@@ -50,6 +54,8 @@ def examples():
     for script in sorted(glob.glob(os.path.join(ROOT, "examples", "*.pcs"))):
         name = script.removesuffix(".pcs")
         yield os.path.relpath(script, ROOT), (program_of("pcalc"), "step", script), int(text_of(name + ".status", "0")), text_of(name + ".out")
+    for workload in sorted(glob.glob(os.path.join(ROOT, "examples", "*.pcw"))):
+        yield os.path.relpath(workload, ROOT), (program_of("pcalc"), "run", workload), 0, text_of(workload.removesuffix(".pcw") + ".out")
     for folder in sorted(filter(os.path.isdir, glob.glob(os.path.join(ROOT, "examples", "*")))):
         words = ("recover", folder)
         if not os.path.exists(os.path.join(folder, "base.pcb")):
@@ -80,19 +86,21 @@ def settings_of(case, folder):
     settings = {"cwd": folder}
     if case.memory is not None:
         settings["preexec_fn"] = lambda: resource.setrlimit(resource.RLIMIT_AS, (case.memory, case.memory))
+    if case.has_no_threads:
+        settings["preexec_fn"] = lambda: resource.setrlimit(resource.RLIMIT_NPROC, (1, 1))
     if case.is_other_user and os.geteuid() == 0:
         settings.update(user=NOBODY, group=NOBODY, extra_groups=[])
     return settings
 
 
 def cases():
-    """What each case of `program_cases.py` differs in, by its name. The program is copied, so that any user may run it."""
+    """What each case of `program_cases.py` and `run_cases.py` differs in, by its name. The program is copied, so that any user may run it."""
     with tempfile.TemporaryDirectory() as folder:
         os.chmod(folder, 0o755)
         program = os.path.join(folder, "pcalc")
         if os.path.exists(program_of("pcalc")):
             shutil.copy(program_of("pcalc"), program)
-        for case in program_cases.cases(folder):
+        for case in itertools.chain(program_cases.cases(folder), run_cases.cases(folder)):
             settings = settings_of(case, folder)
             if case.output is None:
                 told = ran([program, *case.words], **settings)

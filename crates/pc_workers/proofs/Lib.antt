@@ -1,3 +1,4 @@
 pub mod LoggingLaws
 mod BoardCalls
+mod ClientJobs
 mod Holding

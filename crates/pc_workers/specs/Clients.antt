@@ -1,19 +1,58 @@
--- What a client's loop adds to its session.
-use Rattle.std.specs.Prelude.{◌≡◌, ◌++◌, ℕ, List, length}
+-- What a client's loop adds to its session: a receipt for each job that was committed, with what the job writes.
+use Rattle.std.specs.Prelude.{◌≡◌, ◌++◌, ℕ, Bool, true, false, List, [], ◌∷◌, Some, None, length, map}
 use Rattle.pc_types.specs.declared.Receipt.{Receipt}
+use Rattle.pc_types.specs.declared.Write.{Write}
+use Rattle.pc_model.specs.Database.{with_write}
+use Rattle.pc_model.specs.Receipts.{own_of}
+use Rattle.pc_jobs.specs.declared.works.Job.{Job}
+use Rattle.pc_jobs.specs.declared.works.Op.{Op}
+use Rattle.pc_jobs.specs.declared.works.Op.TheVariants.{Get, Put, Del}
 use Rattle.pc_shared.specs.Sitters.{Sitter}
 use Rattle.pc_workers.specs.declared.clients.Ended.{Ended}
 use Rattle.pc_workers.specs.declared.clients.Ended.TheVariants.{Committed, Died, Refused}
 
--- the session has its number still, and behind its receipts so many more
-pub record HasCommits (n : ℕ) (old new : Sitter) : Type 0 where
+-- the writes of a transaction once it has made the operation too
+abbrev pub wrote : List Write → Op → List Write
+wrote writes (Get key) = writes
+wrote writes (Put key value) = with_write writes (record { key = key; value = Some value })
+wrote writes (Del key) = with_write writes (record { key = key; value = None })
+
+-- and once it has made all of these
+abbrev pub wrote_all : List Write → List Op → List Write
+wrote_all writes [] = writes
+wrote_all writes (op ∷ ops) = wrote_all (wrote writes op) ops
+
+-- what a job writes: of each key the last write, the keys as they were first written
+abbrev pub writes_of : Job → List Write
+writes_of job = wrote_all [] job.ops
+
+-- what the session's transaction has written, by its history
+abbrev pub written_by : Sitter → List Write
+written_by s = (own_of s.number s.seen).writes
+
+-- the session has its number still, and behind its receipts one with each of these lists of writes
+pub record HasCommitted (done : List (List Write)) (old new : Sitter) : Type 0 where
   pub number : new.number ≡ old.number
   pub more : List Receipt
   pub receipts : new.receipts ≡ old.receipts ++ more
-  pub count : length more ≡ n
+  pub writes : map (λ (r : Receipt). r.writes) more ≡ done
 
--- how many commits a transaction has that ended so
-abbrev pub commits_of : Ended → ℕ
-commits_of Committed = 1
-commits_of Died = 0
-commits_of Refused = 0
+-- what is committed of a transaction with these writes that ended so
+abbrev pub done_by : Ended → List Write → List (List Write)
+done_by Committed writes = writes ∷ []
+done_by Died writes = []
+done_by Refused writes = []
+
+-- the writes of the jobs that are marked
+abbrev pub marked : List Bool → List Job → List (List Write)
+marked [] jobs = []
+marked (mark ∷ marks) [] = []
+marked (true ∷ marks) (job ∷ jobs) = writes_of job ∷ marked marks jobs
+marked (false ∷ marks) (job ∷ jobs) = marked marks jobs
+
+-- Of the jobs those that are marked were committed in their order, so many, and the others given up.
+pub record HasRun (jobs : List Job) (commits : ℕ) (old new : Sitter) : Type 0 where
+  pub marks : List Bool
+  pub one_each : length marks ≡ length jobs
+  pub committed : HasCommitted (marked marks jobs) old new
+  pub count : length (marked marks jobs) ≡ commits

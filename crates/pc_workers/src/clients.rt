@@ -1,6 +1,6 @@
 //! A client's loop: a session runs jobs, each as a transaction.
-ghost use Rattle.std.specs.Prelude.{◌≡◌, ◌<◌, ◌-◌, ◌^◌, ◌+◌, length};
-ghost use Rattle.pc_workers.specs.Clients.{HasCommits, commits_of};
+ghost use Rattle.std.specs.Prelude.{◌≡◌, ◌≢◌, ◌<◌, ◌-◌, ◌^◌, ◌+◌, true, [], length, IfOk};
+ghost use Rattle.pc_workers.specs.Clients.{HasCommitted, HasRun, done_by, written_by, wrote, wrote_all, writes_of};
 
 use pc_jobs::{Job, Op};
 use pc_shared::{Answer, Session, Shared};
@@ -20,7 +20,7 @@ impl Count {
     // Counts a job that ended so.
     fn note(&mut self, ended: Ended)
         requires { self.old.commits + self.old.given_up < 2 ^ 64 - 1 }
-        ensures commits { self.new.commits ≡ self.old.commits + commits_of ended }
+        ensures commits { self.new.commits ≡ self.old.commits + length (done_by ended []) }
         ensures all { self.new.commits + self.new.given_up ≡ self.old.commits + self.old.given_up + 1 }
     {
         match ended {
@@ -52,7 +52,8 @@ fn make<N: StoreName, R: Wait>(
     session: &mut Session<N>,
     op: &Op,
 ) -> Result<Answer, Refusal>
-    ensures { HasCommits 0 session.old session.new }
+    ensures receipts { HasCommitted [] session.old session.new }
+    ensures wrote { IfOk result (λ answer. answer ≢ Answer.Died → written_by session.new ≡ wrote (written_by session.old) op.now) }
 {
     match op {
         Op::Get(key) => {
@@ -80,7 +81,8 @@ fn make_all<N: StoreName, R: Wait, G: Gate>(
     ops: &[Op],
     gate: &G,
 ) -> Result<bool, Refusal>
-    ensures { HasCommits 0 session.old session.new }
+    ensures receipts { HasCommitted [] session.old session.new }
+    ensures wrote { IfOk result (λ all. all ≡ true → written_by session.new ≡ wrote_all (written_by session.old) ops.now) }
 {
     let number = session.number();
     let mut step = 0u32;
@@ -104,7 +106,7 @@ fn transact<N: StoreName, R: Wait, G: Gate>(
     ops: &[Op],
     gate: &G,
 ) -> Ended
-    ensures { HasCommits (commits_of result) session.old session.new }
+    ensures { HasCommitted (done_by result (wrote_all [] ops.now)) session.old session.new }
 {
     let number = session.number();
     gate.pass(Place::Start(number));
@@ -132,7 +134,7 @@ fn attempt<N: StoreName, R: Wait, G: Gate>(
     ops: &[Op],
     gate: &G,
 ) -> Ended
-    ensures { HasCommits (commits_of result) session.old session.new }
+    ensures { HasCommitted (done_by result (wrote_all [] ops.now)) session.old session.new }
 {
     match transact(rt, alloc, shared, session, ops, gate) {
         Ended::Committed => Ended::Committed,
@@ -152,7 +154,7 @@ fn run<N: StoreName, R: Wait, G: Gate>(
     job: &Job,
     gate: &G,
 ) -> Ended
-    ensures { HasCommits (commits_of result) session.old session.new }
+    ensures { HasCommitted (done_by result (writes_of job.now)) session.old session.new }
 {
     for _ in 0..MOST_TRIES {
         match attempt(rt, alloc, shared, session, job.ops.as_slice(), gate) {
@@ -166,7 +168,7 @@ fn run<N: StoreName, R: Wait, G: Gate>(
 /// The session runs the jobs in order, each as a transaction. Where a request died the transaction is aborted and the job is
 /// begun again, at most 10,000 times in all; after that, and after any refusal, its open transaction is aborted and the job is
 /// given up. Want of memory for the copy of a key or a value counts as a refusal. Answers how many jobs were committed, each of
-/// which has added a receipt, and how many were given up.
+/// which has added a receipt with what the job writes, in their order, and how many were given up.
 pub fn client_loop<N: StoreName, R: Wait, G: Gate>(
     rt: &R,
     alloc: Global,
@@ -175,7 +177,7 @@ pub fn client_loop<N: StoreName, R: Wait, G: Gate>(
     jobs: &[Job],
     gate: &G,
 ) -> Count
-    ensures commits { HasCommits result.commits session.old session.new }
+    ensures run { HasRun jobs.now result.commits session.old session.new }
     ensures receipts { length session.new.receipts ≡ length session.old.receipts + result.commits }
     ensures all { result.commits + result.given_up ≡ length jobs.now }
 {

@@ -1,8 +1,11 @@
-//! The files of a folder that recovery reads.
+//! The files of a folder: those that recovery reads, and those that a run makes.
 use crate::late::LateFile;
+use pc_runs::{FileName, NewFiles, part_name};
 use pc_script::{Folder, NamedFile};
 use pc_types::Refusal;
 use std::alloc::{AllocError, Global};
+use std::fs::File;
+use std::io::BufWriter;
 use std::string::String;
 use std::{fs, io};
 
@@ -74,4 +77,37 @@ fn late_files<'a>(
         files.push(NamedFile { name, opened })?;
     }
     Ok(files)
+}
+
+/// A folder in which a run makes its files, by its path. What a file had that stood there before is lost.
+#[derive(Drop)]
+pub struct NewFolder<'a> {
+    pub rt: &'a HostRuntime,
+    pub path: &'a str,
+}
+
+impl<'a> NewFiles<BufWriter<File>> for NewFolder<'a> {
+    fn make(&self, name: &FileName) -> Result<BufWriter<File>, Refusal> {
+        let alloc = self.rt.alloc();
+        let path = match name {
+            FileName::Base => path_of(alloc, self.path, "base.pcb")?,
+            FileName::Log => path_of(alloc, self.path, "log.pcl")?,
+            FileName::Part(point) => {
+                let bytes = part_name(*point);
+                let Ok(name) = str::from_utf8(&bytes) else {
+                    return Err(Refusal::Device);
+                };
+                path_of(alloc, self.path, name)?
+            }
+        };
+        let file = match fs::create(self.rt, path.as_str()) {
+            Ok(file) => file,
+            Err(e) if e.kind() == io::ErrorKind::OutOfMemory => return Err(Refusal::OutOfMemory),
+            Err(_) => return Err(Refusal::Device),
+        };
+        match BufWriter::new(alloc, file) {
+            Ok(file) => Ok(file),
+            Err(_) => Err(Refusal::OutOfMemory),
+        }
+    }
 }

@@ -1,18 +1,22 @@
-//! Runs a script of transactions against a store, joins part files, or recovers what a folder's files are worth.
+//! Runs a script of transactions or a workload of clients against a store, joins part files, or recovers what a folder's files
+//! are worth.
 #![tactic(auto)]
 
 mod folder;
 mod late;
 mod options;
 mod parts;
+mod progress;
 
 use clap::error::ErrorKind;
-use folder::{open_folder, why_not};
-use options::{CollapseOptions, StepOptions, Task, task_of};
+use folder::{NewFolder, open_folder, why_not};
+use options::{CollapseOptions, RunOptions, StepOptions, Task, task_of};
 use parts::{NewFile, open_parts};
 use pc_collapse_files::{Inputs, run_collapse};
-use pc_script::{run_recover, run_script};
+use pc_runs::{Crew, run_workload};
+use pc_script::{NamedFile, run_recover, run_script};
 use pc_types::{Refusal, Tally};
+use progress::Progress;
 use std::fs::File;
 use std::io::BufWriter;
 use std::process::ExitCode;
@@ -56,8 +60,30 @@ fn run_task<H: Threads + Wait + Sync>(rt: &HostRuntime, threads: &H, task: Task)
     match task {
         Task::Step(options) => {
             let StepOptions { script, setup } = options;
-            let opened = open_script(rt, script);
+            let opened = open_named(rt, script);
             Ok(run_script(alloc, setup, script, opened, &mut out, &mut errors))
+        }
+        Task::Run(options) => {
+            let RunOptions {
+                workload,
+                workers,
+                collapsers,
+                folder,
+                is_quiet,
+            } = options;
+            let name = Vec::from_slice(alloc, workload.as_bytes())?;
+            let opened = open_named(rt, workload);
+            let file = NamedFile { name, opened };
+            let progress = Progress::new(rt, is_quiet);
+            let crew = Crew {
+                workers,
+                collapsers,
+                gate: &progress,
+            };
+            let folder = folder.map(|path| NewFolder { rt, path });
+            let status = run_workload(threads, alloc, file, &crew, folder, &mut out, &mut errors);
+            progress.end();
+            Ok(status)
         }
         Task::Collapse(options) => {
             let CollapseOptions {
@@ -78,9 +104,9 @@ fn run_task<H: Threads + Wait + Sync>(rt: &HostRuntime, threads: &H, task: Task)
     }
 }
 
-// The file of the script, or why it can't be opened.
-fn open_script(rt: &HostRuntime, script: &str) -> Result<File, Refusal> {
-    match fs::open(rt, script) {
+// The file of this path, or why it can't be opened.
+fn open_named(rt: &HostRuntime, path: &str) -> Result<File, Refusal> {
+    match fs::open(rt, path) {
         Ok(file) => Ok(file),
         Err(e) => Err(why_not(&e)),
     }

@@ -1,9 +1,11 @@
 //! The command line.
 ghost use Rattle.std.specs.Prelude.{◌≤◌};
 ghost use Rattle.pc_collapse.specs.declared.limits.TheConstants.{MOST_COLLAPSERS};
+ghost use Rattle.pc_runs.specs.declared.crew.TheConstants.{MOST_WORKERS};
 
 use clap::{Arg, ArgAction, ArgMatches, Command, Error};
 use pc_collapse::MOST_COLLAPSERS;
+use pc_runs::MOST_WORKERS;
 use pc_script::Setup;
 use pc_types::{MOST_KEYS, MOST_SESSIONS};
 use std::alloc::{AllocError, Global};
@@ -32,11 +34,29 @@ pub struct CollapseOptions<'a> {
     ghost in_range: { (1 ≤ collapsers) × (collapsers ≤ MOST_COLLAPSERS) },
 }
 
+/// What `pcalc run` is asked to do.
+#[derive(Drop)]
+pub struct RunOptions<'a> {
+    /// The file of the workload.
+    pub workload: &'a str,
+    /// How many workers run the clients, 1 to 64.
+    pub workers: u8,
+    /// How many collapsers join the points' files, 1 to 64.
+    pub collapsers: u8,
+    /// The folder to which the files are written, if any.
+    pub folder: Option<&'a str>,
+    /// Whether nothing is to be shown while it runs.
+    pub is_quiet: bool,
+    ghost in_range: { (1 ≤ workers) × (workers ≤ MOST_WORKERS) × (1 ≤ collapsers) × (collapsers ≤ MOST_COLLAPSERS) },
+}
+
 /// What the program is asked to do.
 #[derive(Drop)]
 pub enum Task<'a> {
     /// `pcalc step`.
     Step(StepOptions<'a>),
+    /// `pcalc run`.
+    Run(RunOptions<'a>),
     /// `pcalc collapse`.
     Collapse(CollapseOptions<'a>),
     /// `pcalc recover` of the files of this folder.
@@ -48,6 +68,9 @@ pub fn task_of<'a>(alloc: Global, words: &'a [&'a str]) -> Result<Option<Task<'a
     let matches = command(alloc)?.try_get_matches_from(words)?;
     if let Some(matches) = matches.subcommand_matches("step") {
         return Ok(options_of(matches).map(|options| Task::Step(options)));
+    }
+    if let Some(matches) = matches.subcommand_matches("run") {
+        return Ok(run_options_of(matches).map(|options| Task::Run(options)));
     }
     if let Some(matches) = matches.subcommand_matches("collapse") {
         return Ok(collapse_options_of(alloc, matches)?.map(|options| Task::Collapse(options)));
@@ -65,6 +88,7 @@ fn command<'a>(alloc: Global) -> Result<Command<'a>, Error> {
             .version(VERSION)
             .subcommand_required(true)
             .subcommand(step_command(alloc)?)?
+            .subcommand(run_command(alloc)?)?
             .subcommand(collapse_command(alloc)?)?
             .subcommand(recover_command(alloc)?)?,
     )
@@ -113,6 +137,40 @@ fn run_arg<'a>(alloc: Global) -> Arg<'a> {
         .help("The run's number, 1 to 2147483647")
         .value_parser(clap::value_parser!(u32).range(1..=2_147_483_647))
         .default_value("1")
+}
+
+fn run_command<'a>(alloc: Global) -> Result<Command<'a>, Error> {
+    let workload = Arg::new(alloc, "WORKLOAD")
+        .help("The workload's file")
+        .required(true)
+        .action(ArgAction::Set);
+    let folder = Arg::new(alloc, "dir")
+        .long("dir")
+        .value_name("DIR")
+        .help("A folder to which base.pcb, the points' part files and log.pcl are written")
+        .action(ArgAction::Set);
+    let quiet = Arg::new(alloc, "quiet")
+        .long("quiet")
+        .help("Shows nothing on a terminal while it runs")
+        .action(ArgAction::SetTrue);
+    Ok(
+        Command::new(alloc, "run")
+            .about("Runs clients on threads beside a checkpointer and collapsers")
+            .arg(workload)?
+            .arg(workers_arg(alloc))?
+            .arg(collapsers_arg(alloc))?
+            .arg(folder)?
+            .arg(quiet)?,
+    )
+}
+
+fn workers_arg<'a>(alloc: Global) -> Arg<'a> {
+    Arg::new(alloc, "workers")
+        .long("workers")
+        .value_name("N")
+        .help("To how many threads the clients are dealt, 1 to 64")
+        .value_parser(clap::value_parser!(u8).range(1..=i64::from(MOST_WORKERS)))
+        .default_value("4")
 }
 
 fn collapse_command<'a>(alloc: Global) -> Result<Command<'a>, Error> {
@@ -175,6 +233,24 @@ fn options_of<'a>(matches: &ArgMatches<'a>) -> Option<StepOptions<'a>> {
         capacity,
     };
     Some(StepOptions { script, setup })
+}
+
+fn run_options_of<'a>(matches: &ArgMatches<'a>) -> Option<RunOptions<'a>> {
+    let workload = matches.get_str("WORKLOAD")?;
+    let workers = matches.get_one::<u8>("workers")?;
+    let collapsers = matches.get_one::<u8>("collapsers")?;
+    if workers < 1 || MOST_WORKERS < workers || collapsers < 1 || MOST_COLLAPSERS < collapsers {
+        return None;
+    }
+    let folder = matches.get_str("dir");
+    let is_quiet = matches.get_flag("quiet");
+    Some(RunOptions {
+        workload,
+        workers,
+        collapsers,
+        folder,
+        is_quiet,
+    })
 }
 
 fn collapse_options_of<'a>(

@@ -1,6 +1,10 @@
-use Rattle.pc_workers.specs.Clients.{HasCommits}
+use Rattle.std.proofs.Common.{◌≡◌, [], take}
+use Rattle.pc_workers.specs.Clients.{HasCommitted, written_by, wrote_all}
 use Rattle.pc_workers.proofs.clients.make_all.Given as goal
 
--- nothing was committed
+-- nothing was committed, and the transaction has written what the operations so far write
 abbrev pub invariant-loop-op : goal.invariant-loop-op
-invariant-loop-op g l = HasCommits 0 l.fn.session l.session
+invariant-loop-op g l = record {
+  committed : HasCommitted [] l.fn.session l.session;
+  wrote : written_by l.session ≡ wrote_all (written_by l.fn.session) (take l.op-index l.ops);
+}

@@ -1,0 +1,3 @@
+mod CoverLaws
+mod HistoryLaws
+pub mod NewPasses

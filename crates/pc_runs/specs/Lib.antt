@@ -1,0 +1,4 @@
+pub mod Covers
+pub mod Dealing
+pub mod Names
+pub mod Runs

@@ -1,0 +1,86 @@
+//! Why a run failed, and what is told of it.
+ghost use Rattle.std.specs.Prelude.{◌≡◌, IfErr, OnOk};
+ghost use Rattle.std.specs.Io.KnownBytes.{Appends};
+ghost use Rattle.pc_types.specs.Counted.{HasRisen, AppendsBeginning};
+ghost use Rattle.pc_types.specs.Tallies.{inner_of, failures_of};
+ghost use Rattle.pc_types.specs.declared.refusal.Refusal.TheVariants.{OutOfMemory};
+ghost use Rattle.pc_outcomes.specs.Outcomes.{printed_text};
+ghost use Rattle.pc_runs.specs.Runs.{IsTold};
+
+use crate::files::FileName;
+use pc_outcomes::Printed;
+use pc_script::report;
+use pc_types::{Refusal, Tally};
+use std::alloc::{AllocError, AllocFailed};
+use std::io::Write;
+
+/// Why a run failed.
+#[derive(Clone, Copy, Debug, PartialEq, Eq)]
+pub enum Fault {
+    /// The workload can't be had, a file can't be written, memory ran out, or another call was refused.
+    Refused(Refusal),
+    /// The file can't be made.
+    Unmade(FileName, Refusal),
+    /// A thread can't be started.
+    NoThread,
+    /// The output failed.
+    Output,
+}
+
+impl From<Refusal> for Fault {
+    ghost use Rattle.pc_runs.specs.declared.fault.Fault.TheVariants.{Refused};
+
+    ghost from_gives = { λ why fault. fault ≡ Refused why };
+
+    fn from(why: Refusal) -> Fault {
+        Fault::Refused(why)
+    }
+}
+
+impl From<AllocError> for Fault {
+    ghost use Rattle.pc_runs.specs.declared.fault.Fault.TheVariants.{Refused};
+
+    ghost from_gives = { λ _ fault. fault ≡ Refused OutOfMemory };
+
+    fn from(_e: AllocError) -> Fault {
+        Fault::Refused(Refusal::OutOfMemory)
+    }
+}
+
+impl<T: Drop> From<AllocFailed<T>> for Fault {
+    ghost use Rattle.pc_runs.specs.declared.fault.Fault.TheVariants.{Refused};
+
+    ghost from_gives = { λ _ fault. fault ≡ Refused OutOfMemory };
+
+    fn from(_e: AllocFailed<T>) -> Fault {
+        Fault::Refused(Refusal::OutOfMemory)
+    }
+}
+
+/// Writes the lines out, or else the output has failed, and a beginning went out.
+pub fn print<W: Write>(printed: &Printed, out: &mut Tally<W>) -> Result<(), Fault>
+    ensures printed { OnOk result (Appends (W.contents (inner_of out.old)) (W.contents (inner_of out.new)) (printed_text printed.now) × (failures_of out.new ≡ failures_of out.old)) }
+    ensures failed { IfErr result (λ why. (why ≡ Fault.Output) × HasRisen (failures_of out.old) (failures_of out.new)
+        × AppendsBeginning (W.contents (inner_of out.old)) (W.contents (inner_of out.new)) (printed_text printed.now)) }
+{
+    let put = printed.put(out);
+    let flushed = out.flush();
+    match put {
+        Ok(()) if flushed.is_ok() => Ok(()),
+        _ => Err(Fault::Output),
+    }
+}
+
+impl Fault {
+    /// Writes the line that tells why a run failed, by the name of its workload or of a file; of an output that failed nothing.
+    pub fn report<E: Write>(self, workload: &[u8], errors: &mut Tally<E>)
+        ensures { IsTold E.contents errors.old errors.new workload.now self }
+    {
+        let _ = match self {
+            Fault::Refused(why) => report(workload, why, errors),
+            Fault::Unmade(file, why) => file.report(why, errors),
+            Fault::NoThread => errors.put_all(&[b"pcalc: ", workload, b": NoThread\n"]),
+            Fault::Output => Ok(()),
+        };
+    }
+}

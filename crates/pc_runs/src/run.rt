@@ -1,0 +1,155 @@
+//! A run of a workload, from its reader to the status.
+ghost use Rattle.std.specs.Prelude.{◌≡◌, ◌≢◌, ◌⊎◌, IsOk, IfOk, IfErr, OnOk};
+ghost use Rattle.pc_runs.specs.Runs.{GoesOut, IsAnswer, IsCause, IsRun, IsTold, IsUnanswered, run_setting};
+ghost use Rattle.pc_runs.specs.declared.fault.Fault.{Fault};
+
+use crate::crew::Crew;
+use crate::fault::{Fault, print};
+use crate::files::{NewFiles, begin_files};
+use crate::store::run_store;
+use pc_jobs::{Reading, Workload, read_workload};
+use pc_outcomes::{Outcome, Printed};
+use pc_part::Base;
+use pc_script::{NamedFile, read_opened};
+use pc_shared::Opened;
+use pc_types::{Gate, Refusal, Tally};
+use std::alloc::Global;
+use std::io::{Read, Write};
+use std::marker::Brand;
+use std::sync::Wait;
+use std::thread::Threads;
+
+// What the store of a run is opened with.
+const SESSIONS: u8 = 64;
+
+const CAPACITY: u32 = 65_536;
+
+const RUN: u64 = 1;
+
+// The status of a run that didn't fail.
+const DONE: u8 = 0;
+
+const BAD_LINE: u8 = 3;
+
+/// Reads a workload, runs its clients on threads beside a checkpointer and collapsers, and prints what they leave: how many
+/// transactions were committed and given up, how many points were taken, the file of all points, and whether the files are
+/// right by the log. It gives the status
+///
+/// - 0 where all of that was done;
+/// - 3 where the workload has a bad line, whose number is printed: nothing is run;
+/// - else 1, and a line on the error writer tells why: the workload isn't there, can't be read or is too large for memory, a
+///   file of the folder can't be made or written, a thread can't be started, or a call was refused. Of an output that fails
+///   nothing is told.
+///
+/// Where there is a folder, the base, the log and the file of each point are written to it; the log as it grows.
+pub fn run_workload<
+    R: Read + Drop,
+    F: Write + Drop + Send,
+    D: NewFiles<F> + Drop,
+    W: Write,
+    E: Write,
+    G: Gate + Sync,
+    H: Threads + Wait + Sync,
+>(
+    rt: &H,
+    alloc: Global,
+    workload: NamedFile<R>,
+    crew: &Crew<'_, G>,
+    folder: Option<D>,
+    out: &mut Tally<W>,
+    errors: &mut Tally<E>,
+) -> u8
+    ensures status { (result ≡ 0) ⊎ (result ≡ 1) ⊎ (result ≡ 3) }
+    ensures opened { ¬ (result ≡ 1) → IsOk workload.opened }
+    ensures printed { ¬ (result ≡ 1) → GoesOut R.remaining W.contents workload.opened out.old out.new result × (errors.new ≡ errors.old) }
+    ensures cause { result ≡ 1 → (fault : Fault) × IsCause R.remaining W.contents workload.opened out.old out.new fault
+        × IsTold E.contents errors.old errors.new workload.name.items fault }
+{
+    let NamedFile { name, opened } = workload;
+    match run_opened(rt, alloc, opened, crew, folder, out) {
+        Ok(status) => status,
+        Err(fault) => {
+            fault.report(&name, errors);
+            1
+        }
+    }
+}
+
+// What is printed of the workload goes out; the status.
+fn run_opened<
+    R: Read + Drop,
+    F: Write + Drop + Send,
+    D: NewFiles<F> + Drop,
+    W: Write,
+    G: Gate + Sync,
+    H: Threads + Wait + Sync,
+>(
+    rt: &H,
+    alloc: Global,
+    opened: Result<R, Refusal>,
+    crew: &Crew<'_, G>,
+    folder: Option<D>,
+    out: &mut Tally<W>,
+) -> Result<u8, Fault>
+    ensures opened { OnOk result (IsOk opened) }
+    ensures printed { IfOk result (λ status. GoesOut R.remaining W.contents opened out.old out.new status) }
+    ensures cause { IfErr result (IsCause R.remaining W.contents opened out.old out.new) }
+{
+    let printed = answer(rt, alloc, opened, crew, folder)?;
+    print(&printed, out)?;
+    Ok(printed.status())
+}
+
+// What is to be printed of the workload: the first bad line, or what its run left.
+fn answer<
+    R: Read + Drop,
+    F: Write + Drop + Send,
+    D: NewFiles<F> + Drop,
+    G: Gate + Sync,
+    H: Threads + Wait + Sync,
+>(
+    rt: &H,
+    alloc: Global,
+    opened: Result<R, Refusal>,
+    crew: &Crew<'_, G>,
+    folder: Option<D>,
+) -> Result<Printed, Fault>
+    ensures opened { OnOk result (IsOk opened) }
+    ensures answer { IfOk result (IsAnswer R.remaining opened) }
+    ensures cause { IfErr result (IsUnanswered opened) }
+{
+    let text = read_opened(alloc, opened)?;
+    match read_workload(alloc, &text)? {
+        Reading::BadLine(line) => Ok(Printed::BadLine(line)),
+        Reading::Runs(workload) => {
+            let outcome = run_read(rt, alloc, workload, crew, folder)?;
+            Ok(Printed::Whole(outcome))
+        }
+    }
+}
+
+// Runs the workload over a new store.
+fn run_read<
+    F: Write + Drop + Send,
+    D: NewFiles<F> + Drop,
+    G: Gate + Sync,
+    H: Threads + Wait + Sync,
+>(
+    rt: &H,
+    alloc: Global,
+    workload: Workload,
+    crew: &Crew<'_, G>,
+    folder: Option<D>,
+) -> Result<Outcome, Fault>
+    ensures points { IfOk result (λ outcome. outcome.points ≡ workload.points) }
+    ensures run { IfOk result (IsRun run_setting) }
+    ensures cause { IfErr result (λ fault. fault ≢ Fault.Output) }
+{
+    let base = Base::start(RUN, Vec::new(alloc));
+    let log = match &folder {
+        Some(folder) => Some(begin_files(folder, &base)?),
+        None => None,
+    };
+    let opened = Opened::new(alloc, base, SESSIONS, CAPACITY)?;
+    run_store::<Brand, F, D, G, H>(rt, alloc, opened, workload, crew, &folder, log)
+}

@@ -1,0 +1,378 @@
+//! A store of a workload, from its opening to what it leaves.
+ghost use Rattle.std.specs.Prelude.{◌≡◌, ◌≢◌, ◌≤◌, ◌<◌, ◌&&◌, nat_le, All, length, drop, IfOk, IfErr};
+ghost use Rattle.pc_model.specs.History.{History};
+ghost use Rattle.pc_board.specs.Passes.{IsOfBoard};
+ghost use Rattle.pc_outcomes.specs.Leaving.{AreLeftAfter};
+ghost use Rattle.pc_model.specs.Sets as set;
+ghost use Rattle.pc_part.specs.Parts.{covers};
+ghost use Rattle.pc_workers.specs.Collapsing.{has_point};
+ghost use Rattle.pc_runs.specs.Covers.{HaveAllTo};
+ghost use Rattle.pc_runs.specs.Runs.{IsOfHistory, IsRun};
+ghost use Rattle.pc_runs.specs.declared.fault.Fault.TheVariants as Fault;
+
+use crate::clients::{Dealt, Worker, deal};
+use crate::crew::Crew;
+use crate::fault::Fault;
+use crate::files::{NewFiles, flush, write_part};
+use crate::room::{Room, Seat};
+use crate::threads::{Collapser, Hands, Logger, Rested, Written, run_threads};
+use pc_board::{Board, BoardPass};
+use pc_jobs::Workload;
+use pc_outcomes::{Left, Outcome, commits_in, left_by};
+use pc_part::{Part, Range, SharedPart};
+use pc_shared::{Closed, Opened, PartTicket, Session, Shared};
+use pc_tie::StoreName;
+use pc_types::{FileNo, Gate, Point, Refusal, Tally};
+use pc_workers::log_rest;
+use std::alloc::{AllocError, Global};
+use std::io::Write;
+use std::mem;
+use std::sync::Wait;
+use std::thread::Threads;
+
+// What the threads leave of a store: its sessions, and tickets of its files.
+#[derive(Drop)]
+struct Ended<N: StoreName> {
+    sessions: Vec<Session<N>>,
+    given_up: u64,
+    // A ticket of each point, where its file is to be written, and behind them tickets that are to be joined.
+    tickets: Vec<PartTicket<N>>,
+    // How many of the tickets are of a point whose file is to be written.
+    singles: usize,
+    ghost within: { singles ≤ length tickets.items },
+}
+
+// The collapsers, each with a pass of the board.
+fn seat_collapsers<'a>(
+    alloc: Global,
+    board: &'a Board,
+    passes: Vec<BoardPass>,
+) -> Result<Vec<Collapser<'a>>, AllocError>
+    requires { All (λ pass. IsOfBoard pass board.now) passes.items }
+{
+    let mut collapsers = Vec::new(alloc);
+    let mut number = 0u8;
+    for pass in passes {
+        let seat = Seat { board, pass };
+        collapsers.push(Collapser { number, seat })?;
+        number = number.wrapping_add(1);
+    }
+    Ok(collapsers)
+}
+
+// The workers with the collapsers, and the last of the passes for the checkpointer.
+fn hands_of<'a, N: StoreName>(
+    alloc: Global,
+    board: &'a Board,
+    passes: Vec<BoardPass>,
+    workers: Vec<Worker<N>>,
+) -> Result<Hands<'a, N>, AllocError>
+    requires some { 0 < length passes.items }
+    requires ours { All (λ pass. IsOfBoard pass board.now) passes.items }
+{
+    let mut passes = passes;
+    let Some(pass) = passes.pop() else {
+        unreachable!();
+    };
+    let checkpointer = Seat { board, pass };
+    let collapsers = seat_collapsers(alloc, board, passes)?;
+    Ok(Hands {
+        checkpointer,
+        workers,
+        collapsers,
+    })
+}
+
+// A ticket of each point.
+fn take_singles<N: StoreName, R: Wait>(
+    rt: &R,
+    alloc: Global,
+    shared: &Shared<N>,
+    points: u32,
+) -> Result<Vec<PartTicket<N>>, Refusal> {
+    let mut tickets = Vec::new(alloc);
+    for others in 0..points {
+        tickets.push(shared.take_part(rt, FileNo(others + 1))?)?;
+    }
+    Ok(tickets)
+}
+
+fn add_sessions<N: StoreName>(
+    sessions: &mut Vec<Session<N>>,
+    worker: Worker<N>,
+) -> Result<(), AllocError> {
+    for seated in worker.seats {
+        sessions.push(seated.session)?;
+    }
+    Ok(())
+}
+
+// The sessions of all clients join the others. How many jobs their workers gave up.
+fn gather<N: StoreName>(
+    sessions: &mut Vec<Session<N>>,
+    workers: Vec<Worker<N>>,
+) -> Result<u64, AllocError> {
+    let mut given_up = 0u64;
+    for worker in workers {
+        given_up = given_up.saturating_add(worker.count.given_up);
+        add_sessions(sessions, worker)?;
+    }
+    Ok(given_up)
+}
+
+// Whether the point is in the range.
+fn is_within(range: &Range, point: u32) -> bool
+    ensures { result ≡ (nat_le range.now.low point && nat_le point range.now.high) }
+{
+    u32::from(range.low.0) <= point && point <= u32::from(range.high.0)
+}
+
+// Whether one of the ranges has the point.
+fn is_in_some(ranges: &[Range], point: u32) -> bool
+    ensures { result ≡ covers ranges.now point }
+{
+    ranges.iter().any(|range| is_within(range, point))
+}
+
+// Whether the part has the point.
+fn covers(part: &Part, point: u32) -> bool
+    ensures { result ≡ set.contains part.now.points point }
+{
+    let own = part.ranges();
+    is_in_some(own, point)
+}
+
+// Whether one of the tickets' files has the point.
+fn has_point<N: StoreName>(tickets: &[PartTicket<N>], point: u32) -> bool
+    ensures { result ≡ has_point tickets.now point }
+{
+    tickets.iter().any(|ticket| covers(ticket.part(), point))
+}
+
+// The tickets, and behind them one of each point up to this that none of them has.
+fn with_missing<N: StoreName, R: Wait>(
+    rt: &R,
+    shared: &Shared<N>,
+    held: Vec<PartTicket<N>>,
+    points: u32,
+) -> Result<Vec<PartTicket<N>>, Refusal>
+    ensures { IfOk result (λ tickets. HaveAllTo points tickets.items) }
+{
+    let mut tickets = held;
+    for others in 0..points {
+        let point = others + 1;
+        if !has_point(&tickets, point) {
+            tickets.push(shared.take_part(rt, FileNo(point))?)?;
+        }
+    }
+    Ok(tickets)
+}
+
+// Takes back what the threads had: the sessions of all clients, and the tickets of the collapsers with those of the points that
+// they left, behind one of each point where its file is to be written.
+fn take_back<N: StoreName, R: Wait>(
+    rt: &R,
+    alloc: Global,
+    shared: &Shared<N>,
+    singles: u32,
+    points: u32,
+    idle: Vec<Session<N>>,
+    rested: Rested<N>,
+) -> Result<Ended<N>, Fault>
+    ensures cover { IfOk result (λ ended. HaveAllTo points (drop ended.singles ended.tickets.items)) }
+    ensures cause { IfErr result (λ fault. fault ≢ Fault.Output) }
+{
+    let Rested { workers, held } = rested;
+    let mut sessions = idle;
+    let given_up = gather(&mut sessions, workers)?;
+    let mut joined = with_missing(rt, shared, held, points)?;
+    let mut tickets = take_singles(rt, alloc, shared, singles)?;
+    let singles = tickets.len();
+    tickets.append(&mut joined)?;
+    Ok(Ended {
+        sessions,
+        given_up,
+        tickets,
+        singles,
+    })
+}
+
+// Runs the threads over the store.
+fn use_store<
+    N: StoreName + Send + Sync,
+    F: Write + Drop + Send,
+    G: Gate + Sync,
+    R: Threads + Wait + Sync,
+>(
+    rt: &R,
+    room: &Room<'_, N, G>,
+    dealt: Dealt<N>,
+    board: &Board,
+    passes: Vec<BoardPass>,
+    logger: Logger<N, F>,
+) -> Result<(Ended<N>, Written<N, F>), Fault>
+    requires some { 0 < length passes.items }
+    requires ours { All (λ pass. IsOfBoard pass board.now) passes.items }
+    ensures cover { IfOk result (λ r. HaveAllTo room.now.points (drop r.0.singles r.0.tickets.items)) }
+    ensures cause { IfErr result (λ fault. fault ≢ Fault.Output) }
+{
+    let Dealt { workers, idle } = dealt;
+    let singles = if logger.out.is_some() { room.points } else { 0 };
+    let hands = hands_of(room.alloc, board, passes, workers)?;
+    let (rested, written) = run_threads(rt, room, hands, logger)?;
+    let ended = take_back(
+        rt,
+        room.alloc,
+        room.shared,
+        singles,
+        room.points,
+        idle,
+        rested,
+    )?;
+    Ok((ended, written))
+}
+
+/// Runs the workload over the store, to its close, and tells what it leaves. Where there is a folder, the log is written to it
+/// beside the threads, its rest once the store is closed, and the file of each point.
+pub fn run_store<
+    N: StoreName + Send + Sync,
+    F: Write + Drop + Send,
+    D: NewFiles<F>,
+    G: Gate + Sync,
+    R: Threads + Wait + Sync,
+>(
+    rt: &R,
+    alloc: Global,
+    opened: Opened,
+    workload: Workload,
+    crew: &Crew<'_, G>,
+    folder: &Option<D>,
+    log: Option<Tally<F>>,
+) -> Result<Outcome, Fault>
+    requires { opened ≡ N.name }
+    ensures points { IfOk result (λ outcome. outcome.points ≡ workload.points) }
+    ensures run { IfOk result (IsRun N.name.setting) }
+    ensures cause { IfErr result (λ fault. fault ≢ Fault.Output) }
+{
+    let Workload { points, clients } = workload;
+    let (shared, sessions, pass) = opened.named::<N>()?;
+    let (board, passes) = Board::new(alloc, crew.collapsers + 1)?;
+    let dealt = deal(alloc, crew.workers, clients, sessions)?;
+    let room = Room {
+        alloc,
+        shared: &shared,
+        gate: crew.gate,
+        points,
+    };
+    let logger = Logger { pass, out: log };
+    let (ended, written) = use_store(rt, &room, dealt, &board, passes, logger)?;
+    let Ended {
+        sessions,
+        given_up,
+        tickets,
+        singles,
+    } = ended;
+    let Written { pass, out, ended } = written;
+    let closed = shared.close(sessions, tickets, pass);
+    ended?;
+    let left = leave(rt, alloc, closed, singles, crew, folder, out)?;
+    Ok(Outcome {
+        commits: left.commits,
+        given_up,
+        points,
+        left: left.files,
+    })
+}
+
+// What a closed store leaves.
+#[derive(Drop)]
+struct Legacy {
+    commits: u64,
+    files: Left,
+}
+
+// Writes what is left to write, and tells what the closed store leaves. So many of the tickets are of a point whose file is to
+// be written.
+fn leave<N: StoreName, F: Write + Drop, D: NewFiles<F>, G: Gate + Sync, R: Threads + Wait + Sync>(
+    rt: &R,
+    alloc: Global,
+    closed: Closed<N>,
+    singles: usize,
+    crew: &Crew<'_, G>,
+    folder: &Option<D>,
+    log: Option<Tally<F>>,
+) -> Result<Legacy, Fault>
+    requires logged { closed.logged ≤ length closed.world.log }
+    requires singles { singles ≤ length closed.parts.items }
+    requires after { (history : History) × AreLeftAfter N.name.setting history closed.world.base closed.world.log closed.parts.items }
+    ensures history { IfOk result (λ legacy. IsOfHistory N.name.setting legacy.commits (drop singles closed.parts.items) legacy.files) }
+    ensures cause { IfErr result (λ fault. fault ≢ Fault.Output) }
+{
+    finish_log(&closed, log)?;
+    let mut closed = closed;
+    let files = files_of(alloc, &mut closed)?;
+    write_parts(folder, &files[..singles])?;
+    let (base, log) = (closed.base(), closed.log());
+    let files = left_by(
+        rt,
+        alloc,
+        base,
+        log,
+        files,
+        singles,
+        crew.collapsers,
+        crew.gate,
+    )?;
+    Ok(Legacy {
+        commits: commits_in(log) as u64,
+        files,
+    })
+}
+
+// The files of the tickets.
+fn files_of<N: StoreName>(
+    alloc: Global,
+    closed: &mut Closed<N>,
+) -> Result<Vec<SharedPart>, AllocError>
+    ensures files { IfOk result (λ files. files.items ≡ closed.old.parts.items) }
+    ensures world { closed.new.world ≡ closed.old.world }
+{
+    let mut files = Vec::new(alloc);
+    for ticket in mem::replace(&mut closed.parts, Vec::new(alloc)) {
+        files.push(ticket.into_part())?;
+    }
+    Ok(files)
+}
+
+// The file of each point, where there is a folder.
+fn write_parts<F: Write + Drop, D: NewFiles<F>>(
+    folder: &Option<D>,
+    files: &[SharedPart],
+) -> Result<(), Fault>
+    ensures cause { IfErr result (λ fault. fault ≢ Fault.Output) }
+{
+    let Some(folder) = folder else {
+        return Ok(());
+    };
+    let mut point = 0u16;
+    for file in files {
+        point = point.saturating_add(1);
+        write_part(folder, Point(point), file.part())?;
+    }
+    Ok(())
+}
+
+// The rest of the log, where there is a file for it.
+fn finish_log<N: StoreName, F: Write + Drop>(
+    closed: &Closed<N>,
+    log: Option<Tally<F>>,
+) -> Result<(), Fault>
+    requires { closed.now.logged ≤ length closed.now.world.log }
+    ensures cause { IfErr result (λ fault. fault ≢ Fault.Output) }
+{
+    let Some(mut log) = log else {
+        return Ok(());
+    };
+    log_rest(closed, &mut log)?;
+    flush(&mut log)
+}

@@ -1,0 +1,229 @@
+//! The threads of a run: workers beside the checkpointer, and beside all of them collapsers and the logger.
+ghost use Rattle.std.specs.Prelude.{◌≡◌, ◌≢◌, [], IfErr};
+ghost use Rattle.pc_runs.specs.declared.fault.Fault.TheVariants as Fault;
+
+use crate::clients::Worker;
+use crate::fault::Fault;
+use crate::room::{Room, Seat};
+use pc_shared::{LogPass, PartTicket, Shared};
+use pc_tie::StoreName;
+use pc_types::{Gate, Refusal, Tally};
+use pc_workers::{checkpoint_loop, collapse_loop, log_loop};
+use std::io::Write;
+use std::sync::Wait;
+use std::thread::{self, Threads};
+
+/// A collapser: its number, from 0, and its seat at the board.
+#[derive(Drop)]
+pub struct Collapser<'a> {
+    pub number: u8,
+    pub seat: Seat<'a>,
+}
+
+/// Who runs a workload: the checkpointer at its seat, workers with their clients, and collapsers.
+#[derive(Drop)]
+pub struct Hands<'a, N: StoreName> {
+    pub checkpointer: Seat<'a>,
+    pub workers: Vec<Worker<N>>,
+    pub collapsers: Vec<Collapser<'a>>,
+}
+
+/// What they leave: the workers, and the tickets that the collapsers hold.
+#[derive(Drop)]
+pub struct Rested<N: StoreName> {
+    pub workers: Vec<Worker<N>>,
+    pub held: Vec<PartTicket<N>>,
+}
+
+/// A logger that has written nothing; without a file it isn't to write.
+#[derive(Drop)]
+pub struct Logger<N: StoreName, F: Write> {
+    pub pass: LogPass<N>,
+    pub out: Option<Tally<F>>,
+    ghost fresh: { pass ≡ [] },
+}
+
+/// What a logger has written, and whether all of it went out.
+#[derive(Drop)]
+pub struct Written<N: StoreName, F: Write> {
+    pub pass: LogPass<N>,
+    pub out: Option<Tally<F>>,
+    pub ended: Result<(), Refusal>,
+}
+
+impl<N: StoreName, F: Write> Logger<N, F> {
+    // Writes the log until the end is marked.
+    fn run<R: Wait>(self, rt: &R, shared: &Shared<N>) -> Written<N, F> {
+        let Logger { mut pass, out } = self;
+        let Some(mut out) = out else {
+            return Written {
+                pass,
+                out: None,
+                ended: Ok(()),
+            };
+        };
+        let ended = match log_loop(rt, shared, &mut pass, &mut out) {
+            Ok(_) => Ok(()),
+            Err(why) => Err(why),
+        };
+        Written {
+            pass,
+            out: Some(out),
+            ended,
+        }
+    }
+}
+
+impl<'a> Collapser<'a> {
+    // Joins the files of points as they are published. The tickets that it holds in the end.
+    fn run<N: StoreName, R: Wait, G: Gate>(
+        self,
+        rt: &R,
+        room: &Room<'_, N, G>,
+    ) -> Result<Vec<PartTicket<N>>, Refusal> {
+        let Seat { board, mut pass } = self.seat;
+        collapse_loop(
+            rt,
+            room.alloc,
+            room.shared,
+            board,
+            &mut pass,
+            self.number,
+            room.points,
+            room.gate,
+        )
+    }
+}
+
+// Takes so many points.
+fn take_points<'a, N: StoreName, G: Gate, R: Wait>(
+    rt: &R,
+    room: &Room<'_, N, G>,
+    seat: Seat<'a>,
+    points: u32,
+) -> Result<Seat<'a>, Fault>
+    ensures { IfErr result (λ fault. fault ≢ Fault.Output) }
+{
+    let Seat { board, mut pass } = seat;
+    match checkpoint_loop(rt, room.shared, board, &mut pass, points, room.gate) {
+        Ok(_) => Ok(Seat { board, pass }),
+        Err(why) => Err(Fault::Refused(why)),
+    }
+}
+
+// The workers, with all points but the last one beside them, and the last one once they have ended.
+fn run_workers<'x, N: StoreName + Send + Sync, G: Gate + Sync, R: Threads + Wait + Sync>(
+    rt: &'x R,
+    room: &'x Room<'x, N, G>,
+    seat: Seat<'x>,
+    workers: Vec<Worker<N>>,
+) -> Result<Vec<Worker<N>>, Fault>
+    ensures { IfErr result (λ fault. fault ≢ Fault.Output) }
+{
+    let handles = Vec::with_capacity(room.alloc, workers.len())?;
+    let rested = Vec::with_capacity(room.alloc, workers.len())?;
+    thread::scope(
+        thread::scope_env(),
+        rt,
+        |scope| -> Result<Vec<Worker<N>>, Fault>
+            ensures { IfErr result (λ fault. fault ≢ Fault.Output) }
+        {
+            let (mut handles, mut rested) = (handles, rested);
+            for worker in workers {
+                match scope.spawn(move || worker.run(rt, room)) {
+                    Ok(handle) => handles.push(handle)?,
+                    Err(_) => return Err(Fault::NoThread),
+                }
+            }
+            let seat = take_points(rt, room, seat, room.points.saturating_sub(1))?;
+            for handle in handles {
+                rested.push(handle.join(rt))?;
+            }
+            take_points(rt, room, seat, room.points.min(1))?;
+            Ok(rested)
+        },
+    )
+}
+
+// The workers and the points, beside the collapsers, for whom the end is marked then.
+fn run_hands<'x, N: StoreName + Send + Sync, G: Gate + Sync, R: Threads + Wait + Sync>(
+    rt: &'x R,
+    room: &'x Room<'x, N, G>,
+    hands: Hands<'x, N>,
+) -> Result<Rested<N>, Fault>
+    ensures { IfErr result (λ fault. fault ≢ Fault.Output) }
+{
+    let Hands {
+        checkpointer,
+        workers,
+        collapsers,
+    } = hands;
+    let handles = Vec::with_capacity(room.alloc, collapsers.len())?;
+    thread::scope(
+        thread::scope_env(),
+        rt,
+        |scope| -> Result<Rested<N>, Fault>
+            ensures { IfErr result (λ fault. fault ≢ Fault.Output) }
+        {
+            let mut handles = handles;
+            for collapser in collapsers {
+                match scope.spawn(move || collapser.run(rt, room)) {
+                    Ok(handle) => handles.push(handle)?,
+                    Err(_) => {
+                        room.shared.mark_end(rt);
+                        return Err(Fault::NoThread);
+                    }
+                }
+            }
+            let ended = run_workers(rt, room, checkpointer, workers);
+            room.shared.mark_end(rt);
+            let workers = ended?;
+            let mut held = Vec::new(room.alloc);
+            for handle in handles {
+                let mut tickets = handle.join(rt)?;
+                held.append(&mut tickets)?;
+            }
+            Ok(Rested { workers, held })
+        },
+    )
+}
+
+/// Runs them all, and marks the end once the workers have ended and the points are taken, or a thread can't be started or a
+/// point can't be taken. It returns once all threads have ended.
+pub fn run_threads<
+    'x,
+    N: StoreName + Send + Sync,
+    F: Write + Drop + Send,
+    G: Gate + Sync,
+    R: Threads + Wait + Sync,
+>(
+    rt: &'x R,
+    room: &'x Room<'x, N, G>,
+    hands: Hands<'x, N>,
+    logger: Logger<N, F>,
+) -> Result<(Rested<N>, Written<N, F>), Fault>
+    ensures { IfErr result (λ fault. fault ≢ Fault.Output) }
+{
+    if logger.out.is_none() {
+        let rested = run_hands(rt, room, hands)?;
+        return Ok((rested, logger.run(rt, room.shared)));
+    }
+    thread::scope(
+        thread::scope_env(),
+        rt,
+        |scope| -> Result<(Rested<N>, Written<N, F>), Fault>
+            ensures { IfErr result (λ fault. fault ≢ Fault.Output) }
+        {
+            let shared = room.shared;
+            let Ok(logging) = scope.spawn(move || logger.run(rt, shared)) else {
+                return Err(Fault::NoThread);
+            };
+            let ended = run_hands(rt, room, hands);
+            let written = logging.join(rt);
+            match ended {
+                Ok(rested) => Ok((rested, written)),
+                Err(fault) => Err(fault),
+            }
+        },
+    )
+}

@@ -1,0 +1,16 @@
+use Rattle.pc_workers.proofs.ClientJobs.{get_wrote, put_wrote, del_wrote}
+use Rattle.pc_workers.proofs.clients.make.Goals as goal
+
+pub returns-in_ok-key-in-Get-clause-wrote : goal.returns-in_ok-key-in-Get-clause-wrote
+returns-in_ok-key-in-Get-clause-wrote g c =
+    rw c.in-Get.is (get_wrote g.N.StoreName.name.setting c.args.session.now c.get.new.session c.get.ensures.number c.in_ok-key-in-Get.key c.get.result c.get.ensures.call)
+
+pub returns-in_ok-value-in-Put-clause-wrote : goal.returns-in_ok-value-in-Put-clause-wrote
+returns-in_ok-value-in-Put-clause-wrote g c =
+    rw (c.in-Put.is, ← c.in_ok-key-in-Put.ensures.copy, ← c.in_ok-value-in-Put.ensures.copy)
+    (put_wrote g.N.StoreName.name.setting c.args.session.now c.put.new.session c.put.ensures.number c.in_ok-key-in-Put.key c.in_ok-value-in-Put.value c.put.result c.put.ensures.call)
+
+pub returns-in_ok-key-in-Del-clause-wrote : goal.returns-in_ok-key-in-Del-clause-wrote
+returns-in_ok-key-in-Del-clause-wrote g c =
+    rw (c.in-Del.is, ← c.in_ok-key-in-Del.ensures.copy)
+    (del_wrote g.N.StoreName.name.setting c.args.session.now c.del.new.session c.del.ensures.number c.in_ok-key-in-Del.key c.del.result c.del.ensures.call)
