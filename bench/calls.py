@@ -3,9 +3,6 @@
 
     bench/calls.py join 1000000           the join of two parts of so many entries each, and its text
     bench/calls.py points 100 1000        so many points over so many keys: the time for a key that is taken
-    bench/calls.py locks 10000000 1000 7  so many pairs of a request and a release, over so many slots, beside so many other
-                                          requests in each queue: the time for a pair
-    bench/calls.py writes 20000 256       so many transactions of so many keys, all written twice: the time for a write
     bench/calls.py commits 500000 1000    so many transactions of one write each, over so many keys, without checkpoints and with
                                           checkpoints back to back: committed transactions a second, and the ratio
 
@@ -60,25 +57,6 @@ def measure_points(words):
         print("points %d to %d: %s" % (first + 1, first + len(some), spread("us a key taken:", some)))
 
 
-def measure_one(words, done, time, heading):
-    """The time for one of what was done, and the peak of memory, of several runs."""
-    runs = [run(words) for _ in range(RUNS)]
-    told = [dict(line.split() for line in lines) for lines, _ in runs]
-    print("%s, %d runs" % (", ".join("%s %s" % count for count in told[0].items() if count[0] != time), RUNS))
-    print(spread(heading, [int(t[time]) * 1e3 / int(t[done]) for t in told]))
-    print("peak %.1f MB" % (max(memory for _, memory in runs) / 1e6))
-
-
-def measure_locks(words):
-    """The time for a pair of a request and a release."""
-    measure_one(["locks", *words], "pairs", "pair_us", "ns a pair:")
-
-
-def measure_writes(words):
-    """The time for a write, its part of its transaction's begin and end with it."""
-    measure_one(["writes", *words], "writes", "write_us", "ns a write:")
-
-
 def measure_commits(words):
     """The rate of commits without checkpoints and with checkpoints, in turn, and the ratio of the best of each."""
     told = {"without points": [], "with points": []}
@@ -93,7 +71,7 @@ def measure_commits(words):
 
 
 def main():
-    measures = {"join": measure_join, "points": measure_points, "locks": measure_locks, "writes": measure_writes, "commits": measure_commits}
+    measures = {"join": measure_join, "points": measure_points, "commits": measure_commits}
     if len(sys.argv) < 3 or sys.argv[1] not in measures:
         sys.exit(__doc__)
     if not os.access(PROGRAM, os.X_OK):

@@ -5,26 +5,22 @@ mod commits;
 mod failure;
 mod files;
 mod joins;
-mod locks;
 mod options;
 mod points;
 mod recoveries;
 mod texts;
-mod writes;
 
 use clap::error::ErrorKind;
 use commits::{Committed, measure_commits};
 use failure::Failure;
 use files::{Filed, measure_files};
 use joins::measure_join;
-use locks::{Paired, measure_locks};
-use options::{Batches, Cycles, Options, Pairs, Restart, Rounds, Work, options_of};
+use options::{Cycles, Options, Restart, Rounds, Work, options_of};
 use points::measure_points;
 use recoveries::{Restarted, measure_recovery};
 use std::process::ExitCode;
 use std::time::Duration;
 use std::{env, io};
-use writes::{Written, measure_writes};
 
 fn main(rt: HostRuntime) -> ExitCode {
     match run_command(&rt) {
@@ -59,8 +55,6 @@ fn run_work(rt: &HostRuntime, options: &Options) -> io::Result<u8> {
     let done = match options.work {
         Work::Join { entries } => run_join(rt, entries, options.is_timed),
         Work::Points(cycles) => run_points(rt, cycles, options.is_timed),
-        Work::Locks(pairs) => run_locks(rt, pairs, options.is_timed),
-        Work::Writes(batches) => run_writes(rt, batches, options.is_timed),
         Work::Commits(rounds) => run_commits(rt, rounds, options.is_timed),
         Work::Recover(restart) => run_recover(rt, restart, options.is_timed),
         Work::Files { entries } => run_files(rt, entries, options.is_timed),
@@ -94,37 +88,6 @@ fn run_points(rt: &HostRuntime, cycles: Cycles, is_timed: bool) -> Result<(), Fa
             print!(rt; " take_us {}", cycle.taking.as_micros())?;
         }
         println!(rt; "")?;
-    }
-    Ok(())
-}
-
-fn run_locks(rt: &HostRuntime, pairs: Pairs, is_timed: bool) -> Result<(), Failure> {
-    match measure_locks(rt.alloc(), rt, pairs) {
-        Ok(done) => Ok(tell_locks(rt, &done, is_timed)?),
-        Err(why) => Err(why),
-    }
-}
-
-fn tell_locks(rt: &HostRuntime, done: &Paired, is_timed: bool) -> io::Result<()> {
-    println!(rt; "pairs {}", done.pairs)?;
-    if is_timed {
-        println!(rt; "pair_us {}", done.time.as_micros())?;
-    }
-    Ok(())
-}
-
-fn run_writes(rt: &HostRuntime, batches: Batches, is_timed: bool) -> Result<(), Failure> {
-    match measure_writes(rt.alloc(), rt, batches) {
-        Ok(done) => Ok(tell_writes(rt, &done, is_timed)?),
-        Err(why) => Err(why),
-    }
-}
-
-fn tell_writes(rt: &HostRuntime, done: &Written, is_timed: bool) -> io::Result<()> {
-    println!(rt; "writes {}", done.writes)?;
-    println!(rt; "rows {}", done.rows)?;
-    if is_timed {
-        println!(rt; "write_us {}", done.time.as_micros())?;
     }
     Ok(())
 }

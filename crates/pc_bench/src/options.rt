@@ -1,9 +1,9 @@
 //! The command line.
 ghost use Rattle.std.specs.Prelude.{◌≤◌, ◌<◌};
-ghost use Rattle.pc_types.specs.declared.limits.TheConstants.{MOST_KEYS, MOST_WRITES};
+ghost use Rattle.pc_types.specs.declared.limits.TheConstants.{MOST_KEYS};
 
 use clap::{Arg, ArgAction, ArgMatches, Command, Error};
-use pc_types::{MOST_KEYS, MOST_POINTS, MOST_WRITES};
+use pc_types::{MOST_KEYS, MOST_POINTS};
 use std::alloc::Global;
 
 /// What is measured.
@@ -13,10 +13,6 @@ pub enum Work {
     Join { entries: u32 },
     /// Cycles in each of which all keys are written and taken.
     Points(Cycles),
-    /// Pairs of a lock's request and its release.
-    Locks(Pairs),
-    /// Transactions that write keys, and end.
-    Writes(Batches),
     /// Commits of one write each, with or without checkpoints beside them.
     Commits(Rounds),
     /// Recovery from a base, parts and a log.
@@ -31,24 +27,6 @@ pub struct Cycles {
     pub points: u16,
     pub keys: u32,
     ghost in_range: { (1 ≤ keys) × (keys ≤ MOST_KEYS) },
-}
-
-/// Pairs of a request and a release, over how many slots, 1 to 1,048,576, and how many other requests
-/// stand in each queue meanwhile.
-#[derive(Clone, Copy, Debug)]
-pub struct Pairs {
-    pub pairs: u32,
-    pub slots: u32,
-    pub others: u16,
-    ghost in_range: { (1 ≤ slots) × (slots ≤ MOST_KEYS) },
-}
-
-/// Transactions, and how many keys each writes, all of them twice; at most 256.
-#[derive(Clone, Copy, Debug)]
-pub struct Batches {
-    pub transactions: u32,
-    pub keys: u16,
-    ghost in_range: { keys ≤ MOST_WRITES },
 }
 
 /// How many transactions commit, each with one write, how many keys they go round, 1 to 1,048,576, and whether
@@ -97,7 +75,7 @@ struct CommandShape {
     has_points: bool,
 }
 
-const COMMANDS: [CommandShape; 7] = [
+const COMMANDS: [CommandShape; 5] = [
     CommandShape {
         name: "join",
         about: "Joins two parts and encodes the join",
@@ -114,36 +92,6 @@ const COMMANDS: [CommandShape; 7] = [
         numbers: [
             Some(("POINTS", "Points that are taken", 1, MOST_POINTS as u32)),
             Some(("KEYS", "Keys written and taken at each", 1, MOST_KEYS)),
-            None,
-        ],
-        has_points: false,
-    },
-    CommandShape {
-        name: "locks",
-        about: "Requests and releases shared locks",
-        numbers: [
-            Some((
-                "PAIRS",
-                "Pairs of a request and a release",
-                1,
-                1_000_000_000,
-            )),
-            Some(("SLOTS", "Slots that they go round", 1, MOST_KEYS)),
-            Some(("OTHERS", "Other requests in each queue", 0, 1_000)),
-        ],
-        has_points: false,
-    },
-    CommandShape {
-        name: "writes",
-        about: "Notes the writes of transactions, which end in turn by a commit and by an abort",
-        numbers: [
-            Some(("TRANSACTIONS", "Transactions", 1, 100_000_000)),
-            Some((
-                "KEYS",
-                "Keys each of them writes twice",
-                1,
-                MOST_WRITES as u32,
-            )),
             None,
         ],
         has_points: false,
@@ -226,8 +174,6 @@ fn asked(matches: &ArgMatches) -> Option<Options> {
     let work = match name {
         "join" => join_of(matches)?,
         "points" => points_of(matches)?,
-        "locks" => locks_of(matches)?,
-        "writes" => writes_of(matches)?,
         "commits" => commits_of(matches)?,
         "recover" => recover_of(matches)?,
         "files" => files_of(matches)?,
@@ -248,29 +194,6 @@ fn points_of(matches: &ArgMatches) -> Option<Work> {
         return None;
     }
     Some(Work::Points(Cycles { points, keys }))
-}
-
-fn locks_of(matches: &ArgMatches) -> Option<Work> {
-    let pairs = matches.get_one::<u32>("PAIRS")?;
-    let slots = matches.get_one::<u32>("SLOTS")?;
-    let others = u16::try_from(matches.get_one::<u32>("OTHERS")?).ok()?;
-    if slots < 1 || MOST_KEYS < slots {
-        return None;
-    }
-    Some(Work::Locks(Pairs {
-        pairs,
-        slots,
-        others,
-    }))
-}
-
-fn writes_of(matches: &ArgMatches) -> Option<Work> {
-    let transactions = matches.get_one::<u32>("TRANSACTIONS")?;
-    let keys = u16::try_from(matches.get_one::<u32>("KEYS")?).ok()?;
-    if MOST_WRITES < usize::from(keys) {
-        return None;
-    }
-    Some(Work::Writes(Batches { transactions, keys }))
 }
 
 fn commits_of(matches: &ArgMatches) -> Option<Work> {

@@ -5,3 +5,4 @@ pub mod Workloads
 pub mod Seeing
 pub mod Gathering
 pub mod Written
+pub mod Dealing

@@ -1,12 +1,14 @@
 //! What clients are to do, and how the text of a workload spells it.
 #![tactic(auto)]
 
+mod dealing;
 mod fills;
 mod phrases;
 mod prefixes;
 mod workloads;
 mod works;
 
+pub use dealing::deal;
 pub use phrases::Phrase;
 pub use prefixes::Prefix;
 pub use workloads::{Reading, read_workload};

@@ -1,3 +1,2 @@
-mod CoverLaws
 mod HistoryLaws
 pub mod NewPasses

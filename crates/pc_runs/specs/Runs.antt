@@ -17,15 +17,16 @@ use Rattle.pc_script.specs.Runs.{report_text}
 use Rattle.pc_script.specs.Recoveries.{TellsOf}
 use Rattle.pc_runs.specs.declared.fault.Fault.{Fault}
 use Rattle.pc_runs.specs.declared.fault.Fault.TheVariants as fault
+use Rattle.pc_runs.specs.declared.fault.Failure.{Failure}
+use Rattle.pc_runs.specs.declared.fault.Failure.TheVariants as failure
 use Rattle.pc_outcomes.specs.declared.outcome.Outcome.{Outcome}
 use Rattle.pc_outcomes.specs.declared.outcome.Printed.{Printed}
 use Rattle.pc_outcomes.specs.declared.outcome.Printed.TheVariants as printed
-use Rattle.pc_runs.specs.declared.files.FileName.{FileName}
 use Rattle.pc_outcomes.specs.Leaving.{commits_in, IsLegacy}
 use Rattle.pc_outcomes.specs.Outcomes.{printed_text, status_of}
 use Rattle.pc_outcomes.specs.declared.outcome.Left.{Left}
-use Rattle.pc_runs.specs.Covers.{HaveAllTo}
-use Rattle.pc_runs.specs.Names.{name_of}
+use Rattle.pc_workers.specs.Covering.{HaveAllTo}
+use Rattle.pc_texts.specs.FileNames.{name_of}
 
 -- the store of a run: 64 sessions and room for 65,536 keys, of run 1, which starts without pairs
 abbrev pub run_setting : Setting
@@ -57,22 +58,21 @@ abbrev pub GoesOut : {R T : Type 0} → (R → Option (List ℕ)) → (T → Opt
 GoesOut remaining contents opened old new status = (some : Printed) × IsAnswer remaining opened some × (status ≡ status_of some)
     × Appends (contents (inner_of old)) (contents (inner_of new)) (printed_text some) × (failures_of new ≡ failures_of old)
 
--- A fault before anything is printed: where the file wasn't opened, the reason for that, and else one of the run.
+-- Why a run failed, before anything is printed: where the file wasn't opened, the reason for that, and else one of the run.
 abbrev pub IsUnanswered : {R : Type 0} → Result R Refusal → Fault → Type 0
 IsUnanswered opened (fault.Refused why) = MatchResult opened (λ reader. ⊤) (λ absent. why ≡ absent)
-IsUnanswered opened fault.Output = ⊥
 IsUnanswered opened other = IsOk opened
 
--- Why a run failed: the output did, which was counted, and a beginning of what is printed went out; or another fault, of which
--- nothing is printed.
-abbrev pub IsCause : {R T : Type 0} → (R → Option (List ℕ)) → (T → Option (List ℕ)) → Result R Refusal → Tally T → Tally T → Fault → Type 0
-IsCause remaining contents opened old new fault.Output = HasRisen (failures_of old) (failures_of new)
+-- Why not all was printed: the output failed, which was counted, and a beginning of what is printed went out; or the run did,
+-- of which nothing is printed.
+abbrev pub IsCause : {R T : Type 0} → (R → Option (List ℕ)) → (T → Option (List ℕ)) → Result R Refusal → Tally T → Tally T → Failure → Type 0
+IsCause remaining contents opened old new failure.Output = HasRisen (failures_of old) (failures_of new)
     × ((some : Printed) × IsAnswer remaining opened some × AppendsBeginning (contents (inner_of old)) (contents (inner_of new)) (printed_text some))
-IsCause remaining contents opened old new other = (new ≡ old) × IsUnanswered opened other
+IsCause remaining contents opened old new (failure.Run fault) = (new ≡ old) × IsUnanswered opened fault
 
--- what is told of a fault, where the workload has this name; of an output that failed nothing
-abbrev pub IsTold : {T : Type 0} → (T → Option (List ℕ)) → Tally T → Tally T → List ℕ → Fault → Type 0
-IsTold contents old new name (fault.Refused why) = TellsOf contents old new name why
-IsTold contents old new name (fault.Unmade file why) = TellsOf contents old new (name_of file) why
-IsTold contents old new name fault.NoThread = (told : Result (Unit {0}) Refusal) × Puts contents old new told (codes "pcalc: " ++ (name ++ codes ": NoThread\n"))
-IsTold contents old new name fault.Output = new ≡ old
+-- what is told of a failure, where the workload has this name; of an output that failed nothing
+abbrev pub IsTold : {T : Type 0} → (T → Option (List ℕ)) → Tally T → Tally T → List ℕ → Failure → Type 0
+IsTold contents old new name (failure.Run (fault.Refused why)) = TellsOf contents old new name why
+IsTold contents old new name (failure.Run (fault.Unmade file why)) = TellsOf contents old new (name_of file) why
+IsTold contents old new name (failure.Run fault.NoThread) = (told : Result (Unit {0}) Refusal) × Puts contents old new told (codes "pcalc: " ++ (name ++ codes ": NoThread\n"))
+IsTold contents old new name failure.Output = new ≡ old

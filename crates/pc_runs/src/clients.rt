@@ -1,6 +1,5 @@
-//! The clients of a workload: they are dealt to workers, and each worker runs its own, one after the other.
-ghost use Rattle.std.specs.Prelude.{◌≡◌, ◌≤◌, ◌<◌, [], length, replicate, IfOk, IfErr, OnOk};
-ghost use Rattle.pc_runs.specs.Dealing.{dealt, dealt_one};
+//! The clients of a workload: each has a session, and each worker runs its own clients, one after the other.
+ghost use Rattle.std.specs.Prelude.{◌≡◌, IfOk, IfErr};
 
 use crate::room::Room;
 use pc_jobs::{Client, Fill, Job, Work};
@@ -8,7 +7,7 @@ use pc_shared::Session;
 use pc_tie::StoreName;
 use pc_types::{Gate, Items, Refusal, SessionNo};
 use pc_workers::{Count, client_loop};
-use std::alloc::{AllocError, Global};
+use std::alloc::Global;
 use std::marker::Model;
 use std::slice;
 use std::sync::Wait;
@@ -37,9 +36,9 @@ impl<N: StoreName> Model for Worker<N> {
     ghost view = { λ w. map (λ seated. seated.client) w.seats.items };
 }
 
-/// The workers, to whom clients were dealt, and the sessions that no client has.
+/// The workers with their clients, and the sessions that no client has.
 #[derive(Drop)]
-pub struct Dealt<N: StoreName> {
+pub struct Seating<N: StoreName> {
     pub workers: Vec<Worker<N>>,
     pub idle: Vec<Session<N>>,
 }
@@ -54,20 +53,6 @@ const NOTHING: Count = Count {
     commits: 0,
     given_up: 0,
 };
-
-// So many workers without clients.
-fn idle_workers<N: StoreName>(alloc: Global, count: u8) -> Result<Vec<Worker<N>>, AllocError>
-    ensures { IfOk result (λ workers. workers.items ≡ replicate count []) }
-{
-    let mut workers = Vec::new(alloc);
-    for _ in 0..count {
-        workers.push(Worker {
-            seats: Vec::new(alloc),
-            count: NOTHING,
-        })?;
-    }
-    Ok(workers)
-}
 
 // The session of the number is taken out. Refuses with `NoSession` where it isn't there.
 fn take_session<N: StoreName>(
@@ -85,40 +70,40 @@ fn take_session<N: StoreName>(
     Err(Refusal::NoSession)
 }
 
-// The first worker in the row gets the client, with its session, and goes to the end of the row.
-fn deal_one<N: StoreName>(
-    workers: &mut Vec<Worker<N>>,
-    session: Session<N>,
-    client: Client,
-) -> Result<(), Refusal>
-    requires workers { 0 < length workers.old.items }
-    requires own { session.number ≡ client.session }
-    ensures dealt { OnOk result (workers.new.items ≡ dealt_one workers.old.items client) }
+// A worker with these clients, for each of which the session of its number is taken out.
+fn seat_worker<N: StoreName>(
+    alloc: Global,
+    clients: Items<Client>,
+    sessions: &mut Vec<Session<N>>,
+) -> Result<Worker<N>, Refusal>
+    ensures { IfOk result (λ worker. worker ≡ clients) }
 {
-    let mut worker = workers.remove(0);
-    worker.seats.push(Seated { session, client })?;
-    workers.push(worker)?;
-    Ok(())
+    let mut seats = Vec::new(alloc);
+    for client in clients.into_vec() {
+        let session = take_session(sessions, client.session)?;
+        seats.push(Seated { session, client })?;
+    }
+    Ok(Worker {
+        seats,
+        count: NOTHING,
+    })
 }
 
-/// Deals the clients to so many workers, in turn, each with the session of its number. Refuses with `NoSession` where a session
-/// isn't there, and else with `OutOfMemory` alone.
-pub fn deal<N: StoreName>(
+/// Gives each client the session of its number. Refuses with `NoSession` where a session isn't there, and else with
+/// `OutOfMemory` alone.
+pub fn seat_workers<N: StoreName>(
     alloc: Global,
-    workers: u8,
-    clients: Items<Client>,
+    dealt: Vec<Items<Client>>,
     sessions: Vec<Session<N>>,
-) -> Result<Dealt<N>, Refusal>
-    requires { 1 ≤ workers }
-    ensures { IfOk result (λ d. d.workers.items ≡ dealt (replicate workers []) clients) }
+) -> Result<Seating<N>, Refusal>
+    ensures { IfOk result (λ seating. seating.workers.items ≡ dealt.items) }
 {
     let mut idle = sessions;
-    let mut workers = idle_workers(alloc, workers)?;
-    for client in clients.into_vec() {
-        let session = take_session(&mut idle, client.session)?;
-        deal_one(&mut workers, session, client)?;
+    let mut workers = Vec::new(alloc);
+    for clients in dealt {
+        workers.push(seat_worker(alloc, clients, &mut idle)?)?;
     }
-    Ok(Dealt { workers, idle })
+    Ok(Seating { workers, idle })
 }
 
 // Counts what another loop counted too.

@@ -7,9 +7,10 @@ ghost use Rattle.pc_types.specs.declared.refusal.Refusal.TheVariants.{OutOfMemor
 ghost use Rattle.pc_outcomes.specs.Outcomes.{printed_text};
 ghost use Rattle.pc_runs.specs.Runs.{IsTold};
 
-use crate::files::FileName;
+use crate::files::report_unmade;
 use pc_outcomes::Printed;
 use pc_script::report;
+use pc_texts::FileName;
 use pc_types::{Refusal, Tally};
 use std::alloc::{AllocError, AllocFailed};
 use std::io::Write;
@@ -23,6 +24,13 @@ pub enum Fault {
     Unmade(FileName, Refusal),
     /// A thread can't be started.
     NoThread,
+}
+
+/// Why nothing, or not all, is printed of a workload.
+#[derive(Clone, Copy, Debug, PartialEq, Eq)]
+pub enum Failure {
+    /// Its run failed.
+    Run(Fault),
     /// The output failed.
     Output,
 }
@@ -57,30 +65,42 @@ impl<T: Drop> From<AllocFailed<T>> for Fault {
     }
 }
 
+impl From<Fault> for Failure {
+    ghost use Rattle.pc_runs.specs.declared.fault.Failure.TheVariants.{Run};
+
+    ghost from_gives = { λ fault failure. failure ≡ Run fault };
+
+    fn from(fault: Fault) -> Failure {
+        Failure::Run(fault)
+    }
+}
+
 /// Writes the lines out, or else the output has failed, and a beginning went out.
-pub fn print<W: Write>(printed: &Printed, out: &mut Tally<W>) -> Result<(), Fault>
+pub fn print<W: Write>(printed: &Printed, out: &mut Tally<W>) -> Result<(), Failure>
     ensures printed { OnOk result (Appends (W.contents (inner_of out.old)) (W.contents (inner_of out.new)) (printed_text printed.now) × (failures_of out.new ≡ failures_of out.old)) }
-    ensures failed { IfErr result (λ why. (why ≡ Fault.Output) × HasRisen (failures_of out.old) (failures_of out.new)
+    ensures failed { IfErr result (λ why. (why ≡ Failure.Output) × HasRisen (failures_of out.old) (failures_of out.new)
         × AppendsBeginning (W.contents (inner_of out.old)) (W.contents (inner_of out.new)) (printed_text printed.now)) }
 {
     let put = printed.put(out);
     let flushed = out.flush();
     match put {
         Ok(()) if flushed.is_ok() => Ok(()),
-        _ => Err(Fault::Output),
+        _ => Err(Failure::Output),
     }
 }
 
-impl Fault {
-    /// Writes the line that tells why a run failed, by the name of its workload or of a file; of an output that failed nothing.
+impl Failure {
+    /// Writes the line that tells why, by the name of the workload or of a file; of an output that failed nothing.
     pub fn report<E: Write>(self, workload: &[u8], errors: &mut Tally<E>)
         ensures { IsTold E.contents errors.old errors.new workload.now self }
     {
-        let _ = match self {
+        let Failure::Run(fault) = self else {
+            return;
+        };
+        let _ = match fault {
             Fault::Refused(why) => report(workload, why, errors),
-            Fault::Unmade(file, why) => file.report(why, errors),
+            Fault::Unmade(file, why) => report_unmade(file, why, errors),
             Fault::NoThread => errors.put_all(&[b"pcalc: ", workload, b": NoThread\n"]),
-            Fault::Output => Ok(()),
         };
     }
 }

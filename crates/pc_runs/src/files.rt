@@ -1,28 +1,17 @@
 //! The files that a run leaves in a folder.
-ghost use Rattle.std.specs.Prelude.{◌≡◌, ◌≢◌, IfErr};
+ghost use Rattle.std.specs.Prelude.{◌≡◌, IfErr};
 ghost use Rattle.pc_types.specs.Tallies.{Puts};
 ghost use Rattle.pc_script.specs.Runs.{report_text};
 ghost use Rattle.pc_types.specs.declared.refusal.Refusal.TheVariants.{Device};
-ghost use Rattle.pc_runs.specs.Names.{last_digit, name_of};
-ghost use Rattle.pc_runs.specs.declared.files.FileName.TheVariants as file;
+ghost use Rattle.pc_texts.specs.FileNames.{name_of};
 ghost use Rattle.pc_runs.specs.declared.fault.Fault.TheVariants as Fault;
 
 use crate::fault::Fault;
 use pc_part::{Base, Part};
 use pc_script::report;
+use pc_texts::{FileName, part_name};
 use pc_types::{Point, Refusal, Tally};
 use std::io::Write;
-
-/// A file of the folder.
-#[derive(Clone, Copy, Debug, PartialEq, Eq)]
-pub enum FileName {
-    /// `base.pcb`.
-    Base,
-    /// `part-NNNNN.pcp`, of this point.
-    Part(Point),
-    /// `log.pcl`.
-    Log,
-}
 
 /// What makes the files of a folder.
 pub trait NewFiles<F: Write> {
@@ -30,44 +19,23 @@ pub trait NewFiles<F: Write> {
     fn make(&self, name: &FileName) -> Result<F, Refusal>;
 }
 
-/// The name of the file of a point.
-pub fn part_name(point: Point) -> [u8; 14]
-    ensures { result ≡ name_of (file.Part point) }
+/// Writes the line that tells why the file can't be made.
+pub fn report_unmade<E: Write>(
+    file: FileName,
+    why: Refusal,
+    errors: &mut Tally<E>,
+) -> Result<(), Refusal>
+    ensures { Puts E.contents errors.old errors.new result (report_text (name_of file) why) }
 {
-    let Point(number) = point;
-    let mut name = *b"part-00000.pcp";
-    name[5] = last_digit(number / 10_000);
-    name[6] = last_digit(number / 1_000);
-    name[7] = last_digit(number / 100);
-    name[8] = last_digit(number / 10);
-    name[9] = last_digit(number);
-    name
-}
-
-// The last decimal digit of the number, as it is written.
-fn last_digit(number: u16) -> u8
-    ensures { result ≡ last_digit number }
-{
-    b'0' + (number % 10) as u8
-}
-
-impl FileName {
-    /// Writes the line that tells why the file can't be made.
-    pub fn report<E: Write>(self, why: Refusal, errors: &mut Tally<E>) -> Result<(), Refusal>
-        ensures { Puts E.contents errors.old errors.new result (report_text (name_of self) why) }
-    {
-        match self {
-            FileName::Base => report(b"base.pcb", why, errors),
-            FileName::Part(point) => report(&part_name(point), why, errors),
-            FileName::Log => report(b"log.pcl", why, errors),
-        }
+    match file {
+        FileName::Base => report(b"base.pcb", why, errors),
+        FileName::Part(point) => report(&part_name(point), why, errors),
+        FileName::Log => report(b"log.pcl", why, errors),
     }
 }
 
 // Makes the file.
-fn make<F: Write, D: NewFiles<F>>(folder: &D, name: FileName) -> Result<Tally<F>, Fault>
-    ensures { IfErr result (λ fault. fault ≢ Fault.Output) }
-{
+fn make<F: Write, D: NewFiles<F>>(folder: &D, name: FileName) -> Result<Tally<F>, Fault> {
     match folder.make(&name) {
         Ok(file) => Ok(Tally::new(file)),
         Err(why) => Err(Fault::Unmade(name, why)),
@@ -88,9 +56,7 @@ pub fn flush<F: Write>(file: &mut Tally<F>) -> Result<(), Fault>
 pub fn begin_files<F: Write + Drop, D: NewFiles<F>>(
     folder: &D,
     base: &Base,
-) -> Result<Tally<F>, Fault>
-    ensures { IfErr result (λ fault. fault ≢ Fault.Output) }
-{
+) -> Result<Tally<F>, Fault> {
     let mut file = make(folder, FileName::Base)?;
     base.encode(&mut file)?;
     flush(&mut file)?;
@@ -102,9 +68,7 @@ pub fn write_part<F: Write + Drop, D: NewFiles<F>>(
     folder: &D,
     point: Point,
     part: &Part,
-) -> Result<(), Fault>
-    ensures { IfErr result (λ fault. fault ≢ Fault.Output) }
-{
+) -> Result<(), Fault> {
     let mut file = make(folder, FileName::Part(point))?;
     part.encode(&mut file)?;
     flush(&mut file)

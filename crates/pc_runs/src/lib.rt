@@ -11,5 +11,5 @@ mod store;
 mod threads;
 
 pub use crew::{Crew, MOST_WORKERS};
-pub use files::{FileName, NewFiles, part_name};
+pub use files::NewFiles;
 pub use run::run_workload;

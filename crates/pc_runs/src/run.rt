@@ -1,10 +1,10 @@
 //! A run of a workload, from its reader to the status.
-ghost use Rattle.std.specs.Prelude.{◌≡◌, ◌≢◌, ◌⊎◌, IsOk, IfOk, IfErr, OnOk};
+ghost use Rattle.std.specs.Prelude.{◌≡◌, ◌⊎◌, IsOk, IfOk, IfErr, OnOk};
 ghost use Rattle.pc_runs.specs.Runs.{GoesOut, IsAnswer, IsCause, IsRun, IsTold, IsUnanswered, run_setting};
-ghost use Rattle.pc_runs.specs.declared.fault.Fault.{Fault};
+ghost use Rattle.pc_runs.specs.declared.fault.Failure.{Failure};
 
 use crate::crew::Crew;
-use crate::fault::{Fault, print};
+use crate::fault::{Failure, Fault, print};
 use crate::files::{NewFiles, begin_files};
 use crate::store::run_store;
 use pc_jobs::{Reading, Workload, read_workload};
@@ -62,14 +62,14 @@ pub fn run_workload<
     ensures status { (result ≡ 0) ⊎ (result ≡ 1) ⊎ (result ≡ 3) }
     ensures opened { ¬ (result ≡ 1) → IsOk workload.opened }
     ensures printed { ¬ (result ≡ 1) → GoesOut R.remaining W.contents workload.opened out.old out.new result × (errors.new ≡ errors.old) }
-    ensures cause { result ≡ 1 → (fault : Fault) × IsCause R.remaining W.contents workload.opened out.old out.new fault
-        × IsTold E.contents errors.old errors.new workload.name.items fault }
+    ensures cause { result ≡ 1 → (failure : Failure) × IsCause R.remaining W.contents workload.opened out.old out.new failure
+        × IsTold E.contents errors.old errors.new workload.name.items failure }
 {
     let NamedFile { name, opened } = workload;
     match run_opened(rt, alloc, opened, crew, folder, out) {
         Ok(status) => status,
-        Err(fault) => {
-            fault.report(&name, errors);
+        Err(failure) => {
+            failure.report(&name, errors);
             1
         }
     }
@@ -90,7 +90,7 @@ fn run_opened<
     crew: &Crew<'_, G>,
     folder: Option<D>,
     out: &mut Tally<W>,
-) -> Result<u8, Fault>
+) -> Result<u8, Failure>
     ensures opened { OnOk result (IsOk opened) }
     ensures printed { IfOk result (λ status. GoesOut R.remaining W.contents opened out.old out.new status) }
     ensures cause { IfErr result (IsCause R.remaining W.contents opened out.old out.new) }
@@ -143,7 +143,6 @@ fn run_read<
 ) -> Result<Outcome, Fault>
     ensures points { IfOk result (λ outcome. outcome.points ≡ workload.points) }
     ensures run { IfOk result (IsRun run_setting) }
-    ensures cause { IfErr result (λ fault. fault ≢ Fault.Output) }
 {
     let base = Base::start(RUN, Vec::new(alloc));
     let log = match &folder {

@@ -1,29 +1,25 @@
 //! A store of a workload, from its opening to what it leaves.
-ghost use Rattle.std.specs.Prelude.{◌≡◌, ◌≢◌, ◌≤◌, ◌<◌, ◌&&◌, nat_le, All, length, drop, IfOk, IfErr};
+ghost use Rattle.std.specs.Prelude.{◌≡◌, ◌≤◌, ◌<◌, All, length, drop, IfOk};
 ghost use Rattle.pc_model.specs.History.{History};
 ghost use Rattle.pc_board.specs.Passes.{IsOfBoard};
 ghost use Rattle.pc_outcomes.specs.Leaving.{AreLeftAfter};
-ghost use Rattle.pc_model.specs.Sets as set;
-ghost use Rattle.pc_part.specs.Parts.{covers};
-ghost use Rattle.pc_workers.specs.Collapsing.{has_point};
-ghost use Rattle.pc_runs.specs.Covers.{HaveAllTo};
+ghost use Rattle.pc_workers.specs.Covering.{HaveAllTo};
 ghost use Rattle.pc_runs.specs.Runs.{IsOfHistory, IsRun};
-ghost use Rattle.pc_runs.specs.declared.fault.Fault.TheVariants as Fault;
 
-use crate::clients::{Dealt, Worker, deal};
+use crate::clients::{Seating, Worker, seat_workers};
 use crate::crew::Crew;
 use crate::fault::Fault;
 use crate::files::{NewFiles, flush, write_part};
 use crate::room::{Room, Seat};
 use crate::threads::{Collapser, Hands, Logger, Rested, Written, run_threads};
 use pc_board::{Board, BoardPass};
-use pc_jobs::Workload;
+use pc_jobs::{Workload, deal};
 use pc_outcomes::{Left, Outcome, commits_in, left_by};
-use pc_part::{Part, Range, SharedPart};
+use pc_part::SharedPart;
 use pc_shared::{Closed, Opened, PartTicket, Session, Shared};
 use pc_tie::StoreName;
 use pc_types::{FileNo, Gate, Point, Refusal, Tally};
-use pc_workers::log_rest;
+use pc_workers::{log_rest, with_missing_points};
 use std::alloc::{AllocError, Global};
 use std::io::Write;
 use std::mem;
@@ -120,54 +116,6 @@ fn gather<N: StoreName>(
     Ok(given_up)
 }
 
-// Whether the point is in the range.
-fn is_within(range: &Range, point: u32) -> bool
-    ensures { result ≡ (nat_le range.now.low point && nat_le point range.now.high) }
-{
-    u32::from(range.low.0) <= point && point <= u32::from(range.high.0)
-}
-
-// Whether one of the ranges has the point.
-fn is_in_some(ranges: &[Range], point: u32) -> bool
-    ensures { result ≡ covers ranges.now point }
-{
-    ranges.iter().any(|range| is_within(range, point))
-}
-
-// Whether the part has the point.
-fn covers(part: &Part, point: u32) -> bool
-    ensures { result ≡ set.contains part.now.points point }
-{
-    let own = part.ranges();
-    is_in_some(own, point)
-}
-
-// Whether one of the tickets' files has the point.
-fn has_point<N: StoreName>(tickets: &[PartTicket<N>], point: u32) -> bool
-    ensures { result ≡ has_point tickets.now point }
-{
-    tickets.iter().any(|ticket| covers(ticket.part(), point))
-}
-
-// The tickets, and behind them one of each point up to this that none of them has.
-fn with_missing<N: StoreName, R: Wait>(
-    rt: &R,
-    shared: &Shared<N>,
-    held: Vec<PartTicket<N>>,
-    points: u32,
-) -> Result<Vec<PartTicket<N>>, Refusal>
-    ensures { IfOk result (λ tickets. HaveAllTo points tickets.items) }
-{
-    let mut tickets = held;
-    for others in 0..points {
-        let point = others + 1;
-        if !has_point(&tickets, point) {
-            tickets.push(shared.take_part(rt, FileNo(point))?)?;
-        }
-    }
-    Ok(tickets)
-}
-
 // Takes back what the threads had: the sessions of all clients, and the tickets of the collapsers with those of the points that
 // they left, behind one of each point where its file is to be written.
 fn take_back<N: StoreName, R: Wait>(
@@ -180,12 +128,11 @@ fn take_back<N: StoreName, R: Wait>(
     rested: Rested<N>,
 ) -> Result<Ended<N>, Fault>
     ensures cover { IfOk result (λ ended. HaveAllTo points (drop ended.singles ended.tickets.items)) }
-    ensures cause { IfErr result (λ fault. fault ≢ Fault.Output) }
 {
     let Rested { workers, held } = rested;
     let mut sessions = idle;
     let given_up = gather(&mut sessions, workers)?;
-    let mut joined = with_missing(rt, shared, held, points)?;
+    let mut joined = with_missing_points(rt, shared, held, points)?;
     let mut tickets = take_singles(rt, alloc, shared, singles)?;
     let singles = tickets.len();
     tickets.append(&mut joined)?;
@@ -206,7 +153,7 @@ fn use_store<
 >(
     rt: &R,
     room: &Room<'_, N, G>,
-    dealt: Dealt<N>,
+    seating: Seating<N>,
     board: &Board,
     passes: Vec<BoardPass>,
     logger: Logger<N, F>,
@@ -214,9 +161,8 @@ fn use_store<
     requires some { 0 < length passes.items }
     requires ours { All (λ pass. IsOfBoard pass board.now) passes.items }
     ensures cover { IfOk result (λ r. HaveAllTo room.now.points (drop r.0.singles r.0.tickets.items)) }
-    ensures cause { IfErr result (λ fault. fault ≢ Fault.Output) }
 {
-    let Dealt { workers, idle } = dealt;
+    let Seating { workers, idle } = seating;
     let singles = if logger.out.is_some() { room.points } else { 0 };
     let hands = hands_of(room.alloc, board, passes, workers)?;
     let (rested, written) = run_threads(rt, room, hands, logger)?;
@@ -252,12 +198,12 @@ pub fn run_store<
     requires { opened ≡ N.name }
     ensures points { IfOk result (λ outcome. outcome.points ≡ workload.points) }
     ensures run { IfOk result (IsRun N.name.setting) }
-    ensures cause { IfErr result (λ fault. fault ≢ Fault.Output) }
 {
     let Workload { points, clients } = workload;
     let (shared, sessions, pass) = opened.named::<N>()?;
     let (board, passes) = Board::new(alloc, crew.collapsers + 1)?;
-    let dealt = deal(alloc, crew.workers, clients, sessions)?;
+    let dealt = deal(alloc, crew.workers, clients)?;
+    let seating = seat_workers(alloc, dealt, sessions)?;
     let room = Room {
         alloc,
         shared: &shared,
@@ -265,7 +211,7 @@ pub fn run_store<
         points,
     };
     let logger = Logger { pass, out: log };
-    let (ended, written) = use_store(rt, &room, dealt, &board, passes, logger)?;
+    let (ended, written) = use_store(rt, &room, seating, &board, passes, logger)?;
     let Ended {
         sessions,
         given_up,
@@ -306,7 +252,6 @@ fn leave<N: StoreName, F: Write + Drop, D: NewFiles<F>, G: Gate + Sync, R: Threa
     requires singles { singles ≤ length closed.parts.items }
     requires after { (history : History) × AreLeftAfter N.name.setting history closed.world.base closed.world.log closed.parts.items }
     ensures history { IfOk result (λ legacy. IsOfHistory N.name.setting legacy.commits (drop singles closed.parts.items) legacy.files) }
-    ensures cause { IfErr result (λ fault. fault ≢ Fault.Output) }
 {
     finish_log(&closed, log)?;
     let mut closed = closed;
@@ -348,9 +293,7 @@ fn files_of<N: StoreName>(
 fn write_parts<F: Write + Drop, D: NewFiles<F>>(
     folder: &Option<D>,
     files: &[SharedPart],
-) -> Result<(), Fault>
-    ensures cause { IfErr result (λ fault. fault ≢ Fault.Output) }
-{
+) -> Result<(), Fault> {
     let Some(folder) = folder else {
         return Ok(());
     };
@@ -368,7 +311,6 @@ fn finish_log<N: StoreName, F: Write + Drop>(
     log: Option<Tally<F>>,
 ) -> Result<(), Fault>
     requires { closed.now.logged ≤ length closed.now.world.log }
-    ensures cause { IfErr result (λ fault. fault ≢ Fault.Output) }
 {
     let Some(mut log) = log else {
         return Ok(());

@@ -1,6 +1,5 @@
 //! The threads of a run: workers beside the checkpointer, and beside all of them collapsers and the logger.
-ghost use Rattle.std.specs.Prelude.{◌≡◌, ◌≢◌, [], IfErr};
-ghost use Rattle.pc_runs.specs.declared.fault.Fault.TheVariants as Fault;
+ghost use Rattle.std.specs.Prelude.{◌≡◌, []};
 
 use crate::clients::Worker;
 use crate::fault::Fault;
@@ -101,9 +100,7 @@ fn take_points<'a, N: StoreName, G: Gate, R: Wait>(
     room: &Room<'_, N, G>,
     seat: Seat<'a>,
     points: u32,
-) -> Result<Seat<'a>, Fault>
-    ensures { IfErr result (λ fault. fault ≢ Fault.Output) }
-{
+) -> Result<Seat<'a>, Fault> {
     let Seat { board, mut pass } = seat;
     match checkpoint_loop(rt, room.shared, board, &mut pass, points, room.gate) {
         Ok(_) => Ok(Seat { board, pass }),
@@ -117,17 +114,13 @@ fn run_workers<'x, N: StoreName + Send + Sync, G: Gate + Sync, R: Threads + Wait
     room: &'x Room<'x, N, G>,
     seat: Seat<'x>,
     workers: Vec<Worker<N>>,
-) -> Result<Vec<Worker<N>>, Fault>
-    ensures { IfErr result (λ fault. fault ≢ Fault.Output) }
-{
+) -> Result<Vec<Worker<N>>, Fault> {
     let handles = Vec::with_capacity(room.alloc, workers.len())?;
     let rested = Vec::with_capacity(room.alloc, workers.len())?;
     thread::scope(
         thread::scope_env(),
         rt,
-        |scope| -> Result<Vec<Worker<N>>, Fault>
-            ensures { IfErr result (λ fault. fault ≢ Fault.Output) }
-        {
+        |scope| -> Result<Vec<Worker<N>>, Fault> {
             let (mut handles, mut rested) = (handles, rested);
             for worker in workers {
                 match scope.spawn(move || worker.run(rt, room)) {
@@ -150,9 +143,7 @@ fn run_hands<'x, N: StoreName + Send + Sync, G: Gate + Sync, R: Threads + Wait +
     rt: &'x R,
     room: &'x Room<'x, N, G>,
     hands: Hands<'x, N>,
-) -> Result<Rested<N>, Fault>
-    ensures { IfErr result (λ fault. fault ≢ Fault.Output) }
-{
+) -> Result<Rested<N>, Fault> {
     let Hands {
         checkpointer,
         workers,
@@ -162,9 +153,7 @@ fn run_hands<'x, N: StoreName + Send + Sync, G: Gate + Sync, R: Threads + Wait +
     thread::scope(
         thread::scope_env(),
         rt,
-        |scope| -> Result<Rested<N>, Fault>
-            ensures { IfErr result (λ fault. fault ≢ Fault.Output) }
-        {
+        |scope| -> Result<Rested<N>, Fault> {
             let mut handles = handles;
             for collapser in collapsers {
                 match scope.spawn(move || collapser.run(rt, room)) {
@@ -201,9 +190,7 @@ pub fn run_threads<
     room: &'x Room<'x, N, G>,
     hands: Hands<'x, N>,
     logger: Logger<N, F>,
-) -> Result<(Rested<N>, Written<N, F>), Fault>
-    ensures { IfErr result (λ fault. fault ≢ Fault.Output) }
-{
+) -> Result<(Rested<N>, Written<N, F>), Fault> {
     if logger.out.is_none() {
         let rested = run_hands(rt, room, hands)?;
         return Ok((rested, logger.run(rt, room.shared)));
@@ -211,9 +198,7 @@ pub fn run_threads<
     thread::scope(
         thread::scope_env(),
         rt,
-        |scope| -> Result<(Rested<N>, Written<N, F>), Fault>
-            ensures { IfErr result (λ fault. fault ≢ Fault.Output) }
-        {
+        |scope| -> Result<(Rested<N>, Written<N, F>), Fault> {
             let shared = room.shared;
             let Ok(logging) = scope.spawn(move || logger.run(rt, shared)) else {
                 return Err(Fault::NoThread);

@@ -3,3 +3,4 @@ pub mod Checkpointing
 pub mod Clients
 pub mod Boards
 pub mod Collapsing
+pub mod Covering

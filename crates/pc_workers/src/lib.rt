@@ -4,9 +4,11 @@
 mod checkpointing;
 mod clients;
 mod collapsing;
+mod covering;
 mod logging;
 
 pub use checkpointing::checkpoint_loop;
 pub use clients::{Count, MOST_TRIES, client_loop};
 pub use collapsing::collapse_loop;
+pub use covering::with_missing_points;
 pub use logging::{MOST_BATCH, log_loop, log_rest};

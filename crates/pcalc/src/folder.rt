@@ -1,7 +1,8 @@
 //! The files of a folder: those that recovery reads, and those that a run makes.
 use crate::late::LateFile;
-use pc_runs::{FileName, NewFiles, part_name};
+use pc_runs::NewFiles;
 use pc_script::{Folder, NamedFile};
+use pc_texts::{FileName, part_name};
 use pc_types::Refusal;
 use std::alloc::{AllocError, Global};
 use std::fs::File;

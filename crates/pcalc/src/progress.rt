@@ -48,7 +48,9 @@ impl<'a> Progress<'a> {
         let Ok(elapsed) = begun.elapsed(self.rt) else {
             return;
         };
-        let now = elapsed.as_millis() as u64;
+        let Ok(now) = u64::try_from(elapsed.as_millis()) else {
+            return;
+        };
         let last = self.shown.load(Ordering::SeqCst);
         if now < FIRST || now < last.saturating_add(PAUSE) {
             return;

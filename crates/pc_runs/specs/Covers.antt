@@ -1,8 +1,0 @@
--- Which points the files of a run have.
-use Rattle.std.specs.Prelude.{ℕ, ◌≤◌, List, IsTrue}
-use Rattle.pc_model.specs.Files.{File}
-use Rattle.pc_workers.specs.Collapsing.{has_point}
-
--- each of the points from 1 to this is one that some of the files has
-abbrev pub HaveAllTo : ℕ → List File → Type 0
-HaveAllTo points files = (point : ℕ) → 1 ≤ point → point ≤ points → IsTrue (has_point files point)

@@ -1,0 +1,61 @@
+//! The points that the files of tickets have.
+ghost use Rattle.std.specs.Prelude.{◌≡◌, ◌&&◌, nat_le, IfOk};
+ghost use Rattle.pc_model.specs.Sets as set;
+ghost use Rattle.pc_part.specs.Parts.{covers};
+ghost use Rattle.pc_workers.specs.Collapsing.{has_point};
+ghost use Rattle.pc_workers.specs.Covering.{HaveAllTo};
+
+use pc_part::{Part, Range};
+use pc_shared::{PartTicket, Shared};
+use pc_tie::StoreName;
+use pc_types::{FileNo, Refusal};
+use std::sync::Wait;
+
+// Whether the point is in the range.
+fn is_within(range: &Range, point: u32) -> bool
+    ensures { result ≡ (nat_le range.now.low point && nat_le point range.now.high) }
+{
+    u32::from(range.low.0) <= point && point <= u32::from(range.high.0)
+}
+
+// Whether one of the ranges has the point.
+fn is_in_some(ranges: &[Range], point: u32) -> bool
+    ensures { result ≡ covers ranges.now point }
+{
+    ranges.iter().any(|range| is_within(range, point))
+}
+
+// Whether the part has the point.
+fn covers(part: &Part, point: u32) -> bool
+    ensures { result ≡ set.contains part.now.points point }
+{
+    let own = part.ranges();
+    is_in_some(own, point)
+}
+
+// Whether one of the tickets' files has the point.
+fn has_point<N: StoreName>(tickets: &[PartTicket<N>], point: u32) -> bool
+    ensures { result ≡ has_point tickets.now point }
+{
+    tickets.iter().any(|ticket| covers(ticket.part(), point))
+}
+
+/// The tickets, and behind them one of each point up to this that none of them has. Refuses as a ticket does, or with
+/// `OutOfMemory`; the tickets are then let go.
+pub fn with_missing_points<N: StoreName, R: Wait>(
+    rt: &R,
+    shared: &Shared<N>,
+    held: Vec<PartTicket<N>>,
+    points: u32,
+) -> Result<Vec<PartTicket<N>>, Refusal>
+    ensures { IfOk result (λ tickets. HaveAllTo points tickets.items) }
+{
+    let mut tickets = held;
+    for others in 0..points {
+        let point = others + 1;
+        if !has_point(&tickets, point) {
+            tickets.push(shared.take_part(rt, FileNo(point))?)?;
+        }
+    }
+    Ok(tickets)
+}
