@@ -8,8 +8,6 @@ mod laws;
 mod limits;
 mod rule;
 mod sight;
-#[cfg(test)]
-mod tests;
 
 pub use board::{Board, BoardPass, BoardTotals};
 pub use calls::{Call, Kind};

@@ -8,8 +8,6 @@ mod limits;
 mod piece;
 mod rounds;
 mod rule;
-#[cfg(test)]
-mod tests;
 
 pub use bag::{collapse_bag, collapse_bag_owned};
 pub use folding::{fold, fold_owned};

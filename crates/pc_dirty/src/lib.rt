@@ -4,7 +4,5 @@
 mod dirty;
 mod row;
 mod side;
-#[cfg(test)]
-mod tests;
 
 pub use dirty::Dirty;

@@ -5,8 +5,6 @@
 mod change;
 mod laws;
 mod phases;
-#[cfg(test)]
-mod tests;
 
 pub use change::{Change, Held};
 pub use laws::{

@@ -3,8 +3,6 @@
 
 mod order;
 mod reads;
-#[cfg(test)]
-mod tests;
 mod writes;
 
 pub use reads::ReadSet;

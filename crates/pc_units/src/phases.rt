@@ -1,5 +1,5 @@
 //! Tests: the table of changes, whole cycles, and the last point.
-use crate::{Change, Held, Phases};
+use pc_phase::{Change, Held, Phases};
 use pc_types::{Class, Phase, Point};
 use std::test::Fail;
 

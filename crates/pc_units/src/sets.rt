@@ -1,7 +1,7 @@
 //! Tests of the two sets: worked rows, and no slots at all.
 ghost use Rattle.std.specs.Prelude.{◌≡◌, ◌≤◌};
 
-use crate::Dirty;
+use pc_dirty::Dirty;
 use pc_types::SlotId;
 use std::test::Fail;
 

@@ -1,7 +1,7 @@
 //! Tests: all calls give the same bytes, collapsers work side by side, and what is refused.
 ghost use Rattle.std.specs.Prelude.{◌≤◌};
 
-use crate::{
+use pc_collapse::{
     collapse_bag, collapse_bag_owned, collapse_rounds, collapse_rounds_owned, fold, fold_owned,
 };
 use pc_part::Part;

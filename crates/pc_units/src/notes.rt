@@ -1,6 +1,5 @@
 //! Tests: the order of writes, 256 keys in falling order, and which reads are noted.
-use crate::reads::ReadSet;
-use crate::writes::WriteSet;
+use pc_txn::{ReadSet, WriteSet};
 use pc_types::{Key, Refusal, Value, Write};
 use std::alloc::Global;
 use std::test::Fail;

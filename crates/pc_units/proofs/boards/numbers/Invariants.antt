@@ -1,5 +1,5 @@
 use Rattle.pc_board.specs.Passes.{IsOfBoard}
-use Rattle.pc_board.proofs.tests.numbers.Given as goal
+use Rattle.pc_units.proofs.boards.numbers.Given as goal
 
 -- the pass stays one of the board
 abbrev pub invariant-loop : goal.invariant-loop

@@ -1,6 +1,7 @@
+//! The board: claims and points of two passes, of all passes, and by two threads.
 ghost use Rattle.pc_board.specs.Passes.{IsOfBoard};
 
-use super::*;
+use pc_board::{Board, BoardPass, BoardTotals, MOST_PASSES};
 use pc_types::{Point, Refusal};
 use std::alloc::Global;
 use std::test::*;

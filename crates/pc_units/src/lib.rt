@@ -1,0 +1,14 @@
+//! Tests of single libraries, each by its public calls. They stand here and not beside the code, whose crate would be proved a
+//! second time for them.
+#![tactic(auto)]
+
+#[cfg(test)]
+mod boards;
+#[cfg(test)]
+mod collapses;
+#[cfg(test)]
+mod notes;
+#[cfg(test)]
+mod phases;
+#[cfg(test)]
+mod sets;
