@@ -1,2 +1,3 @@
 mod HistoryLaws
 pub mod NewPasses
+mod ToLaws

@@ -1,5 +1,5 @@
 -- A run of a workload: what its text is read as, what is printed, why it may fail, and what is told of that.
-use Rattle.std.specs.Prelude.{◌≡◌, ◌++◌, ℕ, Bool, List, Option, Some, None, Result, [], IsOk, IfOk, IfSome, MatchResult, codes, decimal, ⊤}
+use Rattle.std.specs.Prelude.{◌≡◌, ◌++◌, ℕ, List, Option, Result, [], IsOk, IfOk, IfSome, MatchResult, codes, ⊤}
 use Rattle.std.specs.Io.KnownBytes.{Appends}
 use Rattle.pc_types.specs.Counted.{HasRisen, AppendsBeginning}
 use Rattle.pc_types.specs.Tallies.{Puts, inner_of, failures_of}
@@ -13,7 +13,6 @@ use Rattle.pc_jobs.specs.Workloads.{reading_of}
 use Rattle.pc_jobs.specs.declared.works.Workload.{Workload}
 use Rattle.pc_jobs.specs.declared.workloads.Reading.{Reading}
 use Rattle.pc_jobs.specs.declared.workloads.Reading.TheVariants as reading
-use Rattle.pc_script.specs.Runs.{report_text}
 use Rattle.pc_script.specs.Recoveries.{TellsOf}
 use Rattle.pc_runs.specs.declared.fault.Fault.{Fault}
 use Rattle.pc_runs.specs.declared.fault.Fault.TheVariants as fault
@@ -25,7 +24,7 @@ use Rattle.pc_outcomes.specs.declared.outcome.Printed.TheVariants as printed
 use Rattle.pc_outcomes.specs.Leaving.{commits_in, IsLegacy}
 use Rattle.pc_outcomes.specs.Outcomes.{printed_text, status_of}
 use Rattle.pc_outcomes.specs.declared.outcome.Left.{Left}
-use Rattle.pc_workers.specs.Covering.{HaveAllTo}
+use Rattle.pc_workers.specs.Covering.{HaveJustTo}
 use Rattle.pc_texts.specs.FileNames.{name_of}
 
 -- the store of a run: 64 sessions and room for 65,536 keys, of run 1, which starts without pairs
@@ -40,9 +39,9 @@ pub record IsOfHistory (st : Setting) (commits : ℕ) (files : List File) (left 
   pub commits_are : commits ≡ commits_in (log_of history)
   pub legacy : IsLegacy (record { run = st.run; point = 0; pairs = st.base }) (log_of history) files left
 
--- the same of some files that have all points from 1 to the last one that was asked for
+-- the same of some files that have just the points from 1 to the last one that was asked for
 abbrev pub IsRun : Setting → Outcome → Type 0
-IsRun st outcome = (files : List File) × HaveAllTo outcome.points files × IsOfHistory st outcome.commits files outcome.left
+IsRun st outcome = (files : List File) × HaveJustTo outcome.points files × IsOfHistory st outcome.commits files outcome.left
 
 -- what a file holds is worth this; said where its bytes are known
 abbrev pub IsReadAs : {R : Type 0} → (R → Option (List ℕ)) → Result R Refusal → Reading → Type 0

@@ -3,7 +3,7 @@ ghost use Rattle.std.specs.Prelude.{◌≡◌, ◌≤◌, ◌<◌, All, length, 
 ghost use Rattle.pc_model.specs.History.{History};
 ghost use Rattle.pc_board.specs.Passes.{IsOfBoard};
 ghost use Rattle.pc_outcomes.specs.Leaving.{AreLeftAfter};
-ghost use Rattle.pc_workers.specs.Covering.{HaveAllTo};
+ghost use Rattle.pc_workers.specs.Covering.{AreTo, HaveJustTo};
 ghost use Rattle.pc_runs.specs.Runs.{IsOfHistory, IsRun};
 
 use crate::clients::{Seating, Worker, seat_workers};
@@ -127,7 +127,8 @@ fn take_back<N: StoreName, R: Wait>(
     idle: Vec<Session<N>>,
     rested: Rested<N>,
 ) -> Result<Ended<N>, Fault>
-    ensures cover { IfOk result (λ ended. HaveAllTo points (drop ended.singles ended.tickets.items)) }
+    requires { AreTo points rested.held.items }
+    ensures cover { IfOk result (λ ended. HaveJustTo points (drop ended.singles ended.tickets.items)) }
 {
     let Rested { workers, held } = rested;
     let mut sessions = idle;
@@ -160,7 +161,7 @@ fn use_store<
 ) -> Result<(Ended<N>, Written<N, F>), Fault>
     requires some { 0 < length passes.items }
     requires ours { All (λ pass. IsOfBoard pass board.now) passes.items }
-    ensures cover { IfOk result (λ r. HaveAllTo room.now.points (drop r.0.singles r.0.tickets.items)) }
+    ensures cover { IfOk result (λ r. HaveJustTo room.now.points (drop r.0.singles r.0.tickets.items)) }
 {
     let Seating { workers, idle } = seating;
     let singles = if logger.out.is_some() { room.points } else { 0 };

@@ -1,16 +1,20 @@
 //! The threads of a run: workers beside the checkpointer, and beside all of them collapsers and the logger.
-ghost use Rattle.std.specs.Prelude.{◌≡◌, []};
+ghost use Rattle.std.specs.Prelude.{◌≡◌, ℕ, [], All, IfOk};
+ghost use Rattle.pc_board.specs.Passes.{IsOfBoard};
+ghost use Rattle.pc_workers.specs.Covering.{AreTo};
 
 use crate::clients::Worker;
 use crate::fault::Fault;
 use crate::room::{Room, Seat};
+use pc_board::{Board, BoardPass};
 use pc_shared::{LogPass, PartTicket, Shared};
 use pc_tie::StoreName;
 use pc_types::{Gate, Refusal, Tally};
 use pc_workers::{checkpoint_loop, collapse_loop, log_loop};
+use std::alloc::Global;
 use std::io::Write;
 use std::sync::Wait;
-use std::thread::{self, Threads};
+use std::thread::{self, Promise, PromisedHandle, Threads};
 
 /// A collapser: its number, from 0, and its seat at the board.
 #[derive(Drop)]
@@ -73,25 +77,49 @@ impl<N: StoreName, F: Write> Logger<N, F> {
     }
 }
 
-impl<'a> Collapser<'a> {
-    // Joins the files of points as they are published. The tickets that it holds in the end.
-    fn run<N: StoreName, R: Wait, G: Gate>(
-        self,
-        rt: &R,
-        room: &Room<'_, N, G>,
-    ) -> Result<Vec<PartTicket<N>>, Refusal> {
-        let Seat { board, mut pass } = self.seat;
-        collapse_loop(
-            rt,
-            room.alloc,
-            room.shared,
-            board,
-            &mut pass,
-            self.number,
-            room.points,
-            room.gate,
-        )
+// Joins the files of points as they are published. The tickets that the collapser holds in the end. All that it is given stands
+// by itself, and not in a room: else nothing is known of the thread that runs it.
+fn collapse<N: StoreName, R: Wait, G: Gate>(
+    rt: &R,
+    alloc: Global,
+    shared: &Shared<N>,
+    board: &Board,
+    mut pass: BoardPass,
+    number: u8,
+    points: u32,
+    gate: &G,
+) -> Result<Vec<PartTicket<N>>, Refusal>
+    requires { IsOfBoard pass board.now }
+    ensures { IfOk result (λ tickets. AreTo points tickets.items) }
+{
+    collapse_loop(rt, alloc, shared, board, &mut pass, number, points, gate)
+}
+
+// The promise of tickets whose files have no points but those from 1 to this.
+#[derive(Clone, Copy)]
+struct UpTo(u32);
+
+impl<N: StoreName> Promise<Result<Vec<PartTicket<N>>, Refusal>> for UpTo {
+    ghost use Rattle.std.specs.Prelude.{IfOk};
+    ghost use Rattle.pc_workers.specs.Covering.{AreTo};
+
+    ghost kept_by = { λ most held. IfOk held (λ tickets. AreTo most.0 tickets.items) };
+}
+
+// The tickets of all collapsers, once their threads have ended.
+fn join_collapsers<N: StoreName, R: Threads>(
+    rt: &R,
+    alloc: Global,
+    handles: Vec<PromisedHandle<Result<Vec<PartTicket<N>>, Refusal>, UpTo>>,
+) -> Result<Vec<PartTicket<N>>, Fault>
+    ensures { (points : ℕ) → All (λ handle. handle.promise.0 ≡ points) handles.items → IfOk result (λ held. AreTo points held.items) }
+{
+    let mut held = Vec::new(alloc);
+    for handle in handles {
+        let mut tickets = handle.join(rt)?;
+        held.append(&mut tickets)?;
     }
+    Ok(held)
 }
 
 // Takes so many points.
@@ -143,20 +171,33 @@ fn run_hands<'x, N: StoreName + Send + Sync, G: Gate + Sync, R: Threads + Wait +
     rt: &'x R,
     room: &'x Room<'x, N, G>,
     hands: Hands<'x, N>,
-) -> Result<Rested<N>, Fault> {
+) -> Result<Rested<N>, Fault>
+    ensures { IfOk result (λ rested. AreTo room.now.points rested.held.items) }
+{
     let Hands {
         checkpointer,
         workers,
         collapsers,
     } = hands;
     let handles = Vec::with_capacity(room.alloc, collapsers.len())?;
+    let (alloc, shared, gate, points) = (room.alloc, room.shared, room.gate, room.points);
     thread::scope(
         thread::scope_env(),
         rt,
-        |scope| -> Result<Rested<N>, Fault> {
+        |scope| -> Result<Rested<N>, Fault>
+            requires { handles.items ≡ [] }
+            ensures { IfOk result (λ rested. AreTo points rested.held.items) }
+        {
             let mut handles = handles;
             for collapser in collapsers {
-                match scope.spawn(move || collapser.run(rt, room)) {
+                let Collapser { number, seat } = collapser;
+                let Seat { board, pass } = seat;
+                match scope.spawn_with(
+                    UpTo(points),
+                    move ||
+                        requires { IsOfBoard pass board.now }
+                    { collapse(rt, alloc, shared, board, pass, number, points, gate) },
+                ) {
                     Ok(handle) => handles.push(handle)?,
                     Err(_) => {
                         room.shared.mark_end(rt);
@@ -167,11 +208,7 @@ fn run_hands<'x, N: StoreName + Send + Sync, G: Gate + Sync, R: Threads + Wait +
             let ended = run_workers(rt, room, checkpointer, workers);
             room.shared.mark_end(rt);
             let workers = ended?;
-            let mut held = Vec::new(room.alloc);
-            for handle in handles {
-                let mut tickets = handle.join(rt)?;
-                held.append(&mut tickets)?;
-            }
+            let held = join_collapsers(rt, room.alloc, handles)?;
             Ok(Rested { workers, held })
         },
     )
@@ -190,7 +227,9 @@ pub fn run_threads<
     room: &'x Room<'x, N, G>,
     hands: Hands<'x, N>,
     logger: Logger<N, F>,
-) -> Result<(Rested<N>, Written<N, F>), Fault> {
+) -> Result<(Rested<N>, Written<N, F>), Fault>
+    ensures { IfOk result (λ r. AreTo room.now.points r.0.held.items) }
+{
     if logger.out.is_none() {
         let rested = run_hands(rt, room, hands)?;
         return Ok((rested, logger.run(rt, room.shared)));
@@ -198,7 +237,9 @@ pub fn run_threads<
     thread::scope(
         thread::scope_env(),
         rt,
-        |scope| -> Result<(Rested<N>, Written<N, F>), Fault> {
+        |scope| -> Result<(Rested<N>, Written<N, F>), Fault>
+            ensures { IfOk result (λ r. AreTo room.entry.now.points r.0.held.items) }
+        {
             let shared = room.shared;
             let Ok(logging) = scope.spawn(move || logger.run(rt, shared)) else {
                 return Err(Fault::NoThread);

@@ -1,15 +1,18 @@
 -- Files have the points so far, with those of the ticket of one more too.
-use Rattle.std.proofs.Common.{◌≡◌, ℕ, ◌+◌, ◌≤◌, ◌||◌, Bool, true, false, List, [], ◌∷◌, ◌++◌, IsTrue, refl, sym, ap, subst, ◌∙◌, arith}
+use Rattle.std.proofs.Common.{◌≡◌, ℕ, suc, ◌+◌, ◌<◌, ◌≤◌, ◌||◌, Bool, true, false, List, [], ◌∷◌, ◌++◌, All, IsTrue, map, refl, sym, ap, subst, ◌∙◌, arith}
 use Rattle.std.specs.Prelude.{nat_le}
 use Rattle.std.proofs.lemmas.Bool.Decides.{nat_tests}
+use Rattle.std.proofs.lemmas.List.Elements.{All-head, All-tail}
 use Rattle.std.proofs.lemmas.List.Folds.{list_any-append}
 use Rattle.pc_model.specs.Sets as set
 use Rattle.pc_model.specs.Sets.{Set, number_order}
 use Rattle.pc_model.specs.Files.{File}
 use Rattle.pc_model.specs.Numbers.{is_one_of, same_number}
 use Rattle.pc_model.proofs.SetLaws.{contains-from_list}
-use Rattle.pc_workers.specs.Collapsing.{has_point}
-use Rattle.pc_workers.specs.Covering.{HaveAllTo}
+use Rattle.pc_board.specs.Passes.{Pass}
+use Rattle.pc_workers.specs.Collapsing.{has_point, IsShown, HasCollapsed}
+use Rattle.pc_workers.specs.Covering.{HaveAllTo, AreTo}
+use Rattle.pc_workers.proofs.Holding.{has_point_more}
 
 one_point : (point number : ℕ) → set.contains (let one : Set number_order = set.insert set.empty number in one) point ≡ is_one_of point (number ∷ [])
 one_point point number = contains-from_list number_order (number ∷ []) point
@@ -39,10 +42,41 @@ all_and_next n files old next p some within = by (nat_le p n) refl
 all_stay : (n : ℕ) (files : List File) (file : File) → HaveAllTo n files → HaveAllTo n (files ++ file ∷ [])
 all_stay n files file old p some within = list_any-append (λ (f : File). set.contains f.points p) files (file ∷ []) ∙ ap (λ b. b || (set.contains file.points p || false)) (old p some within)
 
+-- of two that stand for points, one is true
+either : (a b : Bool) (C : Type 0) → (a || b) ≡ true → (a ≡ true → C) → (b ≡ true → C) → C
+either true b C is left right = left refl
+either false b C is left right = right is
+
+is_it : (p number : ℕ) → same_number p number ≡ true → p ≡ number
+is_it p number same = grind (arith, nat_tests)
+
+one_is_to : (n k : ℕ) (file : File) → file.points ≡ set.insert set.empty k → 1 ≤ k → k ≤ n → (p : ℕ) → set.contains file.points p ≡ true → (1 ≤ p) × (p ≤ n)
+one_is_to n k file is low high p has =
+    let alone : (same_number p k || false) ≡ true = sym (one_point p k) ∙ ap (λ (s : Set number_order). set.contains s p) (sym is) ∙ has in
+    let same : p ≡ k = either (same_number p k) false (p ≡ k) alone (is_it p k) (λ none. cc) in
+    (subst (λ q. 1 ≤ q) (sym same) low, subst (λ q. q ≤ n) (sym same) high)
+
+one_more : (n k : ℕ) (files : List File) (file : File) → file.points ≡ set.insert set.empty k → 1 ≤ k → k ≤ n → AreTo n files → AreTo n (files ++ file ∷ [])
+one_more n k files file is low high old p has =
+    either (has_point files p) (set.contains file.points p) ((1 ≤ p) × (p ≤ n)) (sym (has_point_more files file p) ∙ has) (old p) (one_is_to n k file is low high p)
+
+among : (n : ℕ) (after : Pass) (taken : List ℕ) → All (IsShown n after) taken → (p : ℕ) → is_one_of p (map suc taken) ≡ true → (1 ≤ p) × (p ≤ n)
+among n after [] shown p is = cc
+among n after (number ∷ taken) shown p is =
+    either (same_number p (suc number)) (is_one_of p (map suc taken)) ((1 ≤ p) × (p ≤ n)) is
+    (λ same. let p_is = is_it p (suc number) same in let low = (All-head (IsShown n after) number taken shown).0 in (omega (arith, p_is), omega (arith, p_is, low)))
+    (among n after taken (All-tail (IsShown n after) number taken shown) p)
+
+-- what a collapser holds has no other points than those that were asked for
+pub collapsed_to : (n : ℕ) (before after : Pass) (files : List File) → HasCollapsed n before after files → AreTo n files
+collapsed_to n before after files h p has = among n after h.taken h.shown p (sym (h.holds p) ∙ has)
+
 -- a ticket of the next point is taken
-pub one_taken : (n : ℕ) (old new : List File) (ticket : File) → ticket.points ≡ set.insert set.empty (n + 1) → new ≡ old ++ ticket ∷ [] → HaveAllTo n old → HaveAllTo (n + 1) new
-one_taken n old new ticket is appended before = subst (HaveAllTo (n + 1)) (sym appended) (all_and_next n (old ++ ticket ∷ []) (all_stay n old ticket before) (has_pushed old ticket (n + 1) is))
+pub one_taken : (points n : ℕ) (old new : List File) (ticket : File) → n < points → ticket.points ≡ set.insert set.empty (n + 1) → new ≡ old ++ ticket ∷ [] → HaveAllTo n old × AreTo points old → HaveAllTo (n + 1) new × AreTo points new
+one_taken points n old new ticket below is appended before =
+    let all = all_and_next n (old ++ ticket ∷ []) (all_stay n old ticket before.0) (has_pushed old ticket (n + 1) is) in
+    subst (λ files. HaveAllTo (n + 1) files × AreTo points files) (sym appended) (all, one_more points (n + 1) old ticket is (omega arith) (omega (arith, below)) before.1)
 
 -- or there is one already
-pub none_taken : (n : ℕ) (old new : List File) → has_point old (n + 1) ≡ true → new ≡ old → HaveAllTo n old → HaveAllTo (n + 1) new
-none_taken n old new there same before = subst (HaveAllTo (n + 1)) (sym same) (all_and_next n old before there)
+pub none_taken : (points n : ℕ) (old new : List File) → has_point old (n + 1) ≡ true → new ≡ old → HaveAllTo n old × AreTo points old → HaveAllTo (n + 1) new × AreTo points new
+none_taken points n old new there same before = subst (λ files. HaveAllTo (n + 1) files × AreTo points files) (sym same) (all_and_next n old before.0 there, before.1)

@@ -2,4 +2,4 @@ pub mod LoggingLaws
 mod BoardCalls
 mod ClientJobs
 mod Holding
-mod CoverLaws
+pub mod CoverLaws

@@ -3,7 +3,7 @@ ghost use Rattle.std.specs.Prelude.{◌≡◌, ◌&&◌, nat_le, IfOk};
 ghost use Rattle.pc_model.specs.Sets as set;
 ghost use Rattle.pc_part.specs.Parts.{covers};
 ghost use Rattle.pc_workers.specs.Collapsing.{has_point};
-ghost use Rattle.pc_workers.specs.Covering.{HaveAllTo};
+ghost use Rattle.pc_workers.specs.Covering.{AreTo, HaveJustTo};
 
 use pc_part::{Part, Range};
 use pc_shared::{PartTicket, Shared};
@@ -40,7 +40,8 @@ fn has_point<N: StoreName>(tickets: &[PartTicket<N>], point: u32) -> bool
     tickets.iter().any(|ticket| covers(ticket.part(), point))
 }
 
-/// The tickets, and behind them one of each point up to this that none of them has. Refuses as a ticket does, or with
+/// The tickets, whose files have no points but those from 1 to this, and behind them one of each such point that none of them
+/// has. Refuses as a ticket does, or with
 /// `OutOfMemory`; the tickets are then let go.
 pub fn with_missing_points<N: StoreName, R: Wait>(
     rt: &R,
@@ -48,7 +49,8 @@ pub fn with_missing_points<N: StoreName, R: Wait>(
     held: Vec<PartTicket<N>>,
     points: u32,
 ) -> Result<Vec<PartTicket<N>>, Refusal>
-    ensures { IfOk result (λ tickets. HaveAllTo points tickets.items) }
+    requires { AreTo points held.items }
+    ensures { IfOk result (λ tickets. HaveJustTo points tickets.items) }
 {
     let mut tickets = held;
     for others in 0..points {

@@ -1,7 +1,7 @@
-use Rattle.std.proofs.Common.{◌<◌, ◌+◌, List, length, drop, IsTrue, sym, subst, arith}
+use Rattle.std.proofs.Common.{◌<◌, ◌+◌, List, length, drop, sym, subst, arith}
 use Rattle.pc_model.specs.Files.{File}
 use Rattle.pc_board.specs.Passes.{Pass}
-use Rattle.pc_workers.specs.Collapsing.{has_point}
+use Rattle.pc_workers.specs.Covering.{HaveJustTo}
 use Rattle.pc_runs.proofs.HistoryLaws.{left_after}
 use Rattle.pc_runs.proofs.NewPasses.{some_passes}
 use Rattle.pc_runs.proofs.store.run_store.Goals as goal
@@ -19,7 +19,6 @@ leave-requires-clause-after g c κs bounds =
 pub returns-clause-run : goal.returns-clause-run
 returns-clause-run g c = (
   drop c.in_ok-ended.ended.singles c.close-closed.result.parts.items,
-  λ point some within.
-      subst (λ (files : List File). IsTrue (has_point (drop c.in_ok-ended.ended.singles files) point)) (sym c.close-closed.ensures.parts) (c.in_ok-ended.ensures.cover point some within),
+  subst (λ (files : List File). HaveJustTo c.args.workload.points (drop c.in_ok-ended.ended.singles files)) (sym c.close-closed.ensures.parts) c.in_ok-ended.ensures.cover,
   c.in_ok-left.ensures.history,
 )
