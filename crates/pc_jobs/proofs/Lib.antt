@@ -1,3 +1,4 @@
 mod PhraseLemmas
 mod WorkloadLemmas
 mod ReadLemmas
+mod Turns

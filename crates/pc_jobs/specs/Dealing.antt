@@ -1,13 +1,16 @@
--- How clients are dealt to workers, who are seen as the lists of their clients.
-use Rattle.std.specs.Prelude.{List, [], ◌∷◌, ◌++◌}
+-- How clients are dealt to workers, who are seen as the lists of their clients: in turn, so that the client at a place stands at
+-- the worker whose number is what is left of the place when it is divided by the number of workers. Both count from 0.
+use Rattle.std.specs.Prelude.{◌≡◌, ◌<◌, ◌%◌, ℕ, suc, nat_eq, if◌then◌else◌, List, [], ◌∷◌, length, slice_index_or}
 use Rattle.pc_jobs.specs.declared.works.Client.{Client}
 
--- the first one in the row gets the client, and goes to the end of the row
-abbrev pub dealt_one : List (List Client) → Client → List (List Client)
-dealt_one [] client = []
-dealt_one (first ∷ others) client = others ++ (first ++ client ∷ []) ∷ []
+-- of the clients, the first of whom stands at a place, those that this one of so many workers has
+abbrev pub share : ℕ → ℕ → ℕ → List Client → List Client
+share workers worker place [] = []
+share workers worker place (client ∷ clients) =
+    let others = share workers worker (suc place) clients in
+    if nat_eq (place % workers) worker then client ∷ others else others
 
--- each client in its turn
-abbrev pub dealt : List (List Client) → List Client → List (List Client)
-dealt row [] = row
-dealt row (client ∷ clients) = dealt (dealt_one row client) clients
+-- there are so many workers, and each has its share of the clients
+pub record IsDealt (workers : ℕ) (clients : List Client) (all : List (List Client)) : Type 0 where
+  pub count : length all ≡ workers
+  pub shares : (worker : ℕ) → worker < workers → slice_index_or all worker [] ≡ share workers worker 0 clients

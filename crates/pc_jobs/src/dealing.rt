@@ -1,6 +1,6 @@
 //! The clients of a workload are dealt to workers.
-ghost use Rattle.std.specs.Prelude.{◌≡◌, ◌≤◌, ◌<◌, [], length, replicate, IfOk, OnOk};
-ghost use Rattle.pc_jobs.specs.Dealing.{dealt, dealt_one};
+ghost use Rattle.std.specs.Prelude.{◌≡◌, ◌≤◌, ◌<◌, ◌++◌, [], ◌∷◌, length, replicate, slice_index_or, slice_set, IfOk, OnOk};
+ghost use Rattle.pc_jobs.specs.Dealing.{IsDealt};
 
 use crate::works::Client;
 use pc_types::Items;
@@ -17,15 +17,12 @@ fn idle_workers(alloc: Global, count: u8) -> Result<Vec<Items<Client>>, AllocErr
     Ok(workers)
 }
 
-// The first worker in the row gets the client, and goes to the end of the row.
-fn deal_one(workers: &mut Vec<Items<Client>>, client: Client) -> Result<(), AllocError>
-    requires { 0 < length workers.old.items }
-    ensures { OnOk result (workers.new.items ≡ dealt_one workers.old.items client) }
+// The worker gets the client, behind those that it has.
+fn give(workers: &mut Vec<Items<Client>>, worker: usize, client: Client) -> Result<(), AllocError>
+    requires { worker < length workers.old.items }
+    ensures { OnOk result (workers.new.items ≡ slice_set workers.old.items worker (slice_index_or workers.old.items worker [] ++ client ∷ [])) }
 {
-    let mut worker = workers.remove(0);
-    worker.push(client)?;
-    workers.push(worker)?;
-    Ok(())
+    workers[worker].push(client)
 }
 
 /// Deals the clients to so many workers, in turn: the first client to the first worker, and the next one to the next, until all
@@ -36,11 +33,14 @@ pub fn deal(
     clients: Items<Client>,
 ) -> Result<Vec<Items<Client>>, AllocError>
     requires { 1 ≤ workers }
-    ensures { IfOk result (λ all. all.items ≡ dealt (replicate workers []) clients) }
+    ensures { IfOk result (λ all. IsDealt workers clients all.items) }
 {
     let mut all = idle_workers(alloc, workers)?;
+    let mut place = 0u64;
     for client in clients.into_vec() {
-        deal_one(&mut all, client)?;
+        let worker = (place % u64::from(workers)) as usize;
+        give(&mut all, worker, client)?;
+        place += 1;
     }
     Ok(all)
 }

@@ -1,6 +1,9 @@
-use Rattle.std.proofs.Common.{◌≡◌, ◌<◌, [], length, replicate}
-use Rattle.pc_jobs.specs.Dealing.{dealt}
+use Rattle.std.proofs.Common.{◌≡◌, ◌<◌, ◌+◌, ◌^◌, length}
+use Rattle.pc_jobs.proofs.Turns.{HasTheirs}
 use Rattle.pc_jobs.proofs.dealing.deal.Given as goal
 
 abbrev pub invariant-loop-client : goal.invariant-loop-client
-invariant-loop-client l = (dealt l.all.items l.client-iterator.rest.items ≡ dealt (replicate l.fn.workers []) l.fn.clients) × (0 < length l.all.items)
+invariant-loop-client l =
+    (length l.all.items ≡ l.fn.workers)
+    × (l.place + length l.client-iterator.rest.items < 2 ^ 64)
+    × HasTheirs l.fn.workers l.fn.clients l.all.items l.place l.client-iterator.rest.items
