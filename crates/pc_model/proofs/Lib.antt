@@ -4,6 +4,7 @@ pub mod PairMapLaws
 pub mod PlaceLaws
 pub mod JoinLaws
 pub mod RisingLaws
+pub mod SearchLaws
 pub mod MergeItemLaws
 pub mod MergeLaws
 pub mod CountLaws

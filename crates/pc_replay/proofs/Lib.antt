@@ -1,6 +1,5 @@
 mod AuditLemmas
 mod ChangeLemmas
 mod FirstOfEach
-mod Halving
 mod TreeLemmas
 mod LaidInTurn

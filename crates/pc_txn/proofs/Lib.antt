@@ -1,4 +1,3 @@
-mod Halving
 mod Orders
 mod Written
 mod Noting

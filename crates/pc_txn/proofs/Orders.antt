@@ -16,7 +16,7 @@ use Rattle.pc_model.specs.Database.{key_cmp, key_order, same_bytes, KeysRise}
 use Rattle.pc_model.specs.Places.{IsAt, IsGap}
 use Rattle.pc_model.proofs.JoinLaws.{one_key}
 use Rattle.pc_model.proofs.PlaceLaws.{still_rise}
-use Rattle.pc_txn.proofs.Halving.{against, found_at, found_gap}
+use Rattle.pc_model.proofs.SearchLaws.{against, found_at, found_gap}
 use Rattle.pc_txn.specs.Orders.{place_of, key_at, entries, IsOrder}
 
 -- what a search among values of a function answers is what one among the arguments does

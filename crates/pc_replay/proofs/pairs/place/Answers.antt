@@ -1,6 +1,6 @@
 use Rattle.std.proofs.Common.{rules}
 use Rattle.std.proofs.lemmas.Fn.{always_returns_same}
-use Rattle.pc_replay.proofs.Halving.{against, found_at, found_here, found_gap}
+use Rattle.pc_model.proofs.SearchLaws.{against, found_at, found_here, found_gap}
 use Rattle.pc_replay.proofs.pairs.place.Goals as goal
 
 -- the closure compares a pair's key with this one

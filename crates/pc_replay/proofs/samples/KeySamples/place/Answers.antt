@@ -1,5 +1,5 @@
 use Rattle.std.proofs.Common.{length, ltb-true, sym}
-use Rattle.pc_replay.proofs.Halving.{hit_by}
+use Rattle.pc_model.proofs.SearchLaws.{hit_by}
 use Rattle.pc_replay.proofs.samples.KeySamples.place.Goals as goal
 
 -- the guess is right where the key is there
