@@ -103,16 +103,15 @@ impl Pairs {
     }
 }
 
-// The value of the first pair that has the key.
+// The value of the pair that has the key, in pairs that rise by key.
 fn value_of<'a>(pairs: &'a [(Key, Value)], key: &Key) -> Option<&'a Value>
+    requires { KeysRise pairs.now }
     ensures { option_copied result ≡ find key_cmp key.now pairs.now }
 {
-    for pair in pairs {
-        if key.is(&pair.0) {
-            return Some(&pair.1);
-        }
+    match place(pairs, key) {
+        Ok(i) => Some(&pairs[i].1),
+        Err(_) => None,
     }
-    None
 }
 
 /// Where the entry of the key is, or else where one would go, in entries that rise strictly by key: a search by halves.
