@@ -1,3 +1,3 @@
 mod HistoryLaws
 pub mod NewPasses
-mod ToLaws
+mod SingleLaws

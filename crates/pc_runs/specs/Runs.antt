@@ -14,10 +14,10 @@ use Rattle.pc_jobs.specs.declared.works.Workload.{Workload}
 use Rattle.pc_jobs.specs.declared.workloads.Reading.{Reading}
 use Rattle.pc_jobs.specs.declared.workloads.Reading.TheVariants as reading
 use Rattle.pc_script.specs.Recoveries.{TellsOf}
-use Rattle.pc_runs.specs.declared.fault.Fault.{Fault}
-use Rattle.pc_runs.specs.declared.fault.Fault.TheVariants as fault
-use Rattle.pc_runs.specs.declared.fault.Failure.{Failure}
-use Rattle.pc_runs.specs.declared.fault.Failure.TheVariants as failure
+use Rattle.pc_threads.specs.declared.fault.Fault.{Fault}
+use Rattle.pc_threads.specs.declared.fault.Fault.TheVariants as fault
+use Rattle.pc_runs.specs.declared.failure.Failure.{Failure}
+use Rattle.pc_runs.specs.declared.failure.Failure.TheVariants as failure
 use Rattle.pc_outcomes.specs.declared.outcome.Outcome.{Outcome}
 use Rattle.pc_outcomes.specs.declared.outcome.Printed.{Printed}
 use Rattle.pc_outcomes.specs.declared.outcome.Printed.TheVariants as printed

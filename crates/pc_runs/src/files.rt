@@ -4,12 +4,13 @@ ghost use Rattle.pc_types.specs.Tallies.{Puts};
 ghost use Rattle.pc_script.specs.Runs.{report_text};
 ghost use Rattle.pc_types.specs.declared.refusal.Refusal.TheVariants.{Device};
 ghost use Rattle.pc_texts.specs.FileNames.{name_of};
-ghost use Rattle.pc_runs.specs.declared.fault.Fault.TheVariants as Fault;
+ghost use Rattle.pc_model.specs.Sets as set;
+ghost use Rattle.pc_threads.specs.declared.fault.Fault.TheVariants as Fault;
 
-use crate::fault::Fault;
 use pc_part::{Base, Part};
 use pc_script::report;
 use pc_texts::{FileName, part_name};
+use pc_threads::Fault;
 use pc_types::{Point, Refusal, Tally};
 use std::io::Write;
 
@@ -63,12 +64,14 @@ pub fn begin_files<F: Write + Drop, D: NewFiles<F>>(
     make(folder, FileName::Log)
 }
 
-/// Writes the file of the point.
+/// Writes the file of the point, which is of it alone.
 pub fn write_part<F: Write + Drop, D: NewFiles<F>>(
     folder: &D,
     point: Point,
     part: &Part,
-) -> Result<(), Fault> {
+) -> Result<(), Fault>
+    requires { part.now.points ≡ set.insert set.empty point }
+{
     let mut file = make(folder, FileName::Part(point))?;
     part.encode(&mut file)?;
     flush(&mut file)

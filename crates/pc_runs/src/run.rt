@@ -1,10 +1,10 @@
 //! A run of a workload, from its reader to the status.
 ghost use Rattle.std.specs.Prelude.{◌≡◌, ◌⊎◌, IsOk, IfOk, IfErr, OnOk};
 ghost use Rattle.pc_runs.specs.Runs.{GoesOut, IsAnswer, IsCause, IsRun, IsTold, IsUnanswered, run_setting};
-ghost use Rattle.pc_runs.specs.declared.fault.Failure.{Failure};
+ghost use Rattle.pc_runs.specs.declared.failure.Failure.{Failure};
 
 use crate::crew::Crew;
-use crate::fault::{Failure, Fault, print};
+use crate::failure::{Failure, print};
 use crate::files::{NewFiles, begin_files};
 use crate::store::run_store;
 use pc_jobs::{Reading, Workload, read_workload};
@@ -12,6 +12,7 @@ use pc_outcomes::{Outcome, Printed};
 use pc_part::Base;
 use pc_script::{NamedFile, read_opened};
 use pc_shared::Opened;
+use pc_threads::Fault;
 use pc_types::{Gate, Refusal, Tally};
 use std::alloc::Global;
 use std::io::{Read, Write};

@@ -1,22 +1,22 @@
 //! A store of a workload, from its opening to what it leaves.
-ghost use Rattle.std.specs.Prelude.{◌≡◌, ◌≤◌, ◌<◌, All, length, drop, IfOk};
+ghost use Rattle.std.specs.Prelude.{◌≡◌, ◌≤◌, ◌<◌, All, length, take, drop, IfOk};
 ghost use Rattle.pc_model.specs.History.{History};
 ghost use Rattle.pc_board.specs.Passes.{IsOfBoard};
 ghost use Rattle.pc_outcomes.specs.Leaving.{AreLeftAfter};
-ghost use Rattle.pc_workers.specs.Covering.{AreTo, HaveJustTo};
+ghost use Rattle.pc_workers.specs.Covering.{HaveOnlyTo, HaveJustTo};
 ghost use Rattle.pc_runs.specs.Runs.{IsOfHistory, IsRun};
+ghost use Rattle.pc_runs.specs.Singles.{AreSingles};
 
-use crate::clients::{Seating, Worker, seat_workers};
 use crate::crew::Crew;
-use crate::fault::Fault;
 use crate::files::{NewFiles, flush, write_part};
-use crate::room::{Room, Seat};
-use crate::threads::{Collapser, Hands, Logger, Rested, Written, run_threads};
 use pc_board::{Board, BoardPass};
 use pc_jobs::{Workload, deal};
 use pc_outcomes::{Left, Outcome, commits_in, left_by};
 use pc_part::SharedPart;
 use pc_shared::{Closed, Opened, PartTicket, Session, Shared};
+use pc_threads::{
+    Fault, Logger, Rested, Room, Seating, Written, gather, hands_of, run_threads, seat_workers,
+};
 use pc_tie::StoreName;
 use pc_types::{FileNo, Gate, Point, Refusal, Tally};
 use pc_workers::{log_rest, with_missing_points};
@@ -36,47 +36,7 @@ struct Ended<N: StoreName> {
     // How many of the tickets are of a point whose file is to be written.
     singles: usize,
     ghost within: { singles ≤ length tickets.items },
-}
-
-// The collapsers, each with a pass of the board.
-fn seat_collapsers<'a>(
-    alloc: Global,
-    board: &'a Board,
-    passes: Vec<BoardPass>,
-) -> Result<Vec<Collapser<'a>>, AllocError>
-    requires { All (λ pass. IsOfBoard pass board.now) passes.items }
-{
-    let mut collapsers = Vec::new(alloc);
-    let mut number = 0u8;
-    for pass in passes {
-        let seat = Seat { board, pass };
-        collapsers.push(Collapser { number, seat })?;
-        number = number.wrapping_add(1);
-    }
-    Ok(collapsers)
-}
-
-// The workers with the collapsers, and the last of the passes for the checkpointer.
-fn hands_of<'a, N: StoreName>(
-    alloc: Global,
-    board: &'a Board,
-    passes: Vec<BoardPass>,
-    workers: Vec<Worker<N>>,
-) -> Result<Hands<'a, N>, AllocError>
-    requires some { 0 < length passes.items }
-    requires ours { All (λ pass. IsOfBoard pass board.now) passes.items }
-{
-    let mut passes = passes;
-    let Some(pass) = passes.pop() else {
-        unreachable!();
-    };
-    let checkpointer = Seat { board, pass };
-    let collapsers = seat_collapsers(alloc, board, passes)?;
-    Ok(Hands {
-        checkpointer,
-        workers,
-        collapsers,
-    })
+    ghost named: { AreSingles (take singles tickets.items) },
 }
 
 // A ticket of each point.
@@ -85,35 +45,14 @@ fn take_singles<N: StoreName, R: Wait>(
     alloc: Global,
     shared: &Shared<N>,
     points: u32,
-) -> Result<Vec<PartTicket<N>>, Refusal> {
+) -> Result<Vec<PartTicket<N>>, Refusal>
+    ensures { IfOk result (λ tickets. AreSingles tickets.items) }
+{
     let mut tickets = Vec::new(alloc);
     for others in 0..points {
         tickets.push(shared.take_part(rt, FileNo(others + 1))?)?;
     }
     Ok(tickets)
-}
-
-fn add_sessions<N: StoreName>(
-    sessions: &mut Vec<Session<N>>,
-    worker: Worker<N>,
-) -> Result<(), AllocError> {
-    for seated in worker.seats {
-        sessions.push(seated.session)?;
-    }
-    Ok(())
-}
-
-// The sessions of all clients join the others. How many jobs their workers gave up.
-fn gather<N: StoreName>(
-    sessions: &mut Vec<Session<N>>,
-    workers: Vec<Worker<N>>,
-) -> Result<u64, AllocError> {
-    let mut given_up = 0u64;
-    for worker in workers {
-        given_up = given_up.saturating_add(worker.count.given_up);
-        add_sessions(sessions, worker)?;
-    }
-    Ok(given_up)
 }
 
 // Takes back what the threads had: the sessions of all clients, and the tickets of the collapsers with those of the points that
@@ -127,7 +66,7 @@ fn take_back<N: StoreName, R: Wait>(
     idle: Vec<Session<N>>,
     rested: Rested<N>,
 ) -> Result<Ended<N>, Fault>
-    requires { AreTo points rested.held.items }
+    requires { HaveOnlyTo points rested.held.items }
     ensures cover { IfOk result (λ ended. HaveJustTo points (drop ended.singles ended.tickets.items)) }
 {
     let Rested { workers, held } = rested;
@@ -251,6 +190,7 @@ fn leave<N: StoreName, F: Write + Drop, D: NewFiles<F>, G: Gate + Sync, R: Threa
 ) -> Result<Legacy, Fault>
     requires logged { closed.logged ≤ length closed.world.log }
     requires singles { singles ≤ length closed.parts.items }
+    requires named { AreSingles (take singles closed.parts.items) }
     requires after { (history : History) × AreLeftAfter N.name.setting history closed.world.base closed.world.log closed.parts.items }
     ensures history { IfOk result (λ legacy. IsOfHistory N.name.setting legacy.commits (drop singles closed.parts.items) legacy.files) }
 {
@@ -294,14 +234,17 @@ fn files_of<N: StoreName>(
 fn write_parts<F: Write + Drop, D: NewFiles<F>>(
     folder: &Option<D>,
     files: &[SharedPart],
-) -> Result<(), Fault> {
+) -> Result<(), Fault>
+    requires { AreSingles files.now }
+{
     let Some(folder) = folder else {
         return Ok(());
     };
-    let mut point = 0u16;
-    for file in files {
-        point = point.saturating_add(1);
-        write_part(folder, Point(point), file.part())?;
+    for place in 0..files.len() {
+        let Ok(point) = u16::try_from(place + 1) else {
+            return Err(Fault::Refused(Refusal::Full));
+        };
+        write_part(folder, Point(point), files[place].part())?;
     }
     Ok(())
 }

@@ -8,14 +8,10 @@ use Rattle.pc_model.specs.Sets as set
 use Rattle.pc_model.specs.Sets.{Set, number_order}
 use Rattle.pc_model.specs.Files.{File}
 use Rattle.pc_model.specs.Numbers.{is_one_of, same_number}
-use Rattle.pc_model.proofs.SetLaws.{contains-from_list}
 use Rattle.pc_board.specs.Passes.{Pass}
 use Rattle.pc_workers.specs.Collapsing.{has_point, IsShown, HasCollapsed}
-use Rattle.pc_workers.specs.Covering.{HaveAllTo, AreTo}
-use Rattle.pc_workers.proofs.Holding.{has_point_more}
-
-one_point : (point number : ℕ) → set.contains (let one : Set number_order = set.insert set.empty number in one) point ≡ is_one_of point (number ∷ [])
-one_point point number = contains-from_list number_order (number ∷ []) point
+use Rattle.pc_workers.specs.Covering.{HaveAllTo, HaveOnlyTo}
+use Rattle.pc_workers.proofs.Holding.{one_point, has_point_more}
 
 -- the file of one point has it
 has_pushed : (files : List File) (file : File) (n : ℕ) → file.points ≡ set.insert set.empty n → IsTrue (has_point (files ++ file ∷ []) n)
@@ -56,7 +52,7 @@ one_is_to n k file is low high p has =
     let same : p ≡ k = either (same_number p k) false (p ≡ k) alone (is_it p k) (λ none. cc) in
     (subst (λ q. 1 ≤ q) (sym same) low, subst (λ q. q ≤ n) (sym same) high)
 
-one_more : (n k : ℕ) (files : List File) (file : File) → file.points ≡ set.insert set.empty k → 1 ≤ k → k ≤ n → AreTo n files → AreTo n (files ++ file ∷ [])
+one_more : (n k : ℕ) (files : List File) (file : File) → file.points ≡ set.insert set.empty k → 1 ≤ k → k ≤ n → HaveOnlyTo n files → HaveOnlyTo n (files ++ file ∷ [])
 one_more n k files file is low high old p has =
     either (has_point files p) (set.contains file.points p) ((1 ≤ p) × (p ≤ n)) (sym (has_point_more files file p) ∙ has) (old p) (one_is_to n k file is low high p)
 
@@ -67,16 +63,21 @@ among n after (number ∷ taken) shown p is =
     (λ same. let p_is = is_it p (suc number) same in let low = (All-head (IsShown n after) number taken shown).0 in (omega (arith, p_is), omega (arith, p_is, low)))
     (among n after taken (All-tail (IsShown n after) number taken shown) p)
 
+-- two lists of such files together
+pub both_to : (n : ℕ) (files more : List File) → HaveOnlyTo n files → HaveOnlyTo n more → HaveOnlyTo n (files ++ more)
+both_to n files more some others p has =
+    either (has_point files p) (has_point more p) ((1 ≤ p) × (p ≤ n)) (sym (list_any-append (λ (f : File). set.contains f.points p) files more) ∙ has) (some p) (others p)
+
 -- what a collapser holds has no other points than those that were asked for
-pub collapsed_to : (n : ℕ) (before after : Pass) (files : List File) → HasCollapsed n before after files → AreTo n files
+pub collapsed_to : (n : ℕ) (before after : Pass) (files : List File) → HasCollapsed n before after files → HaveOnlyTo n files
 collapsed_to n before after files h p has = among n after h.taken h.shown p (sym (h.holds p) ∙ has)
 
 -- a ticket of the next point is taken
-pub one_taken : (points n : ℕ) (old new : List File) (ticket : File) → n < points → ticket.points ≡ set.insert set.empty (n + 1) → new ≡ old ++ ticket ∷ [] → HaveAllTo n old × AreTo points old → HaveAllTo (n + 1) new × AreTo points new
+pub one_taken : (points n : ℕ) (old new : List File) (ticket : File) → n < points → ticket.points ≡ set.insert set.empty (n + 1) → new ≡ old ++ ticket ∷ [] → HaveAllTo n old × HaveOnlyTo points old → HaveAllTo (n + 1) new × HaveOnlyTo points new
 one_taken points n old new ticket below is appended before =
     let all = all_and_next n (old ++ ticket ∷ []) (all_stay n old ticket before.0) (has_pushed old ticket (n + 1) is) in
-    subst (λ files. HaveAllTo (n + 1) files × AreTo points files) (sym appended) (all, one_more points (n + 1) old ticket is (omega arith) (omega (arith, below)) before.1)
+    subst (λ files. HaveAllTo (n + 1) files × HaveOnlyTo points files) (sym appended) (all, one_more points (n + 1) old ticket is (omega arith) (omega (arith, below)) before.1)
 
 -- or there is one already
-pub none_taken : (points n : ℕ) (old new : List File) → has_point old (n + 1) ≡ true → new ≡ old → HaveAllTo n old × AreTo points old → HaveAllTo (n + 1) new × AreTo points new
-none_taken points n old new there same before = subst (λ files. HaveAllTo (n + 1) files × AreTo points files) (sym same) (all_and_next n old before.0 there, before.1)
+pub none_taken : (points n : ℕ) (old new : List File) → has_point old (n + 1) ≡ true → new ≡ old → HaveAllTo n old × HaveOnlyTo points old → HaveAllTo (n + 1) new × HaveOnlyTo points new
+none_taken points n old new there same before = subst (λ files. HaveAllTo (n + 1) files × HaveOnlyTo points files) (sym same) (all_and_next n old before.0 there, before.1)

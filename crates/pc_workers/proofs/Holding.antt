@@ -44,7 +44,7 @@ has_point_joined files last file point =
     ∙ ap (λ (b : Bool). b || set.contains file.points point) (sym (list_any-append any files (last ∷ [])))))
 
 -- the set of one point
-one_point : (point number : ℕ) → set.contains (let one : Set number_order = set.insert set.empty number in one) point ≡ is_one_of point (number ∷ [])
+pub one_point : (point number : ℕ) → set.contains (let one : Set number_order = set.insert set.empty number in one) point ≡ is_one_of point (number ∷ [])
 one_point point number = contains-from_list number_order (number ∷ []) point
 
 -- What was claimed since was shown, and the files have just the points behind it.

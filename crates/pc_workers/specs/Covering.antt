@@ -8,9 +8,9 @@ abbrev pub HaveAllTo : ℕ → List File → Type 0
 HaveAllTo points files = (point : ℕ) → 1 ≤ point → point ≤ points → IsTrue (has_point files point)
 
 -- each point that some of the files has is one of those from 1 to this
-abbrev pub AreTo : ℕ → List File → Type 0
-AreTo points files = (point : ℕ) → IsTrue (has_point files point) → (1 ≤ point) × (point ≤ points)
+abbrev pub HaveOnlyTo : ℕ → List File → Type 0
+HaveOnlyTo points files = (point : ℕ) → IsTrue (has_point files point) → (1 ≤ point) × (point ≤ points)
 
 -- the files have just the points from 1 to this
 abbrev pub HaveJustTo : ℕ → List File → Type 0
-HaveJustTo points files = HaveAllTo points files × AreTo points files
+HaveJustTo points files = HaveAllTo points files × HaveOnlyTo points files

@@ -3,7 +3,7 @@ ghost use Rattle.std.specs.Prelude.{◌≡◌, ◌&&◌, nat_le, IfOk};
 ghost use Rattle.pc_model.specs.Sets as set;
 ghost use Rattle.pc_part.specs.Parts.{covers};
 ghost use Rattle.pc_workers.specs.Collapsing.{has_point};
-ghost use Rattle.pc_workers.specs.Covering.{AreTo, HaveJustTo};
+ghost use Rattle.pc_workers.specs.Covering.{HaveOnlyTo, HaveJustTo};
 
 use pc_part::{Part, Range};
 use pc_shared::{PartTicket, Shared};
@@ -49,7 +49,7 @@ pub fn with_missing_points<N: StoreName, R: Wait>(
     held: Vec<PartTicket<N>>,
     points: u32,
 ) -> Result<Vec<PartTicket<N>>, Refusal>
-    requires { AreTo points held.items }
+    requires { HaveOnlyTo points held.items }
     ensures { IfOk result (λ tickets. HaveJustTo points tickets.items) }
 {
     let mut tickets = held;

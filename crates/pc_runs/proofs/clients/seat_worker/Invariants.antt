@@ -1,5 +1,0 @@
-use Rattle.std.proofs.Common.{◌≡◌, ◌++◌, map}
-use Rattle.pc_runs.proofs.clients.seat_worker.Given as goal
-
-abbrev pub invariant-loop-client : goal.invariant-loop-client
-invariant-loop-client g l = map (λ seated. seated.client) l.seats.items ++ l.client-iterator.rest.items ≡ l.fn.clients

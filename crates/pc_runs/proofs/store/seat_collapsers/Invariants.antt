@@ -1,6 +1,0 @@
-use Rattle.std.proofs.Common.{All}
-use Rattle.pc_board.specs.Passes.{IsOfBoard}
-use Rattle.pc_runs.proofs.store.seat_collapsers.Given as goal
-
-abbrev pub invariant-loop-pass : goal.invariant-loop-pass
-invariant-loop-pass l = All (λ pass. IsOfBoard pass l.board) l.pass-iterator.rest.items

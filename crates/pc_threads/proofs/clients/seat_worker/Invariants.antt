@@ -1,0 +1,5 @@
+use Rattle.std.proofs.Common.{◌≡◌, ◌++◌, map}
+use Rattle.pc_threads.proofs.clients.seat_worker.Given as goal
+
+abbrev pub invariant-loop-client : goal.invariant-loop-client
+invariant-loop-client g l = map (λ seated. seated.client) l.seats.items ++ l.client-iterator.rest.items ≡ l.fn.clients

@@ -1,0 +1,48 @@
+//! Why a run failed.
+ghost use Rattle.std.specs.Prelude.{◌≡◌};
+ghost use Rattle.pc_types.specs.declared.refusal.Refusal.TheVariants.{OutOfMemory};
+
+use pc_texts::FileName;
+use pc_types::Refusal;
+use std::alloc::{AllocError, AllocFailed};
+
+/// Why a run failed.
+#[derive(Clone, Copy, Debug, PartialEq, Eq)]
+pub enum Fault {
+    /// The workload can't be had, a file can't be written, memory ran out, or another call was refused.
+    Refused(Refusal),
+    /// The file can't be made.
+    Unmade(FileName, Refusal),
+    /// A thread can't be started.
+    NoThread,
+}
+
+impl From<Refusal> for Fault {
+    ghost use Rattle.pc_threads.specs.declared.fault.Fault.TheVariants.{Refused};
+
+    ghost from_gives = { λ why fault. fault ≡ Refused why };
+
+    fn from(why: Refusal) -> Fault {
+        Fault::Refused(why)
+    }
+}
+
+impl From<AllocError> for Fault {
+    ghost use Rattle.pc_threads.specs.declared.fault.Fault.TheVariants.{Refused};
+
+    ghost from_gives = { λ _ fault. fault ≡ Refused OutOfMemory };
+
+    fn from(_e: AllocError) -> Fault {
+        Fault::Refused(Refusal::OutOfMemory)
+    }
+}
+
+impl<T: Drop> From<AllocFailed<T>> for Fault {
+    ghost use Rattle.pc_threads.specs.declared.fault.Fault.TheVariants.{Refused};
+
+    ghost from_gives = { λ _ fault. fault ≡ Refused OutOfMemory };
+
+    fn from(_e: AllocFailed<T>) -> Fault {
+        Fault::Refused(Refusal::OutOfMemory)
+    }
+}

@@ -1,0 +1,72 @@
+//! Who runs a workload on a store: a checkpointer and collapsers, each with a pass of one board, and workers.
+ghost use Rattle.std.specs.Prelude.{◌<◌, All, length};
+ghost use Rattle.pc_board.specs.Passes.{IsOfBoard};
+
+use crate::clients::Worker;
+use pc_board::{Board, BoardPass};
+use pc_tie::StoreName;
+use std::alloc::{AllocError, Global};
+
+/// A board, and a pass of it.
+#[derive(Drop)]
+pub struct Seat<'a> {
+    pub board: &'a Board,
+    pub pass: BoardPass,
+    ghost ours: { IsOfBoard pass board.now },
+}
+
+/// A collapser: its number, from 0, and its seat at the board.
+#[derive(Drop)]
+pub struct Collapser<'a> {
+    pub number: u8,
+    pub seat: Seat<'a>,
+}
+
+/// Who runs a workload: the checkpointer at its seat, workers with their clients, and collapsers.
+#[derive(Drop)]
+pub struct Hands<'a, N: StoreName> {
+    pub checkpointer: Seat<'a>,
+    pub workers: Vec<Worker<N>>,
+    pub collapsers: Vec<Collapser<'a>>,
+}
+
+// The collapsers, each with a pass of the board.
+fn seat_collapsers<'a>(
+    alloc: Global,
+    board: &'a Board,
+    passes: Vec<BoardPass>,
+) -> Result<Vec<Collapser<'a>>, AllocError>
+    requires { All (λ pass. IsOfBoard pass board.now) passes.items }
+{
+    let mut collapsers = Vec::new(alloc);
+    let mut number = 0u8;
+    for pass in passes {
+        let seat = Seat { board, pass };
+        collapsers.push(Collapser { number, seat })?;
+        number = number.wrapping_add(1);
+    }
+    Ok(collapsers)
+}
+
+/// The workers with the collapsers, and the last of the passes for the checkpointer. It fails only where memory ran out.
+pub fn hands_of<'a, N: StoreName>(
+    alloc: Global,
+    board: &'a Board,
+    passes: Vec<BoardPass>,
+    workers: Vec<Worker<N>>,
+) -> Result<Hands<'a, N>, AllocError>
+    requires some { 0 < length passes.items }
+    requires ours { All (λ pass. IsOfBoard pass board.now) passes.items }
+{
+    let mut passes = passes;
+    let Some(pass) = passes.pop() else {
+        unreachable!();
+    };
+    let checkpointer = Seat { board, pass };
+    let collapsers = seat_collapsers(alloc, board, passes)?;
+    Ok(Hands {
+        checkpointer,
+        workers,
+        collapsers,
+    })
+}
