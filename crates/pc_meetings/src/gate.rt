@@ -4,18 +4,18 @@ use pc_types::{Gate, Place};
 use std::sync::atomic::{AtomicU64, Ordering};
 use std::thread;
 
-/// Who comes to a place the so-manyth time stands there until the others have been at theirs so often.
+/// The so-manyth time that somebody comes to a place.
 #[derive(Clone, Copy)]
-pub struct Stop {
-    pub at: Sign,
-    pub time: u64,
-    pub until: [(Sign, u64); 2],
-}
+pub struct Visit(pub Sign, pub u64);
+
+/// Who makes the first visit stands there until the second was made.
+#[derive(Clone, Copy)]
+pub struct Stop(pub Visit, pub Visit);
 
 /// A gate with stops. At each place it lets other threads go first, so that their ways mix.
 #[derive(Drop)]
 pub struct Meeting {
-    stops: [Option<Stop>; 4],
+    stops: &'static [Stop],
     counts: Counts,
     missed: AtomicU64,
 }
@@ -25,7 +25,7 @@ const TURNS: u32 = 10_000_000;
 
 impl Meeting {
     /// Nobody has come yet.
-    pub fn new(stops: [Option<Stop>; 4]) -> Meeting {
+    pub fn new(stops: &'static [Stop]) -> Meeting {
         Meeting {
             stops,
             counts: Counts::new(),
@@ -39,21 +39,17 @@ impl Meeting {
     }
 
     // Stands where the stop is at this sign and time.
-    fn stop(&self, stop: Stop, sign: Sign, time: u64) {
-        if stop.at == sign && stop.time == time {
-            self.stand(&stop.until);
+    fn stop(&self, stop: &Stop, sign: Sign, time: u64) {
+        let Stop(Visit(at, which), theirs) = *stop;
+        if at == sign && which == time {
+            self.stand(theirs);
         }
     }
 
-    fn have_come(&self, until: &[(Sign, u64); 2]) -> bool {
-        let [first, second] = *until;
-        self.counts.get(first.0) >= first.1 && self.counts.get(second.0) >= second.1
-    }
-
-    // Stands until they have come; where they don't it goes on, and the meeting has failed.
-    fn stand(&self, until: &[(Sign, u64); 2]) {
+    // Stands until the visit was made; where it isn't it goes on, and the meeting has failed.
+    fn stand(&self, theirs: Visit) {
         for _ in 0..TURNS {
-            if self.have_come(until) {
+            if self.counts.get(theirs.0) >= theirs.1 {
                 return;
             }
             thread::yield_now();
@@ -70,9 +66,7 @@ impl Gate for Meeting {
         };
         let time = self.counts.note(sign);
         for stop in self.stops {
-            if let Some(stop) = stop {
-                self.stop(stop, sign, time);
-            }
+            self.stop(stop, sign, time);
         }
     }
 }

@@ -10,14 +10,14 @@ pub enum Ask {
     Put(u8, u8),
 }
 
-/// A transaction of at most two operations.
-pub type Asks = [Option<Ask>; 2];
+/// The operations of a transaction.
+pub type Asks = &'static [Ask];
 
 /// What the sessions do, from the first on.
 #[derive(Clone, Copy)]
 pub enum Work {
-    /// Two sessions, with at most two transactions each.
-    Listed([[Option<Asks>; 2]; 2]),
+    /// Of each session its transactions.
+    Listed(&'static [&'static [Asks]]),
     /// So many sessions, so many transactions each, as they are made.
     Made(u8, u16, Made),
 }
@@ -35,7 +35,7 @@ impl Work {
     /// The jobs of each session.
     pub fn jobs(&self, alloc: Global) -> Result<Vec<Vec<Job>>, Refusal> {
         match *self {
-            Work::Listed(sessions) => listed(alloc, &sessions),
+            Work::Listed(sessions) => listed(alloc, sessions),
             Work::Made(sessions, count, made) => all_made(alloc, sessions, count, made),
         }
     }
@@ -53,29 +53,25 @@ fn op_of(alloc: Global, ask: Ask) -> Result<Op, Refusal> {
     })
 }
 
-fn job_of(alloc: Global, asks: &[Option<Ask>]) -> Result<Job, Refusal> {
+fn job_of(alloc: Global, asks: &[Ask]) -> Result<Job, Refusal> {
     let mut ops = Vec::new(alloc);
     for ask in asks {
-        if let Some(ask) = ask {
-            ops.push(op_of(alloc, *ask)?)?;
-        }
+        ops.push(op_of(alloc, *ask)?)?;
     }
     Ok(Job {
         ops: Items::from_vec(ops),
     })
 }
 
-fn jobs_of(alloc: Global, transactions: &[Option<Asks>]) -> Result<Vec<Job>, Refusal> {
+fn jobs_of(alloc: Global, transactions: &[Asks]) -> Result<Vec<Job>, Refusal> {
     let mut jobs = Vec::new(alloc);
     for asks in transactions {
-        if let Some(asks) = asks {
-            jobs.push(job_of(alloc, asks)?)?;
-        }
+        jobs.push(job_of(alloc, asks)?)?;
     }
     Ok(jobs)
 }
 
-fn listed(alloc: Global, sessions: &[[Option<Asks>; 2]; 2]) -> Result<Vec<Vec<Job>>, Refusal> {
+fn listed(alloc: Global, sessions: &[&[Asks]]) -> Result<Vec<Vec<Job>>, Refusal> {
     let mut all = Vec::new(alloc);
     for transactions in sessions {
         all.push(jobs_of(alloc, transactions)?)?;
@@ -116,9 +112,9 @@ fn job_in_crowd(alloc: Global, session: u8, number: u16) -> Result<Job, Refusal>
     let [first, second, third] = keys_of(session, number);
     let [_, low] = number.to_be_bytes();
     let asks = [
-        Some(Ask::Get(first)),
-        Some(Ask::Put(second, session)),
-        Some(Ask::Put(third, low)),
+        Ask::Get(first),
+        Ask::Put(second, session),
+        Ask::Put(third, low),
     ];
     job_of(alloc, &asks)
 }

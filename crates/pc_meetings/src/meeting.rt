@@ -26,7 +26,7 @@ pub struct Plan {
     /// Whether a collapser joins the points' files beside all others.
     pub collapses: bool,
     pub work: Work,
-    pub stops: [Option<Stop>; 4],
+    pub stops: &'static [Stop],
 }
 
 /// What the threads leave.

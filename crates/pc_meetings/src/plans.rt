@@ -1,5 +1,5 @@
 //! The meetings.
-use crate::gate::Stop;
+use crate::gate::{Stop, Visit};
 use crate::jobs::{Ask, Made, Work};
 use crate::meeting::Plan;
 use crate::signs::Sign;
@@ -10,34 +10,16 @@ const BESIDE_A_POINT: Plan = Plan {
     sessions: 2,
     points: 1,
     collapses: false,
-    work: Work::Listed([
-        [Some([Some(Ask::Put(b'a', 1)), None]), None],
-        [
-            Some([Some(Ask::Put(b'c', 1)), None]),
-            Some([Some(Ask::Put(b'b', 1)), None]),
-        ],
+    work: Work::Listed(&[
+        &[&[Ask::Put(b'a', 1)]],
+        &[&[Ask::Put(b'c', 1)], &[Ask::Put(b'b', 1)]],
     ]),
-    stops: [
-        Some(Stop {
-            at: Sign::PrepareIsDue,
-            time: 1,
-            until: [(Sign::SecondCommits, 1), (Sign::SecondCommits, 1)],
-        }),
-        Some(Stop {
-            at: Sign::FirstStarts,
-            time: 1,
-            until: [(Sign::EntersResolve, 1), (Sign::EntersResolve, 1)],
-        }),
-        Some(Stop {
-            at: Sign::SecondStarts,
-            time: 2,
-            until: [(Sign::FirstSteps, 1), (Sign::FirstSteps, 1)],
-        }),
-        Some(Stop {
-            at: Sign::FirstSteps,
-            time: 1,
-            until: [(Sign::SecondCommits, 2), (Sign::Takes, 1)],
-        }),
+    stops: &[
+        Stop(Visit(Sign::PrepareIsDue, 1), Visit(Sign::SecondCommits, 1)),
+        Stop(Visit(Sign::FirstStarts, 1), Visit(Sign::EntersResolve, 1)),
+        Stop(Visit(Sign::SecondStarts, 2), Visit(Sign::FirstSteps, 1)),
+        Stop(Visit(Sign::FirstSteps, 1), Visit(Sign::SecondCommits, 2)),
+        Stop(Visit(Sign::FirstSteps, 1), Visit(Sign::Takes, 1)),
     ],
 };
 
@@ -47,20 +29,10 @@ const COLLAPSE_BESIDE: Plan = Plan {
     sessions: 1,
     points: 3,
     collapses: true,
-    work: Work::Listed([[Some([Some(Ask::Put(b'a', 1)), None]), None], [None, None]]),
-    stops: [
-        Some(Stop {
-            at: Sign::FirstStarts,
-            time: 1,
-            until: [(Sign::EntersResolve, 3), (Sign::EntersResolve, 3)],
-        }),
-        Some(Stop {
-            at: Sign::FirstSteps,
-            time: 1,
-            until: [(Sign::Pairs, 1), (Sign::Pairs, 1)],
-        }),
-        None,
-        None,
+    work: Work::Listed(&[&[&[Ask::Put(b'a', 1)]]]),
+    stops: &[
+        Stop(Visit(Sign::FirstStarts, 1), Visit(Sign::EntersResolve, 3)),
+        Stop(Visit(Sign::FirstSteps, 1), Visit(Sign::Pairs, 1)),
     ],
 };
 
@@ -69,20 +41,8 @@ const READ_BACK: Plan = Plan {
     sessions: 2,
     points: 0,
     collapses: false,
-    work: Work::Listed([
-        [Some([Some(Ask::Get(b'k')), None]), None],
-        [Some([Some(Ask::Put(b'k', 1)), None]), None],
-    ]),
-    stops: [
-        Some(Stop {
-            at: Sign::FirstStarts,
-            time: 1,
-            until: [(Sign::SecondCommits, 1), (Sign::SecondCommits, 1)],
-        }),
-        None,
-        None,
-        None,
-    ],
+    work: Work::Listed(&[&[&[Ask::Get(b'k')]], &[&[Ask::Put(b'k', 1)]]]),
+    stops: &[Stop(Visit(Sign::FirstStarts, 1), Visit(Sign::SecondCommits, 1))],
 };
 
 // Each session stands with a key of its own locked until the other one does.
@@ -90,23 +50,10 @@ const SESSIONS_MEET: Plan = Plan {
     sessions: 2,
     points: 0,
     collapses: false,
-    work: Work::Listed([
-        [Some([Some(Ask::Put(b'a', 1)), None]), None],
-        [Some([Some(Ask::Put(b'b', 1)), None]), None],
-    ]),
-    stops: [
-        Some(Stop {
-            at: Sign::FirstSteps,
-            time: 1,
-            until: [(Sign::SecondSteps, 1), (Sign::SecondSteps, 1)],
-        }),
-        Some(Stop {
-            at: Sign::SecondSteps,
-            time: 1,
-            until: [(Sign::FirstSteps, 1), (Sign::FirstSteps, 1)],
-        }),
-        None,
-        None,
+    work: Work::Listed(&[&[&[Ask::Put(b'a', 1)]], &[&[Ask::Put(b'b', 1)]]]),
+    stops: &[
+        Stop(Visit(Sign::FirstSteps, 1), Visit(Sign::SecondSteps, 1)),
+        Stop(Visit(Sign::SecondSteps, 1), Visit(Sign::FirstSteps, 1)),
     ],
 };
 
@@ -116,30 +63,14 @@ const YOUNGER_DIES: Plan = Plan {
     sessions: 2,
     points: 0,
     collapses: false,
-    work: Work::Listed([
-        [Some([Some(Ask::Put(b'a', 1)), None]), None],
-        [
-            Some([Some(Ask::Put(b'b', 2)), Some(Ask::Put(b'a', 2))]),
-            None,
-        ],
+    work: Work::Listed(&[
+        &[&[Ask::Put(b'a', 1)]],
+        &[&[Ask::Put(b'b', 2), Ask::Put(b'a', 2)]],
     ]),
-    stops: [
-        Some(Stop {
-            at: Sign::SecondStarts,
-            time: 1,
-            until: [(Sign::FirstSteps, 1), (Sign::FirstSteps, 1)],
-        }),
-        Some(Stop {
-            at: Sign::FirstSteps,
-            time: 1,
-            until: [(Sign::SecondStarts, 2), (Sign::SecondStarts, 2)],
-        }),
-        Some(Stop {
-            at: Sign::SecondStarts,
-            time: 2,
-            until: [(Sign::FirstCommits, 1), (Sign::FirstCommits, 1)],
-        }),
-        None,
+    stops: &[
+        Stop(Visit(Sign::SecondStarts, 1), Visit(Sign::FirstSteps, 1)),
+        Stop(Visit(Sign::FirstSteps, 1), Visit(Sign::SecondStarts, 2)),
+        Stop(Visit(Sign::SecondStarts, 2), Visit(Sign::FirstCommits, 1)),
     ],
 };
 
@@ -149,7 +80,7 @@ const APART: Plan = Plan {
     points: 0,
     collapses: false,
     work: Work::Made(4, 1000, Made::Apart),
-    stops: [None, None, None, None],
+    stops: &[],
 };
 
 // As many sessions as there may be, over ten keys, beside points.
@@ -158,7 +89,7 @@ const CROWD: Plan = Plan {
     points: 8,
     collapses: false,
     work: Work::Made(64, 2, Made::Crowded),
-    stops: [None, None, None, None],
+    stops: &[],
 };
 
 /// All of them, with their names.

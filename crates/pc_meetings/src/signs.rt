@@ -40,51 +40,19 @@ pub fn sign_of(place: Place) -> Option<Sign> {
 /// How often each was passed.
 #[derive(Drop)]
 pub struct Counts {
-    first_starts: AtomicU64,
-    second_starts: AtomicU64,
-    first_steps: AtomicU64,
-    second_steps: AtomicU64,
-    first_commits: AtomicU64,
-    second_commits: AtomicU64,
-    prepare_is_due: AtomicU64,
-    enters_resolve: AtomicU64,
-    enters_complete: AtomicU64,
-    takes: AtomicU64,
-    pairs: AtomicU64,
+    counts: [AtomicU64; 11],
 }
 
 impl Counts {
     /// Nothing was passed.
     pub fn new() -> Counts {
         Counts {
-            first_starts: AtomicU64::new(0),
-            second_starts: AtomicU64::new(0),
-            first_steps: AtomicU64::new(0),
-            second_steps: AtomicU64::new(0),
-            first_commits: AtomicU64::new(0),
-            second_commits: AtomicU64::new(0),
-            prepare_is_due: AtomicU64::new(0),
-            enters_resolve: AtomicU64::new(0),
-            enters_complete: AtomicU64::new(0),
-            takes: AtomicU64::new(0),
-            pairs: AtomicU64::new(0),
+            counts: [const { AtomicU64::new(0) }; 11],
         }
     }
 
     fn of(&self, sign: Sign) -> &AtomicU64 {
-        match sign {
-            Sign::FirstStarts => &self.first_starts,
-            Sign::SecondStarts => &self.second_starts,
-            Sign::FirstSteps => &self.first_steps,
-            Sign::SecondSteps => &self.second_steps,
-            Sign::FirstCommits => &self.first_commits,
-            Sign::SecondCommits => &self.second_commits,
-            Sign::PrepareIsDue => &self.prepare_is_due,
-            Sign::EntersResolve => &self.enters_resolve,
-            Sign::EntersComplete => &self.enters_complete,
-            Sign::Takes => &self.takes,
-            Sign::Pairs => &self.pairs,
-        }
+        &self.counts[sign as usize]
     }
 
     /// Counts the sign once more, and gives its count.
