@@ -1,5 +1,6 @@
 //! The clients of a workload: each has a session, and each worker runs its own clients, one after the other.
-ghost use Rattle.std.specs.Prelude.{◌≡◌, IfOk, IfErr};
+ghost use Rattle.std.specs.Prelude.{◌≡◌, ◌⊎◌, IfOk, IfErr};
+ghost use Rattle.pc_types.specs.declared.refusal.Refusal.TheVariants.{NoSession, OutOfMemory};
 
 use crate::room::Room;
 use pc_jobs::{Client, Fill, Job, Work};
@@ -60,7 +61,7 @@ fn take_session<N: StoreName>(
     number: SessionNo,
 ) -> Result<Session<N>, Refusal>
     ensures own { IfOk result (λ session. session.number ≡ number) }
-    ensures refused { IfErr result (λ why. why ≡ Refusal.NoSession) }
+    ensures refused { IfErr result (λ why. why ≡ NoSession) }
 {
     for place in 0..sessions.len() {
         if sessions[place].number() == number {
@@ -76,7 +77,8 @@ fn seat_worker<N: StoreName>(
     clients: Items<Client>,
     sessions: &mut Vec<Session<N>>,
 ) -> Result<Worker<N>, Refusal>
-    ensures { IfOk result (λ worker. worker ≡ clients) }
+    ensures clients { IfOk result (λ worker. worker ≡ clients) }
+    ensures refused { IfErr result (λ why. (why ≡ NoSession) ⊎ (why ≡ OutOfMemory)) }
 {
     let mut seats = Vec::new(alloc);
     for client in clients.into_vec() {
@@ -96,7 +98,8 @@ pub fn seat_workers<N: StoreName>(
     dealt: Vec<Items<Client>>,
     sessions: Vec<Session<N>>,
 ) -> Result<Seating<N>, Refusal>
-    ensures { IfOk result (λ seating. seating.workers.items ≡ dealt.items) }
+    ensures clients { IfOk result (λ seating. seating.workers.items ≡ dealt.items) }
+    ensures refused { IfErr result (λ why. (why ≡ NoSession) ⊎ (why ≡ OutOfMemory)) }
 {
     let mut idle = sessions;
     let mut workers = Vec::new(alloc);

@@ -1,5 +1,5 @@
 //! Who runs a workload on a store: a checkpointer and collapsers, each with a pass of one board, and workers.
-ghost use Rattle.std.specs.Prelude.{◌<◌, All, length};
+ghost use Rattle.std.specs.Prelude.{◌≡◌, ◌+◌, ◌<◌, All, length, IfOk};
 ghost use Rattle.pc_board.specs.Passes.{IsOfBoard};
 
 use crate::clients::Worker;
@@ -37,6 +37,7 @@ fn seat_collapsers<'a>(
     passes: Vec<BoardPass>,
 ) -> Result<Vec<Collapser<'a>>, AllocError>
     requires { All (λ pass. IsOfBoard pass board.now) passes.items }
+    ensures { IfOk result (λ collapsers. length collapsers.items ≡ length passes.items) }
 {
     let mut collapsers = Vec::new(alloc);
     let mut number = 0u8;
@@ -48,7 +49,7 @@ fn seat_collapsers<'a>(
     Ok(collapsers)
 }
 
-/// The workers with the collapsers, and the last of the passes for the checkpointer. It fails only where memory ran out.
+/// The workers, a collapser for each pass but the last one, and that one for the checkpointer. It fails only where memory ran out.
 pub fn hands_of<'a, N: StoreName>(
     alloc: Global,
     board: &'a Board,
@@ -57,6 +58,8 @@ pub fn hands_of<'a, N: StoreName>(
 ) -> Result<Hands<'a, N>, AllocError>
     requires some { 0 < length passes.items }
     requires ours { All (λ pass. IsOfBoard pass board.now) passes.items }
+    ensures workers { IfOk result (λ hands. hands.workers.items ≡ workers.items) }
+    ensures collapsers { IfOk result (λ hands. length hands.collapsers.items + 1 ≡ length passes.items) }
 {
     let mut passes = passes;
     let Some(pass) = passes.pop() else {

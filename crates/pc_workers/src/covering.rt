@@ -1,9 +1,9 @@
 //! The points that the files of tickets have.
-ghost use Rattle.std.specs.Prelude.{◌≡◌, ◌&&◌, nat_le, IfOk};
+ghost use Rattle.std.specs.Prelude.{◌≡◌, ◌&&◌, nat_le, IfOk, IfErr};
 ghost use Rattle.pc_model.specs.Sets as set;
 ghost use Rattle.pc_part.specs.Parts.{covers};
 ghost use Rattle.pc_workers.specs.Collapsing.{has_point};
-ghost use Rattle.pc_workers.specs.Covering.{HaveOnlyTo, HaveJustTo};
+ghost use Rattle.pc_workers.specs.Covering.{HaveOnlyTo, HaveJustTo, IsMissing};
 
 use pc_part::{Part, Range};
 use pc_shared::{PartTicket, Shared};
@@ -41,8 +41,7 @@ fn has_point<N: StoreName>(tickets: &[PartTicket<N>], point: u32) -> bool
 }
 
 /// The tickets, whose files have no points but those from 1 to this, and behind them one of each such point that none of them
-/// has. Refuses as a ticket does, or with
-/// `OutOfMemory`; the tickets are then let go.
+/// has. Refuses as a ticket of one of these points does, or with `OutOfMemory`; the tickets are then let go.
 pub fn with_missing_points<N: StoreName, R: Wait>(
     rt: &R,
     shared: &Shared<N>,
@@ -50,7 +49,8 @@ pub fn with_missing_points<N: StoreName, R: Wait>(
     points: u32,
 ) -> Result<Vec<PartTicket<N>>, Refusal>
     requires { HaveOnlyTo points held.items }
-    ensures { IfOk result (λ tickets. HaveJustTo points tickets.items) }
+    ensures covering { IfOk result (λ tickets. HaveJustTo points tickets.items) }
+    ensures refused { IfErr result (IsMissing N.name.setting points) }
 {
     let mut tickets = held;
     for others in 0..points {
