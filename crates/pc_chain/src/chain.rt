@@ -1,13 +1,14 @@
 //! The chain itself: its two ends.
-ghost use Rattle.std.specs.Prelude.{◌≡◌, ◌≢◌, ◌<◌, ◌^◌, [], ◌∷◌, ◌++◌, List, length, Some, None, IfSome};
+ghost use Rattle.std.specs.Prelude.{◌≡◌, ◌≢◌, ◌↔◌, ◌<◌, ◌^◌, IsTrue, [], ◌∷◌, ◌++◌, List, length, Some, None, IfSome};
 ghost use Rattle.std.specs.List.{list_any};
 ghost use Rattle.pc_chain.specs.Chains.{first_of, last_of, rest_of, Avoids, AreApart, IsChain, IsEmpty, SetsLink};
 
 use crate::links::Links;
 
 /// A list of ids, each linked to the one behind it. The chain has its ends alone; the links are kept by whoever is given
-/// at each call. Several chains may stand over the same links, as long as no id is in two of them. No call takes memory,
-/// and each succeeds.
+/// at each call, in the word that the call's marker `K` names. Several chains may stand over the same word, as long as no
+/// id is in two of them, and chains over different words have nothing to do with each other. Whatever else the keeper has
+/// stays. No call takes memory, and each succeeds.
 #[derive(Clone, Copy)]
 pub struct Chain<I> {
     first: Option<I>,
@@ -26,7 +27,7 @@ impl<I: Copy> Chain<I> {
     }
 
     /// The first id of the list.
-    pub fn first<L: Links<Id = I>>(&self, links: &L) -> Option<I>
+    pub fn first<K, L: Links<K, Id = I>>(&self, links: &L) -> Option<I>
         ensures { (xs : List I) → IsChain (L.has links.now) (L.next_of links.now) self.now xs → result ≡ first_of xs }
     {
         let Chain { first, last: _ } = *self;
@@ -35,13 +36,14 @@ impl<I: Copy> Chain<I> {
 
     /// Adds an id, which isn't in the list, at its end. Of the other ids only the links of those in the list may change, so
     /// that each chain without a common id stays the list that it was.
-    pub fn push_back<L: Links<Id = I>>(&mut self, links: &mut L, id: I)
+    pub fn push_back<K, L: Links<K, Id = I>>(&mut self, links: &mut L, id: I)
         requires has { L.has links.old id }
         requires stands { (xs : List I) × IsChain (L.has links.old) (L.next_of links.old) self.old xs × Avoids id xs }
         ensures list { (xs : List I) → IsChain (L.has links.old) (L.next_of links.old) self.old xs → Avoids id xs → IsChain (L.has links.new) (L.next_of links.new) self.new (xs ++ id ∷ []) }
         ensures links { (xs : List I) (other : I) → IsChain (L.has links.old) (L.next_of links.old) self.old xs → Avoids other xs → other ≢ id → L.next_of links.new other ≡ L.next_of links.old other }
         ensures others { (xs ys : List I) (other : Chain I) → IsChain (L.has links.old) (L.next_of links.old) self.old xs → IsChain (L.has links.old) (L.next_of links.old) other ys → AreApart xs ys → Avoids id ys → IsChain (L.has links.new) (L.next_of links.new) other ys }
         ensures has { (other : I) → L.has links.old other → L.has links.new other }
+        ensures beside { L.beside links.old links.new }
     {
         links.set_next(id, None);
         link(links, self.last, id);
@@ -50,7 +52,7 @@ impl<I: Copy> Chain<I> {
     }
 
     /// Takes the first id out of the list and gives it; None where the list is empty. No link changes.
-    pub fn pop_front<L: Links<Id = I>>(&mut self, links: &L) -> Option<I>
+    pub fn pop_front<K, L: Links<K, Id = I>>(&mut self, links: &L) -> Option<I>
         requires { (xs : List I) × IsChain (L.has links.now) (L.next_of links.now) self.old xs }
         ensures given { (xs : List I) → IsChain (L.has links.now) (L.next_of links.now) self.old xs → result ≡ first_of xs }
         ensures list { (xs : List I) → IsChain (L.has links.now) (L.next_of links.now) self.old xs → IsChain (L.has links.now) (L.next_of links.now) self.new (rest_of xs) }
@@ -65,7 +67,7 @@ impl<I: Copy> Chain<I> {
 
     /// Takes the id behind `previous` out of the list, the first one where `previous` is None, and gives it; None where
     /// there is no such id. Only the link of `previous` changes, so that each chain without it stays the list that it was.
-    pub fn unlink_after<L: Links<Id = I>>(
+    pub fn unlink_after<K, L: Links<K, Id = I>>(
         &mut self,
         links: &mut L,
         previous: Option<I>,
@@ -76,6 +78,7 @@ impl<I: Copy> Chain<I> {
         ensures links { (other : I) → previous ≢ Some other → L.next_of links.new other ≡ L.next_of links.old other }
         ensures others { (before rest ys : List I) (other : Chain I) → IsChain (L.has links.old) (L.next_of links.old) self.old (before ++ rest) → previous ≡ last_of before → IsChain (L.has links.old) (L.next_of links.old) other ys → AreApart (before ++ rest) ys → IsChain (L.has links.new) (L.next_of links.new) other ys }
         ensures has { (other : I) → L.has links.old other → L.has links.new other }
+        ensures beside { L.beside links.old links.new }
     {
         match previous {
             None => self.pop_front(&*links),
@@ -84,12 +87,13 @@ impl<I: Copy> Chain<I> {
     }
 
     // The same behind an id of the list.
-    fn unlink_behind<L: Links<Id = I>>(&mut self, links: &mut L, previous: I) -> Option<I>
+    fn unlink_behind<K, L: Links<K, Id = I>>(&mut self, links: &mut L, previous: I) -> Option<I>
         requires { (before rest : List I) × IsChain (L.has links.old) (L.next_of links.old) self.old (before ++ rest) × (Some previous ≡ last_of before) }
         ensures given { (before rest : List I) → IsChain (L.has links.old) (L.next_of links.old) self.old (before ++ rest) → Some previous ≡ last_of before → result ≡ first_of rest }
         ensures list { (before rest : List I) → IsChain (L.has links.old) (L.next_of links.old) self.old (before ++ rest) → Some previous ≡ last_of before → IsChain (L.has links.new) (L.next_of links.new) self.new (before ++ rest_of rest) }
         ensures links { (other : I) → Some previous ≢ Some other → L.next_of links.new other ≡ L.next_of links.old other }
         ensures has { (other : I) → L.has links.old other → L.has links.new other }
+        ensures beside { L.beside links.old links.new }
     {
         let id = links.next(previous)?;
         let next = links.next(id);
@@ -102,10 +106,11 @@ impl<I: Copy> Chain<I> {
 }
 
 // Where there is a last id, it leads to this one.
-fn link<L: Links>(links: &mut L, last: Option<L::Id>, id: L::Id)
+fn link<K, L: Links<K>>(links: &mut L, last: Option<<L as Links<K>>::Id>, id: <L as Links<K>>::Id)
     requires { IfSome last (L.has links.old) }
     ensures sets { SetsLink last (Some id) (L.next_of links.old) (L.next_of links.new) }
     ensures has { (other : L.Id) → L.has links.old other → L.has links.new other }
+    ensures beside { L.beside links.old links.new }
 {
     if let Some(last) = last {
         links.set_next(last, Some(id));
@@ -114,7 +119,7 @@ fn link<L: Links>(links: &mut L, last: Option<L::Id>, id: L::Id)
 
 impl<I: Copy + PartialEq> Chain<I> {
     /// Whether the id is in the list, which has fewer than 2^64 ids.
-    pub fn contains<L: Links<Id = I>>(&self, links: &L, id: I) -> bool
+    pub fn contains<K, L: Links<K, Id = I>>(&self, links: &L, id: I) -> bool
         requires { (xs : List I) × IsChain (L.has links.now) (L.next_of links.now) self.now xs × (length xs < 2 ^ 64) }
         ensures { (xs : List I) → IsChain (L.has links.now) (L.next_of links.now) self.now xs → result ≡ list_any (λ x. I.eq x id) xs }
     {
@@ -129,5 +134,42 @@ impl<I: Copy + PartialEq> Chain<I> {
             at = links.next(here);
         }
         false
+    }
+
+    /// Takes the id, which is in the list, out of it, by going along the list up to it; the list has fewer than 2^64 ids, which
+    /// `==` tells from each other. Only the link of the id before it changes, so that each chain without a common id stays the
+    /// list that it was.
+    pub fn unlink<K, L: Links<K, Id = I>>(&mut self, links: &mut L, id: I)
+        requires told { (x y : I) → IsTrue (I.eq x y) ↔ (x ≡ y) }
+        requires stands { (before rest : List I) × IsChain (L.has links.old) (L.next_of links.old) self.old (before ++ id ∷ rest) × (length (before ++ id ∷ rest) < 2 ^ 64) }
+        ensures list { (before rest : List I) → IsChain (L.has links.old) (L.next_of links.old) self.old (before ++ id ∷ rest) → IsChain (L.has links.new) (L.next_of links.new) self.new (before ++ rest) }
+        ensures links { (before rest : List I) (other : I) → IsChain (L.has links.old) (L.next_of links.old) self.old (before ++ id ∷ rest) → Avoids other before → L.next_of links.new other ≡ L.next_of links.old other }
+        ensures others { (before rest ys : List I) (other : Chain I) → IsChain (L.has links.old) (L.next_of links.old) self.old (before ++ id ∷ rest) → IsChain (L.has links.old) (L.next_of links.old) other ys → AreApart (before ++ id ∷ rest) ys → IsChain (L.has links.new) (L.next_of links.new) other ys }
+        ensures has { (other : I) → L.has links.old other → L.has links.new other }
+        ensures beside { L.beside links.old links.new }
+    {
+        let previous = self.before(&*links, id);
+        self.unlink_after(links, previous);
+    }
+
+    // The id before this one, which is in the list; None where it is the first.
+    fn before<K, L: Links<K, Id = I>>(&self, links: &L, id: I) -> Option<I>
+        requires told { (x y : I) → IsTrue (I.eq x y) ↔ (x ≡ y) }
+        requires stands { (before rest : List I) × IsChain (L.has links.now) (L.next_of links.now) self.now (before ++ id ∷ rest) × (length (before ++ id ∷ rest) < 2 ^ 64) }
+        ensures { (before rest : List I) → IsChain (L.has links.now) (L.next_of links.now) self.now (before ++ id ∷ rest) → result ≡ last_of before }
+    {
+        let mut previous = None;
+        let mut place = self.first;
+        for _ in 0..u64::MAX {
+            let Some(here) = place else {
+                return previous;
+            };
+            if here == id {
+                return previous;
+            }
+            previous = Some(here);
+            place = links.next(here);
+        }
+        previous
     }
 }

@@ -1,8 +1,9 @@
 //! What keeps the links.
 ghost use Rattle.std.specs.Prelude.{◌≡◌, ◌≢◌, Option};
 
-/// Keeps a link for each of its ids: to another id, or to none.
-pub trait Links {
+/// Keeps a link for each of its ids: to another id, or to none. One keeper may have several links for an id, in words of
+/// their own; each word has a marker `K`, a type that tells it from the others.
+pub trait Links<K> {
     /// What names a place.
     type Id: Copy;
 
@@ -12,15 +13,25 @@ pub trait Links {
     /// What the id's link leads to.
     ghost next_of: { Self → Self.Id → Option Self.Id };
 
+    /// All that the first keeps beside the links of this word is in the second as it was.
+    ghost beside: { Self → Self → Type 0 };
+
     /// What the id's link leads to.
     fn next(&self, id: Self::Id) -> Option<Self::Id>
         requires { has self.now id }
         ensures { result ≡ next_of self.now id };
 
-    /// Sets the id's link. What is set is read, and all other links stay.
+    /// Sets the id's link. What is set is read; all other links stay, and so does all that is kept beside them.
     fn set_next(&mut self, id: Self::Id, next: Option<Self::Id>)
         requires { has self.old id }
         ensures set { next_of self.new id ≡ next }
         ensures others { (other : Self.Id) → other ≢ id → next_of self.new other ≡ next_of self.old other }
-        ensures has { (other : Self.Id) → has self.old other → has self.new other };
+        ensures has { (other : Self.Id) → has self.old other → has self.new other }
+        ensures beside { beside self.old self.new };
+
+    /// Where nothing changed, all is as it was.
+    ghost beside_same: { (a : Self) → beside a a };
+
+    /// What stayed twice has stayed.
+    ghost beside_then: { (a b c : Self) → beside a b → beside b c → beside a c };
 }

@@ -11,14 +11,19 @@ struct Row {
     links: Vec<Option<usize>>,
 }
 
-impl Links for Row {
-    ghost use Rattle.std.specs.Prelude.{◌<◌, None, slice_index_or, vec_len};
+// Its one word of links.
+struct ByRow;
+
+impl Links<ByRow> for Row {
+    ghost use Rattle.std.specs.Prelude.{◌<◌, ⊤, None, slice_index_or, vec_len};
 
     type Id = usize;
 
     ghost has = { λ row id. id < vec_len row.links };
 
     ghost next_of = { λ row id. slice_index_or row.links.items id None };
+
+    ghost beside = { λ a b. ⊤ };
 
     fn next(&self, id: usize) -> Option<usize> {
         self.links[id]
@@ -32,6 +37,10 @@ impl Links for Row {
     {
         self.links[id] = next;
     }
+
+    ghost beside_same = { λ a. tt };
+
+    ghost beside_then = { λ a b c p q. tt };
 }
 
 // A row of links to none.

@@ -1,11 +1,12 @@
 -- What changes of a set make of its parts.
 use Rattle.std.proofs.Common.{◌≡◌, ◌≢◌, ℕ, zero, suc, ◌+◌, ◌-◌, ◌==◌, ◌<◌, ◌≤◌, ◌⊎◌, inl, inr, List, [], ◌∷◌, ◌++◌, length, set, slice_index_or, Option, Some, Bool, true, false, ◌||◌, refl, sym, ◌∙◌, ap, subst, arith}
-use Rattle.std.specs.List.{list_any, IsDistinct, AllByRecursion}
+use Rattle.std.specs.List.{list_any, IsDistinct}
 use Rattle.std.proofs.lemmas.Bool.Decides.{nat_tests}
 use Rattle.std.proofs.lemmas.List.{get_or-set_same, get_or-set_other, length-set}
 use Rattle.std.proofs.lemmas.Map.Steps.{length-le_from_distinct_below}
 use Rattle.pc_chain.specs.declared.chain.Chain.{Chain}
 use Rattle.pc_chain.specs.Chains.{first_of, rest_of, Leads, AllHave, Avoids}
+use Rattle.pc_chain.proofs.ChainLaws.{avoided, distinct}
 use Rattle.pc_dirty.specs.Sets.{is_in, HasNoRepeats}
 use Rattle.pc_dirty.specs.Sides as sides
 use Rattle.pc_dirty.specs.Sides.{next_in, follow, IsLine, IsSide}
@@ -46,15 +47,6 @@ unlisted_avoids slot (x ∷ xs) a = rw (other_is x slot a.0) (unlisted_avoids sl
 pub no_repeats : (next : ℕ → Option ℕ) (xs : List ℕ) → Leads next xs → HasNoRepeats xs
 no_repeats next [] l = tt
 no_repeats next (x ∷ xs) l = (unlisted_avoids x xs l.1, no_repeats next xs l.2)
-
-avoided : (x : ℕ) (xs : List ℕ) → Avoids x xs → AllByRecursion (λ y. (x == y) ≡ false) xs
-avoided x [] a = tt
-avoided x (y ∷ ys) a = (other_is x y (λ e. a.0 (sym e)), avoided x ys a.1)
-
-distinct : (next : ℕ → Option ℕ) (xs : List ℕ) → Leads next xs → IsDistinct ◌==◌ xs
-unfolding IsDistinct
-distinct next [] l = tt
-distinct next (x ∷ xs) l = (avoided x xs l.1, distinct next xs l.2)
 
 distinct_with : (next : ℕ → Option ℕ) (slot : ℕ) (xs : List ℕ) → Leads next xs → Avoids slot xs → IsDistinct ◌==◌ (slot ∷ xs)
 unfolding IsDistinct

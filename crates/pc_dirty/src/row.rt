@@ -11,8 +11,11 @@ pub(crate) struct Row {
     links: Vec<Option<u32>>,
 }
 
-impl Links for Row {
-    ghost use Rattle.std.specs.Prelude.{◌<◌, length};
+/// The one word of links of a row.
+pub(crate) struct ByRow;
+
+impl Links<ByRow> for Row {
+    ghost use Rattle.std.specs.Prelude.{◌<◌, ⊤, length};
     ghost use Rattle.pc_dirty.specs.Sides.{next_in};
 
     type Id = u32;
@@ -20,6 +23,8 @@ impl Links for Row {
     ghost has = { λ row id. id < length row.links.items };
 
     ghost next_of = { λ row id. next_in row.links.items id };
+
+    ghost beside = { λ a b. ⊤ };
 
     fn next(&self, id: u32) -> Option<u32> {
         self.links[id as usize]
@@ -33,6 +38,10 @@ impl Links for Row {
     {
         self.links[id as usize] = next;
     }
+
+    ghost beside_same = { λ a. tt };
+
+    ghost beside_then = { λ a b c p q. tt };
 }
 
 impl Row {

@@ -1,12 +1,11 @@
 -- Chains over a row of links, as lists of ids.
 use Rattle.std.proofs.Common.{◌≡◌, ◌≢◌, ℕ, zero, suc, ◌==◌, ◌<◌, ◌≤◌, ◌^◌, ◌⊎◌, inl, inr, List, [], ◌∷◌, ◌++◌, length, Option, Some, None, Bool, true, false, ◌||◌, refl, sym, ◌∙◌, ap, subst, arith}
-use Rattle.std.specs.List.{list_any, IsDistinct, AllByRecursion}
 use Rattle.std.proofs.lemmas.Bool.Decides.{nat_tests}
 use Rattle.std.proofs.lemmas.List.Folds.{list_any-append}
-use Rattle.std.proofs.lemmas.Map.Steps.{length-le_from_distinct_below}
 use Rattle.pc_chain.specs.declared.chain.Chain.{Chain}
 use Rattle.pc_chain.specs.Chains as chains
 use Rattle.pc_chain.specs.Chains.{IsChain, Leads, AllHave, Avoids, AreApart}
+use Rattle.pc_chain.proofs.ChainLaws.{have_from, chain_still, chain_fits}
 use Rattle.pc_locks.specs.Lines.{most, next_in, follow, ids_of, IsLine, AreLines}
 use Rattle.pc_locks.specs.States.{is_listed, first_of, rest_of, last_of}
 
@@ -42,25 +41,8 @@ pub row_fits : (n : ℕ) → n < 2 ^ 64 → n ≤ most
 unfolding most
 row_fits n h = omega (arith, h)
 
--- the chain isn't longer than the row
-distinct : (next : ℕ → Option ℕ) (xs : List ℕ) → Leads next xs → IsDistinct ◌==◌ xs
-unfolding IsDistinct
-distinct next [] l = tt
-distinct next (x ∷ xs) l = (avoided x xs l.1, distinct next xs l.2)
-  where
-    avoided : (x : ℕ) (xs : List ℕ) → Avoids x xs → AllByRecursion (λ y. (x == y) ≡ false) xs
-    avoided x [] a = tt
-    avoided x (y ∷ ys) a = (other_is x y (λ e. a.0 (sym e)), avoided x ys a.1)
-
-below : (n : ℕ) (xs : List ℕ) → AllHave (λ id. id < n) xs → (q : ℕ) → list_any (λ x. q == x) xs ≡ true → q < n
-below n [] h q e = absurd cc
-below n (x ∷ xs) h q e = elim (either_true (q == x) (list_any (λ y. q == y) xs) e) [
-  | inl f ↦ let g = is_same q x f in omega (arith, g, h.0)
-  | inr f ↦ below n xs h.1 q f
-]
-
 pub fits : (links : List (Option ℕ)) (chain : Chain ℕ) (xs : List ℕ) → IsLine links chain xs → length xs ≤ length links
-fits links chain xs c = length-le_from_distinct_below xs (length links) (distinct (next_in links) xs c.leads) (below (length links) xs c.held)
+fits links chain xs c = chain_fits (λ id. id < length links) (next_in links) chain xs (length links) (λ id h. h) c
 
 follow_is : (links : List (Option ℕ)) (n : ℕ) (xs : List ℕ) → Leads (next_in links) xs → length xs ≤ n → follow links n (chains.first_of xs) ≡ xs
 follow_is links n [] l h = refl
@@ -185,22 +167,9 @@ same_last [] = refl
 same_last (x ∷ []) = refl
 same_last (x ∷ y ∷ ys) = same_last (y ∷ ys)
 
--- links that lead where they led, in a longer row
-leads_same : (links new_links : List (Option ℕ)) → ((id : ℕ) → next_in new_links id ≡ next_in links id) → (xs : List ℕ) → Leads (next_in links) xs → Leads (next_in new_links) xs
-leads_same links new_links f [] l = tt
-leads_same links new_links f (x ∷ xs) l = (f x ∙ l.0, l.1, leads_same links new_links f xs l.2)
-
-have_more : (m n : ℕ) → m ≤ n → (xs : List ℕ) → AllHave (λ id. id < m) xs → AllHave (λ id. id < n) xs
-have_more m n h [] a = tt
-have_more m n h (x ∷ xs) a = (omega (arith, h, a.0), have_more m n h xs a.1)
-
+-- a chain whose links lead where they led, in a longer row
 pub line_same : (links new_links : List (Option ℕ)) (chain : Chain ℕ) (xs : List ℕ) → ((id : ℕ) → next_in new_links id ≡ next_in links id) → length links ≤ length new_links → IsLine links chain xs → IsLine new_links chain xs
-line_same links new_links chain xs f h c = record {
-  first = c.first;
-  last = c.last;
-  leads = leads_same links new_links f xs c.leads;
-  held = have_more (length links) (length new_links) h xs c.held;
-}
+line_same links new_links chain xs f h c = chain_still (λ id. id < length links) (λ id. id < length new_links) (next_in links) (next_in new_links) chain xs (λ id a. omega (arith, h, a)) (have_from (λ id. next_in new_links id ≡ next_in links id) f xs) c
 
 follow_same : (links new_links : List (Option ℕ)) → ((id : ℕ) → next_in new_links id ≡ next_in links id) → (n : ℕ) (at : Option ℕ) → follow new_links n at ≡ follow links n at
 follow_same links new_links f n None = refl

@@ -12,7 +12,7 @@ use Rattle.pc_model.specs.Locks.{Queue, request_in, is_ungranted, granted_behind
 use Rattle.pc_types.specs.declared.Outcome.TheVariants.{Granted, Died}
 use Rattle.pc_model.specs.Queues.{stands_in, AreOnce, IsSettled}
 use Rattle.pc_model.proofs.QueueLaws.{kept_after, kept_without, new_outcome, once_filter}
-use Rattle.pc_locks.specs.States.{State, slots_of, queue_at, is_listed, first_of, rest_of, last_of, slots_after, AreLinked, AreFilled, AreSettled}
+use Rattle.pc_locks.specs.States.{slots_of, queue_at, is_listed, first_of, rest_of, last_of, slots_after, AreLinked, AreFilled, AreSettled}
 use Rattle.pc_locks.specs.Tables.{Nodes, node_at, request_at, slot_at, place_of, requests, slots, ids_at, queues_in, lists_in, IsTable, IsOwn, Keeps}
 use Rattle.pc_locks.proofs.LineLemmas.{is_same, same_is, either_true, not_both}
 use Rattle.pc_locks.proofs.QueueRowLaws.{at_cases, none_at}

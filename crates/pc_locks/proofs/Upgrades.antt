@@ -8,10 +8,10 @@ use Rattle.pc_types.specs.declared.Request.{Request}
 use Rattle.pc_model.specs.Locks.{Queue, request_in, with_request, stronger, is_exclusive}
 use Rattle.pc_model.specs.Queues.{stands_in, AreOnce}
 use Rattle.pc_locks.specs.declared.node.Node.{Node}
-use Rattle.pc_locks.specs.States.{slots_of, is_listed}
-use Rattle.pc_locks.specs.Tables.{Nodes, node_at, request_of, request_at, place_of, requests, slots, ids_at, lists_in, IsTable, IsOwn}
+use Rattle.pc_locks.specs.States.{is_listed}
+use Rattle.pc_locks.specs.Tables.{Nodes, node_at, request_of, request_at, place_of, requests, ids_at, IsTable, IsOwn}
 use Rattle.pc_locks.proofs.LineLemmas.{is_same, same_is}
-use Rattle.pc_locks.proofs.TableLemmas.{found_slots, requests_same}
+use Rattle.pc_locks.proofs.TableLemmas.{requests_same}
 use Rattle.pc_locks.proofs.RemovalLemmas.{member_stands, once_behind, back_listed}
 use Rattle.pc_locks.proofs.Grants.{written_is}
 

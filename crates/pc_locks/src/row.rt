@@ -11,8 +11,11 @@ pub(crate) struct LinkRow {
     links: Vec<Option<usize>>,
 }
 
-impl Links for LinkRow {
-    ghost use Rattle.std.specs.Prelude.{◌<◌, length};
+/// The one word of links of a row.
+pub(crate) struct ByRow;
+
+impl Links<ByRow> for LinkRow {
+    ghost use Rattle.std.specs.Prelude.{◌<◌, ⊤, length};
     ghost use Rattle.pc_locks.specs.Lines.{next_in};
 
     type Id = usize;
@@ -20,6 +23,8 @@ impl Links for LinkRow {
     ghost has = { λ row id. id < length row.links.items };
 
     ghost next_of = { λ row id. next_in row.links.items id };
+
+    ghost beside = { λ a b. ⊤ };
 
     fn next(&self, id: usize) -> Option<usize> {
         self.links[id]
@@ -33,6 +38,10 @@ impl Links for LinkRow {
     {
         self.links[id] = next;
     }
+
+    ghost beside_same = { λ a. tt };
+
+    ghost beside_then = { λ a b c p q. tt };
 }
 
 impl LinkRow {

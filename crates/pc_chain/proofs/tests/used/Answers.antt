@@ -1,5 +1,5 @@
-use Rattle.std.proofs.Common.{◌≡◌, ◌≢◌, ◌<◌, ◌^◌, ℕ, [], ◌∷◌, List, length, refl, arith, lit<}
-use Rattle.pc_chain.proofs.ChainLemmas.{empty_chain}
+use Rattle.std.proofs.Common.{◌≢◌, ◌<◌, ◌^◌, ℕ, [], ◌∷◌, length, refl, arith, lit<}
+use Rattle.pc_chain.proofs.ChainLaws.{empty_chain}
 use Rattle.pc_chain.proofs.tests.used.Goals as goal
 
 zero_one : ◌≢◌ {A = ℕ} 0 1

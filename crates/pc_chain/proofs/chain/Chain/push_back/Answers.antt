@@ -18,3 +18,6 @@ returns-clause-links g c = λ xs other s a n.
 pub returns-clause-others : goal.returns-clause-others
 returns-clause-others g c = λ xs ys other s t p a.
     other_after_push _ _ _ _ _ c.args.self.now other xs ys c.args.id s t p a (λ x h. c.link.ensures.has x (c.set_next.ensures.has x h)) c.set_next.ensures.others c.link.ensures.sets
+
+pub returns-clause-beside : goal.returns-clause-beside
+returns-clause-beside g c = g.met.L.Links.beside_then _ _ _ c.set_next.ensures.beside c.link.ensures.beside

@@ -5,7 +5,7 @@ use Rattle.std.specs.Ordering.{nat_cmp}
 use Rattle.pc_locks.specs.Lines.{Listed, entry_ids}
 use Rattle.pc_locks.specs.States.{slots_of, is_listed}
 use Rattle.pc_locks.proofs.LineLemmas.{row_fits, avoids_unlisted}
-use Rattle.pc_locks.proofs.ListLemmas.{lists_line, ended_line, ended_same, beside_same, entries_same, slots_same, lists_same, found_known, changed_push, Changed, on_err}
+use Rattle.pc_locks.proofs.ListLemmas.{ended_line, ended_same, beside_same, entries_same, slots_same, lists_same, found_known, changed_push, Changed, on_err}
 use Rattle.pc_locks.proofs.lists.Lists.push.Goals as goal
 use Rattle.pc_locks.proofs.lists.Lists.push.Goals.{After-put}
 

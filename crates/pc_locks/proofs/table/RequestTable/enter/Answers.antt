@@ -4,7 +4,7 @@ use Rattle.pc_locks.specs.declared.node.Node.{Node}
 use Rattle.pc_locks.specs.States.{slots_of}
 use Rattle.pc_locks.specs.Tables.{IsTable, node_at, ids_at, queues_in}
 use Rattle.pc_locks.proofs.LineLemmas.{not_both}
-use Rattle.pc_locks.proofs.TableLemmas.{Added, added_table, added_queues, added_list, added_others, vacant_list, vacant_queue}
+use Rattle.pc_locks.proofs.TableLemmas.{Added, added_table, added_queues, added_list, added_others, vacant_list}
 use Rattle.pc_locks.proofs.table.RequestTable.enter.Goals as goal
 use Rattle.pc_locks.proofs.table.RequestTable.enter.Goals.{After-insert_reserved}
 
