@@ -1,0 +1,5 @@
+mod Columns
+mod Filling
+mod FreeLists
+mod Keeping
+pub mod SlotLaws

@@ -1,0 +1,171 @@
+//! The arena itself.
+ghost use Rattle.std.specs.Prelude.{◌≡◌, ◌≢◌, ◌<◌, ◌≤◌, ℕ, length, replicate, IfOk, IfErr, OnErr, is_err, Some, None, slice_set};
+ghost use Rattle.std.specs.Borrow.{sem};
+ghost use Rattle.pc_arena.specs.Lending.{LendsItem};
+ghost use Rattle.pc_arena.specs.Cells.{items_of};
+ghost use Rattle.pc_arena.specs.Slots.{at, is_full, with_item, IsTaken, IsFree, AllFree};
+
+use crate::cells::{ByLink, Cell, Cells};
+use pc_chain::{Chain, Links};
+use pc_types::{MOST_KEYS, Refusal, SlotId};
+use std::alloc::{AllocError, Global};
+use std::marker::Model;
+use std::mem;
+
+/// Records in slots, which are numbered from 0; a slot without a record is free. Each slot has a word of links beside its
+/// record, which leads to another slot or to none. The arena is seen as the records by slot, and the links. All memory is
+/// taken when it is made: it never has more slots, or fewer, and no record moves.
+///
+/// The free slots are linked by the same word, in the order in which they will be taken. So the link of a slot is anyone's
+/// as long as the slot has a record (`Links<ByLink>`), and has no meaning that lasts beyond that.
+#[derive(Drop)]
+pub struct Arena<T> {
+    cells: Cells<T>,
+    free: Chain<SlotId>,
+}
+
+impl<T> Model for Arena<T> {
+    ghost use Rattle.pc_arena.specs.Slots.{Slots};
+    ghost use Rattle.pc_arena.specs.Cells.{slots_of, IsKept};
+
+    ghost Value = { Slots T };
+
+    ghost view = { λ a. slots_of a.cells.cells.items };
+
+    ghost invariant = { λ a. IsKept a.cells.cells.items a.free };
+}
+
+impl<T> Links<ByLink> for Arena<T> {
+    ghost use Rattle.std.specs.Prelude.{◌≡◌, refl};
+    ghost use Rattle.std.proofs.Common.{◌∙◌};
+    ghost use Rattle.pc_arena.specs.Slots.{at, IsTaken};
+
+    type Id = SlotId;
+
+    ghost has = { λ a id. IsTaken a.items id };
+
+    ghost next_of = { λ a id. at a.links id };
+
+    ghost beside = { λ a b. b.items ≡ a.items };
+
+    fn next(&self, id: SlotId) -> Option<SlotId> {
+        self.cells.cells[id.0 as usize].link
+    }
+
+    fn set_next(&mut self, id: SlotId, next: Option<SlotId>)
+        requires { IsTaken self.old.items id }
+        ensures set { at self.new.links id ≡ next }
+        ensures others { (other : ℕ) → other ≢ id → at self.new.links other ≡ at self.old.links other }
+        ensures has { (other : ℕ) → IsTaken self.old.items other → IsTaken self.new.items other }
+        ensures beside { self.new.items ≡ self.old.items }
+    {
+        self.cells.cells[id.0 as usize].link = next;
+    }
+
+    ghost beside_same = { λ a. refl };
+
+    ghost beside_then = { λ a b c p q. q ∙ p };
+}
+
+impl<T> Arena<T> {
+    /// How many slots there are, taken and free.
+    pub fn capacity(&self) -> u32
+        ensures count { result ≡ length self.now.items }
+        ensures most { result ≤ MOST_KEYS }
+    {
+        self.cells.cells.len() as u32
+    }
+
+    /// Whether each slot has a record.
+    pub fn is_full(&self) -> bool
+        ensures { result ≡ is_full self.now.items }
+    {
+        self.free.first::<ByLink, Cells<T>>(&self.cells).is_none()
+    }
+
+    /// The record in the slot, which has one.
+    pub fn get(&self, id: SlotId) -> &T
+        requires { IsTaken self.now.items id }
+        ensures value { at self.now.items id ≡ Some result.now }
+        ensures most { length self.now.items ≤ MOST_KEYS }
+    {
+        match &self.cells.cells[id.0 as usize].item {
+            Some(item) => item,
+            None => unreachable!(),
+        }
+    }
+
+    /// The record in the slot, which has one, to be changed where it stands. Nothing else changes.
+    pub fn get_mut(&mut self, id: SlotId) -> &mut T
+        requires { IsTaken self.old.items id }
+        ensures* lends { sem 𝓛 (LendsItem T.row self.entry id result) }
+        ensures value { at self.old.items id ≡ Some result.now }
+    {
+        self.cells.cells[id.0 as usize].item_mut()
+    }
+}
+
+impl<T: Drop> Arena<T> {
+    /// An arena of so many slots, at most 2^20, all of them free. It fails only where memory ran out.
+    pub fn with_capacity(alloc: Global, slots: u32) -> Result<Arena<T>, AllocError>
+        requires { slots ≤ MOST_KEYS }
+        ensures slots { IfOk result (λ arena. length arena.items ≡ slots) }
+        ensures free { IfOk result (λ arena. AllFree arena.items) }
+    {
+        let mut cells = Cells {
+            cells: blank_cells(alloc, slots)?,
+        };
+        let mut free = Chain::new();
+        for id in 0..slots {
+            free.push_back::<ByLink, Cells<T>>(&mut cells, SlotId(id));
+        }
+        Ok(Arena { cells, free })
+    }
+
+    /// Puts the record into a free slot and gives the slot. Refuses with `Full` exactly where no slot is free, and the arena
+    /// is then as it was. The link of the slot leads anywhere until it is set. It takes no memory.
+    pub fn take_slot(&mut self, item: T) -> Result<SlotId, Refusal>
+        ensures free { IfOk result (λ id. IsFree self.old.items id) }
+        ensures taken { IfOk result (λ id. self.new ≡ with_item self.old id (Some item)) }
+        ensures full { is_err result ≡ is_full self.old.items }
+        ensures refusal { IfErr result (λ e. e ≡ Refusal.Full) }
+        ensures err { OnErr result (self.new ≡ self.old) }
+    {
+        let Some(id) = self.free.pop_front::<ByLink, Cells<T>>(&self.cells) else {
+            return Err(Refusal::Full);
+        };
+        self.cells.cells[id.0 as usize].item = Some(item);
+        Ok(id)
+    }
+
+    /// Takes the record out of the slot, which has one, and is free from then on. Other records stay, and so do the links of
+    /// the slots that have one; the slot's own link is lost, so no chain may go through it any more. It takes no memory.
+    pub fn free_slot(&mut self, id: SlotId) -> T
+        requires { IsTaken self.old.items id }
+        ensures given { at self.old.items id ≡ Some result }
+        ensures items { self.new.items ≡ slice_set self.old.items id None }
+        ensures links { (other : ℕ) → other ≢ id → IsTaken self.old.items other → at self.new.links other ≡ at self.old.links other }
+    {
+        let cell = &mut self.cells.cells[id.0 as usize];
+        let Some(item) = mem::replace(&mut cell.item, None) else {
+            unreachable!();
+        };
+        self.free.push_back::<ByLink, Cells<T>>(&mut self.cells, id);
+        item
+    }
+}
+
+// So many cells without a record.
+fn blank_cells<T: Drop>(alloc: Global, slots: u32) -> Result<Vec<Cell<T>>, AllocError>
+    ensures count { IfOk result (λ cells. length cells.items ≡ slots) }
+    ensures bare { IfOk result (λ cells. items_of cells.items ≡ replicate slots None) }
+{
+    let mut cells = Vec::with_capacity(alloc, slots as usize)?;
+    for _ in 0..slots {
+        cells.push(Cell {
+            link: None,
+            item: None,
+        })?;
+    }
+    Ok(cells)
+}
