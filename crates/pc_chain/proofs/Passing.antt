@@ -1,6 +1,8 @@
 -- A walk along a chain up to an id of it.
-use Rattle.std.proofs.Common.{◌≡◌, ◌≢◌, ℕ, ◌+◌, ◌<◌, List, [], ◌∷◌, ◌++◌, length, Option, Some, None, refl, sym, ◌∙◌, ap, subst, arith, append-nil}
+use Rattle.std.proofs.Common.{◌≡◌, ◌≢◌, ℕ, ◌+◌, ◌<◌, List, [], ◌∷◌, ◌++◌, length, Option, Some, None, refl, sym, ◌∙◌, ap, subst, arith, append-nil, append_assoc}
+use Rattle.std.proofs.lemmas.List.{length-append}
 use Rattle.pc_chain.specs.Chains.{first_of, last_of, Avoids, AllHave, Leads}
+use Rattle.pc_chain.proofs.ChainLaws.{avoids_middle, once}
 use Rattle.pc_chain.proofs.ChainLemmas.{last_push, next_of_it, has_it}
 
 module _ {I : Type 0} where
@@ -16,15 +18,6 @@ module _ {I : Type 0} where
   pub passed_none : (id : I) (here : Option I) (before rest : List I) → here ≡ first_of (before ++ id ∷ rest) → Passed id None here 0 before rest
   passed_none id here before rest e = record { passed = []; left = before; split = refl; here_is = e; previous_is = refl; counted = refl }
 
-  avoids_middle : (x id : I) (before rest : List I) → Avoids x (before ++ id ∷ rest) → id ≢ x
-  avoids_middle x id [] rest a = a.0
-  avoids_middle x id (y ∷ ys) rest a = avoids_middle x id ys rest a.1
-
-  -- none before the id is the id
-  once : (next : I → Option I) (id : I) (passed left rest : List I) (x : I) → Leads next ((passed ++ x ∷ left) ++ id ∷ rest) → x ≢ id
-  once next id [] left rest x l e = avoids_middle x id left rest l.1 (sym e)
-  once next id (y ∷ ys) left rest x l e = once next id ys left rest x l.2 e
-
   -- where the id is here, all before it were passed
   pub passed_all : (next : I → Option I) (id : I) (previous here : Option I) (count : ℕ) (before rest : List I) → Leads next (before ++ id ∷ rest) → Passed id previous here count before rest →
       here ≡ Some id → previous ≡ last_of before
@@ -35,7 +28,8 @@ module _ {I : Type 0} where
       by (x ∷ xs) f =
           let split : before ≡ h.passed ++ x ∷ xs = h.split ∙ ap (λ ys. h.passed ++ ys) f in
           let this : Some x ≡ Some id = sym (h.here_is ∙ ap (λ ys. first_of (ys ++ id ∷ rest)) f) ∙ e in
-          absurd (once next id h.passed xs rest x (subst (λ ys. Leads next (ys ++ id ∷ rest)) split l) cc)
+          let avoids : Avoids id (h.passed ++ x ∷ (xs ++ rest)) = subst (Avoids id) (ap (λ ys. ys ++ rest) split ∙ append_assoc h.passed (x ∷ xs) rest) (once next id before rest l) in
+          absurd (avoids_middle id x h.passed (xs ++ rest) avoids cc)
 
   -- there is always one here
   pub passed_here : (id : I) (previous here : Option I) (count : ℕ) (before rest : List I) → Passed id previous here count before rest → here ≢ None
@@ -44,10 +38,6 @@ module _ {I : Type 0} where
       by : (left : List I) → here ≡ first_of (left ++ id ∷ rest) → ⊥
       by [] f = let g : None ≡ Some id = sym e ∙ f in cc
       by (x ∷ xs) f = let g : None ≡ Some x = sym e ∙ f in cc
-
-  associated : (xs ys zs : List I) → (xs ++ ys) ++ zs ≡ xs ++ (ys ++ zs)
-  associated [] ys zs = refl
-  associated (x ∷ xs) ys zs = ap (λ vs. x ∷ vs) (associated xs ys zs)
 
   length_push : (xs : List I) (x : I) → length (xs ++ x ∷ []) ≡ length xs + 1
   length_push [] x = refl
@@ -60,7 +50,7 @@ module _ {I : Type 0} where
     where
       by : (left : List I) → before ≡ h.passed ++ left → here ≡ first_of (left ++ id ∷ rest) → (front behind : List I) × (before ++ id ∷ rest ≡ front ++ x ∷ behind)
       by [] s f = let g : id ≡ x = cc in (h.passed, rest, ap (λ ys. ys ++ id ∷ rest) (s ∙ append-nil h.passed) ∙ ap (λ y. h.passed ++ y ∷ rest) g)
-      by (y ∷ ys) s f = let g : y ≡ x = cc in (h.passed, ys ++ id ∷ rest, ap (λ zs. zs ++ id ∷ rest) s ∙ (associated h.passed (y ∷ ys) (id ∷ rest) ∙ ap (λ z. h.passed ++ z ∷ (ys ++ id ∷ rest)) g))
+      by (y ∷ ys) s f = let g : y ≡ x = cc in (h.passed, ys ++ id ∷ rest, ap (λ zs. zs ++ id ∷ rest) s ∙ (append_assoc h.passed (y ∷ ys) (id ∷ rest) ∙ ap (λ z. h.passed ++ z ∷ (ys ++ id ∷ rest)) g))
 
   pub here_has : (has : I → Type 0) (id : I) (previous here : Option I) (count : ℕ) (before rest : List I) (x : I) → AllHave has (before ++ id ∷ rest) → Passed id previous here count before rest → here ≡ Some x → has x
   here_has has id previous here count before rest x a h e = let s = here_stands id previous here count before rest x h e in has_it has s.0 s.1 x (subst (AllHave has) s.2 a)
@@ -77,19 +67,15 @@ module _ {I : Type 0} where
           record {
             passed = h.passed ++ y ∷ [];
             left = ys;
-            split = s ∙ sym (associated h.passed (y ∷ []) ys);
-            here_is = f ∙ (ap next (sym z) ∙ next_of_it next h.passed (ys ++ id ∷ rest) y (subst (Leads next) (ap (λ zs. zs ++ id ∷ rest) s ∙ associated h.passed (y ∷ ys) (id ∷ rest)) l));
+            split = s ∙ sym (append_assoc h.passed (y ∷ []) ys);
+            here_is = f ∙ (ap next (sym z) ∙ next_of_it next h.passed (ys ++ id ∷ rest) y (subst (Leads next) (ap (λ zs. zs ++ id ∷ rest) s ∙ append_assoc h.passed (y ∷ ys) (id ∷ rest)) l));
             previous_is = ap Some (sym z) ∙ sym (last_push h.passed y);
             counted = let k = length_push h.passed y in omega (arith, k, h.counted);
           }
 
-  length_both : (xs ys : List I) → length (xs ++ ys) ≡ length xs + length ys
-  length_both [] ys = omega arith
-  length_both (x ∷ xs) ys = let h = length_both xs ys in omega (arith, h)
-
   -- fewer were passed than there are
   pub passed_fewer : (id : I) (previous here : Option I) (count : ℕ) (before rest : List I) → Passed id previous here count before rest → count < length (before ++ id ∷ rest)
   passed_fewer id previous here count before rest h =
-      let a = length_both before (id ∷ rest) in
-      let b = ap length h.split ∙ length_both h.passed h.left in
+      let a = length-append before (id ∷ rest) in
+      let b = ap length h.split ∙ length-append h.passed h.left in
       omega (arith, a, b, h.counted)
