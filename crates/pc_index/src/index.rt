@@ -1,5 +1,6 @@
 //! The index itself.
 ghost use Rattle.std.specs.Prelude.{◌≡◌, ◌≢◌, ◌<◌, ℕ, true, length, IfOk, IfErr, OnErr, Ok, Err, Some, None, if◌then◌else◌, slice_set};
+ghost use Rattle.std.specs.Int.{IsNextPowerOfTwo};
 ghost use Rattle.pc_arena.specs.Slots.{at, is_full, IsTaken, AllFree};
 ghost use Rattle.pc_index.specs.Indexes.{place_of, key_at, IsIndex, IsAbsent, IsSlotOf, IsMade};
 
@@ -46,9 +47,10 @@ impl Index {
         seed: RandomState,
     ) -> Result<Index, AllocError>
         requires { AllFree arena.now.items }
-        ensures { IfOk result (λ index. IsIndex T.key_of arena.now index) }
+        ensures index { IfOk result (λ index. IsIndex T.key_of arena.now index) }
+        ensures chains { IfOk result (λ index. IsNextPowerOfTwo (length arena.now.items) (length index.chains)) }
     {
-        let count = arena.capacity().max(1).next_power_of_two();
+        let count = arena.capacity().next_power_of_two();
         let chains = vec![in alloc; Chain::new(); count as usize]?;
         Ok(Index { chains, seed })
     }
