@@ -1,6 +1,6 @@
 use Rattle.std.proofs.Common.{List, ℕ}
 use Rattle.pc_chain.specs.Chains.{IsChain}
-use Rattle.pc_chain.proofs.SearchLaws.{Looked}
+use Rattle.pc_chain.specs.Searches.{Looked}
 use Rattle.pc_arena.specs.Slots.{at, IsTaken}
 use Rattle.pc_index.specs.Indexes.{place_of, chain_at}
 use Rattle.pc_index.proofs.Finding.{is_key}
