@@ -5,7 +5,8 @@ use Rattle.pc_chain.specs.Chains.{Avoids, AllHave, IsChain}
 use Rattle.pc_chain.proofs.ChainLaws.{have_still, have_push, have_from, have_both, avoids_all, all_avoids, avoids_pushed, chain_still}
 use Rattle.pc_arena.specs.Slots.{Slots, at, with_item, IsTaken, IsFree}
 use Rattle.pc_arena.proofs.SlotLaws.{at_here, at_other, not_both}
-use Rattle.pc_index.specs.Indexes.{Table, place_of, chain_at, key_at, IsIndex, IsAbsent}
+use Rattle.pc_index.specs.Indexes.{Table, place_of, chain_at, key_at, IsIndex, IsAbsent, IsSlotOf}
+use Rattle.pc_index.proofs.IndexLaws.{slot_kept}
 use Rattle.pc_index.proofs.Places.{same_or_not, changed, with_chain, place_same, changed_here, each_place, each_list, one_key, IsPlaced}
 
 module _ {T : Type 0} (key_of : T → List ℕ) where
@@ -25,6 +26,13 @@ module _ {T : Type 0} (key_of : T → List ℕ) where
       chain_still (IsTaken old.items) (IsTaken taken.items) (at old.links) (at taken.links) (chain_at table b) (i.ids b) (λ y t. ap is_some (at_other old.items id y (Some item) (other_than old.items id y n t)) ∙ t)
       (have_from (λ y. at taken.links y ≡ at old.links y) (λ y. refl) (i.ids b)) (i.chains b w) in
       subst (λ (m : Slots T). IsChain (IsTaken m.items) (at m.links) chain (i.ids b)) (sym e) (subst (λ (c : Chain ℕ). IsChain (IsTaken taken.items) (at taken.links) c (i.ids b)) (sym f) line)
+
+  -- every other key keeps its slot
+  pub slot_made : (items : List (Option T)) (id : ℕ) (item : T) (key : List ℕ) (found : Option ℕ) → IsFree items id → key_of item ≢ key → IsSlotOf key_of items key found → IsSlotOf key_of (set items id (Some item)) key found
+  slot_made items id item key found f n s = slot_kept key_of items id (Some item) key found f.0 (λ e. no_key (sym (ap (option_map key_of) f.1) ∙ e)) (λ e. n (let h : key_of item ≡ key = cc in h)) s
+    where
+      no_key : None ≢ Some key
+      no_key e = cc
 
   -- what the push leaves
   pub record Pushed (old new : Slots T) (table : Table) (i : IsIndex key_of old table) (key : List ℕ) (id : ℕ) (item : T) (chain : Chain ℕ) : Type 0 where

@@ -5,8 +5,9 @@ use Rattle.pc_chain.specs.Chains.{Avoids, AreApart, AllHave, Leads, IsChain}
 use Rattle.pc_chain.proofs.ChainLaws.{have_still, have_both, have_without, avoids_all, leads_still, once}
 use Rattle.pc_arena.specs.Slots.{Slots, at, IsTaken}
 use Rattle.pc_arena.proofs.SlotLaws.{at_here, at_other, taken_below}
-use Rattle.pc_index.specs.Indexes.{Table, place_of, chain_at, key_at, IsIndex, IsAbsent}
-use Rattle.pc_index.proofs.Places.{same_or_not, changed, with_chain, place_same, each_place, each_list, elsewhere, places_apart, IsPlaced}
+use Rattle.pc_index.specs.Indexes.{Table, place_of, chain_at, key_at, IsIndex, IsAbsent, IsSlotOf}
+use Rattle.pc_index.proofs.Places.{same_or_not, changed, with_chain, place_same, each_place, each_list, elsewhere, places_apart, one_key, IsPlaced}
+use Rattle.pc_index.proofs.IndexLaws.{slot_kept}
 use Rattle.pc_index.proofs.Finding.{chain_short}
 
 -- where an id isn't avoided it stands
@@ -72,6 +73,14 @@ module _ {T : Type 0} (key_of : T → List ℕ) where
 
   pub absent_removed : (old new : Slots T) (table : Table) (id : ℕ) (item : T) → IsIndex key_of old table → at old.items id ≡ Some item → new.items ≡ set old.items id None → IsAbsent key_of new.items (key_of item)
   absent_removed old new table id item i t n = λ y e. let h = key_gone old.items id item new.items t n y (key_of item) e in h.0 (i.distinct y id (key_of item) h.1 (ap (option_map key_of) t))
+
+  -- and every other key keeps its slot
+  pub slot_removed : (items : List (Option T)) (id : ℕ) (item : T) (key : List ℕ) (found : Option ℕ) → at items id ≡ Some item → key_of item ≢ key → IsSlotOf key_of items key found → IsSlotOf key_of (set items id None) key found
+  slot_removed items id item key found t n s =
+      slot_kept key_of items id None key found (taken_below items id (ap is_some t)) (λ e. n (one_key (key_of item) key (key_at key_of items id) (ap (option_map key_of) t) e)) no_key s
+    where
+      no_key : None ≢ Some key
+      no_key e = cc
 
   module _ (old mid new : Slots T) (table : Table) (i : IsIndex key_of old table) (id : ℕ) (item : T) (chain left : Chain ℕ) (s : Standing old table i id item chain) (m : Removed old mid new table i id item chain left s) where
     abbrev place : ℕ

@@ -40,9 +40,6 @@ module _ {T : Type 0} (key_of : T → List ℕ) where
     pub all : (id : ℕ) (key : List ℕ) → key_at slots.items id ≡ Some key → Avoids id (ids (place_of table key)) → ⊥
     pub distinct : (id other : ℕ) (key : List ℕ) → key_at slots.items id ≡ Some key → key_at slots.items other ≡ Some key → id ≡ other
 
-  -- a record of the key has gone into the slot, which was free
-  pub record IsMade (key : List ℕ) (old new : Slots T) (id : ℕ) : Type 0 where
-    pub free : IsFree old.items id
-    pub item : T
-    pub key_is : key_of item ≡ key
-    pub items : new.items ≡ slice_set old.items id (Some item)
+-- the record has gone into the slot, which was free
+abbrev pub IsMade : {T : Type 0} → T → List (Option T) → List (Option T) → ℕ → Type 0
+IsMade item old new id = IsFree old id × (new ≡ slice_set old id (Some item))

@@ -1,5 +1,5 @@
 //! The index itself.
-ghost use Rattle.std.specs.Prelude.{◌≡◌, ◌≢◌, ◌<◌, ℕ, true, length, IfOk, IfErr, OnErr, Ok, Err, Some, None, if◌then◌else◌, slice_set};
+ghost use Rattle.std.specs.Prelude.{◌≡◌, ◌≢◌, ◌<◌, ℕ, List, Option, true, length, IfOk, IfErr, OnErr, Ok, Err, Some, None, if◌then◌else◌, slice_set};
 ghost use Rattle.std.specs.Int.{IsNextPowerOfTwo};
 ghost use Rattle.pc_arena.specs.Slots.{at, is_full, IsTaken, AllFree};
 ghost use Rattle.pc_index.specs.Indexes.{place_of, key_at, IsIndex, IsAbsent, IsSlotOf, IsMade};
@@ -81,9 +81,9 @@ impl Index {
         None
     }
 
-    /// The slot of the record that has the key; where no record has it, a new one of the key goes into a free slot. Refuses
-    /// with `Full` exactly where no record has the key and no slot is free, and else only with `OutOfMemory`, where the
-    /// record of a new key can't be made; arena and index are then as they were.
+    /// The slot of the record that has the key; where no record has it, its blank record goes into a free slot, and each other
+    /// key keeps its slot. Refuses with `Full` exactly where no record has the key and no slot is free, and else only with
+    /// `OutOfMemory`, where the blank record can't be made; arena and index are then as they were.
     pub fn find_or_make<T: Keyed>(
         &mut self,
         arena: &mut Arena<T>,
@@ -93,7 +93,8 @@ impl Index {
         requires { IsIndex T.key_of arena.old self.old }
         ensures index { IsIndex T.key_of arena.new self.new }
         ensures found { (id : ℕ) → key_at T.key_of arena.old.items id ≡ Some key.now → (result ≡ Ok id) × (arena.new ≡ arena.old) }
-        ensures made { IsAbsent T.key_of arena.old.items key.now → IfOk result (λ id. IsMade T.key_of key.now arena.old arena.new id) }
+        ensures made { IsAbsent T.key_of arena.old.items key.now → IfOk result (λ id. IsMade (T.blank_of key.now) arena.old.items arena.new.items id) }
+        ensures others { (other : List ℕ) (found : Option ℕ) → other ≢ key.now → IsSlotOf T.key_of arena.old.items other found → IsSlotOf T.key_of arena.new.items other found }
         ensures full { IsAbsent T.key_of arena.old.items key.now → is_full arena.old.items ≡ true → result ≡ Err Refusal.Full }
         ensures refusal { IfErr result (λ e. e ≡ (if is_full arena.old.items then Refusal.Full else Refusal.OutOfMemory)) }
         ensures err { OnErr result ((arena.new ≡ arena.old) × (self.new ≡ self.old)) }
@@ -104,7 +105,7 @@ impl Index {
         }
     }
 
-    // A record of the key, which has none yet, in a free slot.
+    // The blank record of the key, which no record has yet, in a free slot.
     fn make<T: Keyed>(
         &mut self,
         arena: &mut Arena<T>,
@@ -113,7 +114,8 @@ impl Index {
     ) -> Result<SlotId, Refusal>
         requires index { IsIndex T.key_of arena.old self.old }
         requires absent { IsAbsent T.key_of arena.old.items key.now }
-        ensures made { IfOk result (λ id. IsMade T.key_of key.now arena.old arena.new id) }
+        ensures made { IfOk result (λ id. IsMade (T.blank_of key.now) arena.old.items arena.new.items id) }
+        ensures others { (other : List ℕ) (found : Option ℕ) → other ≢ key.now → IsSlotOf T.key_of arena.old.items other found → IsSlotOf T.key_of arena.new.items other found }
         ensures index { IsIndex T.key_of arena.new self.new }
         ensures full { is_full arena.old.items ≡ true → result ≡ Err Refusal.Full }
         ensures refusal { IfErr result (λ e. e ≡ (if is_full arena.old.items then Refusal.Full else Refusal.OutOfMemory)) }
@@ -122,7 +124,7 @@ impl Index {
         if arena.is_full() {
             return Err(Refusal::Full);
         }
-        let Ok(item) = T::of_key(alloc, key) else {
+        let Ok(item) = T::blank(alloc, key) else {
             return Err(Refusal::OutOfMemory);
         };
         let id = arena.take_slot(item)?;
@@ -139,6 +141,7 @@ impl Index {
         ensures given { at arena.old.items id ≡ Some result }
         ensures items { arena.new.items ≡ slice_set arena.old.items id None }
         ensures gone { IsAbsent T.key_of arena.new.items (T.key_of result) }
+        ensures others { (other : List ℕ) (found : Option ℕ) → other ≢ T.key_of result → IsSlotOf T.key_of arena.old.items other found → IsSlotOf T.key_of arena.new.items other found }
         ensures index { IsIndex T.key_of arena.new self.new }
     {
         let place = self.place(arena.get(id).key());

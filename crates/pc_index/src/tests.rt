@@ -17,16 +17,22 @@ struct Row {
 }
 
 impl Keyed for Row {
+    ghost use Rattle.std.specs.Prelude.{refl};
+
     ghost key_of = { λ row. row.key };
+
+    ghost blank_of = { λ key. record { key = key; count = 0 } };
 
     fn key(&self) -> &Key {
         &self.key
     }
 
-    fn of_key(alloc: Global, key: &Key) -> Result<Row, AllocError> {
+    fn blank(alloc: Global, key: &Key) -> Result<Row, AllocError> {
         let key = key.copy(alloc)?;
         Ok(Row { key, count: 0 })
     }
+
+    ghost blank_key = { λ key. refl };
 }
 
 #[derive(Clone, Copy)]

@@ -1,8 +1,8 @@
 use Rattle.std.proofs.Common.{◌≡◌, ℕ, List, None, sym, ap, ◌∙◌, subst, set, Option, arith}
 use Rattle.pc_arena.specs.Slots.{at}
-use Rattle.pc_index.specs.Indexes.{Table, place_of, chain_at, IsIndex}
+use Rattle.pc_index.specs.Indexes.{Table, place_of, chain_at, IsIndex, IsSlotOf}
 use Rattle.pc_index.proofs.Places.{chain_read, table_written}
-use Rattle.pc_index.proofs.Removing.{standing, others_apart, absent_removed, index_removed}
+use Rattle.pc_index.proofs.Removing.{standing, others_apart, absent_removed, slot_removed, index_removed}
 use Rattle.pc_index.proofs.index.Index.remove.Goals as goal
 
 pub unlink-requires-clause-stands : goal.unlink-requires-clause-stands
@@ -38,3 +38,8 @@ returns-clause-index g c =
       items = c.free_slot.ensures.items;
       links = c.free_slot.ensures.links;
     }))
+
+pub returns-clause-others : goal.returns-clause-others
+returns-clause-others g c = λ other found n s.
+    subst (λ (is : List (Option g.row.T.Denot)). IsSlotOf g.T.Keyed.key_of is other found) (sym (c.free_slot.ensures.items ∙ ap (λ (is : List (Option g.row.T.Denot)). set is c.args.id None) c.unlink.ensures.beside))
+    (slot_removed g.T.Keyed.key_of c.args.arena.now.items c.args.id c.free_slot.result other found (sym (ap (λ (is : List (Option g.row.T.Denot)). at is c.args.id) c.unlink.ensures.beside) ∙ c.free_slot.ensures.given) (λ e. n (sym e)) s)
