@@ -1,5 +1,6 @@
 -- What taking, freeing and linking slots makes of the list of the free ones.
 use Rattle.std.proofs.Common.{◌≡◌, ◌≢◌, ℕ, ◌<◌, List, [], ◌∷◌, ◌++◌, length, set, Option, Some, None, is_none, sym, ap, subst, ◌∙◌, arith}
+use Rattle.std.proofs.lemmas.Option.{none-some}
 use Rattle.pc_chain.specs.declared.chain.Chain.{Chain}
 use Rattle.pc_chain.specs.Chains.{first_of, rest_of, Avoids, AllHave, IsChain}
 use Rattle.pc_chain.proofs.ChainLaws.{have_still, have_push, have_others, have_both, avoids_all, all_avoids, avoids_pushed, chain_still}
@@ -18,16 +19,13 @@ module _ {T : Type 0} where
   full_is n items links free [] l f = full_where_none items (λ id h. f.all id (omega (arith, h.0, l)) h.1 tt)
   full_is n items links free (x ∷ xs) l f = not_full items x ((let w : x < n = f.line.held.0 in omega (arith, w, l)), f.bare.0)
 
-  some_none : (v : T) → Some v ≢ None
-  some_none v e = cc
-
   -- the records other than one are as they were
   bare_still : (items : List (Option T)) (id : ℕ) (v : Option T) (ids : List ℕ) → Avoids id ids → AllHave (λ y. at items y ≡ None) ids → AllHave (λ y. at (set items id v) y ≡ None) ids
   bare_still items id v ids a b = have_both (λ y. at items y ≡ None) (λ y. y ≢ id) (λ y. at (set items id v) y ≡ None) ids (λ y e d. at_other items id y v d ∙ e) b (avoids_all id ids a)
 
   -- a slot that got a record is another than one without
   other_than : (items : List (Option T)) (id y : ℕ) (v : T) → id < length items → at (set items id (Some v)) y ≡ None → y ≢ id
-  other_than items id y v w e s = some_none v (sym (at_here items id (Some v) w) ∙ (ap (at (set items id (Some v))) (sym s) ∙ e))
+  other_than items id y v w e s = none-some v (sym (sym (at_here items id (Some v) w) ∙ (ap (at (set items id (Some v))) (sym s) ∙ e)))
 
   -- the first of the list gets a record
   free_taken : (n : ℕ) (items : List (Option T)) (links : List (Option ℕ)) (free new : Chain ℕ) (x : ℕ) (xs : List ℕ) (v : T) → length items ≡ n → IsFreeList n items links free (x ∷ xs) →

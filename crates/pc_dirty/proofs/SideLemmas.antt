@@ -1,7 +1,7 @@
 -- What changes of a set make of its parts.
-use Rattle.std.proofs.Common.{◌≡◌, ◌≢◌, ℕ, zero, suc, ◌+◌, ◌-◌, ◌==◌, ◌<◌, ◌≤◌, ◌⊎◌, inl, inr, List, [], ◌∷◌, ◌++◌, length, set, slice_index_or, Option, Some, Bool, true, false, ◌||◌, refl, sym, ◌∙◌, ap, subst, arith}
+use Rattle.std.proofs.Common.{◌≡◌, ◌≢◌, ℕ, zero, suc, ◌+◌, ◌-◌, ◌==◌, ◌<◌, ◌≤◌, inl, inr, List, [], ◌∷◌, ◌++◌, length, set, slice_index_or, Option, Some, Bool, true, false, ◌||◌, refl, sym, ◌∙◌, ap, subst, arith}
+use Rattle.std.proofs.lemmas.Bool.{eqb-true, eq-eqb, ne_eqb, cases_eq, or_cases, or_parts}
 use Rattle.std.specs.List.{list_any, IsDistinct}
-use Rattle.std.proofs.lemmas.Bool.Decides.{nat_tests}
 use Rattle.std.proofs.lemmas.List.{get_or-set_same, get_or-set_other, length-set}
 use Rattle.std.proofs.lemmas.Map.Steps.{length-le_from_distinct_below}
 use Rattle.pc_chain.specs.declared.chain.Chain.{Chain}
@@ -11,23 +11,6 @@ use Rattle.pc_dirty.specs.Sets.{is_in, HasNoRepeats}
 use Rattle.pc_dirty.specs.Sides as sides
 use Rattle.pc_dirty.specs.Sides.{next_in, follow, IsLine, IsSide}
 
-pub is_same : (a b : ℕ) → (a == b) ≡ true → a ≡ b
-is_same a b e = grind (arith, nat_tests)
-
-pub same_is : (a b : ℕ) → a ≡ b → (a == b) ≡ true
-same_is a b e = grind (arith, nat_tests)
-
-pub other_is : (a b : ℕ) → a ≢ b → (a == b) ≡ false
-other_is a b n = grind (arith, nat_tests)
-
-pub either_true : (a b : Bool) → (a || b) ≡ true → (a ≡ true) ⊎ (b ≡ true)
-either_true true b e = inl refl
-either_true false b e = inr e
-
-pub neither : (a b : Bool) → (a || b) ≡ false → (a ≡ false) × (b ≡ false)
-neither true b e = absurd cc
-neither false b e = (refl, e)
-
 or_true : (b : Bool) → (b || true) ≡ true
 or_true true = refl
 or_true false = refl
@@ -36,12 +19,12 @@ or_true false = refl
 pub avoids_unlisted : (slot : ℕ) (xs : List ℕ) → is_in xs slot ≡ false → Avoids slot xs
 avoids_unlisted slot [] e = tt
 avoids_unlisted slot (x ∷ xs) e =
-    let h = neither (x == slot) (is_in xs slot) e in
-    ((λ f. let g = same_is x slot f in let z = h.0 in cc), avoids_unlisted slot xs h.1)
+    let h = or_parts (x == slot) (is_in xs slot) e in
+    ((λ f. let g = eq-eqb x slot f in let z = h.0 in cc), avoids_unlisted slot xs h.1)
 
 pub unlisted_avoids : (slot : ℕ) (xs : List ℕ) → Avoids slot xs → is_in xs slot ≡ false
 unlisted_avoids slot [] a = refl
-unlisted_avoids slot (x ∷ xs) a = rw (other_is x slot a.0) (unlisted_avoids slot xs a.1)
+unlisted_avoids slot (x ∷ xs) a = rw (ne_eqb x slot a.0) (unlisted_avoids slot xs a.1)
 
 -- none stands twice in a list that links lead along
 pub no_repeats : (next : ℕ → Option ℕ) (xs : List ℕ) → Leads next xs → HasNoRepeats xs
@@ -68,8 +51,8 @@ has_mark (b ∷ bs) (suc n) e = let h = has_mark bs n e in omega (arith, h)
 
 in_is : (xs : List ℕ) (slot : ℕ) → list_any (λ x. slot == x) xs ≡ true → is_in xs slot ≡ true
 in_is [] slot e = e
-in_is (x ∷ xs) slot e = elim (either_true (slot == x) (list_any (λ y. slot == y) xs) e) [
-  | inl f ↦ let g = same_is x slot (sym (is_same slot x f)) in rw g refl
+in_is (x ∷ xs) slot e = elim (or_cases (slot == x) (list_any (λ y. slot == y) xs) e) [
+  | inl f ↦ let g = eq-eqb x slot (sym (eqb-true slot x f)) in rw g refl
   | inr f ↦ rw (in_is xs slot f) (or_true (x == slot))
 ]
 
@@ -84,15 +67,15 @@ side_fits links marks chain count xs s =
 -- one more slot fits
 pub room_for_it : (links : List (Option ℕ)) (marks : List Bool) (chain : Chain ℕ) (count : ℕ) (xs : List ℕ) (slot : ℕ) → IsSide links marks chain count xs → is_in xs slot ≡ false → slot < length marks → count + 1 ≤ length marks
 room_for_it links marks chain count xs slot s f h =
-    let n = length-le_from_distinct_below (slot ∷ xs) (length marks) (distinct_with (next_in links) slot xs s.line.leads (avoids_unlisted slot xs f)) (λ q e. elim (either_true (q == slot) (list_any (λ y. q == y) xs) e) [
-      | inl g ↦ let z = is_same q slot g in omega (arith, z, h)
+    let n = length-le_from_distinct_below (slot ∷ xs) (length marks) (distinct_with (next_in links) slot xs s.line.leads (avoids_unlisted slot xs f)) (λ q e. elim (or_cases (q == slot) (list_any (λ y. q == y) xs) e) [
+      | inl g ↦ let z = eqb-true q slot g in omega (arith, z, h)
       | inr g ↦ side_below links marks chain count xs s q (in_is xs q g)
     ]) in
     omega (arith, n, s.counted)
 
 all_below : (n : ℕ) (xs : List ℕ) → ((slot : ℕ) → is_in xs slot ≡ true → slot < n) → AllHave (λ slot. slot < n) xs
 all_below n [] f = tt
-all_below n (x ∷ xs) f = (f x (rw (same_is x x refl) refl), all_below n xs (λ slot e. f slot (later (x == slot) (is_in xs slot) e)))
+all_below n (x ∷ xs) f = (f x (rw (eq-eqb x x refl) refl), all_below n xs (λ slot e. f slot (later (x == slot) (is_in xs slot) e)))
   where
     later : (a b : Bool) → b ≡ true → (a || b) ≡ true
     later true b e = refl
@@ -119,19 +102,12 @@ length_push : (xs : List ℕ) (slot : ℕ) → length (xs ++ slot ∷ []) ≡ le
 length_push [] slot = refl
 length_push (x ∷ xs) slot = let h = length_push xs slot in omega (arith, h)
 
-decide : (a b : ℕ) → (a ≡ b) ⊎ (a ≢ b)
-decide a b = by (a == b) refl
-  where
-    by : (t : Bool) → (a == b) ≡ t → (a ≡ b) ⊎ (a ≢ b)
-    by true e = inl (is_same a b e)
-    by false e = inr (λ f. let g = same_is a b f in cc)
-
 in_push_same : (xs : List ℕ) (slot : ℕ) → is_in (xs ++ slot ∷ []) slot ≡ true
-in_push_same [] slot = rw (same_is slot slot refl) refl
+in_push_same [] slot = rw (eq-eqb slot slot refl) refl
 in_push_same (x ∷ xs) slot = rw (in_push_same xs slot) (or_true (x == slot))
 
 in_push_other : (xs : List ℕ) (slot other : ℕ) → other ≢ slot → is_in (xs ++ slot ∷ []) other ≡ is_in xs other
-in_push_other [] slot other n = rw (other_is slot other (λ e. n (sym e))) refl
+in_push_other [] slot other n = rw (ne_eqb slot other (λ e. n (sym e))) refl
 in_push_other (x ∷ xs) slot other n = rw (in_push_other xs slot other n) refl
 
 -- one more slot, at the end
@@ -141,7 +117,7 @@ side_pushed links new_links marks chain new count slot xs s h k l =
     became new_links (set marks slot true) new (count + 1) (xs ++ slot ∷ []) (record {
       line = l;
       counted = let e = length_push xs slot in omega (arith, e, s.counted);
-      marked = λ other. elim (decide other slot) [
+      marked = λ other. elim (cases_eq other slot) [
         | inl e ↦ rw e (get_or-set_same marks slot true false h ∙ sym (in_push_same xs slot))
         | inr n ↦ get_or-set_other marks slot other true false n ∙ (s.marked other ∙ sym (in_push_other xs slot other n))
       ];
@@ -158,9 +134,9 @@ side_popped links marks chain new count slot (x ∷ xs) s e l =
     became links (set marks slot false) new (count - 1) xs (record {
       line = l;
       counted = let n = s.counted in omega (arith, n);
-      marked = λ other. elim (decide other slot) [
-        | inl g ↦ rw g (get_or-set_same marks slot false false (side_below links marks chain count (x ∷ xs) s slot (rw (same_is x slot f) refl)) ∙ sym (unlisted_avoids slot xs (subst (λ y. Avoids y xs) f s.line.leads.1)))
-        | inr n ↦ get_or-set_other marks slot other false false n ∙ (s.marked other ∙ rw (other_is x other (λ g. n (sym g ∙ f))) refl)
+      marked = λ other. elim (cases_eq other slot) [
+        | inl g ↦ rw g (get_or-set_same marks slot false false (side_below links marks chain count (x ∷ xs) s slot (rw (eq-eqb x slot f) refl)) ∙ sym (unlisted_avoids slot xs (subst (λ y. Avoids y xs) f s.line.leads.1)))
+        | inr n ↦ get_or-set_other marks slot other false false n ∙ (s.marked other ∙ rw (ne_eqb x other (λ g. n (sym g ∙ f))) refl)
       ];
       room = let n = length-set marks slot false in omega (arith, n, s.room);
       small = let n = length-set marks slot false in omega (arith, n, s.small);
@@ -175,4 +151,4 @@ same_side slots new_slots items new_items e f = rw (e, f) refl
 
 pub first_in : (xs : List ℕ) (slot : ℕ) → Some slot ≡ first_of xs → is_in xs slot ≡ true
 first_in [] slot e = absurd cc
-first_in (x ∷ xs) slot e = let f : x ≡ slot = cc in rw (same_is x slot f) refl
+first_in (x ∷ xs) slot e = let f : x ≡ slot = cc in rw (eq-eqb x slot f) refl

@@ -1,5 +1,6 @@
 -- An index of no records.
 use Rattle.std.proofs.Common.{◌≡◌, ℕ, ◌<◌, List, [], length, replicate, Option, Some, None, option_map, sym, ap, ◌∙◌, subst, arith}
+use Rattle.std.proofs.lemmas.Option.{none-some}
 use Rattle.std.proofs.lemmas.List.{get_or-replicate, length-replicate}
 use Rattle.pc_chain.specs.declared.chain.Chain.{Chain}
 use Rattle.pc_chain.specs.Chains.{IsEmpty}
@@ -9,10 +10,7 @@ use Rattle.pc_index.specs.Indexes.{Table, chain_at, key_at, IsIndex}
 
 module _ {T : Type 0} (key_of : T → List ℕ) where
   no_key : (items : List (Option T)) (id : ℕ) (key : List ℕ) → AllFree items → key_at key_of items id ≡ Some key → ⊥
-  no_key items id key f h = none_some (sym (ap (option_map key_of) (f id)) ∙ h)
-    where
-      none_some : {k : List ℕ} → None ≡ Some k → ⊥
-      none_some e = cc
+  no_key items id key f h = none-some key (sym (ap (option_map key_of) (f id)) ∙ h)
 
   pub index_begun : (slots : Slots T) (table : Table) (blank : Chain ℕ) (m : ℕ) → AllFree slots.items → IsEmpty blank → table.chains ≡ replicate m blank → IsIndex key_of slots table
   index_begun slots table blank m f b c = record {

@@ -1,5 +1,7 @@
 -- Looking for a key along the chain of its place.
-use Rattle.std.proofs.Common.{◌≡◌, ◌≢◌, ℕ, ◌<◌, ◌≤◌, List, [], ◌∷◌, length, Option, Some, None, option_map, Bool, true, false, ◌||◌, refl, sym, ◌∙◌, ap}
+use Rattle.std.proofs.Common.{◌≡◌, ℕ, ◌<◌, ◌≤◌, List, [], ◌∷◌, length, Option, Some, None, option_map, Bool, true, false, sym, ◌∙◌, ap}
+use Rattle.std.proofs.lemmas.Bool.{or_parts}
+use Rattle.std.proofs.lemmas.Option.{none-some}
 use Rattle.std.specs.List.{list_any}
 use Rattle.pc_chain.specs.Chains.{Avoids}
 use Rattle.pc_chain.proofs.ChainLaws.{chain_fits}
@@ -12,12 +14,8 @@ use Rattle.pc_index.proofs.Texts.{same_text, one_text, own_text}
 avoids_where_none : (test : ℕ → Bool) (xs : List ℕ) (id : ℕ) → list_any test xs ≡ false → test id ≡ true → Avoids id xs
 avoids_where_none test [] id n y = tt
 avoids_where_none test (x ∷ xs) id n y =
-    let h = neither (test x) (list_any test xs) n in
+    let h = or_parts (test x) (list_any test xs) n in
     ((λ (e : x ≡ id). let f : test x ≡ true = ap test e ∙ y in let g : test x ≡ false = h.0 in cc), avoids_where_none test xs id h.1 y)
-  where
-    neither : (a b : Bool) → (a || b) ≡ false → (a ≡ false) × (b ≡ false)
-    neither true b e = absurd cc
-    neither false b e = (refl, e)
 
 module _ {T : Type 0} (key_of : T → List ℕ) where
   -- the record, if there is one, has the key
@@ -42,14 +40,11 @@ module _ {T : Type 0} (key_of : T → List ℕ) where
   pub slot_missing : (slots : Slots T) (table : Table) (key : List ℕ) (i : IsIndex key_of slots table) → false ≡ list_any (λ id. is_key key (at slots.items id)) (i.ids (place_of table key)) → IsSlotOf key_of slots.items key None
   slot_missing slots table key i n = λ id.
       let absent : IsAbsent key_of slots.items key = λ y e. i.all y key e (avoids_where_none (λ z. is_key key (at slots.items z)) (i.ids (place_of table key)) y (sym n) (is_key_at key (at slots.items y) e)) in
-      ((λ s. absurd (no_some id s)), (λ h. absurd (absent id h)))
-    where
-      no_some : (id : ℕ) → None ≢ Some id
-      no_some id e = cc
+      ((λ s. absurd (none-some id s)), (λ h. absurd (absent id h)))
 
   -- no record has the key where its slot is none, and no other where it is one
   pub none_absent : (items : List (Option T)) (key : List ℕ) (found : Option ℕ) → IsSlotOf key_of items key found → found ≡ None → IsAbsent key_of items key
-  none_absent items key found s e id h = let f : found ≡ Some id = (s id).1 h in let g : None ≡ Some id = sym e ∙ f in cc
+  none_absent items key found s e id h = none-some id (sym e ∙ (s id).1 h)
 
   pub chain_short : (slots : Slots T) (table : Table) (i : IsIndex key_of slots table) (b : ℕ) → b < length table.chains → length (i.ids b) ≤ length slots.items
   chain_short slots table i b w = chain_fits (IsTaken slots.items) (at slots.links) (chain_at table b) (i.ids b) (length slots.items) (taken_below slots.items) (i.chains b w)

@@ -1,10 +1,11 @@
 -- What leaves each key and each link keeps the index.
 use Rattle.std.proofs.Common.{◌≡◌, ◌≢◌, ℕ, ◌<◌, length, inl, inr, set, List, Option, Some, None, option_map, is_some, refl, sym, ap, ◌∙◌}
+use Rattle.std.proofs.lemmas.Bool.{cases_eq}
 use Rattle.pc_chain.proofs.ChainLaws.{have_still, have_from, chain_still}
 use Rattle.pc_arena.specs.Slots.{Slots, at, IsTaken}
 use Rattle.pc_arena.proofs.SlotLaws.{at_here, at_other, taken_below}
 use Rattle.pc_index.specs.Indexes.{Table, chain_at, key_at, IsIndex, IsSlotOf}
-use Rattle.pc_index.proofs.Places.{same_or_not, IsPlaced}
+use Rattle.pc_index.proofs.Places.{IsPlaced}
 
 module _ {T : Type 0} (key_of : T → List ℕ) where
   some_mapped : (o : Option T) → is_some (option_map key_of o) ≡ is_some o
@@ -24,7 +25,7 @@ module _ {T : Type 0} (key_of : T → List ℕ) where
 
   -- another record of the same key leaves each key
   pub keys_set : (items : List (Option T)) (id : ℕ) (x v : T) → at items id ≡ Some x → key_of v ≡ key_of x → (y : ℕ) → key_at key_of (set items id (Some v)) y ≡ key_at key_of items y
-  keys_set items id x v e k y = elim (same_or_not y id) [
+  keys_set items id x v e k y = elim (cases_eq y id) [
     | inl s ↦ ap (key_at key_of (set items id (Some v))) s ∙ (ap (option_map key_of) (at_here items id (Some v) (taken_below items id (ap is_some e))) ∙ (ap Some k ∙ (sym (ap (option_map key_of) e) ∙ ap (key_at key_of items) (sym s))))
     | inr n ↦ ap (option_map key_of) (at_other items id y (Some v) n)
   ]
@@ -32,7 +33,7 @@ module _ {T : Type 0} (key_of : T → List ℕ) where
   -- what is written to a slot leaves the slot of each key that neither the record there has nor the new one
   pub slot_kept : (items : List (Option T)) (id : ℕ) (v : Option T) (key : List ℕ) (found : Option ℕ) → id < length items → key_at key_of items id ≢ Some key → option_map key_of v ≢ Some key →
       IsSlotOf key_of items key found → IsSlotOf key_of (set items id v) key found
-  slot_kept items id v key found w n m s = λ y. elim (same_or_not y id) [
+  slot_kept items id v key found w n m s = λ y. elim (cases_eq y id) [
     | inl e ↦ (
       (λ f. absurd (n (ap (key_at key_of items) (sym e) ∙ (s y).0 f))),
       (λ h. absurd (m (sym (ap (option_map key_of) (ap (at (set items id v)) e ∙ at_here items id v w)) ∙ h))),

@@ -1,5 +1,7 @@
 -- A record that goes into a free slot and to the end of its key's chain.
 use Rattle.std.proofs.Common.{◌≡◌, ◌≢◌, ℕ, ◌<◌, inl, inr, List, [], ◌∷◌, ◌++◌, length, set, Option, Some, None, option_map, is_some, refl, sym, ◌∙◌, ap, subst, arith, length-set}
+use Rattle.std.proofs.lemmas.Bool.{cases_eq}
+use Rattle.std.proofs.lemmas.Option.{none-some}
 use Rattle.pc_chain.specs.declared.chain.Chain.{Chain}
 use Rattle.pc_chain.specs.Chains.{Avoids, AllHave, IsChain}
 use Rattle.pc_chain.proofs.ChainLaws.{have_still, have_push, have_from, have_both, avoids_all, all_avoids, avoids_pushed, chain_still}
@@ -7,7 +9,7 @@ use Rattle.pc_arena.specs.Slots.{Slots, at, with_item, IsTaken, IsFree}
 use Rattle.pc_arena.proofs.SlotLaws.{at_here, at_other, not_both}
 use Rattle.pc_index.specs.Indexes.{Table, place_of, chain_at, key_at, IsIndex, IsAbsent, IsSlotOf}
 use Rattle.pc_index.proofs.IndexLaws.{slot_kept}
-use Rattle.pc_index.proofs.Places.{same_or_not, changed, with_chain, place_same, changed_here, each_place, each_list, one_key, IsPlaced}
+use Rattle.pc_index.proofs.Places.{changed, with_chain, place_same, changed_here, each_place, each_list, one_key, IsPlaced}
 
 module _ {T : Type 0} (key_of : T → List ℕ) where
   other_than : (items : List (Option T)) (id y : ℕ) → at items id ≡ None → IsTaken items y → y ≢ id
@@ -29,10 +31,7 @@ module _ {T : Type 0} (key_of : T → List ℕ) where
 
   -- every other key keeps its slot
   pub slot_made : (items : List (Option T)) (id : ℕ) (item : T) (key : List ℕ) (found : Option ℕ) → IsFree items id → key_of item ≢ key → IsSlotOf key_of items key found → IsSlotOf key_of (set items id (Some item)) key found
-  slot_made items id item key found f n s = slot_kept key_of items id (Some item) key found f.0 (λ e. no_key (sym (ap (option_map key_of) f.1) ∙ e)) (λ e. n (let h : key_of item ≡ key = cc in h)) s
-    where
-      no_key : None ≢ Some key
-      no_key e = cc
+  slot_made items id item key found f n s = slot_kept key_of items id (Some item) key found f.0 (λ e. none-some _ (sym (ap (option_map key_of) f.1) ∙ e)) (λ e. n (let h : key_of item ≡ key = cc in h)) s
 
   -- what the push leaves
   pub record Pushed (old new : Slots T) (table : Table) (i : IsIndex key_of old table) (key : List ℕ) (id : ℕ) (item : T) (chain : Chain ℕ) : Type 0 where
@@ -77,7 +76,7 @@ module _ {T : Type 0} (key_of : T → List ℕ) where
         (λ w. have_push (IsPlaced key_of new.items new_table place) (i.ids place) id (olds_placed place w) (λ k e. place_same table place chain k ∙ ap (place_of table) (known id k refl e))) olds_placed
 
     all : (y : ℕ) (k : List ℕ) → key_at key_of new.items y ≡ Some k → Avoids y (changed i.ids place list (place_of new_table k)) → ⊥
-    all y k e a = elim (same_or_not y id) [
+    all y k e a = elim (cases_eq y id) [
       | inl s ↦
           let here : place_of new_table k ≡ place = place_same table place chain k ∙ ap (place_of table) (known y k s e) in
           let b : Avoids y list = subst (Avoids y) (changed_here i.ids place list (place_of new_table k) here) a in
@@ -89,12 +88,12 @@ module _ {T : Type 0} (key_of : T → List ℕ) where
         fewer = each_list (λ q ys. Avoids y ys → Avoids y (i.ids q)) i.ids place list (λ a. (avoids_pushed y id (i.ids place) a).0) (λ q a. a)
 
     distinct : (y z : ℕ) (k : List ℕ) → key_at key_of new.items y ≡ Some k → key_at key_of new.items z ≡ Some k → y ≡ z
-    distinct y z k e f = elim (same_or_not y id) [
-      | inl s ↦ elim (same_or_not z id) [
+    distinct y z k e f = elim (cases_eq y id) [
+      | inl s ↦ elim (cases_eq z id) [
         | inl t ↦ s ∙ sym t
         | inr n ↦ absurd (m.absent z (before z k n f ∙ ap Some (known y k s e)))
       ]
-      | inr n ↦ elim (same_or_not z id) [
+      | inr n ↦ elim (cases_eq z id) [
         | inl t ↦ absurd (m.absent y (before y k n e ∙ ap Some (known z k t f)))
         | inr d ↦ i.distinct y z k (before y k n e) (before z k d f)
       ]

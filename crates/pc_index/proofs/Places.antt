@@ -1,6 +1,6 @@
 -- The chains of an index, by place.
-use Rattle.std.proofs.Common.{◌≡◌, ◌≢◌, ℕ, ◌==◌, ◌<◌, ◌-◌, ◌⊎◌, inl, inr, List, [], ◌∷◌, length, get_or, set, Option, Some, None, option_map, is_some, Bool, true, false, cond, bit_and, refl, sym, ◌∙◌, ap, subst, length-set}
-use Rattle.std.proofs.lemmas.Bool.{eqb-true, eqb-false, eq-eqb, false≢true}
+use Rattle.std.proofs.Common.{◌≡◌, ◌≢◌, ℕ, ◌==◌, ◌<◌, ◌-◌, inl, inr, List, [], ◌∷◌, length, get_or, set, Option, Some, None, option_map, is_some, true, cond, bit_and, refl, sym, ◌∙◌, ap, subst, length-set}
+use Rattle.std.proofs.lemmas.Bool.{eq-eqb, ne_eqb, cases_eq, cond-true, cond-false, false≢true}
 use Rattle.std.proofs.lemmas.List.{get_or-set_same, get_or-set_other, get_or_read}
 use Rattle.pc_chain.specs.declared.chain.Chain.{Chain}
 use Rattle.pc_chain.specs.Chains.{Avoids, AreApart, AllHave}
@@ -9,26 +9,15 @@ use Rattle.pc_arena.specs.Slots.{Slots, at, IsTaken}
 use Rattle.pc_index.specs.Hashes.{key_hash}
 use Rattle.pc_index.specs.Indexes.{Table, place_of, chain_at, key_at, IsIndex}
 
-pub same_or_not : (a b : ℕ) → (a ≡ b) ⊎ (a ≢ b)
-same_or_not a b = by (a == b) refl
-  where
-    by : (t : Bool) → (a == b) ≡ t → (a ≡ b) ⊎ (a ≢ b)
-    by true e = inl (eqb-true a b e)
-    by false e = inr (eqb-false a b e)
-
 -- what each place has, with another at one place
 abbrev pub changed : {X : Type 0} → (ℕ → X) → ℕ → X → ℕ → X
 changed f p x b = cond (b == p) x (f b)
 
 pub changed_here : {X : Type 0} (f : ℕ → X) (p : ℕ) (x : X) (b : ℕ) → b ≡ p → changed f p x b ≡ x
-changed_here f p x b e = rw (eq-eqb b p e)
+changed_here f p x b e = cond-true (b == p) x (f b) (eq-eqb b p e)
 
 pub changed_other : {X : Type 0} (f : ℕ → X) (p : ℕ) (x : X) (b : ℕ) → b ≢ p → changed f p x b ≡ f b
-changed_other f p x b n = by (b == p) refl
-  where
-    by : (t : Bool) → (b == p) ≡ t → changed f p x b ≡ f b
-    by true e = absurd (n (eqb-true b p e))
-    by false e = rw e
+changed_other f p x b n = cond-false (b == p) x (f b) (ne_eqb b p n)
 
 -- the table with another chain at one place
 abbrev pub with_chain : Table → ℕ → Chain ℕ → Table
@@ -50,7 +39,7 @@ chain_read inside table n p chain e f w r = (
 -- what holds of the chain and the list of each place, where it holds of the new ones of one place and of the old ones of all others
 pub each_place : (P : Chain ℕ → List ℕ → Type 0) (table : Table) (ids : ℕ → List ℕ) (p : ℕ) (chain : Chain ℕ) (list : List ℕ) → p < length table.chains → P chain list →
     ((b : ℕ) → b < length table.chains → b ≢ p → P (chain_at table b) (ids b)) → (b : ℕ) → b < length table.chains → P (chain_at (with_chain table p chain) b) (changed ids p list b)
-each_place P table ids p chain list v h o b w = elim (same_or_not b p) [
+each_place P table ids p chain list v h o b w = elim (cases_eq b p) [
   | inl e ↦
       let c : chain_at (with_chain table p chain) b ≡ chain = ap (chain_at (with_chain table p chain)) e ∙ get_or-set_same table.chains p chain (record { first = None; last = None }) v in
       rw (c, changed_here ids p list b e) h
@@ -61,7 +50,7 @@ each_place P table ids p chain list v h o b w = elim (same_or_not b p) [
 
 -- and of the list alone
 pub each_list : (P : ℕ → List ℕ → Type 0) (ids : ℕ → List ℕ) (p : ℕ) (list : List ℕ) → P p list → ((b : ℕ) → P b (ids b)) → (b : ℕ) → P b (changed ids p list b)
-each_list P ids p list h o b = elim (same_or_not b p) [
+each_list P ids p list h o b = elim (cases_eq b p) [
   | inl e ↦ rw (changed_here ids p list b e) (subst (λ (q : ℕ). P q list) (sym e) h)
   | inr n ↦ rw (changed_other ids p list b n) (o b)
 ]

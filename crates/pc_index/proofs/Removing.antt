@@ -1,19 +1,21 @@
 -- A record that leaves its chain and then its slot.
 use Rattle.std.proofs.Common.{◌≡◌, ◌≢◌, ℕ, ◌<◌, ◌≤◌, inl, inr, List, [], ◌∷◌, ◌++◌, length, set, Option, Some, None, option_map, is_some, sym, ◌∙◌, ap, subst, arith, length-set}
+use Rattle.std.proofs.lemmas.Bool.{cases_eq}
+use Rattle.std.proofs.lemmas.Option.{none-some}
 use Rattle.pc_chain.specs.declared.chain.Chain.{Chain}
 use Rattle.pc_chain.specs.Chains.{Avoids, AreApart, AllHave, Leads, IsChain}
 use Rattle.pc_chain.proofs.ChainLaws.{have_still, have_both, have_without, avoids_all, leads_still, once}
 use Rattle.pc_arena.specs.Slots.{Slots, at, IsTaken}
 use Rattle.pc_arena.proofs.SlotLaws.{at_here, at_other, taken_below}
 use Rattle.pc_index.specs.Indexes.{Table, place_of, chain_at, key_at, IsIndex, IsAbsent, IsSlotOf}
-use Rattle.pc_index.proofs.Places.{same_or_not, changed, with_chain, place_same, each_place, each_list, elsewhere, places_apart, one_key, IsPlaced}
+use Rattle.pc_index.proofs.Places.{changed, with_chain, place_same, each_place, each_list, elsewhere, places_apart, one_key, IsPlaced}
 use Rattle.pc_index.proofs.IndexLaws.{slot_kept}
 use Rattle.pc_index.proofs.Finding.{chain_short}
 
 -- where an id isn't avoided it stands
 pub stands : (id : ℕ) (xs : List ℕ) → (Avoids id xs → ⊥) → (before rest : List ℕ) × (xs ≡ before ++ id ∷ rest)
 stands id [] f = absurd (f tt)
-stands id (x ∷ xs) f = elim (same_or_not x id) [
+stands id (x ∷ xs) f = elim (cases_eq x id) [
   | inl e ↦ ([], xs, ap (λ (y : ℕ). y ∷ xs) e)
   | inr n ↦ let h = stands id xs (λ a. f (n, a)) in (x ∷ h.0, h.1, ap (λ (ys : List ℕ). x ∷ ys) h.2)
 ]
@@ -65,11 +67,8 @@ module _ {T : Type 0} (key_of : T → List ℕ) where
   pub key_gone : (old : List (Option T)) (id : ℕ) (item : T) (new : List (Option T)) → at old id ≡ Some item → new ≡ set old id None → (y : ℕ) (k : List ℕ) → key_at key_of new y ≡ Some k → (y ≢ id) × (key_at key_of old y ≡ Some k)
   key_gone old id item new t n y k e =
       let e' : key_at key_of (set old id None) y ≡ Some k = sym (ap (λ (is : List (Option T)). key_at key_of is y) n) ∙ e in
-      let d : y ≢ id = λ s. no_key (sym (ap (option_map key_of) (ap (at (set old id None)) s ∙ at_here old id None (taken_below old id (ap is_some t)))) ∙ e') in
+      let d : y ≢ id = λ s. none-some _ (sym (ap (option_map key_of) (ap (at (set old id None)) s ∙ at_here old id None (taken_below old id (ap is_some t)))) ∙ e') in
       (d, sym (ap (option_map key_of) (at_other old id y None d)) ∙ e')
-    where
-      no_key : None ≢ Some k
-      no_key f = cc
 
   pub absent_removed : (old new : Slots T) (table : Table) (id : ℕ) (item : T) → IsIndex key_of old table → at old.items id ≡ Some item → new.items ≡ set old.items id None → IsAbsent key_of new.items (key_of item)
   absent_removed old new table id item i t n = λ y e. let h = key_gone old.items id item new.items t n y (key_of item) e in h.0 (i.distinct y id (key_of item) h.1 (ap (option_map key_of) t))
@@ -77,10 +76,7 @@ module _ {T : Type 0} (key_of : T → List ℕ) where
   -- and every other key keeps its slot
   pub slot_removed : (items : List (Option T)) (id : ℕ) (item : T) (key : List ℕ) (found : Option ℕ) → at items id ≡ Some item → key_of item ≢ key → IsSlotOf key_of items key found → IsSlotOf key_of (set items id None) key found
   slot_removed items id item key found t n s =
-      slot_kept key_of items id None key found (taken_below items id (ap is_some t)) (λ e. n (one_key (key_of item) key (key_at key_of items id) (ap (option_map key_of) t) e)) no_key s
-    where
-      no_key : None ≢ Some key
-      no_key e = cc
+      slot_kept key_of items id None key found (taken_below items id (ap is_some t)) (λ e. n (one_key (key_of item) key (key_at key_of items id) (ap (option_map key_of) t) e)) (none-some key) s
 
   module _ (old mid new : Slots T) (table : Table) (i : IsIndex key_of old table) (id : ℕ) (item : T) (chain left : Chain ℕ) (s : Standing old table i id item chain) (m : Removed old mid new table i id item chain left s) where
     abbrev place : ℕ

@@ -1,5 +1,6 @@
 -- A row of chains, one for each slot.
 use Rattle.std.proofs.Common.{◌≡◌, ◌≢◌, ℕ, zero, suc, ◌<◌, ◌≤◌, List, [], ◌∷◌, ◌++◌, length, set, get_or, replicate, true, ◌||◌, ◌==◌, Option, map, false, refl, sym, ◌∙◌, ap, subst, arith, inl, inr}
+use Rattle.std.proofs.lemmas.Bool.{or_cases, or_right}
 use Rattle.std.proofs.lemmas.List.{get_or-set_same, get_or-set_other}
 use Rattle.pc_chain.specs.declared.chain.Chain.{Chain}
 use Rattle.pc_chain.specs.Chains as chains
@@ -7,7 +8,7 @@ use Rattle.pc_chain.specs.Chains.{Avoids, AreApart, Leads}
 use Rattle.pc_locks.specs.Lines.{most, next_in, ids_of, all_ids, chain_at, no_chain, IsLine, AreLines}
 use Rattle.pc_locks.specs.States.{is_listed, first_of, rest_of, last_of}
 use Rattle.pc_locks.specs.Tables.{ids_at}
-use Rattle.pc_locks.proofs.LineLemmas.{Become, become_pushed, become_fewer, avoids_unlisted, ids_same, lines_none, fits, same_first, same_rest, same_last, either_true, right_true}
+use Rattle.pc_locks.proofs.LineLemmas.{Become, become_pushed, become_fewer, avoids_unlisted, ids_same, lines_none, fits, same_first, same_rest, same_last}
 
 pub get_within : {A : Type 0} (xs : List A) (i : ℕ) (d e : A) → i < length xs → get_or xs i d ≡ get_or xs i e
 get_within [] i d e h = absurd (omega (arith, h))
@@ -70,10 +71,10 @@ rowed_push links new_links row s id old chain h n a e f l o =
 
 fewer_listed : (before rest : List ℕ) (id : ℕ) → is_listed (before ++ rest_of rest) id ≡ true → is_listed (before ++ rest) id ≡ true
 fewer_listed [] [] id e = e
-fewer_listed [] (x ∷ xs) id e = right_true (x == id) (is_listed xs id) e
-fewer_listed (x ∷ xs) rest id e = elim (either_true (x == id) (is_listed (xs ++ rest_of rest) id) e) [
+fewer_listed [] (x ∷ xs) id e = or_right (x == id) (is_listed xs id) e
+fewer_listed (x ∷ xs) rest id e = elim (or_cases (x == id) (is_listed (xs ++ rest_of rest) id) e) [
   | inl f ↦ ap (λ b. b || is_listed (xs ++ rest) id) f
-  | inr f ↦ right_true (x == id) (is_listed (xs ++ rest) id) (fewer_listed xs rest id f)
+  | inr f ↦ or_right (x == id) (is_listed (xs ++ rest) id) (fewer_listed xs rest id f)
 ]
 
 pub rowed_remove : (links new_links : List (Option ℕ)) (row : List (Chain ℕ)) (s : ℕ) (old chain : Chain ℕ) (previous : Option ℕ) (before rest : List ℕ) → length new_links ≤ most → s < length row → AreLines links (chain_at row) → old ≡ get_or row s old →

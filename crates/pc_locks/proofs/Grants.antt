@@ -1,5 +1,6 @@
 -- Granting from the front of a slot's requests.
 use Rattle.std.proofs.Common.{◌≡◌, ◌≢◌, ℕ, ◌+◌, ◌≤◌, ◌==◌, inl, inr, List, [], ◌∷◌, ◌++◌, length, Option, Some, None, is_some, Bool, true, false, not, cond, ◌||◌, ◌&&◌, refl, sym, ◌∙◌, ap, subst, arith, append-nil}
+use Rattle.std.proofs.lemmas.Bool.{eqb-true, eq-eqb, cases_eq, false_from_ne_true}
 use Rattle.std.specs.Prelude.{option_map}
 use Rattle.std.specs.List.{list_all}
 use Rattle.std.proofs.lemmas.Bool.Decides.{nat_tests}
@@ -11,7 +12,6 @@ use Rattle.pc_model.specs.Queues.{stands_in, AreOnce}
 use Rattle.pc_locks.specs.declared.node.Node.{Node}
 use Rattle.pc_locks.specs.States.{is_listed, first_of}
 use Rattle.pc_locks.specs.Tables.{Nodes, node_at, request_of, request_at, place_of, requests}
-use Rattle.pc_locks.proofs.LineLemmas.{decide, is_same, same_is, not_both}
 use Rattle.pc_locks.proofs.TableLemmas.{transaction_same, requests_same}
 use Rattle.pc_locks.proofs.RemovalLemmas.{member_stands, once_behind, back_listed}
 
@@ -56,9 +56,9 @@ fits_shared r (x ∷ xs) e = by (x.transaction == r.transaction) refl e (fits_sh
 pub once_before : (nodes : Nodes) (before behind : List ℕ) (x : ℕ) → AreOnce (requests nodes (before ++ x ∷ behind)) → stands_in (requests nodes before) (request_at nodes x).transaction ≡ false
 once_before nodes [] behind x o = refl
 once_before nodes (y ∷ ys) behind x o =
-    let differs : ((request_at nodes y).transaction == (request_at nodes x).transaction) ≡ false = not_both ((request_at nodes y).transaction == (request_at nodes x).transaction) (λ e.
-    let same = is_same (request_at nodes y).transaction (request_at nodes x).transaction e in
-    let here : is_listed (x ∷ behind) x ≡ true = ap (λ b. b || is_listed behind x) (same_is x x refl) in
+    let differs : ((request_at nodes y).transaction == (request_at nodes x).transaction) ≡ false = false_from_ne_true ((request_at nodes y).transaction == (request_at nodes x).transaction) (λ e.
+    let same = eqb-true (request_at nodes y).transaction (request_at nodes x).transaction e in
+    let here : is_listed (x ∷ behind) x ≡ true = ap (λ b. b || is_listed behind x) (eq-eqb x x refl) in
     let f : false ≡ true = sym o.0 ∙ member_stands nodes (ys ++ x ∷ behind) x (request_at nodes y).transaction (back_listed ys (x ∷ behind) x here) (sym same) in cc) in
     rw differs (once_before nodes ys behind x o.1)
 
@@ -170,7 +170,7 @@ module _ (was nodes new_nodes : Nodes) (ids : List ℕ) (is_first are_shared : B
   at_it = grant_here was nodes ids is_first are_shared at count id g e
 
   listed_it : is_listed ids id ≡ true
-  listed_it = ap (λ xs. is_listed xs id) at_it.split ∙ back_listed g.before (id ∷ at_it.rest) id (ap (λ b. b || is_listed at_it.rest id) (same_is id id refl))
+  listed_it = ap (λ xs. is_listed xs id) at_it.split ∙ back_listed g.before (id ∷ at_it.rest) id (ap (λ b. b || is_listed at_it.rest id) (eq-eqb id id refl))
 
   once_it : AreOnce (requests was (g.before ++ id ∷ at_it.rest))
   once_it = subst (λ xs. AreOnce (requests was xs)) at_it.split g.once
@@ -196,7 +196,7 @@ module _ (was nodes new_nodes : Nodes) (ids : List ℕ) (is_first are_shared : B
   fit_it = fits_here was nodes ids is_first are_shared at count id g at_it ∙ fit
 
   place_now : (x : ℕ) → place_of (node_at new_nodes x) ≡ place_of (node_at nodes x)
-  place_now x = elim (decide x id) [
+  place_now x = elim (cases_eq x id) [
     | inl c ↦ ap (λ y. place_of (node_at new_nodes y)) c ∙ (ap place_of written ∙ (place_written (node_at nodes id) (record (request_at nodes id) { granted = true }) refl ∙ ap (λ y. place_of (node_at nodes y)) (sym c)))
     | inr n ↦ ap place_of (stay x n)
   ]

@@ -1,6 +1,6 @@
 -- Chains over a row of links, as lists of ids.
-use Rattle.std.proofs.Common.{◌≡◌, ◌≢◌, ℕ, zero, suc, ◌==◌, ◌<◌, ◌≤◌, ◌^◌, ◌⊎◌, inl, inr, List, [], ◌∷◌, ◌++◌, length, Option, Some, None, Bool, true, false, ◌||◌, refl, sym, ◌∙◌, ap, subst, arith}
-use Rattle.std.proofs.lemmas.Bool.Decides.{nat_tests}
+use Rattle.std.proofs.Common.{◌≡◌, ◌≢◌, ℕ, zero, suc, ◌==◌, ◌<◌, ◌≤◌, ◌^◌, inl, inr, List, [], ◌∷◌, ◌++◌, length, Option, Some, None, Bool, true, false, ◌||◌, refl, sym, ◌∙◌, ap, subst, arith}
+use Rattle.std.proofs.lemmas.Bool.{eqb-true, eq-eqb, ne_eqb, cases_eq, or_cases, or_parts, or_right, false_from_ne_true}
 use Rattle.std.proofs.lemmas.List.Folds.{list_any-append}
 use Rattle.pc_chain.specs.declared.chain.Chain.{Chain}
 use Rattle.pc_chain.specs.Chains as chains
@@ -8,34 +8,6 @@ use Rattle.pc_chain.specs.Chains.{IsChain, Leads, AllHave, Avoids, AreApart}
 use Rattle.pc_chain.proofs.ChainLaws.{have_from, chain_still, chain_fits}
 use Rattle.pc_locks.specs.Lines.{most, next_in, follow, ids_of, IsLine, AreLines}
 use Rattle.pc_locks.specs.States.{is_listed, first_of, rest_of, last_of}
-
-pub is_same : (a b : ℕ) → (a == b) ≡ true → a ≡ b
-is_same a b e = grind (arith, nat_tests)
-
-pub same_is : (a b : ℕ) → a ≡ b → (a == b) ≡ true
-same_is a b e = grind (arith, nat_tests)
-
-pub other_is : (a b : ℕ) → a ≢ b → (a == b) ≡ false
-other_is a b n = grind (arith, nat_tests)
-
-pub decide : (a b : ℕ) → (a ≡ b) ⊎ (a ≢ b)
-decide a b = by (a == b) refl
-  where
-    by : (t : Bool) → (a == b) ≡ t → (a ≡ b) ⊎ (a ≢ b)
-    by true e = inl (is_same a b e)
-    by false e = inr (λ f. let g = same_is a b f in cc)
-
-pub either_true : (a b : Bool) → (a || b) ≡ true → (a ≡ true) ⊎ (b ≡ true)
-either_true true b e = inl refl
-either_true false b e = inr e
-
-pub neither : (a b : Bool) → (a || b) ≡ false → (a ≡ false) × (b ≡ false)
-neither true b e = absurd cc
-neither false b e = (refl, e)
-
-pub right_true : (a b : Bool) → b ≡ true → (a || b) ≡ true
-right_true true b e = refl
-right_true false b e = e
 
 pub row_fits : (n : ℕ) → n < 2 ^ 64 → n ≤ most
 unfolding most
@@ -60,25 +32,21 @@ line_is links chain xs h c =
 pub avoids_unlisted : (id : ℕ) (xs : List ℕ) → is_listed xs id ≡ false → Avoids id xs
 avoids_unlisted id [] e = tt
 avoids_unlisted id (x ∷ xs) e =
-    let h = neither (x == id) (is_listed xs id) e in
-    ((λ f. let g = same_is x id f in let z = h.0 in cc), avoids_unlisted id xs h.1)
+    let h = or_parts (x == id) (is_listed xs id) e in
+    ((λ f. let g = eq-eqb x id f in let z = h.0 in cc), avoids_unlisted id xs h.1)
 
 pub unlisted_avoids : (id : ℕ) (xs : List ℕ) → Avoids id xs → is_listed xs id ≡ false
 unlisted_avoids id [] a = refl
-unlisted_avoids id (x ∷ xs) a = rw (other_is x id a.0) (unlisted_avoids id xs a.1)
+unlisted_avoids id (x ∷ xs) a = rw (ne_eqb x id a.0) (unlisted_avoids id xs a.1)
 
 pub apart_lists : (xs ys : List ℕ) → ((id : ℕ) → is_listed ys id ≡ true → is_listed xs id ≡ false) → AreApart xs ys
 apart_lists xs [] f = tt
 apart_lists xs (y ∷ ys) f =
-    (avoids_unlisted y xs (f y (ap (λ b. b || is_listed ys y) (same_is y y refl))), apart_lists xs ys (λ id e. f id (right_true (y == id) (is_listed ys id) e)))
-
-pub not_both : (b : Bool) → (b ≡ true → ⊥) → b ≡ false
-not_both true f = absurd (f refl)
-not_both false f = refl
+    (avoids_unlisted y xs (f y (ap (λ b. b || is_listed ys y) (eq-eqb y y refl))), apart_lists xs ys (λ id e. f id (or_right (y == id) (is_listed ys id) e)))
 
 -- an id of one chain is in no other
 pub others_lack : (links : List (Option ℕ)) (lines : ℕ → Chain ℕ) (j k id : ℕ) → AreLines links lines → j ≢ k → is_listed (ids_of links (lines j)) id ≡ true → is_listed (ids_of links (lines k)) id ≡ false
-others_lack links lines j k id a n e = not_both (is_listed (ids_of links (lines k)) id) (λ f. n (a.apart j k id e f))
+others_lack links lines j k id a n e = false_from_ne_true (is_listed (ids_of links (lines k)) id) (λ f. n (a.apart j k id e f))
 
 -- one of the chains became this list, and the others stayed
 pub record Become (links new_links : List (Option ℕ)) (lines new_lines : ℕ → Chain ℕ) (k : ℕ) (new : List ℕ) : Type 0 where
@@ -94,18 +62,18 @@ become links new_links lines new_lines k new h a l o s =
     let others : (j : ℕ) → j ≢ k → ids_of new_links (new_lines j) ≡ ids_of links (lines j) = λ j n. line_is new_links (new_lines j) (ids_of links (lines j)) h (o j n) in
     record {
       kept = record {
-        line = λ j. elim (decide j k) [
+        line = λ j. elim (cases_eq j k) [
           | inl e ↦ subst (λ x. IsLine new_links (new_lines x) (ids_of new_links (new_lines x))) (sym e) (subst (IsLine new_links (new_lines k)) (sym this) l)
           | inr n ↦ subst (IsLine new_links (new_lines j)) (sym (others j n)) (o j n)
         ];
-        apart = λ i j id e f. elim (decide i k) [
-          | inl p ↦ elim (decide j k) [
+        apart = λ i j id e f. elim (cases_eq i k) [
+          | inl p ↦ elim (cases_eq j k) [
             | inl q ↦ p ∙ sym q
             | inr n ↦ absurd (
                 let g : is_listed new id ≡ true = sym (ap (λ xs. is_listed xs id) (ap (λ x. ids_of new_links (new_lines x)) p ∙ this)) ∙ e in
                 let z : false ≡ true = sym (s id j n g) ∙ (sym (ap (λ xs. is_listed xs id) (others j n)) ∙ f) in cc)
           ]
-          | inr m ↦ elim (decide j k) [
+          | inr m ↦ elim (cases_eq j k) [
             | inl q ↦ absurd (
                 let g : is_listed new id ≡ true = sym (ap (λ xs. is_listed xs id) (ap (λ x. ids_of new_links (new_lines x)) q ∙ this)) ∙ f in
                 let z : false ≡ true = sym (s id i m g) ∙ (sym (ap (λ xs. is_listed xs id) (others i m)) ∙ e) in cc)
@@ -133,9 +101,9 @@ become_pushed links new_links lines new_lines k id h a f l o same =
     become links new_links lines new_lines k (ids_of links (lines k) ++ id ∷ []) h a l
     (λ j n. subst (λ c. IsLine new_links c (ids_of links (lines j))) (sym (same j n))
     (o (ids_of links (lines j)) (lines j) (a.line j) (apart_lists (ids_of links (lines k)) (ids_of links (lines j)) (λ x e. others_lack links lines j k x a n e)) (avoids_unlisted id (ids_of links (lines j)) (f j))))
-    (λ x j n e. elim (either_true (is_listed (ids_of links (lines k)) x) ((id == x) || false) (sym (listed_end (ids_of links (lines k)) id x) ∙ e)) [
+    (λ x j n e. elim (or_cases (is_listed (ids_of links (lines k)) x) ((id == x) || false) (sym (listed_end (ids_of links (lines k)) id x) ∙ e)) [
       | inl g ↦ others_lack links lines k j x a (λ h. n (sym h)) g
-      | inr g ↦ let h : id ≡ x = is_same id x (no_end (id == x) g) in subst (λ y. is_listed (ids_of links (lines j)) y ≡ false) h (f j)
+      | inr g ↦ let h : id ≡ x = eqb-true id x (no_end (id == x) g) in subst (λ y. is_listed (ids_of links (lines j)) y ≡ false) h (f j)
     ])
 
 -- fewer ids in one
@@ -151,7 +119,7 @@ become_fewer links new_links lines new_lines k new h a f l o same =
 
 pub rest_listed : (xs : List ℕ) (id : ℕ) → is_listed (rest_of xs) id ≡ true → is_listed xs id ≡ true
 rest_listed [] id e = e
-rest_listed (x ∷ xs) id e = right_true (x == id) (is_listed xs id) e
+rest_listed (x ∷ xs) id e = or_right (x == id) (is_listed xs id) e
 
 -- the words of the two crates are the same
 pub same_first : (xs : List ℕ) → chains.first_of xs ≡ first_of xs

@@ -1,5 +1,6 @@
 -- The transactions' lists of ids.
 use Rattle.std.proofs.Common.{◌≡◌, ◌≢◌, ℕ, ◌≤◌, List, [], ◌∷◌, ◌++◌, length, inl, inr, Option, Some, None, is_some, Bool, true, false, cond, refl, sym, ◌∙◌, ap, subst}
+use Rattle.std.proofs.lemmas.Bool.{cases_eq}
 use Rattle.std.specs.Prelude.{unwrap_or, Result, Ok, Err, OnErr}
 use Rattle.std.specs.Map.{lookup}
 use Rattle.std.specs.BTreeMap.{is_at}
@@ -10,7 +11,7 @@ use Rattle.pc_chain.specs.Chains.{Avoids, AreApart}
 use Rattle.pc_locks.specs.declared.ends.Ends.{Ends}
 use Rattle.pc_locks.specs.Lines.{most, next_in, ids_of, IsLine, AreLines, AreLists, ends_at, no_ends, entry_ids}
 use Rattle.pc_locks.specs.States.{slots_of, is_listed, first_of, rest_of, last_of, AreFilled}
-use Rattle.pc_locks.proofs.LineLemmas.{Become, become_pushed, become_fewer, decide, avoids_unlisted, ids_same, lines_same, lines_none, rest_listed, same_first, same_rest}
+use Rattle.pc_locks.proofs.LineLemmas.{Become, become_pushed, become_fewer, avoids_unlisted, ids_same, lines_same, lines_none, rest_listed, same_first, same_rest}
 
 -- what is looked up is the chain's ids
 pub found_ids : (links : List (Option ℕ)) (entries : List (ℕ × Ends)) (t : ℕ) → slots_of (entry_ids links entries) t ≡ ids_of links (ends_at entries t).chain
@@ -72,13 +73,13 @@ changed links new_links entries new_entries t ends new a g b e l f o =
     record {
       lists = record {
         lines = b.kept;
-        lasts = λ u. elim (decide u t) [
+        lasts = λ u. elim (cases_eq u t) [
           | inl p ↦ subst (λ x. (ends_at new_entries x).last ≡ last_of (ids_of new_links (ends_at new_entries x).chain)) (sym p) (ap (λ (x : Ends). x.last) e ∙ (l ∙ ap last_of (sym b.this)))
           | inr n ↦ ap (λ (x : Option Ends). (unwrap_or x no_ends).last) (o u n) ∙ (a.lasts u ∙ ap last_of (sym (b.others u n)))
         ];
         filled = λ u k.
             let known = sym (found_known new_links new_entries u) ∙ k in
-            elim (decide u t) [
+            elim (cases_eq u t) [
               | inl p ↦ subst (λ x. is_some (first_of (slots_of (entry_ids new_links new_entries) x)) ≡ true) (sym p)
                   (ap (λ xs. is_some (first_of xs)) this ∙ f (subst (λ x. is_some (lookup (is_at (nat_cmp x)) new_entries) ≡ true) p known))
               | inr n ↦ ap (λ xs. is_some (first_of xs)) (others u n) ∙ g u n (ap is_some (sym (o u n)) ∙ known)

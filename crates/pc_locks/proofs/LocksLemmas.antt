@@ -1,5 +1,6 @@
 -- What an answer and a release make of what locks keep.
 use Rattle.std.proofs.Common.{◌≡◌, ◌≢◌, ℕ, zero, suc, ◌==◌, ◌<◌, ◌⊎◌, inl, inr, List, [], ◌∷◌, length, set, replicate, Option, Some, None, is_some, Bool, true, false, not, cond, refl, sym, ◌∙◌, ap, subst, arith}
+use Rattle.std.proofs.lemmas.Bool.{eqb-true, eq-eqb, or_cases, false_from_ne_true}
 use Rattle.std.specs.Prelude.{Result, Ok, Err, IfOk, OnErr, filter}
 use Rattle.std.specs.List.{list_any}
 use Rattle.std.specs.Map.{lookup}
@@ -14,7 +15,6 @@ use Rattle.pc_model.specs.Queues.{stands_in, AreOnce, IsSettled}
 use Rattle.pc_model.proofs.QueueLaws.{kept_after, kept_without, new_outcome, once_filter}
 use Rattle.pc_locks.specs.States.{slots_of, queue_at, is_listed, first_of, rest_of, last_of, slots_after, AreLinked, AreFilled, AreSettled}
 use Rattle.pc_locks.specs.Tables.{Nodes, node_at, request_at, slot_at, place_of, requests, slots, ids_at, queues_in, lists_in, IsTable, IsOwn, Keeps}
-use Rattle.pc_locks.proofs.LineLemmas.{is_same, same_is, either_true, not_both}
 use Rattle.pc_locks.proofs.QueueRowLaws.{at_cases, none_at}
 use Rattle.pc_locks.proofs.StateLaws.{linked_new, linked_again, linked_result, linked_pop, again_kind, any_waits, none_waiting, last_listed}
 use Rattle.pc_locks.proofs.TableLemmas.{pair_first, map_changed, found_queue, found_slots, length_queues, slot_placed, transaction_placed, requests_same, slots_agree}
@@ -46,7 +46,7 @@ slot_changed nodes new_nodes ids entries s q a h e places others = record {
     filled = a.filled;
   };
   queues = ap (queues_in new_nodes) (sym (set_ids ids s)) ∙ map_changed [] (requests nodes) (requests new_nodes) ids s (ids_at ids s) q h e
-      (λ u n. requests_same nodes new_nodes (ids_at ids u) (λ id l. others id (not_both (is_listed (ids_at ids s) id) (λ f.
+      (λ u n. requests_same nodes new_nodes (ids_at ids u) (λ id l. others id (false_from_ne_true (is_listed (ids_at ids s) id) (λ f.
       let p = a.in_queue u id l in
       let r = a.in_queue s id f in
       n (pair_first u p.0 s r.0 (sym p.1 ∙ r.1))))));
@@ -224,13 +224,13 @@ once_found nodes (x ∷ xs) id o e = by ((request_at nodes x).transaction == (re
     by : (b : Bool) → ((request_at nodes x).transaction == (request_at nodes id).transaction) ≡ b →
         (is_listed xs id ≡ true → request_in (requests nodes xs) (request_at nodes id).transaction ≡ Some (request_at nodes id)) →
         cond b (Some (request_at nodes x)) (request_in (requests nodes xs) (request_at nodes id).transaction) ≡ Some (request_at nodes id)
-    by true f ih = elim (either_true (x == id) (is_listed xs id) e) [
-      | inl g ↦ ap (λ y. Some (request_at nodes y)) (is_same x id g)
+    by true f ih = elim (or_cases (x == id) (is_listed xs id) e) [
+      | inl g ↦ ap (λ y. Some (request_at nodes y)) (eqb-true x id g)
       | inr g ↦ absurd (
-          let z : false ≡ true = sym o.0 ∙ member_stands nodes xs id (request_at nodes x).transaction g (sym (is_same (request_at nodes x).transaction (request_at nodes id).transaction f)) in cc)
+          let z : false ≡ true = sym o.0 ∙ member_stands nodes xs id (request_at nodes x).transaction g (sym (eqb-true (request_at nodes x).transaction (request_at nodes id).transaction f)) in cc)
     ]
-    by false f ih = elim (either_true (x == id) (is_listed xs id) e) [
-      | inl g ↦ absurd (let z : false ≡ true = sym f ∙ same_is (request_at nodes x).transaction (request_at nodes id).transaction (ap (λ y. (request_at nodes y).transaction) (is_same x id g)) in cc)
+    by false f ih = elim (or_cases (x == id) (is_listed xs id) e) [
+      | inl g ↦ absurd (let z : false ≡ true = sym f ∙ eq-eqb (request_at nodes x).transaction (request_at nodes id).transaction (ap (λ y. (request_at nodes y).transaction) (eqb-true x id g)) in cc)
       | inr g ↦ ih g
     ]
 

@@ -1,5 +1,6 @@
 -- What taking a request out makes of the table.
 use Rattle.std.proofs.Common.{◌≡◌, ◌≢◌, ℕ, ◌==◌, ◌<◌, ◌⊎◌, inl, inr, List, [], ◌∷◌, ◌++◌, length, set, Option, Some, None, Bool, true, false, ◌||◌, not, cond, refl, sym, ◌∙◌, ap, subst, zero, suc, arith}
+use Rattle.std.proofs.lemmas.Bool.{eqb-true, eq-eqb, cases_eq, or_cases, or_right}
 use Rattle.std.specs.Prelude.{filter}
 use Rattle.std.proofs.lemmas.List.{map-append, length-set}
 use Rattle.std.proofs.lemmas.List.Folds.{list_any-append}
@@ -8,7 +9,7 @@ use Rattle.pc_model.specs.Locks.{Queue}
 use Rattle.pc_model.specs.Queues.{stands_in, AreOnce}
 use Rattle.pc_locks.specs.States.{slots_of, queue_at, is_listed, first_of, rest_of, AreDifferent, AreFilled}
 use Rattle.pc_locks.specs.Tables.{Nodes, node_at, request_at, slot_at, place_of, requests, slots, ids_at, queues_in, lists_in, IsTable, IsUnlinked}
-use Rattle.pc_locks.proofs.LineLemmas.{decide, is_same, same_is, either_true, right_true, rest_listed}
+use Rattle.pc_locks.proofs.LineLemmas.{rest_listed}
 use Rattle.pc_locks.proofs.TableLemmas.{pair_first, pair_second, map_changed, found_slots, found_queue, slot_placed, transaction_placed, requests_same, slots_agree, ids_changed}
 
 split_first : (xs : List ℕ) (x : ℕ) → Some x ≡ first_of xs → xs ≡ x ∷ rest_of xs
@@ -18,11 +19,11 @@ split_first (y ∷ ys) x e = let f : x ≡ y = cc in ap (λ z. z ∷ ys) (sym f)
 -- what is listed stands, and what stands in two parts stands in the whole
 pub member_stands : (nodes : Nodes) (xs : List ℕ) (id t : ℕ) → is_listed xs id ≡ true → (request_at nodes id).transaction ≡ t → stands_in (requests nodes xs) t ≡ true
 member_stands nodes [] id t e f = absurd cc
-member_stands nodes (x ∷ xs) id t e f = elim (either_true (x == id) (is_listed xs id) e) [
+member_stands nodes (x ∷ xs) id t e f = elim (or_cases (x == id) (is_listed xs id) e) [
   | inl g ↦
-      let h : (request_at nodes x).transaction ≡ t = ap (λ y. (request_at nodes y).transaction) (is_same x id g) ∙ f in
-      ap (λ b. b || stands_in (requests nodes xs) t) (same_is (request_at nodes x).transaction t h)
-  | inr g ↦ right_true ((request_at nodes x).transaction == t) (stands_in (requests nodes xs) t) (member_stands nodes xs id t g f)
+      let h : (request_at nodes x).transaction ≡ t = ap (λ y. (request_at nodes y).transaction) (eqb-true x id g) ∙ f in
+      ap (λ b. b || stands_in (requests nodes xs) t) (eq-eqb (request_at nodes x).transaction t h)
+  | inr g ↦ or_right ((request_at nodes x).transaction == t) (stands_in (requests nodes xs) t) (member_stands nodes xs id t g f)
 ]
 
 pub once_behind : (nodes : Nodes) (before behind : List ℕ) (x : ℕ) → AreOnce (requests nodes (before ++ x ∷ behind)) → stands_in (requests nodes behind) (request_at nodes x).transaction ≡ false
@@ -30,19 +31,19 @@ once_behind nodes [] behind x o = o.0
 once_behind nodes (y ∷ ys) behind x o = once_behind nodes ys behind x o.1
 
 pub parts_listed : (xs ys : List ℕ) (id : ℕ) → is_listed (xs ++ ys) id ≡ true → (is_listed xs id ≡ true) ⊎ (is_listed ys id ≡ true)
-parts_listed xs ys id e = either_true (is_listed xs id) (is_listed ys id) (sym (list_any-append (λ s. s == id) xs ys) ∙ e)
+parts_listed xs ys id e = or_cases (is_listed xs id) (is_listed ys id) (sym (list_any-append (λ s. s == id) xs ys) ∙ e)
 
 pub front_listed : (xs ys : List ℕ) (id : ℕ) → is_listed xs id ≡ true → is_listed (xs ++ ys) id ≡ true
 front_listed xs ys id e = list_any-append (λ s. s == id) xs ys ∙ ap (λ b. b || is_listed ys id) e
 
 pub back_listed : (xs ys : List ℕ) (id : ℕ) → is_listed ys id ≡ true → is_listed (xs ++ ys) id ≡ true
-back_listed xs ys id e = list_any-append (λ s. s == id) xs ys ∙ right_true (is_listed xs id) (is_listed ys id) e
+back_listed xs ys id e = list_any-append (λ s. s == id) xs ys ∙ or_right (is_listed xs id) (is_listed ys id) e
 
 slot_listed : (nodes : Nodes) (xs : List ℕ) (id : ℕ) → is_listed xs id ≡ true → is_listed (slots nodes xs) (slot_at nodes id) ≡ true
 slot_listed nodes [] id e = absurd cc
-slot_listed nodes (x ∷ xs) id e = elim (either_true (x == id) (is_listed xs id) e) [
-  | inl g ↦ ap (λ b. b || is_listed (slots nodes xs) (slot_at nodes id)) (same_is (slot_at nodes x) (slot_at nodes id) (ap (slot_at nodes) (is_same x id g)))
-  | inr g ↦ right_true (slot_at nodes x == slot_at nodes id) (is_listed (slots nodes xs) (slot_at nodes id)) (slot_listed nodes xs id g)
+slot_listed nodes (x ∷ xs) id e = elim (or_cases (x == id) (is_listed xs id) e) [
+  | inl g ↦ ap (λ b. b || is_listed (slots nodes xs) (slot_at nodes id)) (eq-eqb (slot_at nodes x) (slot_at nodes id) (ap (slot_at nodes) (eqb-true x id g)))
+  | inr g ↦ or_right (slot_at nodes x == slot_at nodes id) (is_listed (slots nodes xs) (slot_at nodes id)) (slot_listed nodes xs id g)
 ]
 
 pub filter_none : (q : Queue) (t : ℕ) → stands_in q t ≡ false → filter (λ r. not (r.transaction == t)) q ≡ q
@@ -74,7 +75,7 @@ pub record First (nodes : Nodes) (ids : List (List ℕ)) (entries : List (ℕ ×
 
 the_first : (nodes : Nodes) (ids : List (List ℕ)) (entries : List (ℕ × List ℕ)) (t id : ℕ) → IsTable nodes ids entries → Some id ≡ first_of (slots_of entries t) → First nodes ids entries (slot_at nodes id) t id
 the_first nodes ids entries t id a e =
-    let l : is_listed (slots_of entries t) id ≡ true = ap (λ xs. is_listed xs id) (split_first (slots_of entries t) id e) ∙ ap (λ b. b || is_listed (rest_of (slots_of entries t)) id) (same_is id id refl) in
+    let l : is_listed (slots_of entries t) id ≡ true = ap (λ xs. is_listed xs id) (split_first (slots_of entries t) id e) ∙ ap (λ b. b || is_listed (rest_of (slots_of entries t)) id) (eq-eqb id id refl) in
     let p = a.in_list t id l in
     let s : slot_at nodes id ≡ p.0 = slot_placed nodes id p.0 t p.1 in
     record { place = p.1 ∙ ap (λ u. Some (u, t)) (sym s); listed = l; stands = ap (λ u. is_listed (ids_at ids u) id) s ∙ p.2 }
@@ -117,7 +118,7 @@ module _ (nodes new_nodes : Nodes) (ids new_ids : List (List ℕ)) (entries new_
   once_split = subst (λ xs. AreOnce (requests nodes xs)) a.unlinked.split a.once
 
   none_behind : stands_in (requests nodes a.unlinked.behind) t ≡ false
-  none_behind = ap (stands_in (requests nodes a.unlinked.behind)) (sym (is_same (request_at nodes a.unlinked.id).transaction t a.unlinked.passed)) ∙ once_behind nodes a.unlinked.before a.unlinked.behind a.unlinked.id once_split
+  none_behind = ap (stands_in (requests nodes a.unlinked.behind)) (sym (eqb-true (request_at nodes a.unlinked.id).transaction t a.unlinked.passed)) ∙ once_behind nodes a.unlinked.before a.unlinked.behind a.unlinked.id once_split
 
   not_before : is_listed a.unlinked.before id ≡ true → ⊥
   not_before e = let f : false ≡ true = sym a.unlinked.none_before ∙ member_stands nodes a.unlinked.before id t e owner in cc
@@ -129,8 +130,8 @@ module _ (nodes new_nodes : Nodes) (ids new_ids : List (List ℕ)) (entries new_
   same_id : a.unlinked.id ≡ id
   same_id = elim (parts_listed a.unlinked.before (a.unlinked.id ∷ a.unlinked.behind) id (ap (λ xs. is_listed xs id) (sym a.unlinked.split) ∙ first.stands)) [
     | inl e ↦ absurd (not_before e)
-    | inr e ↦ elim (either_true (a.unlinked.id == id) (is_listed a.unlinked.behind id) e) [
-      | inl f ↦ is_same a.unlinked.id id f
+    | inr e ↦ elim (or_cases (a.unlinked.id == id) (is_listed a.unlinked.behind id) e) [
+      | inl f ↦ eqb-true a.unlinked.id id f
       | inr f ↦ absurd (not_behind f)
     ]
   ]
@@ -141,7 +142,7 @@ module _ (nodes new_nodes : Nodes) (ids new_ids : List (List ℕ)) (entries new_
   left_listed : (x : ℕ) → is_listed (a.unlinked.before ++ a.unlinked.behind) x ≡ true → (x ≢ id) × (is_listed (ids_at ids s) x ≡ true)
   left_listed x e = elim (parts_listed a.unlinked.before a.unlinked.behind x e) [
     | inl f ↦ ((λ g. not_before (ap (is_listed a.unlinked.before) (sym g) ∙ f)), ap (λ xs. is_listed xs x) a.unlinked.split ∙ front_listed a.unlinked.before (a.unlinked.id ∷ a.unlinked.behind) x f)
-    | inr f ↦ ((λ g. not_behind (ap (is_listed a.unlinked.behind) (sym g) ∙ f)), ap (λ xs. is_listed xs x) a.unlinked.split ∙ back_listed a.unlinked.before (a.unlinked.id ∷ a.unlinked.behind) x (right_true (a.unlinked.id == x) (is_listed a.unlinked.behind x) f))
+    | inr f ↦ ((λ g. not_behind (ap (is_listed a.unlinked.behind) (sym g) ∙ f)), ap (λ xs. is_listed xs x) a.unlinked.split ∙ back_listed a.unlinked.before (a.unlinked.id ∷ a.unlinked.behind) x (or_right (a.unlinked.id == x) (is_listed a.unlinked.behind x) f))
   ]
 
   queue_left : (u x : ℕ) → is_listed (ids_at new_ids u) x ≡ true → (x ≢ id) × (is_listed (ids_at ids u) x ≡ true)
@@ -158,8 +159,8 @@ module _ (nodes new_nodes : Nodes) (ids new_ids : List (List ℕ)) (entries new_
   queue_keeps u x n e = elim (changed u) [
     | inl c ↦ ap (λ xs. is_listed xs x) c.1 ∙ elim (parts_listed a.unlinked.before (a.unlinked.id ∷ a.unlinked.behind) x (ap (λ xs. is_listed xs x) (sym a.unlinked.split) ∙ (ap (λ v. is_listed (ids_at ids v) x) (sym c.0) ∙ e))) [
       | inl f ↦ front_listed a.unlinked.before a.unlinked.behind x f
-      | inr f ↦ elim (either_true (a.unlinked.id == x) (is_listed a.unlinked.behind x) f) [
-        | inl g ↦ absurd (n (sym (is_same a.unlinked.id x g) ∙ same_id))
+      | inr f ↦ elim (or_cases (a.unlinked.id == x) (is_listed a.unlinked.behind x) f) [
+        | inl g ↦ absurd (n (sym (eqb-true a.unlinked.id x g) ∙ same_id))
         | inr g ↦ back_listed a.unlinked.before a.unlinked.behind x g
       ]
     ]
@@ -170,7 +171,7 @@ module _ (nodes new_nodes : Nodes) (ids new_ids : List (List ℕ)) (entries new_
   fresh_rest = (subst (λ xs. AreDifferent (slots nodes xs)) (split_first (slots_of entries t) id a.given) a.different).0
 
   list_left : (u x : ℕ) → is_listed (slots_of new_entries u) x ≡ true → (x ≢ id) × (is_listed (slots_of entries u) x ≡ true)
-  list_left u x e = elim (decide u t) [
+  list_left u x e = elim (cases_eq u t) [
     | inl c ↦
         let l : is_listed (rest_of (slots_of entries t)) x ≡ true = ap (λ xs. is_listed xs x) (sym a.list) ∙ (ap (λ v. is_listed (slots_of new_entries v) x) (sym c) ∙ e) in (
           (λ g. let f : false ≡ true = sym fresh_rest ∙ slot_listed nodes (rest_of (slots_of entries t)) id (ap (is_listed (rest_of (slots_of entries t))) (sym g) ∙ l) in cc),
@@ -182,11 +183,11 @@ module _ (nodes new_nodes : Nodes) (ids new_ids : List (List ℕ)) (entries new_
   ]
 
   list_keeps : (u x : ℕ) → x ≢ id → is_listed (slots_of entries u) x ≡ true → is_listed (slots_of new_entries u) x ≡ true
-  list_keeps u x n e = elim (decide u t) [
+  list_keeps u x n e = elim (cases_eq u t) [
     | inl c ↦
         let l : is_listed (id ∷ rest_of (slots_of entries t)) x ≡ true = ap (λ xs. is_listed xs x) (sym (split_first (slots_of entries t) id a.given)) ∙ (ap (λ v. is_listed (slots_of entries v) x) (sym c) ∙ e) in
-        ap (λ v. is_listed (slots_of new_entries v) x) c ∙ (ap (λ xs. is_listed xs x) a.list ∙ elim (either_true (id == x) (is_listed (rest_of (slots_of entries t)) x) l) [
-          | inl f ↦ absurd (n (sym (is_same id x f)))
+        ap (λ v. is_listed (slots_of new_entries v) x) c ∙ (ap (λ xs. is_listed xs x) a.list ∙ elim (or_cases (id == x) (is_listed (rest_of (slots_of entries t)) x) l) [
+          | inl f ↦ absurd (n (sym (eqb-true id x f)))
           | inr f ↦ f
         ])
     | inr c ↦ ap (λ xs. is_listed xs x) (a.lists_stay u c) ∙ e
@@ -202,7 +203,7 @@ module _ (nodes new_nodes : Nodes) (ids new_ids : List (List ℕ)) (entries new_
         let l = list_left u x e in
         let p = a.was.in_list u x l.1 in
         (p.0, ap place_of (a.nodes_stay x l.0) ∙ p.1, queue_keeps p.0 x l.0 p.2);
-    with_both = λ x u v p. elim (decide x id) [
+    with_both = λ x u v p. elim (cases_eq x id) [
       | inl c ↦ absurd (let f : ◌≡◌ {A = Option (ℕ × ℕ)} None (Some (u, v)) = ap place_of (sym a.gone) ∙ (ap (λ y. place_of (node_at new_nodes y)) (sym c) ∙ p) in cc)
       | inr n ↦
           let w = a.was.with_both x u v (ap place_of (sym (a.nodes_stay x n)) ∙ p) in

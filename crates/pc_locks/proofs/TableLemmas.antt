@@ -1,5 +1,6 @@
 -- What adding and removing a request makes of the table.
 use Rattle.std.proofs.Common.{◌≡◌, ◌≢◌, ℕ, zero, suc, ◌==◌, ◌<◌, ◌⊎◌, inl, inr, List, [], ◌∷◌, ◌++◌, length, set, get_or, Option, Some, None, Bool, true, false, ◌||◌, cond, map, refl, sym, ◌∙◌, ap, arith}
+use Rattle.std.proofs.lemmas.Bool.{eqb-true, eq-eqb, cases_eq, or_cases, or_right}
 use Rattle.std.specs.Prelude.{unwrap_or, option_map}
 use Rattle.std.specs.Map.{lookup}
 use Rattle.std.specs.BTreeMap.{is_at}
@@ -9,7 +10,7 @@ use Rattle.pc_types.specs.declared.Request.{Request}
 use Rattle.pc_locks.specs.declared.node.Node.{Node}
 use Rattle.pc_locks.specs.States.{slots_of, queue_at, is_listed, AreFilled}
 use Rattle.pc_locks.specs.Tables.{Nodes, node_at, request_of, slot_of, request_at, slot_at, place_of, requests, slots, ids_at, queues_in, lists_in, IsTable}
-use Rattle.pc_locks.proofs.LineLemmas.{decide, is_same, same_is, either_true, right_true, listed_end}
+use Rattle.pc_locks.proofs.LineLemmas.{listed_end}
 
 -- a row with one place changed
 pub map_same : {A B : Type 0} (d : A) (f g : A → B) (row : List A) → ((u : ℕ) → g (get_or row u d) ≡ f (get_or row u d)) → map g row ≡ map f row
@@ -69,17 +70,17 @@ pair_second a b c d e = ap (λ o. unwrap_or (option_map (λ (p : ℕ × ℕ). p.
 pub requests_same : (nodes new_nodes : Nodes) (xs : List ℕ) → ((id : ℕ) → is_listed xs id ≡ true → node_at new_nodes id ≡ node_at nodes id) → requests new_nodes xs ≡ requests nodes xs
 requests_same nodes new_nodes [] f = refl
 requests_same nodes new_nodes (x ∷ xs) f =
-    rw (f x (ap (λ b. b || is_listed xs x) (same_is x x refl)), requests_same nodes new_nodes xs (λ id e. f id (right_true (x == id) (is_listed xs id) e)))
+    rw (f x (ap (λ b. b || is_listed xs x) (eq-eqb x x refl)), requests_same nodes new_nodes xs (λ id e. f id (or_right (x == id) (is_listed xs id) e)))
 
 pub slots_agree : (nodes new_nodes : Nodes) (xs : List ℕ) → ((id : ℕ) → is_listed xs id ≡ true → place_of (node_at new_nodes id) ≡ place_of (node_at nodes id)) → slots new_nodes xs ≡ slots nodes xs
 slots_agree nodes new_nodes [] f = refl
 slots_agree nodes new_nodes (x ∷ xs) f =
-    let e = slot_by (node_at new_nodes x) ∙ (ap (λ o. unwrap_or (option_map (λ (p : ℕ × ℕ). p.0) o) 0) (f x (ap (λ b. b || is_listed xs x) (same_is x x refl))) ∙ sym (slot_by (node_at nodes x))) in
-    rw (e, slots_agree nodes new_nodes xs (λ id g. f id (right_true (x == id) (is_listed xs id) g)))
+    let e = slot_by (node_at new_nodes x) ∙ (ap (λ o. unwrap_or (option_map (λ (p : ℕ × ℕ). p.0) o) 0) (f x (ap (λ b. b || is_listed xs x) (eq-eqb x x refl))) ∙ sym (slot_by (node_at nodes x))) in
+    rw (e, slots_agree nodes new_nodes xs (λ id g. f id (or_right (x == id) (is_listed xs id) g)))
 
 -- what the new list of one place lists
 pub ids_changed : (ids : List (List ℕ)) (s : ℕ) (new : List ℕ) (u : ℕ) → s < length ids → ((u ≡ s) × (ids_at (set ids s new) u ≡ new)) ⊎ ((u ≢ s) × (ids_at (set ids s new) u ≡ ids_at ids u))
-ids_changed ids s new u h = elim (decide u s) [
+ids_changed ids s new u h = elim (cases_eq u s) [
   | inl e ↦ inl (e, ap (ids_at (set ids s new)) e ∙ get_or-set_same ids s new [] h)
   | inr n ↦ inr (n, get_or-set_other ids s u new [] n)
 ]
@@ -90,13 +91,13 @@ no_end false e = absurd cc
 
 -- an id at the end, or one that stood
 end_cases : (xs : List ℕ) (id x : ℕ) → is_listed (xs ++ id ∷ []) x ≡ true → (is_listed xs x ≡ true) ⊎ (x ≡ id)
-end_cases xs id x e = elim (either_true (is_listed xs x) ((id == x) || false) (sym (listed_end xs id x) ∙ e)) [
+end_cases xs id x e = elim (or_cases (is_listed xs x) ((id == x) || false) (sym (listed_end xs id x) ∙ e)) [
   | inl f ↦ inl f
-  | inr f ↦ inr (sym (is_same id x (no_end (id == x) f)))
+  | inr f ↦ inr (sym (eqb-true id x (no_end (id == x) f)))
 ]
 
 pub end_listed : (xs : List ℕ) (id : ℕ) → is_listed (xs ++ id ∷ []) id ≡ true
-end_listed xs id = listed_end xs id id ∙ right_true (is_listed xs id) ((id == id) || false) (ap (λ b. b || false) (same_is id id refl))
+end_listed xs id = listed_end xs id id ∙ or_right (is_listed xs id) ((id == id) || false) (ap (λ b. b || false) (eq-eqb id id refl))
 
 pub still_listed : (xs : List ℕ) (id x : ℕ) → is_listed xs x ≡ true → is_listed (xs ++ id ∷ []) x ≡ true
 still_listed xs id x e = listed_end xs id x ∙ ap (λ b. b || ((id == x) || false)) e
@@ -155,7 +156,7 @@ module _ (nodes new_nodes : Nodes) (ids : List (List ℕ)) (entries new_entries 
   queue_has_it = ap (λ xs. is_listed xs id) (get_or-set_same ids s (ids_at ids s ++ id ∷ []) [] a.within) ∙ end_listed (ids_at ids s) id
 
   list_stands : (u x : ℕ) → x ≢ id → is_listed (slots_of new_entries u) x ≡ true → is_listed (slots_of entries u) x ≡ true
-  list_stands u x n e = elim (decide u request.transaction) [
+  list_stands u x n e = elim (cases_eq u request.transaction) [
     | inl c ↦ elim (end_cases (slots_of entries request.transaction) id x (ap (λ xs. is_listed xs x) (sym a.list) ∙ (ap (λ v. is_listed (slots_of new_entries v) x) (sym c) ∙ e))) [
       | inl f ↦ ap (λ v. is_listed (slots_of entries v) x) c ∙ f
       | inr f ↦ absurd (n f)
@@ -164,13 +165,13 @@ module _ (nodes new_nodes : Nodes) (ids : List (List ℕ)) (entries new_entries 
   ]
 
   list_of_it : (u : ℕ) → is_listed (slots_of new_entries u) id ≡ true → u ≡ request.transaction
-  list_of_it u e = elim (decide u request.transaction) [
+  list_of_it u e = elim (cases_eq u request.transaction) [
     | inl c ↦ c
     | inr c ↦ absurd (vacant_list nodes ids entries id a.was a.vacant u (ap (λ xs. is_listed xs id) (sym (a.lists_stay u c)) ∙ e))
   ]
 
   list_keeps : (u x : ℕ) → is_listed (slots_of entries u) x ≡ true → is_listed (slots_of new_entries u) x ≡ true
-  list_keeps u x e = elim (decide u request.transaction) [
+  list_keeps u x e = elim (cases_eq u request.transaction) [
     | inl c ↦ ap (λ v. is_listed (slots_of new_entries v) x) c ∙ (ap (λ xs. is_listed xs x) a.list ∙ still_listed (slots_of entries request.transaction) id x (ap (λ v. is_listed (slots_of entries v) x) (sym c) ∙ e))
     | inr c ↦ ap (λ xs. is_listed xs x) (a.lists_stay u c) ∙ e
   ]
@@ -180,7 +181,7 @@ module _ (nodes new_nodes : Nodes) (ids : List (List ℕ)) (entries new_entries 
 
   pub added_table : IsTable new_nodes new_ids new_entries
   added_table = record {
-    in_queue = λ u x e. elim (decide x id) [
+    in_queue = λ u x e. elim (cases_eq x id) [
       | inl c ↦
           let f : u ≡ s = queue_of_it u (ap (is_listed (ids_at new_ids u)) (sym c) ∙ e) in
           (request.transaction, ap (λ y. place_of (node_at new_nodes y)) c ∙ (placed_here ∙ ap (λ v. Some (v, request.transaction)) (sym f)))
@@ -188,7 +189,7 @@ module _ (nodes new_nodes : Nodes) (ids : List (List ℕ)) (entries new_entries 
           let p = a.was.in_queue u x (queue_stands u x n e) in
           (p.0, ap place_of (a.nodes_stay x n) ∙ p.1)
     ];
-    in_list = λ u x e. elim (decide x id) [
+    in_list = λ u x e. elim (cases_eq x id) [
       | inl c ↦
           let f : u ≡ request.transaction = list_of_it u (ap (is_listed (slots_of new_entries u)) (sym c) ∙ e) in
           (s, ap (λ y. place_of (node_at new_nodes y)) c ∙ (placed_here ∙ ap (λ v. Some (s, v)) (sym f)), ap (is_listed (ids_at new_ids s)) c ∙ queue_has_it)
@@ -196,7 +197,7 @@ module _ (nodes new_nodes : Nodes) (ids : List (List ℕ)) (entries new_entries 
           let p = a.was.in_list u x (list_stands u x n e) in
           (p.0, ap place_of (a.nodes_stay x n) ∙ p.1, queue_keeps p.0 x p.2)
     ];
-    with_both = λ x u t p. elim (decide x id) [
+    with_both = λ x u t p. elim (cases_eq x id) [
       | inl c ↦
           let f = sym p ∙ (ap (λ y. place_of (node_at new_nodes y)) c ∙ placed_here) in
           let g = pair_first u t s request.transaction f in
@@ -210,13 +211,13 @@ module _ (nodes new_nodes : Nodes) (ids : List (List ℕ)) (entries new_entries 
   }
 
   old_stays : (u x : ℕ) → is_listed (ids_at ids u) x ≡ true → node_at new_nodes x ≡ node_at nodes x
-  old_stays u x e = elim (decide x id) [
+  old_stays u x e = elim (cases_eq x id) [
     | inl c ↦ absurd (vacant_queue nodes ids entries id a.was a.vacant u (ap (is_listed (ids_at ids u)) (sym c) ∙ e))
     | inr n ↦ a.nodes_stay x n
   ]
 
   old_places : (t x : ℕ) → is_listed (slots_of entries t) x ≡ true → place_of (node_at new_nodes x) ≡ place_of (node_at nodes x)
-  old_places t x e = elim (decide x id) [
+  old_places t x e = elim (cases_eq x id) [
     | inl c ↦ absurd (vacant_list nodes ids entries id a.was a.vacant t (ap (is_listed (slots_of entries t)) (sym c) ∙ e))
     | inr n ↦ ap place_of (a.nodes_stay x n)
   ]

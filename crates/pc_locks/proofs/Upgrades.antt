@@ -1,5 +1,6 @@
 -- The own request of a queue, and its upgrade in place.
 use Rattle.std.proofs.Common.{◌≡◌, ◌≢◌, ℕ, ◌==◌, List, [], ◌∷◌, ◌++◌, Option, Some, is_some, Bool, true, false, cond, not, ◌||◌, refl, sym, ◌∙◌, ap, subst}
+use Rattle.std.proofs.lemmas.Bool.{eqb-true, eq-eqb}
 use Rattle.std.specs.Prelude.{option_map}
 use Rattle.std.proofs.lemmas.List.{map-append}
 use Rattle.pc_types.specs.declared.Mode.{Mode}
@@ -10,7 +11,6 @@ use Rattle.pc_model.specs.Queues.{stands_in, AreOnce}
 use Rattle.pc_locks.specs.declared.node.Node.{Node}
 use Rattle.pc_locks.specs.States.{is_listed}
 use Rattle.pc_locks.specs.Tables.{Nodes, node_at, request_of, request_at, place_of, requests, ids_at, IsTable, IsOwn}
-use Rattle.pc_locks.proofs.LineLemmas.{is_same, same_is}
 use Rattle.pc_locks.proofs.TableLemmas.{requests_same}
 use Rattle.pc_locks.proofs.RemovalLemmas.{member_stands, once_behind, back_listed}
 use Rattle.pc_locks.proofs.Grants.{written_is}
@@ -54,10 +54,10 @@ module _ (nodes new_nodes : Nodes) (ids : List ℕ) (t : ℕ) (previous : Option
     (written : node_at new_nodes id ≡ option_map (λ (n : Node). record n { request = record own { mode = Exclusive } }) (node_at nodes id))
     (stay : (other : ℕ) → other ≢ id → node_at new_nodes other ≡ node_at nodes other) where
   listed : is_listed ids id ≡ true
-  listed = ap (λ xs. is_listed xs id) o.split ∙ back_listed o.before (id ∷ o.behind) id (ap (λ b. b || is_listed o.behind id) (same_is id id refl))
+  listed = ap (λ xs. is_listed xs id) o.split ∙ back_listed o.before (id ∷ o.behind) id (ap (λ b. b || is_listed o.behind id) (eq-eqb id id refl))
 
   owner : (request_at nodes id).transaction ≡ t
-  owner = is_same (request_at nodes id).transaction t o.passed
+  owner = eqb-true (request_at nodes id).transaction t o.passed
 
   not_before : is_listed o.before id ≡ true → ⊥
   not_before f = let z : false ≡ true = sym o.none_before ∙ member_stands nodes o.before id t f owner in cc

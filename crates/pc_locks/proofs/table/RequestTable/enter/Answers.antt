@@ -1,15 +1,15 @@
 use Rattle.std.proofs.Common.{◌≡◌, ◌++◌, ◌∷◌, [], set, sym, ◌∙◌, ap, subst}
+use Rattle.std.proofs.lemmas.Bool.{false_from_ne_true}
 use Rattle.slab.specs.Slab.{Slab}
 use Rattle.pc_locks.specs.declared.node.Node.{Node}
 use Rattle.pc_locks.specs.States.{slots_of}
 use Rattle.pc_locks.specs.Tables.{IsTable, node_at, ids_at, queues_in}
-use Rattle.pc_locks.proofs.LineLemmas.{not_both}
 use Rattle.pc_locks.proofs.TableLemmas.{Added, added_table, added_queues, added_list, added_others, vacant_list}
 use Rattle.pc_locks.proofs.table.RequestTable.enter.Goals as goal
 use Rattle.pc_locks.proofs.table.RequestTable.enter.Goals.{After-insert_reserved}
 
 pub push-requires : goal.push-requires
-push-requires c = λ u. not_both _ (λ e. vacant_list c.args.self.now.nodes.slots c.args.self.now.queues.ids c.args.self.now.lists.entries c.vacant_key-id.result c.requires.table
+push-requires c = λ u. false_from_ne_true _ (λ e. vacant_list c.args.self.now.nodes.slots c.args.self.now.queues.ids c.args.self.now.lists.entries c.vacant_key-id.result c.requires.table
     (ap (λ (s : Slab Node). node_at s.slots c.vacant_key-id.result) (sym c.reserve.ensures.rest_kept) ∙ c.vacant_key-id.ensures.vacant) u e)
 
 added : (c : After-insert_reserved) → Added c.args.self.now.nodes.slots c.insert_reserved.new.self.slots c.args.self.now.queues.ids c.args.self.now.lists.entries c.push.new.self.entries c.args.slot c.vacant_key-id.result (record { transaction = c.args.transaction; mode = c.args.mode; granted = c.args.granted })
