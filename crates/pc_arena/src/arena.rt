@@ -1,5 +1,5 @@
 //! The arena itself.
-ghost use Rattle.std.specs.Prelude.{◌≡◌, ◌≢◌, ◌<◌, ◌≤◌, ℕ, length, replicate, IfOk, IfErr, OnErr, is_err, Some, None, slice_set};
+ghost use Rattle.std.specs.Prelude.{◌≡◌, ◌≢◌, ◌<◌, ◌≤◌, ℕ, length, replicate, IfOk, IfErr, OnErr, is_err, Some, None, option_copied, slice_set};
 ghost use Rattle.std.specs.Borrow.{sem};
 ghost use Rattle.pc_arena.specs.Lending.{LendsItem};
 ghost use Rattle.pc_arena.specs.Cells.{items_of};
@@ -92,6 +92,16 @@ impl<T> Arena<T> {
         match &self.cells.cells[id.0 as usize].item {
             Some(item) => item,
             None => unreachable!(),
+        }
+    }
+
+    /// The record in the slot; None where it is free, or where there is no such slot.
+    pub fn get_if_taken(&self, id: SlotId) -> Option<&T>
+        ensures { option_copied result ≡ at self.now.items id }
+    {
+        match self.cells.cells.get(id.0 as usize) {
+            Some(cell) => cell.item.as_ref(),
+            None => None,
         }
     }
 
