@@ -1,0 +1,5 @@
+mod Changing
+mod Keeping
+pub mod PassingLaws
+pub mod RowLaws
+mod Seen

@@ -1,0 +1,4 @@
+pub mod Entries
+pub mod Lending
+pub mod Passing
+pub mod Rows

@@ -1,0 +1,65 @@
+//! Entries: what stands in a slot.
+use crate::blank::Blank;
+use pc_index::Keyed;
+use pc_types::Key;
+use std::alloc::{AllocError, Global};
+
+/// A key with its record.
+#[derive(Drop)]
+pub(crate) struct Entry<T> {
+    pub(crate) key: Key,
+    pub(crate) item: T,
+}
+
+impl<T> Entry<T> {
+    ghost use Rattle.std.specs.Prelude.{◌≡◌};
+    ghost use Rattle.std.specs.Borrow.{sem};
+    ghost use Rattle.pc_table.specs.Lending.{LendsRecord};
+    ghost use Rattle.pc_table.specs.Rows.{pair_behind};
+
+    /// The record, to be changed where it stands.
+    pub(crate) fn item_mut(&mut self) -> &mut T
+        ensures* lends { sem 𝓛 (LendsRecord T.row self.entry result) }
+        ensures value { self.old.item ≡ result.now }
+    {
+        &mut self.item
+    }
+
+    /// Both at once.
+    pub(crate) fn pair(&self) -> (&Key, &T)
+        ensures { pair_behind result ≡ (self.now.key, self.now.item) }
+    {
+        (&self.key, &self.item)
+    }
+
+    /// The record alone.
+    pub(crate) fn into_item(self) -> T
+        ensures { result ≡ self.item }
+    {
+        let Entry { key: _, item } = self;
+        item
+    }
+}
+
+impl<T: Blank> Keyed for Entry<T> {
+    ghost use Rattle.std.specs.Prelude.{refl};
+    ghost use Rattle.pc_table.specs.Entries.{key_in, entry_of};
+
+    ghost key_of = { key_in };
+
+    ghost blank_of = { λ key. entry_of key T.blank };
+
+    fn key(&self) -> &Key {
+        &self.key
+    }
+
+    fn blank(alloc: Global, key: &Key) -> Result<Entry<T>, AllocError> {
+        let key = key.copy(alloc)?;
+        Ok(Entry {
+            key,
+            item: T::blank(),
+        })
+    }
+
+    ghost blank_key = { λ key. refl };
+}

@@ -1,0 +1,11 @@
+//! A table: records by key, each in a slot of its own, found by its key or by its slot.
+#![tactic(auto)]
+
+mod blank;
+mod entry;
+mod table;
+#[cfg(test)]
+mod tests;
+
+pub use blank::Blank;
+pub use table::Table;
