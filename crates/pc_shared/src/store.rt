@@ -151,7 +151,10 @@ impl<N: StoreName> Held<N> {
 
 // How often a thread looks for the latch before it sleeps until it has it. After each look it pauses twice as long as before, so
 // that whoever has the latch can make several calls while the store's data is near.
-const LOOKS: u32 = 12;
+const LOOKS: u32 = 7;
+
+// How many moments a thread pauses after its first look: in some microseconds whoever has the latch ends a transaction or two.
+const FIRST_PAUSE: u32 = 128;
 
 // Lets so many moments go by.
 fn pause(moments: u32) {
@@ -163,7 +166,7 @@ fn pause(moments: u32) {
 impl<N: StoreName> Shared<N> {
     // Gets the latch.
     fn get_latch<R: Wait>(&self, rt: &R) -> MutexGuard<'_, Held<N>> {
-        let mut moments = 1u32;
+        let mut moments = FIRST_PAUSE;
         for _ in 0..LOOKS {
             if let Some(held) = self.latch.try_lock() {
                 return held;
