@@ -1,8 +1,6 @@
 //! The table itself.
-ghost use Rattle.std.specs.Prelude.{◌≡◌, ◌≤◌, ◌<◌, ◌==◌, ℕ, List, [], true, length, IfOk, IfErr, IfSome, OnErr, Ok, Err, Some, None, IsSome, option_map, if◌then◌else◌};
-ghost use Rattle.std.specs.FinMap.{find};
+ghost use Rattle.std.specs.Prelude.{◌≡◌, ◌≤◌, ◌==◌, ℕ, [], length, IfOk, IfErr, IfSome, OnErr, Ok, Err, Some, None, option_map, if◌then◌else◌};
 ghost use Rattle.std.specs.Borrow.{sem};
-ghost use Rattle.pc_model.specs.Database.{key_cmp};
 ghost use Rattle.pc_table.specs.Rows.{slot_of, in_slot, without_slot, pair_behind, with_record, with_row, HasRow, IsNewSlot, AreInSlots};
 ghost use Rattle.pc_table.specs.Lending.{LendsRow};
 
@@ -39,9 +37,9 @@ impl<T> Model for Table<T> {
 }
 
 impl<T: Blank> Table<T> {
-    /// A table for at most so many keys, none of which has a row yet; at most 2^20. It fails only where memory ran out. The
-    /// seed is of the hashes of keys: two words by chance (`RandomState::new`), so that whoever picks the keys can't make
-    /// them share a chain.
+    /// A table for at most so many keys, of which there may be at most 2^20; none has a row yet. It fails only where memory ran
+    /// out. The seed is that of the hashes of keys: two words given by chance (`RandomState::new`), so that whoever picks the
+    /// keys can't make them share a chain.
     pub fn new(alloc: Global, capacity: u32, seed: RandomState) -> Result<Table<T>, AllocError>
         requires { capacity ≤ MOST_KEYS }
         ensures { IfOk result (λ table. table ≡ record { capacity = capacity; rows = [] }) }
