@@ -67,10 +67,7 @@ impl Key {
     pub fn is(&self, other: &Key) -> bool
         ensures { result ≡ eq_by_cmp (slice_cmp nat_cmp) self.now other.now }
     {
-        match self.compare(other) {
-            Ordering::Equal => true,
-            _ => false,
-        }
+        self.as_bytes() == other.as_bytes()
     }
 
     /// The same key once more. It takes memory only for more than 16 bytes.

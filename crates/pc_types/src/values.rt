@@ -8,7 +8,6 @@ use crate::limits::MOST_VALUE_BYTES;
 use crate::refusal::Refusal;
 use smallvec::SmallVec;
 use std::alloc::{AllocError, Global};
-use std::cmp::Ordering;
 use std::marker::Model;
 
 /// A value: at most 65,535 bytes, of which up to 16 lie inline.
@@ -59,10 +58,7 @@ impl Value {
     pub fn is(&self, other: &Value) -> bool
         ensures { result ≡ eq_by_cmp (slice_cmp nat_cmp) self.now other.now }
     {
-        match self.as_bytes().cmp(&other.as_bytes()) {
-            Ordering::Equal => true,
-            _ => false,
-        }
+        self.as_bytes() == other.as_bytes()
     }
 
     /// The same value once more. It takes memory only for more than 16 bytes.
