@@ -6,7 +6,8 @@ use Rattle.pc_chain.specs.declared.chain.Chain.{Chain}
 use Rattle.pc_chain.specs.Chains.{IsEmpty}
 use Rattle.pc_chain.proofs.ChainLaws.{empty_chain}
 use Rattle.pc_arena.specs.Slots.{Slots, at, IsTaken, AllFree}
-use Rattle.pc_index.specs.Indexes.{Table, chain_at, key_at, IsIndex}
+use Rattle.pc_index.specs.Indexes.{Table, chain_at, IsIndex}
+use Rattle.pc_index.specs.Keys.{key_at}
 
 module _ {T : Type 0} (key_of : T → List ℕ) where
   no_key : (items : List (Option T)) (id : ℕ) (key : List ℕ) → AllFree items → key_at key_of items id ≡ Some key → ⊥

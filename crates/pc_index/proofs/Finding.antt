@@ -7,7 +7,8 @@ use Rattle.pc_chain.specs.Chains.{Avoids}
 use Rattle.pc_chain.proofs.ChainLaws.{chain_fits}
 use Rattle.pc_arena.specs.Slots.{Slots, at, IsTaken}
 use Rattle.pc_arena.proofs.SlotLaws.{taken_below}
-use Rattle.pc_index.specs.Indexes.{Table, place_of, chain_at, key_at, IsIndex, IsAbsent, IsSlotOf}
+use Rattle.pc_index.specs.Indexes.{Table, place_of, chain_at, IsIndex}
+use Rattle.pc_index.specs.Keys.{key_at, IsAbsent, IsSlotOf}
 use Rattle.pc_index.proofs.Texts.{same_text, one_text, own_text}
 
 -- an id that passes isn't in a list of which none does

@@ -4,7 +4,8 @@ use Rattle.std.proofs.lemmas.Bool.{cases_eq}
 use Rattle.pc_chain.proofs.ChainLaws.{have_still, have_from, chain_still}
 use Rattle.pc_arena.specs.Slots.{Slots, at, IsTaken}
 use Rattle.pc_arena.proofs.SlotLaws.{at_here, at_other, taken_below}
-use Rattle.pc_index.specs.Indexes.{Table, chain_at, key_at, IsIndex, IsSlotOf}
+use Rattle.pc_index.specs.Indexes.{Table, chain_at, IsIndex}
+use Rattle.pc_index.specs.Keys.{key_at, IsSlotOf}
 use Rattle.pc_index.proofs.Places.{IsPlaced}
 
 module _ {T : Type 0} (key_of : T → List ℕ) where

@@ -7,7 +7,8 @@ use Rattle.pc_chain.specs.Chains.{Avoids, AllHave, IsChain}
 use Rattle.pc_chain.proofs.ChainLaws.{have_still, have_push, have_from, have_both, avoids_all, all_avoids, avoids_pushed, chain_still}
 use Rattle.pc_arena.specs.Slots.{Slots, at, with_item, IsTaken, IsFree}
 use Rattle.pc_arena.proofs.SlotLaws.{at_here, at_other, not_both}
-use Rattle.pc_index.specs.Indexes.{Table, place_of, chain_at, key_at, IsIndex, IsAbsent, IsSlotOf}
+use Rattle.pc_index.specs.Indexes.{Table, place_of, chain_at, IsIndex}
+use Rattle.pc_index.specs.Keys.{key_at, IsAbsent, IsSlotOf}
 use Rattle.pc_index.proofs.IndexLaws.{slot_kept}
 use Rattle.pc_index.proofs.Places.{changed, with_chain, place_same, changed_here, each_place, each_list, one_key, IsPlaced}
 

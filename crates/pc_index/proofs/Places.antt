@@ -7,7 +7,8 @@ use Rattle.pc_chain.specs.Chains.{Avoids, AreApart, AllHave}
 use Rattle.pc_chain.proofs.ChainLaws.{have_still, have_both, all_avoids}
 use Rattle.pc_arena.specs.Slots.{Slots, at, IsTaken}
 use Rattle.pc_index.specs.Hashes.{key_hash}
-use Rattle.pc_index.specs.Indexes.{Table, place_of, chain_at, key_at, IsIndex}
+use Rattle.pc_index.specs.Indexes.{Table, place_of, chain_at, IsIndex}
+use Rattle.pc_index.specs.Keys.{key_at}
 
 -- what each place has, with another at one place
 abbrev pub changed : {X : Type 0} → (ℕ → X) → ℕ → X → ℕ → X

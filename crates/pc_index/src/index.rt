@@ -1,8 +1,9 @@
 //! The index itself.
-ghost use Rattle.std.specs.Prelude.{◌≡◌, ◌≢◌, ◌<◌, ℕ, List, Option, true, length, IfOk, IfErr, OnErr, Ok, Err, Some, None, if◌then◌else◌, slice_set};
+ghost use Rattle.std.specs.Prelude.{◌≡◌, ◌<◌, ℕ, true, length, IfOk, IfErr, OnErr, Ok, Err, Some, None, if◌then◌else◌, slice_set};
 ghost use Rattle.std.specs.Int.{IsNextPowerOfTwo};
 ghost use Rattle.pc_arena.specs.Slots.{at, is_full, IsTaken, AllFree};
-ghost use Rattle.pc_index.specs.Indexes.{place_of, key_at, IsIndex, IsAbsent, IsSlotOf, IsMade};
+ghost use Rattle.pc_index.specs.Indexes.{place_of, IsIndex};
+ghost use Rattle.pc_index.specs.Keys.{key_at, IsSlotOf, IsAbsent, KeepsOthers, IsMade};
 
 use crate::hashing::hash_of;
 use crate::keyed::Keyed;
@@ -94,7 +95,7 @@ impl Index {
         ensures index { IsIndex T.key_of arena.new self.new }
         ensures found { (id : ℕ) → key_at T.key_of arena.old.items id ≡ Some key.now → (result ≡ Ok id) × (arena.new ≡ arena.old) }
         ensures made { IsAbsent T.key_of arena.old.items key.now → IfOk result (λ id. IsMade (T.blank_of key.now) arena.old.items arena.new.items id) }
-        ensures others { (other : List ℕ) (found : Option ℕ) → other ≢ key.now → IsSlotOf T.key_of arena.old.items other found → IsSlotOf T.key_of arena.new.items other found }
+        ensures others { KeepsOthers T.key_of key.now arena.old.items arena.new.items }
         ensures full { IsAbsent T.key_of arena.old.items key.now → is_full arena.old.items ≡ true → result ≡ Err Refusal.Full }
         ensures refusal { IfErr result (λ e. e ≡ (if is_full arena.old.items then Refusal.Full else Refusal.OutOfMemory)) }
         ensures err { OnErr result ((arena.new ≡ arena.old) × (self.new ≡ self.old)) }
@@ -115,7 +116,7 @@ impl Index {
         requires index { IsIndex T.key_of arena.old self.old }
         requires absent { IsAbsent T.key_of arena.old.items key.now }
         ensures made { IfOk result (λ id. IsMade (T.blank_of key.now) arena.old.items arena.new.items id) }
-        ensures others { (other : List ℕ) (found : Option ℕ) → other ≢ key.now → IsSlotOf T.key_of arena.old.items other found → IsSlotOf T.key_of arena.new.items other found }
+        ensures others { KeepsOthers T.key_of key.now arena.old.items arena.new.items }
         ensures index { IsIndex T.key_of arena.new self.new }
         ensures full { is_full arena.old.items ≡ true → result ≡ Err Refusal.Full }
         ensures refusal { IfErr result (λ e. e ≡ (if is_full arena.old.items then Refusal.Full else Refusal.OutOfMemory)) }
@@ -141,7 +142,7 @@ impl Index {
         ensures given { at arena.old.items id ≡ Some result }
         ensures items { arena.new.items ≡ slice_set arena.old.items id None }
         ensures gone { IsAbsent T.key_of arena.new.items (T.key_of result) }
-        ensures others { (other : List ℕ) (found : Option ℕ) → other ≢ T.key_of result → IsSlotOf T.key_of arena.old.items other found → IsSlotOf T.key_of arena.new.items other found }
+        ensures others { KeepsOthers T.key_of (T.key_of result) arena.old.items arena.new.items }
         ensures index { IsIndex T.key_of arena.new self.new }
     {
         let place = self.place(arena.get(id).key());

@@ -1,6 +1,7 @@
 use Rattle.std.proofs.Common.{ℕ, List, Option, Some, set, refl, sym, ap, ◌∙◌, subst}
 use Rattle.pc_arena.specs.Slots.{Slots}
-use Rattle.pc_index.specs.Indexes.{Table, place_of, chain_at, IsIndex, IsSlotOf}
+use Rattle.pc_index.specs.Indexes.{Table, place_of, chain_at, IsIndex}
+use Rattle.pc_index.specs.Keys.{IsSlotOf}
 use Rattle.pc_index.proofs.Places.{chain_read, table_written, places_apart}
 use Rattle.pc_index.proofs.Making.{line_taken, free_avoids, index_made, slot_made}
 use Rattle.pc_index.proofs.index.Index.make.Goals as goal

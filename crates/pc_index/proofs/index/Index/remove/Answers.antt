@@ -1,6 +1,7 @@
 use Rattle.std.proofs.Common.{◌≡◌, ℕ, List, None, sym, ap, ◌∙◌, subst, set, Option, arith}
 use Rattle.pc_arena.specs.Slots.{at}
-use Rattle.pc_index.specs.Indexes.{Table, place_of, chain_at, IsIndex, IsSlotOf}
+use Rattle.pc_index.specs.Indexes.{Table, place_of, chain_at, IsIndex}
+use Rattle.pc_index.specs.Keys.{IsSlotOf}
 use Rattle.pc_index.proofs.Places.{chain_read, table_written}
 use Rattle.pc_index.proofs.Removing.{standing, others_apart, absent_removed, slot_removed, index_removed}
 use Rattle.pc_index.proofs.index.Index.remove.Goals as goal
