@@ -5,7 +5,8 @@ use Rattle.pc_types.specs.declared.refusal.Refusal.{Refusal}
 use Rattle.pc_types.specs.declared.limits.TheConstants.{MOST_KEYS}
 use Rattle.pc_arena.specs.Slots.{Slots, at, is_full, with_item, IsTaken, AllFree}
 use Rattle.pc_arena.proofs.SlotLaws.{at_here, taken_below}
-use Rattle.pc_index.specs.Indexes.{Table, key_at, IsIndex, IsAbsent, IsSlotOf, IsMade}
+use Rattle.pc_index.specs.Indexes.{Table, IsIndex}
+use Rattle.pc_index.specs.Keys.{key_at, IsAbsent, IsSlotOf, IsMade}
 use Rattle.pc_index.proofs.IndexLaws.{index_kept, keys_set}
 use Rattle.pc_table.specs.declared.entry.Entry.{Entry}
 use Rattle.pc_table.specs.Rows.{Contents, slot_of, in_slot, with_record, with_row, without_slot, HasRow, IsNewSlot, AreInSlots}

@@ -4,7 +4,8 @@ use Rattle.std.specs.FinMap.{find}
 use Rattle.std.specs.FinMap.Entries.{find-put, is_sorted-put}
 use Rattle.pc_arena.specs.Slots.{Slots, at}
 use Rattle.pc_arena.proofs.SlotLaws.{taken_below}
-use Rattle.pc_index.specs.Indexes.{Table, key_at, IsAbsent}
+use Rattle.pc_index.specs.Indexes.{Table}
+use Rattle.pc_index.specs.Keys.{key_at, IsAbsent}
 use Rattle.pc_model.specs.Database.{key_cmp, key_order, same_bytes}
 use Rattle.pc_model.proofs.JoinLaws.{one_key}
 use Rattle.pc_model.proofs.PairMapLaws.{computes, tested}
