@@ -47,7 +47,19 @@ impl Counts {
     /// Nothing was passed.
     pub fn new() -> Counts {
         Counts {
-            counts: [const { AtomicU64::new(0) }; 11],
+            counts: [
+                AtomicU64::new(0),
+                AtomicU64::new(0),
+                AtomicU64::new(0),
+                AtomicU64::new(0),
+                AtomicU64::new(0),
+                AtomicU64::new(0),
+                AtomicU64::new(0),
+                AtomicU64::new(0),
+                AtomicU64::new(0),
+                AtomicU64::new(0),
+                AtomicU64::new(0),
+            ],
         }
     }
 
