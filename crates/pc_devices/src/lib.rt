@@ -1,9 +1,7 @@
-//! Tests of the libraries over devices that fail: readers and writers that end in the middle of what they are asked for, and
-//! files that have less than they tell of.
+//! Tests of the libraries over devices that fail: readers and writers that end in the middle of what they are
+//! asked for.
 #![tactic(auto)]
 
-#[cfg(test)]
-mod count_tests;
 #[cfg(test)]
 mod file_tests;
 #[cfg(test)]
