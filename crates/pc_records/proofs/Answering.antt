@@ -1,5 +1,5 @@
 -- A request to write a key was answered, and the key is written where it was granted.
-use Rattle.std.proofs.Common.{◌≡◌, ℕ, ◌+◌, ◌<◌, ◌≤◌, List, [], length, get_or, set, Option, Some, None, refl, sym, ap, ◌∙◌, subst, arith, Bool, true, false}
+use Rattle.std.proofs.Common.{◌≡◌, ℕ, ◌<◌, ◌≤◌, List, [], length, map, get_or, set, Option, Some, None, refl, sym, ap, ◌∙◌, subst, arith, true, false}
 use Rattle.std.specs.Prelude.{insert}
 use Rattle.std.specs.List.{list_any}
 use Rattle.std.specs.FinMap.{find}
@@ -13,14 +13,12 @@ use Rattle.pc_model.specs.Locks.{Queue, is_ungranted, request_in, outcome, queue
 use Rattle.pc_model.specs.Queues.{IsLegalQueue}
 use Rattle.pc_types.specs.declared.Outcome.TheVariants.{Granted}
 use Rattle.pc_locks.specs.States.{queue_at}
-use Rattle.pc_records.specs.declared.slots.Slot.{Slot}
 use Rattle.pc_records.specs.declared.versions.Writer.{Writer}
 use Rattle.pc_records.specs.Rows.{record_of, is_in_closed_set, requests_on}
 use Rattle.pc_records.specs.RowSteps.{rows_after}
 use Rattle.pc_records.specs.Tables.{Pending, pending_after}
-use Rattle.pc_records.specs.Slots.{rows_of, pending_in, write_of, pending_of, table_of, has_exclusive, is_locked, AreSound, AreKept, IsSlotOf, IsFirstIn, put_slot, granted_slot, new_slot}
-use Rattle.pc_records.proofs.SlotPlaces.{slot_found}
-use Rattle.pc_records.proofs.SlotKeeping.{free_number, free_below}
+use Rattle.pc_records.specs.Slots.{Slot, rows_of, pending_in, write_of, pending_of, table_of, has_exclusive, is_locked, AreSound, AreKept, IsSlotOf, IsFirstIn, put_slot, granted_slot, new_slot, at_number, numbers_of, times, IsNewAt}
+use Rattle.pc_records.proofs.SlotPlaces.{slot_found, length-rows, number_set}
 use Rattle.pc_records.proofs.SlotWaiting.{none_of}
 use Rattle.pc_records.proofs.Queued.{queue_same}
 use Rattle.pc_records.proofs.Requesting.{slot_below, queue_found, rows_asked, kept_asked}
@@ -33,7 +31,7 @@ use Rattle.pc_records.proofs.Clearing.{IsClear, own_writer, clear_found, sound_a
 use Rattle.pc_records.proofs.Writing.{kept_put, rows_put, sound_put, pending_put, get_inserted, length_inserted}
 
 -- a key that has a slot
-module _ (point t : ℕ) (class : Class) (value : Option (List ℕ)) (slots new : List Slot) (key : List ℕ) (i : ℕ) (e : Slot) (free : List ℕ) (most : ℕ) (queues new_queues : List Queue) (o : Outcome) (kept : AreKept slots free most queues) (sound : AreSound point queues slots) (lt : i < length slots) (is : e ≡ get_or slots i e)
+module _ (point t : ℕ) (class : Class) (value : Option (List ℕ)) (slots new : List Slot) (key : List ℕ) (i : ℕ) (e : Slot) (queues new_queues : List Queue) (o : Outcome) (kept : AreKept slots queues) (sound : AreSound point queues slots) (lt : i < length slots) (is : e ≡ get_or slots i e)
     (at : IsSlotOf slots key i) (at_e : (d : Slot) → same_bytes key (get_or slots i d).key ≡ true) (changed : new_queues ≡ set queues e.number (queue_after (queue_at queues e.number) t Exclusive o)) (answered : o ≡ outcome (queue_at queues e.number) t Exclusive) (legal : IsLegalQueue (queue_at queues e.number))
     (ready : list_any (λ queue. is_ungranted (request_in queue t)) queues ≡ false) (outside : class ≡ Before → is_in_closed_set (record_of (rows_of queues slots) key) ≡ false) (again : (p : Pending) → find key_cmp key (pending_of slots) ≡ Some p → p.by ≡ t → p.class ≡ class)
     (new_is : new ≡ set slots i (granted_slot o point t class e.live value e)) where
@@ -44,16 +42,16 @@ module _ (point t : ℕ) (class : Class) (value : Option (List ℕ)) (slots new 
   found = slot_at slots key i e kept.rise lt (at_e e) ∙ ap Some (sym is)
 
   below : e.number < length queues
-  below = slot_below slots free most queues key i e t Exclusive kept lt is
+  below = slot_below slots queues key i e t Exclusive kept lt is
 
   outside_e : class ≡ Before → e.is_in_closed_set ≡ false
   outside_e before = ap is_in_closed_set (sym (slot_found slots key i e lt is queues at)) ∙ outside before
 
-  kept_queues : AreKept slots free most new_queues
-  kept_queues = subst (AreKept slots free most) (sym changed) (kept_asked slots free most queues key i e t Exclusive kept lt is (queue_after (queue_at queues e.number) t Exclusive o))
+  kept_queues : AreKept slots new_queues
+  kept_queues = subst (AreKept slots) (sym changed) (kept_asked slots queues key i e t Exclusive kept lt is (queue_after (queue_at queues e.number) t Exclusive o))
 
   sound_queues_now : AreSound point new_queues slots
-  sound_queues_now = sound_asked point e.number t Exclusive o slots free most queues new_queues kept changed sound
+  sound_queues_now = sound_asked point e.number t Exclusive o slots queues new_queues kept changed sound
 
   own : o ≡ Granted → (w : Writer) → e.writer ≡ Some w → w.transaction ≡ t
   own granted = own_writer point t Exclusive (queue_at queues e.number) e (sound_at point queues slots i e sound lt is) legal (none_of t queues ready e.number) (sym answered ∙ granted)
@@ -70,43 +68,43 @@ module _ (point t : ℕ) (class : Class) (value : Option (List ℕ)) (slots new 
       ∙ ap (λ p. has_exclusive (queue_after (queue_at queues e.number) t Exclusive p) t) granted ∙ has_granted (queue_at queues e.number) t (none_of t queues ready e.number)
 
   pub told_there : o ≡ outcome (requests_on (record_of (rows_of queues slots) key)) t Exclusive
-  told_there = answered ∙ ap (λ q. outcome q t Exclusive) (sym (queue_found slots free most queues key i e t Exclusive kept lt is at))
+  told_there = answered ∙ ap (λ q. outcome q t Exclusive) (sym (queue_found slots queues key i e t Exclusive kept lt is at))
 
   pub rows_there : rows_of new_queues new ≡ rows_after (rows_of queues slots) key t Exclusive o
   rows_there =
-      rows_put point t class value slots new i e key free most new_queues kept_queues sound_queues_now lt is o outside_e new_is ∙ ap (λ qs. rows_of qs slots) changed
-      ∙ rows_asked slots free most queues key i e t Exclusive kept lt is at o
+      rows_put point t class value slots new i e key new_queues kept_queues sound_queues_now lt is o outside_e new_is ∙ ap (λ qs. rows_of qs slots) changed
+      ∙ rows_asked slots queues key i e t Exclusive kept lt is at o
 
   pub clear_there : o ≡ Granted → IsClear slots key t
   clear_there granted = clear_found slots key e t kept.rise found (own granted)
 
-  pub kept_there : AreKept new free most new_queues
-  kept_there = kept_put point t class value slots new i e key free most new_queues kept_queues sound_queues_now lt is o outside_e new_is
+  pub kept_there : AreKept new new_queues
+  kept_there = kept_put point t class value slots new i e key new_queues kept_queues sound_queues_now lt is o outside_e new_is
 
   pub sound_there : AreSound point new_queues new
-  sound_there = sound_put point t class value slots new i e key free most new_queues kept_queues sound_queues_now lt is o outside_e new_is has
+  sound_there = sound_put point t class value slots new i e key new_queues kept_queues sound_queues_now lt is o outside_e new_is has
 
   pub pending_there : (q : List ℕ) → find key_cmp q (pending_of new) ≡ pending_after o (table_of (length queues) queues slots point) key (record { by = t; class = class; value = value }) q
-  pending_there q = pending_put point t class value slots new i e key free most new_queues kept_queues sound_queues_now lt is o outside_e new_is here own_both (length queues) queues q
+  pending_there q = pending_put point t class value slots new i e key new_queues kept_queues sound_queues_now lt is o outside_e new_is here own_both (length queues) queues q
 
 -- a key that has no slot: one went in
-module _ (point t : ℕ) (slots new : List Slot) (free : List ℕ) (most : ℕ) (queues new_queues : List Queue) (key : List ℕ) (i last n : ℕ) (mode : Mode) (o : Outcome) (kept : AreKept slots free most queues) (sound : AreSound point queues slots) (count : last + 1 ≡ length free) (is : n ≡ get_or free last n)
+module _ (point t : ℕ) (slots new : List Slot) (queues new_queues : List Queue) (key : List ℕ) (i n : ℕ) (mode : Mode) (o : Outcome) (kept : AreKept slots queues) (sound : AreSound point queues slots) (apart : times n (numbers_of slots) ≡ 0) (below : n < length queues) (gap : IsNewAt slots key i)
     (answered : o ≡ outcome (queue_at queues n) t mode) (changed : new_queues ≡ set queues n (queue_after (queue_at queues n) t mode o)) (new_is : new ≡ insert slots i (new_slot n key)) where
   bare_new : queue_at queues n ≡ []
-  bare_new = kept.bare n (free_number slots free most queues last n kept count is)
+  bare_new = kept.bare n apart
 
   queue_new : queue_at new_queues n ≡ queue_after [] t mode Granted
   queue_new =
-      ap (λ qs. queue_at qs n) changed ∙ queue_same queues n (queue_after (queue_at queues n) t mode o) (free_below slots free most queues last n kept count is) ∙ ap (λ q. queue_after q t mode o) bare_new
+      ap (λ qs. queue_at qs n) changed ∙ queue_same queues n (queue_after (queue_at queues n) t mode o) below ∙ ap (λ q. queue_after q t mode o) bare_new
       ∙ ap (λ p. queue_after [] t mode p) (answered ∙ ap (λ q. outcome q t mode) bare_new)
 
-  pub first_in : IsFirstIn slots new new_queues i key t mode
-  first_in = record { number = n; inserted = new_is; queue = queue_new }
+  pub first_in : IsFirstIn slots new new_queues key t mode n
+  first_in = record { place = i; gap = gap; inserted = new_is; queue = queue_new }
 
   pub sound_in : AreSound point new_queues new
   sound_in =
       sound_inserted point new_queues slots new i (new_slot n key) new_is (sound_new point n key (queue_at new_queues n))
-      (sound_queued point n (queue_after (queue_at queues n) t mode o) slots free most queues new_queues kept changed (λ k d lt. no_lock (get_or slots k d).writer) sound)
+      (sound_queued point n (queue_after (queue_at queues n) t mode o) slots queues new_queues kept changed (λ k d lt. no_lock (get_or slots k d).writer) sound)
     where
       no_lock : (w : Option Writer) → is_locked (queue_at queues n) w ≡ true → is_locked (queue_after (queue_at queues n) t mode o) w ≡ true
       no_lock None locked = refl
@@ -114,47 +112,53 @@ module _ (point t : ℕ) (slots new : List Slot) (free : List ℕ) (most : ℕ) 
           let z : false ≡ true = ap (λ q. has_exclusive q w.transaction) (sym bare_new) ∙ locked in
           cc
 
-  pub pending_in_new : pending_of new ≡ pending_of slots
-  pending_in_new = ap pending_of new_is ∙ entries_insert pending_in slots i (new_slot n key) refl
+-- a slot that has nothing yet has no write
+pub pending_in_new : (slots new : List Slot) (key : List ℕ) (i n : ℕ) → new ≡ insert slots i (new_slot n key) → pending_of new ≡ pending_of slots
+pending_in_new slots new key i n new_is = ap pending_of new_is ∙ entries_insert pending_in slots i (new_slot n key) refl
 
 -- and the key is written
-module _ (point t : ℕ) (class : Class) (value : Option (List ℕ)) (slots inserted new : List Slot) (key : List ℕ) (i : ℕ) (free : List ℕ) (most : ℕ) (queues : List Queue) (first : IsFirstIn slots inserted queues i key t Exclusive) (le : i ≤ length slots) (kept : AreKept inserted free most queues) (sound : AreSound point queues inserted)
-    (same : pending_of inserted ≡ pending_of slots) (new_is : (d : Slot) → new ≡ set inserted i (put_slot point t class None value (get_or inserted i d))) where
+module _ (point t : ℕ) (class : Class) (value : Option (List ℕ)) (slots inserted new : List Slot) (key : List ℕ) (n : ℕ) (queues : List Queue) (first : IsFirstIn slots inserted queues key t Exclusive n) (kept : AreKept inserted queues) (sound : AreSound point queues inserted)
+    (same : pending_of inserted ≡ pending_of slots) (new_is : new ≡ map (at_number (put_slot point t class None value) n) inserted) where
   abbrev x : Slot
-  x = new_slot first.number key
+  x = new_slot n key
 
-  is_x : x ≡ get_or inserted i x
-  is_x = sym (ap (λ (ss : List Slot). get_or ss i x) first.inserted ∙ get_inserted slots i x x le)
+  le : first.place ≤ length slots
+  le = let within = (first.gap []).in_range in omega (arith, within, length-rows [] slots)
 
-  lt_x : i < length inserted
-  lt_x = subst (λ (ss : List Slot). i < length ss) (sym first.inserted) (omega (arith, le, length_inserted slots i x))
+  is_x : x ≡ get_or inserted first.place x
+  is_x = sym (ap (λ (ss : List Slot). get_or ss first.place x) first.inserted ∙ get_inserted slots first.place x x le)
 
-  put_x : new ≡ set inserted i (granted_slot Granted point t class x.live value x)
-  put_x = new_is x ∙ ap (λ (s : Slot). set inserted i (put_slot point t class None value s)) (sym is_x)
+  lt_x : first.place < length inserted
+  lt_x = subst (λ (ss : List Slot). first.place < length ss) (sym first.inserted) (omega (arith, le, length_inserted slots first.place x))
+
+  put_x : new ≡ set inserted first.place (granted_slot Granted point t class x.live value x)
+  put_x =
+      new_is ∙ number_set (put_slot point t class None value) n inserted first.place x (kept.once n) lt_x (ap (λ (s : Slot). s.number) (sym is_x))
+      ∙ ap (λ (s : Slot). set inserted first.place (put_slot point t class None value s)) (sym is_x)
 
   has_x : has_exclusive (queue_at queues x.number) t ≡ true
   has_x = ap (λ q. has_exclusive q t) first.queue ∙ has_granted [] t refl
 
-  pub kept_first_put : AreKept new free most queues
-  kept_first_put = kept_put point t class value inserted new i x key free most queues kept sound lt_x is_x Granted (λ e. refl) put_x
+  pub kept_first_put : AreKept new queues
+  kept_first_put = kept_put point t class value inserted new first.place x key queues kept sound lt_x is_x Granted (λ e. refl) put_x
 
   pub rows_first_put : rows_of queues new ≡ rows_of queues inserted
-  rows_first_put = rows_put point t class value inserted new i x key free most queues kept sound lt_x is_x Granted (λ e. refl) put_x
+  rows_first_put = rows_put point t class value inserted new first.place x key queues kept sound lt_x is_x Granted (λ e. refl) put_x
 
   pub sound_first_put : AreSound point queues new
-  sound_first_put = sound_put point t class value inserted new i x key free most queues kept sound lt_x is_x Granted (λ e. refl) put_x (λ e. has_x)
+  sound_first_put = sound_put point t class value inserted new first.place x key queues kept sound lt_x is_x Granted (λ e. refl) put_x (λ e. has_x)
 
-  pub pending_first_put : (o : Outcome) → o ≡ Granted → (capacity : ℕ) (other : List Queue) (q : List ℕ) → find key_cmp q (pending_of new) ≡ pending_after o (table_of capacity other slots point) key (record { by = t; class = class; value = value }) q
-  pending_first_put o granted capacity other q =
-      pending_put point t class value inserted new i x key free most queues kept sound lt_x is_x Granted (λ e. refl) put_x (same_self key) (λ e w writer. none w writer) capacity other q
+  pub pending_first_put : (capacity : ℕ) (other : List Queue) (q : List ℕ) → find key_cmp q (pending_of new) ≡ pending_after Granted (table_of capacity other slots point) key (record { by = t; class = class; value = value }) q
+  pending_first_put capacity other q =
+      pending_put point t class value inserted new first.place x key queues kept sound lt_x is_x Granted (λ e. refl) put_x (same_self key) (λ e w writer. none w writer) capacity other q
       ∙ ap (λ (ps : List (List ℕ × Pending)). pending_after Granted (record { capacity = capacity; rows = rows_of other slots; pending = ps; point = point }) key (record { by = t; class = class; value = value }) q) same
-      ∙ ap (λ p. pending_after p (table_of capacity other slots point) key (record { by = t; class = class; value = value }) q) (sym granted)
     where
       none : (w : Writer) → None ≡ Some w → (w.transaction ≡ t) × (w.class ≡ class)
       none w e = absurd (let z : None ≡ Some w = e in cc)
 
 -- what was written with a copy of what stands there
-pub granted_is : (o : Outcome) (point t : ℕ) (class : Class) (copy value : Option (List ℕ)) (slots new : List Slot) (i : ℕ) (e : Slot) → ((d : Slot) → new ≡ set slots i (granted_slot o point t class copy value (get_or slots i d))) → copy ≡ e.live → e ≡ get_or slots i e →
+pub granted_is : (o : Outcome) (point t : ℕ) (class : Class) (copy value : Option (List ℕ)) (slots new : List Slot) (i n : ℕ) (e : Slot) → times n (numbers_of slots) ≤ 1 → new ≡ map (at_number (granted_slot o point t class copy value) n) slots → copy ≡ e.live → i < length slots → e ≡ get_or slots i e → e.number ≡ n →
     new ≡ set slots i (granted_slot o point t class e.live value e)
-granted_is o point t class copy value slots new i e new_is copy_is is =
-    new_is e ∙ ap (λ v. set slots i (granted_slot o point t class v value (get_or slots i e))) copy_is ∙ ap (λ (s : Slot). set slots i (granted_slot o point t class e.live value s)) (sym is)
+granted_is o point t class copy value slots new i n e once new_is copy_is lt is number =
+    new_is ∙ number_set (granted_slot o point t class copy value) n slots i e once lt (ap (λ (s : Slot). s.number) (sym is) ∙ number)
+    ∙ ap (λ v. set slots i (granted_slot o point t class v value (get_or slots i e))) copy_is ∙ ap (λ (s : Slot). set slots i (granted_slot o point t class e.live value s)) (sym is)

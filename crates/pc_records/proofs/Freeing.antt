@@ -8,11 +8,10 @@ use Rattle.pc_model.specs.Database.{KeysRise, key_cmp, same_bytes}
 use Rattle.pc_model.specs.Locks.{Queue, queue_without}
 use Rattle.pc_types.specs.Phases.{same_class}
 use Rattle.pc_locks.specs.States.{queue_at}
-use Rattle.pc_records.specs.declared.slots.Slot.{Slot}
 use Rattle.pc_records.specs.declared.versions.Writer.{Writer}
 use Rattle.pc_records.specs.Rows.{is_kept}
 use Rattle.pc_records.specs.Tables.{Pending}
-use Rattle.pc_records.specs.Slots.{committed, row_of, rows_of, pending_in, write_of, pending_of, is_locked, is_kept_slot, IsSound, AreSound, AreKept, taken_slot}
+use Rattle.pc_records.specs.Slots.{Slot, committed, row_of, rows_of, pending_in, write_of, pending_of, is_locked, is_kept_slot, IsSound, AreSound, AreKept, taken_slot}
 use Rattle.pc_records.proofs.SlotKeeping.{number_below}
 use Rattle.pc_records.proofs.Queued.{queue_same, queue_other}
 use Rattle.pc_records.proofs.Exclusive.{kept_released}
@@ -57,13 +56,13 @@ module _ (point : ℕ) (queues : List Queue) (slots marked : List Slot) (key : L
   pending_taken = ap pending_of marked_is ∙ entries_set pending_in slots i any_slot (taken_slot point (get_or slots i any_slot)) lt refl refl
 
 -- another queue at one number, in which the writers of the slots still have their locks
-pub sound_queued : (point n : ℕ) (q : Queue) (slots : List Slot) (free : List ℕ) (most : ℕ) (queues new : List Queue) → AreKept slots free most queues → new ≡ set queues n q → All (λ s. is_locked (queue_at queues n) s.writer ≡ true → is_locked q s.writer ≡ true) slots → AreSound point queues slots → AreSound point new slots
-sound_queued point n q slots free most queues new kept new_is still sound = sound_queues point queues new slots each sound
+pub sound_queued : (point n : ℕ) (q : Queue) (slots : List Slot) (queues new : List Queue) → AreKept slots queues → new ≡ set queues n q → All (λ s. is_locked (queue_at queues n) s.writer ≡ true → is_locked q s.writer ≡ true) slots → AreSound point queues slots → AreSound point new slots
+sound_queued point n q slots queues new kept new_is still sound = sound_queues point queues new slots each sound
   where
     same : (k : ℕ) (d : Slot) → k < length slots → (b : Bool) → eqb (get_or slots k d).number n ≡ b → is_locked (queue_at queues (get_or slots k d).number) (get_or slots k d).writer ≡ true → is_locked (queue_at (set queues n q) (get_or slots k d).number) (get_or slots k d).writer ≡ true
     same k d lt true at has =
         let number : (get_or slots k d).number ≡ n = grind (arith, nat_tests, at) in
-        let below : n < length queues = subst (λ m. m < length queues) number (number_below slots free most queues k d kept lt) in
+        let below : n < length queues = subst (λ m. m < length queues) number (number_below slots queues k d kept lt) in
         ap (λ m. is_locked (queue_at (set queues n q) m) (get_or slots k d).writer) number ∙ ap (λ p. is_locked p (get_or slots k d).writer) (queue_same queues n q below) ∙ still k d lt (ap (λ m. is_locked (queue_at queues m) (get_or slots k d).writer) (sym number) ∙ has)
     same k d lt false at has = ap (λ p. is_locked p (get_or slots k d).writer) (queue_other queues n (get_or slots k d).number q at) ∙ has
 
@@ -73,9 +72,9 @@ sound_queued point n q slots free most queues new kept new_is still sound = soun
         (λ has. ap (λ qs. is_locked (queue_at qs (get_or slots k d).number) (get_or slots k d).writer) new_is ∙ same k d lt (eqb (get_or slots k d).number n) refl has) one
 
 -- a request of a transaction that has no write is removed
-pub sound_released : (point t n : ℕ) (slots : List Slot) (free : List ℕ) (most : ℕ) (queues new : List Queue) → AreKept slots free most queues → new ≡ set queues n (queue_without (queue_at queues n) t) → ((q : List ℕ) (p : Pending) → find key_cmp q (pending_of slots) ≡ Some p → eqb p.by t ≡ false) →
+pub sound_released : (point t n : ℕ) (slots : List Slot) (queues new : List Queue) → AreKept slots queues → new ≡ set queues n (queue_without (queue_at queues n) t) → ((q : List ℕ) (p : Pending) → find key_cmp q (pending_of slots) ≡ Some p → eqb p.by t ≡ false) →
     AreSound point queues slots → AreSound point new slots
-sound_released point t n slots free most queues new kept new_is over sound = sound_queued point n (queue_without (queue_at queues n) t) slots free most queues new kept new_is (all_found (λ s. is_locked (queue_at queues n) s.writer ≡ true → is_locked (queue_without (queue_at queues n) t) s.writer ≡ true) slots kept.rise each) sound
+sound_released point t n slots queues new kept new_is over sound = sound_queued point n (queue_without (queue_at queues n) t) slots queues new kept new_is (all_found (λ s. is_locked (queue_at queues n) s.writer ≡ true → is_locked (queue_without (queue_at queues n) t) s.writer ≡ true) slots kept.rise each) sound
   where
     each : (q : List ℕ) (s : Slot) → slot_of slots q ≡ Some s → is_locked (queue_at queues n) s.writer ≡ true → is_locked (queue_without (queue_at queues n) t) s.writer ≡ true
     each q s found = by_writer s.writer refl

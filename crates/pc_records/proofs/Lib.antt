@@ -1,6 +1,12 @@
 mod SlotRising
 mod SlotPlaces
-mod Halving
+mod TableSlots
+mod FirstSlots
+mod Closing
+mod Tidied
+mod Found
+mod Taken
+mod NewSlots
 mod Numbers
 mod Turning
 mod CommittedPairs

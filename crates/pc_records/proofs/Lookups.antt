@@ -12,11 +12,10 @@ use Rattle.pc_model.specs.Database.{KeysRise, key_cmp, key_order, same_bytes}
 use Rattle.pc_model.specs.Locks.{Queue}
 use Rattle.pc_model.proofs.CountLaws.{and_both, below_apart}
 use Rattle.pc_model.proofs.JoinLaws.{one_key}
-use Rattle.pc_records.specs.declared.slots.Slot.{Slot}
 use Rattle.pc_records.specs.declared.versions.Writer.{Writer}
 use Rattle.pc_records.specs.Rows.{Row, Record, record_of, stored}
 use Rattle.pc_records.specs.Tables.{read_of}
-use Rattle.pc_records.specs.Slots.{committed_by, write_of, pending_in, pending_of, row_of, rows_of, with_entry, entries_of, at_key}
+use Rattle.pc_records.specs.Slots.{Slot, committed_by, write_of, pending_in, pending_of, row_of, rows_of, with_entry, entries_of, at_key}
 use Rattle.pc_records.proofs.Tidying.{below_at}
 
 -- the slot of the key

@@ -7,13 +7,12 @@ use Rattle.pc_model.specs.Locks.{Queue}
 use Rattle.pc_model.specs.Replies.{is_empty}
 use Rattle.pc_types.specs.Phases.{same_class}
 use Rattle.pc_locks.specs.States.{queue_at}
-use Rattle.pc_records.specs.declared.slots.Slot.{Slot}
 use Rattle.pc_records.specs.declared.versions.Stable.{Stable}
 use Rattle.pc_records.specs.declared.versions.Stable.TheVariants.{Empty, Held}
 use Rattle.pc_records.specs.declared.versions.Writer.{Writer}
 use Rattle.pc_records.specs.Rows.{Row, is_kept}
 use Rattle.pc_records.specs.RowSteps.{closed_row}
-use Rattle.pc_records.specs.Slots.{committed, committed_by, version_or, pinned, pending_in, write_of, row_of, is_available, is_held, held_for, is_prepared, has_exclusive, is_locked, IsSound, is_kept_slot, new_slot, held_or, saved, first_put, put_beside, put_slot, settled_class, settled_from, settled, undone_from, undone, closed_slot, taken_slot}
+use Rattle.pc_records.specs.Slots.{Slot, committed, committed_by, version_or, pinned, pending_in, write_of, row_of, is_available, is_held, held_for, is_prepared, has_exclusive, is_locked, IsSound, is_kept_slot, new_slot, held_or, saved, first_put, put_beside, put_slot, settled_class, settled_from, settled, undone_from, undone, closed_slot, taken_slot}
 
 no : false ≡ true → ⊥
 no e = cc
@@ -144,6 +143,20 @@ put_key point t class copy value s = elim s.writer as (λ o. (put_beside o point
 
 pub put_number : (point t : ℕ) (class : Class) (copy value : Option (List ℕ)) (s : Slot) → (put_slot point t class copy value s).number ≡ s.number
 put_number point t class copy value s = elim s.writer as (λ o. (put_beside o point t class copy value s).number ≡ s.number) [ None ↦ saved_number point class copy s | Some w ↦ refl ]
+
+-- what is saved of a slot in which the value stands already, and its writer
+pub put_saved : (point t : ℕ) (class : Class) (copy value was stands : Option (List ℕ)) (s now : Slot) → s.writer ≡ None → was ≡ s.live → stands ≡ value → now ≡ saved point class copy (record s { live = stands }) →
+    record now { writer = Some (record { transaction = t; class = class; before = was }) } ≡ put_slot point t class copy value s
+put_saved point t class copy value was stands s now none was_is stands_is is =
+    ap (λ (x : Slot). record x { writer = Some (record { transaction = t; class = class; before = was }) }) (is ∙ ap (λ v. saved point class copy (record s { live = v })) stands_is)
+    ∙ ap (λ (v : Option (List ℕ)). record (saved point class copy (record s { live = value })) { writer = Some (record { transaction = t; class = class; before = v }) }) was_is ∙ by_class class ∙ sym (ap (λ o. put_beside o point t class copy value s) none)
+  where
+    by_class : (c : Class) → record (saved point c copy (record s { live = value })) { writer = Some (record { transaction = t; class = class; before = s.live }) } ≡ record (saved point c copy s) { live = value; writer = Some (record { transaction = t; class = class; before = s.live }) }
+    by_class Before = refl
+    by_class During = refl
+    by_class After =
+        elim (s.is_in_closed_set && not (eqb s.mark point)) as (λ b. record (cond b (record s { live = value; stable = Held copy; mark = point }) (record s { live = value })) { writer = Some (record { transaction = t; class = class; before = s.live }) }
+        ≡ record (cond b (record s { stable = Held copy; mark = point }) s) { live = value; writer = Some (record { transaction = t; class = class; before = s.live }) }) [ true ↦ refl | false ↦ refl ]
 
 -- and the write that stands then
 pub put_pending : (point t : ℕ) (class : Class) (copy value : Option (List ℕ)) (s : Slot) → ((w : Writer) → s.writer ≡ Some w → (w.transaction ≡ t) × (w.class ≡ class)) → pending_in (put_slot point t class copy value s) ≡ Some (record { by = t; class = class; value = value })

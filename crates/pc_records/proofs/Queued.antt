@@ -3,9 +3,8 @@ use Rattle.std.proofs.Common.{◌≡◌, ◌≢◌, ℕ, zero, suc, ◌+◌, ◌
 use Rattle.std.proofs.lemmas.Bool.Decides.{nat_tests}
 use Rattle.pc_model.specs.Locks.{Queue}
 use Rattle.pc_locks.specs.States.{queue_at}
-use Rattle.pc_records.specs.declared.slots.Slot.{Slot}
 use Rattle.pc_records.specs.Rows.{Row}
-use Rattle.pc_records.specs.Slots.{committed, pinned, row_of, rows_of, numbers_of, times}
+use Rattle.pc_records.specs.Slots.{Slot, committed, pinned, row_of, rows_of, numbers_of, times}
 
 -- the slot's row with this queue
 abbrev pub with_queue : Slot → Queue → Row

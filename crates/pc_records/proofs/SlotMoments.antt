@@ -1,5 +1,5 @@
 -- What the moments keep in all slots, and what becomes of the rows and of the writes.
-use Rattle.std.proofs.Common.{◌≡◌, ℕ, zero, suc, ◌+◌, ◌<◌, ◌≤◌, List, [], ◌∷◌, ◌++◌, length, map, take, drop, get_or, set, Option, Some, None, is_some, option_map, refl, sym, ap, ◌∙◌, subst, arith, cond, Bool, true, false}
+use Rattle.std.proofs.Common.{◌≡◌, ℕ, zero, suc, ◌+◌, ◌<◌, ◌≤◌, List, [], ◌∷◌, ◌++◌, length, map, take, drop, get_or, set, Option, Some, None, is_some, option_map, refl, sym, ap, ◌∙◌, subst, arith, cond, Bool, true, false, replicate}
 use Rattle.std.specs.Prelude.{All, insert}
 use Rattle.std.specs.FinMap.{find}
 use Rattle.std.proofs.lemmas.List.Elements.{All-map, All-set, All-append, All-take, All-drop}
@@ -11,12 +11,14 @@ use Rattle.pc_model.specs.Locks.{Queue}
 use Rattle.pc_types.specs.Phases.{same_class}
 use Rattle.pc_model.proofs.PlaceLaws.{rest_at}
 use Rattle.pc_locks.specs.States.{queue_at}
-use Rattle.pc_records.specs.declared.slots.Slot.{Slot}
+use Rattle.pc_locks.proofs.QueueRowLaws.{none_at}
 use Rattle.pc_records.specs.declared.versions.Writer.{Writer}
+use Rattle.pc_table.specs.Rows.{Row as TableRow}
+use Rattle.pc_records.specs.declared.slots.Cell.{Cell}
 use Rattle.pc_records.specs.Rows.{Row, record_of, is_in_closed_set}
-use Rattle.pc_records.specs.RowSteps.{given, written_row, closed_row}
+use Rattle.pc_records.specs.RowSteps.{given, written_row, closed_row, committed_row}
 use Rattle.pc_records.specs.Tables.{Pending, value_of}
-use Rattle.pc_records.specs.Slots.{row_of, rows_of, numbers_of, pending_in, write_of, pending_of, with_entry, entries_of, is_prepared, IsSound, AreSound, AreKept, at_key, at_writes, settled, undone, closed_slot, slots_from}
+use Rattle.pc_records.specs.Slots.{Slot, row_of, rows_of, numbers_of, pending_in, write_of, pending_of, with_entry, entries_of, is_prepared, IsSound, AreSound, AreKept, at_key, at_writes, settled, undone, closed_slot, slot_with, slots_in, base_cell, cells_in, base_row}
 use Rattle.pc_records.proofs.SlotRising.{keys_of, rise_same}
 use Rattle.pc_records.proofs.SlotKeeping.{kept_same}
 use Rattle.pc_records.proofs.Lookups.{slot_of, of_slot, record_in, find_row, find_entry, slot_map, all_found, key_found}
@@ -31,8 +33,8 @@ pub numbers_map : (g : Slot → Slot) (slots : List Slot) → ((s : Slot) → (g
 numbers_map g [] keeps = refl
 numbers_map g (x ∷ xs) keeps = ap (λ (n : ℕ). n ∷ numbers_of (map g xs)) (keeps x) ∙ ap (λ (ns : List ℕ). x.number ∷ ns) (numbers_map g xs keeps)
 
-pub kept_map : (g : Slot → Slot) (slots new : List Slot) (free : List ℕ) (most : ℕ) (queues : List Queue) → new ≡ map g slots → ((s : Slot) → (g s).key ≡ s.key) → ((s : Slot) → (g s).number ≡ s.number) → AreKept slots free most queues → AreKept new free most queues
-kept_map g slots new free most queues is keys numbers kept = kept_same slots new free most queues (ap keys_of is ∙ keys_map g slots keys) (ap numbers_of is ∙ numbers_map g slots numbers) kept
+pub kept_map : (g : Slot → Slot) (slots new : List Slot) (queues : List Queue) → new ≡ map g slots → ((s : Slot) → (g s).key ≡ s.key) → ((s : Slot) → (g s).number ≡ s.number) → AreKept slots queues → AreKept new queues
+kept_map g slots new queues is keys numbers kept = kept_same slots new queues (ap keys_of is ∙ keys_map g slots keys) (ap numbers_of is ∙ numbers_map g slots numbers) kept
 
 pub rise_map : (g : Slot → Slot) (slots : List Slot) → ((s : Slot) → (g s).key ≡ s.key) → KeysRise (rows_of [] slots) → KeysRise (rows_of [] (map g slots))
 rise_map g slots keys rise = rise_same slots (map g slots) (keys_map g slots keys) rise
@@ -93,9 +95,6 @@ entries_removed f (y ∷ ys) (suc i) d lt none = ap (with_entry y.key (f y)) (en
 
 -- one write after the other
 module _ (f : Slot → Slot) (keys : (s : Slot) → (f s).key ≡ s.key) (again : (s : Slot) → f (f s) ≡ f s) where
-  pub key_at_key : (key : List ℕ) (s : Slot) → (at_key f key s).key ≡ s.key
-  key_at_key key s = elim (same_bytes key s.key) as (λ b. (cond b (f s) s).key ≡ s.key) [ true ↦ keys s | false ↦ refl ]
-
   pub key_at_writes : (ws : List Write) (s : Slot) → (at_writes f ws s).key ≡ s.key
   key_at_writes ws s = elim (is_some (written ws s.key)) as (λ b. (cond b (f s) s).key ≡ s.key) [ true ↦ keys s | false ↦ refl ]
 
@@ -152,9 +151,9 @@ sound_at_writes f point queues keeps each ws s sound = by_test (is_some (written
     by_test false = sound
 
 -- the writes are committed
-module _ (point : ℕ) (ws : List Write) (slots new : List Slot) (free : List ℕ) (most : ℕ) (queues : List Queue) (is : new ≡ map (at_writes (settled point) ws) slots) (kept : AreKept slots free most queues) where
-  pub kept_settled : AreKept new free most queues
-  kept_settled = kept_map (at_writes (settled point) ws) slots new free most queues is (key_at_writes (settled point) (settled_key point) (settled_again point) ws) (number_at_writes (settled point) (settled_number point) ws) kept
+module _ (point : ℕ) (ws : List Write) (slots new : List Slot) (queues : List Queue) (is : new ≡ map (at_writes (settled point) ws) slots) (kept : AreKept slots queues) where
+  pub kept_settled : AreKept new queues
+  kept_settled = kept_map (at_writes (settled point) ws) slots new queues is (key_at_writes (settled point) (settled_key point) (settled_again point) ws) (number_at_writes (settled point) (settled_number point) ws) kept
 
   pub sound_settled : AreSound point queues slots → AreSound point queues new
   sound_settled sound = sound_map (at_writes (settled point) ws) point point queues slots new is (λ k d lt one. sound_at_writes (settled point) point queues (settled_number point) (settled_sound point) ws (get_or slots k d) one) sound
@@ -190,9 +189,9 @@ module _ (point : ℕ) (ws : List Write) (slots new : List Slot) (free : List �
           ap (option_map value_of) (sym (find_entry pending_in slots q kept.rise ∙ ap (of_slot pending_in) found)) ∙ stand q (ap (λ k. is_some (written ws k)) key ∙ some) ∙ ap (written ws) key
 
 -- the writes are undone
-module _ (point : ℕ) (ws : List Write) (slots new : List Slot) (free : List ℕ) (most : ℕ) (queues : List Queue) (is : new ≡ map (at_writes (undone point) ws) slots) (kept : AreKept slots free most queues) (sound : AreSound point queues slots) where
-  pub kept_undone : AreKept new free most queues
-  kept_undone = kept_map (at_writes (undone point) ws) slots new free most queues is (key_at_writes (undone point) (undone_key point) (undone_again point) ws) (number_at_writes (undone point) (undone_number point) ws) kept
+module _ (point : ℕ) (ws : List Write) (slots new : List Slot) (queues : List Queue) (is : new ≡ map (at_writes (undone point) ws) slots) (kept : AreKept slots queues) (sound : AreSound point queues slots) where
+  pub kept_undone : AreKept new queues
+  kept_undone = kept_map (at_writes (undone point) ws) slots new queues is (key_at_writes (undone point) (undone_key point) (undone_again point) ws) (number_at_writes (undone point) (undone_number point) ws) kept
 
   pub sound_undone : AreSound point queues new
   sound_undone = sound_map (at_writes (undone point) ws) point point queues slots new is (λ k d lt one. sound_at_writes (undone point) point queues (undone_number point) (undone_sound point) ws (get_or slots k d) one) sound
@@ -212,7 +211,7 @@ module _ (point : ℕ) (ws : List Write) (slots new : List Slot) (free : List �
   rows_undone = ap (rows_of queues) is ∙ undone_all slots sound.each
 
 -- the open set is closed
-module _ (point later : ℕ) (slots new : List Slot) (free : List ℕ) (most : ℕ) (queues : List Queue) (is : new ≡ map closed_slot slots) (kept : AreKept slots free most queues) (sound : AreSound point queues slots) (after : point < later)
+module _ (point later : ℕ) (slots new : List Slot) (queues : List Queue) (is : new ≡ map closed_slot slots) (kept : AreKept slots queues) (sound : AreSound point queues slots) (after : point < later)
     (none : (q : List ℕ) → is_in_closed_set (record_of (rows_of queues slots) q) ≡ false) (during : (q : List ℕ) (p : Pending) → find key_cmp q (pending_of slots) ≡ Some p → p.class ≡ During) where
   all_open : All (λ s. s.is_in_closed_set ≡ false) slots
   all_open = all_found (λ s. s.is_in_closed_set ≡ false) slots kept.rise (λ q s found. sym (ap is_in_closed_set (find_row queues slots q ∙ ap (record_in queues) found)) ∙ none q)
@@ -227,8 +226,8 @@ module _ (point later : ℕ) (slots new : List Slot) (free : List ℕ) (most : �
           by_writer None writer = refl
           by_writer (Some w) writer = ap (λ c. same_class c During) (during q (record { by = w.transaction; class = w.class; value = s.live }) (find_entry pending_in slots q kept.rise ∙ ap (of_slot pending_in) found ∙ ap (λ o. write_of o s.live) writer))
 
-  pub kept_closed : AreKept new free most queues
-  kept_closed = kept_map closed_slot slots new free most queues is (λ s. refl) (λ s. refl) kept
+  pub kept_closed : AreKept new queues
+  kept_closed = kept_map closed_slot slots new queues is (λ s. refl) (λ s. refl) kept
 
   pub sound_closed : AreSound later queues new
   sound_closed = sound_map closed_slot point later queues slots new is (λ k d lt one. closed_sound point later (queue_at queues (get_or slots k d).number) (get_or slots k d) after (all_open k d lt) one (all_prepared k d lt)) sound
@@ -250,17 +249,54 @@ module _ (point later : ℕ) (slots new : List Slot) (free : List ℕ) (most : �
       same (x ∷ xs) = ap (with_entry x.key (pending_in x)) (same xs)
 
 -- the first slots
-pub sound_first : (queues : List Queue) (pairs : List (List ℕ × List ℕ)) (slots : List Slot) → slots ≡ slots_from 0 pairs → AreSound 0 queues slots
-sound_first queues pairs slots is = record { each = subst (λ (ss : List Slot). All (IsSoundIn 0 queues) ss) (sym is) (all 0 pairs) }
+-- a row that has the value of a pair alone
+first_cell : (r : TableRow Cell) (rs : List (TableRow Cell)) (p : List ℕ × List ℕ) (ps : List (List ℕ × List ℕ)) → cells_in (r ∷ rs) ≡ map base_row (p ∷ ps) → r.1.1 ≡ base_cell (Some p.1)
+first_cell r rs p ps e = ap (λ (c : List ℕ × Cell). c.1) (same_head e)
   where
-    all : (n : ℕ) (ps : List (List ℕ × List ℕ)) → All (IsSoundIn 0 queues) (slots_from n ps)
-    all n [] k d lt = absurd (omega (arith, lt))
-    all n (p ∷ ps) zero d lt = record { passed = omega arith; holds = λ e. cc; follows = λ e. refl; prepared = λ c e. refl; locked = refl }
-    all n (p ∷ ps) (suc k) d lt = all (n + 1) ps k d (omega (arith, lt))
+    same_head : {A : Type 0} {x y : A} {xs ys : List A} → x ∷ xs ≡ y ∷ ys → x ≡ y
+    same_head e = cc
 
-pub pending_first : (pairs : List (List ℕ × List ℕ)) (slots : List Slot) → slots ≡ slots_from 0 pairs → pending_of slots ≡ []
-pending_first pairs slots is = ap pending_of is ∙ none 0 pairs
+first_key : (r : TableRow Cell) (rs : List (TableRow Cell)) (p : List ℕ × List ℕ) (ps : List (List ℕ × List ℕ)) → cells_in (r ∷ rs) ≡ map base_row (p ∷ ps) → r.0 ≡ p.0
+first_key r rs p ps e = ap (λ (c : List ℕ × Cell). c.0) (same_head e)
   where
-    none : (n : ℕ) (ps : List (List ℕ × List ℕ)) → pending_of (slots_from n ps) ≡ []
-    none n [] = refl
-    none n (p ∷ ps) = none (n + 1) ps
+    same_head : {A : Type 0} {x y : A} {xs ys : List A} → x ∷ xs ≡ y ∷ ys → x ≡ y
+    same_head e = cc
+
+other_cells : (r : TableRow Cell) (rs : List (TableRow Cell)) (p : List ℕ × List ℕ) (ps : List (List ℕ × List ℕ)) → cells_in (r ∷ rs) ≡ map base_row (p ∷ ps) → cells_in rs ≡ map base_row ps
+other_cells r rs p ps e = same_tail e
+  where
+    same_tail : {A : Type 0} {x y : A} {xs ys : List A} → x ∷ xs ≡ y ∷ ys → xs ≡ ys
+    same_tail e = cc
+
+-- the first slots, which have the values of pairs alone
+module _ (pairs : List (List ℕ × List ℕ)) (rows : List (TableRow Cell)) (are : cells_in rows ≡ map base_row pairs) where
+  pub sound_first : (queues : List Queue) → AreSound 0 queues (slots_in rows)
+  sound_first queues = record { each = all rows pairs are }
+    where
+      one : (number : ℕ) (key : List ℕ) (cell : Cell) (value : List ℕ) → cell ≡ base_cell (Some value) → (queue : Queue) → IsSound 0 queue (slot_with number key cell)
+      one number key cell value e queue = subst (λ (c : Cell). IsSound 0 queue (slot_with number key c)) (sym e) (record { passed = omega arith; holds = λ e. cc; follows = λ e. refl; prepared = λ c e. refl; locked = refl })
+
+      all : (rs : List (TableRow Cell)) (ps : List (List ℕ × List ℕ)) → cells_in rs ≡ map base_row ps → All (IsSoundIn 0 queues) (slots_in rs)
+      all [] ps e k d lt = absurd (omega (arith, lt))
+      all (r ∷ rs) [] e k d lt = absurd cc
+      all (r ∷ rs) (p ∷ ps) e zero d lt = one r.1.0 r.0 r.1.1 p.1 (first_cell r rs p ps e) (queue_at queues r.1.0)
+      all (r ∷ rs) (p ∷ ps) e (suc k) d lt = all rs ps (other_cells r rs p ps e) k d (omega (arith, lt))
+
+  pub pending_first : pending_of (slots_in rows) ≡ []
+  pending_first = all rows pairs are
+    where
+      all : (rs : List (TableRow Cell)) (ps : List (List ℕ × List ℕ)) → cells_in rs ≡ map base_row ps → pending_of (slots_in rs) ≡ []
+      all [] ps e = refl
+      all (r ∷ rs) [] e = absurd cc
+      all (r ∷ rs) (p ∷ ps) e = ap (λ (c : Cell). with_entry r.0 (write_of c.writer c.live) (pending_of (slots_in rs))) (first_cell r rs p ps e) ∙ all rs ps (other_cells r rs p ps e)
+
+  pub rows_first : (capacity : ℕ) → rows_of (replicate capacity []) (slots_in rows) ≡ map committed_row pairs
+  rows_first capacity = all rows pairs are
+    where
+      all : (rs : List (TableRow Cell)) (ps : List (List ℕ × List ℕ)) → cells_in rs ≡ map base_row ps → rows_of (replicate capacity []) (slots_in rs) ≡ map committed_row ps
+      all [] [] e = refl
+      all [] (p ∷ ps) e = absurd cc
+      all (r ∷ rs) [] e = absurd cc
+      all (r ∷ rs) (p ∷ ps) e =
+          ap (λ (row : Row). row ∷ rows_of (replicate capacity []) (slots_in rs)) (λ i. row_of (none_at capacity r.1.0 i ∷ []) (slot_with 0 (first_key r rs p ps e i) (first_cell r rs p ps e i)))
+          ∙ ap (λ (rest : List Row). committed_row p ∷ rest) (all rs ps (other_cells r rs p ps e))

@@ -6,14 +6,13 @@ use Rattle.pc_model.specs.Locks.{Queue, queue_without}
 use Rattle.pc_model.specs.Queues.{stands_in}
 use Rattle.pc_model.proofs.QueueLaws.{stands_granted}
 use Rattle.pc_locks.specs.States.{Lists, queue_at, slots_of, first_of, rest_of, is_listed, AreLinked}
-use Rattle.pc_records.specs.declared.slots.Slot.{Slot}
 use Rattle.pc_records.specs.Rows.{Row, Record, is_kept}
 use Rattle.pc_records.specs.RowSteps.{if_kept, with_row, released, released_rows}
-use Rattle.pc_records.specs.Slots.{row_of, rows_of, numbers_of, times, AreKept, IsNumbered, tidied}
+use Rattle.pc_records.specs.Slots.{Slot, row_of, rows_of, numbers_of, times, AreKept, IsNumbered, tidied}
 use Rattle.pc_records.proofs.SlotPlaces.{length-rows}
 use Rattle.pc_records.proofs.Queued.{with_queue, rows-at, times_at}
 use Rattle.pc_records.proofs.Turning.{any_slot}
-use Rattle.pc_records.proofs.SlotKeeping.{once, number_below, kept_queued}
+use Rattle.pc_records.proofs.SlotKeeping.{number_below, kept_queued}
 
 keeps_out : (t : ℕ) (rs : Queue) → stands_in (filter (λ r. not (eqb r.transaction t)) rs) t ≡ false
 keeps_out t [] = refl
@@ -83,8 +82,8 @@ shorter n [] new e is = absurd cc
 shorter n (m ∷ ms) new e is = rw is (omega arith)
 
 -- where the transaction stands there is a slot
-pub slot_there : (t n : ℕ) (slots : List Slot) (free : List ℕ) (most : ℕ) (queues : List Queue) → AreKept slots free most queues → stands_in (queue_at queues n) t ≡ true → times n (numbers_of slots) ≡ 0 → ⊥
-slot_there t n slots free most queues kept stands none =
+pub slot_there : (t n : ℕ) (slots : List Slot) (queues : List Queue) → AreKept slots queues → stands_in (queue_at queues n) t ≡ true → times n (numbers_of slots) ≡ 0 → ⊥
+slot_there t n slots queues kept stands none =
     let empty : queue_at queues n ≡ [] = kept.bare n none in
     let no : false ≡ true = ap (λ q. stands_in q t) (sym empty) ∙ stands in
     no_case no
@@ -92,16 +91,16 @@ slot_there t n slots free most queues kept stands none =
     no_case : false ≡ true → ⊥
     no_case e = cc
 
-module _ (t n : ℕ) (slots : List Slot) (free : List ℕ) (most : ℕ) (queues new_queues : List Queue) (i : ℕ) (kept : AreKept slots free most queues) (stands : stands_in (queue_at queues n) t ≡ true) (there : IsNumbered slots n i) (changed : new_queues ≡ set queues n (queue_without (queue_at queues n) t)) where
-  pub kept_without : AreKept slots free most new_queues
-  kept_without = subst (AreKept slots free most) (sym changed) (kept_queued slots free most queues n (queue_without (queue_at queues n) t) (times_at n slots i any_slot there.in_range (there.has any_slot)) kept)
+module _ (t n : ℕ) (slots : List Slot) (queues new_queues : List Queue) (i : ℕ) (kept : AreKept slots queues) (stands : stands_in (queue_at queues n) t ≡ true) (there : IsNumbered slots n i) (changed : new_queues ≡ set queues n (queue_without (queue_at queues n) t)) where
+  pub kept_without : AreKept slots new_queues
+  kept_without = subst (AreKept slots) (sym changed) (kept_queued slots queues n (queue_without (queue_at queues n) t) (times_at n slots i any_slot there.in_range (there.has any_slot)) kept)
 
   -- the slot's row has the queue without the request
   rows_without : rows_of new_queues slots ≡ set (rows_of queues slots) i (with_queue (get_or slots i any_slot) (queue_without (queue_at queues n) t))
   rows_without =
       ap (λ qs. rows_of qs slots) changed
-      ∙ rows-at queues n (queue_without (queue_at queues n) t) slots i any_slot there.in_range (there.has any_slot) (subst (λ m. m < length queues) (there.has any_slot) (number_below slots free most queues i any_slot kept there.in_range))
-      (once (length queues) slots free kept.shared n)
+      ∙ rows-at queues n (queue_without (queue_at queues n) t) slots i any_slot there.in_range (there.has any_slot) (subst (λ m. m < length queues) (there.has any_slot) (number_below slots queues i any_slot kept there.in_range))
+      (kept.once n)
 
   -- and what is released of the tidied rows is what was to be released
   pub released_first : (new : List Slot) → rows_of new_queues new ≡ tidied (rows_of new_queues slots) i → released_rows t (rows_of new_queues new) ≡ released_rows t (rows_of queues slots)

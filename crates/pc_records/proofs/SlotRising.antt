@@ -5,9 +5,7 @@ use Rattle.std.specs.FinMap.Entries.{below_all}
 use Rattle.std.specs.Ordering.{is_lt}
 use Rattle.pc_model.specs.Database.{key_cmp, KeysRise}
 use Rattle.pc_model.specs.Locks.{Queue}
-use Rattle.pc_records.specs.declared.slots.Slot.{Slot}
-use Rattle.pc_records.specs.RowSteps.{committed_row}
-use Rattle.pc_records.specs.Slots.{rows_of}
+use Rattle.pc_records.specs.Slots.{Slot, rows_of, contents_of}
 
 -- the keys of the slots
 abbrev pub keys_of : List Slot → List (List ℕ)
@@ -37,14 +35,14 @@ rise_any p q slots rise = sorted_is q slots ∙ (sym (sorted_is p slots) ∙ ris
 pub rise_same : (slots new : List Slot) → keys_of new ≡ keys_of slots → KeysRise (rows_of [] slots) → KeysRise (rows_of [] new)
 rise_same slots new same rise = sorted_is [] new ∙ (ap sorted_keys same ∙ (sym (sorted_is [] slots) ∙ rise))
 
--- rows of pairs rise as the pairs do
-below_rows : (key : List ℕ) (pairs : List (List ℕ × List ℕ)) → below_all key_cmp key (map committed_row pairs) ≡ below_all key_cmp key pairs
-below_rows key [] = refl
-below_rows key (p ∷ pairs) = ap (λ b. is_lt (key_cmp key p.0) && b) (below_rows key pairs)
+-- and what is committed of the keys
+below_contents : (key : List ℕ) (slots : List Slot) → below_all key_cmp key (contents_of slots) ≡ below_keys key (keys_of slots)
+below_contents key [] = refl
+below_contents key (x ∷ xs) = ap (λ b. is_lt (key_cmp key x.key) && b) (below_contents key xs)
 
-sorted_rows : (pairs : List (List ℕ × List ℕ)) → is_sorted key_cmp (map committed_row pairs) ≡ is_sorted key_cmp pairs
-sorted_rows [] = refl
-sorted_rows (p ∷ pairs) = rw (below_rows p.0 pairs, sorted_rows pairs) refl
+sorted_contents : (slots : List Slot) → is_sorted key_cmp (contents_of slots) ≡ sorted_keys (keys_of slots)
+sorted_contents [] = refl
+sorted_contents (x ∷ xs) = rw (below_contents x.key xs, sorted_contents xs) refl
 
-pub rows_rise : (pairs : List (List ℕ × List ℕ)) → KeysRise pairs → KeysRise (map committed_row pairs)
-rows_rise pairs rise = sorted_rows pairs ∙ rise
+pub contents_rise : (slots : List Slot) → KeysRise (rows_of [] slots) → KeysRise (contents_of slots)
+contents_rise slots rise = sorted_contents slots ∙ (sym (sorted_is [] slots) ∙ rise)

@@ -4,9 +4,8 @@ use Rattle.std.specs.List.{list_any}
 use Rattle.std.proofs.lemmas.Bool.Decides.{nat_tests}
 use Rattle.pc_model.specs.Locks.{Queue, request_in, is_ungranted}
 use Rattle.pc_locks.specs.States.{queue_at}
-use Rattle.pc_records.specs.declared.slots.Slot.{Slot}
 use Rattle.pc_records.specs.RowSteps.{is_waiting}
-use Rattle.pc_records.specs.Slots.{rows_of, numbers_of, times, AreKept}
+use Rattle.pc_records.specs.Slots.{Slot, rows_of, numbers_of, times, AreKept}
 
 abbrev pub waits_in : ℕ → Queue → Bool
 waits_in t q = is_ungranted (request_in q t)
@@ -54,8 +53,8 @@ none_of t [] e n = refl
 none_of t (q ∷ qs) e zero = (or_false (waits_in t q) (list_any (waits_in t) qs) e).0
 none_of t (q ∷ qs) e (suc n) = none_of t qs (or_false (waits_in t q) (list_any (waits_in t) qs) e).1 n
 
-pub waits_same : (slots : List Slot) (free : List ℕ) (most : ℕ) (queues : List Queue) (t : ℕ) → AreKept slots free most queues → list_any (waits_in t) queues ≡ is_waiting (rows_of queues slots) t
-waits_same slots free most queues t kept = by_test (list_any (waits_in t) queues) (is_waiting (rows_of queues slots) t) refl refl
+pub waits_same : (slots : List Slot) (queues : List Queue) (t : ℕ) → AreKept slots queues → list_any (waits_in t) queues ≡ is_waiting (rows_of queues slots) t
+waits_same slots queues t kept = by_test (list_any (waits_in t) queues) (is_waiting (rows_of queues slots) t) refl refl
   where
     by_test : (a b : Bool) → list_any (waits_in t) queues ≡ a → is_waiting (rows_of queues slots) t ≡ b → a ≡ b
     by_test true true e f = refl

@@ -1,7 +1,7 @@
 -- A slot that nothing keeps is freed.
 use Rattle.std.proofs.Common.{◌≡◌, ℕ, zero, suc, ◌<◌, List, [], ◌∷◌, ◌++◌, length, take, drop, get_or, set, Option, Some, None, is_some, not, filter, refl, sym, ap, ◌∙◌, arith, cond, Bool, true, false, ◌||◌}
 use Rattle.std.proofs.Math.ListN.{get_or-map}
-use Rattle.std.proofs.lemmas.List.{map-set, get_or_default}
+use Rattle.std.proofs.lemmas.List.{map-set}
 use Rattle.std.proofs.lemmas.Grind.{common_steps}
 use Rattle.std.proofs.lemmas.Cmp.{eq_by_cmp_equiv}
 use Rattle.std.specs.declared.cmp.Ordering.{Ordering}
@@ -16,10 +16,9 @@ use Rattle.pc_model.specs.Replies.{is_empty}
 use Rattle.pc_model.proofs.CountLaws.{and_both}
 use Rattle.pc_model.proofs.JoinLaws.{one_key}
 use Rattle.pc_locks.specs.States.{queue_at}
-use Rattle.pc_records.specs.declared.slots.Slot.{Slot}
 use Rattle.pc_records.specs.Rows.{Row, Record, record_of, is_kept}
 use Rattle.pc_records.specs.RowSteps.{if_kept, with_row, left_of, with_left, left_rows}
-use Rattle.pc_records.specs.Slots.{committed, row_of, rows_of, AreKept, IsSlotOf, tidied, taken_slot}
+use Rattle.pc_records.specs.Slots.{Slot, committed, row_of, rows_of, AreKept, IsSlotOf, tidied, taken_slot}
 use Rattle.pc_records.proofs.SlotRising.{rise_any}
 use Rattle.pc_records.proofs.SlotPlaces.{length-rows}
 use Rattle.pc_records.proofs.SlotKeeping.{kept_removed}
@@ -73,7 +72,7 @@ no_requests true r c q e = absurd cc
 no_requests false r c [] e = refl
 no_requests false r c (x ∷ xs) e = absurd cc
 
-module _ (slots new : List Slot) (free new_free : List ℕ) (most new_most : ℕ) (queues : List Queue) (i : ℕ) (e : Slot) (lt : i < length slots) (is : e ≡ get_or slots i e) where
+module _ (slots new : List Slot) (queues : List Queue) (i : ℕ) (e : Slot) (lt : i < length slots) (is : e ≡ get_or slots i e) where
   same_row : get_or (rows_of queues slots) i (row_of queues e) ≡ row_of queues e
   same_row = get_or-map (row_of queues) slots i e ∙ ap (row_of queues) (sym is)
 
@@ -87,14 +86,10 @@ module _ (slots new : List Slot) (free new_free : List ℕ) (most new_most : ℕ
   slot_goes kept new_is =
       ap (rows_of queues) new_is ∙ rows-without queues slots i ∙ sym (tidied_gone (rows_of queues slots) i (row_of queues e) row_lt (ap (λ (row : Row). is_kept row.1) same_row ∙ kept))
 
-  pub keeps_without : AreKept slots free most queues → is_kept (row_of queues e).1 ≡ false → new ≡ take i slots ++ drop (suc i) slots → new_free ≡ free ++ e.number ∷ [] → new_most ≡ most → AreKept new new_free new_most queues
-  keeps_without kept goes new_is free_is most_is =
-      kept_removed slots new free new_free most new_most queues i e kept lt is new_is free_is most_is (no_requests (is_some (committed e)) e.is_in_open_set e.is_in_closed_set (queue_at queues e.number) goes)
+  pub keeps_without : AreKept slots queues → is_kept (row_of queues e).1 ≡ false → new ≡ take i slots ++ drop (suc i) slots → AreKept new queues
+  keeps_without kept goes new_is =
+      kept_removed slots new queues i e kept lt is new_is (no_requests (is_some (committed e)) e.is_in_open_set e.is_in_closed_set (queue_at queues e.number) goes)
       (rw (slot_goes goes new_is) (rise_tidied (rows_of queues slots) i (rise_any [] queues slots kept.rise)))
-
--- two readings of one place
-pub same_slot : (slots : List Slot) (i : ℕ) (a b : Slot) → i < length slots → a ≡ get_or slots i a → b ≡ get_or slots i b → a ≡ b
-same_slot slots i a b lt a_is b_is = a_is ∙ get_or_default slots i a b lt ∙ sym b_is
 
 -- the rows of the other keys
 others_below : (key : List ℕ) (rows : List Row) → below_all key_cmp key rows ≡ true → filter (λ row. not (same_bytes key row.0)) rows ≡ rows

@@ -10,11 +10,10 @@ use Rattle.pc_model.specs.Locks.{Queue}
 use Rattle.pc_types.specs.declared.Outcome.TheVariants.{Granted, Queued, Died}
 use Rattle.pc_model.proofs.JoinLaws.{one_key}
 use Rattle.pc_locks.specs.States.{queue_at}
-use Rattle.pc_records.specs.declared.slots.Slot.{Slot}
 use Rattle.pc_records.specs.declared.versions.Writer.{Writer}
 use Rattle.pc_records.specs.Rows.{Row}
 use Rattle.pc_records.specs.Tables.{pending_after}
-use Rattle.pc_records.specs.Slots.{row_of, rows_of, numbers_of, pending_in, pending_of, table_of, has_exclusive, IsSound, AreSound, AreKept, put_slot, granted_slot, at_key}
+use Rattle.pc_records.specs.Slots.{Slot, row_of, rows_of, numbers_of, pending_in, pending_of, table_of, has_exclusive, IsSound, AreSound, AreKept, put_slot, granted_slot, at_key}
 use Rattle.pc_records.proofs.SlotRising.{keys_of}
 use Rattle.pc_records.proofs.SlotKeeping.{kept_same}
 use Rattle.pc_records.proofs.Lookups.{slot_of, of_slot, find_entry, slot_map, slot_at, at_place, key_found}
@@ -37,10 +36,10 @@ rows_set queues (y ∷ ys) zero d x same = ap (λ (r : Row). r ∷ rows_of queue
 rows_set queues (y ∷ ys) (suc i) d x same = ap (λ (rs : List Row). row_of queues y ∷ rs) (rows_set queues ys i d x same)
 
 -- another slot of the same key and number
-pub kept_set : (slots new : List Slot) (free : List ℕ) (most : ℕ) (queues : List Queue) (i : ℕ) (d x : Slot) → new ≡ set slots i x → x.key ≡ (get_or slots i d).key → x.number ≡ (get_or slots i d).number → AreKept slots free most queues → AreKept new free most queues
-kept_set slots new free most queues i d x is key number kept = kept_same slots new free most queues (ap keys_of is ∙ keys_set slots i d x key) (ap numbers_of is ∙ numbers_set slots i d x number) kept
+pub kept_set : (slots new : List Slot) (queues : List Queue) (i : ℕ) (d x : Slot) → new ≡ set slots i x → x.key ≡ (get_or slots i d).key → x.number ≡ (get_or slots i d).number → AreKept slots queues → AreKept new queues
+kept_set slots new queues i d x is key number kept = kept_same slots new queues (ap keys_of is ∙ keys_set slots i d x key) (ap numbers_of is ∙ numbers_set slots i d x number) kept
 
-module _ (point t : ℕ) (class : Class) (value : Option (List ℕ)) (slots new : List Slot) (i : ℕ) (e : Slot) (key : List ℕ) (free : List ℕ) (most : ℕ) (queues : List Queue) (kept : AreKept slots free most queues) (sound : AreSound point queues slots) (lt : i < length slots) (is : e ≡ get_or slots i e) where
+module _ (point t : ℕ) (class : Class) (value : Option (List ℕ)) (slots new : List Slot) (i : ℕ) (e : Slot) (key : List ℕ) (queues : List Queue) (kept : AreKept slots queues) (sound : AreSound point queues slots) (lt : i < length slots) (is : e ≡ get_or slots i e) where
   found_at : same_bytes key e.key ≡ true → slot_of slots key ≡ Some e
   found_at here = slot_at slots key i e kept.rise lt (ap (λ (s : Slot). same_bytes key s.key) (sym is) ∙ here) ∙ ap Some (sym is)
 
@@ -59,8 +58,8 @@ module _ (point t : ℕ) (class : Class) (value : Option (List ℕ)) (slots new 
     number_granted Queued = refl
     number_granted Died = refl
 
-    pub kept_put : AreKept new free most queues
-    kept_put = kept_set slots new free most queues i e (granted_slot o point t class e.live value e) new_is (key_granted o ∙ ap (λ (s : Slot). s.key) is) (number_granted o ∙ ap (λ (s : Slot). s.number) is) kept
+    pub kept_put : AreKept new queues
+    kept_put = kept_set slots new queues i e (granted_slot o point t class e.live value e) new_is (key_granted o ∙ ap (λ (s : Slot). s.key) is) (number_granted o ∙ ap (λ (s : Slot). s.number) is) kept
 
     pub rows_put : rows_of queues new ≡ rows_of queues slots
     rows_put = ap (rows_of queues) new_is ∙ rows_set queues slots i e (granted_slot o point t class e.live value e) (by_outcome o ∙ ap (row_of queues) is)

@@ -1,5 +1,5 @@
--- Slots: the places of records. Each has a number of its own below the capacity, and the queue of requests at that number.
-use Rattle.std.specs.Prelude.{◌≡◌, ℕ, zero, suc, ◌+◌, ◌<◌, ◌≤◌, nat_lt, ◌==◌, ◌&&◌, ◌||◌, not, Bool, true, false, List, [], ◌∷◌, map, length, insert, All, Option, Some, None, is_some, slice_index_or, if◌then◌else◌}
+-- Slots: what the rows of the table have, each with its number and its key. The requests of a slot are the queue at its number.
+use Rattle.std.specs.Prelude.{◌≡◌, ℕ, zero, suc, ◌+◌, ◌<◌, ◌≤◌, ◌==◌, ◌&&◌, ◌||◌, not, Bool, true, false, List, [], ◌∷◌, map, length, insert, All, Option, Some, None, is_some, slice_index_or, if◌then◌else◌}
 use Rattle.std.specs.List.{list_any}
 use Rattle.pc_types.specs.declared.Mode.{Mode}
 use Rattle.pc_types.specs.declared.Class.{Class}
@@ -12,13 +12,50 @@ use Rattle.pc_types.specs.declared.Outcome.TheVariants.{Granted, Queued, Died}
 use Rattle.pc_model.specs.Places.{IsAt, IsGap}
 use Rattle.pc_types.specs.Phases.{same_class}
 use Rattle.pc_locks.specs.States.{queue_at}
-use Rattle.pc_records.specs.declared.slots.Slot.{Slot}
+use Rattle.pc_table.specs.Rows.{Row as TableRow}
+use Rattle.pc_records.specs.declared.slots.Cell.{Cell}
 use Rattle.pc_records.specs.declared.versions.Stable.{Stable}
 use Rattle.pc_records.specs.declared.versions.Stable.TheVariants.{Empty, Held}
 use Rattle.pc_records.specs.declared.versions.Writer.{Writer}
 use Rattle.pc_records.specs.Rows.{Row}
 use Rattle.pc_records.specs.RowSteps.{if_kept, with_row}
 use Rattle.pc_records.specs.Tables.{Pending, Table}
+
+-- a slot: its number, its key, and what is kept of the key: what stands in its place, the version that is held and the point that
+-- it is known to be of, the open transaction that has written the key, and whether the key is in the two sets
+pub record Slot : Type 0 where
+  pub number : ℕ
+  pub key : List ℕ
+  pub live : Option (List ℕ)
+  pub stable : Stable
+  pub mark : ℕ
+  pub writer : Option Writer
+  pub is_in_open_set : Bool
+  pub is_in_closed_set : Bool
+
+-- the slot of the number and the key that has this
+abbrev pub slot_with : ℕ → List ℕ → Cell → Slot
+slot_with number key cell = record { number = number; key = key; live = cell.live; stable = cell.stable; mark = cell.mark; writer = cell.writer; is_in_open_set = cell.is_in_open_set; is_in_closed_set = cell.is_in_closed_set }
+
+-- the slot in a row of the table
+abbrev pub slot_in : TableRow Cell → Slot
+slot_in row = slot_with row.1.0 row.0 row.1.1
+
+-- the slots in the rows of the table
+abbrev pub slots_in : List (TableRow Cell) → List Slot
+slots_in rows = map slot_in rows
+
+-- what is kept of a key that has this committed, a value or absence, and nothing else
+abbrev pub base_cell : Option (List ℕ) → Cell
+base_cell content = record { live = content; stable = Empty; mark = 0; writer = None; is_in_open_set = false; is_in_closed_set = false }
+
+-- what the rows of the table keep of their keys
+abbrev pub cells_in : List (TableRow Cell) → List (List ℕ × Cell)
+cells_in rows = map (λ row. (row.0, row.1.1)) rows
+
+-- what is kept of a pair's key, which has its value committed and nothing else
+abbrev pub base_row : List ℕ × List ℕ → List ℕ × Cell
+base_row pair = (pair.0, base_cell (Some pair.1))
 
 -- what is committed of a key: what its writer found, or else what stands in its place
 abbrev pub committed_by : Option Writer → Option (List ℕ) → Option (List ℕ)
@@ -65,6 +102,15 @@ abbrev pub entries_of : {X : Type 0} → (Slot → Option X) → List Slot → L
 entries_of f [] = []
 entries_of f (slot ∷ slots) = with_entry slot.key (f slot) (entries_of f slots)
 
+-- what each slot's key has that is committed, a value or absence
+abbrev pub contents_of : List Slot → List (List ℕ × Option (List ℕ))
+contents_of slots = map (λ slot. (slot.key, committed slot)) slots
+
+-- the entry of what a slot has committed, which may have no row
+abbrev pub content_in : Option (List ℕ × Cell) → List (List ℕ × Option (List ℕ))
+content_in None = []
+content_in (Some p) = (p.0, committed (slot_with 0 [] p.1)) ∷ []
+
 -- the committed pairs of the slots
 abbrev pub committed_pairs : List Slot → List (List ℕ × List ℕ)
 committed_pairs slots = entries_of committed slots
@@ -86,26 +132,12 @@ abbrev pub times : ℕ → List ℕ → ℕ
 times n [] = 0
 times n (m ∷ ms) = if m == n then times n ms + 1 else times n ms
 
--- how often a number stands among the slots and the free numbers together
-abbrev pub uses : ℕ → List Slot → List ℕ → ℕ
-uses n slots free = times n (numbers_of slots) + times n free
-
--- each number below the capacity is free or is that of just one slot, and there are no others
-pub record AreShared (capacity : ℕ) (slots : List Slot) (free : List ℕ) : Type 0 where
-  pub each : (n : ℕ) → uses n slots free ≡ (if nat_lt n capacity then 1 else 0)
-  pub count : length slots + length free ≡ capacity
-
--- the slots and the free numbers together have the same numbers as before
-pub record AreStillShared (slots : List Slot) (free : List ℕ) (new_slots : List Slot) (new_free : List ℕ) : Type 0 where
-  pub each : (n : ℕ) → uses n new_slots new_free ≡ uses n slots free
-  pub count : length new_slots + length new_free ≡ length slots + length free
-
--- what slots, free numbers and queues keep: the keys rise, the numbers are shared, the list of the free numbers has room
--- for all of them, and a number that no slot has has no request
-pub record AreKept (slots : List Slot) (free : List ℕ) (most : ℕ) (queues : List Queue) : Type 0 where
+-- what slots and queues keep: the keys rise, each slot has a number of its own that has a queue, and a number that no slot has
+-- has no request
+pub record AreKept (slots : List Slot) (queues : List Queue) : Type 0 where
   pub rise : KeysRise (rows_of [] slots)
-  pub shared : AreShared (length queues) slots free
-  pub room : length queues ≤ most
+  pub once : (n : ℕ) → times n (numbers_of slots) ≤ 1
+  pub below : (n : ℕ) → 0 < times n (numbers_of slots) → n < length queues
   pub bare : (n : ℕ) → times n (numbers_of slots) ≡ 0 → queue_at queues n ≡ []
 
 -- the slot at place i has the key, whatever the queues
@@ -120,16 +152,6 @@ IsNewAt slots key i = (queues : List Queue) → IsGap (rows_of queues slots) key
 pub record IsNumbered (slots : List Slot) (number : ℕ) (i : ℕ) : Type 0 where
   pub in_range : i < length slots
   pub has : (slot : Slot) → (slice_index_or slots i slot).number ≡ number
-
--- so many numbers, from n on
-abbrev pub numbers_from : ℕ → ℕ → List ℕ
-numbers_from n zero = []
-numbers_from n (suc count) = n ∷ numbers_from (n + 1) count
-
--- slots of committed pairs, numbered from n on
-abbrev pub slots_from : ℕ → List (List ℕ × List ℕ) → List Slot
-slots_from n [] = []
-slots_from n (pair ∷ pairs) = record { number = n; key = pair.0; live = Some pair.1; stable = Empty; mark = 0; writer = None; is_in_open_set = false; is_in_closed_set = false } ∷ slots_from (n + 1) pairs
 
 -- the rows without the one at place i where nothing keeps it
 abbrev pub tidied : List Row → ℕ → List Row
@@ -220,10 +242,11 @@ granted_slot Granted point t class copy value slot = put_slot point t class copy
 granted_slot Queued point t class copy value slot = slot
 granted_slot Died point t class copy value slot = slot
 
--- a slot of the key that has nothing yet went in at place i, and the transaction has the granted request in its queue
-pub record IsFirstIn (slots : List Slot) (new : List Slot) (queues : List Queue) (i : ℕ) (key : List ℕ) (t : ℕ) (mode : Mode) : Type 0 where
-  pub number : ℕ
-  pub inserted : new ≡ insert slots i (new_slot number key)
+-- a slot of the key, which has the number and nothing else yet, went in, and the transaction has the granted request in its queue
+pub record IsFirstIn (slots : List Slot) (new : List Slot) (queues : List Queue) (key : List ℕ) (t : ℕ) (mode : Mode) (number : ℕ) : Type 0 where
+  pub place : ℕ
+  pub gap : IsNewAt slots key place
+  pub inserted : new ≡ insert slots place (new_slot number key)
   pub queue : queue_at queues number ≡ queue_after [] t mode Granted
 
 -- the slot once its writer, of the class, has committed
@@ -253,6 +276,10 @@ undone point slot = undone_from slot.writer point slot
 -- the slot changed, where it is that of the key
 abbrev pub at_key : (Slot → Slot) → List ℕ → Slot → Slot
 at_key f key slot = if same_bytes key slot.key then f slot else slot
+
+-- the slot changed, where it has the number
+abbrev pub at_number : (Slot → Slot) → ℕ → Slot → Slot
+at_number f number slot = if slot.number == number then f slot else slot
 
 -- the slot changed, where its key is written
 abbrev pub at_writes : (Slot → Slot) → List Write → Slot → Slot

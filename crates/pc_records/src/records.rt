@@ -1,5 +1,5 @@
 //! The records.
-ghost use Rattle.std.specs.Prelude.{◌≡◌, ◌==◌, ◌<◌, ◌≤◌, [], false, true, length, map, is_none, is_some, option_map, Some, IfOk, OnErr, option_copied, vec_capacity, List, ℕ};
+ghost use Rattle.std.specs.Prelude.{◌≡◌, ◌==◌, ◌<◌, ◌≤◌, [], false, true, length, map, is_none, is_some, option_map, Some, IfOk, OnErr, option_copied, List, ℕ};
 ghost use Rattle.std.specs.FinMap.{find};
 ghost use Rattle.pc_types.specs.declared.Mode.TheVariants.{Shared, Exclusive};
 ghost use Rattle.pc_types.specs.declared.Class.TheVariants.{Before, During};
@@ -13,59 +13,59 @@ ghost use Rattle.pc_locks.specs.States.{slots_of};
 ghost use Rattle.pc_records.specs.Rows.{record_of, stored, is_in_open_set, is_in_closed_set, at_point, requests_on};
 ghost use Rattle.pc_records.specs.RowSteps.{is_full_for, is_waiting, rows_after, released_rows, written_row, closed_row, left_rows, committed_row};
 ghost use Rattle.pc_records.specs.Tables.{Pending, kept_of, pending_at, value_of, latest, IsClearFor, pending_after, pending_without};
-ghost use Rattle.pc_records.specs.Slots.{rows_of, pending_of, table_of, AreKept, AreSound, IsNewAt, IsFirstIn};
+ghost use Rattle.pc_records.specs.Slots.{slots_in, rows_of, pending_of, table_of, AreKept, AreSound, IsFirstIn};
+ghost use Rattle.pc_table.specs.Rows.{slot_of, HasRow};
 
-use crate::slots::Slot;
+use crate::slots::Cell;
 use crate::{slots, versions};
 use pc_locks::Locks;
+use pc_table::Table;
 use pc_types::{
     Class, Key, MOST_KEYS, Mode, Outcome, Point, SlotId, TxnNo, Value, Write, copy_content,
 };
 use std::alloc::{AllocError, Global};
+use std::hash::RandomState;
 use std::marker::Model;
 
-/// The records, in slots that rise by key, as their rows do; at most as many as the capacity. Each slot has a number below the capacity
-/// that no other has, and the locks have the requests of its key at that number. The point is that of the last closed set.
+/// The records, in the slots of a table; at most as many as its capacity. The locks have the requests of a slot's key at the
+/// slot's number. The point is that of the last closed set.
 #[derive(Drop)]
 pub struct Records {
-    capacity: u32,
-    slots: Vec<Slot>,
-    free: Vec<SlotId>,
+    table: Table<Cell>,
     locks: Locks,
     point: Point,
 }
 
 impl Model for Records {
-    ghost use Rattle.std.specs.Prelude.{◌≡◌, length, vec_capacity};
+    ghost use Rattle.std.specs.Prelude.{◌≡◌, length};
     ghost use Rattle.pc_records.specs.Tables.{Table};
-    ghost use Rattle.pc_records.specs.Slots.{table_of, AreKept, AreSound};
+    ghost use Rattle.pc_records.specs.Slots.{slots_in, table_of, AreKept, AreSound};
 
     ghost Value = { Table };
 
-    ghost view = { λ a. table_of a.capacity a.locks.queues a.slots.items a.point };
+    ghost view = { λ a. table_of a.table.capacity a.locks.queues (slots_in a.table.rows) a.point };
 
-    ghost invariant = { λ a. AreKept a.slots.items a.free.items (vec_capacity a.free) a.locks.queues × ((length a.locks.queues ≡ a.capacity) × AreSound a.point a.locks.queues a.slots.items) };
+    ghost invariant = { λ a. AreKept (slots_in a.table.rows) a.locks.queues × ((length a.locks.queues ≡ a.table.capacity) × AreSound a.point a.locks.queues (slots_in a.table.rows)) };
 }
 
 impl Records {
-    /// The records of these committed pairs.
+    /// The records of these committed pairs. The seed is that of the hashes of keys: two words given by chance
+    /// (`RandomState::new`), so that whoever picks the keys can't make them share a chain.
     pub fn of_pairs(
         alloc: Global,
         capacity: u32,
         pairs: &[(Key, Value)],
+        seed: RandomState,
     ) -> Result<Records, AllocError>
         requires rise { KeysRise pairs.now }
         requires fit { length pairs.now ≤ capacity }
         requires capacity { (1 ≤ capacity) × (capacity ≤ MOST_KEYS) }
         ensures { IfOk result (λ r. r ≡ record { capacity = capacity; rows = map committed_row pairs.now; pending = []; point = 0 }) }
     {
-        let slots = slots::slots_of(alloc, pairs)?;
-        let free = slots::numbers_between(alloc, pairs.len() as u32, capacity)?;
-        let locks = Locks::new(alloc, capacity)?;
+        let table = slots::table_of(alloc, capacity, pairs, seed)?;
+        let locks = Locks::new(alloc, table.capacity())?;
         Ok(Records {
-            capacity,
-            slots,
-            free,
+            table,
             locks,
             point: Point(0),
         })
@@ -75,21 +75,21 @@ impl Records {
     pub fn is_full_for(&self, key: &Key) -> bool
         ensures { result ≡ is_full_for (kept_of self.now) key.now }
     {
-        slots::is_new(&self.slots, key) && self.slots.len() == self.capacity as usize
+        slots::is_new(&self.table, key) && self.table.is_full()
     }
 
     /// What stands in the key's place: what an open transaction has written last, or else the committed value.
     pub fn latest(&self, key: &Key) -> Option<&Value>
         ensures { option_copied result ≡ latest self.now key.now }
     {
-        slots::latest_at(&self.slots, key)
+        slots::latest_at(&self.table, key)
     }
 
     /// What a key of the closed set has at the point.
     pub fn at_point(&self, key: &Key) -> Option<&Value>
         ensures { option_copied result ≡ at_point (record_of self.now.rows key.now) }
     {
-        slots::value_at_point(&self.slots, key)
+        slots::value_at_point(&self.table, key)
     }
 
     /// The committed pairs, rising by key.
@@ -97,14 +97,14 @@ impl Records {
         ensures rise { IfOk result (λ pairs. KeysRise pairs.items) }
         ensures contents { IfOk result (λ pairs. (key : List ℕ) → get (database_of pairs.items) key ≡ stored (record_of self.now.rows key)) }
     {
-        slots::committed_pairs(alloc, &self.slots)
+        slots::committed_pairs(alloc, &self.table)
     }
 
     /// Whether the key is in the open set.
     pub fn is_in_open_set(&self, key: &Key) -> bool
         ensures { result ≡ is_in_open_set (record_of self.now.rows key.now) }
     {
-        slots::is_in_open_set_at(&self.slots, key)
+        slots::is_in_open_set_at(&self.table, key)
     }
 
     /// Whether a request of the transaction waits.
@@ -130,8 +130,7 @@ impl Records {
     {
         share(
             alloc,
-            &mut self.slots,
-            &mut self.free,
+            &mut self.table,
             &mut self.locks,
             self.point,
             transaction,
@@ -161,8 +160,7 @@ impl Records {
     {
         write(
             alloc,
-            &mut self.slots,
-            &mut self.free,
+            &mut self.table,
             &mut self.locks,
             self.point,
             transaction,
@@ -177,13 +175,7 @@ impl Records {
         requires { (q : List ℕ) (p : Pending) → pending_at self.old q ≡ Some p → (p.by == transaction) ≡ false }
         ensures { self.new ≡ record self.old { rows = released_rows transaction self.old.rows } }
     {
-        release(
-            &mut self.slots,
-            &mut self.free,
-            &mut self.locks,
-            self.point,
-            transaction,
-        );
+        release(&mut self.table, &mut self.locks, self.point, transaction);
     }
 
     /// The transaction of these writes, which stand in their places, is committed: they are the keys' values, and their
@@ -195,7 +187,7 @@ impl Records {
         ensures pending { (q : List ℕ) → pending_at self.new q ≡ pending_without writes.now self.old q }
         ensures point { self.new.point ≡ self.old.point }
     {
-        slots::settle_all(&mut self.slots, writes, self.point);
+        slots::settle_all(&mut self.table, writes, self.point);
     }
 
     /// The transaction of these writes is undone: what was committed of their keys stands in their places again. It takes
@@ -206,7 +198,7 @@ impl Records {
         ensures pending { (q : List ℕ) → pending_at self.new q ≡ pending_without writes.now self.old q }
         ensures point { self.new.point ≡ self.old.point }
     {
-        slots::undo_all(&mut self.slots, writes, self.point);
+        slots::undo_all(&mut self.table, writes, self.point);
     }
 
     /// The open set is closed, as that of the point, and another one begins.
@@ -216,7 +208,7 @@ impl Records {
         requires during { (q : List ℕ) (p : Pending) → pending_at self.old q ≡ Some p → p.class ≡ During }
         ensures { self.new ≡ record self.old { rows = map closed_row self.old.rows; point = point } }
     {
-        slots::close_slots(&mut self.slots);
+        slots::close_slots(&mut self.table);
         self.point = point;
     }
 
@@ -225,46 +217,40 @@ impl Records {
         requires { (p : Pending) → pending_at self.old key.now ≡ Some p → same_class p.class During ≡ false }
         ensures { self.new ≡ record self.old { rows = left_rows self.old.rows key.now } }
     {
-        take(
-            &mut self.slots,
-            &mut self.free,
-            &self.locks,
-            self.point,
-            key,
-        );
+        take(&mut self.table, &self.locks, self.point, key);
     }
 }
 
 // Answers the transaction's request to read the key, or memory ran out and nothing changed.
 fn share(
     alloc: Global,
-    slots: &mut Vec<Slot>,
-    free: &mut Vec<SlotId>,
+    table: &mut Table<Cell>,
     locks: &mut Locks,
     point: Point,
     transaction: TxnNo,
     key: &Key,
 ) -> Result<Outcome, AllocError>
-    requires kept { AreKept slots.old.items free.old.items (vec_capacity free.old) locks.old.queues }
-    requires sound { AreSound point locks.old.queues slots.old.items }
-    requires room { is_none (record_of (rows_of locks.old.queues slots.old.items) key.now) ≡ true → 0 < length free.old.items }
+    requires kept { AreKept (slots_in table.old.rows) locks.old.queues }
+    requires sound { AreSound point locks.old.queues (slots_in table.old.rows) }
+    requires count { length locks.old.queues ≡ table.old.capacity }
     requires ready { states.is_waiting locks.old transaction ≡ false }
-    ensures told { IfOk result (λ answer. answer ≡ outcome (requests_on (record_of (rows_of locks.old.queues slots.old.items) key.now)) transaction Shared) }
-    ensures rows { IfOk result (λ answer. rows_of locks.new.queues slots.new.items ≡ rows_after (rows_of locks.old.queues slots.old.items) key.now transaction Shared answer) }
-    ensures clear { IfOk result (λ answer. answer ≡ Granted → IsClearFor (table_of (length locks.old.queues) locks.old.queues slots.old.items point) key.now transaction) }
-    ensures err { OnErr result (rows_of locks.new.queues slots.new.items ≡ rows_of locks.old.queues slots.old.items) }
-    ensures pending { pending_of slots.new.items ≡ pending_of slots.old.items }
-    ensures kept { AreKept slots.new.items free.new.items (vec_capacity free.new) locks.new.queues }
-    ensures sound { AreSound point locks.new.queues slots.new.items }
-    ensures count { length locks.new.queues ≡ length locks.old.queues }
+    ensures told { IfOk result (λ answer. answer ≡ outcome (requests_on (record_of (rows_of locks.old.queues (slots_in table.old.rows)) key.now)) transaction Shared) }
+    ensures rows { IfOk result (λ answer. rows_of locks.new.queues (slots_in table.new.rows) ≡ rows_after (rows_of locks.old.queues (slots_in table.old.rows)) key.now transaction Shared answer) }
+    ensures clear { IfOk result (λ answer. answer ≡ Granted → IsClearFor (table_of (length locks.old.queues) locks.old.queues (slots_in table.old.rows) point) key.now transaction) }
+    ensures err { OnErr result (rows_of locks.new.queues (slots_in table.new.rows) ≡ rows_of locks.old.queues (slots_in table.old.rows)) }
+    ensures pending { pending_of (slots_in table.new.rows) ≡ pending_of (slots_in table.old.rows) }
+    ensures kept { AreKept (slots_in table.new.rows) locks.new.queues }
+    ensures sound { AreSound point locks.new.queues (slots_in table.new.rows) }
+    ensures count { length locks.new.queues ≡ table.new.capacity }
+    ensures capacity { table.new.capacity ≡ table.old.capacity }
 {
     let mode = Mode::Shared;
-    match slots::place(slots, key) {
-        Ok(i) => {
-            let number = slots[i].number;
-            locks.request(transaction, number, mode)
+    match table.find(key) {
+        Some(id) => locks.request(transaction, id, mode),
+        None => {
+            request_new(alloc, table, locks, point, transaction, key, mode)?;
+            Ok(Outcome::Granted)
         }
-        Err(i) => request_new(alloc, slots, free, locks, point, i, transaction, key, mode),
     }
 }
 
@@ -272,8 +258,7 @@ fn share(
 // nothing changed. What the slot may have to keep is copied before the locks are asked.
 fn write(
     alloc: Global,
-    slots: &mut Vec<Slot>,
-    free: &mut Vec<SlotId>,
+    table: &mut Table<Cell>,
     locks: &mut Locks,
     point: Point,
     transaction: TxnNo,
@@ -281,104 +266,100 @@ fn write(
     key: &Key,
     value: Option<Value>,
 ) -> Result<Outcome, AllocError>
-    requires kept { AreKept slots.old.items free.old.items (vec_capacity free.old) locks.old.queues }
-    requires sound { AreSound point locks.old.queues slots.old.items }
-    requires room { is_none (record_of (rows_of locks.old.queues slots.old.items) key.now) ≡ true → 0 < length free.old.items }
+    requires kept { AreKept (slots_in table.old.rows) locks.old.queues }
+    requires sound { AreSound point locks.old.queues (slots_in table.old.rows) }
+    requires count { length locks.old.queues ≡ table.old.capacity }
     requires ready { states.is_waiting locks.old transaction ≡ false }
-    requires outside { class ≡ Before → is_in_closed_set (record_of (rows_of locks.old.queues slots.old.items) key.now) ≡ false }
-    requires again { (p : Pending) → find key_cmp key.now (pending_of slots.old.items) ≡ Some p → p.by ≡ transaction → p.class ≡ class }
-    ensures told { IfOk result (λ answer. answer ≡ outcome (requests_on (record_of (rows_of locks.old.queues slots.old.items) key.now)) transaction Exclusive) }
-    ensures rows { IfOk result (λ answer. rows_of locks.new.queues slots.new.items ≡ rows_after (rows_of locks.old.queues slots.old.items) key.now transaction Exclusive answer) }
-    ensures clear { IfOk result (λ answer. answer ≡ Granted → IsClearFor (table_of (length locks.old.queues) locks.old.queues slots.old.items point) key.now transaction) }
-    ensures err { OnErr result (rows_of locks.new.queues slots.new.items ≡ rows_of locks.old.queues slots.old.items) }
-    ensures pending { IfOk result (λ answer. (q : List ℕ) → find key_cmp q (pending_of slots.new.items) ≡ pending_after answer (table_of (length locks.old.queues) locks.old.queues slots.old.items point) key.now (record { by = transaction; class = class; value = value }) q) }
-    ensures still { OnErr result (pending_of slots.new.items ≡ pending_of slots.old.items) }
-    ensures kept { AreKept slots.new.items free.new.items (vec_capacity free.new) locks.new.queues }
-    ensures sound { AreSound point locks.new.queues slots.new.items }
-    ensures count { length locks.new.queues ≡ length locks.old.queues }
+    requires outside { class ≡ Before → is_in_closed_set (record_of (rows_of locks.old.queues (slots_in table.old.rows)) key.now) ≡ false }
+    requires again { (p : Pending) → find key_cmp key.now (pending_of (slots_in table.old.rows)) ≡ Some p → p.by ≡ transaction → p.class ≡ class }
+    ensures told { IfOk result (λ answer. answer ≡ outcome (requests_on (record_of (rows_of locks.old.queues (slots_in table.old.rows)) key.now)) transaction Exclusive) }
+    ensures rows { IfOk result (λ answer. rows_of locks.new.queues (slots_in table.new.rows) ≡ rows_after (rows_of locks.old.queues (slots_in table.old.rows)) key.now transaction Exclusive answer) }
+    ensures clear { IfOk result (λ answer. answer ≡ Granted → IsClearFor (table_of (length locks.old.queues) locks.old.queues (slots_in table.old.rows) point) key.now transaction) }
+    ensures err { OnErr result (rows_of locks.new.queues (slots_in table.new.rows) ≡ rows_of locks.old.queues (slots_in table.old.rows)) }
+    ensures pending { IfOk result (λ answer. (q : List ℕ) → find key_cmp q (pending_of (slots_in table.new.rows)) ≡ pending_after answer (table_of (length locks.old.queues) locks.old.queues (slots_in table.old.rows) point) key.now (record { by = transaction; class = class; value = value }) q) }
+    ensures still { OnErr result (pending_of (slots_in table.new.rows) ≡ pending_of (slots_in table.old.rows)) }
+    ensures kept { AreKept (slots_in table.new.rows) locks.new.queues }
+    ensures sound { AreSound point locks.new.queues (slots_in table.new.rows) }
+    ensures count { length locks.new.queues ≡ table.new.capacity }
+    ensures capacity { table.new.capacity ≡ table.old.capacity }
 {
     let mode = Mode::Exclusive;
-    match slots::place(slots, key) {
-        Ok(i) => {
-            let slot = &slots[i];
-            let number = slot.number;
-            let copy = copy_content(alloc, &slot.live)?;
-            let answer = locks.request(transaction, number, mode)?;
-            slots::put_granted(slots, i, point, transaction, class, copy, value, answer);
+    match table.find(key) {
+        Some(id) => {
+            let copy = copy_content(alloc, &table.get(id).live)?;
+            let answer = locks.request(transaction, id, mode)?;
+            slots::put_granted(table, id, point, transaction, class, copy, value, answer);
             Ok(answer)
         }
-        Err(i) => {
-            let answer = request_new(alloc, slots, free, locks, point, i, transaction, key, mode)?;
-            slots::put_at(slots, i, point, transaction, class, None, value);
-            Ok(answer)
+        None => {
+            let id = request_new(alloc, table, locks, point, transaction, key, mode)?;
+            slots::put_at(table, id, point, transaction, class, None, value);
+            Ok(Outcome::Granted)
         }
     }
 }
 
-// Answers the transaction's request of a key that has no slot. A slot of it goes in at the place, with the last of the free
-// numbers; where memory ran out nothing changed.
+// Gives a key that has no slot one, with the transaction's request of it, which is granted; where memory ran out nothing
+// changed.
 fn request_new(
     alloc: Global,
-    slots: &mut Vec<Slot>,
-    free: &mut Vec<SlotId>,
+    table: &mut Table<Cell>,
     locks: &mut Locks,
     point: Point,
-    i: usize,
     transaction: TxnNo,
     key: &Key,
     mode: Mode,
-) -> Result<Outcome, AllocError>
-    requires kept { AreKept slots.old.items free.old.items (vec_capacity free.old) locks.old.queues }
-    requires sound { AreSound point locks.old.queues slots.old.items }
-    requires room { 0 < length free.old.items }
+) -> Result<SlotId, AllocError>
+    requires kept { AreKept (slots_in table.old.rows) locks.old.queues }
+    requires sound { AreSound point locks.old.queues (slots_in table.old.rows) }
+    requires count { length locks.old.queues ≡ table.old.capacity }
     requires ready { states.is_waiting locks.old transaction ≡ false }
-    requires place { IsNewAt slots.old.items key.now i }
-    requires behind { i ≤ length slots.old.items }
-    ensures told { IfOk result (λ answer. answer ≡ Granted) }
-    ensures rows { IfOk result (λ answer. rows_of locks.new.queues slots.new.items ≡ rows_after (rows_of locks.old.queues slots.old.items) key.now transaction mode Granted) }
-    ensures slot { IfOk result (λ answer. IsFirstIn slots.old.items slots.new.items locks.new.queues i key.now transaction mode) }
-    ensures err { OnErr result (rows_of locks.new.queues slots.new.items ≡ rows_of locks.old.queues slots.old.items) }
-    ensures pending { pending_of slots.new.items ≡ pending_of slots.old.items }
-    ensures kept { AreKept slots.new.items free.new.items (vec_capacity free.new) locks.new.queues }
-    ensures sound { AreSound point locks.new.queues slots.new.items }
-    ensures count { length locks.new.queues ≡ length locks.old.queues }
+    requires new { slot_of table.old.rows key.now ≡ None }
+    ensures told { IfOk result (λ id. outcome (requests_on (record_of (rows_of locks.old.queues (slots_in table.old.rows)) key.now)) transaction mode ≡ Granted) }
+    ensures rows { IfOk result (λ id. rows_of locks.new.queues (slots_in table.new.rows) ≡ rows_after (rows_of locks.old.queues (slots_in table.old.rows)) key.now transaction mode Granted) }
+    ensures slot { IfOk result (IsFirstIn (slots_in table.old.rows) (slots_in table.new.rows) locks.new.queues key.now transaction mode) }
+    ensures row { IfOk result (HasRow table.new.rows) }
+    ensures err { OnErr result (rows_of locks.new.queues (slots_in table.new.rows) ≡ rows_of locks.old.queues (slots_in table.old.rows)) }
+    ensures pending { pending_of (slots_in table.new.rows) ≡ pending_of (slots_in table.old.rows) }
+    ensures kept { AreKept (slots_in table.new.rows) locks.new.queues }
+    ensures sound { AreSound point locks.new.queues (slots_in table.new.rows) }
+    ensures count { length locks.new.queues ≡ table.new.capacity }
+    ensures capacity { table.new.capacity ≡ table.old.capacity }
 {
-    let key = key.copy(alloc)?;
-    slots.reserve(1)?;
-    let last = free.len() - 1;
-    let number = free[last];
-    let answer = locks.request(transaction, number, mode)?;
-    let slot = slots::bare_slot(number, key);
-    slots::insert_slot(slots, i, slot);
-    free.truncate(last);
-    Ok(answer)
+    let id = slots::make(alloc, table, key)?;
+    match locks.request(transaction, id, mode) {
+        Ok(_) => Ok(id),
+        Err(error) => {
+            drop(table.remove(id));
+            Err(error)
+        }
+    }
 }
 
 // Removes the first request of the transaction's list, and frees its slot where nothing keeps it then; false where there
 // is none.
 fn release_next(
-    slots: &mut Vec<Slot>,
-    free: &mut Vec<SlotId>,
+    table: &mut Table<Cell>,
     locks: &mut Locks,
     point: Point,
     transaction: TxnNo,
 ) -> bool
-    requires kept { AreKept slots.old.items free.old.items (vec_capacity free.old) locks.old.queues }
-    requires sound { AreSound point locks.old.queues slots.old.items }
-    requires over { (q : List ℕ) (p : Pending) → find key_cmp q (pending_of slots.old.items) ≡ Some p → (p.by == transaction) ≡ false }
-    ensures kept { AreKept slots.new.items free.new.items (vec_capacity free.new) locks.new.queues }
-    ensures sound { AreSound point locks.new.queues slots.new.items }
-    ensures count { length locks.new.queues ≡ length locks.old.queues }
-    ensures pending { pending_of slots.new.items ≡ pending_of slots.old.items }
-    ensures rows { released_rows transaction (rows_of locks.new.queues slots.new.items) ≡ released_rows transaction (rows_of locks.old.queues slots.old.items) }
+    requires kept { AreKept (slots_in table.old.rows) locks.old.queues }
+    requires sound { AreSound point locks.old.queues (slots_in table.old.rows) }
+    requires count { length locks.old.queues ≡ table.old.capacity }
+    requires over { (q : List ℕ) (p : Pending) → find key_cmp q (pending_of (slots_in table.old.rows)) ≡ Some p → (p.by == transaction) ≡ false }
+    ensures kept { AreKept (slots_in table.new.rows) locks.new.queues }
+    ensures sound { AreSound point locks.new.queues (slots_in table.new.rows) }
+    ensures count { length locks.new.queues ≡ table.new.capacity }
+    ensures capacity { table.new.capacity ≡ table.old.capacity }
+    ensures pending { pending_of (slots_in table.new.rows) ≡ pending_of (slots_in table.old.rows) }
+    ensures rows { released_rows transaction (rows_of locks.new.queues (slots_in table.new.rows)) ≡ released_rows transaction (rows_of locks.old.queues (slots_in table.old.rows)) }
     ensures shrinks { result ≡ true → length (slots_of locks.new.lists transaction) < length (slots_of locks.old.lists transaction) }
-    ensures done { result ≡ false → rows_of locks.new.queues slots.new.items ≡ released_rows transaction (rows_of locks.old.queues slots.old.items) }
+    ensures done { result ≡ false → rows_of locks.new.queues (slots_in table.new.rows) ≡ released_rows transaction (rows_of locks.old.queues (slots_in table.old.rows)) }
 {
     match locks.release_one(transaction) {
-        Some(number) => {
-            if let Some(i) = slots::slot_numbered(slots, number) {
-                slots::tidy(slots, free, locks, point, i);
-            }
+        Some(id) => {
+            slots::tidy(table, locks, point, id);
             true
         }
         None => false,
@@ -386,37 +367,35 @@ fn release_next(
 }
 
 // Removes all requests of the transaction, one after the other.
-fn release(
-    slots: &mut Vec<Slot>,
-    free: &mut Vec<SlotId>,
-    locks: &mut Locks,
-    point: Point,
-    transaction: TxnNo,
-)
-    requires kept { AreKept slots.old.items free.old.items (vec_capacity free.old) locks.old.queues }
-    requires sound { AreSound point locks.old.queues slots.old.items }
-    requires over { (q : List ℕ) (p : Pending) → find key_cmp q (pending_of slots.old.items) ≡ Some p → (p.by == transaction) ≡ false }
-    ensures kept { AreKept slots.new.items free.new.items (vec_capacity free.new) locks.new.queues }
-    ensures sound { AreSound point locks.new.queues slots.new.items }
-    ensures count { length locks.new.queues ≡ length locks.old.queues }
-    ensures pending { pending_of slots.new.items ≡ pending_of slots.old.items }
-    ensures rows { rows_of locks.new.queues slots.new.items ≡ released_rows transaction (rows_of locks.old.queues slots.old.items) }
+fn release(table: &mut Table<Cell>, locks: &mut Locks, point: Point, transaction: TxnNo)
+    requires kept { AreKept (slots_in table.old.rows) locks.old.queues }
+    requires sound { AreSound point locks.old.queues (slots_in table.old.rows) }
+    requires count { length locks.old.queues ≡ table.old.capacity }
+    requires over { (q : List ℕ) (p : Pending) → find key_cmp q (pending_of (slots_in table.old.rows)) ≡ Some p → (p.by == transaction) ≡ false }
+    ensures kept { AreKept (slots_in table.new.rows) locks.new.queues }
+    ensures sound { AreSound point locks.new.queues (slots_in table.new.rows) }
+    ensures count { length locks.new.queues ≡ table.new.capacity }
+    ensures capacity { table.new.capacity ≡ table.old.capacity }
+    ensures pending { pending_of (slots_in table.new.rows) ≡ pending_of (slots_in table.old.rows) }
+    ensures rows { rows_of locks.new.queues (slots_in table.new.rows) ≡ released_rows transaction (rows_of locks.old.queues (slots_in table.old.rows)) }
 {
-    while release_next(slots, free, locks, point, transaction) {}
+    while release_next(table, locks, point, transaction) {}
 }
 
 // The key is taken, and its slot is free where nothing keeps it.
-fn take(slots: &mut Vec<Slot>, free: &mut Vec<SlotId>, locks: &Locks, point: Point, key: &Key)
-    requires kept { AreKept slots.old.items free.old.items (vec_capacity free.old) locks.now.queues }
-    requires sound { AreSound point locks.now.queues slots.old.items }
-    requires over { (p : Pending) → find key_cmp key.now (pending_of slots.old.items) ≡ Some p → same_class p.class During ≡ false }
-    ensures kept { AreKept slots.new.items free.new.items (vec_capacity free.new) locks.now.queues }
-    ensures sound { AreSound point locks.now.queues slots.new.items }
-    ensures pending { pending_of slots.new.items ≡ pending_of slots.old.items }
-    ensures rows { rows_of locks.now.queues slots.new.items ≡ left_rows (rows_of locks.now.queues slots.old.items) key.now }
+fn take(table: &mut Table<Cell>, locks: &Locks, point: Point, key: &Key)
+    requires kept { AreKept (slots_in table.old.rows) locks.now.queues }
+    requires sound { AreSound point locks.now.queues (slots_in table.old.rows) }
+    requires count { length locks.now.queues ≡ table.old.capacity }
+    requires over { (p : Pending) → find key_cmp key.now (pending_of (slots_in table.old.rows)) ≡ Some p → same_class p.class During ≡ false }
+    ensures kept { AreKept (slots_in table.new.rows) locks.now.queues }
+    ensures sound { AreSound point locks.now.queues (slots_in table.new.rows) }
+    ensures capacity { table.new.capacity ≡ table.old.capacity }
+    ensures pending { pending_of (slots_in table.new.rows) ≡ pending_of (slots_in table.old.rows) }
+    ensures rows { rows_of locks.now.queues (slots_in table.new.rows) ≡ left_rows (rows_of locks.now.queues (slots_in table.old.rows)) key.now }
 {
-    if let Ok(i) = slots::place(slots, key) {
-        slots::mark_taken(slots, i, point);
-        slots::tidy(slots, free, locks, point, i);
+    if let Some(id) = table.find(key) {
+        slots::mark_taken(table, id, point);
+        slots::tidy(table, locks, point, id);
     }
 }

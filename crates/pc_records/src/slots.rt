@@ -1,26 +1,28 @@
-//! Slots, which rise by key. Each has a number of its own, and its requests are those of the locks' queue at the number.
-ghost use Rattle.std.specs.Prelude.{◌≡◌, ◌<◌, ◌≤◌, ◌+◌, [], true, insert, map, length, IfOk, IfErr, MatchOption, is_none, option_copied, slice_index_or, slice_set, vec_len, vec_capacity, List, ℕ};
+//! Slots: what the table's rows have, each with its number and its key. The requests of a slot are those of the locks' queue
+//! at its number.
+ghost use Rattle.std.specs.Prelude.{◌≡◌, ◌<◌, ◌≤◌, ◌++◌, [], map, length, IfOk, OnOk, OnErr, None, Some, Ok, is_none, option_copied, option_map, List, ℕ};
 ghost use Rattle.std.specs.FinMap.{find};
 ghost use Rattle.pc_model.specs.Maps.{get};
-ghost use Rattle.pc_model.specs.Database.{KeysRise, key_cmp, database_of, same_bytes};
+ghost use Rattle.pc_model.specs.Database.{KeysRise, key_cmp, database_of};
 ghost use Rattle.pc_model.specs.Locks.{Queue};
 ghost use Rattle.pc_locks.specs.States.{queue_at};
+ghost use Rattle.pc_table.specs.Rows.{slot_of, in_slot, HasRow, IsNewSlot, AreInSlots, with_row, with_record};
 ghost use Rattle.pc_records.specs.Rows.{record_of, stored, is_in_open_set, at_point};
 ghost use Rattle.pc_records.specs.Tables.{read_of};
-ghost use Rattle.pc_records.specs.Slots.{rows_of, pending_of, numbers_of, times, AreKept, AreSound, is_kept_slot, IsSlotOf, IsNewAt, IsNumbered, numbers_from, slots_from, new_slot, tidied, put_slot, granted_slot, settled, undone, at_key, at_writes, closed_slot, taken_slot};
+ghost use Rattle.pc_records.specs.Slots.{slot_with, slots_in, with_entry, content_in, base_cell, cells_in, base_row, contents_of, rows_of, pending_of, AreKept, AreSound, is_kept_slot, IsNumbered, tidied, put_slot, granted_slot, settled, undone, at_key, at_number, at_writes, closed_slot, taken_slot};
 
 use crate::versions;
 use crate::versions::{Stable, Writer};
 use pc_locks::Locks;
-use pc_types::{Class, Key, Outcome, Point, SlotId, TxnNo, Value, Write};
+use pc_replay::first_of_each;
+use pc_table::{Blank, Table};
+use pc_types::{Class, Key, MOST_KEYS, Outcome, Point, SlotId, TxnNo, Value, Write};
 use std::alloc::{AllocError, Global};
+use std::hash::RandomState;
 
 /// What is kept of a key, but its requests.
 #[derive(Drop)]
-pub(crate) struct Slot {
-    /// Of all slots this one alone has the number.
-    pub(crate) number: SlotId,
-    pub(crate) key: Key,
+pub(crate) struct Cell {
     /// What stands in the key's place, a value or absence: what an open transaction has written last, or else what is
     /// committed.
     pub(crate) live: Option<Value>,
@@ -36,38 +38,23 @@ pub(crate) struct Slot {
     pub(crate) is_in_closed_set: bool,
 }
 
-// A slot for each pair, numbered from 0.
-pub(crate) fn slots_of(alloc: Global, pairs: &[(Key, Value)]) -> Result<Vec<Slot>, AllocError>
-    requires { length pairs.now ≤ 4294967295 }
-    ensures { IfOk result (λ slots. slots.items ≡ slots_from 0 pairs.now) }
-{
-    let mut slots = Vec::new(alloc);
-    slots.reserve(pairs.len())?;
-    for (i, pair) in pairs.iter().enumerate() {
-        let key = pair.0.copy(alloc)?;
-        let value = pair.1.copy(alloc)?;
-        slots.push(Slot {
-            number: SlotId(i as u32),
-            key,
-            live: Some(value),
-            stable: Stable::Empty,
-            mark: Point(0),
-            writer: None,
-            is_in_open_set: false,
-            is_in_closed_set: false,
-        })?;
+impl Blank for Cell {
+    ghost use Rattle.std.specs.Prelude.{None};
+    ghost use Rattle.pc_records.specs.Slots.{base_cell};
+
+    ghost blank = { base_cell None };
+
+    fn blank() -> Cell {
+        cell_with(None)
     }
-    Ok(slots)
 }
 
-// A slot of a key that has nothing yet.
-pub(crate) fn bare_slot(number: SlotId, key: Key) -> Slot
-    ensures { result ≡ new_slot number key }
+// What is kept of a key that has this committed, a value or absence, and nothing else.
+fn cell_with(content: Option<Value>) -> Cell
+    ensures { result ≡ base_cell content }
 {
-    Slot {
-        number,
-        key,
-        live: None,
+    Cell {
+        live: content,
         stable: Stable::Empty,
         mark: Point(0),
         writer: None,
@@ -76,157 +63,205 @@ pub(crate) fn bare_slot(number: SlotId, key: Key) -> Slot
     }
 }
 
-// The numbers from the first one to below the last one, with room for as many as the last one says.
-pub(crate) fn numbers_between(
+// A table with a slot for each pair.
+pub(crate) fn table_of(
     alloc: Global,
-    first: u32,
-    last: u32,
-) -> Result<Vec<SlotId>, AllocError>
-    requires { first ≤ last }
-    ensures numbers { IfOk result (λ numbers. numbers.items ≡ numbers_from first (length numbers.items)) }
-    ensures count { IfOk result (λ numbers. first + length numbers.items ≡ last) }
-    ensures room { IfOk result (λ numbers. last ≤ vec_capacity numbers) }
+    capacity: u32,
+    pairs: &[(Key, Value)],
+    seed: RandomState,
+) -> Result<Table<Cell>, AllocError>
+    requires rise { KeysRise pairs.now }
+    requires capacity { capacity ≤ MOST_KEYS }
+    ensures capacity { IfOk result (λ table. table.capacity ≡ capacity) }
+    ensures cells { IfOk result (λ table. cells_in table.rows ≡ map base_row pairs.now) }
 {
-    let mut numbers = Vec::with_capacity(alloc, last as usize)?;
-    for n in first..last {
-        numbers.push_reserved(SlotId(n));
+    let mut table = Table::new(alloc, capacity, seed)?;
+    for pair in pairs {
+        add(alloc, &mut table, &pair.0, &pair.1)?;
     }
-    Ok(numbers)
+    Ok(table)
 }
 
-// Where the key is, or where it would go, by a search that halves the slots.
-pub(crate) fn place(slots: &[Slot], key: &Key) -> Result<usize, usize>
-    requires { KeysRise (rows_of [] slots.now) }
-    ensures at { IfOk result (IsSlotOf slots.now key.now) }
-    ensures here { IfOk result (λ i. (d : Slot) → same_bytes key.now (slice_index_or slots.now i d).key ≡ true) }
-    ensures within { IfOk result (λ i. i < length slots.now) }
-    ensures gap { IfErr result (IsNewAt slots.now key.now) }
-    ensures behind { IfErr result (λ i. i ≤ length slots.now) }
+// A slot of the key, which has none, with the value.
+fn add(alloc: Global, table: &mut Table<Cell>, key: &Key, value: &Value) -> Result<(), AllocError>
+    requires { slot_of table.old.rows key.now ≡ None }
+    ensures { OnOk result ((id : ℕ) × (table.new ≡ with_row table.old key.now id (base_cell (Some value.now)))) }
 {
-    slots.binary_search_by(|slot| slot.key.compare(key))
+    let value = value.copy(alloc)?;
+    let id = make(alloc, table, key)?;
+    let cell = table.get_mut(id);
+    *cell = cell_with(Some(value));
+    Ok(())
 }
 
-// The slot that has the number.
-pub(crate) fn slot_numbered(slots: &[Slot], number: SlotId) -> Option<usize>
-    ensures { MatchOption result (times number (numbers_of slots.now) ≡ 0) (IsNumbered slots.now number) }
+// A slot of the key, which has none and gets one; it fails only where memory ran out, or there is no free slot.
+pub(crate) fn make(alloc: Global, table: &mut Table<Cell>, key: &Key) -> Result<SlotId, AllocError>
+    requires { slot_of table.old.rows key.now ≡ None }
+    ensures made { IfOk result (λ id. table.new ≡ with_row table.old key.now id (base_cell None)) }
+    ensures fresh { IfOk result (IsNewSlot table.old) }
+    ensures slot { IfOk result (λ id. slot_of table.new.rows key.now ≡ Some id) }
+    ensures row { IfOk result (HasRow table.new.rows) }
+    ensures changed { IfOk result (λ id. (cell : Cell) → with_record table.new id cell ≡ with_row table.old key.now id cell) }
+    ensures err { OnErr result (table.new ≡ table.old) }
+    ensures before { AreInSlots table.old }
+    ensures after { AreInSlots table.new }
 {
-    for (i, slot) in slots.iter().enumerate() {
-        if slot.number.0 == number.0 {
-            return Some(i);
-        }
+    match table.find_or_make(alloc, key) {
+        Ok(id) => Ok(id),
+        Err(_) => Err(AllocError),
     }
-    None
 }
 
 // Whether the key has no record.
-pub(crate) fn is_new(slots: &[Slot], key: &Key) -> bool
-    requires { KeysRise (rows_of [] slots.now) }
-    ensures { (queues : List Queue) → result ≡ is_none (record_of (rows_of queues slots.now) key.now) }
+pub(crate) fn is_new(table: &Table<Cell>, key: &Key) -> bool
+    ensures { (queues : List Queue) → result ≡ is_none (record_of (rows_of queues (slots_in table.now.rows)) key.now) }
 {
-    match place(slots, key) {
-        Ok(_) => false,
-        Err(_) => true,
+    match table.find(key) {
+        Some(_) => false,
+        None => true,
     }
 }
 
 // What stands in the key's place.
-pub(crate) fn latest_at<'a>(slots: &'a [Slot], key: &Key) -> Option<&'a Value>
-    requires { KeysRise (rows_of [] slots.now) }
-    ensures { (queues : List Queue) → option_copied result ≡ read_of (find key_cmp key.now (pending_of slots.now)) (stored (record_of (rows_of queues slots.now) key.now)) }
+pub(crate) fn latest_at<'a>(table: &'a Table<Cell>, key: &Key) -> Option<&'a Value>
+    ensures { (queues : List Queue) → option_copied result ≡ read_of (find key_cmp key.now (pending_of (slots_in table.now.rows))) (stored (record_of (rows_of queues (slots_in table.now.rows)) key.now)) }
 {
-    match place(slots, key) {
-        Ok(i) => slots[i].live.as_ref(),
-        Err(_) => None,
+    match table.find(key) {
+        Some(id) => table.get(id).live.as_ref(),
+        None => None,
     }
 }
 
 // What the key has at the point, where it is in the closed set.
-pub(crate) fn value_at_point<'a>(slots: &'a [Slot], key: &Key) -> Option<&'a Value>
-    requires { KeysRise (rows_of [] slots.now) }
-    ensures { (queues : List Queue) → option_copied result ≡ at_point (record_of (rows_of queues slots.now) key.now) }
+pub(crate) fn value_at_point<'a>(table: &'a Table<Cell>, key: &Key) -> Option<&'a Value>
+    ensures { (queues : List Queue) → option_copied result ≡ at_point (record_of (rows_of queues (slots_in table.now.rows)) key.now) }
 {
-    match place(slots, key) {
-        Ok(i) => versions::pinned_of(&slots[i]),
-        Err(_) => None,
+    match table.find(key) {
+        Some(id) => versions::pinned_of(table.get(id)),
+        None => None,
     }
 }
 
-// The pairs of the slots that have a committed value.
+// The pairs of the slots that have a committed value, rising by key.
 pub(crate) fn committed_pairs(
     alloc: Global,
-    slots: &[Slot],
+    table: &Table<Cell>,
 ) -> Result<Vec<(Key, Value)>, AllocError>
-    requires { KeysRise (rows_of [] slots.now) }
     ensures rise { IfOk result (λ pairs. KeysRise pairs.items) }
-    ensures contents { IfOk result (λ pairs. (queues : List Queue) (key : List ℕ) → get (database_of pairs.items) key ≡ stored (record_of (rows_of queues slots.now) key)) }
+    ensures contents { IfOk result (λ pairs. (queues : List Queue) (key : List ℕ) → get (database_of pairs.items) key ≡ stored (record_of (rows_of queues (slots_in table.now.rows)) key)) }
 {
+    let contents = contents_in(alloc, table)?;
     let mut pairs = Vec::new(alloc);
-    for slot in slots {
-        if let Some(value) = versions::committed_of(slot) {
-            let key = slot.key.copy(alloc)?;
-            let value = value.copy(alloc)?;
-            pairs.push((key, value))?;
-        }
+    for (key, content) in contents {
+        push_value(&mut pairs, key, content)?;
     }
     Ok(pairs)
 }
 
-// Whether the key is in the open set.
-pub(crate) fn is_in_open_set_at(slots: &[Slot], key: &Key) -> bool
-    requires { KeysRise (rows_of [] slots.now) }
-    ensures { (queues : List Queue) → result ≡ is_in_open_set (record_of (rows_of queues slots.now) key.now) }
+// Adds the key with its value, if it has one.
+fn push_value(
+    pairs: &mut Vec<(Key, Value)>,
+    key: Key,
+    content: Option<Value>,
+) -> Result<(), AllocError>
+    ensures { OnOk result (pairs.new.items ≡ pairs.old.items ++ with_entry key content []) }
 {
-    match place(slots, key) {
-        Ok(i) => slots[i].is_in_open_set,
-        Err(_) => false,
+    if let Some(value) = content {
+        pairs.push((key, value))?;
+    }
+    Ok(())
+}
+
+// What each slot's key has that is committed, a value or absence, rising by key.
+fn contents_in(alloc: Global, table: &Table<Cell>) -> Result<Vec<(Key, Option<Value>)>, AllocError>
+    ensures contents { IfOk result (λ contents. contents.items ≡ contents_of (slots_in table.now.rows)) }
+    ensures slots { AreInSlots table.now }
+{
+    let mut contents = Vec::new(alloc);
+    for id in 0..table.capacity() {
+        push_content(alloc, &mut contents, table, SlotId(id))?;
+    }
+    first_of_each(alloc, &contents)
+}
+
+// Adds what the slot's key has that is committed, where the slot has a row.
+fn push_content(
+    alloc: Global,
+    contents: &mut Vec<(Key, Option<Value>)>,
+    table: &Table<Cell>,
+    id: SlotId,
+) -> Result<(), AllocError>
+    ensures { OnOk result (contents.new.items ≡ contents.old.items ++ content_in (in_slot table.now.rows id)) }
+{
+    if let Some((key, cell)) = table.get_if_taken(id) {
+        let key = key.copy(alloc)?;
+        let content = versions::committed_copy(alloc, cell)?;
+        contents.push((key, content))?;
+    }
+    Ok(())
+}
+
+// Whether the key is in the open set.
+pub(crate) fn is_in_open_set_at(table: &Table<Cell>, key: &Key) -> bool
+    ensures { (queues : List Queue) → result ≡ is_in_open_set (record_of (rows_of queues (slots_in table.now.rows)) key.now) }
+{
+    match table.find(key) {
+        Some(id) => table.get(id).is_in_open_set,
+        None => false,
     }
 }
 
-// The key of the slot is of the closed set where it was in the open one.
-fn close_slot(slots: &mut Vec<Slot>, i: usize)
-    requires { i < length slots.old.items }
-    ensures { (d : Slot) → slots.new.items ≡ slice_set slots.old.items i (closed_slot (slice_index_or slots.old.items i d)) }
+// The key of the slot, where it has one, is of the closed set where it was in the open one.
+fn close_slot(table: &mut Table<Cell>, id: SlotId)
+    ensures slots { slots_in table.new.rows ≡ map (at_number closed_slot id) (slots_in table.old.rows) }
+    ensures capacity { table.new.capacity ≡ table.old.capacity }
 {
-    versions::close(&mut slots[i]);
+    if table.get_if_taken(id).is_some() {
+        versions::close(table.get_mut(id));
+    }
 }
 
 // The open set is closed.
-pub(crate) fn close_slots(slots: &mut Vec<Slot>)
-    ensures { slots.new.items ≡ map closed_slot slots.old.items }
+pub(crate) fn close_slots(table: &mut Table<Cell>)
+    ensures slots { slots_in table.new.rows ≡ map closed_slot (slots_in table.old.rows) }
+    ensures capacity { table.new.capacity ≡ table.old.capacity }
 {
-    for i in 0..slots.len() {
-        close_slot(slots, i);
+    for id in 0..table.capacity() {
+        close_slot(table, SlotId(id));
     }
 }
 
 // The key of the slot is taken.
-pub(crate) fn mark_taken(slots: &mut Vec<Slot>, i: usize, point: Point)
-    requires { i < length slots.old.items }
-    ensures { (d : Slot) → slots.new.items ≡ slice_set slots.old.items i (taken_slot point (slice_index_or slots.old.items i d)) }
+pub(crate) fn mark_taken(table: &mut Table<Cell>, id: SlotId, point: Point)
+    requires { HasRow table.old.rows id }
+    ensures slots { slots_in table.new.rows ≡ map (at_number (taken_slot point) id) (slots_in table.old.rows) }
+    ensures row { HasRow table.new.rows id }
+    ensures capacity { table.new.capacity ≡ table.old.capacity }
 {
-    versions::take(&mut slots[i], point);
+    versions::take(table.get_mut(id), point);
 }
 
 // The transaction writes the slot's key in its place; the copy is one of what stands there.
 pub(crate) fn put_at(
-    slots: &mut Vec<Slot>,
-    i: usize,
+    table: &mut Table<Cell>,
+    id: SlotId,
     point: Point,
     transaction: TxnNo,
     class: Class,
     copy: Option<Value>,
     value: Option<Value>,
 )
-    requires { i < length slots.old.items }
-    ensures { (d : Slot) → slots.new.items ≡ slice_set slots.old.items i (put_slot point transaction class copy value (slice_index_or slots.old.items i d)) }
+    requires { HasRow table.old.rows id }
+    ensures slots { slots_in table.new.rows ≡ map (at_number (put_slot point transaction class copy value) id) (slots_in table.old.rows) }
+    ensures capacity { table.new.capacity ≡ table.old.capacity }
 {
-    versions::put(&mut slots[i], point, transaction, class, copy, value);
+    versions::put(table.get_mut(id), point, transaction, class, copy, value);
 }
 
 // The transaction writes the slot's key in its place where its request was granted; the copy is one of what stands there.
 pub(crate) fn put_granted(
-    slots: &mut Vec<Slot>,
-    i: usize,
+    table: &mut Table<Cell>,
+    id: SlotId,
     point: Point,
     transaction: TxnNo,
     class: Class,
@@ -234,111 +269,98 @@ pub(crate) fn put_granted(
     value: Option<Value>,
     answer: Outcome,
 )
-    requires { i < length slots.old.items }
-    ensures { (d : Slot) → slots.new.items ≡ slice_set slots.old.items i (granted_slot answer point transaction class copy value (slice_index_or slots.old.items i d)) }
+    requires { HasRow table.old.rows id }
+    ensures slots { slots_in table.new.rows ≡ map (at_number (granted_slot answer point transaction class copy value) id) (slots_in table.old.rows) }
+    ensures capacity { table.new.capacity ≡ table.old.capacity }
 {
     if let Outcome::Granted = answer {
-        put_at(slots, i, point, transaction, class, copy, value);
+        put_at(table, id, point, transaction, class, copy, value);
     }
 }
 
 // The write that stands in the slot is committed.
-fn settle_slot(slots: &mut Vec<Slot>, i: usize, point: Point)
-    requires { i < length slots.old.items }
-    ensures { (d : Slot) → slots.new.items ≡ slice_set slots.old.items i (settled point (slice_index_or slots.old.items i d)) }
+fn settle_slot(table: &mut Table<Cell>, id: SlotId, point: Point)
+    requires { HasRow table.old.rows id }
+    ensures slots { slots_in table.new.rows ≡ map (at_number (settled point) id) (slots_in table.old.rows) }
+    ensures capacity { table.new.capacity ≡ table.old.capacity }
 {
-    versions::settle(&mut slots[i], point);
+    versions::settle(table.get_mut(id), point);
 }
 
 // The write that stands in the key's place is committed.
-fn settle_key(slots: &mut Vec<Slot>, key: &Key, point: Point)
-    requires { KeysRise (rows_of [] slots.old.items) }
-    ensures { slots.new.items ≡ map (at_key (settled point) key.now) slots.old.items }
+fn settle_key(table: &mut Table<Cell>, key: &Key, point: Point)
+    ensures slots { slots_in table.new.rows ≡ map (at_key (settled point) key.now) (slots_in table.old.rows) }
+    ensures capacity { table.new.capacity ≡ table.old.capacity }
 {
-    if let Ok(i) = place(slots, key) {
-        settle_slot(slots, i, point);
+    if let Some(id) = table.find(key) {
+        settle_slot(table, id, point);
     }
 }
 
 // These writes are committed.
-pub(crate) fn settle_all(slots: &mut Vec<Slot>, writes: &[Write], point: Point)
-    requires { KeysRise (rows_of [] slots.old.items) }
-    ensures { slots.new.items ≡ map (at_writes (settled point) writes.now) slots.old.items }
+pub(crate) fn settle_all(table: &mut Table<Cell>, writes: &[Write], point: Point)
+    ensures slots { slots_in table.new.rows ≡ map (at_writes (settled point) writes.now) (slots_in table.old.rows) }
+    ensures capacity { table.new.capacity ≡ table.old.capacity }
 {
     for write in writes {
-        settle_key(slots, &write.key, point);
+        settle_key(table, &write.key, point);
     }
 }
 
 // The write that stands in the slot is undone.
-fn undo_slot(slots: &mut Vec<Slot>, i: usize, point: Point)
-    requires { i < length slots.old.items }
-    ensures { (d : Slot) → slots.new.items ≡ slice_set slots.old.items i (undone point (slice_index_or slots.old.items i d)) }
+fn undo_slot(table: &mut Table<Cell>, id: SlotId, point: Point)
+    requires { HasRow table.old.rows id }
+    ensures slots { slots_in table.new.rows ≡ map (at_number (undone point) id) (slots_in table.old.rows) }
+    ensures capacity { table.new.capacity ≡ table.old.capacity }
 {
-    versions::undo(&mut slots[i], point);
+    versions::undo(table.get_mut(id), point);
 }
 
 // The write that stands in the key's place is undone.
-fn undo_key(slots: &mut Vec<Slot>, key: &Key, point: Point)
-    requires { KeysRise (rows_of [] slots.old.items) }
-    ensures { slots.new.items ≡ map (at_key (undone point) key.now) slots.old.items }
+fn undo_key(table: &mut Table<Cell>, key: &Key, point: Point)
+    ensures slots { slots_in table.new.rows ≡ map (at_key (undone point) key.now) (slots_in table.old.rows) }
+    ensures capacity { table.new.capacity ≡ table.old.capacity }
 {
-    if let Ok(i) = place(slots, key) {
-        undo_slot(slots, i, point);
+    if let Some(id) = table.find(key) {
+        undo_slot(table, id, point);
     }
 }
 
 // These writes are undone.
-pub(crate) fn undo_all(slots: &mut Vec<Slot>, writes: &[Write], point: Point)
-    requires { KeysRise (rows_of [] slots.old.items) }
-    ensures { slots.new.items ≡ map (at_writes (undone point) writes.now) slots.old.items }
+pub(crate) fn undo_all(table: &mut Table<Cell>, writes: &[Write], point: Point)
+    ensures slots { slots_in table.new.rows ≡ map (at_writes (undone point) writes.now) (slots_in table.old.rows) }
+    ensures capacity { table.new.capacity ≡ table.old.capacity }
 {
     for write in writes {
-        undo_key(slots, &write.key, point);
-    }
-}
-
-// The slot goes in at the place.
-pub(crate) fn insert_slot(slots: &mut Vec<Slot>, i: usize, slot: Slot)
-    requires place { i ≤ length slots.old.items }
-    requires room { vec_len slots.old < vec_capacity slots.old }
-    ensures { slots.new.items ≡ insert slots.old.items i slot }
-{
-    if slots.insert(i, slot).is_err() {
-        unreachable!();
+        undo_key(table, &write.key, point);
     }
 }
 
 // Whether something keeps the slot: a value, a version, a request, or one of the two sets.
-fn is_kept(slot: &Slot, locks: &Locks) -> bool
-    requires { slot.now.number < length locks.now.queues }
-    ensures { result ≡ is_kept_slot (queue_at locks.now.queues slot.now.number) slot.now }
+fn is_kept(slot: &Cell, id: SlotId, locks: &Locks) -> bool
+    requires { id < length locks.now.queues }
+    ensures { result ≡ is_kept_slot (queue_at locks.now.queues id) (slot_with id [] slot.now) }
 {
     slot.live.is_some()
         || versions::is_held(&slot.stable)
-        || locks.has_request(slot.number)
+        || locks.has_request(id)
         || slot.is_in_open_set
         || slot.is_in_closed_set
 }
 
-// The slot at the place is free where nothing keeps it.
-pub(crate) fn tidy(
-    slots: &mut Vec<Slot>,
-    free: &mut Vec<SlotId>,
-    locks: &Locks,
-    point: Point,
-    i: usize,
-)
-    requires place { i < length slots.old.items }
-    requires kept { AreKept slots.old.items free.old.items (vec_capacity free.old) locks.now.queues }
-    requires sound { AreSound point locks.now.queues slots.old.items }
-    ensures rows { rows_of locks.now.queues slots.new.items ≡ tidied (rows_of locks.now.queues slots.old.items) i }
-    ensures pending { pending_of slots.new.items ≡ pending_of slots.old.items }
-    ensures kept { AreKept slots.new.items free.new.items (vec_capacity free.new) locks.now.queues }
-    ensures sound { AreSound point locks.now.queues slots.new.items }
+// The slot is free where nothing keeps it.
+pub(crate) fn tidy(table: &mut Table<Cell>, locks: &Locks, point: Point, id: SlotId)
+    requires row { HasRow table.old.rows id }
+    requires kept { AreKept (slots_in table.old.rows) locks.now.queues }
+    requires sound { AreSound point locks.now.queues (slots_in table.old.rows) }
+    requires count { length locks.now.queues ≡ table.old.capacity }
+    ensures rows { (i : ℕ) → IsNumbered (slots_in table.old.rows) id i → rows_of locks.now.queues (slots_in table.new.rows) ≡ tidied (rows_of locks.now.queues (slots_in table.old.rows)) i }
+    ensures pending { pending_of (slots_in table.new.rows) ≡ pending_of (slots_in table.old.rows) }
+    ensures kept { AreKept (slots_in table.new.rows) locks.now.queues }
+    ensures sound { AreSound point locks.now.queues (slots_in table.new.rows) }
+    ensures capacity { table.new.capacity ≡ table.old.capacity }
 {
-    if !is_kept(&slots[i], locks) {
-        let slot = slots.remove(i);
-        free.push_reserved(slot.number);
+    if !is_kept(table.get(id), id, locks) {
+        drop(table.remove(id));
     }
 }

@@ -1,10 +1,12 @@
 //! Tests of the moments of a slot, and of requests, releases and what keeps a slot.
 ghost use Rattle.std.specs.Prelude.{◌≡◌, []};
 
-use crate::slots::Slot;
-use crate::{Records, slots, versions};
-use pc_types::{Class, Key, Outcome, Point, Refusal, SlotId, TxnNo, Value, copy_content};
+use crate::slots::Cell;
+use crate::{Records, versions};
+use pc_table::Blank;
+use pc_types::{Class, Key, Outcome, Point, Refusal, TxnNo, Value, copy_content};
 use std::alloc::Global;
+use std::hash::RandomState;
 use std::test::Fail;
 
 // What happens to a slot; the point is that of the last closed set.
@@ -39,7 +41,7 @@ fn content_of(value: Option<&Value>) -> Option<u8> {
     }
 }
 
-fn look_at(slot: &Slot) -> Seen {
+fn look_at(slot: &Cell) -> Seen {
     Seen(
         content_of(slot.live.as_ref()),
         content_of(versions::committed_of(slot)),
@@ -48,7 +50,7 @@ fn look_at(slot: &Slot) -> Seen {
 }
 
 // Does it, and gives the point of the last closed set then.
-fn happen(alloc: Global, slot: &mut Slot, point: Point, moment: Moment) -> Result<Point, Refusal> {
+fn happen(alloc: Global, slot: &mut Cell, point: Point, moment: Moment) -> Result<Point, Refusal> {
     match moment {
         Write(class, content) => {
             let copy = copy_content(alloc, &slot.live)?;
@@ -67,8 +69,8 @@ fn happen(alloc: Global, slot: &mut Slot, point: Point, moment: Moment) -> Resul
 }
 
 // A slot of a key that has the value.
-fn slot_with(alloc: Global, content: u8) -> Result<Slot, Refusal> {
-    let mut slot = slots::bare_slot(SlotId(0), Key::new(alloc, &[1])?);
+fn slot_with(alloc: Global, content: u8) -> Result<Cell, Refusal> {
+    let mut slot = Cell::blank();
     slot.live = value_of(alloc, Some(content))?;
     Ok(slot)
 }
@@ -264,7 +266,7 @@ fn slots_kept(rt: HostRuntime) -> Result<(), Fail> {
     let alloc = rt.alloc();
     let mut pairs = Vec::new(alloc);
     pairs.push((Key::new(alloc, &[5])?, Value::new(alloc, &[50])?))?;
-    let mut records = Records::of_pairs(alloc, 2, &pairs)?;
+    let mut records = Records::of_pairs(alloc, 2, &pairs, RandomState::new(&rt)?)?;
     assert_eq!(rt; first_other(alloc, &mut records, &SLOTS)?, None);
     Ok(())
 }

@@ -1,12 +1,13 @@
 //! The moments of one slot: its key is written in its place, the write is committed or undone, the open set is closed, and
 //! the key is taken.
-ghost use Rattle.std.specs.Prelude.{◌≡◌, option_copied};
+ghost use Rattle.std.specs.Prelude.{◌≡◌, ℕ, List, [], option_copied, IfOk};
 ghost use Rattle.pc_types.specs.declared.Class.TheVariants as class_of;
 ghost use Rattle.pc_types.specs.Phases.{same_class};
-ghost use Rattle.pc_records.specs.Slots.{committed, pinned, is_held, is_available, saved, put_slot, settled, undone, taken_slot, closed_slot};
+ghost use Rattle.pc_records.specs.Slots.{slot_with, committed, pinned, is_held, is_available, saved, put_slot, settled, undone, taken_slot, closed_slot};
 
-use crate::slots::Slot;
+use crate::slots::Cell;
 use pc_types::{Class, Point, TxnNo, Value};
+use std::alloc::{AllocError, Global};
 use std::mem;
 
 /// What a key had before, kept for the point.
@@ -28,8 +29,8 @@ pub(crate) struct Writer {
 }
 
 // The committed value of the slot's key.
-pub(crate) fn committed_of(slot: &Slot) -> Option<&Value>
-    ensures { option_copied result ≡ committed slot.now }
+pub(crate) fn committed_of(slot: &Cell) -> Option<&Value>
+    ensures { option_copied result ≡ committed (slot_with 0 [] slot.now) }
 {
     match &slot.writer {
         Some(writer) => writer.before.as_ref(),
@@ -37,9 +38,19 @@ pub(crate) fn committed_of(slot: &Slot) -> Option<&Value>
     }
 }
 
+// A copy of the committed value of the slot's key.
+pub(crate) fn committed_copy(alloc: Global, slot: &Cell) -> Result<Option<Value>, AllocError>
+    ensures { IfOk result (λ copy. copy ≡ committed (slot_with 0 [] slot.now)) }
+{
+    match committed_of(slot) {
+        Some(value) => Ok(Some(value.copy(alloc)?)),
+        None => Ok(None),
+    }
+}
+
 // What the slot's key has at the point, where it is in the closed set.
-pub(crate) fn pinned_of(slot: &Slot) -> Option<&Value>
-    ensures { option_copied result ≡ pinned slot.now }
+pub(crate) fn pinned_of(slot: &Cell) -> Option<&Value>
+    ensures { option_copied result ≡ pinned (slot_with 0 [] slot.now) }
 {
     if !slot.is_in_closed_set {
         return None;
@@ -61,8 +72,8 @@ pub(crate) fn is_held(stable: &Stable) -> bool
 }
 
 // Whether what the slot holds is what its key has at the point.
-fn is_available(slot: &Slot, point: Point) -> bool
-    ensures { result ≡ is_available point slot.now }
+fn is_available(slot: &Cell, point: Point) -> bool
+    ensures { result ≡ is_available point (slot_with 0 [] slot.now) }
 {
     slot.is_in_closed_set && slot.mark.0 == point.0
 }
@@ -79,8 +90,8 @@ fn is_during(class: Class) -> bool
 
 // A transaction of the class is about to write the key, which it has not written yet: the slot may keep this copy of what
 // stands there.
-fn save(slot: &mut Slot, point: Point, class: Class, copy: Option<Value>)
-    ensures { slot.new ≡ saved point class copy slot.old }
+fn save(slot: &mut Cell, point: Point, class: Class, copy: Option<Value>)
+    ensures { (number : ℕ) (key : List ℕ) → slot_with number key slot.new ≡ saved point class copy (slot_with number key slot.old) }
 {
     match class {
         Class::Before => {}
@@ -100,14 +111,14 @@ fn save(slot: &mut Slot, point: Point, class: Class, copy: Option<Value>)
 
 // The transaction writes the key in its place; the copy is one of what stands there.
 pub(crate) fn put(
-    slot: &mut Slot,
+    slot: &mut Cell,
     point: Point,
     transaction: TxnNo,
     class: Class,
     copy: Option<Value>,
     value: Option<Value>,
 )
-    ensures { slot.new ≡ put_slot point transaction class copy value slot.old }
+    ensures { (number : ℕ) (key : List ℕ) → slot_with number key slot.new ≡ put_slot point transaction class copy value (slot_with number key slot.old) }
 {
     let before = mem::replace(&mut slot.live, value);
     if slot.writer.is_none() {
@@ -121,8 +132,8 @@ pub(crate) fn put(
 }
 
 // The write that stands in the slot, if there is one, is committed.
-pub(crate) fn settle(slot: &mut Slot, point: Point)
-    ensures { slot.new ≡ settled point slot.old }
+pub(crate) fn settle(slot: &mut Cell, point: Point)
+    ensures { (number : ℕ) (key : List ℕ) → slot_with number key slot.new ≡ settled point (slot_with number key slot.old) }
 {
     if let Some(writer) = slot.writer.take() {
         if is_during(writer.class) {
@@ -137,8 +148,8 @@ pub(crate) fn settle(slot: &mut Slot, point: Point)
 }
 
 // The write that stands in the slot, if there is one, is undone.
-pub(crate) fn undo(slot: &mut Slot, point: Point)
-    ensures { slot.new ≡ undone point slot.old }
+pub(crate) fn undo(slot: &mut Cell, point: Point)
+    ensures { (number : ℕ) (key : List ℕ) → slot_with number key slot.new ≡ undone point (slot_with number key slot.old) }
 {
     if let Some(writer) = slot.writer.take() {
         slot.live = writer.before;
@@ -149,8 +160,8 @@ pub(crate) fn undo(slot: &mut Slot, point: Point)
 }
 
 // The key of the slot is taken.
-pub(crate) fn take(slot: &mut Slot, point: Point)
-    ensures { slot.new ≡ taken_slot point slot.old }
+pub(crate) fn take(slot: &mut Cell, point: Point)
+    ensures { (number : ℕ) (key : List ℕ) → slot_with number key slot.new ≡ taken_slot point (slot_with number key slot.old) }
 {
     slot.is_in_closed_set = false;
     slot.stable = Stable::Empty;
@@ -158,8 +169,8 @@ pub(crate) fn take(slot: &mut Slot, point: Point)
 }
 
 // The key of the slot is of the closed set where it was in the open one.
-pub(crate) fn close(slot: &mut Slot)
-    ensures { slot.new ≡ closed_slot slot.old }
+pub(crate) fn close(slot: &mut Cell)
+    ensures { (number : ℕ) (key : List ℕ) → slot_with number key slot.new ≡ closed_slot (slot_with number key slot.old) }
 {
     slot.is_in_closed_set = slot.is_in_open_set;
     slot.is_in_open_set = false;

@@ -1,46 +1,46 @@
-use Rattle.std.proofs.Common.{◌-◌, arith, vec_capacity}
-use Rattle.pc_records.proofs.SlotKeeping.{free_below}
-use Rattle.pc_records.proofs.Requesting.{told_new, rows_new, kept_new}
-use Rattle.pc_records.proofs.Answering.{first_in, sound_in, pending_in_new}
+use Rattle.std.proofs.Common.{ap, sym, subst}
+use Rattle.pc_locks.specs.States.{State}
+use Rattle.pc_table.specs.Rows.{Contents}
+use Rattle.pc_records.specs.declared.slots.Cell.{Cell}
+use Rattle.pc_records.specs.Slots.{slots_in, rows_of, pending_of, base_cell, AreKept, AreSound}
+use Rattle.std.specs.Prelude.{None}
+use Rattle.pc_records.proofs.NewSlots.{pending_in, rows_in, kept_in, slot_first, sound_now, told_first, put_back}
 use Rattle.pc_records.proofs.records.request_new.Goals as goal
 
-pub request-requires-clause-slot : goal.request-requires-clause-slot
-request-requires-clause-slot c =
-    free_below c.args.slots.now.items c.args.free.now.items (vec_capacity c.args.free.now) c.args.locks.now.queues (c.len-last.result - 1) c.index-number.result.now c.requires.kept
-    (omega (arith, c.args.free.now.ok.0, c.len-last.ensures, c.requires.room)) c.index-number.ensures
+pub returns-in-Ok-clause-told : goal.returns-in-Ok-clause-told
+returns-in-Ok-clause-told c = told_first c.args.table.now.rows c.args.key.now c.args.locks.now.queues c.args.transaction c.args.mode c.requires.new
 
-pub returns-clause-told : goal.returns-clause-told
-returns-clause-told c =
-    told_new c.args.slots.now.items c.insert_slot.new.slots.items c.args.free.now.items c.truncate.new.self.items (vec_capacity c.args.free.now) (vec_capacity c.truncate.new.self) c.args.locks.now.queues c.request.new.self.queues c.args.key.now c.args.i (c.len-last.result - 1) c.index-number.result.now c.args.transaction
-    c.args.mode c.in_ok-answer.answer c.requires.kept (omega (arith, c.args.free.now.ok.0, c.len-last.ensures, c.requires.room)) c.index-number.ensures c.requires.place c.in_ok-answer.ensures.told c.in_ok-answer.ensures.queues
-    (rw (c.in_ok-reserve.ensures.items, c.bare_slot-slot.ensures, c.in_ok-key.ensures.copy) at c.insert_slot.ensures)
+pub returns-in-Ok-clause-rows : goal.returns-in-Ok-clause-rows
+returns-in-Ok-clause-rows c = rows_in c.args.table.now c.make.new.table c.args.key.now c.in_ok-id.id c.requires.new c.in_ok-id.ensures.made c.args.point c.args.transaction c.args.locks.now.queues c.request.new.self.queues c.args.mode c.in-Ok.field-0 c.requires.kept c.requires.sound c.requires.count c.in_ok-id.ensures.fresh c.in-Ok.ensures.told c.in-Ok.ensures.queues
 
-pub returns-clause-rows : goal.returns-clause-rows
-returns-clause-rows c =
-    rows_new c.args.slots.now.items c.insert_slot.new.slots.items c.args.free.now.items c.truncate.new.self.items (vec_capacity c.args.free.now) (vec_capacity c.truncate.new.self) c.args.locks.now.queues c.request.new.self.queues c.args.key.now c.args.i (c.len-last.result - 1) c.index-number.result.now c.args.transaction
-    c.args.mode c.in_ok-answer.answer c.requires.kept (omega (arith, c.args.free.now.ok.0, c.len-last.ensures, c.requires.room)) c.index-number.ensures c.requires.place c.in_ok-answer.ensures.told c.in_ok-answer.ensures.queues
-    (rw (c.in_ok-reserve.ensures.items, c.bare_slot-slot.ensures, c.in_ok-key.ensures.copy) at c.insert_slot.ensures)
+pub returns-in-Ok-clause-slot : goal.returns-in-Ok-clause-slot
+returns-in-Ok-clause-slot c = slot_first c.args.table.now c.make.new.table c.args.key.now c.in_ok-id.id c.requires.new c.in_ok-id.ensures.made c.args.point c.args.transaction c.args.locks.now.queues c.request.new.self.queues c.args.mode c.in-Ok.field-0 c.requires.kept c.requires.sound c.requires.count c.in_ok-id.ensures.fresh c.in-Ok.ensures.told c.in-Ok.ensures.queues
 
-pub returns-clause-kept : goal.returns-clause-kept
-returns-clause-kept c =
-    kept_new c.args.slots.now.items c.insert_slot.new.slots.items c.args.free.now.items c.truncate.new.self.items (vec_capacity c.args.free.now) (vec_capacity c.truncate.new.self) c.args.locks.now.queues c.request.new.self.queues c.args.key.now c.args.i (c.len-last.result - 1) c.index-number.result.now c.args.transaction
-    c.args.mode c.in_ok-answer.answer c.requires.kept (omega (arith, c.args.free.now.ok.0, c.len-last.ensures, c.requires.room)) c.index-number.ensures c.requires.place c.in_ok-answer.ensures.told c.in_ok-answer.ensures.queues
-    (rw (c.in_ok-reserve.ensures.items, c.bare_slot-slot.ensures, c.in_ok-key.ensures.copy) at c.insert_slot.ensures) c.truncate.ensures.items c.requires.behind c.truncate.ensures.capacity
+pub returns-in-Ok-clause-pending : goal.returns-in-Ok-clause-pending
+returns-in-Ok-clause-pending c = pending_in c.args.table.now c.make.new.table c.args.key.now c.in_ok-id.id c.requires.new c.in_ok-id.ensures.made
 
-pub returns-clause-slot : goal.returns-clause-slot
-returns-clause-slot c =
-    first_in c.args.point c.args.transaction c.args.slots.now.items c.insert_slot.new.slots.items c.args.free.now.items (vec_capacity c.args.free.now) c.args.locks.now.queues c.request.new.self.queues c.args.key.now c.args.i (c.len-last.result - 1) c.index-number.result.now
-    c.args.mode c.in_ok-answer.answer c.requires.kept c.requires.sound (omega (arith, c.args.free.now.ok.0, c.len-last.ensures, c.requires.room)) c.index-number.ensures c.in_ok-answer.ensures.told c.in_ok-answer.ensures.queues
-    (rw (c.in_ok-reserve.ensures.items, c.bare_slot-slot.ensures, c.in_ok-key.ensures.copy) at c.insert_slot.ensures)
+pub returns-in-Ok-clause-kept : goal.returns-in-Ok-clause-kept
+returns-in-Ok-clause-kept c = kept_in c.args.table.now c.make.new.table c.args.key.now c.in_ok-id.id c.requires.new c.in_ok-id.ensures.made c.args.point c.args.transaction c.args.locks.now.queues c.request.new.self.queues c.args.mode c.in-Ok.field-0 c.requires.kept c.requires.sound c.requires.count c.in_ok-id.ensures.fresh c.in-Ok.ensures.told c.in-Ok.ensures.queues
 
-pub returns-clause-sound : goal.returns-clause-sound
-returns-clause-sound c =
-    sound_in c.args.point c.args.transaction c.args.slots.now.items c.insert_slot.new.slots.items c.args.free.now.items (vec_capacity c.args.free.now) c.args.locks.now.queues c.request.new.self.queues c.args.key.now c.args.i (c.len-last.result - 1) c.index-number.result.now
-    c.args.mode c.in_ok-answer.answer c.requires.kept c.requires.sound (omega (arith, c.args.free.now.ok.0, c.len-last.ensures, c.requires.room)) c.index-number.ensures c.in_ok-answer.ensures.told c.in_ok-answer.ensures.queues
-    (rw (c.in_ok-reserve.ensures.items, c.bare_slot-slot.ensures, c.in_ok-key.ensures.copy) at c.insert_slot.ensures)
+pub returns-in-Ok-clause-sound : goal.returns-in-Ok-clause-sound
+returns-in-Ok-clause-sound c = sound_now c.args.table.now c.make.new.table c.args.key.now c.in_ok-id.id c.requires.new c.in_ok-id.ensures.made c.args.point c.args.transaction c.args.locks.now.queues c.request.new.self.queues c.args.mode c.in-Ok.field-0 c.requires.kept c.requires.sound c.requires.count c.in_ok-id.ensures.fresh c.in-Ok.ensures.told c.in-Ok.ensures.queues
 
-pub returns-clause-pending : goal.returns-clause-pending
-returns-clause-pending c =
-    pending_in_new c.args.point c.args.transaction c.args.slots.now.items c.insert_slot.new.slots.items c.args.free.now.items (vec_capacity c.args.free.now) c.args.locks.now.queues c.request.new.self.queues c.args.key.now c.args.i (c.len-last.result - 1) c.index-number.result.now
-    c.args.mode c.in_ok-answer.answer c.requires.kept c.requires.sound (omega (arith, c.args.free.now.ok.0, c.len-last.ensures, c.requires.room)) c.index-number.ensures c.in_ok-answer.ensures.told c.in_ok-answer.ensures.queues
-    (rw (c.in_ok-reserve.ensures.items, c.bare_slot-slot.ensures, c.in_ok-key.ensures.copy) at c.insert_slot.ensures)
+pub returns-in-Err-clause-err : goal.returns-in-Err-clause-err
+returns-in-Err-clause-err c =
+    let back = put_back c.args.table.now c.make.new.table c.remove.new.self c.args.key.now c.in_ok-id.id (base_cell None) c.make.ensures.before c.make.ensures.after c.requires.new c.in_ok-id.ensures.slot c.in_ok-id.ensures.made c.remove.ensures.rows in
+    λ i. rows_of (c.in-Err.ensures.err i).queues (slots_in (back i).rows)
+
+pub returns-in-Err-clause-pending : goal.returns-in-Err-clause-pending
+returns-in-Err-clause-pending c =
+    let back = put_back c.args.table.now c.make.new.table c.remove.new.self c.args.key.now c.in_ok-id.id (base_cell None) c.make.ensures.before c.make.ensures.after c.requires.new c.in_ok-id.ensures.slot c.in_ok-id.ensures.made c.remove.ensures.rows in
+    ap (λ (t : Contents Cell). pending_of (slots_in t.rows)) back
+
+pub returns-in-Err-clause-kept : goal.returns-in-Err-clause-kept
+returns-in-Err-clause-kept c =
+    let back = put_back c.args.table.now c.make.new.table c.remove.new.self c.args.key.now c.in_ok-id.id (base_cell None) c.make.ensures.before c.make.ensures.after c.requires.new c.in_ok-id.ensures.slot c.in_ok-id.ensures.made c.remove.ensures.rows in
+    subst (λ (t : Contents Cell). AreKept (slots_in t.rows) c.request.new.self.queues) (sym back) (subst (λ (s : State). AreKept (slots_in c.args.table.now.rows) s.queues) (sym c.in-Err.ensures.err) c.requires.kept)
+
+pub returns-in-Err-clause-sound : goal.returns-in-Err-clause-sound
+returns-in-Err-clause-sound c =
+    let back = put_back c.args.table.now c.make.new.table c.remove.new.self c.args.key.now c.in_ok-id.id (base_cell None) c.make.ensures.before c.make.ensures.after c.requires.new c.in_ok-id.ensures.slot c.in_ok-id.ensures.made c.remove.ensures.rows in
+    subst (λ (t : Contents Cell). AreSound c.args.point c.request.new.self.queues (slots_in t.rows)) (sym back) (subst (λ (s : State). AreSound c.args.point s.queues (slots_in c.args.table.now.rows)) (sym c.in-Err.ensures.err) c.requires.sound)

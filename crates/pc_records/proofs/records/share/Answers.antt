@@ -1,42 +1,40 @@
-use Rattle.std.proofs.Common.{◌∙◌, sym, ap, Some, false, vec_capacity}
+use Rattle.std.proofs.Common.{sym}
 use Rattle.pc_types.specs.declared.Mode.TheVariants.{Shared}
-use Rattle.pc_records.proofs.Requesting.{slot_below, told_again, rows_again, kept_again}
-use Rattle.pc_records.proofs.Lookups.{slot_at}
-use Rattle.pc_records.proofs.Freeing.{sound_at}
-use Rattle.pc_records.proofs.Clearing.{if_ok, clear_new, sound_again, clear_again}
+use Rattle.pc_records.specs.Slots.{slots_in}
+use Rattle.pc_records.proofs.Found.{some_cell, found_below, asked_told, asked_rows, asked_kept, asked_sound, asked_clear}
+use Rattle.pc_records.proofs.TableSlots.{no_slot_in}
+use Rattle.pc_records.proofs.Clearing.{clear_new}
 use Rattle.pc_records.proofs.Exclusive.{settled_legal}
 use Rattle.pc_records.proofs.records.share.Goals as goal
 
 pub request-requires-clause-slot : goal.request-requires-clause-slot
-request-requires-clause-slot c =
-    slot_below c.args.slots.now.items c.args.free.now.items (vec_capacity c.args.free.now) c.args.locks.now.queues c.args.key.now c.in-Ok.i c.index.result.now c.args.transaction Shared c.requires.kept (rw c.deref.ensures.value at c.in-Ok.ensures.within) c.index.ensures
+request-requires-clause-slot c = found_below c.args.table.now c.args.locks.now.queues c.in-Some.id c.requires.kept c.in-Some.ensures.row
 
-pub returns-in-Ok-clause-told : goal.returns-in-Ok-clause-told
-returns-in-Ok-clause-told c =
-    told_again c.request.result (λ o. o) c.args.slots.now.items c.args.free.now.items (vec_capacity c.args.free.now) c.args.locks.now c.request.new.self c.args.key.now c.in-Ok.i c.index.result.now c.args.transaction Shared c.requires.kept
-    (rw c.deref.ensures.value at c.in-Ok.ensures.within) c.index.ensures (rw c.deref.ensures.value at c.in-Ok.ensures.at) c.request.ensures.told
+pub returns-in-Some-clause-told : goal.returns-in-Some-clause-told
+returns-in-Some-clause-told c =
+    let x = some_cell c.args.table.now c.args.key.now c.in-Some.id (sym c.in-Some.ensures.slot) c.find.ensures.slots in
+    asked_told c.args.table.now c.find.ensures.slots c.args.key.now c.in-Some.id x.0 (sym c.in-Some.ensures.slot) x.1 c.request.result c.args.locks.now c.request.new.self c.args.point c.args.transaction Shared c.requires.kept c.requires.sound c.request.ensures.told c.request.ensures.queues c.request.ensures.err
 
-pub returns-in-Ok-clause-rows : goal.returns-in-Ok-clause-rows
-returns-in-Ok-clause-rows c =
-    rows_again c.request.result (λ o. o) c.args.slots.now.items c.args.free.now.items (vec_capacity c.args.free.now) c.args.locks.now c.request.new.self c.args.key.now c.in-Ok.i c.index.result.now c.args.transaction Shared c.requires.kept
-    (rw c.deref.ensures.value at c.in-Ok.ensures.within) c.index.ensures (rw c.deref.ensures.value at c.in-Ok.ensures.at) c.request.ensures.queues
+pub returns-in-Some-clause-rows : goal.returns-in-Some-clause-rows
+returns-in-Some-clause-rows c =
+    let x = some_cell c.args.table.now c.args.key.now c.in-Some.id (sym c.in-Some.ensures.slot) c.find.ensures.slots in
+    asked_rows c.args.table.now c.find.ensures.slots c.args.key.now c.in-Some.id x.0 (sym c.in-Some.ensures.slot) x.1 c.request.result c.args.locks.now c.request.new.self c.args.point c.args.transaction Shared c.requires.kept c.requires.sound c.request.ensures.told c.request.ensures.queues c.request.ensures.err
 
-pub returns-in-Ok-clause-kept : goal.returns-in-Ok-clause-kept
-returns-in-Ok-clause-kept c =
-    kept_again c.request.result (λ o. o) c.args.slots.now.items c.args.free.now.items (vec_capacity c.args.free.now) c.args.locks.now c.request.new.self c.args.key.now c.in-Ok.i c.index.result.now c.args.transaction Shared c.requires.kept
-    (rw c.deref.ensures.value at c.in-Ok.ensures.within) c.index.ensures c.request.ensures.queues c.request.ensures.err
+pub returns-in-Some-clause-kept : goal.returns-in-Some-clause-kept
+returns-in-Some-clause-kept c =
+    let x = some_cell c.args.table.now c.args.key.now c.in-Some.id (sym c.in-Some.ensures.slot) c.find.ensures.slots in
+    asked_kept c.args.table.now c.find.ensures.slots c.args.key.now c.in-Some.id x.0 (sym c.in-Some.ensures.slot) x.1 c.request.result c.args.locks.now c.request.new.self c.args.point c.args.transaction Shared c.requires.kept c.requires.sound c.request.ensures.told c.request.ensures.queues c.request.ensures.err
 
-pub returns-in-Ok-clause-sound : goal.returns-in-Ok-clause-sound
-returns-in-Ok-clause-sound c =
-    sound_again c.request.result (λ o. o) c.args.point c.index.result.now.number c.args.transaction Shared c.args.slots.now.items c.args.free.now.items (vec_capacity c.args.free.now) c.args.locks.now c.request.new.self c.args.key.now c.index.result.now c.requires.kept c.requires.sound
-    c.request.ensures.queues c.request.ensures.err
+pub returns-in-Some-clause-sound : goal.returns-in-Some-clause-sound
+returns-in-Some-clause-sound c =
+    let x = some_cell c.args.table.now c.args.key.now c.in-Some.id (sym c.in-Some.ensures.slot) c.find.ensures.slots in
+    asked_sound c.args.table.now c.find.ensures.slots c.args.key.now c.in-Some.id x.0 (sym c.in-Some.ensures.slot) x.1 c.request.result c.args.locks.now c.request.new.self c.args.point c.args.transaction Shared c.requires.kept c.requires.sound c.request.ensures.told c.request.ensures.queues c.request.ensures.err
 
-pub returns-in-Ok-clause-clear : goal.returns-in-Ok-clause-clear
-returns-in-Ok-clause-clear c =
-    clear_again c.request.result (λ o. o) c.args.point c.index.result.now.number c.args.transaction Shared c.args.slots.now.items c.args.free.now.items (vec_capacity c.args.free.now) c.args.locks.now c.request.new.self c.args.key.now c.index.result.now c.requires.kept c.requires.sound
-    (slot_at c.args.slots.now.items c.args.key.now c.in-Ok.i c.index.result.now c.requires.kept.rise (rw c.deref.ensures.value at c.in-Ok.ensures.within) ((rw c.deref.ensures.value at c.in-Ok.ensures.here) c.index.result.now) ∙ ap Some (sym c.index.ensures))
-    (sound_at c.args.point c.args.locks.now.queues c.args.slots.now.items c.in-Ok.i c.index.result.now c.requires.sound (rw c.deref.ensures.value at c.in-Ok.ensures.within) c.index.ensures) (settled_legal _ (c.request.ensures.before.settled c.index.result.now.number)) c.requires.ready c.request.ensures.told
+pub returns-in-Some-clause-clear : goal.returns-in-Some-clause-clear
+returns-in-Some-clause-clear c =
+    let x = some_cell c.args.table.now c.args.key.now c.in-Some.id (sym c.in-Some.ensures.slot) c.find.ensures.slots in
+    asked_clear c.args.table.now c.find.ensures.slots c.args.key.now c.in-Some.id x.0 (sym c.in-Some.ensures.slot) x.1 c.request.result c.args.locks.now c.request.new.self c.args.point c.args.transaction Shared c.requires.kept c.requires.sound c.request.ensures.told c.request.ensures.queues c.request.ensures.err
+    (settled_legal _ (c.request.ensures.before.settled c.in-Some.id)) c.requires.ready
 
-pub returns-in-Err-clause-clear : goal.returns-in-Err-clause-clear
-returns-in-Err-clause-clear c =
-    if_ok c.request_new.result (λ answer granted. clear_new c.args.slots.now.items c.args.key.now c.in-Err.i c.args.transaction c.requires.kept.rise (rw c.deref.ensures.value at c.in-Err.ensures.gap))
+pub returns-in_ok-request_new-in-None-clause-clear : goal.returns-in_ok-request_new-in-None-clause-clear
+returns-in_ok-request_new-in-None-clause-clear c granted = clear_new (slots_in c.args.table.now.rows) c.args.key.now c.args.transaction c.requires.kept.rise (no_slot_in c.args.table.now.rows c.args.key.now (sym c.in-None.ensures.slot))

@@ -1,32 +1,24 @@
-use Rattle.std.proofs.Common.{◌<◌, ◌∙◌, sym, subst, vec_capacity}
-use Rattle.pc_records.proofs.Turning.{any_slot, length-changed}
-use Rattle.pc_records.proofs.SlotKeeping.{kept_taken}
-use Rattle.pc_records.proofs.Tidying.{taken_there, left_away}
-use Rattle.pc_records.proofs.Freeing.{sound_taken, pending_taken}
+use Rattle.std.proofs.Common.{◌∙◌, sym}
+use Rattle.pc_records.specs.Slots.{slots_in}
+use Rattle.pc_records.proofs.Tidying.{left_away}
+use Rattle.pc_records.proofs.Taken.{marked_kept, marked_sound, marked_pending, marked_rows}
+use Rattle.pc_records.proofs.TableSlots.{no_record}
 use Rattle.pc_records.proofs.records.take.Goals as goal
 
-pub tidy-requires-clause-place : goal.tidy-requires-clause-place
-tidy-requires-clause-place c =
-    subst (λ n. c.in-Ok.i < n) (sym (length-changed c.args.slots.now.items c.mark_taken.new.slots.items c.in-Ok.i _ (c.mark_taken.ensures any_slot))) (rw c.deref.ensures.value at c.in-Ok.ensures.within)
-
 pub tidy-requires-clause-kept : goal.tidy-requires-clause-kept
-tidy-requires-clause-kept c =
-    kept_taken c.args.point c.args.slots.now.items c.mark_taken.new.slots.items c.args.free.now.items (vec_capacity c.args.free.now) c.args.locks.now.queues c.in-Ok.i (rw c.deref.ensures.value at c.in-Ok.ensures.within) c.mark_taken.ensures c.requires.kept
+tidy-requires-clause-kept c = marked_kept c.args.table.now c.find.ensures.slots c.args.key.now c.in-Some.id (sym c.in-Some.ensures.slot) c.args.point c.args.locks.now.queues c.requires.kept c.requires.sound (slots_in c.mark_taken.new.table.rows) c.mark_taken.ensures.slots
 
 pub tidy-requires-clause-sound : goal.tidy-requires-clause-sound
-tidy-requires-clause-sound c =
-    sound_taken c.args.point c.args.locks.now.queues c.args.slots.now.items c.mark_taken.new.slots.items c.args.key.now c.in-Ok.i c.requires.sound c.requires.kept.rise (rw c.deref.ensures.value at c.in-Ok.ensures.within) ((rw c.deref.ensures.value at c.in-Ok.ensures.here) any_slot)
-    (c.mark_taken.ensures any_slot) c.requires.over
+tidy-requires-clause-sound c = marked_sound c.args.table.now c.find.ensures.slots c.args.key.now c.in-Some.id (sym c.in-Some.ensures.slot) c.args.point c.args.locks.now.queues c.requires.kept c.requires.sound (slots_in c.mark_taken.new.table.rows) c.mark_taken.ensures.slots c.requires.over
 
-pub returns-in-Ok-clause-pending : goal.returns-in-Ok-clause-pending
-returns-in-Ok-clause-pending c =
+pub returns-in-Some-clause-pending : goal.returns-in-Some-clause-pending
+returns-in-Some-clause-pending c =
     c.tidy.ensures.pending
-    ∙ pending_taken c.args.point c.args.locks.now.queues c.args.slots.now.items c.mark_taken.new.slots.items c.args.key.now c.in-Ok.i c.requires.sound c.requires.kept.rise (rw c.deref.ensures.value at c.in-Ok.ensures.within) ((rw c.deref.ensures.value at c.in-Ok.ensures.here) any_slot) (c.mark_taken.ensures any_slot)
+    ∙ marked_pending c.args.table.now c.find.ensures.slots c.args.key.now c.in-Some.id (sym c.in-Some.ensures.slot) c.args.point c.args.locks.now.queues c.requires.kept c.requires.sound (slots_in c.mark_taken.new.table.rows) c.mark_taken.ensures.slots
 
-pub returns-in-Ok-clause-rows : goal.returns-in-Ok-clause-rows
-returns-in-Ok-clause-rows c =
-    taken_there c.args.point c.args.slots.now.items c.mark_taken.new.slots.items c.tidy.new.slots.items c.args.locks.now.queues c.args.key.now c.in-Ok.i any_slot c.requires.kept.rise (rw c.deref.ensures.value at c.in-Ok.ensures.at) ((rw c.deref.ensures.value at c.in-Ok.ensures.here) any_slot)
-    c.mark_taken.ensures c.tidy.ensures.rows
+pub returns-in-Some-clause-rows : goal.returns-in-Some-clause-rows
+returns-in-Some-clause-rows c =
+    marked_rows c.args.table.now c.find.ensures.slots c.args.key.now c.in-Some.id (sym c.in-Some.ensures.slot) c.args.point c.args.locks.now.queues c.requires.kept c.requires.sound (slots_in c.mark_taken.new.table.rows) c.mark_taken.ensures.slots (slots_in c.tidy.new.table.rows) c.tidy.ensures.rows
 
 pub returns-in_default-clause-rows : goal.returns-in_default-clause-rows
-returns-in_default-clause-rows c = left_away c.args.locks.now.queues c.args.slots.now.items c.args.key.now ((rw c.deref.ensures.value at c.in_default.ensures.gap) c.args.locks.now.queues).finds
+returns-in_default-clause-rows c = left_away c.args.locks.now.queues (slots_in c.args.table.now.rows) c.args.key.now (no_record c.args.table.now.rows c.args.key.now c.args.locks.now.queues (sym c.in_default.ensures.slot))

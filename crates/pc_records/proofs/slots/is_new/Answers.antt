@@ -1,6 +1,9 @@
-use Rattle.std.proofs.Common.{sym, ap, is_none, []}
-use Rattle.std.specs.Prelude.{None, false}
+use Rattle.std.proofs.Common.{◌∙◌, ap, is_none}
+use Rattle.pc_records.proofs.TableSlots.{is_new_in}
 use Rattle.pc_records.proofs.slots.is_new.Goals as goal
 
-pub returns-in-Ok : goal.returns-in-Ok
-returns-in-Ok c queues = ap is_none (sym ((c.in-Ok.ensures.at queues).finds ([], record { value = None; is_in_open_set = false; is_in_closed_set = false; pinned = None; requests = [] })))
+pub returns-in-Some : goal.returns-in-Some
+returns-in-Some c queues = ap is_none c.in-Some.ensures.slot ∙ is_new_in c.args.table.now.rows c.args.key.now queues
+
+pub returns-in-None : goal.returns-in-None
+returns-in-None c queues = ap is_none c.in-None.ensures.slot ∙ is_new_in c.args.table.now.rows c.args.key.now queues

@@ -1,13 +1,11 @@
-use Rattle.std.proofs.Common.{◌∙◌, sym, []}
-use Rattle.pc_records.specs.Slots.{undone}
-use Rattle.pc_records.proofs.Lookups.{slot_of, no_slot, find_row, at_place, at_none}
-use Rattle.pc_records.proofs.Turning.{any_slot}
+use Rattle.std.proofs.Common.{◌∙◌, sym}
+use Rattle.pc_records.specs.Slots.{slots_in, undone}
+use Rattle.pc_records.proofs.Lookups.{at_none}
+use Rattle.pc_records.proofs.TableSlots.{no_slot_in, number_key}
 use Rattle.pc_records.proofs.slots.undo_key.Goals as goal
 
-pub returns-in-Ok : goal.returns-in-Ok
-returns-in-Ok c =
-    c.undo_slot.ensures any_slot ∙ at_place (undone c.args.point) c.args.slots.now.items c.args.key.now c.in-Ok.i any_slot c.requires (rw c.deref.ensures.value at c.in-Ok.ensures.within) ((rw c.deref.ensures.value at c.in-Ok.ensures.here) any_slot)
+pub returns-in-Some-clause-slots : goal.returns-in-Some-clause-slots
+returns-in-Some-clause-slots c = c.undo_slot.ensures.slots ∙ number_key c.args.table.now c.find.ensures.slots (undone c.args.point) c.args.key.now c.in-Some.id (sym c.in-Some.ensures.slot)
 
-pub returns-in_default : goal.returns-in_default
-returns-in_default c =
-    sym (at_none (undone c.args.point) c.args.key.now c.args.slots.now.items (no_slot [] (slot_of c.args.slots.now.items c.args.key.now) (sym (find_row [] c.args.slots.now.items c.args.key.now) ∙ ((rw c.deref.ensures.value at c.in_default.ensures.gap) []).finds)))
+pub returns-in_default-clause-slots : goal.returns-in_default-clause-slots
+returns-in_default-clause-slots c = sym (at_none (undone c.args.point) c.args.key.now (slots_in c.args.table.now.rows) (no_slot_in c.args.table.now.rows c.args.key.now (sym c.in_default.ensures.slot)))

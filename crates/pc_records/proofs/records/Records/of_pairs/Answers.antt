@@ -1,13 +1,21 @@
-use Rattle.std.proofs.Common.{◌∙◌, ap, vec_capacity, length}
-use Rattle.pc_records.proofs.SlotKeeping.{kept_first, rows-none, length-none}
-use Rattle.pc_records.proofs.SlotMoments.{sound_first, pending_first}
+use Rattle.std.proofs.Common.{◌∙◌, ap, sym, length}
+use Rattle.pc_records.specs.Slots.{slots_in, rows_of}
+use Rattle.pc_records.proofs.SlotKeeping.{length-none}
+use Rattle.pc_records.proofs.SlotMoments.{sound_first, pending_first, rows_first}
+use Rattle.pc_records.proofs.FirstSlots.{kept_first}
 use Rattle.pc_records.proofs.records.Records.of_pairs.Goals as goal
 
 pub invariant_of-result : goal.invariant_of-result
-invariant_of-result c = (
-  kept_first c.args.capacity c.args.pairs.now c.in_ok-slots.slots.items c.in_ok-free.free.items (vec_capacity c.in_ok-free.free) c.in_ok-locks.locks.queues c.requires.rise c.in_ok-slots.ensures c.in_ok-free.ensures.numbers c.in_ok-free.ensures.count c.in_ok-free.ensures.room c.in_ok-locks.ensures.queues,
-  (ap length c.in_ok-locks.ensures.queues ∙ length-none c.args.capacity, sound_first c.in_ok-locks.locks.queues c.args.pairs.now c.in_ok-slots.slots.items c.in_ok-slots.ensures),
-)
+invariant_of-result c =
+    let long = ap length c.in_ok-locks.ensures.queues ∙ length-none c.capacity.result in (
+      kept_first c.in_ok-table.table c.in_ok-locks.locks.queues c.capacity.result c.capacity.ensures.slots (sym c.capacity.ensures.count) long c.in_ok-locks.ensures.queues,
+      (long ∙ c.capacity.ensures.count, sound_first c.args.pairs.now c.in_ok-table.table.rows c.in_ok-table.ensures.cells c.in_ok-locks.locks.queues),
+    )
 
 pub returns : goal.returns
-returns c = rw (rows-none c.args.capacity c.args.pairs.now c.in_ok-slots.slots.items c.in_ok-locks.locks.queues c.in_ok-slots.ensures c.in_ok-locks.ensures.queues, pending_first c.args.pairs.now c.in_ok-slots.slots.items c.in_ok-slots.ensures)
+returns c = λ i. record {
+  capacity = c.in_ok-table.ensures.capacity i;
+  rows = (ap (λ qs. rows_of qs (slots_in c.in_ok-table.table.rows)) c.in_ok-locks.ensures.queues ∙ rows_first c.args.pairs.now c.in_ok-table.table.rows c.in_ok-table.ensures.cells c.capacity.result) i;
+  pending = pending_first c.args.pairs.now c.in_ok-table.table.rows c.in_ok-table.ensures.cells i;
+  point = 0;
+}
