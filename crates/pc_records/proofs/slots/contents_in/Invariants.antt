@@ -1,0 +1,6 @@
+use Rattle.pc_records.proofs.slots.contents_in.Given as goal
+use Rattle.pc_records.proofs.CommittedPairs.{AreContents}
+
+-- what is committed in the slots so far
+abbrev pub invariant-loop-id : goal.invariant-loop-id
+invariant-loop-id l = AreContents l.table l.id l.contents.items
