@@ -5,6 +5,7 @@ ghost use Rattle.std.specs.Cmp.Lexicographic.{slice_cmp};
 ghost use Rattle.pc_types.specs.Limits.{IsKey};
 
 use crate::limits::MOST_KEY_BYTES;
+use crate::ordering::order;
 use crate::refusal::Refusal;
 use smallvec::SmallVec;
 use std::alloc::{AllocError, Global};
@@ -60,7 +61,7 @@ impl Key {
     pub fn compare(&self, other: &Key) -> Ordering
         ensures { result ≡ slice_cmp nat_cmp self.now other.now }
     {
-        self.as_bytes().cmp(&other.as_bytes())
+        order(self.as_bytes(), other.as_bytes())
     }
 
     /// Whether the keys are the same.

@@ -10,6 +10,7 @@ mod limits;
 mod lists;
 mod locking;
 mod numbers;
+mod ordering;
 mod receipts;
 mod refusal;
 mod tally;

@@ -1,0 +1,54 @@
+//! The order of bytes, eight at a time.
+ghost use Rattle.std.specs.Prelude.{◌≡◌, ◌+◌, ◌≤◌, length, take, drop};
+ghost use Rattle.std.specs.Ordering.{nat_cmp};
+ghost use Rattle.std.specs.Cmp.Lexicographic.{slice_cmp};
+ghost use Rattle.std.specs.Slice.Scan.{big_endian};
+
+use std::cmp::Ordering;
+
+/// How the bytes are ordered: by the first place at which they differ, and a proper beginning before what it begins. Eight bytes
+/// are compared as one number, the highest byte first.
+pub(crate) fn order(a: &[u8], b: &[u8]) -> Ordering
+    ensures { result ≡ slice_cmp nat_cmp a.now b.now }
+{
+    let words = a.len().min(b.len()) / 8;
+    for place in 0..words {
+        let (x, y) = (word_at(a, place * 8), word_at(b, place * 8));
+        if x != y {
+            return x.cmp(&y);
+        }
+    }
+    order_behind(a, b, words * 8)
+}
+
+// How the bytes from there on are ordered.
+fn order_behind(a: &[u8], b: &[u8], start: usize) -> Ordering
+    requires { (start ≤ length a.now) × (start ≤ length b.now) }
+    ensures { result ≡ slice_cmp nat_cmp (drop start a.now) (drop start b.now) }
+{
+    let end = a.len().min(b.len());
+    for place in start..end {
+        let (x, y) = (a[place], b[place]);
+        if x != y {
+            return x.cmp(&y);
+        }
+    }
+    a.len().cmp(&b.len())
+}
+
+// The number that the eight bytes from there on spell, the highest one first.
+fn word_at(bytes: &[u8], start: usize) -> u64
+    requires { start + 8 ≤ length bytes.now }
+    ensures { result ≡ big_endian 0 (take 8 (drop start bytes.now)) }
+{
+    u64::from_be_bytes([
+        bytes[start],
+        bytes[start + 1],
+        bytes[start + 2],
+        bytes[start + 3],
+        bytes[start + 4],
+        bytes[start + 5],
+        bytes[start + 6],
+        bytes[start + 7],
+    ])
+}
