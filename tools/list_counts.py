@@ -2,7 +2,7 @@
 """Prints what the programs pc_lists and pc_crowds must print, by the slow store of plain_store.py.
 
     list_counts.py lists [FAMILY..]     every short list of events, for crates/pc_lists/stdout
-    list_counts.py crowds               crowds of sessions at one key, and a long walk, for crates/pc_crowds/stdout
+    list_counts.py crowds               crowds of sessions at one key, fresh keys, and a long walk, for crates/pc_crowds/stdout
 
 It goes through the same lists, crowds and walk as the programs, and counts and sums up the replies in the same way (the
 doc comment of `Sums` in crates/pc_asks/src/sums.rt has the sum). It shares no code with them. All lists take about three
@@ -244,11 +244,34 @@ def crowd(stride, is_reading):
     return asker.sums.text("in steps of %d, %s" % (stride, "most read" if is_reading else "most write"))
 
 
+def fresh_keys():
+    """1,000 keys come and go in a store with room for two: each is put, removed and taken as a tombstone, alone in its part."""
+    asker = Asker(1, 2)
+    for n in range(1000):
+        key, number = n.to_bytes(4, "big"), 7 * n
+        asker.wants(("begun", 2 * n + 1), "begin", 1)
+        asker.wants(("ok",), "put", 1, key, b"here")
+        asker.wants(("committed", number + 1), "commit", 1)
+        asker.wants(("begun", 2 * n + 2), "begin", 1)
+        asker.wants(("ok",), "del", 1, key)
+        asker.wants(("committed", number + 2), "commit", 1)
+        asker.wants(("phase", "prepare", n + 1), "point")
+        asker.wants(("phase", "resolve", n + 1), "seal")
+        asker.wants(("phase", "capture", n + 1), "capture")
+        asker.wants(("took", key, None), "take")
+        asker.wants(("noneleft",), "take")
+        asker.wants(("partdone", n + 1, n + 1, 1), "done")
+        asker.wants(("phase", "rest", n + 1), "rest")
+    asker.sums.checks += 1
+    return asker.sums.text("keys that come and go")
+
+
 def print_crowds():
     sys.stdout.write(one_by_one())
     for stride in (1, 63, 27, 45):
         for is_reading in (False, True):
             sys.stdout.write(crowd(stride, is_reading))
+    sys.stdout.write(fresh_keys())
 
 
 # A long walk by chance.

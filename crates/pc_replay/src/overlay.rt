@@ -10,7 +10,6 @@ ghost use Rattle.pc_model.specs.Merges.{with_content, with_item};
 ghost use Rattle.pc_model.specs.Places.{IsAt};
 
 use crate::samples::KeySamples;
-use crate::tree::TreeKey;
 use itertools::{EitherOrBoth, Itertools};
 use pc_types::{Items, Key, Value, Write};
 use std::alloc::{AllocError, Global};
@@ -27,7 +26,7 @@ pub struct Overlay {
     // Where the keys may be among them.
     samples: KeySamples,
     // Keys that are not, or no longer, as the pairs say: each is set or absent.
-    changes: BTreeMap<TreeKey, Option<Value>>,
+    changes: BTreeMap<Key, Option<Value>>,
 }
 
 impl Model for Overlay {
@@ -136,30 +135,30 @@ fn replace(pairs: &mut Vec<(Key, Value)>, i: usize, key: &Key, value: Value)
 
 // Notes that the key is set or absent.
 fn note(
-    changes: &mut BTreeMap<TreeKey, Option<Value>>,
+    changes: &mut BTreeMap<Key, Option<Value>>,
     key: Key,
     content: Option<Value>,
 ) -> Result<(), AllocError>
     ensures { OnOk result (Updates key_cmp changes.old changes.new key (Some content)) }
 {
-    match changes.insert(TreeKey(key), content) {
+    match changes.insert(key, content) {
         Ok(_) => Ok(()),
         Err(_) => Err(AllocError),
     }
 }
 
 // The key is as the pairs say.
-fn forget(changes: &mut BTreeMap<TreeKey, Option<Value>>, key: Key)
+fn forget(changes: &mut BTreeMap<Key, Option<Value>>, key: Key)
     ensures { Updates key_cmp changes.old changes.new key None }
 {
-    changes.remove(&TreeKey(key));
+    changes.remove(&key);
 }
 
 // The pairs with the changes laid over: both are gone through together, from the least key up.
 fn merged(
     alloc: Global,
     pairs: Vec<(Key, Value)>,
-    changes: BTreeMap<TreeKey, Option<Value>>,
+    changes: BTreeMap<Key, Option<Value>>,
 ) -> Result<Vec<(Key, Value)>, AllocError>
     requires { KeysRise pairs.items }
     ensures rise { IfOk result (λ out. KeysRise out.items) }
@@ -168,7 +167,7 @@ fn merged(
     let mut out = Vec::with_capacity(alloc, pairs.len() + changes.len())?;
     for item in pairs
         .into_iter()
-        .merge_join_by(changes, |pair, change| pair.0.compare(&change.0.0))
+        .merge_join_by(changes, |pair, change| pair.0.compare(&change.0))
     {
         if let Some(pair) = overlaid_item(item) {
             out.push(pair)?;
@@ -178,12 +177,12 @@ fn merged(
 }
 
 // What a key has, once its change, if there is one, is laid over its pair, if there is one.
-fn overlaid_item(item: EitherOrBoth<(Key, Value), (TreeKey, Option<Value>)>) -> Option<(Key, Value)>
+fn overlaid_item(item: EitherOrBoth<(Key, Value), (Key, Option<Value>)>) -> Option<(Key, Value)>
     ensures { with_item overlaid_there item [] ≡ option_to_list result }
 {
     match item {
         EitherOrBoth::Left(pair) => Some(pair),
-        EitherOrBoth::Right(change) => changed(change.0.0, change.1),
+        EitherOrBoth::Right(change) => changed(change.0, change.1),
         EitherOrBoth::Both(pair, change) => changed(pair.0, change.1),
     }
 }

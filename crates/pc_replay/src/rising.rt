@@ -4,7 +4,6 @@ ghost use Rattle.std.specs.BTreeMap.{Updates, IsOrdered};
 ghost use Rattle.pc_model.specs.Maps.{from_list};
 ghost use Rattle.pc_model.specs.Database.{key_cmp, key_order};
 
-use crate::tree::TreeKey;
 use pc_types::{Key, Value, copy_content};
 use std::alloc::{AllocError, Global};
 use std::collections::BTreeMap;
@@ -27,13 +26,13 @@ pub fn first_of_each(
 // Sets what the key has, to a copy.
 fn put(
     alloc: Global,
-    entries: &mut BTreeMap<TreeKey, Option<Value>>,
+    entries: &mut BTreeMap<Key, Option<Value>>,
     key: &Key,
     content: &Option<Value>,
 ) -> Result<(), AllocError>
     ensures { OnOk result (Updates key_cmp entries.old entries.new key.now (Some content.now)) }
 {
-    let key = TreeKey(key.copy(alloc)?);
+    let key = key.copy(alloc)?;
     let content = copy_content(alloc, content)?;
     match entries.insert(key, content) {
         Ok(_) => Ok(()),
@@ -44,14 +43,13 @@ fn put(
 // The entries, rising by key.
 fn entries_in(
     alloc: Global,
-    entries: BTreeMap<TreeKey, Option<Value>>,
+    entries: BTreeMap<Key, Option<Value>>,
 ) -> Result<Vec<(Key, Option<Value>)>, AllocError>
     ensures same { IfOk result (λ out. out.items ≡ entries.entries) }
     ensures ordered { IsOrdered key_cmp entries }
 {
     let mut out = Vec::with_capacity(alloc, entries.len())?;
     for (key, content) in entries {
-        let TreeKey(key) = key;
         out.push((key, content))?;
     }
     Ok(out)

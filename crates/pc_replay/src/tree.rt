@@ -11,83 +11,13 @@ ghost use Rattle.pc_replay.specs.Trees.{has_all};
 
 use pc_types::{Entry, Key, Point, Triple, Value, Write};
 use std::alloc::{AllocError, Global};
-use std::cmp::Ordering;
 use std::collections::BTreeMap;
 use std::marker::Model;
-
-// A key of a tree, ordered byte by byte.
-#[derive(Drop)]
-pub(crate) struct TreeKey(pub(crate) Key);
-
-impl Model for TreeKey {
-    ghost use Rattle.std.specs.Prelude.{ℕ, List};
-    ghost use Rattle.std.specs.Coded.{coded_list, coded_ℕ};
-
-    ghost Value = { List ℕ };
-
-    ghost coded = { coded_list coded_ℕ };
-
-    ghost view = { λ a. a.0 };
-}
-
-impl PartialEq for TreeKey {
-    ghost use Rattle.std.specs.Cmp.{partial_equiv_from_equiv, eq_by_cmp_equiv};
-    ghost use Rattle.std.specs.Cmp.Lexicographic.{nat_list_cmp_total};
-    ghost use Rattle.pc_model.specs.Database.{same_bytes};
-
-    ghost eq = { same_bytes };
-
-    ghost laws = { partial_equiv_from_equiv (eq_by_cmp_equiv nat_list_cmp_total) };
-
-    fn eq(&self, other: &TreeKey) -> bool {
-        self.0.is(&other.0)
-    }
-}
-
-impl Eq for TreeKey {
-    ghost use Rattle.std.specs.Cmp.{eq_by_cmp_equiv};
-    ghost use Rattle.std.specs.Cmp.Lexicographic.{nat_list_cmp_total};
-
-    ghost laws = { eq_by_cmp_equiv nat_list_cmp_total };
-}
-
-impl PartialOrd for TreeKey {
-    ghost use Rattle.std.specs.Cmp.{partial_order_from_total};
-    ghost use Rattle.std.specs.Cmp.Lexicographic.{nat_list_cmp_total};
-    ghost use Rattle.std.specs.Ordering.{as_partial_cmp};
-    ghost use Rattle.pc_model.specs.Database.{key_cmp};
-
-    ghost partial_cmp = { as_partial_cmp key_cmp };
-
-    ghost laws = { partial_order_from_total nat_list_cmp_total };
-
-    fn partial_cmp(&self, other: &TreeKey) -> Option<Ordering> {
-        Some(self.cmp(other))
-    }
-}
-
-impl Ord for TreeKey {
-    ghost use Rattle.std.specs.Prelude.{refl};
-    ghost use Rattle.std.specs.Cmp.Lexicographic.{nat_list_cmp_total};
-    ghost use Rattle.pc_model.specs.Database.{key_cmp};
-
-    ghost cmp = { key_cmp };
-
-    ghost total = { nat_list_cmp_total };
-
-    ghost matches_partial_cmp = { λ a b. refl };
-
-    ghost matches_eq = { λ a b. refl };
-
-    fn cmp(&self, other: &TreeKey) -> Ordering {
-        self.0.compare(&other.0)
-    }
-}
 
 /// A database in memory.
 #[derive(Drop)]
 pub(crate) struct Tree {
-    pairs: BTreeMap<TreeKey, Value>,
+    pairs: BTreeMap<Key, Value>,
 }
 
 impl Model for Tree {
@@ -121,17 +51,16 @@ impl Tree {
     ) -> Result<(), AllocError>
         ensures { OnOk result (self.new ≡ put self.old key.now content.now) }
     {
-        let key = TreeKey(key.copy(alloc)?);
         match content {
-            Some(value) => self.insert(key, value.copy(alloc)?),
+            Some(value) => self.insert(key.copy(alloc)?, value.copy(alloc)?),
             None => {
-                self.remove(&key);
+                self.remove(key);
                 Ok(())
             }
         }
     }
 
-    fn insert(&mut self, key: TreeKey, value: Value) -> Result<(), AllocError>
+    fn insert(&mut self, key: Key, value: Value) -> Result<(), AllocError>
         ensures { OnOk result (self.new ≡ map.insert self.old key value) }
     {
         match self.pairs.insert(key, value) {
@@ -140,7 +69,7 @@ impl Tree {
         }
     }
 
-    fn remove(&mut self, key: &TreeKey)
+    fn remove(&mut self, key: &Key)
         ensures { self.new ≡ map.remove self.old key.now }
     {
         self.pairs.remove(key);
@@ -153,7 +82,7 @@ impl Tree {
         let mut tree = Tree::new(alloc);
         for i in 0..pairs.len() {
             let pair = &pairs[pairs.len() - 1 - i];
-            let key = TreeKey(pair.0.copy(alloc)?);
+            let key = pair.0.copy(alloc)?;
             tree.insert(key, pair.1.copy(alloc)?)?;
         }
         Ok(tree)
@@ -213,7 +142,7 @@ impl Tree {
     }
 
     // Whether the key has this value.
-    fn has(&self, key: &TreeKey, value: &Value) -> bool
+    fn has(&self, key: &Key, value: &Value) -> bool
         ensures { result ≡ same_content (Some value.now) (map.get self.now key.now) }
     {
         match self.pairs.get(key) {
@@ -224,7 +153,7 @@ impl Tree {
 }
 
 // Whether the database has each of the pairs.
-fn all_in(pairs: &BTreeMap<TreeKey, Value>, other: &Tree) -> bool
+fn all_in(pairs: &BTreeMap<Key, Value>, other: &Tree) -> bool
     ensures all { result ≡ list_all (λ e. same_content (Some e.1) (map.get other.now e.0)) pairs.now.entries }
     ensures ordered { IsOrdered key_cmp pairs.now }
 {

@@ -21,9 +21,12 @@ pub struct Key {
 
 impl Model for Key {
     ghost use Rattle.std.specs.Prelude.{ℕ, List};
+    ghost use Rattle.std.specs.Coded.{coded_list, coded_ℕ};
     ghost use Rattle.pc_types.specs.Limits.{IsKey};
 
     ghost Value = { List ℕ };
+
+    ghost coded = { coded_list coded_ℕ };
 
     ghost view = { λ k. k.bytes.items };
 
@@ -78,5 +81,58 @@ impl Key {
     {
         let bytes = SmallVec::from_slice(alloc, self.as_bytes())?;
         Ok(Key { bytes })
+    }
+}
+
+impl PartialEq for Key {
+    ghost use Rattle.std.specs.Ordering.{nat_cmp, eq_by_cmp};
+    ghost use Rattle.std.specs.Cmp.{partial_equiv_from_equiv, eq_by_cmp_equiv};
+    ghost use Rattle.std.specs.Cmp.Lexicographic.{slice_cmp, nat_list_cmp_total};
+
+    ghost eq = { eq_by_cmp (slice_cmp nat_cmp) };
+
+    ghost laws = { partial_equiv_from_equiv (eq_by_cmp_equiv nat_list_cmp_total) };
+
+    fn eq(&self, other: &Key) -> bool {
+        self.is(other)
+    }
+}
+
+impl Eq for Key {
+    ghost use Rattle.std.specs.Cmp.{eq_by_cmp_equiv};
+    ghost use Rattle.std.specs.Cmp.Lexicographic.{nat_list_cmp_total};
+
+    ghost laws = { eq_by_cmp_equiv nat_list_cmp_total };
+}
+
+impl PartialOrd for Key {
+    ghost use Rattle.std.specs.Ordering.{nat_cmp, as_partial_cmp};
+    ghost use Rattle.std.specs.Cmp.{partial_order_from_total};
+    ghost use Rattle.std.specs.Cmp.Lexicographic.{slice_cmp, nat_list_cmp_total};
+
+    ghost partial_cmp = { as_partial_cmp (slice_cmp nat_cmp) };
+
+    ghost laws = { partial_order_from_total nat_list_cmp_total };
+
+    fn partial_cmp(&self, other: &Key) -> Option<Ordering> {
+        Some(self.compare(other))
+    }
+}
+
+impl Ord for Key {
+    ghost use Rattle.std.specs.Prelude.{refl};
+    ghost use Rattle.std.specs.Ordering.{nat_cmp};
+    ghost use Rattle.std.specs.Cmp.Lexicographic.{slice_cmp, nat_list_cmp_total};
+
+    ghost cmp = { slice_cmp nat_cmp };
+
+    ghost total = { nat_list_cmp_total };
+
+    ghost matches_partial_cmp = { λ a b. refl };
+
+    ghost matches_eq = { λ a b. refl };
+
+    fn cmp(&self, other: &Key) -> Ordering {
+        self.compare(other)
     }
 }
