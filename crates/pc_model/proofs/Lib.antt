@@ -8,6 +8,7 @@ pub mod SearchLaws
 pub mod MergeItemLaws
 pub mod MergeLaws
 pub mod CountLaws
+pub mod KeyTreeLaws
 mod Queues
 mod Ample
 mod Causes
@@ -41,6 +42,7 @@ mod ExamplesOfRules
 pub mod QueueLaws
 mod Holding
 pub mod WrittenKeyLaws
+pub mod DistinctWriteLaws
 mod SessionLocks
 pub mod LegalQueueLaws
 pub mod OccupiedKeyLaws

@@ -6,6 +6,7 @@ pub mod Log
 pub mod History
 pub mod Limits
 pub mod FewWrites
+pub mod DistinctWrites
 pub mod Locks
 pub mod Points
 pub mod Files

@@ -18,11 +18,8 @@ use Rattle.pc_model.specs.Database.{Database, database_of, key_cmp, key_order, s
 use Rattle.pc_model.proofs.MapLaws.{get-from_list, get-entries}
 use Rattle.pc_model.proofs.PairMapLaws.{same_database, entries_of, tested}
 use Rattle.pc_model.proofs.JoinLaws.{get_put, one_key}
+use Rattle.pc_model.proofs.KeyTreeLaws.{find-lookup, sorted_is}
 use Rattle.pc_model.proofs.RisingLaws.{none_found}
-
-pub find-lookup : {X : Type 0} (es : List (List ℕ × X)) (q : List ℕ) → find key_cmp q es ≡ lookup (same_bytes q) es
-find-lookup [] q = refl
-find-lookup (e ∷ es) q = ap (cond (same_bytes q e.0) (Some e.1)) (find-lookup es q)
 
 -- a look-up in the tree is one in the database
 pub get-tree : (m : BTreeMap (List ℕ) (List ℕ)) (q : List ℕ) → get (database_of m.entries) q ≡ tree.get key_cmp m q
@@ -34,16 +31,6 @@ pub put-tree : (old new : BTreeMap (List ℕ) (List ℕ)) (key : List ℕ) (cont
 put-tree old new key content updates = same_database _ _ (λ q.
     get-tree new q ∙ updates q ∙ ap (λ b. cond b content (tree.get key_cmp old q)) ((eq_by_cmp_equiv key_order.total).symm key q)
     ∙ ap (cond (same_bytes q key) content) (sym (get-tree old q)) ∙ sym (get_put (database_of old.entries) key q content))
-
-below_all_is : {X : Type 0} (key : List ℕ) (es : List (List ℕ × X)) → AllByRecursion (λ y. key_cmp key y ≡ Less) (keys_of es) → below_all key_cmp key es ≡ true
-below_all_is key [] below = refl
-below_all_is key (e ∷ es) below = ap (λ o. is_lt o && below_all key_cmp key es) below.0 ∙ below_all_is key es below.1
-
--- keys that rise in order are sorted
-pub sorted_is : {X : Type 0} (es : List (List ℕ × X)) → IsStrictlySortedBy key_cmp (keys_of es) → is_sorted key_cmp es ≡ true
-sorted_is [] rise = refl
-sorted_is (e ∷ es) rise =
-    ap (λ b. b && is_sorted key_cmp es) (below_all_is e.0 es (sorted_head key_cmp e.0 (keys_of es) rise)) ∙ sorted_is es (sorted_tail key_cmp e.0 (keys_of es) rise)
 
 -- a tree's entries are its database's
 pub entries_of_tree : (m : BTreeMap (List ℕ) (List ℕ)) → tree.IsOrdered key_cmp m → (database_of m.entries).entries ≡ m.entries

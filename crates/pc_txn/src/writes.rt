@@ -1,6 +1,7 @@
 //! A write set: the final write of each key.
 ghost use Rattle.std.specs.Prelude.{◌≡◌, ◌<◌, ◌==◌, ◌&&◌, [], length, slice_set, is_none, is_some, IsOk, OnOk, IfOk, IfErr};
 ghost use Rattle.pc_model.specs.Database.{with_write, written};
+ghost use Rattle.pc_model.specs.DistinctWrites.{AreDistinct};
 ghost use Rattle.pc_model.specs.Places.{IsAt, IsGap};
 ghost use Rattle.pc_txn.specs.Orders.{key_at, entries, IsOrder};
 ghost use Rattle.pc_txn.specs.Sets.{Roomy, written_keys};
@@ -22,6 +23,7 @@ pub struct WriteSet {
 impl Model for WriteSet {
     ghost use Rattle.std.specs.Prelude.{◌-◌, length, min, vec_len, vec_capacity};
     ghost use Rattle.pc_types.specs.declared.Write.{Write};
+    ghost use Rattle.pc_model.specs.DistinctWrites.{AreDistinct};
     ghost use Rattle.pc_txn.specs.Orders.{IsOrder};
     ghost use Rattle.pc_txn.specs.Sets.{Roomy, written_keys};
 
@@ -29,7 +31,7 @@ impl Model for WriteSet {
 
     ghost view = { λ a. record { items = a.writes.items; room = min (vec_capacity a.writes - vec_len a.writes) (a.order.capacity - length a.order.items) } };
 
-    ghost invariant = { λ a. IsOrder (written_keys a.writes.items) a.order.items };
+    ghost invariant = { λ a. IsOrder (written_keys a.writes.items) a.order.items × AreDistinct a.writes.items };
 }
 
 impl WriteSet {
@@ -45,7 +47,8 @@ impl WriteSet {
 
     /// The final write of each key, in the order of first writes.
     pub fn as_slice(&self) -> &[Write]
-        ensures { result.now ≡ self.now.items }
+        ensures writes { result.now ≡ self.now.items }
+        ensures distinct { AreDistinct result.now }
     {
         self.writes.as_slice()
     }
