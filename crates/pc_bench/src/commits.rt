@@ -9,6 +9,7 @@ use pc_engine::World;
 use pc_part::Base;
 use pc_types::{Event, Key, Refusal, Reply, SessionNo, Value};
 use std::alloc::Global;
+use std::hash::RandomState;
 use std::rt::Clock;
 use std::time::{Duration, Instant};
 
@@ -63,14 +64,14 @@ pub struct Committed {
 pub fn measure_commits(
     alloc: Global,
     clock: &impl Clock,
+    seed: RandomState,
     rounds: Rounds,
 ) -> Result<Committed, Failure>
     ensures committed { IfOk result (λ done. done.committed ≡ rounds.commits) }
     ensures points { rounds.has_points ≡ true → IfOk result (λ done. events_of done.asked ≡ rounds.commits) }
     ensures none { rounds.has_points ≡ false → IfOk result (λ done. events_of done.asked ≡ 0) }
 {
-    let base = Base::start(1, Vec::new(alloc));
-    let mut world = World::new(alloc, base, 1, rounds.keys)?;
+    let mut world = World::new(alloc, Base::start(1, Vec::new(alloc)), 1, rounds.keys, seed)?;
     let start = Instant::now(clock)?;
     let (committed, asked) = commit_all(alloc, &mut world, rounds)?;
     let time = start.elapsed(clock)?;

@@ -18,6 +18,7 @@ use joins::measure_join;
 use options::{Cycles, Options, Restart, Rounds, Work, options_of};
 use points::measure_points;
 use recoveries::{Restarted, measure_recovery};
+use std::hash::RandomState;
 use std::process::ExitCode;
 use std::time::Duration;
 use std::{env, io};
@@ -81,7 +82,7 @@ fn run_join(rt: &HostRuntime, entries: u32, is_timed: bool) -> Result<(), Failur
 }
 
 fn run_points(rt: &HostRuntime, cycles: Cycles, is_timed: bool) -> Result<(), Failure> {
-    let done = measure_points(rt.alloc(), rt, cycles)?;
+    let done = measure_points(rt.alloc(), rt, RandomState::new(rt)?, cycles)?;
     for (i, cycle) in done.iter().enumerate() {
         print!(rt; "point {} taken {}", i + 1, cycle.taken)?;
         if is_timed {
@@ -93,10 +94,9 @@ fn run_points(rt: &HostRuntime, cycles: Cycles, is_timed: bool) -> Result<(), Fa
 }
 
 fn run_commits(rt: &HostRuntime, rounds: Rounds, is_timed: bool) -> Result<(), Failure> {
-    match measure_commits(rt.alloc(), rt, rounds) {
-        Ok(done) => Ok(tell_commits(rt, &done, is_timed)?),
-        Err(why) => Err(why),
-    }
+    let seed = RandomState::new(rt)?;
+    let done = measure_commits(rt.alloc(), rt, seed, rounds)?;
+    Ok(tell_commits(rt, &done, is_timed)?)
 }
 
 fn tell_commits(rt: &HostRuntime, done: &Committed, is_timed: bool) -> io::Result<()> {
@@ -110,10 +110,8 @@ fn tell_commits(rt: &HostRuntime, done: &Committed, is_timed: bool) -> io::Resul
 }
 
 fn run_recover(rt: &HostRuntime, restart: Restart, is_timed: bool) -> Result<(), Failure> {
-    match measure_recovery(rt.alloc(), rt, restart) {
-        Ok(done) => Ok(tell_recover(rt, &done, is_timed)?),
-        Err(why) => Err(why),
-    }
+    let done = measure_recovery(rt.alloc(), rt, restart)?;
+    Ok(tell_recover(rt, &done, is_timed)?)
 }
 
 fn tell_recover(rt: &HostRuntime, done: &Restarted, is_timed: bool) -> io::Result<()> {

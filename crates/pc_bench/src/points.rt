@@ -7,6 +7,7 @@ use pc_engine::World;
 use pc_part::Base;
 use pc_types::{Event, Key, Refusal, Reply, SessionNo, Value};
 use std::alloc::Global;
+use std::hash::RandomState;
 use std::rt::Clock;
 use std::time::{Duration, Instant};
 
@@ -28,13 +29,13 @@ pub struct Cycle {
 pub fn measure_points(
     alloc: Global,
     clock: &impl Clock,
+    seed: RandomState,
     cycles: Cycles,
 ) -> Result<Vec<Cycle>, Failure>
     ensures cycles { IfOk result (λ done. length done.items ≡ cycles.points) }
     ensures taken { IfOk result (λ done. All (λ cycle. cycle.taken ≤ cycles.keys) done.items) }
 {
-    let base = Base::start(1, Vec::new(alloc));
-    let mut world = World::new(alloc, base, 1, cycles.keys)?;
+    let mut world = World::new(alloc, Base::start(1, Vec::new(alloc)), 1, cycles.keys, seed)?;
     let mut done = Vec::new(alloc);
     for _ in 0..cycles.points {
         write_all(alloc, &mut world, cycles.keys)?;

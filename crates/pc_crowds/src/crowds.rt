@@ -6,6 +6,7 @@ use pc_engine::World;
 use pc_part::Base;
 use pc_types::{Refusal, Reply};
 use std::alloc::Global;
+use std::hash::RandomState;
 
 const WORD: [u8; 64] = [b'w'; 64];
 
@@ -85,9 +86,9 @@ fn end(asker: &mut Asker, crowd: Crowd) -> Result<(), Refusal> {
 }
 
 /// All begin and come to the key; then each has a turn, until none ends in it. The store is checked at the end. It fails
-/// only where memory ran out.
-pub fn sums_of_crowd(alloc: Global, crowd: Crowd) -> Result<Sums, Refusal> {
-    let world = World::new(alloc, Base::start(1, Vec::new(alloc)), 64, 2)?;
+/// only where memory ran out. The seed is that of the hashes of the store's keys.
+pub fn sums_of_crowd(alloc: Global, seed: RandomState, crowd: Crowd) -> Result<Sums, Refusal> {
+    let world = World::new(alloc, Base::start(1, Vec::new(alloc)), 64, 2, seed)?;
     let mut asker = Asker::new(alloc, world);
     go_to_the_end(&mut asker, crowd)?;
     Ok(asker.into_sums())
@@ -164,8 +165,9 @@ fn look_back(asker: &mut Asker) -> Result<(), Refusal> {
 
 /// Half of the sessions wait for one another and are granted in the order in which they came, in a store with room for
 /// one key; the other half dies. The store is checked at the end. It fails only where memory ran out.
-pub fn sums_one_by_one(alloc: Global) -> Result<Sums, Refusal> {
-    let world = World::new(alloc, Base::start(1, Vec::new(alloc)), 64, 1)?;
+/// The seed is that of the hashes of the store's keys.
+pub fn sums_one_by_one(alloc: Global, seed: RandomState) -> Result<Sums, Refusal> {
+    let world = World::new(alloc, Base::start(1, Vec::new(alloc)), 64, 1, seed)?;
     let mut asker = Asker::new(alloc, world);
     go_one_by_one(&mut asker)?;
     Ok(asker.into_sums())

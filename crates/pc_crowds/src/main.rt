@@ -9,6 +9,7 @@ mod walk;
 use crowds::{Crowd, sums_of_crowd, sums_one_by_one};
 use pc_asks::{Sums, tell};
 use pc_types::Refusal;
+use std::hash::RandomState;
 use std::io;
 use std::process::ExitCode;
 use walk::sums_of_walk;
@@ -16,7 +17,7 @@ use walk::sums_of_walk;
 // From the oldest on, from the youngest on, and in two mixed orders.
 const STRIDES: [u32; 4] = [1, 63, 27, 45];
 
-// The status is 1 where memory or the output failed.
+// The status is 1 where memory, the output or the draw of a seed failed.
 fn main(rt: HostRuntime) -> ExitCode {
     match run(&rt) {
         Ok(()) => ExitCode::from(0),
@@ -24,25 +25,27 @@ fn main(rt: HostRuntime) -> ExitCode {
     }
 }
 
+// All stores hash their keys under one seed.
 fn run(rt: &HostRuntime) -> io::Result<()> {
-    tell_or_fail(rt, "one by one", sums_one_by_one(rt.alloc()))?;
-    run_crowds(rt)?;
-    tell_or_fail(rt, "a long walk", sums_of_walk(rt.alloc()))
+    let seed = RandomState::new(rt)?;
+    tell_or_fail(rt, "one by one", sums_one_by_one(rt.alloc(), seed))?;
+    run_crowds(rt, seed)?;
+    tell_or_fail(rt, "a long walk", sums_of_walk(rt.alloc(), seed))
 }
 
-fn run_crowds(rt: &HostRuntime) -> io::Result<()> {
+fn run_crowds(rt: &HostRuntime, seed: RandomState) -> io::Result<()> {
     for stride in STRIDES {
-        run_crowd(rt, stride, false)?;
-        run_crowd(rt, stride, true)?;
+        run_crowd(rt, seed, stride, false)?;
+        run_crowd(rt, seed, stride, true)?;
     }
     Ok(())
 }
 
-fn run_crowd(rt: &HostRuntime, stride: u32, is_reading: bool) -> io::Result<()> {
+fn run_crowd(rt: &HostRuntime, seed: RandomState, stride: u32, is_reading: bool) -> io::Result<()> {
     let most = if is_reading { "read" } else { "write" };
     let name = format!(in rt.alloc(); "in steps of {stride}, most {most}")?;
     let crowd = Crowd { stride, is_reading };
-    tell_or_fail(rt, name.as_str(), sums_of_crowd(rt.alloc(), crowd))
+    tell_or_fail(rt, name.as_str(), sums_of_crowd(rt.alloc(), seed, crowd))
 }
 
 fn tell_or_fail(rt: &HostRuntime, name: &str, sums: Result<Sums, Refusal>) -> io::Result<()> {

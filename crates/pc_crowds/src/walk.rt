@@ -6,6 +6,7 @@ use pc_engine::World;
 use pc_part::Base;
 use pc_types::{Phase, Refusal, Reply};
 use std::alloc::Global;
+use std::hash::RandomState;
 
 const LETTERS: [u8; 50] = *b"ABCDEFGHIJKLMNOPQRSTUVWXYZabcdefghijklmnopqrstuvwx";
 
@@ -187,8 +188,9 @@ fn go(asker: &mut Asker) -> Result<(), Refusal> {
 }
 
 /// Walks 100,000 steps. The store is checked at each tenth of them, and at the end. It fails only where memory ran out.
-pub fn sums_of_walk(alloc: Global) -> Result<Sums, Refusal> {
-    let world = World::new(alloc, Base::start(1, Vec::new(alloc)), 8, 50)?;
+/// The seed is that of the hashes of the store's keys, and not of the walk.
+pub fn sums_of_walk(alloc: Global, seed: RandomState) -> Result<Sums, Refusal> {
+    let world = World::new(alloc, Base::start(1, Vec::new(alloc)), 8, 50, seed)?;
     let mut asker = Asker::new(alloc, world);
     go(&mut asker)?;
     Ok(asker.into_sums())

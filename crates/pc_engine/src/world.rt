@@ -25,6 +25,7 @@ use pc_records::Records;
 use pc_types::{Entry, Event, FileNo, Key, MOST_KEYS, MOST_SESSIONS, Phase, Refusal, Reply, Value};
 use std::alloc::Global;
 use std::collections::VecDeque;
+use std::hash::RandomState;
 use std::marker::Model;
 
 /// A store in memory. It answers events, one after the other.
@@ -77,8 +78,16 @@ impl Model for World {
 impl World {
     /// A store that starts from the base, with this many sessions and room for as many keys as the capacity: it stands
     /// after no step. Refuses with `Full` exactly where the base's pairs are more than there is room for, and else only with
-    /// `OutOfMemory`. The base stands at point 0.
-    pub fn new(alloc: Global, base: Base, sessions: u8, capacity: u32) -> Result<World, Refusal>
+    /// `OutOfMemory`. The base stands at point 0. The seed is that of the hashes of keys: two words given by chance
+    /// (`RandomState::new`), so that no client can pick keys that all share a chain. Which replies are legal doesn't depend on
+    /// it.
+    pub fn new(
+        alloc: Global,
+        base: Base,
+        sessions: u8,
+        capacity: u32,
+        seed: RandomState,
+    ) -> Result<World, Refusal>
         requires start { base.point ≡ 0 }
         requires sessions { (1 ≤ sessions) × (sessions ≤ MOST_SESSIONS) }
         requires capacity { (1 ≤ capacity) × (capacity ≤ MOST_KEYS) }
@@ -91,7 +100,7 @@ impl World {
         if pairs.len() > capacity as usize {
             return Err(Refusal::Full);
         }
-        let records = Records::of_pairs(alloc, capacity, pairs)?;
+        let records = Records::of_pairs(alloc, capacity, pairs, seed)?;
         let sessions = sessions::idle(alloc, sessions)?;
         Ok(World {
             alloc,
@@ -242,12 +251,13 @@ pub(crate) fn in_limits(event: &Event)
 /// Runs the events, in order, on a new store that starts from the base, and gives the store and the replies. The whole
 /// history is legal, the committed contents are those of the replayed log, and files and points keep what
 /// `step` says of them. Refuses with `Full` exactly where the base's pairs are more than there is room for, and else
-/// only with `OutOfMemory`.
+/// only with `OutOfMemory`. The seed is that of `World::new`.
 pub fn run(
     alloc: Global,
     base: Base,
     sessions: u8,
     capacity: u32,
+    seed: RandomState,
     events: &[Event],
 ) -> Result<(World, Vec<Reply>), Refusal>
     requires start { base.point ≡ 0 }
@@ -257,7 +267,7 @@ pub fn run(
     ensures full { capacity < len base.pairs → result ≡ Err Refusal.Full }
     ensures refusals { IfErr result (λ e. ((e ≡ Refusal.Full) × (capacity < len base.pairs)) ⊎ (e ≡ Refusal.OutOfMemory)) }
 {
-    let mut world = World::new(alloc, base, sessions, capacity)?;
+    let mut world = World::new(alloc, base, sessions, capacity, seed)?;
     let mut replies = Vec::new(alloc);
     for event in events {
         let reply = world.step(event);

@@ -2,19 +2,21 @@
 
 use crate::asked::{Told, answer, first_wrong, tell};
 use crate::files::{Pair, are_pairs};
+use Phase::{Capture, Prepare, Resolve};
 use pc_asks::{Ask, event_of};
 use pc_engine::{World, run};
 use pc_part::Base;
 use pc_types::{FileNo, Key, Phase, Refusal, Value};
 use std::alloc::Global;
+use std::hash::RandomState;
 use std::test::Fail;
 
 // What two events are told, by a run over both.
-fn told_by_run(alloc: Global) -> Result<(usize, Told), Refusal> {
+fn told_by_run(alloc: Global, seed: RandomState) -> Result<(usize, Told), Refusal> {
     let begin = event_of(alloc, Ask::Begin(1))?;
     let commit = event_of(alloc, Ask::Commit(1))?;
     let base = Base::start(1, Vec::new(alloc));
-    let (_, replies) = run(alloc, base, 1, 1024, &[begin, commit])?;
+    let (_, replies) = run(alloc, base, 1, 1024, seed, &[begin, commit])?;
     let told = match replies.get(1) {
         Some(reply) => tell(reply),
         None => Told::Unasked,
@@ -24,12 +26,13 @@ fn told_by_run(alloc: Global) -> Result<(usize, Told), Refusal> {
 
 #[test]
 fn runs_to_the_end(rt: HostRuntime) -> Result<(), Fail> {
-    assert_eq!(rt; told_by_run(rt.alloc())?, (2, Told::Committed(1)));
+    let seed = RandomState::new(&rt)?;
+    assert_eq!(rt; told_by_run(rt.alloc(), seed)?, (2, Told::Committed(1)));
     Ok(())
 }
 
 // A store of one session that starts from the pair b, 1, with room for so many keys.
-fn world_of_pair(alloc: Global, two_keys: bool) -> Result<World, Refusal> {
+fn world_of_pair(alloc: Global, seed: RandomState, two_keys: bool) -> Result<World, Refusal> {
     let key = Key::new(alloc, b"b")?;
     let value = Value::new(alloc, b"1")?;
     let pairs = vec![in alloc; (key, value)]?;
@@ -38,6 +41,7 @@ fn world_of_pair(alloc: Global, two_keys: bool) -> Result<World, Refusal> {
         Base::start(7, pairs),
         1,
         if two_keys { 2 } else { 1 },
+        seed,
     )
 }
 
@@ -78,21 +82,9 @@ const ROWS: [Row; 9] = [
     (Ask::Begin(1), Told::Begun(1), 0, 0, &ONE_PAIR),
     (Ask::Put(1, b"a", b"2"), Told::Ok, 0, 0, &ONE_PAIR),
     (Ask::Commit(1), Told::Committed(1), 1, 0, &TWO_PAIRS),
-    (
-        Ask::StartPoint,
-        Told::Phase(Phase::Prepare, 1),
-        2,
-        0,
-        &TWO_PAIRS,
-    ),
-    (Ask::Seal, Told::Phase(Phase::Resolve, 1), 3, 0, &TWO_PAIRS),
-    (
-        Ask::OpenCapture,
-        Told::Phase(Phase::Capture, 1),
-        4,
-        0,
-        &TWO_PAIRS,
-    ),
+    (Ask::StartPoint, Told::Phase(Prepare, 1), 2, 0, &TWO_PAIRS),
+    (Ask::Seal, Told::Phase(Resolve, 1), 3, 0, &TWO_PAIRS),
+    (Ask::OpenCapture, Told::Phase(Capture, 1), 4, 0, &TWO_PAIRS),
     (Ask::Take, Told::Took(b'a', b'2'), 4, 0, &TWO_PAIRS),
     (Ask::Done, Told::PartDone(1, 1, 1), 5, 1, &TWO_PAIRS),
     (Ask::Join(1, 1), Told::File(2, 1, 1), 5, 2, &TWO_PAIRS),
@@ -113,21 +105,22 @@ fn first_not_shown(alloc: Global, world: &mut World) -> Result<Option<usize>, Re
     Ok(None)
 }
 
-fn wrong_of_pair(alloc: Global) -> Result<Option<usize>, Refusal> {
-    let mut world = world_of_pair(alloc, true)?;
+fn wrong_of_pair(alloc: Global, seed: RandomState) -> Result<Option<usize>, Refusal> {
+    let mut world = world_of_pair(alloc, seed, true)?;
     first_not_shown(alloc, &mut world)
 }
 
 // The store shows its log, its files and what is committed, and its base as it was.
 #[test]
 fn shows_what_it_holds(rt: HostRuntime) -> Result<(), Fail> {
-    assert_eq!(rt; wrong_of_pair(rt.alloc())?, None);
+    let seed = RandomState::new(&rt)?;
+    assert_eq!(rt; wrong_of_pair(rt.alloc(), seed)?, None);
     Ok(())
 }
 
 // How many entries a file has that was handed out before its store went.
-fn entries_of_handed(alloc: Global) -> Result<usize, Refusal> {
-    let mut world = world_of_pair(alloc, true)?;
+fn entries_of_handed(alloc: Global, seed: RandomState) -> Result<usize, Refusal> {
+    let mut world = world_of_pair(alloc, seed, true)?;
     first_not_shown(alloc, &mut world)?;
     let shared = world.hand_out(FileNo(2))?;
     drop(world);
@@ -136,26 +129,28 @@ fn entries_of_handed(alloc: Global) -> Result<usize, Refusal> {
 
 #[test]
 fn a_file_outlasts_its_store(rt: HostRuntime) -> Result<(), Fail> {
-    assert_eq!(rt; entries_of_handed(rt.alloc())?, 1usize);
+    let seed = RandomState::new(&rt)?;
+    assert_eq!(rt; entries_of_handed(rt.alloc(), seed)?, 1usize);
     Ok(())
 }
 
 // The greatest number of a file has more digits than a number in a script.
 const GREATEST: [(Ask<'static>, Told); 5] = [
-    (Ask::StartPoint, Told::Phase(Phase::Prepare, 1)),
-    (Ask::Seal, Told::Phase(Phase::Resolve, 1)),
-    (Ask::OpenCapture, Told::Phase(Phase::Capture, 1)),
+    (Ask::StartPoint, Told::Phase(Prepare, 1)),
+    (Ask::Seal, Told::Phase(Resolve, 1)),
+    (Ask::OpenCapture, Told::Phase(Capture, 1)),
     (Ask::Done, Told::PartDone(1, 1, 0)),
     (Ask::Join(u32::MAX, 1), Told::Refused(Refusal::NoFile)),
 ];
 
-fn wrong_of_greatest(alloc: Global) -> Result<Option<(usize, Told)>, Refusal> {
-    let mut world = world_of_pair(alloc, false)?;
+fn wrong_of_greatest(alloc: Global, seed: RandomState) -> Result<Option<(usize, Told)>, Refusal> {
+    let mut world = world_of_pair(alloc, seed, false)?;
     Ok(first_wrong(alloc, &mut world, &GREATEST))
 }
 
 #[test]
 fn the_greatest_number_is_no_file(rt: HostRuntime) -> Result<(), Fail> {
-    assert_eq!(rt; wrong_of_greatest(rt.alloc())?, None);
+    let seed = RandomState::new(&rt)?;
+    assert_eq!(rt; wrong_of_greatest(rt.alloc(), seed)?, None);
     Ok(())
 }

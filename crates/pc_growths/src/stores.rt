@@ -8,6 +8,7 @@ use pc_engine::World;
 use pc_part::Base;
 use pc_types::{FileNo, Key, Phase, Refusal, Value};
 use std::alloc::Global;
+use std::hash::RandomState;
 use std::test::Fail;
 
 // Keys and values that take memory of their own.
@@ -22,12 +23,12 @@ const TWO: &[u8] = b"2 word of 20 letters";
 const THREE: &[u8] = b"3 word of 20 letters";
 
 // A store that starts from nothing, with room for two keys; where memory is wanting it is made again.
-fn empty_world(alloc: Global, sessions: u8) -> Result<World, Refusal>
+fn empty_world(alloc: Global, seed: RandomState, sessions: u8) -> Result<World, Refusal>
     requires { (1 ≤ sessions) × (sessions ≤ 64) }
 {
-    match World::new(alloc, Base::start(1, Vec::new(alloc)), sessions, 2) {
+    match World::new(alloc, Base::start(1, Vec::new(alloc)), sessions, 2, seed) {
         Ok(world) => Ok(world),
-        Err(_) => World::new(alloc, Base::start(1, Vec::new(alloc)), sessions, 2),
+        Err(_) => World::new(alloc, Base::start(1, Vec::new(alloc)), sessions, 2, seed),
     }
 }
 
@@ -105,8 +106,8 @@ const THREE_FILE: [u8; 136] = *b"PCALCP01\
     \x00\x00\x00\x00\x00\x02";
 
 // What comes of the three points, and of their files.
-fn three_points(alloc: Global) -> Result<(Ended, u32), Refusal> {
-    let mut world = empty_world(alloc, 1)?;
+fn three_points(alloc: Global, seed: RandomState) -> Result<(Ended, u32), Refusal> {
+    let mut world = empty_world(alloc, seed, 1)?;
     let ended = ended(alloc, &mut world, &THREE_POINTS)?;
     let files: [(u32, &[u8]); 2] = [(5, &THREE_FILE), (7, &THREE_FILE)];
     Ok((ended, first_wrong_file(alloc, &world, &files)?))
@@ -116,7 +117,8 @@ fn three_points(alloc: Global) -> Result<(Ended, u32), Refusal> {
 // same: the refused event used up no number.
 #[test]
 fn a_store_answers_the_same_at_each_refused_growth(rt: HostRuntime) -> Result<(), Fail> {
-    assert_eq!(rt; three_points(rt.alloc())?, (RIGHT, 0));
+    let seed = RandomState::new(&rt)?;
+    assert_eq!(rt; three_points(rt.alloc(), seed)?, (RIGHT, 0));
     Ok(())
 }
 
@@ -195,8 +197,8 @@ const BOTH_FILE: [u8; 112] = *b"PCALCP01\
     \x00\x00\x00\x00\x00\x02";
 
 // What comes of both points, and of their files.
-fn two_points(alloc: Global) -> Result<(Ended, Ended, u32), Refusal> {
-    let mut world = empty_world(alloc, 3)?;
+fn two_points(alloc: Global, seed: RandomState) -> Result<(Ended, Ended, u32), Refusal> {
+    let mut world = empty_world(alloc, seed, 3)?;
     let first = ended(alloc, &mut world, &FIRST_POINT)?;
     let second = ended(alloc, &mut world, &SECOND_POINT)?;
     let files: [(u32, &[u8]); 3] = [(1, &FIRST_FILE), (3, &BOTH_FILE), (4, &BOTH_FILE)];
@@ -207,7 +209,8 @@ fn two_points(alloc: Global) -> Result<(Ended, Ended, u32), Refusal> {
 // same bytes; an abort needs none and isn't asked again.
 #[test]
 fn points_are_the_same_at_each_refused_growth(rt: HostRuntime) -> Result<(), Fail> {
-    assert_eq!(rt; two_points(rt.alloc())?, (RIGHT, RIGHT, 0));
+    let seed = RandomState::new(&rt)?;
+    assert_eq!(rt; two_points(rt.alloc(), seed)?, (RIGHT, RIGHT, 0));
     Ok(())
 }
 
@@ -258,22 +261,22 @@ const LONG_ROWS: [(Ask, Told); 31] = [
 ];
 
 // A store of three sessions that starts from one pair, with room for two keys.
-fn world_of_pair(alloc: Global) -> Result<World, Refusal> {
+fn world_of_pair(alloc: Global, seed: RandomState) -> Result<World, Refusal> {
     let key = Key::new(alloc, LONG_K)?;
     let value = Value::new(alloc, b"5")?;
     let pairs = vec![in alloc; (key, value)]?;
-    World::new(alloc, Base::start(7, pairs), 3, 2)
+    World::new(alloc, Base::start(7, pairs), 3, 2, seed)
 }
 
-fn world_of_pair_again(alloc: Global) -> Result<World, Refusal> {
-    match world_of_pair(alloc) {
+fn world_of_pair_again(alloc: Global, seed: RandomState) -> Result<World, Refusal> {
+    match world_of_pair(alloc, seed) {
         Ok(world) => Ok(world),
-        Err(_) => world_of_pair(alloc),
+        Err(_) => world_of_pair(alloc, seed),
     }
 }
 
-fn waits_and_deaths(alloc: Global) -> Result<Ended, Refusal> {
-    let mut world = world_of_pair_again(alloc)?;
+fn waits_and_deaths(alloc: Global, seed: RandomState) -> Result<Ended, Refusal> {
+    let mut world = world_of_pair_again(alloc, seed)?;
     ended(alloc, &mut world, &LONG_ROWS)
 }
 
@@ -281,6 +284,7 @@ fn waits_and_deaths(alloc: Global) -> Result<Ended, Refusal> {
 // isn't asked again.
 #[test]
 fn sessions_wait_and_die_the_same_at_each_refused_growth(rt: HostRuntime) -> Result<(), Fail> {
-    assert_eq!(rt; waits_and_deaths(rt.alloc())?, RIGHT);
+    let seed = RandomState::new(&rt)?;
+    assert_eq!(rt; waits_and_deaths(rt.alloc(), seed)?, RIGHT);
     Ok(())
 }

@@ -5,6 +5,7 @@ use pc_engine::World;
 use pc_part::Base;
 use pc_types::{Refusal, Reply};
 use std::alloc::Global;
+use std::hash::RandomState;
 
 /// The store that a list is asked of; each starts from nothing.
 #[derive(Clone, Copy)]
@@ -40,13 +41,13 @@ pub struct Family {
     pub rule: Rule,
 }
 
-/// A new store of this kind.
-pub fn new_world(alloc: Global, store: Store) -> Result<World, Refusal> {
+/// A new store of this kind, which hashes its keys under the seed.
+pub fn new_world(alloc: Global, seed: RandomState, store: Store) -> Result<World, Refusal> {
     let base = Base::start(1, Vec::new(alloc));
     match store {
-        Store::OneSession => World::new(alloc, base, 1, 2),
-        Store::TwoSessions => World::new(alloc, base, 2, 2),
-        Store::OneKey => World::new(alloc, base, 2, 1),
+        Store::OneSession => World::new(alloc, base, 1, 2, seed),
+        Store::TwoSessions => World::new(alloc, base, 2, 2, seed),
+        Store::OneKey => World::new(alloc, base, 2, 1, seed),
     }
 }
 

@@ -5,6 +5,7 @@ use pc_asks::{Sums, events_of};
 use pc_engine::World;
 use pc_types::{Event, Refusal};
 use std::alloc::{AllocError, Global};
+use std::hash::RandomState;
 
 // The way through a family: the list, by the places of its letters, and the store that it is asked of.
 #[derive(Drop)]
@@ -15,6 +16,8 @@ struct Way {
     before: Vec<usize>,
     last: usize,
     world: World,
+    // The seed of the hashes of each store's keys.
+    seed: RandomState,
     // Whether the store stands after all but the last.
     is_ready: bool,
     sums: Sums,
@@ -22,24 +25,25 @@ struct Way {
 
 /// Goes through every list of the family: the replies to the events of its start, and then of each list the reply to its
 /// last event, a list before the longer ones that begin with it, and by the order of the letters. It fails only where
-/// memory ran out.
-pub fn sums_of(alloc: Global, family: &Family) -> Result<Sums, Refusal> {
-    let mut way = way_into(alloc, family)?;
+/// memory ran out. All its stores hash their keys under the seed.
+pub fn sums_of(alloc: Global, seed: RandomState, family: &Family) -> Result<Sums, Refusal> {
+    let mut way = way_into(alloc, seed, family)?;
     go_through(alloc, family, &mut way)?;
     let Way { sums, .. } = way;
     Ok(sums)
 }
 
-fn way_into(alloc: Global, family: &Family) -> Result<Way, Refusal> {
+fn way_into(alloc: Global, seed: RandomState, family: &Family) -> Result<Way, Refusal> {
     let start = events_of(alloc, family.start)?;
     let letters = events_of(alloc, family.letters)?;
-    let world = new_world(alloc, family.store)?;
+    let world = new_world(alloc, seed, family.store)?;
     Ok(Way {
         start,
         letters,
         before: Vec::new(alloc),
         last: 0,
         world,
+        seed,
         is_ready: true,
         sums: Sums::new(alloc),
     })
@@ -73,7 +77,7 @@ fn ask(world: &mut World, sums: &mut Sums, event: &Event, rule: Rule) -> Result<
 // Asks the list's last event, and goes on to the next list, if there is one.
 fn visit(alloc: Global, family: &Family, way: &mut Way) -> Result<bool, Refusal> {
     if !way.is_ready {
-        way.world = new_world(alloc, family.store)?;
+        way.world = new_world(alloc, way.seed, family.store)?;
         replay(way);
     }
     let goes_on = ask_last(family.rule, way)?;

@@ -11,6 +11,7 @@ use families::{
 };
 use lists::sums_of;
 use pc_asks::tell;
+use std::hash::RandomState;
 use std::io;
 use std::process::ExitCode;
 
@@ -25,7 +26,7 @@ const FAMILIES: [Family; 8] = [
     FROM_COMPLETE,
 ];
 
-// The status is 1 where memory or the output failed.
+// The status is 1 where memory, the output or the draw of a seed failed.
 fn main(rt: HostRuntime) -> ExitCode {
     match go_through(&rt) {
         Ok(()) => ExitCode::from(0),
@@ -34,8 +35,9 @@ fn main(rt: HostRuntime) -> ExitCode {
 }
 
 fn go_through(rt: &HostRuntime) -> io::Result<()> {
+    let seed = RandomState::new(rt)?;
     for family in &FAMILIES {
-        match sums_of(rt.alloc(), family) {
+        match sums_of(rt.alloc(), seed, family) {
             Ok(sums) => tell(rt, family.name, &sums)?,
             Err(_) => return Err(io::ErrorKind::Other.into()),
         }

@@ -16,6 +16,7 @@ use pc_shared::Opened;
 use pc_types::{MOST_SESSIONS, Refusal};
 use plans::PLANS;
 use std::alloc::Global;
+use std::hash::RandomState;
 use std::io::{self, Write};
 use std::marker::Brand;
 use std::process::ExitCode;
@@ -25,7 +26,8 @@ use std::thread::Threads;
 // How many keys a store has room for.
 const CAPACITY: u32 = 8192;
 
-// The status is 1 where memory or the output failed, or threads missed one another, after which no more meetings are run.
+// The status is 1 where memory, the output or the draw of a seed failed, or threads missed one another, after which no more
+// meetings are run.
 fn main(rt: HostRuntime) -> ExitCode {
     match run(&rt, &rt) {
         Ok(()) => ExitCode::from(0),
@@ -34,8 +36,9 @@ fn main(rt: HostRuntime) -> ExitCode {
 }
 
 fn run<H: Threads + Wait + Sync>(rt: &HostRuntime, threads: &H) -> io::Result<()> {
+    let seed = RandomState::new(rt)?;
     for (name, plan) in PLANS {
-        match meet_by(threads, rt.alloc(), &plan) {
+        match meet_by(threads, rt.alloc(), seed, &plan) {
             Ok(left) => {
                 tell(rt, name, &left)?;
                 if !left.have_met {
@@ -48,16 +51,18 @@ fn run<H: Threads + Wait + Sync>(rt: &HostRuntime, threads: &H) -> io::Result<()
     Ok(())
 }
 
+// The stores of all meetings hash their keys under one seed.
 fn meet_by<H: Threads + Wait + Sync>(
     threads: &H,
     alloc: Global,
+    seed: RandomState,
     plan: &Plan,
 ) -> Result<Left, Refusal> {
     if plan.sessions == 0 || MOST_SESSIONS < plan.sessions {
         return Err(Refusal::NoSession);
     }
     let base = Base::start(1, Vec::new(alloc));
-    let opened = Opened::new(alloc, base, plan.sessions, CAPACITY)?;
+    let opened = Opened::new(alloc, base, plan.sessions, CAPACITY, seed)?;
     meet::<Brand, _>(threads, alloc, opened, plan)
 }
 

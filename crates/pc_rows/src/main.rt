@@ -20,6 +20,7 @@ use heads::{Head, Step, head_of};
 use pc_script::run_script;
 use pc_types::{Refusal, Tally, read_all};
 use std::alloc::Global;
+use std::hash::RandomState;
 use std::io;
 use std::io::{BufWriter, Write};
 use std::process::ExitCode;
@@ -38,7 +39,7 @@ fn run_input(rt: &HostRuntime) -> io::Result<()> {
         Err(_) => return Err(io::ErrorKind::Other.into()),
     };
     let mut out = Tally::new(BufWriter::new(alloc, io::writer(rt))?);
-    match run_rows(alloc, &text, &mut out) {
+    match run_rows(alloc, RandomState::new(rt)?, &text, &mut out) {
         Ok(()) => out.flush(),
         Err(_) => Err(io::ErrorKind::Other.into()),
     }
@@ -51,17 +52,23 @@ struct Row {
     lines: Vec<u8>,
 }
 
-fn run_rows<W: Write>(alloc: Global, text: &[u8], out: &mut Tally<W>) -> Result<(), Refusal> {
+// The stores of all scripts hash their keys under one seed.
+fn run_rows<W: Write>(
+    alloc: Global,
+    seed: RandomState,
+    text: &[u8],
+    out: &mut Tally<W>,
+) -> Result<(), Refusal> {
     let mut row = new_row(alloc, b"")?;
     for line in text.lines_with_terminator() {
         if line.starts_with(b"== ") {
-            run_row(alloc, &row, out)?;
+            run_row(alloc, seed, &row, out)?;
             row = new_row(alloc, line)?;
         } else {
             row.lines.extend_from_slice(line)?;
         }
     }
-    run_row(alloc, &row, out)
+    run_row(alloc, seed, &row, out)
 }
 
 fn new_row(alloc: Global, head: &[u8]) -> Result<Row, Refusal> {
@@ -71,13 +78,18 @@ fn new_row(alloc: Global, head: &[u8]) -> Result<Row, Refusal> {
 }
 
 // Lines that no row has are passed over.
-fn run_row<W: Write>(alloc: Global, row: &Row, out: &mut Tally<W>) -> Result<(), Refusal> {
+fn run_row<W: Write>(
+    alloc: Global,
+    seed: RandomState,
+    row: &Row,
+    out: &mut Tally<W>,
+) -> Result<(), Refusal> {
     if row.head.is_empty() {
         return Ok(());
     }
     out.put(&row.head)?;
     match head_of(alloc, &row.head) {
-        Some(Head::Step(step)) => run_step(alloc, &step, &row.lines, out),
+        Some(Head::Step(step)) => run_step(alloc, seed, &step, &row.lines, out),
         Some(Head::Recover) => run_folder(alloc, &row.lines, false, out),
         Some(Head::Cuts) => run_folder(alloc, &row.lines, true, out),
         None => out.put(b"bad head\n"),
@@ -102,6 +114,7 @@ fn run_folder<W: Write>(
 
 fn run_step<W: Write>(
     alloc: Global,
+    seed: RandomState,
     step: &Step,
     lines: &[u8],
     out: &mut Tally<W>,
@@ -113,7 +126,7 @@ fn run_step<W: Write>(
         }
     }
     let mut errors = Tally::new(Vec::new(alloc));
-    let status = run_script(alloc, step.setup, "s", Ok(script), out, &mut errors);
+    let status = run_script(alloc, step.setup, seed, "s", Ok(script), out, &mut errors);
     out.put(&errors.into_inner())?;
     put_status(status, out)
 }

@@ -15,6 +15,7 @@ use pc_shared::Opened;
 use pc_threads::Fault;
 use pc_types::{Gate, Refusal, Tally};
 use std::alloc::Global;
+use std::hash::RandomState;
 use std::io::{Read, Write};
 use std::marker::Brand;
 use std::sync::Wait;
@@ -43,6 +44,9 @@ const BAD_LINE: u8 = 3;
 ///   nothing is told.
 ///
 /// Where there is a folder, the base, the log and the file of each point are written to it; the log as it grows.
+///
+/// The seed is that of the hashes of the store's keys: two words given by chance (`RandomState::new`), so that no workload can
+/// pick keys that all share a chain.
 pub fn run_workload<
     R: Read + Drop,
     F: Write + Drop + Send,
@@ -54,6 +58,7 @@ pub fn run_workload<
 >(
     rt: &H,
     alloc: Global,
+    seed: RandomState,
     workload: NamedFile<R>,
     crew: &Crew<'_, G>,
     folder: Option<D>,
@@ -67,7 +72,7 @@ pub fn run_workload<
         × IsTold E.contents errors.old errors.new workload.name.items failure }
 {
     let NamedFile { name, opened } = workload;
-    match run_opened(rt, alloc, opened, crew, folder, out) {
+    match run_opened(rt, alloc, seed, opened, crew, folder, out) {
         Ok(status) => status,
         Err(failure) => {
             failure.report(&name, errors);
@@ -87,6 +92,7 @@ fn run_opened<
 >(
     rt: &H,
     alloc: Global,
+    seed: RandomState,
     opened: Result<R, Refusal>,
     crew: &Crew<'_, G>,
     folder: Option<D>,
@@ -96,7 +102,7 @@ fn run_opened<
     ensures printed { IfOk result (λ status. GoesOut R.remaining W.contents opened out.old out.new status) }
     ensures cause { IfErr result (IsCause R.remaining W.contents opened out.old out.new) }
 {
-    let printed = answer(rt, alloc, opened, crew, folder)?;
+    let printed = answer(rt, alloc, seed, opened, crew, folder)?;
     print(&printed, out)?;
     Ok(printed.status())
 }
@@ -111,6 +117,7 @@ fn answer<
 >(
     rt: &H,
     alloc: Global,
+    seed: RandomState,
     opened: Result<R, Refusal>,
     crew: &Crew<'_, G>,
     folder: Option<D>,
@@ -123,7 +130,7 @@ fn answer<
     match read_workload(alloc, &text)? {
         Reading::BadLine(line) => Ok(Printed::BadLine(line)),
         Reading::Runs(workload) => {
-            let outcome = run_read(rt, alloc, workload, crew, folder)?;
+            let outcome = run_read(rt, alloc, seed, workload, crew, folder)?;
             Ok(Printed::Whole(outcome))
         }
     }
@@ -138,6 +145,7 @@ fn run_read<
 >(
     rt: &H,
     alloc: Global,
+    seed: RandomState,
     workload: Workload,
     crew: &Crew<'_, G>,
     folder: Option<D>,
@@ -150,6 +158,6 @@ fn run_read<
         Some(folder) => Some(begin_files(folder, &base)?),
         None => None,
     };
-    let opened = Opened::new(alloc, base, SESSIONS, CAPACITY)?;
+    let opened = Opened::new(alloc, base, SESSIONS, CAPACITY, seed)?;
     run_store::<Brand, F, D, G, H>(rt, alloc, opened, workload, crew, &folder, log)
 }

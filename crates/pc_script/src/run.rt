@@ -15,6 +15,7 @@ use crate::script::{Status, answer_script};
 use crate::setup::Setup;
 use pc_types::{Refusal, Tally, read_all};
 use std::alloc::Global;
+use std::hash::RandomState;
 use std::io::{Read, Write};
 
 /// Why a run ended without a status of the script's own.
@@ -31,9 +32,12 @@ enum Fault {
 /// writer tells; where the output fails, or the store can't be made for want of memory, nothing is told there. It gives 1
 /// for no other cause: the script's fault is told, the output's failures have risen, or the lines end with the store not
 /// made. Of a script that can't be read nothing went out; else at the status 1 a beginning of what its first lines print.
+/// The seed is that of the hashes of the store's keys: two words given by chance (`RandomState::new`), so that no script can
+/// pick keys that all share a chain. What may be printed doesn't depend on it.
 pub fn run_script<R: Read + Drop, W: Write, E: Write>(
     alloc: Global,
     setup: Setup,
+    seed: RandomState,
     name: &str,
     opened: Result<R, Refusal>,
     out: &mut Tally<W>,
@@ -53,7 +57,7 @@ pub fn run_script<R: Read + Drop, W: Write, E: Write>(
         ⊎ ((errors.new ≡ errors.old) × IfOk opened (λ reader. IfSome (R.remaining reader) (λ script. (text : List ℕ)
         × Appends (W.contents (inner_of out.old)) (W.contents (inner_of out.new)) text × IsAnswered setup script NoStore text)))) }
 {
-    match answer_opened(alloc, setup, opened, out) {
+    match answer_opened(alloc, setup, seed, opened, out) {
         Ok(status) => exit_code(status),
         Err(Fault::Script(why)) => {
             let _ = report(name.as_bytes(), why, errors);
@@ -76,6 +80,7 @@ fn exit_code(status: Status) -> u8
 fn answer_opened<R: Read + Drop, W: Write>(
     alloc: Global,
     setup: Setup,
+    seed: RandomState,
     opened: Result<R, Refusal>,
     out: &mut Tally<W>,
 ) -> Result<Status, Fault>
@@ -91,7 +96,7 @@ fn answer_opened<R: Read + Drop, W: Write>(
         Ok(script) => script,
         Err(why) => return Err(Fault::Script(why)),
     };
-    let answered = answer_script(alloc, setup, &script, out);
+    let answered = answer_script(alloc, setup, seed, &script, out);
     let flushed = out.flush();
     match answered {
         Ok(status) if flushed.is_ok() => Ok(status),

@@ -22,6 +22,7 @@ use pc_replay::Pairs;
 use pc_texts::{put_check, put_reply, put_state, put_text};
 use pc_types::{Items, Key, Refusal, Reply, Tally, Value};
 use std::alloc::Global;
+use std::hash::RandomState;
 use std::io::Write;
 
 /// How a script that was read to its end has ended.
@@ -62,10 +63,11 @@ pub enum Made {
 
 /// Answers the lines of a script. A bad line doesn't end it. Refuses with `OutOfMemory` where a line can't be read for
 /// want of memory, and with `Device` exactly where the writer failed in this call; then a beginning of what some first
-/// lines print was written.
+/// lines print was written. The seed is that of the hashes of the store's keys; what may be printed doesn't depend on it.
 pub fn answer_script<W: Write>(
     alloc: Global,
     setup: Setup,
+    seed: RandomState,
     script: &[u8],
     out: &mut Tally<W>,
 ) -> Result<Status, Refusal>
@@ -82,7 +84,7 @@ pub fn answer_script<W: Write>(
     for text in script.lines() {
         let line = read_line(alloc, text)?;
         status = status_after(status, &line);
-        made = answer_one(alloc, setup, made, line, out)?;
+        made = answer_one(alloc, setup, seed, made, line, out)?;
         if is_ended(&made) {
             return Ok(Status::NoStore);
         }
@@ -103,6 +105,7 @@ fn status_after(status: Status, line: &Line) -> Status
 fn answer_one<W: Write>(
     alloc: Global,
     setup: Setup,
+    seed: RandomState,
     made: Made,
     line: Line,
     out: &mut Tally<W>,
@@ -116,7 +119,7 @@ fn answer_one<W: Write>(
     ensures counts { MatchResult result (λ next. failures_of out.new ≡ failures_of out.old)
         (λ e. (e ≡ Refusal.Device) × HasRisen (failures_of out.old) (failures_of out.new)) }
 {
-    let (answer, next) = answer_line(alloc, setup, made, line);
+    let (answer, next) = answer_line(alloc, setup, seed, made, line);
     say(out, answer)?;
     Ok(next)
 }
@@ -131,13 +134,19 @@ fn is_ended(made: &Made) -> bool
 }
 
 // Answers a line with what was made so far, and gives what is made then.
-fn answer_line(alloc: Global, setup: Setup, made: Made, line: Line) -> (Answer, Made)
+fn answer_line(
+    alloc: Global,
+    setup: Setup,
+    seed: RandomState,
+    made: Made,
+    line: Line,
+) -> (Answer, Made)
     requires room { HasRoom setup made }
     ensures room { HasRoom setup result.1 }
     ensures answer { (stage : Stage) → Holds setup made stage → (next : Stage) × Holds setup result.1 next × Answers setup stage line result.0 next }
 {
     match made {
-        Made::Base(pairs) => answer_base(alloc, setup, pairs, line),
+        Made::Base(pairs) => answer_base(alloc, setup, seed, pairs, line),
         Made::Store(mut world) => {
             let answer = answer_stored(alloc, &mut world, line);
             (answer, Made::Store(world))
@@ -147,7 +156,13 @@ fn answer_line(alloc: Global, setup: Setup, made: Made, line: Line) -> (Answer, 
 }
 
 // Answers a line of the base, or the first one after it.
-fn answer_base(alloc: Global, setup: Setup, mut pairs: Pairs, line: Line) -> (Answer, Made)
+fn answer_base(
+    alloc: Global,
+    setup: Setup,
+    seed: RandomState,
+    mut pairs: Pairs,
+    line: Line,
+) -> (Answer, Made)
     requires room { len pairs ≤ setup.capacity }
     ensures room { HasRoom setup result.1 }
     ensures answer { (next : Stage) × Holds setup result.1 next × Answers setup (Reading pairs) line result.0 next }
@@ -159,20 +174,26 @@ fn answer_base(alloc: Global, setup: Setup, mut pairs: Pairs, line: Line) -> (An
             (answer, Made::Base(pairs))
         }
         Line::SetsRefused(why) => (refusal_answer(why), Made::Base(pairs)),
-        Line::Malformed => answer_first(alloc, setup, pairs, Line::Malformed),
-        Line::Asks(event) => answer_first(alloc, setup, pairs, Line::Asks(event)),
-        Line::AsksRefused(why) => answer_first(alloc, setup, pairs, Line::AsksRefused(why)),
-        Line::Shows(view) => answer_first(alloc, setup, pairs, Line::Shows(view)),
+        Line::Malformed => answer_first(alloc, setup, seed, pairs, Line::Malformed),
+        Line::Asks(event) => answer_first(alloc, setup, seed, pairs, Line::Asks(event)),
+        Line::AsksRefused(why) => answer_first(alloc, setup, seed, pairs, Line::AsksRefused(why)),
+        Line::Shows(view) => answer_first(alloc, setup, seed, pairs, Line::Shows(view)),
     }
 }
 
 // Makes the store, which answers the first line after the base.
-fn answer_first(alloc: Global, setup: Setup, pairs: Pairs, line: Line) -> (Answer, Made)
+fn answer_first(
+    alloc: Global,
+    setup: Setup,
+    seed: RandomState,
+    pairs: Pairs,
+    line: Line,
+) -> (Answer, Made)
     requires room { len pairs ≤ setup.capacity }
     ensures room { HasRoom setup result.1 }
     ensures answer { (next : Stage) × Holds setup result.1 next × AnswersFirst setup pairs line result.0 next }
 {
-    match start(alloc, setup, pairs) {
+    match start(alloc, setup, seed, pairs) {
         Some(mut world) => {
             let answer = answer_stored(alloc, &mut world, line);
             (answer, Made::Store(world))
@@ -210,12 +231,12 @@ fn add_pair(capacity: u32, pairs: &mut Pairs, key: Key, value: Value) -> Answer
 }
 
 // The store on the base, where memory suffices.
-fn start(alloc: Global, setup: Setup, pairs: Pairs) -> Option<World>
+fn start(alloc: Global, setup: Setup, seed: RandomState, pairs: Pairs) -> Option<World>
     requires { len pairs ≤ setup.capacity }
     ensures { IfSome result (λ world. (setting_of world ≡ setting setup pairs) × Stands world []) }
 {
     let base = Base::start(u64::from(setup.run), pairs.into_vec());
-    match World::new(alloc, base, setup.sessions, setup.capacity) {
+    match World::new(alloc, base, setup.sessions, setup.capacity, seed) {
         Ok(world) => Some(world),
         Err(_) => None,
     }

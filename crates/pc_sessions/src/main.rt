@@ -9,6 +9,7 @@ mod store;
 
 use pc_part::Base;
 use pc_shared::Opened;
+use std::hash::RandomState;
 use std::io::{self, Write};
 use std::marker::Brand;
 use std::process::ExitCode;
@@ -16,7 +17,7 @@ use std::sync::Wait;
 use std::thread::Threads;
 use store::{Left, use_store};
 
-// The status is 1 where memory or the output failed, or what was left isn't what was done.
+// The status is 1 where memory, the output or the draw of a seed failed, or what was left isn't what was done.
 fn main(rt: HostRuntime) -> ExitCode {
     match run(&rt, &rt) {
         Ok(()) => ExitCode::from(0),
@@ -27,7 +28,8 @@ fn main(rt: HostRuntime) -> ExitCode {
 fn run<H: Threads + Wait + Sync>(rt: &HostRuntime, threads: &H) -> io::Result<()> {
     let alloc = rt.alloc();
     let base = Base::start(1, Vec::new(alloc));
-    let opened = match Opened::new(alloc, base, 2, 16) {
+    let seed = RandomState::new(rt)?;
+    let opened = match Opened::new(alloc, base, 2, 16, seed) {
         Ok(opened) => opened,
         Err(why) => return tell_refusal(rt, why.name()),
     };

@@ -27,6 +27,7 @@ use pc_receipts::Work;
 use pc_tie::{Keeper, SessionSeat, StoreName, Tie, Untied};
 use pc_types::{Entry, Event, FileNo, MOST_KEYS, MOST_SESSIONS, Refusal, Reply};
 use std::alloc::Global;
+use std::hash::RandomState;
 use std::hint;
 use std::marker::Model;
 use std::sync::{Condvar, Mutex, MutexGuard, Wait};
@@ -61,15 +62,22 @@ impl Model for Opened {
 impl Opened {
     /// Opens a store that starts from the base, with this many sessions and room for as many keys as the capacity. Refuses with
     /// `Full` exactly where the base's pairs are more than there is room for, and else only with `OutOfMemory`. The base stands
-    /// at point 0.
-    pub fn new(alloc: Global, base: Base, sessions: u8, capacity: u32) -> Result<Opened, Refusal>
+    /// at point 0. The seed is that of the hashes of keys: two words given by chance (`RandomState::new`), so that no session
+    /// can pick keys that all share a chain.
+    pub fn new(
+        alloc: Global,
+        base: Base,
+        sessions: u8,
+        capacity: u32,
+        seed: RandomState,
+    ) -> Result<Opened, Refusal>
         requires start { base.point ≡ 0 }
         requires sessions { (1 ≤ sessions) × (sessions ≤ MOST_SESSIONS) }
         requires capacity { (1 ≤ capacity) × (capacity ≤ MOST_KEYS) }
         ensures setting { IfOk result (λ o. o.setting ≡ starting base sessions capacity) }
         ensures refusals { IfErr result (λ e. ((e ≡ Refusal.Full) × (capacity < len base.pairs)) ⊎ (e ≡ Refusal.OutOfMemory)) }
     {
-        let world = World::new(alloc, base, sessions, capacity)?;
+        let world = World::new(alloc, base, sessions, capacity, seed)?;
         let tie = Untied::new(alloc, &world)?;
         Ok(Opened {
             alloc,

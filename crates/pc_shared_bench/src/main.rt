@@ -21,6 +21,7 @@ use pc_tie::StoreName;
 use pc_types::Refusal;
 use shared::commit_by_all;
 use std::alloc::Global;
+use std::hash::RandomState;
 use std::marker::Brand;
 use std::process::ExitCode;
 use std::rt::Clock;
@@ -99,7 +100,7 @@ fn measure_shared<H: Threads + Wait + Sync>(
     threads: &H,
     options: &Options,
 ) -> Result<(), Failure> {
-    let opened = open(rt.alloc(), options)?;
+    let opened = open(rt.alloc(), RandomState::new(rt)?, options)?;
     let start = Instant::now(rt)?;
     let commits = share::<Brand, _>(threads, rt.alloc(), opened, options)?;
     let time = start.elapsed(rt)?;
@@ -113,16 +114,16 @@ fn measure_calls<H: Threads + Wait + Sync>(
     threads: &H,
     options: &Options,
 ) -> Result<(), Failure> {
-    let opened = open(rt.alloc(), options)?;
+    let opened = open(rt.alloc(), RandomState::new(rt)?, options)?;
     let calls = call::<Brand, _, _>(threads, rt, rt.alloc(), opened, options)?;
     tell_calls(rt, options, &calls)?;
     Ok(())
 }
 
 // A store with a session for each thread, and room for the keys of all.
-fn open(alloc: Global, options: &Options) -> Result<Opened, Refusal> {
+fn open(alloc: Global, seed: RandomState, options: &Options) -> Result<Opened, Refusal> {
     let base = Base::start(1, Vec::new(alloc));
-    Opened::new(alloc, base, options.threads, CAPACITY)
+    Opened::new(alloc, base, options.threads, CAPACITY, seed)
 }
 
 // The store from its opening on, while its threads commit.

@@ -10,6 +10,7 @@ use cuts::{Found, recover_cuts};
 use pc_asks::following;
 use pc_types::Refusal;
 use std::alloc::Global;
+use std::hash::RandomState;
 use std::io;
 use std::process::ExitCode;
 use texts::texts_of;
@@ -43,8 +44,10 @@ fn main(rt: HostRuntime) -> ExitCode {
     }
 }
 
-// One walk after the other. The status is 1 where memory ran out.
+// One walk after the other; all their stores hash keys under one seed. The status is 1 where memory ran out, or the output or
+// the draw of that seed failed.
 fn run_walks(rt: &HostRuntime) -> io::Result<u8> {
+    let hash_seed = RandomState::new(rt)?;
     let mut sum = Sum {
         entries: 0,
         parts: 0,
@@ -54,7 +57,7 @@ fn run_walks(rt: &HostRuntime) -> io::Result<u8> {
     };
     for walk in 0..WALKS {
         let seed = following(following(walk.wrapping_add(20_261_123)));
-        match told_of(rt.alloc(), seed) {
+        match told_of(rt.alloc(), hash_seed, seed) {
             Ok(told) => {
                 tell_wrong(rt, walk, told.found)?;
                 sum = with(sum, told);
@@ -69,8 +72,8 @@ fn run_walks(rt: &HostRuntime) -> io::Result<u8> {
     Ok(0)
 }
 
-fn told_of(alloc: Global, seed: u64) -> Result<Told, Refusal> {
-    let world = walked(alloc, seed)?;
+fn told_of(alloc: Global, hash_seed: RandomState, seed: u64) -> Result<Told, Refusal> {
+    let world = walked(alloc, hash_seed, seed)?;
     let texts = texts_of(alloc, &world)?;
     let found = recover_cuts(alloc, &world, &texts)?;
     Ok(Told {

@@ -6,6 +6,7 @@ use pc_engine::World;
 use pc_part::Base;
 use pc_types::{Event, Key, Phase, Refusal, Reply, SessionNo, Value};
 use std::alloc::Global;
+use std::hash::RandomState;
 
 // How many steps a walk has.
 const STEPS: u32 = 250;
@@ -125,9 +126,10 @@ fn walk_on(alloc: Global, world: &mut World, seed: u64) -> Result<(), Refusal> {
     Ok(())
 }
 
-/// The store after the walk of this seed: 250 steps of run 9. It refuses only with `OutOfMemory`.
-pub fn walked(alloc: Global, seed: u64) -> Result<World, Refusal> {
-    let mut world = World::new(alloc, base_of(alloc)?, 3, 16)?;
+/// The store after the walk of this seed: 250 steps of run 9. It refuses only with `OutOfMemory`. The store hashes its keys
+/// under a seed of its own.
+pub fn walked(alloc: Global, hash_seed: RandomState, seed: u64) -> Result<World, Refusal> {
+    let mut world = World::new(alloc, base_of(alloc)?, 3, 16, hash_seed)?;
     match walk_on(alloc, &mut world, seed) {
         Ok(()) => Ok(world),
         Err(why) => Err(why),

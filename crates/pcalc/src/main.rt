@@ -18,6 +18,7 @@ use pc_script::{NamedFile, run_recover, run_script};
 use pc_types::{Refusal, Tally};
 use progress::Progress;
 use std::fs::File;
+use std::hash::RandomState;
 use std::io::BufWriter;
 use std::process::ExitCode;
 use std::sync::Wait;
@@ -60,8 +61,9 @@ fn run_task<H: Threads + Wait + Sync>(rt: &HostRuntime, threads: &H, task: Task)
     match task {
         Task::Step(options) => {
             let StepOptions { script, setup } = options;
+            let seed = RandomState::new(rt)?;
             let opened = open_named(rt, script);
-            Ok(run_script(alloc, setup, script, opened, &mut out, &mut errors))
+            Ok(run_script(alloc, setup, seed, script, opened, &mut out, &mut errors))
         }
         Task::Run(options) => {
             let RunOptions {
@@ -71,6 +73,7 @@ fn run_task<H: Threads + Wait + Sync>(rt: &HostRuntime, threads: &H, task: Task)
                 folder,
                 is_quiet,
             } = options;
+            let seed = RandomState::new(rt)?;
             let name = Vec::from_slice(alloc, workload.as_bytes())?;
             let opened = open_named(rt, workload);
             let file = NamedFile { name, opened };
@@ -81,7 +84,16 @@ fn run_task<H: Threads + Wait + Sync>(rt: &HostRuntime, threads: &H, task: Task)
                 gate: &progress,
             };
             let folder = folder.map(|path| NewFolder { rt, path });
-            let status = run_workload(threads, alloc, file, &crew, folder, &mut out, &mut errors);
+            let status = run_workload(
+                threads,
+                alloc,
+                seed,
+                file,
+                &crew,
+                folder,
+                &mut out,
+                &mut errors,
+            );
             progress.end();
             Ok(status)
         }
