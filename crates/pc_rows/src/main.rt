@@ -25,6 +25,7 @@ use std::io;
 use std::io::{BufWriter, Write};
 use std::process::ExitCode;
 
+// The status is 1 where memory, the input, the output or the draw of a seed failed.
 fn main(rt: HostRuntime) -> ExitCode {
     match run_input(&rt) {
         Ok(()) => ExitCode::from(0),

@@ -53,6 +53,8 @@ fn run_command<H: Threads + Wait + Sync>(rt: &HostRuntime, threads: &H) -> io::R
     }
 }
 
+// The seed of the hashes of a script's or a workload's store is drawn before anything is opened; where the system gives none,
+// the status is 1 and nothing is told.
 fn run_task<H: Threads + Wait + Sync>(rt: &HostRuntime, threads: &H, task: Task) -> io::Result<u8> {
     let alloc = rt.alloc();
     let mut out = Tally::new(BufWriter::new(alloc, io::writer(rt))?);
