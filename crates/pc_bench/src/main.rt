@@ -95,8 +95,10 @@ fn run_points(rt: &HostRuntime, cycles: Cycles, is_timed: bool) -> Result<(), Fa
 
 fn run_commits(rt: &HostRuntime, rounds: Rounds, is_timed: bool) -> Result<(), Failure> {
     let seed = RandomState::new(rt)?;
-    let done = measure_commits(rt.alloc(), rt, seed, rounds)?;
-    Ok(tell_commits(rt, &done, is_timed)?)
+    match measure_commits(rt.alloc(), rt, seed, rounds) {
+        Ok(done) => Ok(tell_commits(rt, &done, is_timed)?),
+        Err(why) => Err(why),
+    }
 }
 
 fn tell_commits(rt: &HostRuntime, done: &Committed, is_timed: bool) -> io::Result<()> {
@@ -110,8 +112,10 @@ fn tell_commits(rt: &HostRuntime, done: &Committed, is_timed: bool) -> io::Resul
 }
 
 fn run_recover(rt: &HostRuntime, restart: Restart, is_timed: bool) -> Result<(), Failure> {
-    let done = measure_recovery(rt.alloc(), rt, restart)?;
-    Ok(tell_recover(rt, &done, is_timed)?)
+    match measure_recovery(rt.alloc(), rt, restart) {
+        Ok(done) => Ok(tell_recover(rt, &done, is_timed)?),
+        Err(why) => Err(why),
+    }
 }
 
 fn tell_recover(rt: &HostRuntime, done: &Restarted, is_timed: bool) -> io::Result<()> {
@@ -120,11 +124,9 @@ fn tell_recover(rt: &HostRuntime, done: &Restarted, is_timed: bool) -> io::Resul
     println!(rt; "records {}", done.records)?;
     println!(rt; "bytes {}", done.bytes)?;
     if is_timed {
+        let records = a_second(u128::from(done.records), done.time);
         println!(rt; "recover_us {}", done.time.as_micros())?;
-        println!(rt;
-            "records_a_second {}",
-            a_second(u128::from(done.records), done.time)
-        )?;
+        println!(rt; "records_a_second {records}")?;
         println!(rt; "bytes_a_second {}", a_second(done.bytes, done.time))?;
     }
     Ok(())
@@ -142,17 +144,13 @@ fn tell_files(rt: &HostRuntime, done: &Filed, is_timed: bool) -> io::Result<()> 
     println!(rt; "entries {}", entries)?;
     println!(rt; "bytes {}", bytes)?;
     if is_timed {
+        let encoded = a_second(entries, done.encoding);
+        let decoded = a_second(entries, done.decoding);
         println!(rt; "encode_us {}", done.encoding.as_micros())?;
-        println!(rt;
-            "encoded_entries_a_second {}",
-            a_second(entries, done.encoding)
-        )?;
+        println!(rt; "encoded_entries_a_second {encoded}")?;
         println!(rt; "encoded_bytes_a_second {}", a_second(bytes, done.encoding))?;
         println!(rt; "decode_us {}", done.decoding.as_micros())?;
-        println!(rt;
-            "decoded_entries_a_second {}",
-            a_second(entries, done.decoding)
-        )?;
+        println!(rt; "decoded_entries_a_second {decoded}")?;
         println!(rt; "decoded_bytes_a_second {}", a_second(bytes, done.decoding))?;
     }
     Ok(())
