@@ -1,12 +1,14 @@
-//! Asks stores for crowds of sessions at one key, and for a long walk by chance, and prints how often each kind of reply
-//! was given, with sums over them.
+//! Asks stores for crowds of sessions at one key, for keys that come and go, and for a long walk by chance, and prints how
+//! often each kind of reply was given, with sums over them.
 #![tactic(auto)]
 
 mod asker;
 mod crowds;
+mod fresh;
 mod walk;
 
 use crowds::{Crowd, sums_of_crowd, sums_one_by_one};
+use fresh::sums_of_fresh_keys;
 use pc_asks::{Sums, tell};
 use pc_types::Refusal;
 use std::hash::RandomState;
@@ -30,6 +32,11 @@ fn run(rt: &HostRuntime) -> io::Result<()> {
     let seed = RandomState::new(rt)?;
     tell_or_fail(rt, "one by one", sums_one_by_one(rt.alloc(), seed))?;
     run_crowds(rt, seed)?;
+    tell_or_fail(
+        rt,
+        "keys that come and go",
+        sums_of_fresh_keys(rt.alloc(), seed),
+    )?;
     tell_or_fail(rt, "a long walk", sums_of_walk(rt.alloc(), seed))
 }
 

@@ -1,1 +1,2 @@
-mod SideLemmas
+pub mod SetLaws
+mod Changing

@@ -1,122 +1,115 @@
 //! The two sets.
-ghost use Rattle.std.specs.Prelude.{◌≡◌, ◌<◌, ◌≤◌, ◌↔◌, [], length, IsTrue, IfOk};
-ghost use Rattle.pc_chain.specs.Chains.{first_of, rest_of, AllHave};
-ghost use Rattle.pc_dirty.specs.Sets.{is_in, with_slot, HasNoRepeats};
+ghost use Rattle.std.specs.Prelude.{◌≡◌, ◌<◌, ◌+◌, ◌^◌, ◌∷◌, ◌++◌, ◌↔◌, [], ℕ, List, length, IsTrue};
+ghost use Rattle.pc_chain.specs.Chains.{first_of, rest_of, Avoids};
+ghost use Rattle.pc_dirty.specs.Sets.{other_side, place_of, AreSets, AreEmpty};
 
-use crate::side::Side;
-use pc_types::{MOST_KEYS, SlotId};
-use std::alloc::{AllocError, Global};
-use std::marker::Model;
-use std::mem;
+use crate::side::{Place, Side};
+use pc_chain::{Chain, Links};
+use pc_types::SlotId;
 
-/// Two sets of slots, the open one and the closed one; a slot can be in both. Each is seen as a list without repeats, in the
-/// order of first addition. All memory is taken when the sets are made, and no later call goes over all slots.
-#[derive(Drop)]
+/// Two sets of slots, the open one and the closed one; a slot can be in both. Each is a list without repeats, in the order of
+/// first addition. The sets have their ends alone: each slot's links, one on either side, are kept by whoever is given at each
+/// call, in the words that the call's marker `K` names, and so is whether a slot is in a set. No call takes memory, none goes
+/// over the slots, and each succeeds.
+#[derive(Clone, Copy)]
 pub struct Dirty {
-    opened: Side,
-    closed: Side,
-}
-
-impl Model for Dirty {
-    ghost use Rattle.std.specs.Prelude.{◌≡◌};
-    ghost use Rattle.pc_dirty.specs.Sets.{Sets};
-
-    ghost Value = { Sets };
-
-    ghost view = { λ a. record { slots = a.opened.slots; opened = a.opened.items; closed = a.closed.items } };
-
-    ghost invariant = { λ a. a.closed.slots ≡ a.opened.slots };
+    opened: Chain<Place>,
+    closed: Chain<Place>,
+    side: Side,
+    open_count: u32,
+    closed_count: u32,
 }
 
 impl Dirty {
-    /// Two empty sets of the slots 0 to `slots` - 1, of which there are at most 2^20. It fails only where memory ran out.
-    pub fn new(alloc: Global, slots: u32) -> Result<Dirty, AllocError>
-        requires { slots ≤ MOST_KEYS }
-        ensures { IfOk result (λ sets. sets ≡ record { slots = slots; opened = []; closed = [] }) }
+    /// Two empty sets, over any links.
+    pub fn new() -> Self
+        ensures { AreEmpty result }
     {
-        let opened = Side::new(alloc, slots)?;
-        let closed = Side::new(alloc, slots)?;
-        Ok(Dirty { opened, closed })
-    }
-
-    /// Adds a slot at the end of the open set; where it is in it, nothing changes.
-    pub fn add(&mut self, slot: SlotId)
-        requires { slot < self.old.slots }
-        ensures { self.new ≡ record self.old { opened = with_slot self.old.opened slot } }
-    {
-        let SlotId(number) = slot;
-        if !self.opened.contains(number) {
-            self.opened.push(number);
+        Dirty {
+            opened: Chain::new(),
+            closed: Chain::new(),
+            side: Side::First,
+            open_count: 0,
+            closed_count: 0,
         }
     }
 
-    /// Makes the open set the closed one, which has to be empty. The open set is then empty.
-    pub fn close(&mut self)
-        requires { self.old.closed ≡ [] }
-        ensures { self.new ≡ record self.old { opened = []; closed = self.old.opened } }
+    /// The side of the open set; the closed one is on the other.
+    pub fn open_side(&self) -> Side
+        ensures { result ≡ self.now.side }
     {
-        mem::swap(&mut self.opened, &mut self.closed);
+        let Dirty { side, .. } = *self;
+        side
     }
 
-    /// Takes the first slot out of the closed set and gives it; None where the set is empty.
-    pub fn pop_closed(&mut self) -> Option<SlotId>
-        ensures given { result ≡ first_of self.old.closed }
-        ensures rest { self.new ≡ record self.old { closed = rest_of self.old.closed } }
+    /// Adds a slot, which isn't in the open set, at its end.
+    pub fn add<K, L: Links<K, Id = Place>>(&mut self, links: &mut L, slot: SlotId)
+        requires has { L.has links.old (place_of self.old.side slot) }
+        requires stands { (opened closed : List ℕ) × AreSets (L.has links.old) (L.next_of links.old) self.old opened closed × Avoids slot opened × (length opened + 1 < 2 ^ 32) }
+        ensures sets { (opened closed : List ℕ) → AreSets (L.has links.old) (L.next_of links.old) self.old opened closed → Avoids slot opened → AreSets (L.has links.new) (L.next_of links.new) self.new (opened ++ slot ∷ []) closed }
+        ensures side { self.new.side ≡ self.old.side }
+        ensures has { (other : Place) → L.has links.old other → L.has links.new other }
+        ensures beside { L.beside links.old links.new }
     {
-        let number = self.closed.pop()?;
-        Some(SlotId(number))
+        let side = self.side;
+        self.open_count += 1;
+        self.opened.push_back(links, Place { slot, side });
+    }
+
+    /// Makes the open set the closed one, which has to be empty. The open set is then empty. The sides are turned, and no
+    /// slot is looked at.
+    pub fn close<K, L: Links<K, Id = Place>>(&mut self, links: &L)
+        requires { (opened : List ℕ) × AreSets (L.has links.now) (L.next_of links.now) self.old opened [] }
+        ensures sets { (opened : List ℕ) → AreSets (L.has links.now) (L.next_of links.now) self.old opened [] → AreSets (L.has links.now) (L.next_of links.now) self.new [] opened }
+        ensures side { self.new.side ≡ other_side self.old.side }
+    {
+        self.closed = self.opened;
+        self.opened = Chain::new();
+        self.closed_count = self.open_count;
+        self.open_count = 0;
+        self.side = self.side.other();
     }
 
     /// The first slot of the closed set; None where the set is empty.
-    pub fn first_closed(&self) -> Option<SlotId>
-        ensures { result ≡ first_of self.now.closed }
+    pub fn first_closed<K, L: Links<K, Id = Place>>(&self, links: &L) -> Option<SlotId>
+        ensures { (opened closed : List ℕ) → AreSets (L.has links.now) (L.next_of links.now) self.now opened closed → result ≡ first_of closed }
     {
-        let number = self.closed.first()?;
-        Some(SlotId(number))
+        let place = self.closed.first(links)?;
+        Some(place.slot)
+    }
+
+    /// Takes the first slot out of the closed set and gives it; None where the set is empty. No link changes.
+    pub fn pop_closed<K, L: Links<K, Id = Place>>(&mut self, links: &L) -> Option<SlotId>
+        requires { (opened closed : List ℕ) × AreSets (L.has links.now) (L.next_of links.now) self.old opened closed }
+        ensures given { (opened closed : List ℕ) → AreSets (L.has links.now) (L.next_of links.now) self.old opened closed → result ≡ first_of closed }
+        ensures sets { (opened closed : List ℕ) → AreSets (L.has links.now) (L.next_of links.now) self.old opened closed → AreSets (L.has links.now) (L.next_of links.now) self.new opened (rest_of closed) }
+        ensures side { self.new.side ≡ self.old.side }
+    {
+        let place = self.closed.pop_front(links)?;
+        self.closed_count -= 1;
+        Some(place.slot)
     }
 
     /// Whether the closed set has no slot.
-    pub fn closed_is_empty(&self) -> bool
-        ensures { IsTrue result ↔ (self.now.closed ≡ []) }
+    pub fn closed_is_empty<K, L: Links<K, Id = Place>>(&self, links: &L) -> bool
+        ensures { (opened closed : List ℕ) → AreSets (L.has links.now) (L.next_of links.now) self.now opened closed → IsTrue result ↔ (closed ≡ []) }
     {
-        self.closed.first().is_none()
+        self.closed_len(links) == 0
     }
 
-    /// How many slots are in the closed set; a count that is kept. None stands twice in it, and each is one of the slots that
-    /// there are.
-    pub fn closed_len(&self) -> u32
-        ensures count { result ≡ length self.now.closed }
-        ensures once { HasNoRepeats self.now.closed }
-        ensures below { AllHave (λ slot. slot < self.now.slots) self.now.closed }
-        ensures most { length self.now.closed ≤ self.now.slots }
+    /// How many slots are in the closed set; a count that is kept.
+    pub fn closed_len<K, L: Links<K, Id = Place>>(&self, _links: &L) -> u32
+        ensures { (opened closed : List ℕ) → AreSets (L.has _links.now) (L.next_of _links.now) self.now opened closed → result ≡ length closed }
     {
-        self.closed.len()
+        let Dirty { closed_count, .. } = *self;
+        closed_count
     }
 
-    /// How many slots are in the open set; a count that is kept. None stands twice in it, and each is one of the slots that
-    /// there are.
-    pub fn open_len(&self) -> u32
-        ensures count { result ≡ length self.now.opened }
-        ensures once { HasNoRepeats self.now.opened }
-        ensures below { AllHave (λ slot. slot < self.now.slots) self.now.opened }
-        ensures most { length self.now.opened ≤ self.now.slots }
+    /// How many slots are in the open set; a count that is kept.
+    pub fn open_len<K, L: Links<K, Id = Place>>(&self, _links: &L) -> u32
+        ensures { (opened closed : List ℕ) → AreSets (L.has _links.now) (L.next_of _links.now) self.now opened closed → result ≡ length opened }
     {
-        self.opened.len()
-    }
-
-    /// Whether the slot is in the open set.
-    pub fn in_open(&self, slot: SlotId) -> bool
-        requires { slot < self.now.slots }
-        ensures { result ≡ is_in self.now.opened slot }
-    {
-        self.opened.contains(slot.0)
-    }
-
-    /// Whether the slot is in the closed set.
-    pub fn in_closed(&self, slot: SlotId) -> bool
-        requires { slot < self.now.slots }
-        ensures { result ≡ is_in self.now.closed slot }
-    {
-        self.closed.contains(slot.0)
+        let Dirty { open_count, .. } = *self;
+        open_count
     }
 }

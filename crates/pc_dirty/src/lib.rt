@@ -2,7 +2,7 @@
 #![tactic(auto)]
 
 mod dirty;
-mod row;
 mod side;
 
 pub use dirty::Dirty;
+pub use side::{Place, Side};

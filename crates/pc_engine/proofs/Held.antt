@@ -1,21 +1,20 @@
 -- What is due where a change is held back, and where it isn't.
 use Rattle.std.proofs.Common.{◌≡◌, ℕ, ◌≤◌, ◌==◌, List, [], ◌∷◌, length, Option, Some, None, is_some, refl, ap, sym, ◌∙◌, arith, Bool, true, false, inl, inr}
-use Rattle.std.specs.Prelude.{option_map, not, if◌then◌else◌, ◌⊎◌}
+use Rattle.std.specs.Prelude.{option_map, if◌then◌else◌, ◌⊎◌}
 use Rattle.std.proofs.lemmas.Bool.Decides.{nat_tests}
 use Rattle.pc_types.specs.declared.Phase.{Phase}
 use Rattle.pc_types.specs.declared.Class.TheVariants.{Before, During, After}
 use Rattle.pc_types.specs.declared.Phase.TheVariants as phase
 use Rattle.pc_types.specs.declared.Reply.{Reply}
-use Rattle.pc_types.specs.declared.Reply.TheVariants as told
 use Rattle.pc_types.specs.declared.Refusal.{Refusal}
 use Rattle.pc_types.specs.declared.Refusal.TheVariants as why
-use Rattle.pc_model.specs.Replies.{first_refusal, or_else, not_yet}
+use Rattle.pc_model.specs.Replies.{first_refusal, or_else}
 use Rattle.pc_types.specs.Phases.{same_phase}
 use Rattle.pc_phase.specs.declared.change.Change.{Change}
 use Rattle.pc_phase.specs.declared.change.Change.TheVariants as change
 use Rattle.pc_phase.specs.declared.change.Held.{Held}
 use Rattle.pc_phase.specs.declared.change.Held.TheVariants.{WrongPhase, PointsFull, NotYet}
-use Rattle.pc_phase.specs.Phases.{Phases, held_back, some_left, from_of, to_of, lacks_point, point_after, count_of}
+use Rattle.pc_phase.specs.Phases.{Phases, held_back, from_of, to_of, lacks_point, point_after, count_of}
 use Rattle.pc_phase.specs.Agreement.{reply_of}
 use Rattle.pc_engine.specs.Store.{Store}
 use Rattle.pc_engine.specs.Steps.{is_log_full, move_due}

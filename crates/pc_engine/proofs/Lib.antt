@@ -1,3 +1,4 @@
+mod FirstClosed
 mod Gathered
 mod SessionLemmas
 mod Causes

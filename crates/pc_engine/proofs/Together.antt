@@ -40,7 +40,7 @@ all_idle (suc n) zero = refl
 all_idle (suc n) (suc i) = all_idle n i
 
 -- at the start nothing is open, and no key is in a set
-pub hold_first : (capacity n : ℕ) (pairs : List (List ℕ × List ℕ)) → HoldTogether (record { capacity = capacity; rows = map committed_row pairs; pending = []; point = 0 }) (replicate n None) 0 Rest 0 [] []
+pub hold_first : (capacity n : ℕ) (pairs : List (List ℕ × List ℕ)) → HoldTogether (record { capacity = capacity; rows = map committed_row pairs; pending = []; point = 0; opened = []; shut = [] }) (replicate n None) 0 Rest 0 [] []
 hold_first capacity n pairs = record {
   writes = record { placed = λ i q some. absurd (let no : false ≡ true = sym (ap (λ a. is_some (write_in a q)) (all_idle n i)) ∙ some in cc); owned = λ q. inl refl };
   numbers = record {
@@ -367,9 +367,9 @@ module _ (t : Table) (ss : List (Option Active)) (begun : ℕ) (phase : Phase) (
       may During e = e
 
   -- the open set is closed
-  pub hold_sealed : same_phase phase Prepare ≡ true → count_of Before ss ≡ 0 → HoldTogether (record t { rows = map closed_row t.rows; point = point }) ss begun Resolve point [] open_keys
+  pub hold_sealed : same_phase phase Prepare ≡ true → count_of Before ss ≡ 0 → HoldTogether (record t { rows = map closed_row t.rows; point = point; opened = []; shut = t.opened }) ss begun Resolve point [] open_keys
   hold_sealed prepare none = record {
-    writes = same_places t ss begun hold.writes hold.numbers (record t { rows = map closed_row t.rows; point = point }) (λ q. refl);
+    writes = same_places t ss begun hold.writes hold.numbers (record t { rows = map closed_row t.rows; point = point; opened = []; shut = t.opened }) (λ q. refl);
     numbers = hold.numbers;
     classes = fits_without Resolve Before none (λ c e. may c (subst (λ p. may_be_active p c ≡ true) (is_this phase Prepare prepare) e));
     sets = record { open_set = λ q e. absurd (let no : false ≡ true = sym (closed_sets t.rows q).1 ∙ e in cc); closed_set = λ q e. hold.sets.open_set q (sym (closed_sets t.rows q).0 ∙ e) };
@@ -384,9 +384,9 @@ module _ (t : Table) (ss : List (Option Active)) (begun : ℕ) (phase : Phase) (
       may After e f = refl
 
   -- the first key of the closed set is taken
-  pub hold_taken : (k : List ℕ) (ks : List (List ℕ)) → closed ≡ k ∷ ks → HoldTogether (record t { rows = left_rows t.rows k }) ss begun phase point open_keys ks
+  pub hold_taken : (k : List ℕ) (ks : List (List ℕ)) → closed ≡ k ∷ ks → HoldTogether (record t { rows = left_rows t.rows k; shut = ks }) ss begun phase point open_keys ks
   hold_taken k ks is = record {
-    writes = same_places t ss begun hold.writes hold.numbers (record t { rows = left_rows t.rows k }) (λ q. refl);
+    writes = same_places t ss begun hold.writes hold.numbers (record t { rows = left_rows t.rows k; shut = ks }) (λ q. refl);
     numbers = hold.numbers;
     classes = hold.classes;
     sets = record { open_set = λ q e. hold.sets.open_set q (sym (left_open t.rows k q) ∙ e); closed_set = λ q e. by_rest q (left_closed t.rows k q e) };
@@ -493,20 +493,20 @@ read_granted t ss begun j n key o found committed placed there granted number cl
     is ∙ ap read_reply (reads_right t ss begun placed.writes placed.numbers j key committed there (subst (λ k. IsClearFor t key k) number clear)) ∙ ap (λ x. by_outcome x (read_reply (value_read (written (writes_in (at_place ss j)) key) committed))) granted
 
 -- the open set was closed
-pub sealed_together : (t after : Table) (ss : List (Option Active)) (begun : ℕ) (phase : Phase) (point : ℕ) (open_keys closed opened left : List (List ℕ)) → HoldTogether t ss begun phase point open_keys closed → same_phase phase Prepare ≡ true → count_of Before ss ≡ 0 → after ≡ record t { rows = map closed_row t.rows; point = point } → opened ≡ [] → left ≡ open_keys →
+pub sealed_together : (t after : Table) (ss : List (Option Active)) (begun : ℕ) (phase : Phase) (point : ℕ) (open_keys closed opened left : List (List ℕ)) → HoldTogether t ss begun phase point open_keys closed → same_phase phase Prepare ≡ true → count_of Before ss ≡ 0 → after ≡ record t { rows = map closed_row t.rows; point = point; opened = []; shut = t.opened } → opened ≡ [] → left ≡ open_keys →
     HoldTogether after ss begun Resolve point opened left
 sealed_together t after ss begun phase point open_keys closed opened left hold prepare none is bare all = rw (is, bare, all) (hold_sealed t ss begun phase point open_keys closed hold prepare none)
 
 -- the first key was taken
-pub taken_together : (t after : Table) (ss : List (Option Active)) (begun : ℕ) (phase : Phase) (point : ℕ) (open_keys closed : List (List ℕ)) (k : List ℕ) (ks : List (List ℕ)) → HoldTogether t ss begun phase point open_keys closed → after ≡ record t { rows = left_rows t.rows k } → closed ≡ k ∷ ks → HoldTogether after ss begun phase point open_keys ks
+pub taken_together : (t after : Table) (ss : List (Option Active)) (begun : ℕ) (phase : Phase) (point : ℕ) (open_keys closed : List (List ℕ)) (k : List ℕ) (ks : List (List ℕ)) → HoldTogether t ss begun phase point open_keys closed → after ≡ record t { rows = left_rows t.rows k; shut = ks } → closed ≡ k ∷ ks → HoldTogether after ss begun phase point open_keys ks
 taken_together t after ss begun phase point open_keys closed k ks hold is first = rw is (hold_taken t ss begun phase point open_keys closed hold k ks first)
 
--- the same list of the open set
-pub same_open : (t : Table) (ss : List (Option Active)) (begun : ℕ) (phase : Phase) (point : ℕ) (open_keys now closed : List (List ℕ)) → now ≡ open_keys → HoldTogether t ss begun phase point open_keys closed → HoldTogether t ss begun phase point now closed
-same_open t ss begun phase point open_keys now closed is hold = rw is hold
+-- the same lists of both sets
+pub same_sets : (t : Table) (ss : List (Option Active)) (begun : ℕ) (phase : Phase) (point : ℕ) (open_keys now closed left : List (List ℕ)) → now ≡ open_keys → left ≡ closed → HoldTogether t ss begun phase point open_keys closed → HoldTogether t ss begun phase point now left
+same_sets t ss begun phase point open_keys now closed left opened shut hold = rw (opened, shut) hold
 
 -- a new world holds together
-pub first_together : (t : Table) (ss : List (Option Active)) (open_keys closed : List (List ℕ)) (capacity n : ℕ) (pairs : List (List ℕ × List ℕ)) → t ≡ (let first : Table = record { capacity = capacity; rows = map committed_row pairs; pending = []; point = 0 } in first) → ss ≡ replicate n None → open_keys ≡ [] → closed ≡ [] → HoldTogether t ss 0 Rest 0 open_keys closed
+pub first_together : (t : Table) (ss : List (Option Active)) (open_keys closed : List (List ℕ)) (capacity n : ℕ) (pairs : List (List ℕ × List ℕ)) → t ≡ (let first : Table = record { capacity = capacity; rows = map committed_row pairs; pending = []; point = 0; opened = []; shut = [] } in first) → ss ≡ replicate n None → open_keys ≡ [] → closed ≡ [] → HoldTogether t ss 0 Rest 0 open_keys closed
 first_together t ss open_keys closed capacity n pairs is idle bare none = rw (is, idle, bare, none) (hold_first capacity n pairs)
 
 -- the phase has changed to capture or to rest

@@ -17,10 +17,6 @@ use Rattle.pc_types.specs.Phases.{same_phase}
 use Rattle.pc_engine.proofs.SessionLemmas.{few_set}
 use Rattle.std.specs.Prelude.{option_map, ◌⊎◌, All}
 
--- a transaction has few keys that are new
-pub few_keys : (keys : List (List ℕ)) (ws : List Write) (a : Option Active) → length keys ≤ length ws → ws ≡ writes_in a → length (writes_in a) ≤ 256 → length keys ≤ 256
-few_keys keys ws a new is few = omega (arith, new, few, ap (λ (w : List Write). length w) is)
-
 -- a token is logged, which has no writes
 pub token_logged : (log now : List Entry) (phase : Phase) (point : ℕ) → All HasFewWrites log → now ≡ log ++ Token phase point ∷ [] → All HasFewWrites now
 token_logged log now phase point all is = subst (λ l. All HasFewWrites l) (sym is) (All-push HasFewWrites log (Token phase point) all tt)
@@ -104,3 +100,17 @@ module _ (begun : ℕ) (log : List Entry) (phase : Phase) (point : ℕ) (open_ke
         most_closed = limits.most_closed;
         most_files = limits.most_files;
       }
+
+  -- the first key of the closed set is taken
+  pub taken_within : (ss : List (Option Active)) (opened left : List (List ℕ)) (key : List ℕ) (keys : List (List ℕ)) (all : List (List ℕ × Option (List ℕ))) → IsWithinLimits begun log ss phase point open_keys closed taken shelf → opened ≡ open_keys → closed ≡ key ∷ keys → left ≡ keys → length all ≡ length taken + 1 →
+      IsWithinLimits begun log ss phase point opened left all shelf
+  taken_within ss opened left key keys all limits a first b one = rw (a, b) (record {
+    most_begun = limits.most_begun;
+    most_writes = limits.most_writes;
+    most_logged = limits.most_logged;
+    most_sessions = limits.most_sessions;
+    has_point = limits.has_point;
+    most_open = limits.most_open;
+    most_closed = omega (arith, one, ap (λ (ks : List (List ℕ)). length ks) first, limits.most_closed);
+    most_files = limits.most_files;
+  })

@@ -1,6 +1,5 @@
 //! What each event of the checkpointer does.
-ghost use Rattle.std.specs.Prelude.{◌≡◌, IfOk, None, ◌⊎◌};
-ghost use Rattle.pc_records.specs.Rows.{record_of, at_point};
+ghost use Rattle.std.specs.Prelude.{◌≡◌, IfOk, None, ◌⊎◌, option_copied};
 ghost use Rattle.pc_phase.specs.Phases.{held_back, advanced, from_of, to_of};
 ghost use Rattle.pc_phase.specs.Agreement.{reply_of};
 ghost use Rattle.pc_engine.specs.Counts.{holders};
@@ -9,11 +8,8 @@ ghost use Rattle.pc_engine.specs.Steps.{StartsPoint, Seals, Moves, Takes, Shelve
 use crate::shelving::{Shelvable, joined, part_of};
 use crate::world::World;
 use pc_phase::{Change, Held, Phases};
-use pc_records::Records;
 use pc_types::{Entry, FileNo, Key, MOST_FILES, Phase, Refusal, Reply, Value};
 use std::alloc::{AllocError, Global};
-use std::collections::VecDeque;
-use std::mem;
 
 impl World {
     pub(crate) fn start_point(&mut self) -> Reply
@@ -49,7 +45,6 @@ impl World {
         change_phase(&mut self.phases, Change::Seal, 0);
         let (phase, point) = (self.phases.phase(), self.phases.point());
         self.log.append_reserved(Entry::Token(phase, point));
-        self.closed_set = mem::replace(&mut self.open_set, VecDeque::new(self.alloc));
         self.taken.clear();
         self.records.close(point);
         Reply::Phase(phase, point)
@@ -81,20 +76,19 @@ impl World {
         if !self.phases.phase().is(Phase::Capture) {
             return Reply::Refused(Refusal::WrongPhase);
         }
-        let Some(first) = self.closed_set.front() else {
+        let Some((first, at_point)) = self.records.first_closed() else {
             return Reply::NoneLeft;
         };
-        let Ok((key, content)) = pair_of(self.alloc, &self.records, first) else {
+        let Ok((key, content)) = copied(self.alloc, first, at_point) else {
             return Reply::Refused(Refusal::OutOfMemory);
         };
-        let Ok(pair) = pair_of(self.alloc, &self.records, first) else {
+        let Ok(pair) = copied(self.alloc, first, at_point) else {
             return Reply::Refused(Refusal::OutOfMemory);
         };
         if self.taken.reserve(1).is_err() {
             return Reply::Refused(Refusal::OutOfMemory);
         }
-        self.records.take(&key);
-        let _ = self.closed_set.pop_front();
+        self.records.take();
         self.taken.push_reserved(pair);
         Reply::Took(key, content)
     }
@@ -102,7 +96,7 @@ impl World {
     pub(crate) fn shelve(&mut self) -> Reply
         ensures { Shelves self.old result self.new }
     {
-        let left = self.closed_set.len() as u32;
+        let left = self.records.closed_len();
         if let Some(held) = self.phases.held_back(Change::Done, left) {
             return reply_of(held);
         }
@@ -171,14 +165,17 @@ fn change_phase(phases: &mut Phases, change: Change, left: u32)
     }
 }
 
-// The key with what it has at the point.
-fn pair_of(alloc: Global, records: &Records, key: &Key) -> Result<(Key, Option<Value>), AllocError>
-    ensures { IfOk result (λ pair. pair ≡ (key.now, at_point (record_of records.now.rows key.now))) }
+// The key and its content, once more.
+fn copied(
+    alloc: Global,
+    key: &Key,
+    content: Option<&Value>,
+) -> Result<(Key, Option<Value>), AllocError>
+    ensures { IfOk result (λ copy. copy ≡ (key.now, option_copied content.entry)) }
 {
-    let content = match records.at_point(key) {
+    let content = match content {
         Some(value) => Some(value.copy(alloc)?),
         None => None,
     };
-    let key = key.copy(alloc)?;
-    Ok((key, content))
+    Ok((key.copy(alloc)?, content))
 }

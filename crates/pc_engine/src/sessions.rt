@@ -68,16 +68,6 @@ pub(crate) fn number(sessions: &[Option<Transaction>], session: SessionNo) -> Tx
     }
 }
 
-/// What the session's open transaction has written.
-pub(crate) fn writes(sessions: &[Option<Transaction>], session: SessionNo) -> &[Write]
-    ensures { result.now ≡ writes_in (active_in (actives_of sessions.now) session) }
-{
-    match active(sessions, session) {
-        Some(transaction) => transaction.writes.as_slice(),
-        None => &[],
-    }
-}
-
 /// Whether a write of the key would be of a 257th key of the session's open transaction.
 pub(crate) fn is_one_too_many(
     sessions: &[Option<Transaction>],
@@ -170,6 +160,8 @@ pub(crate) fn read(
     ensures records { IfOk result (λ reply. kept_of records.new ≡ record (kept_of records.old) { rows = rows_after records.old.rows key.now (number_in (active_in (actives_of sessions.old.items) session)) Shared (outcome (requests_on (record_of records.old.rows key.now)) (number_in (active_in (actives_of sessions.old.items) session)) Shared) }) }
     ensures sessions { IfOk result (λ reply. actives_of sessions.new.items ≡ if_died (outcome (requests_on (record_of records.old.rows key.now)) (number_in (active_in (actives_of sessions.old.items) session)) Shared) (with_session (actives_of sessions.old.items) session (after_dying (active_in (actives_of sessions.old.items) session))) (actives_of sessions.old.items)) }
     ensures same_records { OnErr result (kept_of records.new ≡ kept_of records.old) }
+    ensures opened { records.new.opened ≡ records.old.opened }
+    ensures shut { records.new.shut ≡ records.old.shut }
     ensures same { OnErr result (actives_of sessions.new.items ≡ actives_of sessions.old.items) }
     ensures together { StayTogether records.old (actives_of sessions.old.items) records.new (actives_of sessions.new.items) }
     ensures few { AreFew (actives_of sessions.new.items) }
@@ -208,6 +200,8 @@ pub(crate) fn request(
     ensures sessions { IfOk result (λ answer. actives_of sessions.new.items ≡ if_died answer (with_session (actives_of sessions.old.items) session (after_dying (active_in (actives_of sessions.old.items) session)))
         (if_granted answer (with_session (actives_of sessions.old.items) session (after_writing (active_in (actives_of sessions.old.items) session) write)) (actives_of sessions.old.items))) }
     ensures same_records { OnErr result (kept_of records.new ≡ kept_of records.old) }
+    ensures opened { records.new.opened ≡ records.old.opened }
+    ensures shut { records.new.shut ≡ records.old.shut }
     ensures same { OnErr result (actives_of sessions.new.items ≡ actives_of sessions.old.items) }
     ensures together { StayTogether records.old (actives_of sessions.old.items) records.new (actives_of sessions.new.items) }
     ensures few { AreFew (actives_of sessions.new.items) }
@@ -237,6 +231,8 @@ fn request_write(
     ensures point { IfOk result (λ answer. records.new.point ≡ records.old.point) }
     ensures transaction { IfOk result (λ answer. Some (active_of transaction.new) ≡ if_granted answer (after_writing (Some (active_of transaction.old)) write) (if_died answer (after_dying (Some (active_of transaction.old))) (Some (active_of transaction.old)))) }
     ensures same_records { OnErr result (records.new ≡ records.old) }
+    ensures opened { records.new.opened ≡ records.old.opened }
+    ensures shut { records.new.shut ≡ records.old.shut }
     ensures same { OnErr result (active_of transaction.new ≡ active_of transaction.old) }
 {
     transaction.writes.reserve()?;

@@ -16,7 +16,7 @@ ghost use Rattle.pc_engine.specs.Steps.{OpenCause, WriteCause, Begins, Gets, Wri
 
 use crate::sessions::{self, Transaction};
 use crate::world::World;
-use crate::writes::{new_keys, write_of};
+use crate::writes::write_of;
 use pc_log::Log;
 use pc_records::Records;
 use pc_types::{
@@ -154,14 +154,6 @@ impl World {
         if self.log.reserve().is_err() {
             return Reply::Refused(Refusal::OutOfMemory);
         }
-        let writes = sessions::writes(&self.sessions, session);
-        let Ok(mut keys) = new_keys(self.alloc, &self.records, writes) else {
-            return Reply::Refused(Refusal::OutOfMemory);
-        };
-        if self.open_set.reserve(keys.len()).is_err() {
-            return Reply::Refused(Refusal::OutOfMemory);
-        }
-        let _ = self.open_set.append(&mut keys);
         let (class, number) = commit_open(
             &mut self.sessions,
             &mut self.records,
@@ -203,6 +195,8 @@ fn commit_open(
     ensures class { result.0 ≡ class_at (active_in (actives_of sessions.old.items) session) }
     ensures sessions { actives_of sessions.new.items ≡ with_session (actives_of sessions.old.items) session None }
     ensures records { kept_of records.new ≡ record (kept_of records.old) { rows = released_rows (number_in (active_in (actives_of sessions.old.items) session)) (map (written_row (writes_in (active_in (actives_of sessions.old.items) session))) records.old.rows) } }
+    ensures opened { records.new.opened ≡ records.old.opened ++ new_keys records.old.rows (writes_in (active_in (actives_of sessions.old.items) session)) }
+    ensures shut { records.new.shut ≡ records.old.shut }
     ensures log { entries_of log.new ≡ entries_of log.old ++ Commit session (writes_in (active_in (actives_of sessions.old.items) session)) ∷ [] }
     ensures number { result.1 ≡ length (entries_of log.new) }
     ensures together { (begun : ℕ) (phase : Phase) (point : ℕ) (open_keys closed : List (List ℕ)) → HoldTogether records.old (actives_of sessions.old.items) begun phase point open_keys closed
@@ -231,6 +225,8 @@ fn abort_open(
     ensures class { result ≡ class_at (active_in (actives_of sessions.old.items) session) }
     ensures sessions { actives_of sessions.new.items ≡ with_session (actives_of sessions.old.items) session None }
     ensures records { kept_of records.new ≡ record (kept_of records.old) { rows = released_rows (number_in (active_in (actives_of sessions.old.items) session)) records.old.rows } }
+    ensures opened { records.new.opened ≡ records.old.opened }
+    ensures shut { records.new.shut ≡ records.old.shut }
     ensures together { StayTogether records.old (actives_of sessions.old.items) records.new (actives_of sessions.new.items) }
 {
     let number = sessions::number(sessions, session);

@@ -24,7 +24,6 @@ use pc_phase::{Change, Phases};
 use pc_records::Records;
 use pc_types::{Entry, Event, FileNo, Key, MOST_KEYS, MOST_SESSIONS, Phase, Refusal, Reply, Value};
 use std::alloc::Global;
-use std::collections::VecDeque;
 use std::hash::RandomState;
 use std::marker::Model;
 
@@ -38,8 +37,6 @@ pub struct World {
     pub(crate) log: Log,
     pub(crate) begun: u64,
     pub(crate) phases: Phases,
-    pub(crate) open_set: VecDeque<Key>,
-    pub(crate) closed_set: VecDeque<Key>,
     pub(crate) taken: Vec<(Key, Option<Value>)>,
     pub(crate) shelf: Vec<SharedPart>,
 }
@@ -66,12 +63,12 @@ impl Model for World {
       kept = kept_of w.records;
       log = entries_of w.log;
       begun = w.begun;
-      cycle = record { phase = w.phases.phase; point = w.phases.point; open_set = w.open_set.items; closed_set = w.closed_set.items; taken = w.taken.items };
+      cycle = record { phase = w.phases.phase; point = w.phases.point; open_set = w.records.opened; closed_set = w.records.shut; taken = w.taken.items };
       shelf = w.shelf.items;
     } };
 
-    ghost invariant = { λ w. IsWithinLimits w.begun (entries_of w.log) (actives_of w.sessions.items) w.phases.phase w.phases.point w.open_set.items w.closed_set.items w.taken.items w.shelf.items
-        × HoldTogether w.records (actives_of w.sessions.items) w.begun w.phases.phase w.phases.point w.open_set.items w.closed_set.items
+    ghost invariant = { λ w. IsWithinLimits w.begun (entries_of w.log) (actives_of w.sessions.items) w.phases.phase w.phases.point w.records.opened w.records.shut w.taken.items w.shelf.items
+        × HoldTogether w.records (actives_of w.sessions.items) w.begun w.phases.phase w.phases.point w.records.opened w.records.shut
         × AreCounted w.phases (actives_of w.sessions.items) };
 }
 
@@ -110,8 +107,6 @@ impl World {
             log: Log::new(alloc),
             begun: 0,
             phases: Phases::new(),
-            open_set: VecDeque::new(alloc),
-            closed_set: VecDeque::new(alloc),
             taken: Vec::new(alloc),
             shelf: Vec::new(alloc),
         })

@@ -5,7 +5,7 @@ use Rattle.pc_model.specs.Maps as map
 use Rattle.pc_model.specs.Sets as set
 use Rattle.pc_model.specs.Sets.{Set, number_order}
 use Rattle.pc_model.specs.Database.{Database, same_bytes}
-use Rattle.pc_model.specs.Points.{Triples, AtPoint, joined, content, taken}
+use Rattle.pc_model.specs.Points.{Triples, AtPoint, joined, taken}
 use Rattle.pc_model.specs.History.{History, Effect, effect}
 use Rattle.pc_model.specs.History.Effect.{Shelves, Joins}
 

@@ -84,7 +84,7 @@ module _ (point t : ℕ) (class : Class) (value : Option (List ℕ)) (slots new 
   pub sound_there : AreSound point new_queues new
   sound_there = sound_put point t class value slots new i e key new_queues kept_queues sound_queues_now lt is o outside_e new_is has
 
-  pub pending_there : (q : List ℕ) → find key_cmp q (pending_of new) ≡ pending_after o (table_of (length queues) queues slots point) key (record { by = t; class = class; value = value }) q
+  pub pending_there : (q : List ℕ) → find key_cmp q (pending_of new) ≡ pending_after o (table_of (length queues) queues slots point [] []) key (record { by = t; class = class; value = value }) q
   pending_there q = pending_put point t class value slots new i e key new_queues kept_queues sound_queues_now lt is o outside_e new_is here own_both (length queues) queues q
 
 -- a key that has no slot: one went in
@@ -148,10 +148,10 @@ module _ (point t : ℕ) (class : Class) (value : Option (List ℕ)) (slots inse
   pub sound_first_put : AreSound point queues new
   sound_first_put = sound_put point t class value inserted new first.place x key queues kept sound lt_x is_x Granted (λ e. refl) put_x (λ e. has_x)
 
-  pub pending_first_put : (capacity : ℕ) (other : List Queue) (q : List ℕ) → find key_cmp q (pending_of new) ≡ pending_after Granted (table_of capacity other slots point) key (record { by = t; class = class; value = value }) q
+  pub pending_first_put : (capacity : ℕ) (other : List Queue) (q : List ℕ) → find key_cmp q (pending_of new) ≡ pending_after Granted (table_of capacity other slots point [] []) key (record { by = t; class = class; value = value }) q
   pending_first_put capacity other q =
       pending_put point t class value inserted new first.place x key queues kept sound lt_x is_x Granted (λ e. refl) put_x (same_self key) (λ e w writer. none w writer) capacity other q
-      ∙ ap (λ (ps : List (List ℕ × Pending)). pending_after Granted (record { capacity = capacity; rows = rows_of other slots; pending = ps; point = point }) key (record { by = t; class = class; value = value }) q) same
+      ∙ ap (λ (ps : List (List ℕ × Pending)). pending_after Granted (record { capacity = capacity; rows = rows_of other slots; pending = ps; point = point; opened = []; shut = [] }) key (record { by = t; class = class; value = value }) q) same
     where
       none : (w : Writer) → None ≡ Some w → (w.transaction ≡ t) × (w.class ≡ class)
       none w e = absurd (let z : None ≡ Some w = e in cc)

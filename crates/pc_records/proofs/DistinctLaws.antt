@@ -1,6 +1,5 @@
 -- Writes of which no two have one key, and what they leave.
 use Rattle.std.proofs.Common.{◌≡◌, ℕ, List, [], ◌∷◌, Option, Some, None, is_some, refl, sym, ap, ◌∙◌, cond, true, false, Bool, eqb, ◌||◌}
-use Rattle.std.specs.Prelude.{⊤}
 use Rattle.pc_types.specs.declared.Write.{Write}
 use Rattle.pc_model.specs.Maps as map_of
 use Rattle.pc_model.specs.Database.{Database, same_bytes, applied, applied_all, with_write, written}
@@ -9,19 +8,10 @@ use Rattle.pc_model.specs.History.{History, Effect, effect, writes_of, writes_by
 use Rattle.pc_model.specs.History.Effect.{Begins, Reads, Writes, Waits, Dies, Commits, Aborts, Moves, Takes, Shelves, Joins, Nothing}
 use Rattle.pc_model.specs.Replies.{value_read}
 use Rattle.pc_model.proofs.JoinLaws.{one_key, get_put}
-use Rattle.pc_model.proofs.WrittenKeyLaws.{held_by}
+use Rattle.pc_model.proofs.DistinctWriteLaws.{distinct_with}
 use Rattle.pc_model.proofs.OccupiedKeyLaws.{among_with_key}
 use Rattle.pc_records.proofs.FollowingLaws.{turned_key}
-use Rattle.pc_records.specs.NewKeys.{AreDistinct}
-
-distinct_with : (ws : List Write) (k : List ℕ) (v : Option (List ℕ)) → AreDistinct ws → AreDistinct (with_write ws (record { key = k; value = v }))
-distinct_with [] k v d = (refl, tt)
-distinct_with (w ∷ ws) k v d = by_match (same_bytes w.key k) refl (distinct_with ws k v d.1) (held_by ws k w.key v)
-  where
-    by_match : (b : Bool) → same_bytes w.key k ≡ b → AreDistinct (with_write ws (record { key = k; value = v })) → is_some (written (with_write ws (record { key = k; value = v })) w.key) ≡ (same_bytes k w.key || is_some (written ws w.key)) →
-        AreDistinct (cond b (record { key = k; value = v } ∷ ws) (w ∷ with_write ws (record { key = k; value = v })))
-    by_match true e later is = rw (← one_key w.key k e) d
-    by_match false e later is = (is ∙ ap (λ b. b || is_some (written ws w.key)) (turned_key k w.key ∙ e) ∙ d.0, later)
+use Rattle.pc_model.specs.DistinctWrites.{AreDistinct}
 
 distinct_by : (s : ℕ) (e : Effect) (ws : List Write) → AreDistinct ws → AreDistinct (writes_by s e ws)
 distinct_by s (Begins t) ws d = elim (eqb t s) as (λ b. AreDistinct (cond b [] ws)) [ true ↦ tt | false ↦ d ]

@@ -18,6 +18,7 @@ use Rattle.pc_records.specs.declared.slots.Cell.{Cell}
 use Rattle.pc_records.specs.Slots.{slots_in, base_cell, cells_in, base_row, AreKept}
 use Rattle.pc_records.proofs.Lookups.{same_turned}
 use Rattle.pc_records.proofs.TableSlots.{slots_rise, once_in, has_number}
+use Rattle.pc_dirty.specs.declared.side.Side.{Side}
 
 cells_put : (key : List ℕ) (n : ℕ) (x : Cell) (rows : List (TableRow Cell)) → cells_in (put key_cmp key (n, x) rows) ≡ put key_cmp key x (cells_in rows)
 cells_put key n x [] = refl
@@ -109,11 +110,12 @@ module _ (pairs : List (List ℕ × List ℕ)) (rise : KeysRise pairs) (i : ℕ)
       rise_cells : (cs : List (List ℕ × Cell)) → Rise cs → Rise (put key_cmp pair.0 (base_cell (Some pair.1)) cs)
       rise_cells cs r = tested (is_sorted-put key_cmp key_order.total pair.0 (base_cell (Some pair.1)) cs (computes r))
 
--- what the first slots keep
-pub kept_first : (table : Contents Cell) (queues : List Queue) (capacity : ℕ) → AreInSlots table → table.capacity ≡ capacity → length queues ≡ capacity → queues ≡ replicate capacity [] → AreKept (slots_in table.rows) queues
-kept_first table queues capacity a count long are = record {
-  rise = slots_rise table.rows a.rise;
-  once = once_in table a;
-  below = λ n some. subst (λ m. n < m) (count ∙ sym long) (a.below n (has_number table.rows n some));
-  bare = λ n none. ap (λ (qs : List Queue). queue_at qs n) are ∙ none_at capacity n;
-}
+module _ (side : Side) where
+  -- what the first slots keep
+  pub kept_first : (table : Contents Cell) (queues : List Queue) (capacity : ℕ) → AreInSlots table → table.capacity ≡ capacity → length queues ≡ capacity → queues ≡ replicate capacity [] → AreKept (slots_in side table.rows) queues
+  kept_first table queues capacity a count long are = record {
+    rise = slots_rise side table.rows a.rise;
+    once = once_in side table a;
+    below = λ n some. subst (λ m. n < m) (count ∙ sym long) (a.below n (has_number side table.rows n some));
+    bare = λ n none. ap (λ (qs : List Queue). queue_at qs n) are ∙ none_at capacity n;
+  }

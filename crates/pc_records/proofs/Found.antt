@@ -1,5 +1,5 @@
 -- What the answer to a request of a key that has a slot leaves.
-use Rattle.std.proofs.Common.{◌≡◌, ℕ, zero, suc, ◌<◌, List, length, map, set, get_or, Option, Some, option_map, Result, refl, ap, arith, true, false}
+use Rattle.std.proofs.Common.{◌≡◌, ℕ, zero, suc, ◌<◌, List, [], length, map, set, get_or, Option, Some, option_map, Result, refl, ap, arith, true, false}
 use Rattle.std.specs.Prelude.{IfOk, OnErr}
 use Rattle.std.specs.List.{list_any}
 use Rattle.std.specs.FinMap.{find}
@@ -27,91 +27,93 @@ use Rattle.pc_records.proofs.Freeing.{sound_at}
 use Rattle.pc_records.proofs.Clearing.{IsClear, sound_again, clear_again}
 use Rattle.pc_records.proofs.Answering.{granted_is, told_there, rows_there, clear_there, kept_there, sound_there, pending_there}
 use Rattle.pc_records.proofs.TableSlots.{IsPlaced, placed_key, placed_same, cell_found, slots_rise, once_in, has_number, number_has}
-
--- a key that has a slot
-module _ (table : Contents Cell) (a : AreInSlots table) (key : List ℕ) (id : ℕ) (x : Cell) (s : table_slot table.rows key ≡ Some id) (has : option_map (λ pair. pair.1) (in_slot table.rows id) ≡ Some x) where
-  place : (i : ℕ) × IsPlaced (slots_in table.rows) i (slot_with id key x)
-  place = placed_key table a key id x (record_found table key id a s x has)
-
-  same : (d : Slot) → same_bytes key (get_or (slots_in table.rows) place.0 d).key ≡ true
-  same = placed_same (slots_in table.rows) place.0 (slot_with id key x) place.1
-
-  at : IsSlotOf (slots_in table.rows) key place.0
-  at = slot_of_key (slots_in table.rows) key place.0 place.1.in_range (slots_rise table.rows a.rise) same
-
-  -- the locks were asked
-  module _ {E : Type 0} (result : Result Outcome E) (was now : State) (point t : ℕ) (mode : Mode) (kept : AreKept (slots_in table.rows) was.queues) (sound : AreSound point was.queues (slots_in table.rows)) (told : IfOk result (λ o. o ≡ outcome (queue_at was.queues id) t mode))
-      (changed : IfOk result (λ o. now.queues ≡ set was.queues id (queue_after (queue_at was.queues id) t mode o))) (err : OnErr result (now ≡ was)) where
-    pub asked_told : IfOk result (λ o. o ≡ outcome (requests_on (record_of (rows_of was.queues (slots_in table.rows)) key)) t mode)
-    asked_told = told_again result (λ o. o) (slots_in table.rows) was now key place.0 (slot_with id key x) t mode kept place.1.in_range place.1.is at told
-
-    pub asked_rows : IfOk result (λ o. rows_of now.queues (slots_in table.rows) ≡ rows_after (rows_of was.queues (slots_in table.rows)) key t mode o)
-    asked_rows = rows_again result (λ o. o) (slots_in table.rows) was now key place.0 (slot_with id key x) t mode kept place.1.in_range place.1.is at changed
-
-    pub asked_kept : AreKept (slots_in table.rows) now.queues
-    asked_kept = kept_again result (λ o. o) (slots_in table.rows) was now key place.0 (slot_with id key x) t mode kept place.1.in_range place.1.is changed err
-
-    pub asked_sound : AreSound point now.queues (slots_in table.rows)
-    asked_sound = sound_again result (λ o. o) point id t mode (slots_in table.rows) was now key (slot_with id key x) kept sound changed err
-
-    pub asked_clear : IsLegalQueue (queue_at was.queues id) → list_any (λ queue. is_ungranted (request_in queue t)) was.queues ≡ false → IfOk result (λ o. o ≡ Granted → IsClear (slots_in table.rows) key t)
-    asked_clear legal ready =
-        clear_again result (λ o. o) point id t mode (slots_in table.rows) was now key (slot_with id key x) kept sound (cell_found table a key id x s has)
-        (sound_at point was.queues (slots_in table.rows) place.0 (slot_with id key x) sound place.1.in_range place.1.is) legal ready told
-
-  -- and the key was written where the request was granted
-  module _ (point t : ℕ) (class : Class) (copy value : Option (List ℕ)) (new : List Slot) (queues new_queues : List Queue) (o : Outcome) (kept : AreKept (slots_in table.rows) queues) (sound : AreSound point queues (slots_in table.rows)) (changed : new_queues ≡ set queues id (queue_after (queue_at queues id) t Exclusive o))
-      (answered : o ≡ outcome (queue_at queues id) t Exclusive) (legal : IsLegalQueue (queue_at queues id)) (ready : list_any (λ queue. is_ungranted (request_in queue t)) queues ≡ false) (outside : class ≡ Before → is_in_closed_set (record_of (rows_of queues (slots_in table.rows)) key) ≡ false)
-      (again : (p : Pending) → find key_cmp key (pending_of (slots_in table.rows)) ≡ Some p → p.by ≡ t → p.class ≡ class) (copied : copy ≡ x.live) (put : new ≡ map (at_number (granted_slot o point t class copy value) id) (slots_in table.rows)) where
-    put_is : new ≡ set (slots_in table.rows) place.0 (granted_slot o point t class x.live value (slot_with id key x))
-    put_is = granted_is o point t class copy value (slots_in table.rows) new place.0 id (slot_with id key x) (once_in table a id) put copied place.1.in_range place.1.is refl
-
-    pub written_told : o ≡ outcome (requests_on (record_of (rows_of queues (slots_in table.rows)) key)) t Exclusive
-    written_told = told_there point t class value (slots_in table.rows) new key place.0 (slot_with id key x) queues new_queues o kept sound place.1.in_range place.1.is at same changed answered legal ready outside again put_is
-
-    pub written_rows : rows_of new_queues new ≡ rows_after (rows_of queues (slots_in table.rows)) key t Exclusive o
-    written_rows = rows_there point t class value (slots_in table.rows) new key place.0 (slot_with id key x) queues new_queues o kept sound place.1.in_range place.1.is at same changed answered legal ready outside again put_is
-
-    pub written_clear : o ≡ Granted → IsClear (slots_in table.rows) key t
-    written_clear = clear_there point t class value (slots_in table.rows) new key place.0 (slot_with id key x) queues new_queues o kept sound place.1.in_range place.1.is at same changed answered legal ready outside again put_is
-
-    pub written_kept : AreKept new new_queues
-    written_kept = kept_there point t class value (slots_in table.rows) new key place.0 (slot_with id key x) queues new_queues o kept sound place.1.in_range place.1.is at same changed answered legal ready outside again put_is
-
-    pub written_sound : AreSound point new_queues new
-    written_sound = sound_there point t class value (slots_in table.rows) new key place.0 (slot_with id key x) queues new_queues o kept sound place.1.in_range place.1.is at same changed answered legal ready outside again put_is
-
-    pub written_pending : (q : List ℕ) → find key_cmp q (pending_of new) ≡ pending_after o (table_of (length queues) queues (slots_in table.rows) point) key (record { by = t; class = class; value = value }) q
-    written_pending = pending_there point t class value (slots_in table.rows) new key place.0 (slot_with id key x) queues new_queues o kept sound place.1.in_range place.1.is at same changed answered legal ready outside again put_is
-
--- the number of a key that has a slot is that of a queue
-pub found_below : (table : Contents Cell) (queues : List Queue) (id : ℕ) → AreKept (slots_in table.rows) queues → HasRow table.rows id → id < length queues
-found_below table queues id kept row = kept.below id (number_has table.rows id row)
+use Rattle.pc_dirty.specs.declared.side.Side.{Side}
 
 -- what the slot has that has a row
 pub some_cell : (table : Contents Cell) (key : List ℕ) (id : ℕ) → table_slot table.rows key ≡ Some id → AreInSlots table → (x : Cell) × (option_map (λ pair. pair.1) (in_slot table.rows id) ≡ Some x)
 some_cell table key id s a = let h = placed table.rows key id s in (h.0, ap (option_map (λ (pair : List ℕ × Cell). pair.1)) ((a.each id key h.0).1 h.1))
 
--- a request was removed
-module _ (table : Contents Cell) (t n : ℕ) (queues new_queues : List Queue) (lists : Lists) (kept : AreKept (slots_in table.rows) queues) (linked : AreLinked queues lists) (first : Some n ≡ first_of (slots_of lists t)) (changed : new_queues ≡ set queues n (queue_without (queue_at queues n) t)) where
-  stands : stands_in (queue_at queues n) t ≡ true
-  stands = stands_first t n queues lists linked first
+module _ (side : Side) where
+  -- a key that has a slot
+  module _ (table : Contents Cell) (a : AreInSlots table) (key : List ℕ) (id : ℕ) (x : Cell) (s : table_slot table.rows key ≡ Some id) (has : option_map (λ pair. pair.1) (in_slot table.rows id) ≡ Some x) where
+    place : (i : ℕ) × IsPlaced (slots_in side table.rows) i (slot_with side id key x)
+    place = placed_key side table a key id x (record_found table key id a s x has)
 
-  some_slot : 0 < times n (numbers_of (slots_in table.rows))
-  some_slot = by_count (times n (numbers_of (slots_in table.rows))) refl
-    where
-      by_count : (m : ℕ) → times n (numbers_of (slots_in table.rows)) ≡ m → 0 < m
-      by_count zero e = absurd (slot_there t n (slots_in table.rows) queues kept stands e)
-      by_count (suc m) e = omega arith
+    same : (d : Slot) → same_bytes key (get_or (slots_in side table.rows) place.0 d).key ≡ true
+    same = placed_same (slots_in side table.rows) place.0 (slot_with side id key x) place.1
 
-  pub row_stands : HasRow table.rows n
-  row_stands = has_number table.rows n some_slot
+    at : IsSlotOf (slots_in side table.rows) key place.0
+    at = slot_of_key (slots_in side table.rows) key place.0 place.1.in_range (slots_rise side table.rows a.rise) same
 
-  spot : (i : ℕ) × IsNumbered (slots_in table.rows) n i
-  spot = number_place n (slots_in table.rows) some_slot
+    -- the locks were asked
+    module _ {E : Type 0} (result : Result Outcome E) (was now : State) (point t : ℕ) (mode : Mode) (kept : AreKept (slots_in side table.rows) was.queues) (sound : AreSound point was.queues (slots_in side table.rows)) (told : IfOk result (λ o. o ≡ outcome (queue_at was.queues id) t mode))
+        (changed : IfOk result (λ o. now.queues ≡ set was.queues id (queue_after (queue_at was.queues id) t mode o))) (err : OnErr result (now ≡ was)) where
+      pub asked_told : IfOk result (λ o. o ≡ outcome (requests_on (record_of (rows_of was.queues (slots_in side table.rows)) key)) t mode)
+      asked_told = told_again result (λ o. o) (slots_in side table.rows) was now key place.0 (slot_with side id key x) t mode kept place.1.in_range place.1.is at told
 
-  pub kept_let_go : AreKept (slots_in table.rows) new_queues
-  kept_let_go = kept_without t n (slots_in table.rows) queues new_queues spot.0 kept stands spot.1 changed
+      pub asked_rows : IfOk result (λ o. rows_of now.queues (slots_in side table.rows) ≡ rows_after (rows_of was.queues (slots_in side table.rows)) key t mode o)
+      asked_rows = rows_again result (λ o. o) (slots_in side table.rows) was now key place.0 (slot_with side id key x) t mode kept place.1.in_range place.1.is at changed
 
-  pub rows_let_go : (new : List Slot) → ((i : ℕ) → IsNumbered (slots_in table.rows) n i → rows_of new_queues new ≡ tidied (rows_of new_queues (slots_in table.rows)) i) → released_rows t (rows_of new_queues new) ≡ released_rows t (rows_of queues (slots_in table.rows))
-  rows_let_go new tidy = released_first t n (slots_in table.rows) queues new_queues spot.0 kept stands spot.1 changed new (tidy spot.0 spot.1)
+      pub asked_kept : AreKept (slots_in side table.rows) now.queues
+      asked_kept = kept_again result (λ o. o) (slots_in side table.rows) was now key place.0 (slot_with side id key x) t mode kept place.1.in_range place.1.is changed err
+
+      pub asked_sound : AreSound point now.queues (slots_in side table.rows)
+      asked_sound = sound_again result (λ o. o) point id t mode (slots_in side table.rows) was now key (slot_with side id key x) kept sound changed err
+
+      pub asked_clear : IsLegalQueue (queue_at was.queues id) → list_any (λ queue. is_ungranted (request_in queue t)) was.queues ≡ false → IfOk result (λ o. o ≡ Granted → IsClear (slots_in side table.rows) key t)
+      asked_clear legal ready =
+          clear_again result (λ o. o) point id t mode (slots_in side table.rows) was now key (slot_with side id key x) kept sound (cell_found side table a key id x s has)
+          (sound_at point was.queues (slots_in side table.rows) place.0 (slot_with side id key x) sound place.1.in_range place.1.is) legal ready told
+
+    -- and the key was written where the request was granted
+    module _ (point t : ℕ) (class : Class) (copy value : Option (List ℕ)) (new : List Slot) (queues new_queues : List Queue) (o : Outcome) (kept : AreKept (slots_in side table.rows) queues) (sound : AreSound point queues (slots_in side table.rows)) (changed : new_queues ≡ set queues id (queue_after (queue_at queues id) t Exclusive o))
+        (answered : o ≡ outcome (queue_at queues id) t Exclusive) (legal : IsLegalQueue (queue_at queues id)) (ready : list_any (λ queue. is_ungranted (request_in queue t)) queues ≡ false) (outside : class ≡ Before → is_in_closed_set (record_of (rows_of queues (slots_in side table.rows)) key) ≡ false)
+        (again : (p : Pending) → find key_cmp key (pending_of (slots_in side table.rows)) ≡ Some p → p.by ≡ t → p.class ≡ class) (copied : copy ≡ x.live) (put : new ≡ map (at_number (granted_slot o point t class copy value) id) (slots_in side table.rows)) where
+      put_is : new ≡ set (slots_in side table.rows) place.0 (granted_slot o point t class x.live value (slot_with side id key x))
+      put_is = granted_is o point t class copy value (slots_in side table.rows) new place.0 id (slot_with side id key x) (once_in side table a id) put copied place.1.in_range place.1.is refl
+
+      pub written_told : o ≡ outcome (requests_on (record_of (rows_of queues (slots_in side table.rows)) key)) t Exclusive
+      written_told = told_there point t class value (slots_in side table.rows) new key place.0 (slot_with side id key x) queues new_queues o kept sound place.1.in_range place.1.is at same changed answered legal ready outside again put_is
+
+      pub written_rows : rows_of new_queues new ≡ rows_after (rows_of queues (slots_in side table.rows)) key t Exclusive o
+      written_rows = rows_there point t class value (slots_in side table.rows) new key place.0 (slot_with side id key x) queues new_queues o kept sound place.1.in_range place.1.is at same changed answered legal ready outside again put_is
+
+      pub written_clear : o ≡ Granted → IsClear (slots_in side table.rows) key t
+      written_clear = clear_there point t class value (slots_in side table.rows) new key place.0 (slot_with side id key x) queues new_queues o kept sound place.1.in_range place.1.is at same changed answered legal ready outside again put_is
+
+      pub written_kept : AreKept new new_queues
+      written_kept = kept_there point t class value (slots_in side table.rows) new key place.0 (slot_with side id key x) queues new_queues o kept sound place.1.in_range place.1.is at same changed answered legal ready outside again put_is
+
+      pub written_sound : AreSound point new_queues new
+      written_sound = sound_there point t class value (slots_in side table.rows) new key place.0 (slot_with side id key x) queues new_queues o kept sound place.1.in_range place.1.is at same changed answered legal ready outside again put_is
+
+      pub written_pending : (q : List ℕ) → find key_cmp q (pending_of new) ≡ pending_after o (table_of (length queues) queues (slots_in side table.rows) point [] []) key (record { by = t; class = class; value = value }) q
+      written_pending = pending_there point t class value (slots_in side table.rows) new key place.0 (slot_with side id key x) queues new_queues o kept sound place.1.in_range place.1.is at same changed answered legal ready outside again put_is
+
+  -- the number of a key that has a slot is that of a queue
+  pub found_below : (table : Contents Cell) (queues : List Queue) (id : ℕ) → AreKept (slots_in side table.rows) queues → HasRow table.rows id → id < length queues
+  found_below table queues id kept row = kept.below id (number_has side table.rows id row)
+
+  -- a request was removed
+  module _ (table : Contents Cell) (t n : ℕ) (queues new_queues : List Queue) (lists : Lists) (kept : AreKept (slots_in side table.rows) queues) (linked : AreLinked queues lists) (first : Some n ≡ first_of (slots_of lists t)) (changed : new_queues ≡ set queues n (queue_without (queue_at queues n) t)) where
+    stands : stands_in (queue_at queues n) t ≡ true
+    stands = stands_first t n queues lists linked first
+
+    some_slot : 0 < times n (numbers_of (slots_in side table.rows))
+    some_slot = by_count (times n (numbers_of (slots_in side table.rows))) refl
+      where
+        by_count : (m : ℕ) → times n (numbers_of (slots_in side table.rows)) ≡ m → 0 < m
+        by_count zero e = absurd (slot_there t n (slots_in side table.rows) queues kept stands e)
+        by_count (suc m) e = omega arith
+
+    pub row_stands : HasRow table.rows n
+    row_stands = has_number side table.rows n some_slot
+
+    spot : (i : ℕ) × IsNumbered (slots_in side table.rows) n i
+    spot = number_place n (slots_in side table.rows) some_slot
+
+    pub kept_let_go : AreKept (slots_in side table.rows) new_queues
+    kept_let_go = kept_without t n (slots_in side table.rows) queues new_queues spot.0 kept stands spot.1 changed
+
+    pub rows_let_go : (new : List Slot) → ((i : ℕ) → IsNumbered (slots_in side table.rows) n i → rows_of new_queues new ≡ tidied (rows_of new_queues (slots_in side table.rows)) i) → released_rows t (rows_of new_queues new) ≡ released_rows t (rows_of queues (slots_in side table.rows))
+    rows_let_go new tidy = released_first t n (slots_in side table.rows) queues new_queues spot.0 kept stands spot.1 changed new (tidy spot.0 spot.1)

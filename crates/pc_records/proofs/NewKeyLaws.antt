@@ -8,7 +8,8 @@ use Rattle.pc_model.specs.Database.{same_bytes, with_write, written, key_order}
 use Rattle.pc_model.specs.Points.{is_among, with_keys}
 use Rattle.std.proofs.lemmas.Cmp.{eq_by_cmp_equiv}
 use Rattle.pc_model.proofs.JoinLaws.{one_key}
-use Rattle.pc_records.specs.NewKeys.{AreDistinct, with_new, new_keys, is_one_too_many}
+use Rattle.pc_model.specs.DistinctWrites.{AreDistinct}
+use Rattle.pc_records.specs.NewKeys.{with_new, new_keys, is_one_too_many}
 use Rattle.pc_model.proofs.PlaceLaws.{rest_at}
 use Rattle.pc_records.specs.Rows.{Row, record_of, is_in_open_set}
 

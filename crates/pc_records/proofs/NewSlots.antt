@@ -17,46 +17,12 @@ use Rattle.pc_records.specs.declared.slots.Cell.{Cell}
 use Rattle.pc_records.specs.Rows.{record_of, requests_on}
 use Rattle.pc_records.specs.RowSteps.{rows_after}
 use Rattle.pc_records.specs.Slots.{slots_in, base_cell, new_slot, rows_of, pending_of, numbers_of, times, AreKept, AreSound, IsNewAt, IsFirstIn}
+use Rattle.pc_records.proofs.BlankSlots.{blank_slot}
 use Rattle.pc_records.proofs.SlotPlaces.{place, gap_at}
 use Rattle.pc_records.proofs.Requesting.{rows_new, kept_new}
 use Rattle.pc_records.proofs.Answering.{first_in, sound_in, pending_in_new}
 use Rattle.pc_records.proofs.TableSlots.{no_find, no_record, no_number, put_slots}
-
--- the slot went in
-module _ (old new : Contents Cell) (key : List ℕ) (id : ℕ) (none : table_slot old.rows key ≡ None) (made : new ≡ with_row old key id (base_cell None)) where
-  pub went_in : slots_in new.rows ≡ insert (slots_in old.rows) (place key (slots_in old.rows)) (new_slot id key)
-  went_in = ap (λ (t : Contents Cell). slots_in t.rows) made ∙ put_slots key id (base_cell None) old.rows (no_find old.rows key none)
-
-  pub pending_in : pending_of (slots_in new.rows) ≡ pending_of (slots_in old.rows)
-  pending_in = pending_in_new (slots_in old.rows) (slots_in new.rows) key (place key (slots_in old.rows)) id went_in
-
-  -- and the request was granted
-  module _ (point t : ℕ) (queues new_queues : List Queue) (mode : Mode) (o : Outcome) (kept : AreKept (slots_in old.rows) queues) (sound : AreSound point queues (slots_in old.rows)) (count : length queues ≡ old.capacity) (fresh : IsNewSlot old id) (answered : o ≡ outcome (queue_at queues id) t mode)
-      (changed : new_queues ≡ set queues id (queue_after (queue_at queues id) t mode o)) where
-    gap : IsNewAt (slots_in old.rows) key (place key (slots_in old.rows))
-    gap = gap_at key (slots_in old.rows) (λ qs. no_record old.rows key qs none)
-
-    apart : times id (numbers_of (slots_in old.rows)) ≡ 0
-    apart = no_number old.rows id fresh.1
-
-    below : id < length queues
-    below = subst (λ n. id < n) (sym count) fresh.0
-
-    pub rows_in : rows_of new_queues (slots_in new.rows) ≡ rows_after (rows_of queues (slots_in old.rows)) key t mode Granted
-    rows_in = rows_new (slots_in old.rows) (slots_in new.rows) queues new_queues key (place key (slots_in old.rows)) id t mode o kept apart below gap answered changed went_in
-
-    pub kept_in : AreKept (slots_in new.rows) new_queues
-    kept_in = kept_new (slots_in old.rows) (slots_in new.rows) queues new_queues key (place key (slots_in old.rows)) id t mode o kept apart below gap answered changed went_in
-
-    pub slot_first : IsFirstIn (slots_in old.rows) (slots_in new.rows) new_queues key t mode id
-    slot_first = first_in point t (slots_in old.rows) (slots_in new.rows) queues new_queues key (place key (slots_in old.rows)) id mode o kept sound apart below gap answered changed went_in
-
-    pub sound_now : AreSound point new_queues (slots_in new.rows)
-    sound_now = sound_in point t (slots_in old.rows) (slots_in new.rows) queues new_queues key (place key (slots_in old.rows)) id mode o kept sound apart below gap answered changed went_in
-
--- a key without a slot has no request
-pub told_first : (rows : List (TableRow Cell)) (key : List ℕ) (queues : List Queue) (t : ℕ) (mode : Mode) → table_slot rows key ≡ None → outcome (requests_on (record_of (rows_of queues (slots_in rows)) key)) t mode ≡ Granted
-told_first rows key queues t mode none = ap (λ o. outcome (requests_on o) t mode) (no_record rows key queues none)
+use Rattle.pc_dirty.specs.declared.side.Side.{Side}
 
 -- a slot that went in goes again
 pub put_back : (old new back : Contents Cell) (key : List ℕ) (id : ℕ) (x : Cell) → AreInSlots old → AreInSlots new → table_slot old.rows key ≡ None → table_slot new.rows key ≡ Some id → new ≡ with_row old key id x → back ≡ without_slot new id → back ≡ old
@@ -70,3 +36,40 @@ put_back old new back key id x a b none slot made gone =
 
     found : (q : List ℕ) → find key_cmp q (filter (λ row. not (same_bytes key row.0)) (put key_cmp key (id, x) old.rows)) ≡ find key_cmp q old.rows
     found q = find-without key_order key q (put key_cmp key (id, x) old.rows) ∙ ap (cond (same_bytes q key) None) (find-put key_cmp key_order.total q key (id, x) old.rows) ∙ by_key q (same_bytes q key) refl
+
+module _ (side : Side) where
+  -- the slot went in
+  module _ (old new : Contents Cell) (key : List ℕ) (id : ℕ) (none : table_slot old.rows key ≡ None) (made : new ≡ with_row old key id (base_cell None)) where
+    pub went_in : slots_in side new.rows ≡ insert (slots_in side old.rows) (place key (slots_in side old.rows)) (new_slot id key)
+    went_in = ap (λ (t : Contents Cell). slots_in side t.rows) made ∙ put_slots side key id (base_cell None) old.rows (no_find old.rows key none) ∙ ap (insert (slots_in side old.rows) (place key (slots_in side old.rows))) (blank_slot side id key None)
+
+    pub pending_in : pending_of (slots_in side new.rows) ≡ pending_of (slots_in side old.rows)
+    pending_in = pending_in_new (slots_in side old.rows) (slots_in side new.rows) key (place key (slots_in side old.rows)) id went_in
+
+    -- and the request was granted
+    module _ (point t : ℕ) (queues new_queues : List Queue) (mode : Mode) (o : Outcome) (kept : AreKept (slots_in side old.rows) queues) (sound : AreSound point queues (slots_in side old.rows)) (count : length queues ≡ old.capacity) (fresh : IsNewSlot old id) (answered : o ≡ outcome (queue_at queues id) t mode)
+        (changed : new_queues ≡ set queues id (queue_after (queue_at queues id) t mode o)) where
+      gap : IsNewAt (slots_in side old.rows) key (place key (slots_in side old.rows))
+      gap = gap_at key (slots_in side old.rows) (λ qs. no_record side old.rows key qs none)
+
+      apart : times id (numbers_of (slots_in side old.rows)) ≡ 0
+      apart = no_number side old.rows id fresh.1
+
+      below : id < length queues
+      below = subst (λ n. id < n) (sym count) fresh.0
+
+      pub rows_in : rows_of new_queues (slots_in side new.rows) ≡ rows_after (rows_of queues (slots_in side old.rows)) key t mode Granted
+      rows_in = rows_new (slots_in side old.rows) (slots_in side new.rows) queues new_queues key (place key (slots_in side old.rows)) id t mode o kept apart below gap answered changed went_in
+
+      pub kept_in : AreKept (slots_in side new.rows) new_queues
+      kept_in = kept_new (slots_in side old.rows) (slots_in side new.rows) queues new_queues key (place key (slots_in side old.rows)) id t mode o kept apart below gap answered changed went_in
+
+      pub slot_first : IsFirstIn (slots_in side old.rows) (slots_in side new.rows) new_queues key t mode id
+      slot_first = first_in point t (slots_in side old.rows) (slots_in side new.rows) queues new_queues key (place key (slots_in side old.rows)) id mode o kept sound apart below gap answered changed went_in
+
+      pub sound_now : AreSound point new_queues (slots_in side new.rows)
+      sound_now = sound_in point t (slots_in side old.rows) (slots_in side new.rows) queues new_queues key (place key (slots_in side old.rows)) id mode o kept sound apart below gap answered changed went_in
+
+  -- a key without a slot has no request
+  pub told_first : (rows : List (TableRow Cell)) (key : List ℕ) (queues : List Queue) (t : ℕ) (mode : Mode) → table_slot rows key ≡ None → outcome (requests_on (record_of (rows_of queues (slots_in side rows)) key)) t mode ≡ Granted
+  told_first rows key queues t mode none = ap (λ o. outcome (requests_on o) t mode) (no_record side rows key queues none)

@@ -22,7 +22,7 @@ use Rattle.pc_records.specs.RowSteps.{if_kept, with_row, released, released_rows
 use Rattle.pc_records.specs.Following.{AreRecords, stands_kept}
 use Rattle.pc_records.proofs.Keeping.{stored-if, requests-if, open-if, closed-if, point-if, kept-if}
 use Rattle.pc_records.proofs.DistinctLaws.{get-applied_all, among_with_keys}
-use Rattle.pc_records.specs.NewKeys.{AreDistinct}
+use Rattle.pc_model.specs.DistinctWrites.{AreDistinct}
 
 -- a queue in which the transaction has no request stays as it is without it
 none_removed : (queue : Queue) (t : ℕ) → stands_in queue t ≡ false → filter (λ r. not (r.transaction == t)) queue ≡ queue

@@ -19,10 +19,12 @@ use Rattle.pc_records.specs.Rows.{Row, record_of, is_in_closed_set}
 use Rattle.pc_records.specs.RowSteps.{given, written_row, closed_row, committed_row}
 use Rattle.pc_records.specs.Tables.{Pending, value_of}
 use Rattle.pc_records.specs.Slots.{Slot, row_of, rows_of, numbers_of, pending_in, write_of, pending_of, with_entry, entries_of, is_prepared, IsSound, AreSound, AreKept, at_key, at_writes, settled, undone, closed_slot, slot_with, slots_in, base_cell, cells_in, base_row}
+use Rattle.pc_records.proofs.BlankSlots.{blank_slot}
 use Rattle.pc_records.proofs.SlotRising.{keys_of, rise_same}
 use Rattle.pc_records.proofs.SlotKeeping.{kept_same}
 use Rattle.pc_records.proofs.Lookups.{slot_of, of_slot, record_in, find_row, find_entry, slot_map, all_found, key_found}
 use Rattle.pc_records.proofs.Moments.{settled_key, settled_number, settled_again, settled_writer, settled_sound, row_settled, undone_key, undone_number, undone_again, undone_writer, undone_sound, row_undone, closed_sound, row_closed}
+use Rattle.pc_dirty.specs.declared.side.Side.{Side}
 
 -- slots that keep their keys and numbers
 pub keys_map : (g : Slot → Slot) (slots : List Slot) → ((s : Slot) → (g s).key ≡ s.key) → keys_of (map g slots) ≡ keys_of slots
@@ -268,35 +270,37 @@ other_cells r rs p ps e = same_tail e
     same_tail : {A : Type 0} {x y : A} {xs ys : List A} → x ∷ xs ≡ y ∷ ys → xs ≡ ys
     same_tail e = cc
 
--- the first slots, which have the values of pairs alone
-module _ (pairs : List (List ℕ × List ℕ)) (rows : List (TableRow Cell)) (are : cells_in rows ≡ map base_row pairs) where
-  pub sound_first : (queues : List Queue) → AreSound 0 queues (slots_in rows)
-  sound_first queues = record { each = all rows pairs are }
-    where
-      one : (number : ℕ) (key : List ℕ) (cell : Cell) (value : List ℕ) → cell ≡ base_cell (Some value) → (queue : Queue) → IsSound 0 queue (slot_with number key cell)
-      one number key cell value e queue = subst (λ (c : Cell). IsSound 0 queue (slot_with number key c)) (sym e) (record { passed = omega arith; holds = λ e. cc; follows = λ e. refl; prepared = λ c e. refl; locked = refl })
+module _ (side : Side) where
+  -- the first slots, which have the values of pairs alone
+  module _ (pairs : List (List ℕ × List ℕ)) (rows : List (TableRow Cell)) (are : cells_in rows ≡ map base_row pairs) where
+    pub sound_first : (queues : List Queue) → AreSound 0 queues (slots_in side rows)
+    sound_first queues = record { each = all rows pairs are }
+      where
+        one : (number : ℕ) (key : List ℕ) (cell : Cell) (value : List ℕ) → cell ≡ base_cell (Some value) → (queue : Queue) → IsSound 0 queue (slot_with side number key cell)
+        one number key cell value e queue = subst (λ (c : Cell). IsSound 0 queue (slot_with side number key c)) (sym e) (subst (IsSound 0 queue) (sym (blank_slot side number key (Some value))) (record { passed = omega arith; holds = λ e. cc; follows = λ e. refl; prepared = λ c e. refl; locked = refl }))
 
-      all : (rs : List (TableRow Cell)) (ps : List (List ℕ × List ℕ)) → cells_in rs ≡ map base_row ps → All (IsSoundIn 0 queues) (slots_in rs)
-      all [] ps e k d lt = absurd (omega (arith, lt))
-      all (r ∷ rs) [] e k d lt = absurd cc
-      all (r ∷ rs) (p ∷ ps) e zero d lt = one r.1.0 r.0 r.1.1 p.1 (first_cell r rs p ps e) (queue_at queues r.1.0)
-      all (r ∷ rs) (p ∷ ps) e (suc k) d lt = all rs ps (other_cells r rs p ps e) k d (omega (arith, lt))
+        all : (rs : List (TableRow Cell)) (ps : List (List ℕ × List ℕ)) → cells_in rs ≡ map base_row ps → All (IsSoundIn 0 queues) (slots_in side rs)
+        all [] ps e k d lt = absurd (omega (arith, lt))
+        all (r ∷ rs) [] e k d lt = absurd cc
+        all (r ∷ rs) (p ∷ ps) e zero d lt = one r.1.0 r.0 r.1.1 p.1 (first_cell r rs p ps e) (queue_at queues r.1.0)
+        all (r ∷ rs) (p ∷ ps) e (suc k) d lt = all rs ps (other_cells r rs p ps e) k d (omega (arith, lt))
 
-  pub pending_first : pending_of (slots_in rows) ≡ []
-  pending_first = all rows pairs are
-    where
-      all : (rs : List (TableRow Cell)) (ps : List (List ℕ × List ℕ)) → cells_in rs ≡ map base_row ps → pending_of (slots_in rs) ≡ []
-      all [] ps e = refl
-      all (r ∷ rs) [] e = absurd cc
-      all (r ∷ rs) (p ∷ ps) e = ap (λ (c : Cell). with_entry r.0 (write_of c.writer c.live) (pending_of (slots_in rs))) (first_cell r rs p ps e) ∙ all rs ps (other_cells r rs p ps e)
+    pub pending_first : pending_of (slots_in side rows) ≡ []
+    pending_first = all rows pairs are
+      where
+        all : (rs : List (TableRow Cell)) (ps : List (List ℕ × List ℕ)) → cells_in rs ≡ map base_row ps → pending_of (slots_in side rs) ≡ []
+        all [] ps e = refl
+        all (r ∷ rs) [] e = absurd cc
+        all (r ∷ rs) (p ∷ ps) e = ap (λ (c : Cell). with_entry r.0 (write_of c.writer c.live) (pending_of (slots_in side rs))) (first_cell r rs p ps e) ∙ all rs ps (other_cells r rs p ps e)
 
-  pub rows_first : (capacity : ℕ) → rows_of (replicate capacity []) (slots_in rows) ≡ map committed_row pairs
-  rows_first capacity = all rows pairs are
-    where
-      all : (rs : List (TableRow Cell)) (ps : List (List ℕ × List ℕ)) → cells_in rs ≡ map base_row ps → rows_of (replicate capacity []) (slots_in rs) ≡ map committed_row ps
-      all [] [] e = refl
-      all [] (p ∷ ps) e = absurd cc
-      all (r ∷ rs) [] e = absurd cc
-      all (r ∷ rs) (p ∷ ps) e =
-          ap (λ (row : Row). row ∷ rows_of (replicate capacity []) (slots_in rs)) (λ i. row_of (none_at capacity r.1.0 i ∷ []) (slot_with 0 (first_key r rs p ps e i) (first_cell r rs p ps e i)))
-          ∙ ap (λ (rest : List Row). committed_row p ∷ rest) (all rs ps (other_cells r rs p ps e))
+    pub rows_first : (capacity : ℕ) → rows_of (replicate capacity []) (slots_in side rows) ≡ map committed_row pairs
+    rows_first capacity = all rows pairs are
+      where
+        all : (rs : List (TableRow Cell)) (ps : List (List ℕ × List ℕ)) → cells_in rs ≡ map base_row ps → rows_of (replicate capacity []) (slots_in side rs) ≡ map committed_row ps
+        all [] [] e = refl
+        all [] (p ∷ ps) e = absurd cc
+        all (r ∷ rs) [] e = absurd cc
+        all (r ∷ rs) (p ∷ ps) e =
+            ap (λ (row : Row). row ∷ rows_of (replicate capacity []) (slots_in side rs)) (λ i. row_of (none_at capacity r.1.0 i ∷ []) (slot_with side 0 (first_key r rs p ps e i) (first_cell r rs p ps e i)))
+            ∙ ap (λ (s : Slot). row_of ([] ∷ []) s ∷ rows_of (replicate capacity []) (slots_in side rs)) (blank_slot side 0 p.0 (Some p.1))
+            ∙ ap (λ (rest : List Row). committed_row p ∷ rest) (all rs ps (other_cells r rs p ps e))

@@ -20,43 +20,7 @@ use Rattle.pc_records.specs.Slots.{Slot, slot_with, slot_in, slots_in, rows_of, 
 use Rattle.pc_records.proofs.Lookups.{slot_of, same_self, find_row, record_in, at_place}
 use Rattle.pc_records.proofs.Queued.{times_at}
 use Rattle.pc_records.proofs.SlotPlaces.{place, number_place, number_set}
-
--- they rise as the rows do
-below_slots : (key : List ℕ) (rows : List (TableRow Cell)) → below_all key_cmp key (rows_of [] (slots_in rows)) ≡ below_all key_cmp key rows
-below_slots key [] = refl
-below_slots key (row ∷ rows) = rw (below_slots key rows) refl
-
-sorted_slots : (rows : List (TableRow Cell)) → is_sorted key_cmp (rows_of [] (slots_in rows)) ≡ is_sorted key_cmp rows
-sorted_slots [] = refl
-sorted_slots (row ∷ rows) = rw (below_slots row.0 rows, sorted_slots rows) refl
-
-pub slots_rise : (rows : List (TableRow Cell)) → Rise rows → KeysRise (rows_of [] (slots_in rows))
-slots_rise rows rise = sorted_slots rows ∙ rise
-
--- a number that has a row is that of a slot
-pub no_number : (rows : List (TableRow Cell)) (n : ℕ) → in_slot rows n ≡ None → times n (numbers_of (slots_in rows)) ≡ 0
-no_number [] n e = refl
-no_number (row ∷ rows) n e = by_test (eqb row.1.0 n) e (no_number rows n)
-  where
-    by_test : (b : Bool) → cond b (Some (row.0, row.1.1)) (in_slot rows n) ≡ None → (in_slot rows n ≡ None → times n (numbers_of (slots_in rows)) ≡ 0) → cond b (times n (numbers_of (slots_in rows)) + 1) (times n (numbers_of (slots_in rows))) ≡ 0
-    by_test true e rest = absurd (no_row (sym e))
-    by_test false e rest = rest e
-
-pub number_has : (rows : List (TableRow Cell)) (n : ℕ) → HasRow rows n → 0 < times n (numbers_of (slots_in rows))
-number_has [] n e = absurd cc
-number_has (row ∷ rows) n e = by_test (eqb row.1.0 n) e (number_has rows n)
-  where
-    by_test : (b : Bool) → is_some (cond b (Some (row.0, row.1.1)) (in_slot rows n)) ≡ true → (HasRow rows n → 0 < times n (numbers_of (slots_in rows))) → 0 < cond b (times n (numbers_of (slots_in rows)) + 1) (times n (numbers_of (slots_in rows)))
-    by_test true e rest = omega arith
-    by_test false e rest = rest e
-
-pub has_number : (rows : List (TableRow Cell)) (n : ℕ) → 0 < times n (numbers_of (slots_in rows)) → HasRow rows n
-has_number [] n e = absurd (omega (arith, e))
-has_number (row ∷ rows) n e = by_test (eqb row.1.0 n) e (has_number rows n)
-  where
-    by_test : (b : Bool) → 0 < cond b (times n (numbers_of (slots_in rows)) + 1) (times n (numbers_of (slots_in rows))) → (0 < times n (numbers_of (slots_in rows)) → HasRow rows n) → is_some (cond b (Some (row.0, row.1.1)) (in_slot rows n)) ≡ true
-    by_test true e rest = refl
-    by_test false e rest = rest e
+use Rattle.pc_dirty.specs.declared.side.Side.{Side}
 
 -- what a slot that has a row has
 pub row_in : (rows : List (TableRow Cell)) (n : ℕ) → HasRow rows n → (p : List ℕ × Cell) × (in_slot rows n ≡ Some p)
@@ -66,89 +30,16 @@ row_in rows n h = by_slot (in_slot rows n) h refl
     by_slot None h e = absurd cc
     by_slot (Some p) h e = (p, e)
 
--- no two slots have one number
-once_rows : (rows : List (TableRow Cell)) → Rise rows → ((key other : List ℕ) (n : ℕ) (x y : Cell) → find key_cmp key rows ≡ Some (n, x) → find key_cmp other rows ≡ Some (n, y) → key ≡ other) → (n : ℕ) → times n (numbers_of (slots_in rows)) ≤ 1
-once_rows [] rise apart n = omega arith
-once_rows (row ∷ rows) rise apart n =
-    let parts = both (below_all key_cmp row.0 rows) (is_sorted key_cmp rows) rise in
-    let none : find key_cmp row.0 rows ≡ None = none_below row.0 rows parts.0 in
-    by_test none parts.1 (eqb row.1.0 n) refl (once_rows rows parts.1 (λ key other m x y e f. apart key other m x y (later none key (m, x) e) (later none other (m, y) f)) n)
-  where
-    later : find key_cmp row.0 rows ≡ None → (q : List ℕ) (v : ℕ × Cell) → find key_cmp q rows ≡ Some v → find key_cmp q (row ∷ rows) ≡ Some v
-    later none q v e = by_key (same_bytes q row.0) refl
-      where
-        by_key : (b : Bool) → same_bytes q row.0 ≡ b → cond b (Some row.1) (find key_cmp q rows) ≡ Some v
-        by_key true is = absurd (no_row (sym none ∙ (ap (λ k. find key_cmp k rows) (sym (one_key q row.0 is)) ∙ e)))
-        by_key false is = e
-
-    alone : find key_cmp row.0 rows ≡ None → Rise rows → row.1.0 ≡ n → 0 < times n (numbers_of (slots_in rows)) → ⊥
-    alone none rise is more =
-        let h = row_in rows n (has_number rows n more) in
-        let there : find key_cmp h.0.0 rows ≡ Some (n, h.0.1) = slot_found rows n h.0.0 h.0.1 rise h.1 in
-        let first : find key_cmp row.0 (row ∷ rows) ≡ Some (n, row.1.1) = ap (λ b. cond b (Some row.1) (find key_cmp row.0 rows)) (same_self row.0) ∙ ap (λ m. Some (m, row.1.1)) is in
-        let same : h.0.0 ≡ row.0 = apart h.0.0 row.0 n h.0.1 row.1.1 (later none h.0.0 (n, h.0.1) there) first in
-        no_row (sym none ∙ (ap (λ k. find key_cmp k rows) (sym same) ∙ there))
-
-    by_count : (m : ℕ) → times n (numbers_of (slots_in rows)) ≡ m → (0 < times n (numbers_of (slots_in rows)) → ⊥) → m + 1 ≤ 1
-    by_count zero e never = omega arith
-    by_count (suc m) e never = absurd (never (omega (arith, e)))
-
-    by_test : find key_cmp row.0 rows ≡ None → Rise rows → (b : Bool) → eqb row.1.0 n ≡ b → times n (numbers_of (slots_in rows)) ≤ 1 → cond b (times n (numbers_of (slots_in rows)) + 1) (times n (numbers_of (slots_in rows))) ≤ 1
-    by_test none rise true is once = by_count (times n (numbers_of (slots_in rows))) refl (alone none rise (eqb-true row.1.0 n is))
-    by_test none rise false is once = once
-
-pub once_in : (table : Contents Cell) → AreInSlots table → (n : ℕ) → times n (numbers_of (slots_in table.rows)) ≤ 1
-once_in table a = once_rows table.rows a.rise (λ key other n x y e f. one_place table key other n x y a e f)
-
--- the slot in which a number's row is
-pub slot_numbered : (rows : List (TableRow Cell)) (n i : ℕ) (key : List ℕ) (x : Cell) (d : Slot) → times n (numbers_of (slots_in rows)) ≤ 1 → i < length (slots_in rows) → (get_or (slots_in rows) i d).number ≡ n → in_slot rows n ≡ Some (key, x) → slot_with n key x ≡ get_or (slots_in rows) i d
-slot_numbered [] n i key x d once lt is e = absurd (no_row e)
-slot_numbered (row ∷ rows) n zero key x d once lt is e = by_test (eqb row.1.0 n) refl e
-  where
-    by_test : (b : Bool) → eqb row.1.0 n ≡ b → cond b (Some (row.0, row.1.1)) (in_slot rows n) ≡ Some (key, x) → slot_with n key x ≡ slot_in row
-    by_test true t e = let p = same_some e in λ j. slot_with (sym is j) (ap (λ (p : List ℕ × Cell). p.0) (sym p) j) (ap (λ (p : List ℕ × Cell). p.1) (sym p) j)
-    by_test false t e = absurd (let no : eqb row.1.0 n ≡ true = grind (arith, nat_tests, is) in cc)
-slot_numbered (row ∷ rows) n (suc i) key x d once lt is e =
-    by_test (eqb row.1.0 n) once (times_at n (slots_in rows) i d (omega (arith, lt)) is) e (λ one f. slot_numbered rows n i key x d one (omega (arith, lt)) is f)
-  where
-    by_test : (b : Bool) → cond b (times n (numbers_of (slots_in rows)) + 1) (times n (numbers_of (slots_in rows))) ≤ 1 → 0 < times n (numbers_of (slots_in rows)) → cond b (Some (row.0, row.1.1)) (in_slot rows n) ≡ Some (key, x) →
-        (times n (numbers_of (slots_in rows)) ≤ 1 → in_slot rows n ≡ Some (key, x) → slot_with n key x ≡ get_or (slots_in rows) i d) → slot_with n key x ≡ get_or (slots_in rows) i d
-    by_test true once more e rest = absurd (omega (arith, once, more))
-    by_test false once more e rest = rest once e
-
 -- the slot stands at the place
 pub record IsPlaced (slots : List Slot) (i : ℕ) (e : Slot) : Type 0 where
   pub in_range : i < length slots
   pub is : e ≡ get_or slots i e
-
-module _ (table : Contents Cell) (a : AreInSlots table) where
-  pub numbered_at : (n i : ℕ) (key : List ℕ) (x : Cell) → IsNumbered (slots_in table.rows) n i → in_slot table.rows n ≡ Some (key, x) → IsPlaced (slots_in table.rows) i (slot_with n key x)
-  numbered_at n i key x at e = record { in_range = at.in_range; is = slot_numbered table.rows n i key x (slot_with n key x) (once_in table a n) at.in_range (at.has (slot_with n key x)) e }
-
-  -- the slot of a key
-  pub placed_key : (key : List ℕ) (n : ℕ) (x : Cell) → find key_cmp key table.rows ≡ Some (n, x) → (i : ℕ) × IsPlaced (slots_in table.rows) i (slot_with n key x)
-  placed_key key n x e =
-      let there : in_slot table.rows n ≡ Some (key, x) = (a.each n key x).1 e in
-      let at = number_place n (slots_in table.rows) (number_has table.rows n (ap is_some there)) in
-      (at.0, numbered_at n at.0 key x at.1 there)
 
 pub placed_number : (slots : List Slot) (i : ℕ) (e : Slot) → IsPlaced slots i e → IsNumbered slots e.number i
 placed_number slots i e at = record { in_range = at.in_range; has = λ d. ap (λ (s : Slot). s.number) (get_or_default slots i d e at.in_range ∙ sym at.is) }
 
 pub placed_same : (slots : List Slot) (i : ℕ) (e : Slot) → IsPlaced slots i e → (d : Slot) → same_bytes e.key (get_or slots i d).key ≡ true
 placed_same slots i e at d = ap (λ (s : Slot). same_bytes e.key s.key) (get_or_default slots i d e at.in_range ∙ sym at.is) ∙ same_self e.key
-
--- what is found of the key in the slots
-abbrev pub cell_of : List ℕ → ℕ × Cell → Slot
-cell_of key p = slot_with p.0 key p.1
-
-pub find_slots : (rows : List (TableRow Cell)) (key : List ℕ) → slot_of (slots_in rows) key ≡ option_map (cell_of key) (find key_cmp key rows)
-find_slots [] key = refl
-find_slots (row ∷ rows) key = by_test (same_bytes key row.0) refl (find_slots rows key)
-  where
-    by_test : (b : Bool) → same_bytes key row.0 ≡ b → slot_of (slots_in rows) key ≡ option_map (cell_of key) (find key_cmp key rows) → cond b (Some (slot_in row)) (slot_of (slots_in rows) key) ≡ option_map (cell_of key) (cond b (Some row.1) (find key_cmp key rows))
-    by_test true is rest = ap (λ k. Some (slot_with row.1.0 k row.1.1)) (sym (one_key key row.0 is))
-    by_test false is rest = rest
 
 pub no_find : (rows : List (TableRow Cell)) (key : List ℕ) → table_slot rows key ≡ None → find key_cmp key rows ≡ None
 no_find rows key e = by_place (find key_cmp key rows) e
@@ -157,94 +48,208 @@ no_find rows key e = by_place (find key_cmp key rows) e
     by_place None e = refl
     by_place (Some p) e = absurd (no_row (sym e))
 
-pub no_slot_in : (rows : List (TableRow Cell)) (key : List ℕ) → table_slot rows key ≡ None → slot_of (slots_in rows) key ≡ None
-no_slot_in rows key e = find_slots rows key ∙ ap (option_map (cell_of key)) (no_find rows key e)
+module _ (side : Side) where
+  -- they rise as the rows do
+  below_slots : (key : List ℕ) (rows : List (TableRow Cell)) → below_all key_cmp key (rows_of [] (slots_in side rows)) ≡ below_all key_cmp key rows
+  below_slots key [] = refl
+  below_slots key (row ∷ rows) = rw (below_slots key rows) refl
 
-pub no_record : (rows : List (TableRow Cell)) (key : List ℕ) (queues : List Queue) → table_slot rows key ≡ None → find key_cmp key (rows_of queues (slots_in rows)) ≡ None
-no_record rows key queues e = find_row queues (slots_in rows) key ∙ ap (record_in queues) (no_slot_in rows key e)
+  sorted_slots : (rows : List (TableRow Cell)) → is_sorted key_cmp (rows_of [] (slots_in side rows)) ≡ is_sorted key_cmp rows
+  sorted_slots [] = refl
+  sorted_slots (row ∷ rows) = rw (below_slots row.0 rows, sorted_slots rows) refl
 
--- a slot that gets another record
-same_others : (rows : List (TableRow Cell)) (n : ℕ) (y : Cell) (f : Slot → Slot) → times n (numbers_of (slots_in rows)) ≡ 0 → slots_in (map (with_record_in n y) rows) ≡ map (at_number f n) (slots_in rows)
-same_others [] n y f none = refl
-same_others (row ∷ rows) n y f none = by_test (eqb row.1.0 n) none (same_others rows n y f)
-  where
-    by_test : (b : Bool) → cond b (times n (numbers_of (slots_in rows)) + 1) (times n (numbers_of (slots_in rows))) ≡ 0 → (times n (numbers_of (slots_in rows)) ≡ 0 → slots_in (map (with_record_in n y) rows) ≡ map (at_number f n) (slots_in rows)) →
-        slot_with row.1.0 row.0 (cond b y row.1.1) ∷ slots_in (map (with_record_in n y) rows) ≡ cond b (f (slot_in row)) (slot_in row) ∷ map (at_number f n) (slots_in rows)
-    by_test true none rest = absurd (omega (arith, none))
-    by_test false none rest = ap (λ (ss : List Slot). slot_in row ∷ ss) (rest none)
+  pub slots_rise : (rows : List (TableRow Cell)) → Rise rows → KeysRise (rows_of [] (slots_in side rows))
+  slots_rise rows rise = sorted_slots rows ∙ rise
 
-changed_rows : (rows : List (TableRow Cell)) (n : ℕ) (x y : Cell) (f : Slot → Slot) → times n (numbers_of (slots_in rows)) ≤ 1 → option_map (λ pair. pair.1) (in_slot rows n) ≡ Some x → ((number : ℕ) (key : List ℕ) → slot_with number key y ≡ f (slot_with number key x)) →
-    slots_in (map (with_record_in n y) rows) ≡ map (at_number f n) (slots_in rows)
-changed_rows [] n x y f once e turns = refl
-changed_rows (row ∷ rows) n x y f once e turns = by_test (eqb row.1.0 n) once e (λ one found. changed_rows rows n x y f one found turns)
-  where
-    by_test : (b : Bool) → cond b (times n (numbers_of (slots_in rows)) + 1) (times n (numbers_of (slots_in rows))) ≤ 1 → option_map (λ pair. pair.1) (cond b (Some (row.0, row.1.1)) (in_slot rows n)) ≡ Some x →
-        (times n (numbers_of (slots_in rows)) ≤ 1 → option_map (λ pair. pair.1) (in_slot rows n) ≡ Some x → slots_in (map (with_record_in n y) rows) ≡ map (at_number f n) (slots_in rows)) →
-        slot_with row.1.0 row.0 (cond b y row.1.1) ∷ slots_in (map (with_record_in n y) rows) ≡ cond b (f (slot_in row)) (slot_in row) ∷ map (at_number f n) (slots_in rows)
-    by_test true once e rest =
-        let same : row.1.1 ≡ x = same_some e in
-        ap (λ (s : Slot). s ∷ slots_in (map (with_record_in n y) rows)) (turns row.1.0 row.0 ∙ ap (λ c. f (slot_with row.1.0 row.0 c)) (sym same))
-        ∙ ap (λ (ss : List Slot). f (slot_in row) ∷ ss) (same_others rows n y f (omega (arith, once)))
-    by_test false once e rest = ap (λ (ss : List Slot). slot_in row ∷ ss) (rest once e)
+  pub rows_rise : (rows : List (TableRow Cell)) → KeysRise (rows_of [] (slots_in side rows)) → Rise rows
+  rows_rise rows rise = sym (sorted_slots rows) ∙ rise
 
-pub changed_slots : (table : Contents Cell) (n : ℕ) (x y : Cell) (f : Slot → Slot) → AreInSlots table → option_map (λ pair. pair.1) (in_slot table.rows n) ≡ Some x → ((number : ℕ) (key : List ℕ) → slot_with number key y ≡ f (slot_with number key x)) →
-    slots_in (map (with_record_in n y) table.rows) ≡ map (at_number f n) (slots_in table.rows)
-changed_slots table n x y f a e turns = changed_rows table.rows n x y f (once_in table a n) e turns
+  -- a number that has a row is that of a slot
+  pub no_number : (rows : List (TableRow Cell)) (n : ℕ) → in_slot rows n ≡ None → times n (numbers_of (slots_in side rows)) ≡ 0
+  no_number [] n e = refl
+  no_number (row ∷ rows) n e = by_test (eqb row.1.0 n) e (no_number rows n)
+    where
+      by_test : (b : Bool) → cond b (Some (row.0, row.1.1)) (in_slot rows n) ≡ None → (in_slot rows n ≡ None → times n (numbers_of (slots_in side rows)) ≡ 0) → cond b (times n (numbers_of (slots_in side rows)) + 1) (times n (numbers_of (slots_in side rows))) ≡ 0
+      by_test true e rest = absurd (no_row (sym e))
+      by_test false e rest = rest e
 
--- a slot that goes in
-pub put_slots : (key : List ℕ) (n : ℕ) (x : Cell) (rows : List (TableRow Cell)) → find key_cmp key rows ≡ None → slots_in (put key_cmp key (n, x) rows) ≡ insert (slots_in rows) (place key (slots_in rows)) (slot_with n key x)
-put_slots key n x [] none = refl
-put_slots key n x (row ∷ rows) none = by_test (key_cmp key row.0) none (put_slots key n x rows)
-  where
-    by_test : (o : Ordering) → cond (is_eq o) (Some row.1) (find key_cmp key rows) ≡ None → (find key_cmp key rows ≡ None → slots_in (put key_cmp key (n, x) rows) ≡ insert (slots_in rows) (place key (slots_in rows)) (slot_with n key x)) →
-        slots_in (by_order o ((key, (n, x)) ∷ row ∷ rows) ((row.0, (n, x)) ∷ rows) (row ∷ put key_cmp key (n, x) rows)) ≡ insert (slots_in (row ∷ rows)) (by_order o 0 0 (suc (place key (slots_in rows)))) (slot_with n key x)
-    by_test Less none rest = refl
-    by_test Equal none rest = absurd (no_row (sym none))
-    by_test Greater none rest = ap (λ (ss : List Slot). slot_in row ∷ ss) (rest none)
+  pub number_has : (rows : List (TableRow Cell)) (n : ℕ) → HasRow rows n → 0 < times n (numbers_of (slots_in side rows))
+  number_has [] n e = absurd cc
+  number_has (row ∷ rows) n e = by_test (eqb row.1.0 n) e (number_has rows n)
+    where
+      by_test : (b : Bool) → is_some (cond b (Some (row.0, row.1.1)) (in_slot rows n)) ≡ true → (HasRow rows n → 0 < times n (numbers_of (slots_in side rows))) → 0 < cond b (times n (numbers_of (slots_in side rows)) + 1) (times n (numbers_of (slots_in side rows)))
+      by_test true e rest = omega arith
+      by_test false e rest = rest e
 
--- a slot that goes
-others_left : (rows : List (TableRow Cell)) (n : ℕ) → times n (numbers_of (slots_in rows)) ≡ 0 → slots_in (filter (λ row. not (eqb row.1.0 n)) rows) ≡ slots_in rows
-others_left [] n none = refl
-others_left (row ∷ rows) n none = by_test (eqb row.1.0 n) none (others_left rows n)
-  where
-    by_test : (b : Bool) → cond b (times n (numbers_of (slots_in rows)) + 1) (times n (numbers_of (slots_in rows))) ≡ 0 → (times n (numbers_of (slots_in rows)) ≡ 0 → slots_in (filter (λ row. not (eqb row.1.0 n)) rows) ≡ slots_in rows) →
-        slots_in (cond (not b) (row ∷ filter (λ row. not (eqb row.1.0 n)) rows) (filter (λ row. not (eqb row.1.0 n)) rows)) ≡ slots_in (row ∷ rows)
-    by_test true none rest = absurd (omega (arith, none))
-    by_test false none rest = ap (λ (ss : List Slot). slot_in row ∷ ss) (rest none)
+  pub has_number : (rows : List (TableRow Cell)) (n : ℕ) → 0 < times n (numbers_of (slots_in side rows)) → HasRow rows n
+  has_number [] n e = absurd (omega (arith, e))
+  has_number (row ∷ rows) n e = by_test (eqb row.1.0 n) e (has_number rows n)
+    where
+      by_test : (b : Bool) → 0 < cond b (times n (numbers_of (slots_in side rows)) + 1) (times n (numbers_of (slots_in side rows))) → (0 < times n (numbers_of (slots_in side rows)) → HasRow rows n) → is_some (cond b (Some (row.0, row.1.1)) (in_slot rows n)) ≡ true
+      by_test true e rest = refl
+      by_test false e rest = rest e
 
-pub slot_gone : (rows : List (TableRow Cell)) (n i : ℕ) (d : Slot) → times n (numbers_of (slots_in rows)) ≤ 1 → i < length (slots_in rows) → (get_or (slots_in rows) i d).number ≡ n → slots_in (filter (λ row. not (eqb row.1.0 n)) rows) ≡ take i (slots_in rows) ++ drop (suc i) (slots_in rows)
-slot_gone [] n i d once lt is = absurd (omega (arith, lt))
-slot_gone (row ∷ rows) n zero d once lt is = by_test (eqb row.1.0 n) refl once
-  where
-    by_test : (b : Bool) → eqb row.1.0 n ≡ b → cond b (times n (numbers_of (slots_in rows)) + 1) (times n (numbers_of (slots_in rows))) ≤ 1 → slots_in (cond (not b) (row ∷ filter (λ row. not (eqb row.1.0 n)) rows) (filter (λ row. not (eqb row.1.0 n)) rows)) ≡ slots_in rows
-    by_test true e once = others_left rows n (omega (arith, once))
-    by_test false e once = absurd (let no : eqb row.1.0 n ≡ true = grind (arith, nat_tests, is) in cc)
-slot_gone (row ∷ rows) n (suc i) d once lt is = by_test (eqb row.1.0 n) once (times_at n (slots_in rows) i d (omega (arith, lt)) is) (λ one. slot_gone rows n i d one (omega (arith, lt)) is)
-  where
-    by_test : (b : Bool) → cond b (times n (numbers_of (slots_in rows)) + 1) (times n (numbers_of (slots_in rows))) ≤ 1 → 0 < times n (numbers_of (slots_in rows)) → (times n (numbers_of (slots_in rows)) ≤ 1 → slots_in (filter (λ row. not (eqb row.1.0 n)) rows) ≡ take i (slots_in rows) ++ drop (suc i) (slots_in rows)) →
-        slots_in (cond (not b) (row ∷ filter (λ row. not (eqb row.1.0 n)) rows) (filter (λ row. not (eqb row.1.0 n)) rows)) ≡ slot_in row ∷ (take i (slots_in rows) ++ drop (suc i) (slots_in rows))
-    by_test true once more rest = absurd (omega (arith, once, more))
-    by_test false once more rest = ap (λ (ss : List Slot). slot_in row ∷ ss) (rest once)
+  -- no two slots have one number
+  once_rows : (rows : List (TableRow Cell)) → Rise rows → ((key other : List ℕ) (n : ℕ) (x y : Cell) → find key_cmp key rows ≡ Some (n, x) → find key_cmp other rows ≡ Some (n, y) → key ≡ other) → (n : ℕ) → times n (numbers_of (slots_in side rows)) ≤ 1
+  once_rows [] rise apart n = omega arith
+  once_rows (row ∷ rows) rise apart n =
+      let parts = both (below_all key_cmp row.0 rows) (is_sorted key_cmp rows) rise in
+      let none : find key_cmp row.0 rows ≡ None = none_below row.0 rows parts.0 in
+      by_test none parts.1 (eqb row.1.0 n) refl (once_rows rows parts.1 (λ key other m x y e f. apart key other m x y (later none key (m, x) e) (later none other (m, y) f)) n)
+    where
+      later : find key_cmp row.0 rows ≡ None → (q : List ℕ) (v : ℕ × Cell) → find key_cmp q rows ≡ Some v → find key_cmp q (row ∷ rows) ≡ Some v
+      later none q v e = by_key (same_bytes q row.0) refl
+        where
+          by_key : (b : Bool) → same_bytes q row.0 ≡ b → cond b (Some row.1) (find key_cmp q rows) ≡ Some v
+          by_key true is = absurd (no_row (sym none ∙ (ap (λ k. find key_cmp k rows) (sym (one_key q row.0 is)) ∙ e)))
+          by_key false is = e
 
--- the slot of the key is that of its number
-pub number_key : (table : Contents Cell) → AreInSlots table → (f : Slot → Slot) (key : List ℕ) (n : ℕ) → table_slot table.rows key ≡ Some n → map (at_number f n) (slots_in table.rows) ≡ map (at_key f key) (slots_in table.rows)
-number_key table a f key n s =
-    let h = placed table.rows key n s in
-    let slots = slots_in table.rows in
-    let p = placed_key table a key n h.0 h.1 in
-    let e = slot_with n key h.0 in
-    number_set f n slots p.0 e (once_in table a n) p.1.in_range ((placed_number slots p.0 e p.1).has e) ∙ at_place f slots key p.0 e (slots_rise table.rows a.rise) p.1.in_range (placed_same slots p.0 e p.1 e)
+      alone : find key_cmp row.0 rows ≡ None → Rise rows → row.1.0 ≡ n → 0 < times n (numbers_of (slots_in side rows)) → ⊥
+      alone none rise is more =
+          let h = row_in rows n (has_number rows n more) in
+          let there : find key_cmp h.0.0 rows ≡ Some (n, h.0.1) = slot_found rows n h.0.0 h.0.1 rise h.1 in
+          let first : find key_cmp row.0 (row ∷ rows) ≡ Some (n, row.1.1) = ap (λ b. cond b (Some row.1) (find key_cmp row.0 rows)) (same_self row.0) ∙ ap (λ m. Some (m, row.1.1)) is in
+          let same : h.0.0 ≡ row.0 = apart h.0.0 row.0 n h.0.1 row.1.1 (later none h.0.0 (n, h.0.1) there) first in
+          no_row (sym none ∙ (ap (λ k. find key_cmp k rows) (sym same) ∙ there))
 
--- what is found of a key
-pub cell_found : (table : Contents Cell) → AreInSlots table → (key : List ℕ) (n : ℕ) (x : Cell) → table_slot table.rows key ≡ Some n → option_map (λ pair. pair.1) (in_slot table.rows n) ≡ Some x → slot_of (slots_in table.rows) key ≡ Some (slot_with n key x)
-cell_found table a key n x s e = find_slots table.rows key ∙ ap (option_map (cell_of key)) (record_found table key n a s x e)
+      by_count : (m : ℕ) → times n (numbers_of (slots_in side rows)) ≡ m → (0 < times n (numbers_of (slots_in side rows)) → ⊥) → m + 1 ≤ 1
+      by_count zero e never = omega arith
+      by_count (suc m) e never = absurd (never (omega (arith, e)))
 
-pub record_there : (table : Contents Cell) → AreInSlots table → (key : List ℕ) (n : ℕ) (x : Cell) → table_slot table.rows key ≡ Some n → option_map (λ pair. pair.1) (in_slot table.rows n) ≡ Some x → (queues : List Queue) → record_of (rows_of queues (slots_in table.rows)) key ≡ Some (row_of queues (slot_with n key x)).1
-record_there table a key n x s e queues = find_row queues (slots_in table.rows) key ∙ ap (record_in queues) (cell_found table a key n x s e)
+      by_test : find key_cmp row.0 rows ≡ None → Rise rows → (b : Bool) → eqb row.1.0 n ≡ b → times n (numbers_of (slots_in side rows)) ≤ 1 → cond b (times n (numbers_of (slots_in side rows)) + 1) (times n (numbers_of (slots_in side rows))) ≤ 1
+      by_test none rise true is once = by_count (times n (numbers_of (slots_in side rows))) refl (alone none rise (eqb-true row.1.0 n is))
+      by_test none rise false is once = once
 
-pub is_new_in : (rows : List (TableRow Cell)) (key : List ℕ) (queues : List Queue) → is_none (table_slot rows key) ≡ is_none (record_of (rows_of queues (slots_in rows)) key)
-is_new_in rows key queues = by_place (find key_cmp key rows) ∙ sym (ap is_none (find_row queues (slots_in rows) key ∙ ap (record_in queues) (find_slots rows key)))
-  where
-    by_place : (o : Option (ℕ × Cell)) → is_none (option_map (λ place. place.0) o) ≡ is_none (record_in queues (option_map (cell_of key) o))
-    by_place None = refl
-    by_place (Some p) = refl
+  pub once_in : (table : Contents Cell) → AreInSlots table → (n : ℕ) → times n (numbers_of (slots_in side table.rows)) ≤ 1
+  once_in table a = once_rows table.rows a.rise (λ key other n x y e f. one_place table key other n x y a e f)
+
+  -- the slot in which a number's row is
+  pub slot_numbered : (rows : List (TableRow Cell)) (n i : ℕ) (key : List ℕ) (x : Cell) (d : Slot) → times n (numbers_of (slots_in side rows)) ≤ 1 → i < length (slots_in side rows) → (get_or (slots_in side rows) i d).number ≡ n → in_slot rows n ≡ Some (key, x) → slot_with side n key x ≡ get_or (slots_in side rows) i d
+  slot_numbered [] n i key x d once lt is e = absurd (no_row e)
+  slot_numbered (row ∷ rows) n zero key x d once lt is e = by_test (eqb row.1.0 n) refl e
+    where
+      by_test : (b : Bool) → eqb row.1.0 n ≡ b → cond b (Some (row.0, row.1.1)) (in_slot rows n) ≡ Some (key, x) → slot_with side n key x ≡ slot_in side row
+      by_test true t e = let p = same_some e in λ j. slot_with side (sym is j) (ap (λ (p : List ℕ × Cell). p.0) (sym p) j) (ap (λ (p : List ℕ × Cell). p.1) (sym p) j)
+      by_test false t e = absurd (let no : eqb row.1.0 n ≡ true = grind (arith, nat_tests, is) in cc)
+  slot_numbered (row ∷ rows) n (suc i) key x d once lt is e =
+      by_test (eqb row.1.0 n) once (times_at n (slots_in side rows) i d (omega (arith, lt)) is) e (λ one f. slot_numbered rows n i key x d one (omega (arith, lt)) is f)
+    where
+      by_test : (b : Bool) → cond b (times n (numbers_of (slots_in side rows)) + 1) (times n (numbers_of (slots_in side rows))) ≤ 1 → 0 < times n (numbers_of (slots_in side rows)) → cond b (Some (row.0, row.1.1)) (in_slot rows n) ≡ Some (key, x) →
+          (times n (numbers_of (slots_in side rows)) ≤ 1 → in_slot rows n ≡ Some (key, x) → slot_with side n key x ≡ get_or (slots_in side rows) i d) → slot_with side n key x ≡ get_or (slots_in side rows) i d
+      by_test true once more e rest = absurd (omega (arith, once, more))
+      by_test false once more e rest = rest once e
+
+  module _ (table : Contents Cell) (a : AreInSlots table) where
+    pub numbered_at : (n i : ℕ) (key : List ℕ) (x : Cell) → IsNumbered (slots_in side table.rows) n i → in_slot table.rows n ≡ Some (key, x) → IsPlaced (slots_in side table.rows) i (slot_with side n key x)
+    numbered_at n i key x at e = record { in_range = at.in_range; is = slot_numbered table.rows n i key x (slot_with side n key x) (once_in table a n) at.in_range (at.has (slot_with side n key x)) e }
+
+    -- the slot of a key
+    pub placed_key : (key : List ℕ) (n : ℕ) (x : Cell) → find key_cmp key table.rows ≡ Some (n, x) → (i : ℕ) × IsPlaced (slots_in side table.rows) i (slot_with side n key x)
+    placed_key key n x e =
+        let there : in_slot table.rows n ≡ Some (key, x) = (a.each n key x).1 e in
+        let at = number_place n (slots_in side table.rows) (number_has table.rows n (ap is_some there)) in
+        (at.0, numbered_at n at.0 key x at.1 there)
+
+  -- what is found of the key in the slots
+  abbrev pub cell_of : List ℕ → ℕ × Cell → Slot
+  cell_of key p = slot_with side p.0 key p.1
+
+  pub find_slots : (rows : List (TableRow Cell)) (key : List ℕ) → slot_of (slots_in side rows) key ≡ option_map (cell_of key) (find key_cmp key rows)
+  find_slots [] key = refl
+  find_slots (row ∷ rows) key = by_test (same_bytes key row.0) refl (find_slots rows key)
+    where
+      by_test : (b : Bool) → same_bytes key row.0 ≡ b → slot_of (slots_in side rows) key ≡ option_map (cell_of key) (find key_cmp key rows) → cond b (Some (slot_in side row)) (slot_of (slots_in side rows) key) ≡ option_map (cell_of key) (cond b (Some row.1) (find key_cmp key rows))
+      by_test true is rest = ap (λ k. Some (slot_with side row.1.0 k row.1.1)) (sym (one_key key row.0 is))
+      by_test false is rest = rest
+
+  pub no_slot_in : (rows : List (TableRow Cell)) (key : List ℕ) → table_slot rows key ≡ None → slot_of (slots_in side rows) key ≡ None
+  no_slot_in rows key e = find_slots rows key ∙ ap (option_map (cell_of key)) (no_find rows key e)
+
+  pub no_record : (rows : List (TableRow Cell)) (key : List ℕ) (queues : List Queue) → table_slot rows key ≡ None → find key_cmp key (rows_of queues (slots_in side rows)) ≡ None
+  no_record rows key queues e = find_row queues (slots_in side rows) key ∙ ap (record_in queues) (no_slot_in rows key e)
+
+  -- a slot that gets another record
+  same_others : (rows : List (TableRow Cell)) (n : ℕ) (y : Cell) (f : Slot → Slot) → times n (numbers_of (slots_in side rows)) ≡ 0 → slots_in side (map (with_record_in n y) rows) ≡ map (at_number f n) (slots_in side rows)
+  same_others [] n y f none = refl
+  same_others (row ∷ rows) n y f none = by_test (eqb row.1.0 n) none (same_others rows n y f)
+    where
+      by_test : (b : Bool) → cond b (times n (numbers_of (slots_in side rows)) + 1) (times n (numbers_of (slots_in side rows))) ≡ 0 → (times n (numbers_of (slots_in side rows)) ≡ 0 → slots_in side (map (with_record_in n y) rows) ≡ map (at_number f n) (slots_in side rows)) →
+          slot_with side row.1.0 row.0 (cond b y row.1.1) ∷ slots_in side (map (with_record_in n y) rows) ≡ cond b (f (slot_in side row)) (slot_in side row) ∷ map (at_number f n) (slots_in side rows)
+      by_test true none rest = absurd (omega (arith, none))
+      by_test false none rest = ap (λ (ss : List Slot). slot_in side row ∷ ss) (rest none)
+
+  changed_rows : (rows : List (TableRow Cell)) (n : ℕ) (x y : Cell) (f : Slot → Slot) → times n (numbers_of (slots_in side rows)) ≤ 1 → option_map (λ pair. pair.1) (in_slot rows n) ≡ Some x → ((number : ℕ) (key : List ℕ) → slot_with side number key y ≡ f (slot_with side number key x)) →
+      slots_in side (map (with_record_in n y) rows) ≡ map (at_number f n) (slots_in side rows)
+  changed_rows [] n x y f once e turns = refl
+  changed_rows (row ∷ rows) n x y f once e turns = by_test (eqb row.1.0 n) once e (λ one found. changed_rows rows n x y f one found turns)
+    where
+      by_test : (b : Bool) → cond b (times n (numbers_of (slots_in side rows)) + 1) (times n (numbers_of (slots_in side rows))) ≤ 1 → option_map (λ pair. pair.1) (cond b (Some (row.0, row.1.1)) (in_slot rows n)) ≡ Some x →
+          (times n (numbers_of (slots_in side rows)) ≤ 1 → option_map (λ pair. pair.1) (in_slot rows n) ≡ Some x → slots_in side (map (with_record_in n y) rows) ≡ map (at_number f n) (slots_in side rows)) →
+          slot_with side row.1.0 row.0 (cond b y row.1.1) ∷ slots_in side (map (with_record_in n y) rows) ≡ cond b (f (slot_in side row)) (slot_in side row) ∷ map (at_number f n) (slots_in side rows)
+      by_test true once e rest =
+          let same : row.1.1 ≡ x = same_some e in
+          ap (λ (s : Slot). s ∷ slots_in side (map (with_record_in n y) rows)) (turns row.1.0 row.0 ∙ ap (λ c. f (slot_with side row.1.0 row.0 c)) (sym same))
+          ∙ ap (λ (ss : List Slot). f (slot_in side row) ∷ ss) (same_others rows n y f (omega (arith, once)))
+      by_test false once e rest = ap (λ (ss : List Slot). slot_in side row ∷ ss) (rest once e)
+
+  pub changed_slots : (table : Contents Cell) (n : ℕ) (x y : Cell) (f : Slot → Slot) → AreInSlots table → option_map (λ pair. pair.1) (in_slot table.rows n) ≡ Some x → ((number : ℕ) (key : List ℕ) → slot_with side number key y ≡ f (slot_with side number key x)) →
+      slots_in side (map (with_record_in n y) table.rows) ≡ map (at_number f n) (slots_in side table.rows)
+  changed_slots table n x y f a e turns = changed_rows table.rows n x y f (once_in table a n) e turns
+
+  -- a slot that goes in
+  pub put_slots : (key : List ℕ) (n : ℕ) (x : Cell) (rows : List (TableRow Cell)) → find key_cmp key rows ≡ None → slots_in side (put key_cmp key (n, x) rows) ≡ insert (slots_in side rows) (place key (slots_in side rows)) (slot_with side n key x)
+  put_slots key n x [] none = refl
+  put_slots key n x (row ∷ rows) none = by_test (key_cmp key row.0) none (put_slots key n x rows)
+    where
+      by_test : (o : Ordering) → cond (is_eq o) (Some row.1) (find key_cmp key rows) ≡ None → (find key_cmp key rows ≡ None → slots_in side (put key_cmp key (n, x) rows) ≡ insert (slots_in side rows) (place key (slots_in side rows)) (slot_with side n key x)) →
+          slots_in side (by_order o ((key, (n, x)) ∷ row ∷ rows) ((row.0, (n, x)) ∷ rows) (row ∷ put key_cmp key (n, x) rows)) ≡ insert (slots_in side (row ∷ rows)) (by_order o 0 0 (suc (place key (slots_in side rows)))) (slot_with side n key x)
+      by_test Less none rest = refl
+      by_test Equal none rest = absurd (no_row (sym none))
+      by_test Greater none rest = ap (λ (ss : List Slot). slot_in side row ∷ ss) (rest none)
+
+  -- a slot that goes
+  others_left : (rows : List (TableRow Cell)) (n : ℕ) → times n (numbers_of (slots_in side rows)) ≡ 0 → slots_in side (filter (λ row. not (eqb row.1.0 n)) rows) ≡ slots_in side rows
+  others_left [] n none = refl
+  others_left (row ∷ rows) n none = by_test (eqb row.1.0 n) none (others_left rows n)
+    where
+      by_test : (b : Bool) → cond b (times n (numbers_of (slots_in side rows)) + 1) (times n (numbers_of (slots_in side rows))) ≡ 0 → (times n (numbers_of (slots_in side rows)) ≡ 0 → slots_in side (filter (λ row. not (eqb row.1.0 n)) rows) ≡ slots_in side rows) →
+          slots_in side (cond (not b) (row ∷ filter (λ row. not (eqb row.1.0 n)) rows) (filter (λ row. not (eqb row.1.0 n)) rows)) ≡ slots_in side (row ∷ rows)
+      by_test true none rest = absurd (omega (arith, none))
+      by_test false none rest = ap (λ (ss : List Slot). slot_in side row ∷ ss) (rest none)
+
+  pub slot_gone : (rows : List (TableRow Cell)) (n i : ℕ) (d : Slot) → times n (numbers_of (slots_in side rows)) ≤ 1 → i < length (slots_in side rows) → (get_or (slots_in side rows) i d).number ≡ n → slots_in side (filter (λ row. not (eqb row.1.0 n)) rows) ≡ take i (slots_in side rows) ++ drop (suc i) (slots_in side rows)
+  slot_gone [] n i d once lt is = absurd (omega (arith, lt))
+  slot_gone (row ∷ rows) n zero d once lt is = by_test (eqb row.1.0 n) refl once
+    where
+      by_test : (b : Bool) → eqb row.1.0 n ≡ b → cond b (times n (numbers_of (slots_in side rows)) + 1) (times n (numbers_of (slots_in side rows))) ≤ 1 → slots_in side (cond (not b) (row ∷ filter (λ row. not (eqb row.1.0 n)) rows) (filter (λ row. not (eqb row.1.0 n)) rows)) ≡ slots_in side rows
+      by_test true e once = others_left rows n (omega (arith, once))
+      by_test false e once = absurd (let no : eqb row.1.0 n ≡ true = grind (arith, nat_tests, is) in cc)
+  slot_gone (row ∷ rows) n (suc i) d once lt is = by_test (eqb row.1.0 n) once (times_at n (slots_in side rows) i d (omega (arith, lt)) is) (λ one. slot_gone rows n i d one (omega (arith, lt)) is)
+    where
+      by_test : (b : Bool) → cond b (times n (numbers_of (slots_in side rows)) + 1) (times n (numbers_of (slots_in side rows))) ≤ 1 → 0 < times n (numbers_of (slots_in side rows)) → (times n (numbers_of (slots_in side rows)) ≤ 1 → slots_in side (filter (λ row. not (eqb row.1.0 n)) rows) ≡ take i (slots_in side rows) ++ drop (suc i) (slots_in side rows)) →
+          slots_in side (cond (not b) (row ∷ filter (λ row. not (eqb row.1.0 n)) rows) (filter (λ row. not (eqb row.1.0 n)) rows)) ≡ slot_in side row ∷ (take i (slots_in side rows) ++ drop (suc i) (slots_in side rows))
+      by_test true once more rest = absurd (omega (arith, once, more))
+      by_test false once more rest = ap (λ (ss : List Slot). slot_in side row ∷ ss) (rest once)
+
+  -- the slot of the key is that of its number
+  pub number_key : (table : Contents Cell) → AreInSlots table → (f : Slot → Slot) (key : List ℕ) (n : ℕ) → table_slot table.rows key ≡ Some n → map (at_number f n) (slots_in side table.rows) ≡ map (at_key f key) (slots_in side table.rows)
+  number_key table a f key n s =
+      let h = placed table.rows key n s in
+      let slots = slots_in side table.rows in
+      let p = placed_key table a key n h.0 h.1 in
+      let e = slot_with side n key h.0 in
+      number_set f n slots p.0 e (once_in table a n) p.1.in_range ((placed_number slots p.0 e p.1).has e) ∙ at_place f slots key p.0 e (slots_rise table.rows a.rise) p.1.in_range (placed_same slots p.0 e p.1 e)
+
+  -- what is found of a key
+  pub cell_found : (table : Contents Cell) → AreInSlots table → (key : List ℕ) (n : ℕ) (x : Cell) → table_slot table.rows key ≡ Some n → option_map (λ pair. pair.1) (in_slot table.rows n) ≡ Some x → slot_of (slots_in side table.rows) key ≡ Some (slot_with side n key x)
+  cell_found table a key n x s e = find_slots table.rows key ∙ ap (option_map (cell_of key)) (record_found table key n a s x e)
+
+  pub record_there : (table : Contents Cell) → AreInSlots table → (key : List ℕ) (n : ℕ) (x : Cell) → table_slot table.rows key ≡ Some n → option_map (λ pair. pair.1) (in_slot table.rows n) ≡ Some x → (queues : List Queue) → record_of (rows_of queues (slots_in side table.rows)) key ≡ Some (row_of queues (slot_with side n key x)).1
+  record_there table a key n x s e queues = find_row queues (slots_in side table.rows) key ∙ ap (record_in queues) (cell_found table a key n x s e)
+
+  pub is_new_in : (rows : List (TableRow Cell)) (key : List ℕ) (queues : List Queue) → is_none (table_slot rows key) ≡ is_none (record_of (rows_of queues (slots_in side rows)) key)
+  is_new_in rows key queues = by_place (find key_cmp key rows) ∙ sym (ap is_none (find_row queues (slots_in side rows) key ∙ ap (record_in queues) (find_slots rows key)))
+    where
+      by_place : (o : Option (ℕ × Cell)) → is_none (option_map (λ place. place.0) o) ≡ is_none (record_in queues (option_map (cell_of key) o))
+      by_place None = refl
+      by_place (Some p) = refl

@@ -78,7 +78,7 @@ module _ (point t : ℕ) (class : Class) (value : Option (List ℕ)) (slots new 
         by_outcome Died has = one
 
     pub pending_put : same_bytes key e.key ≡ true → (o ≡ Granted → (w : Writer) → e.writer ≡ Some w → (w.transaction ≡ t) × (w.class ≡ class)) → (capacity : ℕ) (other : List Queue) (q : List ℕ) →
-        find key_cmp q (pending_of new) ≡ pending_after o (table_of capacity other slots point) key (record { by = t; class = class; value = value }) q
+        find key_cmp q (pending_of new) ≡ pending_after o (table_of capacity other slots point [] []) key (record { by = t; class = class; value = value }) q
     pending_put here own capacity other q = by_outcome o own new_is
       where
         same : (new : List Slot) → new ≡ set slots i e → find key_cmp q (pending_of new) ≡ find key_cmp q (pending_of slots)
@@ -96,7 +96,7 @@ module _ (point t : ℕ) (class : Class) (value : Option (List ℕ)) (slots new 
         put_is own (Some s) found false equal = ap (λ b. pending_in (cond b (put s) s)) (ap (same_bytes key) (sym (key_found slots q s found)) ∙ equal)
 
         by_outcome : (o : Outcome) → (o ≡ Granted → (w : Writer) → e.writer ≡ Some w → (w.transaction ≡ t) × (w.class ≡ class)) → new ≡ set slots i (granted_slot o point t class e.live value e) →
-            find key_cmp q (pending_of new) ≡ pending_after o (table_of capacity other slots point) key (record { by = t; class = class; value = value }) q
+            find key_cmp q (pending_of new) ≡ pending_after o (table_of capacity other slots point [] []) key (record { by = t; class = class; value = value }) q
         by_outcome Queued own new_is = same new new_is
         by_outcome Died own new_is = same new new_is
         by_outcome Granted own new_is =

@@ -2,6 +2,8 @@ pub mod Rows
 pub mod Following
 pub mod NewKeys
 pub mod Tables
+pub mod Words
 pub mod Slots
+pub mod SetLists
 pub mod RowSets
 pub mod RowSteps

@@ -1,5 +1,5 @@
 -- The keys that a commit adds to the open set, and how many writes a transaction may have.
-use Rattle.std.specs.Prelude.{ℕ, ◌==◌, ◌&&◌, Bool, true, false, List, [], ◌∷◌, length, is_none, ◌≡◌, ⊤, is_some}
+use Rattle.std.specs.Prelude.{ℕ, ◌==◌, ◌&&◌, Bool, true, false, List, [], ◌∷◌, length, is_none}
 use Rattle.pc_types.specs.declared.Write.{Write}
 use Rattle.pc_types.specs.declared.limits.TheConstants.{MOST_WRITES}
 use Rattle.pc_model.specs.Database.{written}
@@ -18,8 +18,3 @@ new_keys rows (w ∷ ws) = with_new (is_in_open_set (record_of rows w.key)) w.ke
 -- a 257th key
 abbrev pub is_one_too_many : List Write → List ℕ → Bool
 is_one_too_many writes key = (length writes == MOST_WRITES) && is_none (written writes key)
-
--- writes of which no two have one key
-abbrev pub AreDistinct : List Write → Type 0
-AreDistinct [] = ⊤
-AreDistinct (w ∷ ws) = (is_some (written ws w.key) ≡ false) × AreDistinct ws

@@ -9,7 +9,7 @@ use Rattle.pc_types.specs.declared.Outcome.{Outcome}
 use Rattle.pc_model.specs.Locks.{Queue, request_in, is_ungranted, queue_after, queue_without}
 use Rattle.pc_types.specs.declared.Outcome.TheVariants.{Granted, Queued, Died}
 use Rattle.pc_model.specs.Queues.{stands_in}
-use Rattle.pc_records.specs.Rows.{Kept, Record, Row, is_in_closed_set, is_in_open_set, is_kept, record_of, requests_on}
+use Rattle.pc_records.specs.Rows.{Kept, Record, Row, is_kept, record_of, requests_on}
 
 -- the same record, or none where nothing keeps it
 abbrev pub if_kept : Record → Option Record

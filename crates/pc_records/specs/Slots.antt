@@ -12,6 +12,9 @@ use Rattle.pc_types.specs.declared.Outcome.TheVariants.{Granted, Queued, Died}
 use Rattle.pc_model.specs.Places.{IsAt, IsGap}
 use Rattle.pc_types.specs.Phases.{same_class}
 use Rattle.pc_locks.specs.States.{queue_at}
+use Rattle.pc_dirty.specs.declared.side.Side.{Side}
+use Rattle.pc_dirty.specs.declared.side.Side.TheVariants.{First}
+use Rattle.pc_dirty.specs.Sets.{other_side}
 use Rattle.pc_table.specs.Rows.{Row as TableRow}
 use Rattle.pc_records.specs.declared.slots.Cell.{Cell}
 use Rattle.pc_records.specs.declared.versions.Stable.{Stable}
@@ -20,6 +23,7 @@ use Rattle.pc_records.specs.declared.versions.Writer.{Writer}
 use Rattle.pc_records.specs.Rows.{Row}
 use Rattle.pc_records.specs.RowSteps.{if_kept, with_row}
 use Rattle.pc_records.specs.Tables.{Pending, Table}
+use Rattle.pc_records.specs.Words.{blank_word, is_marked}
 
 -- a slot: its number, its key, and what is kept of the key: what stands in its place, the version that is held and the point that
 -- it is known to be of, the open transaction that has written the key, and whether the key is in the two sets
@@ -33,21 +37,21 @@ pub record Slot : Type 0 where
   pub is_in_open_set : Bool
   pub is_in_closed_set : Bool
 
--- the slot of the number and the key that has this
-abbrev pub slot_with : ℕ → List ℕ → Cell → Slot
-slot_with number key cell = record { number = number; key = key; live = cell.live; stable = cell.stable; mark = cell.mark; writer = cell.writer; is_in_open_set = cell.is_in_open_set; is_in_closed_set = cell.is_in_closed_set }
+-- the slot of the number and the key that has this, where the open set is on the side
+abbrev pub slot_with : Side → ℕ → List ℕ → Cell → Slot
+slot_with side number key cell = record { number = number; key = key; live = cell.live; stable = cell.stable; mark = cell.mark; writer = cell.writer; is_in_open_set = is_marked side cell; is_in_closed_set = is_marked (other_side side) cell }
 
 -- the slot in a row of the table
-abbrev pub slot_in : TableRow Cell → Slot
-slot_in row = slot_with row.1.0 row.0 row.1.1
+abbrev pub slot_in : Side → TableRow Cell → Slot
+slot_in side row = slot_with side row.1.0 row.0 row.1.1
 
 -- the slots in the rows of the table
-abbrev pub slots_in : List (TableRow Cell) → List Slot
-slots_in rows = map slot_in rows
+abbrev pub slots_in : Side → List (TableRow Cell) → List Slot
+slots_in side rows = map (slot_in side) rows
 
 -- what is kept of a key that has this committed, a value or absence, and nothing else
 abbrev pub base_cell : Option (List ℕ) → Cell
-base_cell content = record { live = content; stable = Empty; mark = 0; writer = None; is_in_open_set = false; is_in_closed_set = false }
+base_cell content = record { live = content; stable = Empty; mark = 0; writer = None; first = blank_word; second = blank_word }
 
 -- what the rows of the table keep of their keys
 abbrev pub cells_in : List (TableRow Cell) → List (List ℕ × Cell)
@@ -109,7 +113,7 @@ contents_of slots = map (λ slot. (slot.key, committed slot)) slots
 -- the entry of what a slot has committed, which may have no row
 abbrev pub content_in : Option (List ℕ × Cell) → List (List ℕ × Option (List ℕ))
 content_in None = []
-content_in (Some p) = (p.0, committed (slot_with 0 [] p.1)) ∷ []
+content_in (Some p) = (p.0, committed (slot_with First 0 [] p.1)) ∷ []
 
 -- the committed pairs of the slots
 abbrev pub committed_pairs : List Slot → List (List ℕ × List ℕ)
@@ -119,9 +123,9 @@ committed_pairs slots = entries_of committed slots
 abbrev pub pending_of : List Slot → List (List ℕ × Pending)
 pending_of slots = entries_of pending_in slots
 
--- what is seen of slots, given the queue of each number and the point of the last closed set
-abbrev pub table_of : ℕ → List Queue → List Slot → ℕ → Table
-table_of capacity queues slots point = record { capacity = capacity; rows = rows_of queues slots; pending = pending_of slots; point = point }
+-- what is seen of slots, given the queue of each number, the point of the last closed set, and the keys of the two sets
+abbrev pub table_of : ℕ → List Queue → List Slot → ℕ → List (List ℕ) → List (List ℕ) → Table
+table_of capacity queues slots point opened shut = record { capacity = capacity; rows = rows_of queues slots; pending = pending_of slots; point = point; opened = opened; shut = shut }
 
 -- the numbers of the slots
 abbrev pub numbers_of : List Slot → List ℕ

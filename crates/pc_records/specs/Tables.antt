@@ -1,13 +1,15 @@
--- What the records hold beside the rows: the writes of open transactions, each in its key's place, and the point of the
--- last closed set.
-use Rattle.std.specs.Prelude.{◌≡◌, ℕ, List, Option, Some, None, is_some, if◌then◌else◌, MatchOption}
+-- What the records hold beside the rows: the writes of open transactions, each in its key's place, the point of the last
+-- closed set, and the keys of the two sets in order.
+use Rattle.std.specs.Prelude.{◌≡◌, ℕ, List, [], ◌∷◌, Option, Some, None, is_some, option_copied, if◌then◌else◌, MatchOption}
 use Rattle.std.specs.FinMap.{find}
+use denote.Ref.{Bor}
 use Rattle.pc_types.specs.declared.Class.{Class}
 use Rattle.pc_types.specs.declared.Write.{Write}
 use Rattle.pc_model.specs.Database.{key_cmp, same_bytes, written}
 use Rattle.pc_types.specs.declared.Outcome.{Outcome}
 use Rattle.pc_types.specs.declared.Outcome.TheVariants.{Granted, Queued, Died}
-use Rattle.pc_records.specs.Rows.{Row, Kept, record_of, stored}
+use Rattle.pc_model.specs.Points.{is_among}
+use Rattle.pc_records.specs.Rows.{Row, Kept, record_of, stored, is_in_open_set, is_in_closed_set, at_point}
 
 -- what an open transaction has put in a key's place: its number and its class, and what it wrote last, a value or absence
 pub record Pending : Type 0 where
@@ -15,12 +17,15 @@ pub record Pending : Type 0 where
   pub class : Class
   pub value : Option (List ℕ)
 
--- the records: the rows, the writes of open transactions, rising by key, and the point of the last closed set
+-- the records: the rows, the writes of open transactions, rising by key, the point of the last closed set, and the keys of the
+-- open set and of the closed one, each in the order in which they came into it
 pub record Table : Type 0 where
   pub capacity : ℕ
   pub rows : List Row
   pub pending : List (List ℕ × Pending)
   pub point : ℕ
+  pub opened : List (List ℕ)
+  pub shut : List (List ℕ)
 
 -- the rows and their limit alone
 abbrev pub kept_of : Table → Kept
@@ -56,3 +61,21 @@ pending_after Died t key p q = pending_at t q
 -- what stands of the key once the transaction of these writes is over
 abbrev pub pending_without : List Write → Table → List ℕ → Option Pending
 pending_without writes t q = if is_some (written writes q) then None else pending_at t q
+
+-- each key is listed exactly where it is in the set
+pub record AreListed (t : Table) : Type 0 where
+  pub open_set : (q : List ℕ) → is_in_open_set (record_of t.rows q) ≡ is_among t.opened q
+  pub closed_set : (q : List ℕ) → is_in_closed_set (record_of t.rows q) ≡ is_among t.shut q
+
+-- the first of the keys, with what it has at the point
+abbrev pub first_pinned : List Row → List (List ℕ) → Option (List ℕ × Option (List ℕ))
+first_pinned rows [] = None
+first_pinned rows (key ∷ keys) = Some (key, at_point (record_of rows key))
+
+-- the first key of the closed set, with what it has at the point
+abbrev pub first_content : Table → Option (List ℕ × Option (List ℕ))
+first_content t = first_pinned t.rows t.shut
+
+-- the key and the content behind the references
+abbrev pub content_behind : Bor (List ℕ) × Option (Bor (List ℕ)) → List ℕ × Option (List ℕ)
+content_behind pair = (pair.0.now, option_copied pair.1)

@@ -2,10 +2,12 @@
 //! what is kept for the point, and the requests of locks.
 #![tactic(auto)]
 
+mod links;
 mod records;
 mod slots;
 #[cfg(test)]
 mod tests;
 mod versions;
+mod words;
 
 pub use records::Records;

@@ -1,5 +1,5 @@
 //! The records.
-ghost use Rattle.std.specs.Prelude.{◌≡◌, ◌==◌, ◌<◌, ◌≤◌, [], false, true, length, map, is_none, is_some, option_map, Some, IfOk, OnErr, option_copied, List, ℕ};
+ghost use Rattle.std.specs.Prelude.{◌≡◌, ◌==◌, ◌<◌, ◌≤◌, ◌++◌, ◌∷◌, [], false, true, length, map, is_none, is_some, option_map, Some, IfOk, OnErr, option_copied, List, ℕ};
 ghost use Rattle.std.specs.FinMap.{find};
 ghost use Rattle.pc_types.specs.declared.Mode.TheVariants.{Shared, Exclusive};
 ghost use Rattle.pc_types.specs.declared.Class.TheVariants.{Before, During};
@@ -10,14 +10,18 @@ ghost use Rattle.pc_types.specs.declared.Outcome.TheVariants.{Granted};
 ghost use Rattle.pc_types.specs.Phases.{same_class};
 ghost use Rattle.pc_locks.specs.States as states;
 ghost use Rattle.pc_locks.specs.States.{slots_of};
-ghost use Rattle.pc_records.specs.Rows.{record_of, stored, is_in_open_set, is_in_closed_set, at_point, requests_on};
+ghost use Rattle.pc_records.specs.Rows.{record_of, stored, is_in_closed_set, requests_on};
+ghost use Rattle.pc_model.specs.DistinctWrites.{AreDistinct};
+ghost use Rattle.pc_records.specs.NewKeys.{new_keys};
+ghost use Rattle.pc_records.specs.SetLists.{KeepSets, IsListed, IsTaken, open_keys, closed_keys};
 ghost use Rattle.pc_records.specs.RowSteps.{is_full_for, is_waiting, rows_after, released_rows, written_row, closed_row, left_rows, committed_row};
-ghost use Rattle.pc_records.specs.Tables.{Pending, kept_of, pending_at, value_of, latest, IsClearFor, pending_after, pending_without};
+ghost use Rattle.pc_records.specs.Tables.{Pending, kept_of, pending_at, value_of, latest, IsClearFor, pending_after, pending_without, AreListed, first_content, content_behind};
 ghost use Rattle.pc_records.specs.Slots.{slots_in, rows_of, pending_of, table_of, AreKept, AreSound, IsFirstIn};
 ghost use Rattle.pc_table.specs.Rows.{slot_of, HasRow};
 
 use crate::slots::Cell;
 use crate::{slots, versions};
+use pc_dirty::{Dirty, Side};
 use pc_locks::Locks;
 use pc_table::Table;
 use pc_types::{
@@ -28,11 +32,12 @@ use std::hash::RandomState;
 use std::marker::Model;
 
 /// The records, in the slots of a table; at most as many as its capacity. The locks have the requests of a slot's key at the
-/// slot's number. The point is that of the last closed set.
+/// slot's number. The two sets are linked through the slots. The point is that of the last closed set.
 #[derive(Drop)]
 pub struct Records {
     table: Table<Cell>,
     locks: Locks,
+    sets: Dirty,
     point: Point,
 }
 
@@ -40,12 +45,13 @@ impl Model for Records {
     ghost use Rattle.std.specs.Prelude.{◌≡◌, length};
     ghost use Rattle.pc_records.specs.Tables.{Table};
     ghost use Rattle.pc_records.specs.Slots.{slots_in, table_of, AreKept, AreSound};
+    ghost use Rattle.pc_records.specs.SetLists.{IsListed, open_keys, closed_keys};
 
     ghost Value = { Table };
 
-    ghost view = { λ a. table_of a.table.capacity a.locks.queues (slots_in a.table.rows) a.point };
+    ghost view = { λ a. table_of a.table.capacity a.locks.queues (slots_in a.sets.side a.table.rows) a.point (open_keys a.table.rows a.sets) (closed_keys a.table.rows a.sets) };
 
-    ghost invariant = { λ a. AreKept (slots_in a.table.rows) a.locks.queues × ((length a.locks.queues ≡ a.table.capacity) × AreSound a.point a.locks.queues (slots_in a.table.rows)) };
+    ghost invariant = { λ a. AreKept (slots_in a.sets.side a.table.rows) a.locks.queues × ((length a.locks.queues ≡ a.table.capacity) × AreSound a.point a.locks.queues (slots_in a.sets.side a.table.rows)) × IsListed a.table.rows a.sets };
 }
 
 impl Records {
@@ -60,13 +66,15 @@ impl Records {
         requires rise { KeysRise pairs.now }
         requires fit { length pairs.now ≤ capacity }
         requires capacity { (1 ≤ capacity) × (capacity ≤ MOST_KEYS) }
-        ensures { IfOk result (λ r. r ≡ record { capacity = capacity; rows = map committed_row pairs.now; pending = []; point = 0 }) }
+        ensures { IfOk result (λ r. r ≡ record { capacity = capacity; rows = map committed_row pairs.now; pending = []; point = 0; opened = []; shut = [] }) }
     {
         let table = slots::table_of(alloc, capacity, pairs, seed)?;
         let locks = Locks::new(alloc, table.capacity())?;
+        let sets = Dirty::new();
         Ok(Records {
             table,
             locks,
+            sets,
             point: Point(0),
         })
     }
@@ -85,26 +93,12 @@ impl Records {
         slots::latest_at(&self.table, key)
     }
 
-    /// What a key of the closed set has at the point.
-    pub fn at_point(&self, key: &Key) -> Option<&Value>
-        ensures { option_copied result ≡ at_point (record_of self.now.rows key.now) }
-    {
-        slots::value_at_point(&self.table, key)
-    }
-
     /// The committed pairs, rising by key.
     pub fn committed(&self, alloc: Global) -> Result<Vec<(Key, Value)>, AllocError>
         ensures rise { IfOk result (λ pairs. KeysRise pairs.items) }
         ensures contents { IfOk result (λ pairs. (key : List ℕ) → get (database_of pairs.items) key ≡ stored (record_of self.now.rows key)) }
     {
         slots::committed_pairs(alloc, &self.table)
-    }
-
-    /// Whether the key is in the open set.
-    pub fn is_in_open_set(&self, key: &Key) -> bool
-        ensures { result ≡ is_in_open_set (record_of self.now.rows key.now) }
-    {
-        slots::is_in_open_set_at(&self.table, key)
     }
 
     /// Whether a request of the transaction waits.
@@ -132,6 +126,7 @@ impl Records {
             alloc,
             &mut self.table,
             &mut self.locks,
+            self.sets.open_side(),
             self.point,
             transaction,
             key,
@@ -156,12 +151,15 @@ impl Records {
         ensures pending { IfOk result (λ answer. (q : List ℕ) → pending_at self.new q ≡ pending_after answer self.old key.now (record { by = transaction; class = class; value = value }) q) }
         ensures clear { IfOk result (λ answer. answer ≡ Granted → IsClearFor self.old key.now transaction) }
         ensures point { IfOk result (λ answer. self.new.point ≡ self.old.point) }
+        ensures opened { self.new.opened ≡ self.old.opened }
+        ensures shut { self.new.shut ≡ self.old.shut }
         ensures err { OnErr result (self.new ≡ self.old) }
     {
         write(
             alloc,
             &mut self.table,
             &mut self.locks,
+            self.sets.open_side(),
             self.point,
             transaction,
             class,
@@ -175,19 +173,30 @@ impl Records {
         requires { (q : List ℕ) (p : Pending) → pending_at self.old q ≡ Some p → (p.by == transaction) ≡ false }
         ensures { self.new ≡ record self.old { rows = released_rows transaction self.old.rows } }
     {
-        release(&mut self.table, &mut self.locks, self.point, transaction);
+        let side = self.sets.open_side();
+        release(
+            &mut self.table,
+            &mut self.locks,
+            side,
+            self.point,
+            transaction,
+        );
     }
 
     /// The transaction of these writes, which stand in their places, is committed: they are the keys' values, and their
-    /// keys are in the open set. It takes no memory.
+    /// keys are in the open set, at its end where they weren't in it. It takes no memory.
     pub fn commit(&mut self, writes: &[Write])
-        requires { (q : List ℕ) → is_some (written writes.now q) ≡ true → option_map value_of (pending_at self.old q) ≡ written writes.now q }
+        requires stand { (q : List ℕ) → is_some (written writes.now q) ≡ true → option_map value_of (pending_at self.old q) ≡ written writes.now q }
+        requires distinct { AreDistinct writes.now }
         ensures rise { KeysRise self.old.rows }
         ensures rows { kept_of self.new ≡ record (kept_of self.old) { rows = map (written_row writes.now) self.old.rows } }
         ensures pending { (q : List ℕ) → pending_at self.new q ≡ pending_without writes.now self.old q }
         ensures point { self.new.point ≡ self.old.point }
+        ensures opened { self.new.opened ≡ self.old.opened ++ new_keys self.old.rows writes.now }
+        ensures shut { self.new.shut ≡ self.old.shut }
+        ensures listed { AreListed self.old }
     {
-        slots::settle_all(&mut self.table, writes, self.point);
+        slots::settle_all(&mut self.table, &mut self.sets, writes, self.point);
     }
 
     /// The transaction of these writes is undone: what was committed of their keys stands in their places again. It takes
@@ -197,27 +206,56 @@ impl Records {
         ensures rows { kept_of self.new ≡ kept_of self.old }
         ensures pending { (q : List ℕ) → pending_at self.new q ≡ pending_without writes.now self.old q }
         ensures point { self.new.point ≡ self.old.point }
+        ensures opened { self.new.opened ≡ self.old.opened }
+        ensures shut { self.new.shut ≡ self.old.shut }
     {
-        slots::undo_all(&mut self.table, writes, self.point);
+        let side = self.sets.open_side();
+        slots::undo_all(&mut self.table, side, writes, self.point);
     }
 
-    /// The open set is closed, as that of the point, and another one begins.
+    /// The open set is closed, as that of the point, and another one begins. No record is looked at.
     pub fn close(&mut self, point: Point)
         requires later { self.old.point < point }
-        requires none { (q : List ℕ) → is_in_closed_set (record_of self.old.rows q) ≡ false }
+        requires none { self.old.shut ≡ [] }
         requires during { (q : List ℕ) (p : Pending) → pending_at self.old q ≡ Some p → p.class ≡ During }
-        ensures { self.new ≡ record self.old { rows = map closed_row self.old.rows; point = point } }
+        ensures closed { self.new ≡ record self.old { rows = map closed_row self.old.rows; point = point; opened = []; shut = self.old.opened } }
+        ensures listed { AreListed self.old }
     {
-        slots::close_slots(&mut self.table);
+        self.sets.close(&self.table);
         self.point = point;
     }
 
-    /// The key is taken, and its slot is free where nothing keeps it. It takes no memory.
-    pub fn take(&mut self, key: &Key)
-        requires { (p : Pending) → pending_at self.old key.now ≡ Some p → same_class p.class During ≡ false }
-        ensures { self.new ≡ record self.old { rows = left_rows self.old.rows key.now } }
+    /// How many keys are in the closed set.
+    pub fn closed_len(&self) -> u32
+        ensures count { result ≡ length self.now.shut }
+        ensures listed { AreListed self.now }
     {
-        take(&mut self.table, &self.locks, self.point, key);
+        self.sets.closed_len(&self.table)
+    }
+
+    /// The first key of the closed set with what it has at the point; None where the set is empty.
+    pub fn first_closed(&self) -> Option<(&Key, Option<&Value>)>
+        ensures first { option_map content_behind result ≡ first_content self.now }
+        ensures listed { AreListed self.now }
+    {
+        match self.sets.first_closed(&self.table) {
+            Some(id) => {
+                let side = self.sets.open_side();
+                let pinned = versions::pinned_of(self.table.get(id), side);
+                Some((self.table.key(id), pinned))
+            }
+            None => None,
+        }
+    }
+
+    /// The first key of the closed set, in which there is one, is taken, and its slot is free where nothing keeps it. It takes
+    /// no memory.
+    pub fn take(&mut self)
+        requires { (key : List ℕ) × (keys : List (List ℕ)) × (self.old.shut ≡ key ∷ keys) × ((p : Pending) → pending_at self.old key ≡ Some p → same_class p.class During ≡ false) }
+        ensures taken { (key : List ℕ) (keys : List (List ℕ)) → self.old.shut ≡ key ∷ keys → self.new ≡ record self.old { rows = left_rows self.old.rows key; shut = keys } }
+        ensures listed { AreListed self.old }
+    {
+        take(&mut self.table, &self.locks, &mut self.sets, self.point);
     }
 }
 
@@ -226,29 +264,31 @@ fn share(
     alloc: Global,
     table: &mut Table<Cell>,
     locks: &mut Locks,
+    side: Side,
     point: Point,
     transaction: TxnNo,
     key: &Key,
 ) -> Result<Outcome, AllocError>
-    requires kept { AreKept (slots_in table.old.rows) locks.old.queues }
-    requires sound { AreSound point locks.old.queues (slots_in table.old.rows) }
+    requires kept { AreKept (slots_in side table.old.rows) locks.old.queues }
+    requires sound { AreSound point locks.old.queues (slots_in side table.old.rows) }
     requires count { length locks.old.queues ≡ table.old.capacity }
     requires ready { states.is_waiting locks.old transaction ≡ false }
-    ensures told { IfOk result (λ answer. answer ≡ outcome (requests_on (record_of (rows_of locks.old.queues (slots_in table.old.rows)) key.now)) transaction Shared) }
-    ensures rows { IfOk result (λ answer. rows_of locks.new.queues (slots_in table.new.rows) ≡ rows_after (rows_of locks.old.queues (slots_in table.old.rows)) key.now transaction Shared answer) }
-    ensures clear { IfOk result (λ answer. answer ≡ Granted → IsClearFor (table_of (length locks.old.queues) locks.old.queues (slots_in table.old.rows) point) key.now transaction) }
-    ensures err { OnErr result (rows_of locks.new.queues (slots_in table.new.rows) ≡ rows_of locks.old.queues (slots_in table.old.rows)) }
-    ensures pending { pending_of (slots_in table.new.rows) ≡ pending_of (slots_in table.old.rows) }
-    ensures kept { AreKept (slots_in table.new.rows) locks.new.queues }
-    ensures sound { AreSound point locks.new.queues (slots_in table.new.rows) }
+    ensures told { IfOk result (λ answer. answer ≡ outcome (requests_on (record_of (rows_of locks.old.queues (slots_in side table.old.rows)) key.now)) transaction Shared) }
+    ensures rows { IfOk result (λ answer. rows_of locks.new.queues (slots_in side table.new.rows) ≡ rows_after (rows_of locks.old.queues (slots_in side table.old.rows)) key.now transaction Shared answer) }
+    ensures clear { IfOk result (λ answer. answer ≡ Granted → IsClearFor (table_of (length locks.old.queues) locks.old.queues (slots_in side table.old.rows) point [] []) key.now transaction) }
+    ensures err { OnErr result (rows_of locks.new.queues (slots_in side table.new.rows) ≡ rows_of locks.old.queues (slots_in side table.old.rows)) }
+    ensures pending { pending_of (slots_in side table.new.rows) ≡ pending_of (slots_in side table.old.rows) }
+    ensures kept { AreKept (slots_in side table.new.rows) locks.new.queues }
+    ensures sound { AreSound point locks.new.queues (slots_in side table.new.rows) }
     ensures count { length locks.new.queues ≡ table.new.capacity }
     ensures capacity { table.new.capacity ≡ table.old.capacity }
+    ensures sets { KeepSets table.old.rows table.new.rows }
 {
     let mode = Mode::Shared;
     match table.find(key) {
         Some(id) => locks.request(transaction, id, mode),
         None => {
-            request_new(alloc, table, locks, point, transaction, key, mode)?;
+            request_new(alloc, table, locks, side, point, transaction, key, mode)?;
             Ok(Outcome::Granted)
         }
     }
@@ -260,40 +300,52 @@ fn write(
     alloc: Global,
     table: &mut Table<Cell>,
     locks: &mut Locks,
+    side: Side,
     point: Point,
     transaction: TxnNo,
     class: Class,
     key: &Key,
     value: Option<Value>,
 ) -> Result<Outcome, AllocError>
-    requires kept { AreKept (slots_in table.old.rows) locks.old.queues }
-    requires sound { AreSound point locks.old.queues (slots_in table.old.rows) }
+    requires kept { AreKept (slots_in side table.old.rows) locks.old.queues }
+    requires sound { AreSound point locks.old.queues (slots_in side table.old.rows) }
     requires count { length locks.old.queues ≡ table.old.capacity }
     requires ready { states.is_waiting locks.old transaction ≡ false }
-    requires outside { class ≡ Before → is_in_closed_set (record_of (rows_of locks.old.queues (slots_in table.old.rows)) key.now) ≡ false }
-    requires again { (p : Pending) → find key_cmp key.now (pending_of (slots_in table.old.rows)) ≡ Some p → p.by ≡ transaction → p.class ≡ class }
-    ensures told { IfOk result (λ answer. answer ≡ outcome (requests_on (record_of (rows_of locks.old.queues (slots_in table.old.rows)) key.now)) transaction Exclusive) }
-    ensures rows { IfOk result (λ answer. rows_of locks.new.queues (slots_in table.new.rows) ≡ rows_after (rows_of locks.old.queues (slots_in table.old.rows)) key.now transaction Exclusive answer) }
-    ensures clear { IfOk result (λ answer. answer ≡ Granted → IsClearFor (table_of (length locks.old.queues) locks.old.queues (slots_in table.old.rows) point) key.now transaction) }
-    ensures err { OnErr result (rows_of locks.new.queues (slots_in table.new.rows) ≡ rows_of locks.old.queues (slots_in table.old.rows)) }
-    ensures pending { IfOk result (λ answer. (q : List ℕ) → find key_cmp q (pending_of (slots_in table.new.rows)) ≡ pending_after answer (table_of (length locks.old.queues) locks.old.queues (slots_in table.old.rows) point) key.now (record { by = transaction; class = class; value = value }) q) }
-    ensures still { OnErr result (pending_of (slots_in table.new.rows) ≡ pending_of (slots_in table.old.rows)) }
-    ensures kept { AreKept (slots_in table.new.rows) locks.new.queues }
-    ensures sound { AreSound point locks.new.queues (slots_in table.new.rows) }
+    requires outside { class ≡ Before → is_in_closed_set (record_of (rows_of locks.old.queues (slots_in side table.old.rows)) key.now) ≡ false }
+    requires again { (p : Pending) → find key_cmp key.now (pending_of (slots_in side table.old.rows)) ≡ Some p → p.by ≡ transaction → p.class ≡ class }
+    ensures told { IfOk result (λ answer. answer ≡ outcome (requests_on (record_of (rows_of locks.old.queues (slots_in side table.old.rows)) key.now)) transaction Exclusive) }
+    ensures rows { IfOk result (λ answer. rows_of locks.new.queues (slots_in side table.new.rows) ≡ rows_after (rows_of locks.old.queues (slots_in side table.old.rows)) key.now transaction Exclusive answer) }
+    ensures clear { IfOk result (λ answer. answer ≡ Granted → IsClearFor (table_of (length locks.old.queues) locks.old.queues (slots_in side table.old.rows) point [] []) key.now transaction) }
+    ensures err { OnErr result (rows_of locks.new.queues (slots_in side table.new.rows) ≡ rows_of locks.old.queues (slots_in side table.old.rows)) }
+    ensures pending { IfOk result (λ answer. (q : List ℕ) → find key_cmp q (pending_of (slots_in side table.new.rows)) ≡ pending_after answer (table_of (length locks.old.queues) locks.old.queues (slots_in side table.old.rows) point [] []) key.now (record { by = transaction; class = class; value = value }) q) }
+    ensures still { OnErr result (pending_of (slots_in side table.new.rows) ≡ pending_of (slots_in side table.old.rows)) }
+    ensures kept { AreKept (slots_in side table.new.rows) locks.new.queues }
+    ensures sound { AreSound point locks.new.queues (slots_in side table.new.rows) }
     ensures count { length locks.new.queues ≡ table.new.capacity }
     ensures capacity { table.new.capacity ≡ table.old.capacity }
+    ensures sets { KeepSets table.old.rows table.new.rows }
 {
     let mode = Mode::Exclusive;
     match table.find(key) {
         Some(id) => {
             let copy = copy_content(alloc, &table.get(id).live)?;
             let answer = locks.request(transaction, id, mode)?;
-            slots::put_granted(table, id, point, transaction, class, copy, value, answer);
+            slots::put_granted(
+                table,
+                side,
+                id,
+                point,
+                transaction,
+                class,
+                copy,
+                value,
+                answer,
+            );
             Ok(answer)
         }
         None => {
-            let id = request_new(alloc, table, locks, point, transaction, key, mode)?;
-            slots::put_at(table, id, point, transaction, class, None, value);
+            let id = request_new(alloc, table, locks, side, point, transaction, key, mode)?;
+            slots::put_at(table, side, id, point, transaction, class, None, value);
             Ok(Outcome::Granted)
         }
     }
@@ -305,26 +357,28 @@ fn request_new(
     alloc: Global,
     table: &mut Table<Cell>,
     locks: &mut Locks,
+    side: Side,
     point: Point,
     transaction: TxnNo,
     key: &Key,
     mode: Mode,
 ) -> Result<SlotId, AllocError>
-    requires kept { AreKept (slots_in table.old.rows) locks.old.queues }
-    requires sound { AreSound point locks.old.queues (slots_in table.old.rows) }
+    requires kept { AreKept (slots_in side table.old.rows) locks.old.queues }
+    requires sound { AreSound point locks.old.queues (slots_in side table.old.rows) }
     requires count { length locks.old.queues ≡ table.old.capacity }
     requires ready { states.is_waiting locks.old transaction ≡ false }
     requires new { slot_of table.old.rows key.now ≡ None }
-    ensures told { IfOk result (λ id. outcome (requests_on (record_of (rows_of locks.old.queues (slots_in table.old.rows)) key.now)) transaction mode ≡ Granted) }
-    ensures rows { IfOk result (λ id. rows_of locks.new.queues (slots_in table.new.rows) ≡ rows_after (rows_of locks.old.queues (slots_in table.old.rows)) key.now transaction mode Granted) }
-    ensures slot { IfOk result (IsFirstIn (slots_in table.old.rows) (slots_in table.new.rows) locks.new.queues key.now transaction mode) }
+    ensures told { IfOk result (λ id. outcome (requests_on (record_of (rows_of locks.old.queues (slots_in side table.old.rows)) key.now)) transaction mode ≡ Granted) }
+    ensures rows { IfOk result (λ id. rows_of locks.new.queues (slots_in side table.new.rows) ≡ rows_after (rows_of locks.old.queues (slots_in side table.old.rows)) key.now transaction mode Granted) }
+    ensures slot { IfOk result (IsFirstIn (slots_in side table.old.rows) (slots_in side table.new.rows) locks.new.queues key.now transaction mode) }
     ensures row { IfOk result (HasRow table.new.rows) }
-    ensures err { OnErr result (rows_of locks.new.queues (slots_in table.new.rows) ≡ rows_of locks.old.queues (slots_in table.old.rows)) }
-    ensures pending { pending_of (slots_in table.new.rows) ≡ pending_of (slots_in table.old.rows) }
-    ensures kept { AreKept (slots_in table.new.rows) locks.new.queues }
-    ensures sound { AreSound point locks.new.queues (slots_in table.new.rows) }
+    ensures err { OnErr result (rows_of locks.new.queues (slots_in side table.new.rows) ≡ rows_of locks.old.queues (slots_in side table.old.rows)) }
+    ensures pending { pending_of (slots_in side table.new.rows) ≡ pending_of (slots_in side table.old.rows) }
+    ensures kept { AreKept (slots_in side table.new.rows) locks.new.queues }
+    ensures sound { AreSound point locks.new.queues (slots_in side table.new.rows) }
     ensures count { length locks.new.queues ≡ table.new.capacity }
     ensures capacity { table.new.capacity ≡ table.old.capacity }
+    ensures sets { KeepSets table.old.rows table.new.rows }
 {
     let id = slots::make(alloc, table, key)?;
     match locks.request(transaction, id, mode) {
@@ -341,25 +395,27 @@ fn request_new(
 fn release_next(
     table: &mut Table<Cell>,
     locks: &mut Locks,
+    side: Side,
     point: Point,
     transaction: TxnNo,
 ) -> bool
-    requires kept { AreKept (slots_in table.old.rows) locks.old.queues }
-    requires sound { AreSound point locks.old.queues (slots_in table.old.rows) }
+    requires kept { AreKept (slots_in side table.old.rows) locks.old.queues }
+    requires sound { AreSound point locks.old.queues (slots_in side table.old.rows) }
     requires count { length locks.old.queues ≡ table.old.capacity }
-    requires over { (q : List ℕ) (p : Pending) → find key_cmp q (pending_of (slots_in table.old.rows)) ≡ Some p → (p.by == transaction) ≡ false }
-    ensures kept { AreKept (slots_in table.new.rows) locks.new.queues }
-    ensures sound { AreSound point locks.new.queues (slots_in table.new.rows) }
+    requires over { (q : List ℕ) (p : Pending) → find key_cmp q (pending_of (slots_in side table.old.rows)) ≡ Some p → (p.by == transaction) ≡ false }
+    ensures kept { AreKept (slots_in side table.new.rows) locks.new.queues }
+    ensures sound { AreSound point locks.new.queues (slots_in side table.new.rows) }
     ensures count { length locks.new.queues ≡ table.new.capacity }
     ensures capacity { table.new.capacity ≡ table.old.capacity }
-    ensures pending { pending_of (slots_in table.new.rows) ≡ pending_of (slots_in table.old.rows) }
-    ensures rows { released_rows transaction (rows_of locks.new.queues (slots_in table.new.rows)) ≡ released_rows transaction (rows_of locks.old.queues (slots_in table.old.rows)) }
+    ensures pending { pending_of (slots_in side table.new.rows) ≡ pending_of (slots_in side table.old.rows) }
+    ensures rows { released_rows transaction (rows_of locks.new.queues (slots_in side table.new.rows)) ≡ released_rows transaction (rows_of locks.old.queues (slots_in side table.old.rows)) }
     ensures shrinks { result ≡ true → length (slots_of locks.new.lists transaction) < length (slots_of locks.old.lists transaction) }
-    ensures done { result ≡ false → rows_of locks.new.queues (slots_in table.new.rows) ≡ released_rows transaction (rows_of locks.old.queues (slots_in table.old.rows)) }
+    ensures done { result ≡ false → rows_of locks.new.queues (slots_in side table.new.rows) ≡ released_rows transaction (rows_of locks.old.queues (slots_in side table.old.rows)) }
+    ensures sets { KeepSets table.old.rows table.new.rows }
 {
     match locks.release_one(transaction) {
         Some(id) => {
-            slots::tidy(table, locks, point, id);
+            slots::tidy(table, locks, side, point, id);
             true
         }
         None => false,
@@ -367,35 +423,40 @@ fn release_next(
 }
 
 // Removes all requests of the transaction, one after the other.
-fn release(table: &mut Table<Cell>, locks: &mut Locks, point: Point, transaction: TxnNo)
-    requires kept { AreKept (slots_in table.old.rows) locks.old.queues }
-    requires sound { AreSound point locks.old.queues (slots_in table.old.rows) }
+fn release(table: &mut Table<Cell>, locks: &mut Locks, side: Side, point: Point, transaction: TxnNo)
+    requires kept { AreKept (slots_in side table.old.rows) locks.old.queues }
+    requires sound { AreSound point locks.old.queues (slots_in side table.old.rows) }
     requires count { length locks.old.queues ≡ table.old.capacity }
-    requires over { (q : List ℕ) (p : Pending) → find key_cmp q (pending_of (slots_in table.old.rows)) ≡ Some p → (p.by == transaction) ≡ false }
-    ensures kept { AreKept (slots_in table.new.rows) locks.new.queues }
-    ensures sound { AreSound point locks.new.queues (slots_in table.new.rows) }
+    requires over { (q : List ℕ) (p : Pending) → find key_cmp q (pending_of (slots_in side table.old.rows)) ≡ Some p → (p.by == transaction) ≡ false }
+    ensures kept { AreKept (slots_in side table.new.rows) locks.new.queues }
+    ensures sound { AreSound point locks.new.queues (slots_in side table.new.rows) }
     ensures count { length locks.new.queues ≡ table.new.capacity }
     ensures capacity { table.new.capacity ≡ table.old.capacity }
-    ensures pending { pending_of (slots_in table.new.rows) ≡ pending_of (slots_in table.old.rows) }
-    ensures rows { rows_of locks.new.queues (slots_in table.new.rows) ≡ released_rows transaction (rows_of locks.old.queues (slots_in table.old.rows)) }
+    ensures pending { pending_of (slots_in side table.new.rows) ≡ pending_of (slots_in side table.old.rows) }
+    ensures rows { rows_of locks.new.queues (slots_in side table.new.rows) ≡ released_rows transaction (rows_of locks.old.queues (slots_in side table.old.rows)) }
+    ensures sets { KeepSets table.old.rows table.new.rows }
 {
-    while release_next(table, locks, point, transaction) {}
+    while release_next(table, locks, side, point, transaction) {}
 }
 
-// The key is taken, and its slot is free where nothing keeps it.
-fn take(table: &mut Table<Cell>, locks: &Locks, point: Point, key: &Key)
-    requires kept { AreKept (slots_in table.old.rows) locks.now.queues }
-    requires sound { AreSound point locks.now.queues (slots_in table.old.rows) }
+// The first key of the closed set, in which there is one, is taken, and its slot is free where nothing keeps it.
+fn take(table: &mut Table<Cell>, locks: &Locks, sets: &mut Dirty, point: Point)
+    requires kept { AreKept (slots_in sets.old.side table.old.rows) locks.now.queues }
+    requires sound { AreSound point locks.now.queues (slots_in sets.old.side table.old.rows) }
     requires count { length locks.now.queues ≡ table.old.capacity }
-    requires over { (p : Pending) → find key_cmp key.now (pending_of (slots_in table.old.rows)) ≡ Some p → same_class p.class During ≡ false }
-    ensures kept { AreKept (slots_in table.new.rows) locks.now.queues }
-    ensures sound { AreSound point locks.now.queues (slots_in table.new.rows) }
+    requires listed { IsListed table.old.rows sets.old }
+    requires first { (key : List ℕ) × (keys : List (List ℕ)) × (closed_keys table.old.rows sets.old ≡ key ∷ keys) × ((p : Pending) → find key_cmp key (pending_of (slots_in sets.old.side table.old.rows)) ≡ Some p → same_class p.class During ≡ false) }
+    ensures kept { AreKept (slots_in sets.new.side table.new.rows) locks.now.queues }
+    ensures sound { AreSound point locks.now.queues (slots_in sets.new.side table.new.rows) }
     ensures capacity { table.new.capacity ≡ table.old.capacity }
-    ensures pending { pending_of (slots_in table.new.rows) ≡ pending_of (slots_in table.old.rows) }
-    ensures rows { rows_of locks.now.queues (slots_in table.new.rows) ≡ left_rows (rows_of locks.now.queues (slots_in table.old.rows)) key.now }
+    ensures pending { pending_of (slots_in sets.new.side table.new.rows) ≡ pending_of (slots_in sets.old.side table.old.rows) }
+    ensures listed { IsListed table.new.rows sets.new }
+    ensures opened { open_keys table.new.rows sets.new ≡ open_keys table.old.rows sets.old }
+    ensures taken { (key : List ℕ) (keys : List (List ℕ)) → closed_keys table.old.rows sets.old ≡ key ∷ keys → IsTaken locks.now.queues sets.old.side table.old.rows sets.new table.new.rows key keys }
 {
-    if let Some(id) = table.find(key) {
-        slots::mark_taken(table, id, point);
-        slots::tidy(table, locks, point, id);
+    let side = sets.open_side();
+    if let Some(id) = sets.pop_closed(table) {
+        slots::mark_taken(table, side, id, point);
+        slots::tidy(table, locks, side, point, id);
     }
 }

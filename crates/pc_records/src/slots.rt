@@ -7,12 +7,18 @@ ghost use Rattle.pc_model.specs.Database.{KeysRise, key_cmp, database_of};
 ghost use Rattle.pc_model.specs.Locks.{Queue};
 ghost use Rattle.pc_locks.specs.States.{queue_at};
 ghost use Rattle.pc_table.specs.Rows.{slot_of, in_slot, HasRow, IsNewSlot, AreInSlots, with_row, with_record};
-ghost use Rattle.pc_records.specs.Rows.{record_of, stored, is_in_open_set, at_point};
+ghost use Rattle.pc_dirty.specs.declared.side.Side.{Side};
+ghost use Rattle.pc_dirty.specs.declared.side.Side.TheVariants.{First};
+ghost use Rattle.pc_records.specs.Rows.{record_of, stored};
+ghost use Rattle.pc_model.specs.DistinctWrites.{AreDistinct};
+ghost use Rattle.pc_records.specs.SetLists.{KeepSets, IsUnmarked, IsListed, open_keys, closed_keys, entering, entering_key, entering_keys};
 ghost use Rattle.pc_records.specs.Tables.{read_of};
-ghost use Rattle.pc_records.specs.Slots.{slot_with, slots_in, with_entry, content_in, base_cell, cells_in, base_row, contents_of, rows_of, pending_of, AreKept, AreSound, is_kept_slot, IsNumbered, tidied, put_slot, granted_slot, settled, undone, at_key, at_number, at_writes, closed_slot, taken_slot};
+ghost use Rattle.pc_records.specs.Slots.{slot_with, slots_in, with_entry, content_in, base_cell, cells_in, base_row, contents_of, rows_of, pending_of, AreKept, AreSound, is_kept_slot, IsNumbered, tidied, put_slot, granted_slot, settled, undone, at_key, at_number, at_writes, taken_slot};
 
 use crate::versions;
 use crate::versions::{Stable, Writer};
+use crate::words::Word;
+use pc_dirty::{Dirty, Side};
 use pc_locks::Locks;
 use pc_replay::first_of_each;
 use pc_table::{Blank, Table};
@@ -32,10 +38,36 @@ pub(crate) struct Cell {
     pub(crate) mark: Point,
     /// The open transaction that has written the key.
     pub(crate) writer: Option<Writer>,
-    /// The key is in the open set: a commit since the last resolve token, or since the start, wrote it.
-    pub(crate) is_in_open_set: bool,
-    /// The key is in the closed set: it is of the point, and not taken yet.
-    pub(crate) is_in_closed_set: bool,
+    /// The slot's word on the first side.
+    pub(crate) first: Word,
+    /// The slot's word on the second side.
+    pub(crate) second: Word,
+}
+
+impl Cell {
+    ghost use Rattle.std.specs.Prelude.{◌≡◌};
+    ghost use Rattle.pc_records.specs.Words.{is_marked, with_mark};
+
+    /// Whether the slot is in the set on the side: in the open set, where a commit since the last resolve token, or since the
+    /// start, wrote its key; in the closed set, where its key is of the point, and not taken yet.
+    pub(crate) fn is_in(&self, side: Side) -> bool
+        ensures { result ≡ is_marked side self.now }
+    {
+        match side {
+            Side::First => self.first.is_in,
+            Side::Second => self.second.is_in,
+        }
+    }
+
+    /// Marks whether the slot is in the set on the side.
+    pub(crate) fn put_mark(&mut self, side: Side, is_in: bool)
+        ensures { self.new ≡ with_mark side is_in self.old }
+    {
+        match side {
+            Side::First => self.first.is_in = is_in,
+            Side::Second => self.second.is_in = is_in,
+        }
+    }
 }
 
 impl Blank for Cell {
@@ -58,8 +90,8 @@ fn cell_with(content: Option<Value>) -> Cell
         stable: Stable::Empty,
         mark: Point(0),
         writer: None,
-        is_in_open_set: false,
-        is_in_closed_set: false,
+        first: Word::blank(),
+        second: Word::blank(),
     }
 }
 
@@ -114,7 +146,7 @@ pub(crate) fn make(alloc: Global, table: &mut Table<Cell>, key: &Key) -> Result<
 
 // Whether the key has no record.
 pub(crate) fn is_new(table: &Table<Cell>, key: &Key) -> bool
-    ensures { (queues : List Queue) → result ≡ is_none (record_of (rows_of queues (slots_in table.now.rows)) key.now) }
+    ensures { (side : Side) (queues : List Queue) → result ≡ is_none (record_of (rows_of queues (slots_in side table.now.rows)) key.now) }
 {
     match table.find(key) {
         Some(_) => false,
@@ -124,20 +156,10 @@ pub(crate) fn is_new(table: &Table<Cell>, key: &Key) -> bool
 
 // What stands in the key's place.
 pub(crate) fn latest_at<'a>(table: &'a Table<Cell>, key: &Key) -> Option<&'a Value>
-    ensures { (queues : List Queue) → option_copied result ≡ read_of (find key_cmp key.now (pending_of (slots_in table.now.rows))) (stored (record_of (rows_of queues (slots_in table.now.rows)) key.now)) }
+    ensures { (side : Side) (queues : List Queue) → option_copied result ≡ read_of (find key_cmp key.now (pending_of (slots_in side table.now.rows))) (stored (record_of (rows_of queues (slots_in side table.now.rows)) key.now)) }
 {
     match table.find(key) {
         Some(id) => table.get(id).live.as_ref(),
-        None => None,
-    }
-}
-
-// What the key has at the point, where it is in the closed set.
-pub(crate) fn value_at_point<'a>(table: &'a Table<Cell>, key: &Key) -> Option<&'a Value>
-    ensures { (queues : List Queue) → option_copied result ≡ at_point (record_of (rows_of queues (slots_in table.now.rows)) key.now) }
-{
-    match table.find(key) {
-        Some(id) => versions::pinned_of(table.get(id)),
         None => None,
     }
 }
@@ -148,7 +170,7 @@ pub(crate) fn committed_pairs(
     table: &Table<Cell>,
 ) -> Result<Vec<(Key, Value)>, AllocError>
     ensures rise { IfOk result (λ pairs. KeysRise pairs.items) }
-    ensures contents { IfOk result (λ pairs. (queues : List Queue) (key : List ℕ) → get (database_of pairs.items) key ≡ stored (record_of (rows_of queues (slots_in table.now.rows)) key)) }
+    ensures contents { IfOk result (λ pairs. (side : Side) (queues : List Queue) (key : List ℕ) → get (database_of pairs.items) key ≡ stored (record_of (rows_of queues (slots_in side table.now.rows)) key)) }
 {
     let contents = contents_in(alloc, table)?;
     let mut pairs = Vec::new(alloc);
@@ -174,7 +196,7 @@ fn push_value(
 
 // What each slot's key has that is committed, a value or absence, rising by key.
 fn contents_in(alloc: Global, table: &Table<Cell>) -> Result<Vec<(Key, Option<Value>)>, AllocError>
-    ensures contents { IfOk result (λ contents. contents.items ≡ contents_of (slots_in table.now.rows)) }
+    ensures contents { IfOk result (λ contents. contents.items ≡ contents_of (slots_in First table.now.rows)) }
     ensures slots { AreInSlots table.now }
 {
     let mut contents = Vec::new(alloc);
@@ -201,49 +223,22 @@ fn push_content(
     Ok(())
 }
 
-// Whether the key is in the open set.
-pub(crate) fn is_in_open_set_at(table: &Table<Cell>, key: &Key) -> bool
-    ensures { (queues : List Queue) → result ≡ is_in_open_set (record_of (rows_of queues (slots_in table.now.rows)) key.now) }
-{
-    match table.find(key) {
-        Some(id) => table.get(id).is_in_open_set,
-        None => false,
-    }
-}
-
-// The key of the slot, where it has one, is of the closed set where it was in the open one.
-fn close_slot(table: &mut Table<Cell>, id: SlotId)
-    ensures slots { slots_in table.new.rows ≡ map (at_number closed_slot id) (slots_in table.old.rows) }
-    ensures capacity { table.new.capacity ≡ table.old.capacity }
-{
-    if table.get_if_taken(id).is_some() {
-        versions::close(table.get_mut(id));
-    }
-}
-
-// The open set is closed.
-pub(crate) fn close_slots(table: &mut Table<Cell>)
-    ensures slots { slots_in table.new.rows ≡ map closed_slot (slots_in table.old.rows) }
-    ensures capacity { table.new.capacity ≡ table.old.capacity }
-{
-    for id in 0..table.capacity() {
-        close_slot(table, SlotId(id));
-    }
-}
-
 // The key of the slot is taken.
-pub(crate) fn mark_taken(table: &mut Table<Cell>, id: SlotId, point: Point)
+pub(crate) fn mark_taken(table: &mut Table<Cell>, side: Side, id: SlotId, point: Point)
     requires { HasRow table.old.rows id }
-    ensures slots { slots_in table.new.rows ≡ map (at_number (taken_slot point) id) (slots_in table.old.rows) }
+    ensures slots { slots_in side table.new.rows ≡ map (at_number (taken_slot point) id) (slots_in side table.old.rows) }
     ensures row { HasRow table.new.rows id }
+    ensures marks { IsUnmarked side id table.old.rows table.new.rows }
+    ensures before { AreInSlots table.old }
     ensures capacity { table.new.capacity ≡ table.old.capacity }
 {
-    versions::take(table.get_mut(id), point);
+    versions::take(table.get_mut(id), side, point);
 }
 
 // The transaction writes the slot's key in its place; the copy is one of what stands there.
 pub(crate) fn put_at(
     table: &mut Table<Cell>,
+    side: Side,
     id: SlotId,
     point: Point,
     transaction: TxnNo,
@@ -252,15 +247,25 @@ pub(crate) fn put_at(
     value: Option<Value>,
 )
     requires { HasRow table.old.rows id }
-    ensures slots { slots_in table.new.rows ≡ map (at_number (put_slot point transaction class copy value) id) (slots_in table.old.rows) }
+    ensures slots { slots_in side table.new.rows ≡ map (at_number (put_slot point transaction class copy value) id) (slots_in side table.old.rows) }
     ensures capacity { table.new.capacity ≡ table.old.capacity }
+    ensures sets { KeepSets table.old.rows table.new.rows }
 {
-    versions::put(table.get_mut(id), point, transaction, class, copy, value);
+    versions::put(
+        table.get_mut(id),
+        side,
+        point,
+        transaction,
+        class,
+        copy,
+        value,
+    );
 }
 
 // The transaction writes the slot's key in its place where its request was granted; the copy is one of what stands there.
 pub(crate) fn put_granted(
     table: &mut Table<Cell>,
+    side: Side,
     id: SlotId,
     point: Point,
     transaction: TxnNo,
@@ -270,97 +275,122 @@ pub(crate) fn put_granted(
     answer: Outcome,
 )
     requires { HasRow table.old.rows id }
-    ensures slots { slots_in table.new.rows ≡ map (at_number (granted_slot answer point transaction class copy value) id) (slots_in table.old.rows) }
+    ensures slots { slots_in side table.new.rows ≡ map (at_number (granted_slot answer point transaction class copy value) id) (slots_in side table.old.rows) }
     ensures capacity { table.new.capacity ≡ table.old.capacity }
+    ensures sets { KeepSets table.old.rows table.new.rows }
 {
     if let Outcome::Granted = answer {
-        put_at(table, id, point, transaction, class, copy, value);
+        put_at(table, side, id, point, transaction, class, copy, value);
     }
 }
 
-// The write that stands in the slot is committed.
-fn settle_slot(table: &mut Table<Cell>, id: SlotId, point: Point)
-    requires { HasRow table.old.rows id }
-    ensures slots { slots_in table.new.rows ≡ map (at_number (settled point) id) (slots_in table.old.rows) }
+// The write that stands in the slot is committed, and the slot goes into the open set where it isn't in it.
+fn settle_slot(table: &mut Table<Cell>, sets: &mut Dirty, id: SlotId, point: Point)
+    requires row { HasRow table.old.rows id }
+    requires listed { IsListed table.old.rows sets.old }
+    ensures slots { slots_in sets.old.side table.new.rows ≡ map (at_number (settled point) id) (slots_in sets.old.side table.old.rows) }
     ensures capacity { table.new.capacity ≡ table.old.capacity }
+    ensures side { sets.new.side ≡ sets.old.side }
+    ensures listed { IsListed table.new.rows sets.new }
+    ensures opened { open_keys table.new.rows sets.new ≡ open_keys table.old.rows sets.old ++ entering sets.old.side (in_slot table.old.rows id) }
+    ensures closed { closed_keys table.new.rows sets.new ≡ closed_keys table.old.rows sets.old }
 {
-    versions::settle(table.get_mut(id), point);
+    let side = sets.open_side();
+    let is_new = versions::settle(table.get_mut(id), side, point);
+    if is_new {
+        sets.add(table, id);
+    }
 }
 
 // The write that stands in the key's place is committed.
-fn settle_key(table: &mut Table<Cell>, key: &Key, point: Point)
-    ensures slots { slots_in table.new.rows ≡ map (at_key (settled point) key.now) (slots_in table.old.rows) }
+fn settle_key(table: &mut Table<Cell>, sets: &mut Dirty, key: &Key, point: Point)
+    requires listed { IsListed table.old.rows sets.old }
+    ensures slots { slots_in sets.old.side table.new.rows ≡ map (at_key (settled point) key.now) (slots_in sets.old.side table.old.rows) }
     ensures capacity { table.new.capacity ≡ table.old.capacity }
+    ensures side { sets.new.side ≡ sets.old.side }
+    ensures listed { IsListed table.new.rows sets.new }
+    ensures opened { open_keys table.new.rows sets.new ≡ open_keys table.old.rows sets.old ++ entering_key sets.old.side table.old.rows key.now }
+    ensures closed { closed_keys table.new.rows sets.new ≡ closed_keys table.old.rows sets.old }
 {
     if let Some(id) = table.find(key) {
-        settle_slot(table, id, point);
+        settle_slot(table, sets, id, point);
     }
 }
 
-// These writes are committed.
-pub(crate) fn settle_all(table: &mut Table<Cell>, writes: &[Write], point: Point)
-    ensures slots { slots_in table.new.rows ≡ map (at_writes (settled point) writes.now) (slots_in table.old.rows) }
+// These writes, no two of which have one key, are committed.
+pub(crate) fn settle_all(table: &mut Table<Cell>, sets: &mut Dirty, writes: &[Write], point: Point)
+    requires listed { IsListed table.old.rows sets.old }
+    requires distinct { AreDistinct writes.now }
+    ensures slots { slots_in sets.old.side table.new.rows ≡ map (at_writes (settled point) writes.now) (slots_in sets.old.side table.old.rows) }
     ensures capacity { table.new.capacity ≡ table.old.capacity }
+    ensures side { sets.new.side ≡ sets.old.side }
+    ensures listed { IsListed table.new.rows sets.new }
+    ensures opened { open_keys table.new.rows sets.new ≡ open_keys table.old.rows sets.old ++ entering_keys sets.old.side table.old.rows writes.now }
+    ensures closed { closed_keys table.new.rows sets.new ≡ closed_keys table.old.rows sets.old }
 {
     for write in writes {
-        settle_key(table, &write.key, point);
+        settle_key(table, sets, &write.key, point);
     }
 }
 
 // The write that stands in the slot is undone.
-fn undo_slot(table: &mut Table<Cell>, id: SlotId, point: Point)
+fn undo_slot(table: &mut Table<Cell>, side: Side, id: SlotId, point: Point)
     requires { HasRow table.old.rows id }
-    ensures slots { slots_in table.new.rows ≡ map (at_number (undone point) id) (slots_in table.old.rows) }
+    ensures slots { slots_in side table.new.rows ≡ map (at_number (undone point) id) (slots_in side table.old.rows) }
     ensures capacity { table.new.capacity ≡ table.old.capacity }
+    ensures sets { KeepSets table.old.rows table.new.rows }
 {
-    versions::undo(table.get_mut(id), point);
+    versions::undo(table.get_mut(id), side, point);
 }
 
 // The write that stands in the key's place is undone.
-fn undo_key(table: &mut Table<Cell>, key: &Key, point: Point)
-    ensures slots { slots_in table.new.rows ≡ map (at_key (undone point) key.now) (slots_in table.old.rows) }
+fn undo_key(table: &mut Table<Cell>, side: Side, key: &Key, point: Point)
+    ensures slots { slots_in side table.new.rows ≡ map (at_key (undone point) key.now) (slots_in side table.old.rows) }
     ensures capacity { table.new.capacity ≡ table.old.capacity }
+    ensures sets { KeepSets table.old.rows table.new.rows }
 {
     if let Some(id) = table.find(key) {
-        undo_slot(table, id, point);
+        undo_slot(table, side, id, point);
     }
 }
 
 // These writes are undone.
-pub(crate) fn undo_all(table: &mut Table<Cell>, writes: &[Write], point: Point)
-    ensures slots { slots_in table.new.rows ≡ map (at_writes (undone point) writes.now) (slots_in table.old.rows) }
+pub(crate) fn undo_all(table: &mut Table<Cell>, side: Side, writes: &[Write], point: Point)
+    ensures slots { slots_in side table.new.rows ≡ map (at_writes (undone point) writes.now) (slots_in side table.old.rows) }
     ensures capacity { table.new.capacity ≡ table.old.capacity }
+    ensures sets { KeepSets table.old.rows table.new.rows }
 {
     for write in writes {
-        undo_key(table, &write.key, point);
+        undo_key(table, side, &write.key, point);
     }
 }
 
 // Whether something keeps the slot: a value, a version, a request, or one of the two sets.
-fn is_kept(slot: &Cell, id: SlotId, locks: &Locks) -> bool
+fn is_kept(slot: &Cell, side: Side, id: SlotId, locks: &Locks) -> bool
     requires { id < length locks.now.queues }
-    ensures { result ≡ is_kept_slot (queue_at locks.now.queues id) (slot_with id [] slot.now) }
+    ensures { result ≡ is_kept_slot (queue_at locks.now.queues id) (slot_with side id [] slot.now) }
 {
     slot.live.is_some()
         || versions::is_held(&slot.stable)
         || locks.has_request(id)
-        || slot.is_in_open_set
-        || slot.is_in_closed_set
+        || slot.is_in(side)
+        || slot.is_in(side.other())
 }
 
 // The slot is free where nothing keeps it.
-pub(crate) fn tidy(table: &mut Table<Cell>, locks: &Locks, point: Point, id: SlotId)
+pub(crate) fn tidy(table: &mut Table<Cell>, locks: &Locks, side: Side, point: Point, id: SlotId)
     requires row { HasRow table.old.rows id }
-    requires kept { AreKept (slots_in table.old.rows) locks.now.queues }
-    requires sound { AreSound point locks.now.queues (slots_in table.old.rows) }
+    requires kept { AreKept (slots_in side table.old.rows) locks.now.queues }
+    requires sound { AreSound point locks.now.queues (slots_in side table.old.rows) }
     requires count { length locks.now.queues ≡ table.old.capacity }
-    ensures rows { (i : ℕ) → IsNumbered (slots_in table.old.rows) id i → rows_of locks.now.queues (slots_in table.new.rows) ≡ tidied (rows_of locks.now.queues (slots_in table.old.rows)) i }
-    ensures pending { pending_of (slots_in table.new.rows) ≡ pending_of (slots_in table.old.rows) }
-    ensures kept { AreKept (slots_in table.new.rows) locks.now.queues }
-    ensures sound { AreSound point locks.now.queues (slots_in table.new.rows) }
+    ensures rows { (i : ℕ) → IsNumbered (slots_in side table.old.rows) id i → rows_of locks.now.queues (slots_in side table.new.rows) ≡ tidied (rows_of locks.now.queues (slots_in side table.old.rows)) i }
+    ensures pending { pending_of (slots_in side table.new.rows) ≡ pending_of (slots_in side table.old.rows) }
+    ensures kept { AreKept (slots_in side table.new.rows) locks.now.queues }
+    ensures sound { AreSound point locks.now.queues (slots_in side table.new.rows) }
     ensures capacity { table.new.capacity ≡ table.old.capacity }
+    ensures sets { KeepSets table.old.rows table.new.rows }
 {
-    if !is_kept(table.get(id), id, locks) {
+    if !is_kept(table.get(id), side, id, locks) {
         drop(table.remove(id));
     }
 }

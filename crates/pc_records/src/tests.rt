@@ -3,13 +3,14 @@ ghost use Rattle.std.specs.Prelude.{◌≡◌, []};
 
 use crate::slots::Cell;
 use crate::{Records, versions};
+use pc_dirty::Side;
 use pc_table::Blank;
 use pc_types::{Class, Key, Outcome, Point, Refusal, TxnNo, Value, copy_content};
 use std::alloc::Global;
 use std::hash::RandomState;
 use std::test::Fail;
 
-// What happens to a slot; the point is that of the last closed set.
+// What happens to a slot; the point is that of the last closed set, and the side that of the open one.
 #[derive(Clone, Copy)]
 enum Moment {
     // A transaction of the class writes a value of one byte, or absence.
@@ -27,6 +28,14 @@ use Moment::{Close, Commit, Take, Undo, Write};
 #[derive(Clone, Copy, Debug, PartialEq)]
 struct Seen(Option<u8>, Option<u8>, Option<u8>);
 
+// A slot, the side of the open set, and the point of the last closed one.
+#[derive(Drop)]
+struct Followed {
+    slot: Cell,
+    side: Side,
+    point: Point,
+}
+
 fn value_of(alloc: Global, content: Option<u8>) -> Result<Option<Value>, Refusal> {
     match content {
         Some(byte) => Ok(Some(Value::new(alloc, &[byte])?)),
@@ -41,31 +50,34 @@ fn content_of(value: Option<&Value>) -> Option<u8> {
     }
 }
 
-fn look_at(slot: &Cell) -> Seen {
+fn look_at(slot: &Cell, side: Side) -> Seen {
     Seen(
         content_of(slot.live.as_ref()),
         content_of(versions::committed_of(slot)),
-        content_of(versions::pinned_of(slot)),
+        content_of(versions::pinned_of(slot, side)),
     )
 }
 
-// Does it, and gives the point of the last closed set then.
-fn happen(alloc: Global, slot: &mut Cell, point: Point, moment: Moment) -> Result<Point, Refusal> {
+// Does it.
+fn happen(alloc: Global, seen: &mut Followed, moment: Moment) -> Result<(), Refusal> {
+    let Followed { slot, side, point } = seen;
     match moment {
         Write(class, content) => {
             let copy = copy_content(alloc, &slot.live)?;
             let value = value_of(alloc, content)?;
-            versions::put(slot, point, TxnNo(1), class, copy, value);
+            versions::put(slot, *side, *point, TxnNo(1), class, copy, value);
         }
-        Commit => versions::settle(slot, point),
-        Undo => versions::undo(slot, point),
+        Commit => {
+            versions::settle(slot, *side, *point);
+        }
+        Undo => versions::undo(slot, *side, *point),
         Close => {
-            versions::close(slot);
-            return Ok(Point(if point.0 < 9 { point.0 + 1 } else { 9 }));
+            *side = side.other();
+            *point = Point(if point.0 < 9 { point.0 + 1 } else { 9 });
         }
-        Take => versions::take(slot, point),
+        Take => versions::take(slot, *side, *point),
     }
-    Ok(point)
+    Ok(())
 }
 
 // A slot of a key that has the value.
@@ -77,11 +89,14 @@ fn slot_with(alloc: Global, content: u8) -> Result<Cell, Refusal> {
 
 // The first of the rows that came out otherwise.
 fn first_wrong(alloc: Global, rows: &[(Moment, Seen)]) -> Result<Option<usize>, Refusal> {
-    let mut slot = slot_with(alloc, 50)?;
-    let mut point = Point(0);
+    let mut seen = Followed {
+        slot: slot_with(alloc, 50)?,
+        side: Side::First,
+        point: Point(0),
+    };
     for (i, row) in rows.iter().enumerate() {
-        point = happen(alloc, &mut slot, point, row.0)?;
-        if look_at(&slot) != row.1 {
+        happen(alloc, &mut seen, row.0)?;
+        if look_at(&seen.slot, seen.side) != row.1 {
             return Ok(Some(i));
         }
     }
@@ -151,10 +166,9 @@ enum Ask {
     Latest(u8),
     // How many keys have a value.
     Values,
-    TakeKey(u8),
 }
 
-use Ask::{IsFullFor, IsWaiting, Latest, Read, Release, TakeKey, Values};
+use Ask::{IsFullFor, IsWaiting, Latest, Read, Release, Values};
 
 #[derive(Clone, Copy, Debug, PartialEq)]
 enum Told {
@@ -186,15 +200,6 @@ fn read(alloc: Global, records: &mut Records, transaction: u64, key: u8) -> Resu
     }
 }
 
-fn take_key(alloc: Global, records: &mut Records, key: u8) -> Result<Told, Refusal>
-    requires { records.old.pending ≡ [] }
-    ensures { records.new.pending ≡ [] }
-{
-    let key = Key::new(alloc, &[key])?;
-    records.take(&key);
-    Ok(Done)
-}
-
 fn release(records: &mut Records, transaction: u64) -> Told
     requires { records.old.pending ≡ [] }
     ensures { records.new.pending ≡ [] }
@@ -220,7 +225,6 @@ fn tell(alloc: Global, records: &mut Records, ask: Ask) -> Result<Told, Refusal>
     match ask {
         Read(transaction, key) => read(alloc, records, transaction, key),
         Release(transaction) => Ok(release(records, transaction)),
-        TakeKey(key) => take_key(alloc, records, key),
         _ => said(alloc, records, ask),
     }
 }
@@ -241,7 +245,7 @@ fn first_other(
     Ok(None)
 }
 
-const SLOTS: [(Ask, Told); 15] = [
+const SLOTS: [(Ask, Told); 14] = [
     // A key with a value, and one slot of two readers in turn: it is free once both have released.
     (Latest(5), Content(Some(50))),
     (Values, Count(1)),
@@ -252,9 +256,7 @@ const SLOTS: [(Ask, Told); 15] = [
     (IsFullFor(8), Is(true)),
     (Release(2), Done),
     (IsFullFor(8), Is(false)),
-    // A request keeps a slot also where its key is taken.
     (Read(3, 8), Granted),
-    (TakeKey(8), Done),
     (IsFullFor(7), Is(true)),
     (IsFullFor(8), Is(false)),
     (IsWaiting(3), Is(false)),

@@ -1,11 +1,14 @@
-//! The moments of one slot: its key is written in its place, the write is committed or undone, the open set is closed, and
-//! the key is taken.
-ghost use Rattle.std.specs.Prelude.{◌≡◌, ℕ, List, [], option_copied, IfOk};
+//! The moments of one slot: its key is written in its place, the write is committed or undone, and the key is taken. The side is
+//! that of the open set.
+ghost use Rattle.std.specs.Prelude.{◌≡◌, ◌&&◌, not, ℕ, List, [], is_some, option_copied, IfOk};
 ghost use Rattle.pc_types.specs.declared.Class.TheVariants as class_of;
 ghost use Rattle.pc_types.specs.Phases.{same_class};
-ghost use Rattle.pc_records.specs.Slots.{slot_with, committed, pinned, is_held, is_available, saved, put_slot, settled, undone, taken_slot, closed_slot};
+ghost use Rattle.pc_dirty.specs.declared.side.Side.TheVariants.{First};
+ghost use Rattle.pc_records.specs.Words.{is_marked, words_of, HaveLinks};
+ghost use Rattle.pc_records.specs.Slots.{slot_with, committed, pinned, is_held, is_available, saved, put_slot, settled, undone, taken_slot};
 
 use crate::slots::Cell;
+use pc_dirty::Side;
 use pc_types::{Class, Point, TxnNo, Value};
 use std::alloc::{AllocError, Global};
 use std::mem;
@@ -30,7 +33,7 @@ pub(crate) struct Writer {
 
 // The committed value of the slot's key.
 pub(crate) fn committed_of(slot: &Cell) -> Option<&Value>
-    ensures { option_copied result ≡ committed (slot_with 0 [] slot.now) }
+    ensures { option_copied result ≡ committed (slot_with First 0 [] slot.now) }
 {
     match &slot.writer {
         Some(writer) => writer.before.as_ref(),
@@ -40,7 +43,7 @@ pub(crate) fn committed_of(slot: &Cell) -> Option<&Value>
 
 // A copy of the committed value of the slot's key.
 pub(crate) fn committed_copy(alloc: Global, slot: &Cell) -> Result<Option<Value>, AllocError>
-    ensures { IfOk result (λ copy. copy ≡ committed (slot_with 0 [] slot.now)) }
+    ensures { IfOk result (λ copy. copy ≡ committed (slot_with First 0 [] slot.now)) }
 {
     match committed_of(slot) {
         Some(value) => Ok(Some(value.copy(alloc)?)),
@@ -49,10 +52,10 @@ pub(crate) fn committed_copy(alloc: Global, slot: &Cell) -> Result<Option<Value>
 }
 
 // What the slot's key has at the point, where it is in the closed set.
-pub(crate) fn pinned_of(slot: &Cell) -> Option<&Value>
-    ensures { option_copied result ≡ pinned (slot_with 0 [] slot.now) }
+pub(crate) fn pinned_of(slot: &Cell, side: Side) -> Option<&Value>
+    ensures { option_copied result ≡ pinned (slot_with side 0 [] slot.now) }
 {
-    if !slot.is_in_closed_set {
+    if !slot.is_in(side.other()) {
         return None;
     }
     match &slot.stable {
@@ -72,10 +75,10 @@ pub(crate) fn is_held(stable: &Stable) -> bool
 }
 
 // Whether what the slot holds is what its key has at the point.
-fn is_available(slot: &Cell, point: Point) -> bool
-    ensures { result ≡ is_available point (slot_with 0 [] slot.now) }
+fn is_available(slot: &Cell, side: Side, point: Point) -> bool
+    ensures { result ≡ is_available point (slot_with side 0 [] slot.now) }
 {
-    slot.is_in_closed_set && slot.mark.0 == point.0
+    slot.is_in(side.other()) && slot.mark.0 == point.0
 }
 
 // Whether the class is that of a transaction that began in prepare.
@@ -90,8 +93,9 @@ fn is_during(class: Class) -> bool
 
 // A transaction of the class is about to write the key, which it has not written yet: the slot may keep this copy of what
 // stands there.
-fn save(slot: &mut Cell, point: Point, class: Class, copy: Option<Value>)
-    ensures { (number : ℕ) (key : List ℕ) → slot_with number key slot.new ≡ saved point class copy (slot_with number key slot.old) }
+fn save(slot: &mut Cell, side: Side, point: Point, class: Class, copy: Option<Value>)
+    ensures slot { (number : ℕ) (key : List ℕ) → slot_with side number key slot.new ≡ saved point class copy (slot_with side number key slot.old) }
+    ensures words { words_of slot.new ≡ words_of slot.old }
 {
     match class {
         Class::Before => {}
@@ -101,7 +105,7 @@ fn save(slot: &mut Cell, point: Point, class: Class, copy: Option<Value>)
             }
         }
         Class::After => {
-            if slot.is_in_closed_set && slot.mark.0 != point.0 {
+            if slot.is_in(side.other()) && slot.mark.0 != point.0 {
                 slot.stable = Stable::Held(copy);
                 slot.mark = point;
             }
@@ -112,17 +116,19 @@ fn save(slot: &mut Cell, point: Point, class: Class, copy: Option<Value>)
 // The transaction writes the key in its place; the copy is one of what stands there.
 pub(crate) fn put(
     slot: &mut Cell,
+    side: Side,
     point: Point,
     transaction: TxnNo,
     class: Class,
     copy: Option<Value>,
     value: Option<Value>,
 )
-    ensures { (number : ℕ) (key : List ℕ) → slot_with number key slot.new ≡ put_slot point transaction class copy value (slot_with number key slot.old) }
+    ensures slot { (number : ℕ) (key : List ℕ) → slot_with side number key slot.new ≡ put_slot point transaction class copy value (slot_with side number key slot.old) }
+    ensures words { words_of slot.new ≡ words_of slot.old }
 {
     let before = mem::replace(&mut slot.live, value);
     if slot.writer.is_none() {
-        save(slot, point, class, copy);
+        save(slot, side, point, class, copy);
         slot.writer = Some(Writer {
             transaction,
             class,
@@ -131,47 +137,46 @@ pub(crate) fn put(
     }
 }
 
-// The write that stands in the slot, if there is one, is committed.
-pub(crate) fn settle(slot: &mut Cell, point: Point)
-    ensures { (number : ℕ) (key : List ℕ) → slot_with number key slot.new ≡ settled point (slot_with number key slot.old) }
+// The write that stands in the slot, if there is one, is committed. True where the slot was not in the open set, and is in it now.
+pub(crate) fn settle(slot: &mut Cell, side: Side, point: Point) -> bool
+    ensures slot { (number : ℕ) (key : List ℕ) → slot_with side number key slot.new ≡ settled point (slot_with side number key slot.old) }
+    ensures links { HaveLinks slot.old slot.new }
+    ensures fresh { result ≡ (is_some slot.old.writer && not (is_marked side slot.old)) }
 {
-    if let Some(writer) = slot.writer.take() {
-        if is_during(writer.class) {
-            if slot.is_in_closed_set {
-                slot.mark = point;
-            } else {
-                slot.stable = Stable::Empty;
-            }
+    let Some(writer) = slot.writer.take() else {
+        return false;
+    };
+    if is_during(writer.class) {
+        if slot.is_in(side.other()) {
+            slot.mark = point;
+        } else {
+            slot.stable = Stable::Empty;
         }
-        slot.is_in_open_set = true;
     }
+    let is_new = !slot.is_in(side);
+    slot.put_mark(side, true);
+    is_new
 }
 
 // The write that stands in the slot, if there is one, is undone.
-pub(crate) fn undo(slot: &mut Cell, point: Point)
-    ensures { (number : ℕ) (key : List ℕ) → slot_with number key slot.new ≡ undone point (slot_with number key slot.old) }
+pub(crate) fn undo(slot: &mut Cell, side: Side, point: Point)
+    ensures slot { (number : ℕ) (key : List ℕ) → slot_with side number key slot.new ≡ undone point (slot_with side number key slot.old) }
+    ensures words { words_of slot.new ≡ words_of slot.old }
 {
     if let Some(writer) = slot.writer.take() {
         slot.live = writer.before;
-        if is_during(writer.class) && !is_available(slot, point) {
+        if is_during(writer.class) && !is_available(slot, side, point) {
             slot.stable = Stable::Empty;
         }
     }
 }
 
 // The key of the slot is taken.
-pub(crate) fn take(slot: &mut Cell, point: Point)
-    ensures { (number : ℕ) (key : List ℕ) → slot_with number key slot.new ≡ taken_slot point (slot_with number key slot.old) }
+pub(crate) fn take(slot: &mut Cell, side: Side, point: Point)
+    ensures slot { (number : ℕ) (key : List ℕ) → slot_with side number key slot.new ≡ taken_slot point (slot_with side number key slot.old) }
+    ensures links { HaveLinks slot.old slot.new }
 {
-    slot.is_in_closed_set = false;
+    slot.put_mark(side.other(), false);
     slot.stable = Stable::Empty;
     slot.mark = point;
-}
-
-// The key of the slot is of the closed set where it was in the open one.
-pub(crate) fn close(slot: &mut Cell)
-    ensures { (number : ℕ) (key : List ℕ) → slot_with number key slot.new ≡ closed_slot (slot_with number key slot.old) }
-{
-    slot.is_in_closed_set = slot.is_in_open_set;
-    slot.is_in_open_set = false;
 }

@@ -12,7 +12,7 @@ use Rattle.pc_model.proofs.PairMapLaws.{same_database, of_get}
 use Rattle.pc_model.proofs.JoinLaws.{get_put, one_key}
 use Rattle.pc_model.proofs.MergeItemLaws.{items}
 use Rattle.pc_model.proofs.MergeLaws.{Merges, merges}
-use Rattle.pc_replay.proofs.TreeLemmas.{find-lookup}
+use Rattle.pc_model.proofs.KeyTreeLaws.{find-lookup}
 use Rattle.itertools.specs.declared.either_or_both.EitherOrBoth.{EitherOrBoth}
 
 abbrev Content : Type 0

@@ -10,7 +10,7 @@ use Rattle.pc_model.specs.Database.{key_cmp, key_order, same_bytes}
 use Rattle.pc_model.proofs.MapLaws.{get-insert, get-from_list, same_map}
 use Rattle.pc_model.proofs.PairMapLaws.{entries_of}
 use Rattle.pc_model.proofs.PlaceLaws.{rest_at}
-use Rattle.pc_replay.proofs.TreeLemmas.{find-lookup, sorted_is}
+use Rattle.pc_model.proofs.KeyTreeLaws.{find-lookup, sorted_is}
 
 module _ {X : Type 0} where
   -- an entry that is set in a tree is one in its map

@@ -1,5 +1,5 @@
 -- What a write or a read that is noted leaves.
-use Rattle.std.proofs.Common.{◌≡◌, ℕ, suc, ◌<◌, List, [], ◌∷◌, ◌++◌, length, set, get_or, Some, Result, Ok, Err, IfOk, IfErr, is_ok, is_some, slice_get, Option, refl, sym, ap, subst, ◌∙◌, cond, Bool, true, false, ◌||◌}
+use Rattle.std.proofs.Common.{◌≡◌, ℕ, List, [], ◌∷◌, ◌++◌, length, set, get_or, Some, Result, Ok, Err, IfOk, IfErr, is_ok, is_some, slice_get, Option, refl, sym, ap, subst, ◌∙◌, cond, Bool, true, false, ◌||◌}
 use Rattle.std.specs.Prelude.{insert}
 use Rattle.std.proofs.lemmas.List.{map_push, length-map}
 use Rattle.pc_types.specs.declared.Write.{Write}

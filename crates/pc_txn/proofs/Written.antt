@@ -1,6 +1,5 @@
 -- Writes and reads by the places of their keys.
-use Rattle.std.proofs.Common.{◌≡◌, ℕ, zero, suc, ◌+◌, ◌<◌, List, [], ◌∷◌, ◌++◌, length, set, Option, Some, None, option_map, is_some, refl, sym, ap, ◌∙◌, arith, cond, Bool, true, false, ◌||◌}
-use Rattle.std.specs.List.{list_any}
+use Rattle.std.proofs.Common.{◌≡◌, ℕ, zero, suc, ◌<◌, List, [], ◌∷◌, ◌++◌, length, set, Option, Some, None, option_map, is_some, refl, sym, ap, ◌∙◌, arith, cond, Bool, true, false, ◌||◌}
 use Rattle.pc_types.specs.declared.Write.{Write}
 use Rattle.pc_model.specs.Database.{same_bytes, with_write, written}
 use Rattle.pc_model.proofs.JoinLaws.{one_key}

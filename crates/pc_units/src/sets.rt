@@ -1,142 +1,107 @@
-//! Tests of the two sets: worked rows, and no slots at all.
-ghost use Rattle.std.specs.Prelude.{◌≡◌, ◌≤◌};
+//! Tests of the two sets: over a row of links, in the order of first addition.
+ghost use Rattle.std.specs.Prelude.{◌≡◌, ◌≢◌, ◌<◌, ◌≤◌, IfOk, length};
+ghost use Rattle.pc_dirty.specs.declared.side.Place.{Place};
+ghost use Rattle.pc_units.specs.Rows.{link_at, has_links};
 
-use pc_dirty::Dirty;
+use pc_chain::Links;
+use pc_dirty::{Dirty, Place, Side};
 use pc_types::SlotId;
+use std::alloc::{AllocError, Global};
 use std::test::Fail;
 
-// What is asked of the sets.
-#[derive(Clone, Copy, Debug)]
-enum Ask {
-    Add(u32),
-    Close,
-    Pop,
-    First,
-    IsEmpty,
-    ClosedLen,
-    OpenLen,
-    InOpen(u32),
-    InClosed(u32),
+// Two links for each number below a length.
+#[derive(Drop)]
+struct Row {
+    first: Vec<Option<Place>>,
+    second: Vec<Option<Place>>,
 }
 
-use Ask::{Add, Close, ClosedLen, First, InClosed, InOpen, IsEmpty, OpenLen, Pop};
+// Its two words of links.
+struct BySide;
 
-#[derive(Clone, Copy, Debug, PartialEq)]
-enum Told {
-    Done,
-    // The closed set isn't empty, so that none can be closed.
-    Busy,
-    Slot(u32),
-    Nothing,
-    Yes,
-    No,
-    Count(u32),
-}
+impl Links<BySide> for Row {
+    ghost use Rattle.std.specs.Prelude.{◌≡◌, ◌≢◌, ⊤};
+    ghost use Rattle.pc_dirty.specs.declared.side.Place.{Place};
+    ghost use Rattle.pc_units.specs.Rows.{link_at, has_links};
 
-use Told::{Busy, Count, Done, No, Nothing, Slot, Yes};
+    type Id = Place;
 
-fn yes(is: bool) -> Told {
-    if is { Yes } else { No }
-}
+    ghost has = { λ row place. has_links row.first.items row.second.items place };
 
-fn slot_of(found: Option<SlotId>) -> Told {
-    match found {
-        Some(SlotId(number)) => Slot(number),
-        None => Nothing,
-    }
-}
+    ghost next_of = { λ row place. link_at row.first.items row.second.items place };
 
-// Closes the open set where the closed one is empty.
-fn closed(sets: &mut Dirty) -> Told
-    ensures { sets.new.slots ≡ sets.old.slots }
-{
-    if sets.closed_is_empty() {
-        sets.close();
-        return Done;
-    }
-    Busy
-}
+    ghost beside = { λ a b. ⊤ };
 
-// Asks the sets.
-fn answer(sets: &mut Dirty, ask: Ask) -> Told
-    requires { 12 ≤ sets.old.slots }
-    ensures { sets.new.slots ≡ sets.old.slots }
-{
-    match ask {
-        Add(number) => {
-            sets.add(SlotId(number % 12));
-            Done
+    fn next(&self, id: Place) -> Option<Place> {
+        match id.side {
+            Side::First => self.first[id.slot.0 as usize],
+            Side::Second => self.second[id.slot.0 as usize],
         }
-        Close => closed(sets),
-        Pop => slot_of(sets.pop_closed()),
-        First => slot_of(sets.first_closed()),
-        IsEmpty => yes(sets.closed_is_empty()),
-        ClosedLen => Count(sets.closed_len()),
-        OpenLen => Count(sets.open_len()),
-        InOpen(number) => yes(sets.in_open(SlotId(number % 12))),
-        InClosed(number) => yes(sets.in_closed(SlotId(number % 12))),
     }
+
+    fn set_next(&mut self, id: Place, next: Option<Place>)
+        requires { has_links self.old.first.items self.old.second.items id }
+        ensures set { link_at self.new.first.items self.new.second.items id ≡ next }
+        ensures others { (other : Place) → other ≢ id → link_at self.new.first.items self.new.second.items other ≡ link_at self.old.first.items self.old.second.items other }
+        ensures has { (other : Place) → has_links self.old.first.items self.old.second.items other → has_links self.new.first.items self.new.second.items other }
+    {
+        match id.side {
+            Side::First => self.first[id.slot.0 as usize] = next,
+            Side::Second => self.second[id.slot.0 as usize] = next,
+        }
+    }
+
+    ghost beside_same = { λ a. tt };
+
+    ghost beside_then = { λ a b c p q. tt };
 }
 
-const ROWS: [(Ask, Told); 38] = [
-    // Empty.
-    (IsEmpty, Yes),
-    (Pop, Nothing),
-    (First, Nothing),
-    (OpenLen, Count(0)),
-    (ClosedLen, Count(0)),
-    // A slot that is added twice stands where it stood.
-    (Add(2), Done),
-    (Add(11), Done),
-    (Add(2), Done),
-    (OpenLen, Count(2)),
-    (InOpen(2), Yes),
-    (InClosed(2), No),
-    (IsEmpty, Yes),
-    (Pop, Nothing),
-    // Closed.
-    (Close, Done),
-    (OpenLen, Count(0)),
-    (ClosedLen, Count(2)),
-    (InOpen(2), No),
-    (InClosed(2), Yes),
-    (IsEmpty, No),
-    // A slot that is added while it is closed is in both.
-    (Add(11), Done),
-    (Add(3), Done),
-    (Add(2), Done),
-    (InOpen(2), Yes),
-    (InClosed(2), Yes),
-    (Close, Busy),
-    // In the order of first addition.
-    (First, Slot(2)),
-    (Pop, Slot(2)),
-    (InClosed(2), No),
-    (InOpen(2), Yes),
-    (First, Slot(11)),
-    (Pop, Slot(11)),
-    (IsEmpty, Yes),
-    (Pop, Nothing),
-    (Close, Done),
-    (Pop, Slot(11)),
-    (Pop, Slot(3)),
-    (Pop, Slot(2)),
-    (Pop, Nothing),
-];
+// A row of links to none.
+fn unlinked(alloc: Global, len: usize) -> Result<Row, AllocError>
+    ensures { IfOk result (λ row. (length row.first.items ≡ len) × (length row.second.items ≡ len)) }
+{
+    Ok(Row {
+        first: vec![in alloc; None; len]?,
+        second: vec![in alloc; None; len]?,
+    })
+}
 
-#[test]
-fn rows(rt: HostRuntime) -> Result<(), Fail> {
-    let mut sets = Dirty::new(rt.alloc(), 12)?;
-    for (ask, expected) in ROWS {
-        assert_eq!(rt; answer(&mut sets, ask), expected);
-    }
-    Ok(())
+// Of sets with the slots 2 and 0, which are closed, and 2 again, which is added then: how many are open and closed, the first
+// closed one, and what is taken, three times; and what is taken once the sets are closed again.
+fn used(row: &mut Row) -> ([u32; 3], [Option<SlotId>; 5])
+    requires { (3 ≤ length row.old.first.items) × (3 ≤ length row.old.second.items) }
+{
+    let mut sets = Dirty::new();
+    sets.add(row, SlotId(2));
+    sets.add(row, SlotId(0));
+    let before = sets.open_len(row);
+    sets.close(row);
+    sets.add(row, SlotId(2));
+    let opened = sets.open_len(row);
+    let closed = sets.closed_len(row);
+    let first = sets.first_closed(row);
+    let one = sets.pop_closed(row);
+    let two = sets.pop_closed(row);
+    let none = sets.pop_closed(row);
+    sets.close(row);
+    let again = sets.pop_closed(row);
+    ([before, opened, closed], [first, one, two, none, again])
 }
 
 #[test]
-fn no_slots_at_all(rt: HostRuntime) -> Result<(), Fail> {
-    let mut sets = Dirty::new(rt.alloc(), 0)?;
-    assert!(rt; sets.closed_is_empty());
-    assert_eq!(rt; sets.pop_closed(), None);
+fn sets_over_one_row(rt: HostRuntime) -> Result<(), Fail> {
+    let mut row = unlinked(rt.alloc(), 3)?;
+    let (counts, slots) = used(&mut row);
+    assert_eq!(rt; counts, [2, 1, 2]);
+    assert_eq!(rt;
+        slots,
+        [
+            Some(SlotId(2)),
+            Some(SlotId(2)),
+            Some(SlotId(0)),
+            None,
+            Some(SlotId(2))
+        ]
+    );
     Ok(())
 }

@@ -1,4 +1,4 @@
-use Rattle.std.proofs.Common.{◌≡◌, ◌↔◌, subst, All, List, IsTrue}
+use Rattle.std.proofs.Common.{◌↔◌, subst, All, List, IsTrue}
 use Rattle.pc_model.specs.Database.{Database, database_of}
 use Rattle.pc_replay.specs.Audits.{IsRight, TriplesRise}
 use Rattle.pc_replay.specs.declared.audits.CompleteFile.{CompleteFile}

@@ -1,4 +1,4 @@
-use Rattle.std.proofs.Common.{◌≡◌, ◌↔◌, subst, All, IsTrue}
+use Rattle.std.proofs.Common.{◌≡◌, ◌↔◌, subst, IsTrue}
 use Rattle.pc_model.specs.Database.{Database, database_of}
 use Rattle.pc_model.specs.Log.{after}
 use Rattle.pc_engine.proofs.checks.is_sound.Goals as goal

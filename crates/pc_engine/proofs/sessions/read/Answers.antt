@@ -1,4 +1,4 @@
-use Rattle.std.proofs.Common.{◌∙◌, ap, sym, false}
+use Rattle.std.proofs.Common.{◌∙◌, ap, sym}
 use Rattle.pc_types.specs.declared.Mode.TheVariants.{Shared}
 use Rattle.pc_model.specs.Locks.{outcome}
 use Rattle.pc_records.specs.Rows.{requests_on, record_of}

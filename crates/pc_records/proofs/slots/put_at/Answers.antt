@@ -1,6 +1,10 @@
 use Rattle.pc_records.specs.Slots.{put_slot}
 use Rattle.pc_records.proofs.TableSlots.{changed_slots}
+use Rattle.pc_records.proofs.KeepingSets.{changed_sets}
 use Rattle.pc_records.proofs.slots.put_at.Goals as goal
 
 pub returns-clause-slots : goal.returns-clause-slots
-returns-clause-slots c = changed_slots c.args.table.now c.args.id c.get_mut.result.now c.put.new.slot (put_slot c.args.point c.args.transaction c.args.class c.args.copy c.args.value) c.get_mut.ensures.slots c.get_mut.ensures.record_of c.put.ensures
+returns-clause-slots c = changed_slots c.args.side c.args.table.now c.args.id c.get_mut.result.now c.put.new.slot (put_slot c.args.point c.args.transaction c.args.class c.args.copy c.args.value) c.get_mut.ensures.slots c.get_mut.ensures.record_of c.put.ensures.slot
+
+pub returns-clause-sets : goal.returns-clause-sets
+returns-clause-sets c = changed_sets c.args.table.now.rows c.args.id c.get_mut.result.now c.put.new.slot c.get_mut.ensures.record_of c.put.ensures.words

@@ -1,10 +1,12 @@
 use Rattle.std.proofs.Common.{refl, sym}
 use Rattle.pc_records.specs.Slots.{slots_in}
 use Rattle.pc_records.proofs.Tidied.{not_granted}
+use Rattle.pc_records.proofs.KeepingSets.{sets_same}
 use Rattle.pc_records.proofs.slots.put_granted.Goals as goal
 
 pub returns-in_default : goal.returns-in_default
 returns-in_default c = record {
-  slots = sym (not_granted c.args.answer c.args.point c.args.transaction c.args.class c.args.copy c.args.value c.args.id (slots_in c.args.table.now.rows) c.in_default.not-Granted);
+  slots = sym (not_granted c.args.answer c.args.point c.args.transaction c.args.class c.args.copy c.args.value c.args.id (slots_in c.args.side c.args.table.now.rows) c.in_default.not-Granted);
   capacity = refl;
+  sets = sets_same c.args.table.now.rows;
 }

@@ -2,13 +2,15 @@ use Rattle.std.proofs.Common.{◌∙◌}
 use Rattle.pc_records.specs.Slots.{slots_in, undone}
 use Rattle.pc_records.proofs.Moments.{undone_key, undone_again}
 use Rattle.pc_records.proofs.SlotMoments.{writes_next, writes_done}
+use Rattle.pc_records.proofs.KeepingSets.{sets_then}
 use Rattle.pc_records.proofs.slots.undo_all.Goals as goal
 
 pub loop-write-preserved : goal.loop-write-preserved
 loop-write-preserved c = record {
+  sets = sets_then c.args.table.now.rows c.loop-write.table.rows c.undo_key.new.table.rows c.loop-write.invariant.sets c.undo_key.ensures.sets;
   capacity = c.undo_key.ensures.capacity ∙ c.loop-write.invariant.capacity;
-  rest = writes_next (undone c.args.point) (undone_key c.args.point) (undone_again c.args.point) c.args.writes.now c.loop-write.write-index c.write-item.result (slots_in c.args.table.now.rows) (slots_in c.loop-write.table.rows) (slots_in c.undo_key.new.table.rows) c.loop-write-test.true c.write-item.is c.undo_key.ensures.slots c.loop-write.invariant.rest;
+  rest = writes_next (undone c.args.point) (undone_key c.args.point) (undone_again c.args.point) c.args.writes.now c.loop-write.write-index c.write-item.result (slots_in c.args.side c.args.table.now.rows) (slots_in c.args.side c.loop-write.table.rows) (slots_in c.args.side c.undo_key.new.table.rows) c.loop-write-test.true c.write-item.is c.undo_key.ensures.slots c.loop-write.invariant.rest;
 }
 
 pub returns-clause-slots : goal.returns-clause-slots
-returns-clause-slots c = writes_done (undone c.args.point) (undone_key c.args.point) (undone_again c.args.point) c.args.writes.now c.loop-write.write-index (slots_in c.args.table.now.rows) (slots_in c.loop-write.table.rows) c.loop-write-test.false c.loop-write.invariant.rest
+returns-clause-slots c = writes_done (undone c.args.point) (undone_key c.args.point) (undone_again c.args.point) c.args.writes.now c.loop-write.write-index (slots_in c.args.side c.args.table.now.rows) (slots_in c.args.side c.loop-write.table.rows) c.loop-write-test.false c.loop-write.invariant.rest

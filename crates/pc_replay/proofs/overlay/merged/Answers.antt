@@ -8,7 +8,7 @@ use Rattle.pc_model.proofs.MergeItemLaws.{items_taken}
 use Rattle.pc_model.proofs.MergeLaws.{merged_items, goes_on, gathered_all}
 use Rattle.pc_replay.specs.Changes.{overlaid_there}
 use Rattle.pc_replay.proofs.ChangeLemmas.{overlaid_items, overlays, overlays_from, overlay_rises, overlay_map}
-use Rattle.pc_replay.proofs.TreeLemmas.{sorted_is}
+use Rattle.pc_model.proofs.KeyTreeLaws.{sorted_is}
 use Rattle.pc_replay.proofs.overlay.merged.Goals as goal
 use Rattle.pc_replay.proofs.overlay.merged.Goals.{In-Some, In-None}
 

@@ -31,13 +31,13 @@ returns-clause-full c =
 
 pub returns-clause-stands : goal.returns-clause-stands
 returns-clause-stands c =
-    stands_first _ c.pairs-pairs.result.now c.args.sessions c.pairs-pairs.ensures.rise c.pairs-pairs.ensures.pairs (ap (λ (t : Table). t.rows) c.in_ok-records.ensures) c.new.ensures refl c.in_ok-sessions.ensures (ap (λ (p : Phases). p.phase) c.new-2.ensures) (ap (λ (p : Phases). p.point) c.new-2.ensures) c.new-3.ensures.items c.new-4.ensures.items
-    c.new-6.ensures.items c.requires.start c.requires.sessions.1
+    stands_first _ c.pairs-pairs.result.now c.args.sessions c.pairs-pairs.ensures.rise c.pairs-pairs.ensures.pairs (ap (λ (t : Table). t.rows) c.in_ok-records.ensures) c.new.ensures refl c.in_ok-sessions.ensures (ap (λ (p : Phases). p.phase) c.new-2.ensures) (ap (λ (p : Phases). p.point) c.new-2.ensures) (ap (λ (t : Table). t.opened) c.in_ok-records.ensures) (ap (λ (t : Table). t.shut) c.in_ok-records.ensures)
+    c.new-4.ensures.items c.requires.start c.requires.sessions.1
 
 pub invariant_of-result : goal.invariant_of-result
 invariant_of-result c =
     rw c.new-2.ensures (
-      first_within _ _ _ _ _ _ c.args.sessions c.new.ensures c.in_ok-sessions.ensures c.requires.sessions.1 c.new-3.ensures.items c.new-4.ensures.items c.new-5.ensures.items c.new-6.ensures.items,
-      first_together _ _ _ _ c.args.capacity c.args.sessions c.pairs-pairs.result.now c.in_ok-records.ensures c.in_ok-sessions.ensures c.new-3.ensures.items c.new-4.ensures.items,
+      first_within _ _ _ _ _ _ c.args.sessions c.new.ensures c.in_ok-sessions.ensures c.requires.sessions.1 (ap (λ (t : Table). t.opened) c.in_ok-records.ensures) (ap (λ (t : Table). t.shut) c.in_ok-records.ensures) c.new-3.ensures.items c.new-4.ensures.items,
+      first_together _ _ _ _ c.args.capacity c.args.sessions c.pairs-pairs.result.now c.in_ok-records.ensures c.in_ok-sessions.ensures (ap (λ (t : Table). t.opened) c.in_ok-records.ensures) (ap (λ (t : Table). t.shut) c.in_ok-records.ensures),
       first_counted _ _ c.args.sessions refl c.in_ok-sessions.ensures,
     )

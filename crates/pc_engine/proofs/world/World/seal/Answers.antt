@@ -7,6 +7,7 @@ use Rattle.pc_engine.specs.Sessions.{actives_of}
 use Rattle.pc_engine.proofs.Counted.{advanced_counted}
 use Rattle.pc_engine.proofs.Within.{token_logged}
 use Rattle.pc_engine.proofs.Together.{all_during, sealed_together}
+use Rattle.pc_records.specs.Tables.{Table}
 use Rattle.pc_engine.proofs.world.World.seal.Goals as goal
 
 pub close-requires-clause-during : goal.close-requires-clause-during
@@ -21,7 +22,7 @@ invariant_of-self-2 c =
     let at_phase = ap (λ (p : Phases). p.phase) c.change_phase.ensures in
     let at_point = ap (λ (p : Phases). p.point) c.change_phase.ensures in (
       rw (at_phase, at_point) (search (rules, logged)),
-      rw (at_phase, at_point) (sealed_together c.self.inside.records c.close.new.self _ _ _ _ _ _ _ _ c.self.invariant.1 free.in_phase (sym (c.self.invariant.2 Before) ∙ free.none) (rw (c.point-point.ensures, at_point) at c.close.ensures) (search rules) (search rules)),
+      rw (at_phase, at_point) (sealed_together c.self.inside.records c.close.new.self _ _ _ _ _ _ _ _ c.self.invariant.1 free.in_phase (sym (c.self.invariant.2 Before) ∙ free.none) (rw (c.point-point.ensures, at_point) at c.close.ensures.closed) (ap (λ (t : Table). t.opened) c.close.ensures.closed) (ap (λ (t : Table). t.shut) c.close.ensures.closed)),
       advanced_counted c.self.inside.phases c.change_phase.new.phases change.Seal (actives_of c.self.inside.sessions.items) c.change_phase.ensures c.self.invariant.2,
     )
 

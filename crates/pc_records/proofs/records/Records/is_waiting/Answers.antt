@@ -7,5 +7,5 @@ use Rattle.pc_records.proofs.records.Records.is_waiting.Goals as goal
 
 pub returns : goal.returns
 returns c =
-    c.is_waiting.ensures.answer ∙ waits_same (slots_in c.self.inside.table.rows) c.self.inside.locks.queues c.args.transaction c.self.invariant.0
+    c.is_waiting.ensures.answer ∙ waits_same (slots_in c.self.inside.sets.side c.self.inside.table.rows) c.self.inside.locks.queues c.args.transaction c.self.invariant.0
     ∙ ap (λ (k : Table). is_waiting k.rows c.args.transaction) c.self.view_is

@@ -3,9 +3,26 @@ use Rattle.std.proofs.Common.{◌∙◌, ap}
 use Rattle.pc_records.specs.RowSteps.{is_waiting}
 use Rattle.pc_records.specs.Tables.{Table}
 use Rattle.pc_records.proofs.SlotWaiting.{waits_same}
+use Rattle.std.proofs.Common.{subst}
+use Rattle.pc_dirty.specs.declared.side.Side.{Side}
+use Rattle.std.proofs.lemmas.Result.{IfOk-weaker, on_err_weaker}
+use Rattle.pc_types.specs.declared.Mode.TheVariants.{Shared}
+use Rattle.pc_records.specs.RowSteps.{rows_after}
+use Rattle.pc_records.specs.Slots.{rows_of, AreKept, AreSound}
+use Rattle.pc_records.proofs.Listing.{kept_listed}
+use Rattle.pc_records.proofs.Views.{seen_again}
 use Rattle.pc_records.proofs.records.Records.share.Goals as goal
 
 pub share-requires-clause-ready : goal.share-requires-clause-ready
 share-requires-clause-ready c =
-    waits_same (slots_in c.self.inside.table.rows) c.self.inside.locks.queues c.args.transaction c.self.invariant.0
+    waits_same (slots_in c.self.inside.sets.side c.self.inside.table.rows) c.self.inside.locks.queues c.args.transaction c.self.invariant.0
     ∙ ap (λ (k : Table). is_waiting k.rows c.args.transaction) c.self.view_is ∙ c.requires.ready
+
+pub invariant_of-self : goal.invariant_of-self
+invariant_of-self c = (subst (λ (s : Side). AreKept (slots_in s c.share.new.table.rows) c.share.new.locks.queues) c.open_side.ensures c.share.ensures.kept, (c.share.ensures.count, subst (λ (s : Side). AreSound c.self.inside.point c.share.new.locks.queues (slots_in s c.share.new.table.rows)) c.open_side.ensures c.share.ensures.sound), kept_listed c.self.inside.table.rows c.share.new.table.rows c.self.inside.sets c.share.ensures.sets c.self.invariant.2)
+
+pub returns-clause-rows : goal.returns-clause-rows
+returns-clause-rows c = rw (← c.self.view_is) (IfOk-weaker c.share.result _ _ (λ answer h. seen_again c.self.inside.table c.share.new.table c.self.inside.sets c.share.new.locks.queues c.self.inside.point c.open_side.result (λ s. rows_after (rows_of c.self.inside.locks.queues (slots_in s c.self.inside.table.rows)) c.args.key.now c.args.transaction Shared answer) c.open_side.ensures c.share.ensures.sets c.self.invariant.2 c.share.ensures.capacity h c.share.ensures.pending) c.share.ensures.rows)
+
+pub returns-clause-err : goal.returns-clause-err
+returns-clause-err c = rw (← c.self.view_is) (on_err_weaker c.share.result (λ h. seen_again c.self.inside.table c.share.new.table c.self.inside.sets c.share.new.locks.queues c.self.inside.point c.open_side.result (λ s. rows_of c.self.inside.locks.queues (slots_in s c.self.inside.table.rows)) c.open_side.ensures c.share.ensures.sets c.self.invariant.2 c.share.ensures.capacity h c.share.ensures.pending) c.share.ensures.err)

@@ -1,0 +1,72 @@
+//! The slots of a table as the keeper of the two sets' links.
+ghost use Rattle.std.specs.Prelude.{◌≡◌, ◌≢◌};
+ghost use Rattle.pc_dirty.specs.declared.side.Place.{Place};
+ghost use Rattle.pc_table.specs.Rows.{HasRow};
+ghost use Rattle.pc_records.specs.Words.{link_of, with_link};
+ghost use Rattle.pc_records.specs.SetLists.{next_in, HasPlace, KeepRecords};
+
+use crate::slots::Cell;
+use pc_chain::Links;
+use pc_dirty::{Place, Side};
+use pc_table::Table;
+
+/// Marks the two words of each slot.
+pub(crate) struct BySets;
+
+impl Cell {
+    ghost use Rattle.std.specs.Prelude.{◌≡◌};
+    ghost use Rattle.pc_records.specs.Words.{link_of, with_link};
+
+    // What the link of the side leads to.
+    fn link(&self, side: Side) -> Option<Place>
+        ensures { result ≡ link_of side self.now }
+    {
+        match side {
+            Side::First => self.first.link,
+            Side::Second => self.second.link,
+        }
+    }
+
+    // Sets the link of the side.
+    fn put_link(&mut self, side: Side, link: Option<Place>)
+        ensures { self.new ≡ with_link side link self.old }
+    {
+        match side {
+            Side::First => self.first.link = link,
+            Side::Second => self.second.link = link,
+        }
+    }
+}
+
+impl Links<BySets> for Table<Cell> {
+    ghost use Rattle.std.specs.Prelude.{◌≡◌, ◌≢◌, refl};
+    ghost use Rattle.std.proofs.Common.{◌∙◌};
+    ghost use Rattle.pc_dirty.specs.declared.side.Place.{Place};
+    ghost use Rattle.pc_records.specs.SetLists.{next_in, HasPlace, KeepRecords};
+
+    type Id = Place;
+
+    ghost has = { λ table place. HasPlace table.rows place };
+
+    ghost next_of = { λ table place. next_in table.rows place };
+
+    ghost beside = { λ a b. KeepRecords a b };
+
+    fn next(&self, id: Place) -> Option<Place> {
+        self.get(id.slot).link(id.side)
+    }
+
+    fn set_next(&mut self, id: Place, next: Option<Place>)
+        requires { HasPlace self.old.rows id }
+        ensures set { next_in self.new.rows id ≡ next }
+        ensures others { (other : Place) → other ≢ id → next_in self.new.rows other ≡ next_in self.old.rows other }
+        ensures has { (other : Place) → HasPlace self.old.rows other → HasPlace self.new.rows other }
+        ensures beside { KeepRecords self.old self.new }
+    {
+        self.get_mut(id.slot).put_link(id.side, next);
+    }
+
+    ghost beside_same = { λ a. record { capacity = refl; rows = refl } };
+
+    ghost beside_then = { λ a b c p q. record { capacity = q.capacity ∙ p.capacity; rows = q.rows ∙ p.rows } };
+}
