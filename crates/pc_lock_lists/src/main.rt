@@ -9,6 +9,8 @@
 
 mod counts;
 mod lists;
+mod row;
+mod slots;
 mod table;
 
 use counts::Counts;

@@ -1,8 +1,7 @@
 //! The locks of two slots, with what three transactions know of their own requests.
-ghost use Rattle.std.specs.Prelude.{◌≡◌, ◌≤◌, ◌<◌, length, IfOk};
 
-use pc_locks::Locks;
-use pc_types::{Mode, Outcome, Refusal, SlotId, TxnNo};
+use crate::slots::Slots;
+use pc_types::{Mode, Outcome, Refusal, TxnNo};
 use std::alloc::Global;
 
 /// What an event came to.
@@ -28,10 +27,9 @@ pub struct Event {
 /// transaction, and for each transaction and slot.
 #[derive(Drop)]
 pub struct Table {
-    locks: Locks,
+    slots: Slots,
     dead: u8,
     requests: u8,
-    ghost slots: { 2 ≤ length locks.queues },
 }
 
 fn bit_of(transaction: u8) -> u8 {
@@ -63,9 +61,9 @@ fn request_bit(transaction: u8, slot: u32) -> u8 {
 impl Table {
     /// No request stands.
     pub fn new(alloc: Global) -> Result<Table, Refusal> {
-        let locks = Locks::new(alloc, 2)?;
+        let slots = Slots::new(alloc)?;
         Ok(Table {
-            locks,
+            slots,
             dead: 0,
             requests: 0,
         })
@@ -82,19 +80,20 @@ impl Table {
     fn request(&mut self, transaction: u8, slot: u32, mode: Mode) -> Result<Answer, Refusal> {
         let is_dead = self.dead & bit_of(transaction) != 0;
         let number = TxnNo(u64::from(transaction));
-        if is_dead || self.locks.is_waiting(number) {
+        if is_dead {
             return Ok(Answer::NotAsked);
         }
-        match self.locks.request(number, SlotId(slot % 2), mode)? {
-            Outcome::Granted => {
+        match self.slots.request(number, slot, mode)? {
+            None => Ok(Answer::NotAsked),
+            Some(Outcome::Granted) => {
                 self.requests |= request_bit(transaction, slot);
                 Ok(Answer::Granted)
             }
-            Outcome::Queued => {
+            Some(Outcome::Queued) => {
                 self.requests |= request_bit(transaction, slot);
                 Ok(Answer::Queued)
             }
-            Outcome::Died => {
+            Some(Outcome::Died) => {
                 self.dead |= bit_of(transaction);
                 Ok(Answer::Died)
             }
@@ -102,7 +101,7 @@ impl Table {
     }
 
     fn release(&mut self, transaction: u8) -> Answer {
-        let released = self.locks.release_one(TxnNo(u64::from(transaction)));
+        let released = self.slots.release_one(TxnNo(u64::from(transaction)));
         if let Some(slot) = released {
             self.requests &= !request_bit(transaction, slot.0);
         }
@@ -119,14 +118,14 @@ impl Table {
     pub fn standing(&self) -> u8 {
         let mut bits = 0;
         for transaction in 1..4u8 {
-            if self.locks.is_waiting(TxnNo(u64::from(transaction))) {
+            if self.slots.is_waiting(TxnNo(u64::from(transaction))) {
                 bits |= bit_of(transaction);
             }
         }
-        if self.locks.has_request(SlotId(0)) {
+        if self.slots.has_request(0) {
             bits |= 8;
         }
-        if self.locks.has_request(SlotId(1)) {
+        if self.slots.has_request(1) {
             bits |= 16;
         }
         bits

@@ -1,11 +1,14 @@
-mod ChainRows
 mod Grants
+mod Growing
+pub mod KeeperLaws
 mod LineLemmas
 mod ListLemmas
 mod LocksLemmas
 mod Outcomes
+mod QueueLines
 mod RemovalLemmas
-pub mod QueueRowLaws
+pub mod SlotLaws
+mod Soundness
 pub mod StateLaws
 mod TableLemmas
 mod Upgrades

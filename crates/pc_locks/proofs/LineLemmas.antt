@@ -6,7 +6,7 @@ use Rattle.pc_chain.specs.declared.chain.Chain.{Chain}
 use Rattle.pc_chain.specs.Chains as chains
 use Rattle.pc_chain.specs.Chains.{IsChain, Leads, AllHave, Avoids, AreApart}
 use Rattle.pc_chain.proofs.ChainLaws.{have_from, chain_still, chain_fits}
-use Rattle.pc_locks.specs.Lines.{most, next_in, follow, ids_of, IsLine, AreLines}
+use Rattle.pc_locks.specs.Lines.{most, next_in, follow, ids_of, IsLine, AreLines, Become}
 use Rattle.pc_locks.specs.States.{is_listed, first_of, rest_of, last_of}
 
 pub row_fits : (n : ℕ) → n < 2 ^ 64 → n ≤ most
@@ -47,12 +47,6 @@ apart_lists xs (y ∷ ys) f =
 -- an id of one chain is in no other
 pub others_lack : (links : List (Option ℕ)) (lines : ℕ → Chain ℕ) (j k id : ℕ) → AreLines links lines → j ≢ k → is_listed (ids_of links (lines j)) id ≡ true → is_listed (ids_of links (lines k)) id ≡ false
 others_lack links lines j k id a n e = false_from_ne_true (is_listed (ids_of links (lines k)) id) (λ f. n (a.apart j k id e f))
-
--- one of the chains became this list, and the others stayed
-pub record Become (links new_links : List (Option ℕ)) (lines new_lines : ℕ → Chain ℕ) (k : ℕ) (new : List ℕ) : Type 0 where
-  pub kept : AreLines new_links new_lines
-  pub this : ids_of new_links (new_lines k) ≡ new
-  pub others : (j : ℕ) → j ≢ k → ids_of new_links (new_lines j) ≡ ids_of links (lines j)
 
 pub become : (links new_links : List (Option ℕ)) (lines new_lines : ℕ → Chain ℕ) (k : ℕ) (new : List ℕ) → length new_links ≤ most → AreLines links lines → IsLine new_links (new_lines k) new →
     ((j : ℕ) → j ≢ k → IsLine new_links (new_lines j) (ids_of links (lines j))) →

@@ -9,9 +9,9 @@ use Rattle.pc_chain.specs.declared.chain.Chain.{Chain}
 use Rattle.pc_chain.specs.Chains as chains
 use Rattle.pc_chain.specs.Chains.{Avoids, AreApart}
 use Rattle.pc_locks.specs.declared.ends.Ends.{Ends}
-use Rattle.pc_locks.specs.Lines.{most, next_in, ids_of, IsLine, AreLines, AreLists, ends_at, no_ends, entry_ids}
+use Rattle.pc_locks.specs.Lines.{most, next_in, ids_of, IsLine, AreLines, AreLists, Become, ends_at, no_ends, entry_ids}
 use Rattle.pc_locks.specs.States.{slots_of, is_listed, first_of, rest_of, last_of, AreFilled}
-use Rattle.pc_locks.proofs.LineLemmas.{Become, become_pushed, become_fewer, avoids_unlisted, ids_same, lines_same, lines_none, rest_listed, same_first, same_rest}
+use Rattle.pc_locks.proofs.LineLemmas.{become_pushed, become_fewer, avoids_unlisted, ids_same, lines_same, lines_none, rest_listed, same_first, same_rest}
 
 -- what is looked up is the chain's ids
 pub found_ids : (links : List (Option ℕ)) (entries : List (ℕ × Ends)) (t : ℕ) → slots_of (entry_ids links entries) t ≡ ids_of links (ends_at entries t).chain

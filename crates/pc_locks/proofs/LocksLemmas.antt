@@ -1,132 +1,110 @@
 -- What an answer and a release make of what locks keep.
-use Rattle.std.proofs.Common.{◌≡◌, ◌≢◌, ℕ, zero, suc, ◌==◌, ◌<◌, ◌⊎◌, inl, inr, List, [], ◌∷◌, length, set, replicate, Option, Some, None, is_some, Bool, true, false, not, cond, refl, sym, ◌∙◌, ap, subst, arith}
+use Rattle.std.proofs.Common.{◌≡◌, ◌≢◌, ℕ, ◌==◌, ◌⊎◌, inl, inr, List, [], ◌∷◌, Option, Some, None, is_some, Bool, true, false, not, cond, refl, sym, ◌∙◌, ap, subst}
 use Rattle.std.proofs.lemmas.Bool.{eqb-true, eq-eqb, or_cases, false_from_ne_true}
 use Rattle.std.specs.Prelude.{Result, Ok, Err, IfOk, OnErr, filter}
-use Rattle.std.specs.List.{list_any}
 use Rattle.std.specs.Map.{lookup}
 use Rattle.std.specs.BTreeMap.{is_at}
 use Rattle.std.specs.Ordering.{nat_cmp}
-use Rattle.std.proofs.lemmas.List.{length-set}
 use Rattle.pc_types.specs.declared.Mode.{Mode}
 use Rattle.pc_types.specs.declared.Outcome.{Outcome}
 use Rattle.pc_model.specs.Locks.{Queue, request_in, is_ungranted, granted_behind, queue_after, queue_without, outcome, outcome_of_new, outcome_beside}
 use Rattle.pc_types.specs.declared.Outcome.TheVariants.{Granted, Died}
 use Rattle.pc_model.specs.Queues.{stands_in, AreOnce, IsSettled}
 use Rattle.pc_model.proofs.QueueLaws.{kept_after, kept_without, new_outcome, once_filter}
-use Rattle.pc_locks.specs.States.{slots_of, queue_at, is_listed, first_of, rest_of, last_of, slots_after, AreLinked, AreFilled, AreSettled}
-use Rattle.pc_locks.specs.Tables.{Nodes, node_at, request_at, slot_at, place_of, requests, slots, ids_at, queues_in, lists_in, IsTable, IsOwn, Keeps}
-use Rattle.pc_locks.proofs.QueueRowLaws.{at_cases, none_at}
+use Rattle.pc_chain.specs.declared.chain.Chain.{Chain}
+use Rattle.pc_locks.specs.Lines.{AreLines, ids_by}
+use Rattle.pc_locks.specs.States.{Queues, State, slots_of, queue_at, is_listed, is_waiting, first_of, rest_of, last_of, slots_after, SetsAt, AreAlike, AreLinked, AreFilled, AreSettled}
+use Rattle.pc_locks.specs.Tables.{Nodes, node_at, request_at, slot_at, place_of, requests, slots, queues_in, lists_in, IsTable, IsOwn}
+use Rattle.pc_locks.specs.Keepers.{Kept, AreEnds}
+use Rattle.pc_locks.proofs.SlotLaws.{sets_cases, sets_twice}
 use Rattle.pc_locks.proofs.StateLaws.{linked_new, linked_again, linked_result, linked_pop, again_kind, any_waits, none_waiting, last_listed}
-use Rattle.pc_locks.proofs.TableLemmas.{pair_first, map_changed, found_queue, found_slots, length_queues, slot_placed, transaction_placed, requests_same, slots_agree}
+use Rattle.pc_locks.proofs.TableLemmas.{pair_first, found_slots, slot_placed, transaction_placed, requests_same, slots_agree}
 use Rattle.pc_locks.proofs.RemovalLemmas.{member_stands}
 use Rattle.pc_locks.proofs.Upgrades.{own_is}
 
--- requests of one slot changed in place
-pub record SlotChanged (nodes new_nodes : Nodes) (ids : List (List ℕ)) (entries : List (ℕ × List ℕ)) (s : ℕ) (q : Queue) : Type 0 where
-  pub table : IsTable new_nodes ids entries
-  pub queues : queues_in new_nodes ids ≡ set (queues_in nodes ids) s q
-  pub lists : lists_in new_nodes entries ≡ lists_in nodes entries
+-- what is kept and what is seen of it
+pub record Keeps (nodes : Nodes) (ids : ℕ → List ℕ) (entries : List (ℕ × List ℕ)) : Type 0 where
+  pub table : IsTable nodes ids entries
+  pub settled : (slot : ℕ) → IsSettled (queue_at (queues_in nodes ids) slot)
+  pub linked : AreLinked (queues_in nodes ids) (lists_in nodes entries)
 
-set_ids : (ids : List (List ℕ)) (s : ℕ) → set ids s (ids_at ids s) ≡ ids
-set_ids [] s = refl
-set_ids (x ∷ xs) zero = refl
-set_ids (x ∷ xs) (suc s) = ap (λ ys. x ∷ ys) (set_ids xs s)
+-- requests of one slot changed in place
+pub record SlotChanged (nodes new_nodes : Nodes) (ids : ℕ → List ℕ) (entries : List (ℕ × List ℕ)) (s : ℕ) (q : Queue) : Type 0 where
+  pub table : IsTable new_nodes ids entries
+  pub queues : SetsAt (queues_in nodes ids) (queues_in new_nodes ids) s q
+  pub lists : lists_in new_nodes entries ≡ lists_in nodes entries
 
 lists_placed : (nodes new_nodes : Nodes) (entries : List (ℕ × List ℕ)) → ((id : ℕ) → place_of (node_at new_nodes id) ≡ place_of (node_at nodes id)) → lists_in new_nodes entries ≡ lists_in nodes entries
 lists_placed nodes new_nodes [] p = refl
 lists_placed nodes new_nodes (e ∷ es) p = rw (slots_agree nodes new_nodes e.1 (λ id l. p id), lists_placed nodes new_nodes es p)
 
-pub slot_changed : (nodes new_nodes : Nodes) (ids : List (List ℕ)) (entries : List (ℕ × List ℕ)) (s : ℕ) (q : Queue) → IsTable nodes ids entries → s < length ids → requests new_nodes (ids_at ids s) ≡ q →
-    ((id : ℕ) → place_of (node_at new_nodes id) ≡ place_of (node_at nodes id)) → ((id : ℕ) → is_listed (ids_at ids s) id ≡ false → node_at new_nodes id ≡ node_at nodes id) → SlotChanged nodes new_nodes ids entries s q
-slot_changed nodes new_nodes ids entries s q a h e places others = record {
+pub slot_changed : (nodes new_nodes : Nodes) (ids : ℕ → List ℕ) (entries : List (ℕ × List ℕ)) (s : ℕ) (q : Queue) → IsTable nodes ids entries → requests new_nodes (ids s) ≡ q →
+    ((id : ℕ) → place_of (node_at new_nodes id) ≡ place_of (node_at nodes id)) → ((id : ℕ) → is_listed (ids s) id ≡ false → node_at new_nodes id ≡ node_at nodes id) → SlotChanged nodes new_nodes ids entries s q
+slot_changed nodes new_nodes ids entries s q a e places others = record {
   table = record {
     in_queue = λ u id l. let p = a.in_queue u id l in (p.0, places id ∙ p.1);
     in_list = λ t id l. let p = a.in_list t id l in (p.0, places id ∙ p.1, p.2);
     with_both = λ id u t p. a.with_both id u t (sym (places id) ∙ p);
     filled = a.filled;
   };
-  queues = ap (queues_in new_nodes) (sym (set_ids ids s)) ∙ map_changed [] (requests nodes) (requests new_nodes) ids s (ids_at ids s) q h e
-      (λ u n. requests_same nodes new_nodes (ids_at ids u) (λ id l. others id (false_from_ne_true (is_listed (ids_at ids s) id) (λ f.
-      let p = a.in_queue u id l in
-      let r = a.in_queue s id f in
-      n (pair_first u p.0 s r.0 (sym p.1 ∙ r.1))))));
+  queues = record {
+    this = e;
+    others = λ u n. requests_same nodes new_nodes (ids u) (λ id l. others id (false_from_ne_true (is_listed (ids s) id) (λ f.
+        let p = a.in_queue u id l in
+        let r = a.in_queue s id f in
+        n (pair_first u p.0 s r.0 (sym p.1 ∙ r.1)))));
+  };
   lists = lists_placed nodes new_nodes entries places;
 }
 
-settled_set : (queues : List Queue) (s : ℕ) (q : Queue) → s < length queues → IsSettled q → ((u : ℕ) → IsSettled (queue_at queues u)) → (u : ℕ) → IsSettled (queue_at (set queues s q) u)
-settled_set queues s q h k f u = elim (at_cases queues s q u h) [
+settled_set : (queues new_queues : Queues) (s : ℕ) (q : Queue) → SetsAt queues new_queues s q → IsSettled q → ((u : ℕ) → IsSettled (queue_at queues u)) → (u : ℕ) → IsSettled (queue_at new_queues u)
+settled_set queues new_queues s q h k f u = elim (sets_cases queues new_queues s q h u) [
   | inl c ↦ subst IsSettled (sym c.1) k
   | inr c ↦ subst IsSettled (sym c.1) (f u)
 ]
 
-pub keeps_new : (nodes : Nodes) (ids : List (List ℕ)) (entries : List (ℕ × List ℕ)) (n : ℕ) → nodes ≡ [] → ids ≡ replicate n [] → entries ≡ [] → Keeps nodes ids entries
-keeps_new nodes ids entries n g e f = subst (λ xs. Keeps xs ids entries) (sym g) (subst (λ xs. Keeps [] xs entries) (sym e) (subst (Keeps [] (replicate n [])) (sym f) (record {
+pub keeps_new : (ids : ℕ → List ℕ) → ((u : ℕ) → ids u ≡ []) → Keeps [] ids []
+keeps_new ids e = record {
   table = record {
-    in_queue = λ u id l. absurd (let z : false ≡ true = ap (λ xs. is_listed xs id) (sym (no_ids n u)) ∙ l in cc);
+    in_queue = λ u id l. absurd (let z : false ≡ true = sym (ap (λ xs. is_listed xs id) (e u)) ∙ l in cc);
     in_list = λ t id l. absurd cc;
     with_both = λ id u t p. absurd (let z : ◌≡◌ {A = Option (ℕ × ℕ)} None (Some (u, t)) = p in cc);
     filled = λ t k. absurd (let z : false ≡ true = k in cc);
   };
-  settled = λ u. subst IsSettled (sym (ap (λ xs. queue_at xs u) (no_queues n) ∙ none_at n u)) (tt, tt);
-  linked = subst (λ queues. AreLinked queues []) (sym (no_queues n)) (linked_new n);
-})))
-  where
-    no_ids : (n u : ℕ) → ids_at (replicate n []) u ≡ []
-    no_ids zero u = refl
-    no_ids (suc n) zero = refl
-    no_ids (suc n) (suc u) = no_ids n u
+  settled = λ u. subst IsSettled (sym (ap (requests []) (e u))) (tt, tt);
+  linked = linked_new (queues_in [] ids) (λ u. ap (requests []) (e u));
+}
 
-    no_queues : (n : ℕ) → queues_in [] (replicate n []) ≡ replicate n []
-    no_queues zero = refl
-    no_queues (suc n) = ap (λ xs. [] ∷ xs) (no_queues n)
+pub once_at : (nodes : Nodes) (ids : ℕ → List ℕ) (entries : List (ℕ × List ℕ)) (s : ℕ) → Keeps nodes ids entries → AreOnce (requests nodes (ids s))
+once_at nodes ids entries s k = (k.settled s).1
 
-pub queues_new : (nodes : Nodes) (ids : List (List ℕ)) (n : ℕ) → ids ≡ replicate n [] → queues_in nodes ids ≡ replicate n []
-queues_new nodes ids n e = ap (queues_in nodes) e ∙ no_queues n
-  where
-    no_queues : (n : ℕ) → queues_in nodes (replicate n []) ≡ replicate n []
-    no_queues zero = refl
-    no_queues (suc n) = ap (λ xs. [] ∷ xs) (no_queues n)
-
-pub within_ids : (nodes : Nodes) (ids : List (List ℕ)) (s : ℕ) → s < length (queues_in nodes ids) → s < length ids
-within_ids nodes ids s h = omega (arith, h, length_queues nodes ids)
-
-pub within_queues : (nodes : Nodes) (ids : List (List ℕ)) (s : ℕ) → s < length ids → s < length (queues_in nodes ids)
-within_queues nodes ids s h = omega (arith, h, length_queues nodes ids)
-
-pub once_at : (nodes : Nodes) (ids : List (List ℕ)) (entries : List (ℕ × List ℕ)) (s : ℕ) → Keeps nodes ids entries → AreOnce (requests nodes (ids_at ids s))
-once_at nodes ids entries s k = subst AreOnce (found_queue nodes ids s) (k.settled s).1
-
-pub own_at : (nodes : Nodes) (ids : List (List ℕ)) (s t : ℕ) (previous : Option ℕ) (id : ℕ) → IsOwn nodes (ids_at ids s) t previous id → request_in (queue_at (queues_in nodes ids) s) t ≡ Some (request_at nodes id)
-own_at nodes ids s t previous id o = ap (λ q. request_in q t) (found_queue nodes ids s) ∙ own_is nodes (ids_at ids s) t previous id o
+pub own_at : (nodes : Nodes) (ids : ℕ → List ℕ) (s t : ℕ) (previous : Option ℕ) (id : ℕ) → IsOwn nodes (ids s) t previous id → request_in (queue_at (queues_in nodes ids) s) t ≡ Some (request_at nodes id)
+own_at nodes ids s t previous id o = own_is nodes (ids s) t previous id o
 
 -- a transaction's own request was answered again
-pub record Answered (nodes new_nodes : Nodes) (ids : List (List ℕ)) (entries : List (ℕ × List ℕ)) (s t : ℕ) (mode : Mode) (o : Outcome) : Type 0 where
+pub record Answered (nodes new_nodes : Nodes) (ids : ℕ → List ℕ) (entries : List (ℕ × List ℕ)) (s t : ℕ) (mode : Mode) (o : Outcome) : Type 0 where
   pub keeps : Keeps new_nodes ids entries
   pub told : o ≡ outcome (queue_at (queues_in nodes ids) s) t mode
-  pub queues : queues_in new_nodes ids ≡ set (queues_in nodes ids) s (queue_after (queue_at (queues_in nodes ids) s) t mode o)
+  pub queues : SetsAt (queues_in nodes ids) (queues_in new_nodes ids) s (queue_after (queue_at (queues_in nodes ids) s) t mode o)
   pub lists : lists_in new_nodes entries ≡ lists_in nodes entries
   pub kind : (o ≡ Granted) ⊎ (o ≡ Died)
 
-pub answered_again : (nodes new_nodes : Nodes) (ids : List (List ℕ)) (entries : List (ℕ × List ℕ)) (s t : ℕ) (previous : Option ℕ) (id : ℕ) (mode : Mode) (o : Outcome) → Keeps nodes ids entries → s < length ids →
-    is_ungranted (request_in (queue_at (queues_in nodes ids) s) t) ≡ false → IsOwn nodes (ids_at ids s) t previous id →
-    o ≡ outcome_beside (requests nodes (ids_at ids s)) t mode (Some (request_at nodes id)) → requests new_nodes (ids_at ids s) ≡ queue_after (requests nodes (ids_at ids s)) t mode o →
-    ((x : ℕ) → place_of (node_at new_nodes x) ≡ place_of (node_at nodes x)) → ((x : ℕ) → is_listed (ids_at ids s) x ≡ false → node_at new_nodes x ≡ node_at nodes x) →
+pub answered_again : (nodes new_nodes : Nodes) (ids : ℕ → List ℕ) (entries : List (ℕ × List ℕ)) (s t : ℕ) (previous : Option ℕ) (id : ℕ) (mode : Mode) (o : Outcome) → Keeps nodes ids entries →
+    is_ungranted (request_in (queue_at (queues_in nodes ids) s) t) ≡ false → IsOwn nodes (ids s) t previous id →
+    o ≡ outcome_beside (requests nodes (ids s)) t mode (Some (request_at nodes id)) → requests new_nodes (ids s) ≡ queue_after (requests nodes (ids s)) t mode o →
+    ((x : ℕ) → place_of (node_at new_nodes x) ≡ place_of (node_at nodes x)) → ((x : ℕ) → is_listed (ids s) x ≡ false → node_at new_nodes x ≡ node_at nodes x) →
     Answered nodes new_nodes ids entries s t mode o
-answered_again nodes new_nodes ids entries s t previous id mode o k h w own told queue places others =
+answered_again nodes new_nodes ids entries s t previous id mode o k w own told queue places others =
     let q = queue_at (queues_in nodes ids) s in
-    let same = found_queue nodes ids s in
     let mine : request_in q t ≡ Some (request_at nodes id) = own_at nodes ids s t previous id own in
-    let told_here : o ≡ outcome_beside q t mode (Some (request_at nodes id)) = told ∙ ap (λ x. outcome_beside x t mode (Some (request_at nodes id))) (sym same) in
-    let told_all : o ≡ outcome q t mode = told_here ∙ ap (outcome_beside q t mode) (sym mine) in
-    let kind = again_kind q t mode (request_at nodes id) o told_here in
-    let c = slot_changed nodes new_nodes ids entries s (queue_after q t mode o) k.table h (queue ∙ ap (λ x. queue_after x t mode o) (sym same)) places others in
-    let n = within_queues nodes ids s h in
+    let told_all : o ≡ outcome q t mode = told ∙ ap (outcome_beside q t mode) (sym mine) in
+    let kind = again_kind q t mode (request_at nodes id) o told in
+    let c = slot_changed nodes new_nodes ids entries s (queue_after q t mode o) k.table queue places others in
     record {
       keeps = record {
         table = c.table;
-        settled = λ u. subst (λ queues. IsSettled (queue_at queues u)) (sym c.queues) (settled_set (queues_in nodes ids) s (queue_after q t mode o) n (kept_after q t mode o (k.settled s) w (sym told_all)) k.settled u);
-        linked = subst (λ queues. AreLinked queues (lists_in new_nodes entries)) (sym c.queues) (subst (AreLinked (set (queues_in nodes ids) s (queue_after q t mode o))) (sym c.lists)
-            (linked_again (queues_in nodes ids) (lists_in nodes entries) s t mode (request_at nodes id) o n kind mine k.linked));
+        settled = settled_set (queues_in nodes ids) (queues_in new_nodes ids) s (queue_after q t mode o) c.queues (kept_after q t mode o (k.settled s) w (sym told_all)) k.settled;
+        linked = subst (AreLinked (queues_in new_nodes ids)) (sym c.lists) (linked_again (queues_in nodes ids) (queues_in new_nodes ids) (lists_in nodes entries) s t mode (request_at nodes id) o c.queues kind mine k.linked);
       };
       told = told_all;
       queues = c.queues;
@@ -134,83 +112,61 @@ answered_again nodes new_nodes ids entries s t previous id mode o k h w own told
       kind = kind;
     }
 
-settled_result : {A E : Type 0} (result : Result A E) (told : A → Outcome) (queues new_queues : List Queue) (s t : ℕ) (mode : Mode) → s < length queues → stands_in (queue_at queues s) t ≡ false →
+settled_result : {A E : Type 0} (result : Result A E) (told : A → Outcome) (queues new_queues : Queues) (s t : ℕ) (mode : Mode) → stands_in (queue_at queues s) t ≡ false →
     is_ungranted (request_in (queue_at queues s) t) ≡ false →
-    IfOk result (λ a. told a ≡ outcome_of_new (queue_at queues s) t mode) → IfOk result (λ a. new_queues ≡ set queues s (queue_after (queue_at queues s) t mode (told a))) → OnErr result (new_queues ≡ queues) →
+    IfOk result (λ a. told a ≡ outcome_of_new (queue_at queues s) t mode) → IfOk result (λ a. SetsAt queues new_queues s (queue_after (queue_at queues s) t mode (told a))) → OnErr result ((u : ℕ) → queue_at new_queues u ≡ queue_at queues u) →
     ((u : ℕ) → IsSettled (queue_at queues u)) → (u : ℕ) → IsSettled (queue_at new_queues u)
-settled_result (Ok a) told queues new_queues s t mode h f w o q err k u =
-    subst (λ x. IsSettled (queue_at x u)) (sym q) (settled_set queues s (queue_after (queue_at queues s) t mode (told a)) h
-    (kept_after (queue_at queues s) t mode (told a) (k s) w (new_outcome (queue_at queues s) t mode f ∙ sym o)) k u)
-settled_result (Err x) told queues new_queues s t mode h f w o q err k u = subst (λ y. IsSettled (queue_at y u)) (sym err) (k u)
+settled_result (Ok a) told queues new_queues s t mode f w o q err k u =
+    settled_set queues new_queues s (queue_after (queue_at queues s) t mode (told a)) q
+    (kept_after (queue_at queues s) t mode (told a) (k s) w (new_outcome (queue_at queues s) t mode f ∙ sym o)) k u
+settled_result (Err x) told queues new_queues s t mode f w o q err k u = subst IsSettled (sym (err u)) (k u)
 
-first_part : {A E : Type 0} (P Q : Type 0) (result : Result A E) → OnErr result (P × Q) → OnErr result P
-first_part P Q (Ok a) p = tt
-first_part P Q (Err x) p = p.0
+queues_part : {A E : Type 0} (a b : State) (result : Result A E) → OnErr result (AreAlike a b) → OnErr result ((u : ℕ) → queue_at a.queues u ≡ queue_at b.queues u)
+queues_part a b (Ok x) p = tt
+queues_part a b (Err x) p = p.queues
 
 -- a transaction's first request was answered
-pub keeps_first : {A E : Type 0} (result : Result A E) (told : A → Outcome) (nodes new_nodes : Nodes) (ids new_ids : List (List ℕ)) (entries new_entries : List (ℕ × List ℕ)) (s t : ℕ) (mode : Mode) → Keeps nodes ids entries → s < length ids →
+pub keeps_first : {A E : Type 0} (result : Result A E) (told : A → Outcome) (nodes new_nodes : Nodes) (ids new_ids : ℕ → List ℕ) (entries new_entries : List (ℕ × List ℕ)) (s t : ℕ) (mode : Mode) → Keeps nodes ids entries →
     stands_in (queue_at (queues_in nodes ids) s) t ≡ false → ((u : ℕ) → is_ungranted (request_in (queue_at (queues_in nodes ids) u) t) ≡ false) → IsTable new_nodes new_ids new_entries →
     IfOk result (λ a. told a ≡ outcome_of_new (queue_at (queues_in nodes ids) s) t mode) →
-    IfOk result (λ a. queues_in new_nodes new_ids ≡ set (queues_in nodes ids) s (queue_after (queue_at (queues_in nodes ids) s) t mode (told a))) →
+    IfOk result (λ a. SetsAt (queues_in nodes ids) (queues_in new_nodes new_ids) s (queue_after (queue_at (queues_in nodes ids) s) t mode (told a))) →
     IfOk result (λ a. slots_of (lists_in new_nodes new_entries) t ≡ slots_after (slots_of (lists_in nodes entries) t) s false (told a)) →
     ((u : ℕ) → u ≢ t → slots_of (lists_in new_nodes new_entries) u ≡ slots_of (lists_in nodes entries) u) →
-    OnErr result ((queues_in new_nodes new_ids ≡ queues_in nodes ids) × (lists_in new_nodes new_entries ≡ lists_in nodes entries)) → Keeps new_nodes new_ids new_entries
-keeps_first result told nodes new_nodes ids new_ids entries new_entries s t mode k h f w table o q l others err = record {
+    OnErr result (AreAlike (record { queues = queues_in new_nodes new_ids; lists = lists_in new_nodes new_entries }) (record { queues = queues_in nodes ids; lists = lists_in nodes entries })) → Keeps new_nodes new_ids new_entries
+keeps_first result told nodes new_nodes ids new_ids entries new_entries s t mode k f w table o q l others err = record {
   table = table;
-  settled = settled_result result told (queues_in nodes ids) (queues_in new_nodes new_ids) s t mode (within_queues nodes ids s h) f (w s) o q (first_part _ _ result err) k.settled;
-  linked = linked_result result told (queues_in nodes ids) (queues_in new_nodes new_ids) (lists_in nodes entries) (lists_in new_nodes new_entries) s t mode (within_queues nodes ids s h) f w q l others err k.linked;
+  settled = settled_result result told (queues_in nodes ids) (queues_in new_nodes new_ids) s t mode f (w s) o q (queues_part _ _ result err) k.settled;
+  linked = linked_result result told (queues_in nodes ids) (queues_in new_nodes new_ids) (lists_in nodes entries) (lists_in new_nodes new_entries) s t mode f w q l others err k.linked;
 }
 
-queue_set : (queues : List Queue) (s : ℕ) (x : Queue) → s < length queues → queue_at (set queues s x) s ≡ x
-queue_set [] s x h = absurd (omega (arith, h))
-queue_set (y ∷ ys) zero x h = refl
-queue_set (y ∷ ys) (suc s) x h = queue_set ys s x (omega (arith, h))
-
 -- the requests that are left where one was taken out
-left_queue : (nodes taken : Nodes) (ids new_ids : List (List ℕ)) (s : ℕ) (kept : Queue) → s < length new_ids → queues_in taken new_ids ≡ set (queues_in nodes ids) s kept → (s < length (queues_in nodes ids)) × (requests taken (ids_at new_ids s) ≡ kept)
-left_queue nodes taken ids new_ids s kept h e =
-    let many : length (queues_in nodes ids) ≡ length new_ids = sym (length-set (queues_in nodes ids) s kept) ∙ (sym (ap length e) ∙ length_queues taken new_ids) in
-    let n : s < length (queues_in nodes ids) = omega (arith, h, many) in
-    (n, sym (found_queue taken new_ids s) ∙ (ap (λ x. queue_at x s) e ∙ queue_set (queues_in nodes ids) s kept n))
-
-pub once_left : (nodes taken : Nodes) (ids new_ids : List (List ℕ)) (entries : List (ℕ × List ℕ)) (s t : ℕ) → Keeps nodes ids entries → s < length new_ids →
-    queues_in taken new_ids ≡ set (queues_in nodes ids) s (filter (λ r. not (r.transaction == t)) (queue_at (queues_in nodes ids) s)) → AreOnce (requests taken (ids_at new_ids s))
-once_left nodes taken ids new_ids entries s t k h e =
-    let kept = filter (λ r. not (r.transaction == t)) (queue_at (queues_in nodes ids) s) in
-    subst AreOnce (sym (left_queue nodes taken ids new_ids s kept h e).1) (once_filter (λ r. not (r.transaction == t)) (queue_at (queues_in nodes ids) s) (k.settled s).1)
+pub once_left : (nodes taken : Nodes) (ids new_ids : ℕ → List ℕ) (s t : ℕ) → AreOnce (queue_at (queues_in nodes ids) s) →
+    SetsAt (queues_in nodes ids) (queues_in taken new_ids) s (filter (λ r. not (r.transaction == t)) (queue_at (queues_in nodes ids) s)) → AreOnce (requests taken (new_ids s))
+once_left nodes taken ids new_ids s t k e = subst AreOnce (sym e.this) (once_filter (λ r. not (r.transaction == t)) (queue_at (queues_in nodes ids) s) k)
 
 -- a request was taken out, and then others were granted
-pub record Released (nodes taken new_nodes : Nodes) (ids new_ids : List (List ℕ)) (entries new_entries : List (ℕ × List ℕ)) (s t : ℕ) : Type 0 where
+pub record Released (nodes taken new_nodes : Nodes) (ids new_ids : ℕ → List ℕ) (entries new_entries : List (ℕ × List ℕ)) (s t : ℕ) : Type 0 where
   pub keeps : Keeps new_nodes new_ids new_entries
-  pub queues : queues_in new_nodes new_ids ≡ set (queues_in nodes ids) s (queue_without (queue_at (queues_in nodes ids) s) t)
+  pub queues : SetsAt (queues_in nodes ids) (queues_in new_nodes new_ids) s (queue_without (queue_at (queues_in nodes ids) s) t)
   pub lists : lists_in new_nodes new_entries ≡ lists_in taken new_entries
 
-set_twice : (queues : List Queue) (s : ℕ) (p q : Queue) → set (set queues s p) s q ≡ set queues s q
-set_twice [] s p q = refl
-set_twice (x ∷ xs) zero p q = refl
-set_twice (x ∷ xs) (suc s) p q = ap (λ ys. x ∷ ys) (set_twice xs s p q)
-
-pub released : (nodes taken new_nodes : Nodes) (ids new_ids : List (List ℕ)) (entries new_entries : List (ℕ × List ℕ)) (s t : ℕ) → Keeps nodes ids entries → s < length new_ids → IsTable taken new_ids new_entries →
+pub released : (nodes taken new_nodes : Nodes) (ids new_ids : ℕ → List ℕ) (entries new_entries : List (ℕ × List ℕ)) (s t : ℕ) → Keeps nodes ids entries → IsTable taken new_ids new_entries →
     Some s ≡ first_of (slots_of (lists_in nodes entries) t) → slots_of (lists_in taken new_entries) t ≡ rest_of (slots_of (lists_in nodes entries) t) →
     ((u : ℕ) → u ≢ t → slots_of (lists_in taken new_entries) u ≡ slots_of (lists_in nodes entries) u) →
-    queues_in taken new_ids ≡ set (queues_in nodes ids) s (filter (λ r. not (r.transaction == t)) (queue_at (queues_in nodes ids) s)) →
-    requests new_nodes (ids_at new_ids s) ≡ granted_behind [] (requests taken (ids_at new_ids s)) →
-    ((x : ℕ) → place_of (node_at new_nodes x) ≡ place_of (node_at taken x)) → ((x : ℕ) → is_listed (ids_at new_ids s) x ≡ false → node_at new_nodes x ≡ node_at taken x) →
+    SetsAt (queues_in nodes ids) (queues_in taken new_ids) s (filter (λ r. not (r.transaction == t)) (queue_at (queues_in nodes ids) s)) →
+    requests new_nodes (new_ids s) ≡ granted_behind [] (requests taken (new_ids s)) →
+    ((x : ℕ) → place_of (node_at new_nodes x) ≡ place_of (node_at taken x)) → ((x : ℕ) → is_listed (new_ids s) x ≡ false → node_at new_nodes x ≡ node_at taken x) →
     Released nodes taken new_nodes ids new_ids entries new_entries s t
-released nodes taken new_nodes ids new_ids entries new_entries s t k h table given list others queues granted places stay =
+released nodes taken new_nodes ids new_ids entries new_entries s t k table given list others queues granted places stay =
     let q = queue_at (queues_in nodes ids) s in
-    let kept = filter (λ r. not (r.transaction == t)) q in
-    let l = left_queue nodes taken ids new_ids s kept h queues in
-    let n = l.0 in
-    let left = l.1 in
-    let c = slot_changed taken new_nodes new_ids new_entries s (queue_without q t) table h (granted ∙ ap (granted_behind []) left) places stay in
-    let all : queues_in new_nodes new_ids ≡ set (queues_in nodes ids) s (queue_without q t) = c.queues ∙ (ap (λ x. set x s (queue_without q t)) queues ∙ set_twice (queues_in nodes ids) s kept (queue_without q t)) in
+    let c = slot_changed taken new_nodes new_ids new_entries s (queue_without q t) table (granted ∙ ap (granted_behind []) queues.this) places stay in
+    let all : SetsAt (queues_in nodes ids) (queues_in new_nodes new_ids) s (queue_without q t) = sets_twice _ _ _ s (filter (λ r. not (r.transaction == t)) q) (queue_without q t) queues c.queues in
     record {
       keeps = record {
         table = c.table;
-        settled = λ u. subst (λ x. IsSettled (queue_at x u)) (sym all) (settled_set (queues_in nodes ids) s (queue_without q t) n (kept_without q t (k.settled s)) k.settled u);
-        linked = subst (λ x. AreLinked x (lists_in new_nodes new_entries)) (sym all) (linked_pop (queues_in nodes ids) (lists_in nodes entries) (lists_in new_nodes new_entries) s t n given
-            (ap (λ x. slots_of x t) c.lists ∙ list) (λ u m. ap (λ x. slots_of x u) c.lists ∙ others u m) k.linked);
+        settled = settled_set (queues_in nodes ids) (queues_in new_nodes new_ids) s (queue_without q t) all (kept_without q t (k.settled s)) k.settled;
+        linked = linked_pop (queues_in nodes ids) (queues_in new_nodes new_ids) (lists_in nodes entries) (lists_in new_nodes new_entries) s t all given
+            (ap (λ x. slots_of x t) c.lists ∙ list) (λ u m. ap (λ x. slots_of x u) c.lists ∙ others u m) k.linked;
       };
       queues = all;
       lists = c.lists;
@@ -245,20 +201,19 @@ last_none nodes (x ∷ []) e = absurd cc
 last_none nodes (x ∷ y ∷ ys) e = last_none nodes (y ∷ ys) e
 
 -- whether a transaction waits is told by its last request
-pub waits_last : (nodes : Nodes) (ids : List (List ℕ)) (entries : List (ℕ × List ℕ)) (t id : ℕ) → Keeps nodes ids entries → Some id ≡ last_of (slots_of entries t) →
-    not (request_at nodes id).granted ≡ list_any (λ queue. is_ungranted (request_in queue t)) (queues_in nodes ids)
+pub waits_last : (nodes : Nodes) (ids : ℕ → List ℕ) (entries : List (ℕ × List ℕ)) (t id : ℕ) → Keeps nodes ids entries → Some id ≡ last_of (slots_of entries t) →
+    not (request_at nodes id).granted ≡ is_waiting (record { queues = queues_in nodes ids; lists = lists_in nodes entries }) t
 waits_last nodes ids entries t id k e =
     let p = k.table.in_list t id (last_listed (slots_of entries t) id e) in
     let s = p.0 in
     let owner : (request_at nodes id).transaction ≡ t = transaction_placed nodes id s t p.1 in
-    let here : request_in (queue_at (queues_in nodes ids) s) t ≡ Some (request_at nodes id) =
-    ap (λ q. request_in q t) (found_queue nodes ids s) ∙ (ap (request_in (requests nodes (ids_at ids s))) (sym owner) ∙ once_found nodes (ids_at ids s) id (once_at nodes ids entries s k) p.2) in
+    let here : request_in (queue_at (queues_in nodes ids) s) t ≡ Some (request_at nodes id) = ap (request_in (requests nodes (ids s))) (sym owner) ∙ once_found nodes (ids s) id (once_at nodes ids entries s k) p.2 in
     let last : Some s ≡ last_of (slots_of (lists_in nodes entries) t) =
     ap Some (sym (slot_placed nodes id s t p.1)) ∙ (last_slots nodes (slots_of entries t) id e ∙ sym (ap last_of (found_slots nodes entries t))) in
     sym (ap is_ungranted here) ∙ any_waits (queues_in nodes ids) (lists_in nodes entries) t s k.linked last
 
-pub waits_never : (nodes : Nodes) (ids : List (List ℕ)) (entries : List (ℕ × List ℕ)) (t : ℕ) → Keeps nodes ids entries → None ≡ last_of (slots_of entries t) →
-    false ≡ list_any (λ queue. is_ungranted (request_in queue t)) (queues_in nodes ids)
+pub waits_never : (nodes : Nodes) (ids : ℕ → List ℕ) (entries : List (ℕ × List ℕ)) (t : ℕ) → Keeps nodes ids entries → None ≡ last_of (slots_of entries t) →
+    false ≡ is_waiting (record { queues = queues_in nodes ids; lists = lists_in nodes entries }) t
 waits_never nodes ids entries t k e = none_waiting (queues_in nodes ids) (lists_in nodes entries) t k.linked (last_none nodes (slots_of entries t) e ∙ sym (ap last_of (found_slots nodes entries t)))
 
 -- what is seen of what is kept
@@ -278,5 +233,12 @@ filled_lists nodes entries f = λ t k. ap (λ xs. is_some (first_of xs)) (found_
     as_many [] = refl
     as_many (x ∷ xs) = refl
 
-pub keeps_settled : (nodes : Nodes) (ids : List (List ℕ)) (entries : List (ℕ × List ℕ)) → Keeps nodes ids entries → AreSettled (record { queues = queues_in nodes ids; lists = lists_in nodes entries })
+keeps_settled : (nodes : Nodes) (ids : ℕ → List ℕ) (entries : List (ℕ × List ℕ)) → Keeps nodes ids entries → AreSettled (record { queues = queues_in nodes ids; lists = lists_in nodes entries })
 keeps_settled nodes ids entries k = record { settled = k.settled; linked = k.linked; filled = filled_lists nodes entries k.table.filled }
+
+-- beside the ends
+pub ends_keep : (ends : ℕ → Chain ℕ) (kept : Kept) → AreEnds ends kept → Keeps kept.nodes (ids_by kept.links ends) kept.entries
+ends_keep ends kept a = record { table = a.tied.table; settled = a.settled.settled; linked = a.settled.linked }
+
+pub keep_ends : (ends : ℕ → Chain ℕ) (kept : Kept) → AreLines kept.links ends → Keeps kept.nodes (ids_by kept.links ends) kept.entries → AreEnds ends kept
+keep_ends ends kept l k = record { tied = record { lines = l; table = k.table }; settled = keeps_settled kept.nodes (ids_by kept.links ends) kept.entries k }

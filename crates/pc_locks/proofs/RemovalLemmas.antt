@@ -1,16 +1,17 @@
 -- What taking a request out makes of the table.
-use Rattle.std.proofs.Common.{◌≡◌, ◌≢◌, ℕ, ◌==◌, ◌<◌, ◌⊎◌, inl, inr, List, [], ◌∷◌, ◌++◌, length, set, Option, Some, None, Bool, true, false, ◌||◌, not, cond, refl, sym, ◌∙◌, ap, subst, zero, suc, arith}
+use Rattle.std.proofs.Common.{◌≡◌, ◌≢◌, ℕ, ◌==◌, ◌⊎◌, inl, inr, List, [], ◌∷◌, ◌++◌, Option, Some, None, Bool, true, false, ◌||◌, not, cond, refl, sym, ◌∙◌, ap, subst}
 use Rattle.std.proofs.lemmas.Bool.{eqb-true, eq-eqb, cases_eq, or_cases, or_right}
 use Rattle.std.specs.Prelude.{filter}
-use Rattle.std.proofs.lemmas.List.{map-append, length-set}
+use Rattle.std.proofs.lemmas.List.{map-append}
 use Rattle.std.proofs.lemmas.List.Folds.{list_any-append}
 use Rattle.pc_types.specs.declared.Request.{Request}
 use Rattle.pc_model.specs.Locks.{Queue}
 use Rattle.pc_model.specs.Queues.{stands_in, AreOnce}
-use Rattle.pc_locks.specs.States.{slots_of, queue_at, is_listed, first_of, rest_of, AreDifferent, AreFilled}
-use Rattle.pc_locks.specs.Tables.{Nodes, node_at, request_at, slot_at, place_of, requests, slots, ids_at, queues_in, lists_in, IsTable, IsUnlinked}
+use Rattle.pc_locks.specs.States.{slots_of, queue_at, is_listed, first_of, rest_of, SetsAt, AreDifferent, AreFilled}
+use Rattle.pc_locks.specs.Tables.{Nodes, node_at, request_at, slot_at, place_of, requests, slots, queues_in, lists_in, IsTable, IsUnlinked}
 use Rattle.pc_locks.proofs.LineLemmas.{rest_listed}
-use Rattle.pc_locks.proofs.TableLemmas.{pair_first, pair_second, map_changed, found_slots, found_queue, slot_placed, transaction_placed, requests_same, slots_agree, ids_changed}
+use Rattle.pc_locks.proofs.SlotLaws.{sets_cases}
+use Rattle.pc_locks.proofs.TableLemmas.{pair_first, pair_second, found_slots, slot_placed, transaction_placed, requests_same, slots_agree}
 
 split_first : (xs : List ℕ) (x : ℕ) → Some x ≡ first_of xs → xs ≡ x ∷ rest_of xs
 split_first [] x e = absurd cc
@@ -68,29 +69,30 @@ filter_one (x ∷ xs) behind r t e f g = by (x.transaction == t) e (λ h. filter
     by false h ih = ap (λ q. x ∷ q) (ih h)
 
 -- the transaction's first request
-pub record First (nodes : Nodes) (ids : List (List ℕ)) (entries : List (ℕ × List ℕ)) (s t id : ℕ) : Type 0 where
+pub record First (nodes : Nodes) (ids : ℕ → List ℕ) (entries : List (ℕ × List ℕ)) (s t id : ℕ) : Type 0 where
   pub place : place_of (node_at nodes id) ≡ Some (s, t)
   pub listed : is_listed (slots_of entries t) id ≡ true
-  pub stands : is_listed (ids_at ids s) id ≡ true
+  pub stands : is_listed (ids s) id ≡ true
 
-the_first : (nodes : Nodes) (ids : List (List ℕ)) (entries : List (ℕ × List ℕ)) (t id : ℕ) → IsTable nodes ids entries → Some id ≡ first_of (slots_of entries t) → First nodes ids entries (slot_at nodes id) t id
+the_first : (nodes : Nodes) (ids : ℕ → List ℕ) (entries : List (ℕ × List ℕ)) (t id : ℕ) → IsTable nodes ids entries → Some id ≡ first_of (slots_of entries t) → First nodes ids entries (slot_at nodes id) t id
 the_first nodes ids entries t id a e =
     let l : is_listed (slots_of entries t) id ≡ true = ap (λ xs. is_listed xs id) (split_first (slots_of entries t) id e) ∙ ap (λ b. b || is_listed (rest_of (slots_of entries t)) id) (eq-eqb id id refl) in
     let p = a.in_list t id l in
     let s : slot_at nodes id ≡ p.0 = slot_placed nodes id p.0 t p.1 in
-    record { place = p.1 ∙ ap (λ u. Some (u, t)) (sym s); listed = l; stands = ap (λ u. is_listed (ids_at ids u) id) s ∙ p.2 }
+    record { place = p.1 ∙ ap (λ u. Some (u, t)) (sym s); listed = l; stands = ap (λ u. is_listed (ids u) id) s ∙ p.2 }
 
-pub first_at : (nodes : Nodes) (ids : List (List ℕ)) (entries : List (ℕ × List ℕ)) (s t id : ℕ) → IsTable nodes ids entries → Some id ≡ first_of (slots_of entries t) → s ≡ slot_at nodes id → First nodes ids entries s t id
+first_at : (nodes : Nodes) (ids : ℕ → List ℕ) (entries : List (ℕ × List ℕ)) (s t id : ℕ) → IsTable nodes ids entries → Some id ≡ first_of (slots_of entries t) → s ≡ slot_at nodes id → First nodes ids entries s t id
 first_at nodes ids entries s t id a e f = subst (λ u. First nodes ids entries u t id) (sym f) (the_first nodes ids entries t id a e)
 
-pub listed_within : (ids : List (List ℕ)) (s id : ℕ) → is_listed (ids_at ids s) id ≡ true → s < length ids
-listed_within [] s id e = absurd cc
-listed_within (x ∷ xs) zero id e = omega arith
-listed_within (x ∷ xs) (suc s) id e = let h = listed_within xs s id e in omega (arith, h)
+-- it stands in its slot's queue
+pub first_stands : (nodes : Nodes) (ids : ℕ → List ℕ) (entries : List (ℕ × List ℕ)) (s t id : ℕ) → IsTable nodes ids entries → Some id ≡ first_of (slots_of entries t) → s ≡ slot_at nodes id → stands_in (requests nodes (ids s)) t ≡ true
+first_stands nodes ids entries s t id a e f =
+    let first = first_at nodes ids entries s t id a e f in
+    member_stands nodes (ids s) id t first.stands (transaction_placed nodes id s t first.place)
 
-pub record Removed (nodes new_nodes : Nodes) (ids new_ids : List (List ℕ)) (entries new_entries : List (ℕ × List ℕ)) (s t id : ℕ) : Type 0 where
+pub record Removed (nodes new_nodes : Nodes) (ids new_ids : ℕ → List ℕ) (entries new_entries : List (ℕ × List ℕ)) (s t id : ℕ) : Type 0 where
   pub was : IsTable nodes ids entries
-  pub once : AreOnce (requests nodes (ids_at ids s))
+  pub once : AreOnce (requests nodes (ids s))
   pub different : AreDifferent (slots nodes (slots_of entries t))
   pub given : Some id ≡ first_of (slots_of entries t)
   pub slot : slot_at nodes id ≡ s
@@ -101,12 +103,9 @@ pub record Removed (nodes new_nodes : Nodes) (ids new_ids : List (List ℕ)) (en
   pub lists_stay : (u : ℕ) → u ≢ t → slots_of new_entries u ≡ slots_of entries u
   pub filled : AreFilled new_entries
 
-module _ (nodes new_nodes : Nodes) (ids new_ids : List (List ℕ)) (entries new_entries : List (ℕ × List ℕ)) (s t id : ℕ) (a : Removed nodes new_nodes ids new_ids entries new_entries s t id) where
+module _ (nodes new_nodes : Nodes) (ids new_ids : ℕ → List ℕ) (entries new_entries : List (ℕ × List ℕ)) (s t id : ℕ) (a : Removed nodes new_nodes ids new_ids entries new_entries s t id) where
   first : First nodes ids entries s t id
   first = subst (λ u. First nodes ids entries u t id) a.slot (the_first nodes ids entries t id a.was a.given)
-
-  within : s < length ids
-  within = listed_within ids s id first.stands
 
   owner : (request_at nodes id).transaction ≡ t
   owner = transaction_placed nodes id s t first.place
@@ -136,28 +135,28 @@ module _ (nodes new_nodes : Nodes) (ids new_ids : List (List ℕ)) (entries new_
     ]
   ]
 
-  changed : (u : ℕ) → ((u ≡ s) × (ids_at new_ids u ≡ a.unlinked.before ++ a.unlinked.behind)) ⊎ ((u ≢ s) × (ids_at new_ids u ≡ ids_at ids u))
-  changed u = subst (λ row. ((u ≡ s) × (ids_at row u ≡ a.unlinked.before ++ a.unlinked.behind)) ⊎ ((u ≢ s) × (ids_at row u ≡ ids_at ids u))) (sym a.unlinked.new) (ids_changed ids s (a.unlinked.before ++ a.unlinked.behind) u within)
+  changed : (u : ℕ) → ((u ≡ s) × (new_ids u ≡ a.unlinked.before ++ a.unlinked.behind)) ⊎ ((u ≢ s) × (new_ids u ≡ ids u))
+  changed u = sets_cases ids new_ids s (a.unlinked.before ++ a.unlinked.behind) a.unlinked.new u
 
-  left_listed : (x : ℕ) → is_listed (a.unlinked.before ++ a.unlinked.behind) x ≡ true → (x ≢ id) × (is_listed (ids_at ids s) x ≡ true)
+  left_listed : (x : ℕ) → is_listed (a.unlinked.before ++ a.unlinked.behind) x ≡ true → (x ≢ id) × (is_listed (ids s) x ≡ true)
   left_listed x e = elim (parts_listed a.unlinked.before a.unlinked.behind x e) [
     | inl f ↦ ((λ g. not_before (ap (is_listed a.unlinked.before) (sym g) ∙ f)), ap (λ xs. is_listed xs x) a.unlinked.split ∙ front_listed a.unlinked.before (a.unlinked.id ∷ a.unlinked.behind) x f)
     | inr f ↦ ((λ g. not_behind (ap (is_listed a.unlinked.behind) (sym g) ∙ f)), ap (λ xs. is_listed xs x) a.unlinked.split ∙ back_listed a.unlinked.before (a.unlinked.id ∷ a.unlinked.behind) x (or_right (a.unlinked.id == x) (is_listed a.unlinked.behind x) f))
   ]
 
-  queue_left : (u x : ℕ) → is_listed (ids_at new_ids u) x ≡ true → (x ≢ id) × (is_listed (ids_at ids u) x ≡ true)
+  queue_left : (u x : ℕ) → is_listed (new_ids u) x ≡ true → (x ≢ id) × (is_listed (ids u) x ≡ true)
   queue_left u x e = elim (changed u) [
     | inl c ↦
         let l = left_listed x (ap (λ xs. is_listed xs x) (sym c.1) ∙ e) in
-        (l.0, ap (λ v. is_listed (ids_at ids v) x) c.0 ∙ l.1)
+        (l.0, ap (λ v. is_listed (ids v) x) c.0 ∙ l.1)
     | inr c ↦
-        let l : is_listed (ids_at ids u) x ≡ true = ap (λ xs. is_listed xs x) (sym c.1) ∙ e in
+        let l : is_listed (ids u) x ≡ true = ap (λ xs. is_listed xs x) (sym c.1) ∙ e in
         ((λ g. let p = a.was.in_queue u x l in c.0 (pair_first u p.0 s t (sym p.1 ∙ (ap (λ y. place_of (node_at nodes y)) g ∙ first.place)))), l)
   ]
 
-  queue_keeps : (u x : ℕ) → x ≢ id → is_listed (ids_at ids u) x ≡ true → is_listed (ids_at new_ids u) x ≡ true
+  queue_keeps : (u x : ℕ) → x ≢ id → is_listed (ids u) x ≡ true → is_listed (new_ids u) x ≡ true
   queue_keeps u x n e = elim (changed u) [
-    | inl c ↦ ap (λ xs. is_listed xs x) c.1 ∙ elim (parts_listed a.unlinked.before (a.unlinked.id ∷ a.unlinked.behind) x (ap (λ xs. is_listed xs x) (sym a.unlinked.split) ∙ (ap (λ v. is_listed (ids_at ids v) x) (sym c.0) ∙ e))) [
+    | inl c ↦ ap (λ xs. is_listed xs x) c.1 ∙ elim (parts_listed a.unlinked.before (a.unlinked.id ∷ a.unlinked.behind) x (ap (λ xs. is_listed xs x) (sym a.unlinked.split) ∙ (ap (λ v. is_listed (ids v) x) (sym c.0) ∙ e))) [
       | inl f ↦ front_listed a.unlinked.before a.unlinked.behind x f
       | inr f ↦ elim (or_cases (a.unlinked.id == x) (is_listed a.unlinked.behind x) f) [
         | inl g ↦ absurd (n (sym (eqb-true a.unlinked.id x g) ∙ same_id))
@@ -212,7 +211,7 @@ module _ (nodes new_nodes : Nodes) (ids new_ids : List (List ℕ)) (entries new_
     filled = a.filled;
   }
 
-  left_requests : requests new_nodes (a.unlinked.before ++ a.unlinked.behind) ≡ filter (λ r. not (r.transaction == t)) (requests nodes (ids_at ids s))
+  left_requests : requests new_nodes (a.unlinked.before ++ a.unlinked.behind) ≡ filter (λ r. not (r.transaction == t)) (requests nodes (ids s))
   left_requests =
       requests_same nodes new_nodes (a.unlinked.before ++ a.unlinked.behind) (λ x e. a.nodes_stay x (left_listed x e).0)
       ∙ (map-append (request_at nodes) a.unlinked.before a.unlinked.behind
@@ -220,12 +219,12 @@ module _ (nodes new_nodes : Nodes) (ids new_ids : List (List ℕ)) (entries new_
       ∙ (ap (filter (λ r. not (r.transaction == t))) (map-append (request_at nodes) a.unlinked.before (a.unlinked.id ∷ a.unlinked.behind))
       ∙ filter_one (requests nodes a.unlinked.before) (requests nodes a.unlinked.behind) (request_at nodes a.unlinked.id) t a.unlinked.none_before a.unlinked.passed none_behind)))
 
-  pub removed_queues : queues_in new_nodes new_ids ≡ set (queues_in nodes ids) s (filter (λ r. not (r.transaction == t)) (queue_at (queues_in nodes ids) s))
-  removed_queues =
-      ap (queues_in new_nodes) a.unlinked.new
-      ∙ map_changed [] (requests nodes) (requests new_nodes) ids s (a.unlinked.before ++ a.unlinked.behind) (filter (λ r. not (r.transaction == t)) (queue_at (queues_in nodes ids) s)) within
-      (left_requests ∙ ap (filter (λ r. not (r.transaction == t))) (sym (found_queue nodes ids s)))
-      (λ u n. requests_same nodes new_nodes (ids_at ids u) (λ x e. a.nodes_stay x (λ g. let p = a.was.in_queue u x e in n (pair_first u p.0 s t (sym p.1 ∙ (ap (λ y. place_of (node_at nodes y)) g ∙ first.place))))))
+  pub removed_queues : SetsAt (queues_in nodes ids) (queues_in new_nodes new_ids) s (filter (λ r. not (r.transaction == t)) (queue_at (queues_in nodes ids) s))
+  removed_queues = record {
+    this = ap (requests new_nodes) a.unlinked.new.this ∙ left_requests;
+    others = λ u n. ap (requests new_nodes) (a.unlinked.new.others u n)
+        ∙ requests_same nodes new_nodes (ids u) (λ x e. a.nodes_stay x (λ g. let p = a.was.in_queue u x e in n (pair_first u p.0 s t (sym p.1 ∙ (ap (λ y. place_of (node_at nodes y)) g ∙ first.place)))));
+  }
 
   pub removed_list : slots_of (lists_in new_nodes new_entries) t ≡ rest_of (slots_of (lists_in nodes entries) t)
   removed_list =
@@ -244,9 +243,6 @@ module _ (nodes new_nodes : Nodes) (ids new_ids : List (List ℕ)) (entries new_
 
   pub removed_given : Some s ≡ first_of (slots_of (lists_in nodes entries) t)
   removed_given = sym (ap first_of (found_slots nodes entries t) ∙ (ap (λ xs. first_of (slots nodes xs)) (split_first (slots_of entries t) id a.given) ∙ ap Some a.slot))
-
-  pub removed_range : s < length new_ids
-  removed_range = omega (arith, within, ap length a.unlinked.new ∙ length-set ids s (a.unlinked.before ++ a.unlinked.behind))
 
 pub none_given : (nodes : Nodes) (entries : List (ℕ × List ℕ)) (t : ℕ) → None ≡ first_of (slots_of entries t) → None ≡ first_of (slots_of (lists_in nodes entries) t)
 none_given nodes entries t e = by (slots_of entries t) e ∙ sym (ap first_of (found_slots nodes entries t))

@@ -1,5 +1,5 @@
 -- Answering and releasing keep the queues and the lists linked.
-use Rattle.std.proofs.Common.{◌≡◌, ◌≢◌, ℕ, ◌==◌, ◌<◌, ◌⊎◌, inl, inr, List, [], ◌∷◌, ◌++◌, length, Option, Some, None, Bool, true, false, ◌||◌, ◌&&◌, not, cond, set, replicate, refl, sym, ◌∙◌, ap, subst, is_some, zero, suc, arith}
+use Rattle.std.proofs.Common.{◌≡◌, ◌≢◌, ℕ, ◌==◌, ◌⊎◌, inl, inr, List, [], ◌∷◌, ◌++◌, Option, Some, None, Bool, true, false, ◌||◌, ◌&&◌, not, cond, refl, sym, ◌∙◌, ap, subst, is_some, arith}
 use Rattle.std.specs.Prelude.{filter, Result, Ok, Err, IfOk, OnErr}
 use Rattle.std.specs.List.{list_any, list_all}
 use Rattle.std.proofs.lemmas.List.Folds.{list_any-append}
@@ -10,8 +10,8 @@ use Rattle.pc_types.specs.declared.Request.{Request}
 use Rattle.pc_model.specs.Locks.{Queue, are_compatible, request_in, granted_behind, with_request, queue_after, queue_without, outcome_beside, is_ungranted, is_exclusive, stronger}
 use Rattle.pc_types.specs.declared.Outcome.TheVariants.{Granted, Queued, Died}
 use Rattle.pc_model.specs.Queues.{stands_in, grant}
-use Rattle.pc_locks.specs.States.{Lists, slots_of, queue_at, first_of, rest_of, last_of, is_listed, slots_after, AreDifferent, AreLinked}
-use Rattle.pc_locks.proofs.QueueRowLaws.{at_cases, none_at, set_back}
+use Rattle.pc_locks.specs.States.{Lists, Queues, slots_of, queue_at, first_of, rest_of, last_of, is_listed, is_waiting, slots_after, SetsAt, AreAlike, AreDifferent, AreLinked}
+use Rattle.pc_locks.proofs.SlotLaws.{sets_cases, sets_same}
 use Rattle.pc_model.proofs.QueueLaws.{stands_granted, stands_is, with_new}
 
 same_test : (a b : ℕ) → a ≡ b → (a == b) ≡ true
@@ -42,11 +42,19 @@ or_false : (a b : Bool) → (a || b) ≡ false → (a ≡ false) × (b ≡ false
 or_false true b e = absurd cc
 or_false false b e = (refl, e)
 
-pub linked_new : (n : ℕ) → AreLinked (replicate n []) []
-linked_new n = record {
-  listed = λ t slot. sym (ap (λ q. stands_in q t) (none_at n slot));
+pub linked_new : (queues : Queues) → ((slot : ℕ) → queue_at queues slot ≡ []) → AreLinked queues []
+linked_new queues f = record {
+  listed = λ t slot. sym (ap (λ q. stands_in q t) (f slot));
   once = λ t. tt;
-  waits = λ t slot e. absurd (let f : false ≡ true = sym (ap (λ q. is_ungranted (request_in q t)) (none_at n slot)) ∙ e in cc);
+  waits = λ t slot e. absurd (let g : false ≡ true = sym (ap (λ q. is_ungranted (request_in q t)) (f slot)) ∙ e in cc);
+}
+
+-- where each queue and each list is what it was
+pub linked_alike : (queues new_queues : Queues) (lists new_lists : Lists) → ((u : ℕ) → queue_at new_queues u ≡ queue_at queues u) → ((u : ℕ) → slots_of new_lists u ≡ slots_of lists u) → AreLinked queues lists → AreLinked new_queues new_lists
+linked_alike queues new_queues lists new_lists e f k = record {
+  listed = λ t slot. ap (λ xs. is_listed xs slot) (f t) ∙ (k.listed t slot ∙ ap (λ q. stands_in q t) (sym (e slot)));
+  once = λ t. subst AreDifferent (sym (f t)) (k.once t);
+  waits = λ t slot g. ap last_of (f t) ∙ k.waits t slot (ap (λ q. is_ungranted (request_in q t)) (sym (e slot)) ∙ g);
 }
 
 -- an upgrade changes nobody's place
@@ -77,23 +85,23 @@ ungranted_with (r ∷ rs) n u e = by (r.transaction == n.transaction) e (ungrant
         behind false g = g
 
 -- where nobody's place changes
-pub linked_same : (queues : List Queue) (lists : Lists) (s : ℕ) (q : Queue) → s < length queues → ((u : ℕ) → stands_in q u ≡ stands_in (queue_at queues s) u) →
-    ((u : ℕ) → is_ungranted (request_in q u) ≡ true → is_ungranted (request_in (queue_at queues s) u) ≡ true) → AreLinked queues lists → AreLinked (set queues s q) lists
-linked_same queues lists s q h e w k = record {
-  listed = λ t slot. k.listed t slot ∙ elim (at_cases queues s q slot h) [
+pub linked_same : (queues new_queues : Queues) (lists : Lists) (s : ℕ) (q : Queue) → SetsAt queues new_queues s q → ((u : ℕ) → stands_in q u ≡ stands_in (queue_at queues s) u) →
+    ((u : ℕ) → is_ungranted (request_in q u) ≡ true → is_ungranted (request_in (queue_at queues s) u) ≡ true) → AreLinked queues lists → AreLinked new_queues lists
+linked_same queues new_queues lists s q h e w k = record {
+  listed = λ t slot. k.listed t slot ∙ elim (sets_cases queues new_queues s q h slot) [
     | inl c ↦ ap (λ x. stands_in (queue_at queues x) t) c.0 ∙ (sym (e t) ∙ ap (λ x. stands_in x t) (sym c.1))
     | inr c ↦ ap (λ x. stands_in x t) (sym c.1)
   ];
   once = k.once;
-  waits = λ t slot g. elim (at_cases queues s q slot h) [
+  waits = λ t slot g. elim (sets_cases queues new_queues s q h slot) [
     | inl c ↦ k.waits t s (w t (ap (λ x. is_ungranted (request_in x t)) (sym c.1) ∙ g)) ∙ ap Some (sym c.0)
     | inr c ↦ k.waits t slot (ap (λ x. is_ungranted (request_in x t)) (sym c.1) ∙ g)
   ];
 }
 
-pub linked_with : (queues : List Queue) (lists : Lists) (s : ℕ) (n : Request) → s < length queues → stands_in (queue_at queues s) n.transaction ≡ true → AreLinked queues lists → AreLinked (set queues s (with_request (queue_at queues s) n)) lists
-linked_with queues lists s n h e k =
-    linked_same queues lists s (with_request (queue_at queues s) n) h (λ u. stands_with (queue_at queues s) n u e) (λ u g. sym (ungranted_with (queue_at queues s) n u e) ∙ g) k
+pub linked_with : (queues new_queues : Queues) (lists : Lists) (s : ℕ) (n : Request) → SetsAt queues new_queues s (with_request (queue_at queues s) n) → stands_in (queue_at queues s) n.transaction ≡ true → AreLinked queues lists → AreLinked new_queues lists
+linked_with queues new_queues lists s n h e k =
+    linked_same queues new_queues lists s (with_request (queue_at queues s) n) h (λ u. stands_with (queue_at queues s) n u e) (λ u g. sym (ungranted_with (queue_at queues s) n u e) ∙ g) k
 
 one_more : (b : Bool) (x y : ℕ) → x ≡ y → (b || ((x == y) || false)) ≡ true
 one_more b x y e = rw (same_test x y e) (or_true b)
@@ -129,18 +137,18 @@ last_push (x ∷ []) s = refl
 last_push (x ∷ y ∷ ys) s = last_push (y ∷ ys) s
 
 -- where a transaction's first request of a slot is added
-pub linked_push : (queues : List Queue) (lists new_lists : Lists) (s : ℕ) (n : Request) → s < length queues → stands_in (queue_at queues s) n.transaction ≡ false →
+pub linked_push : (queues new_queues : Queues) (lists new_lists : Lists) (s : ℕ) (n : Request) → SetsAt queues new_queues s (queue_at queues s ++ n ∷ []) → stands_in (queue_at queues s) n.transaction ≡ false →
     ((slot : ℕ) → is_ungranted (request_in (queue_at queues slot) n.transaction) ≡ false) →
     slots_of new_lists n.transaction ≡ slots_of lists n.transaction ++ s ∷ [] → ((u : ℕ) → u ≢ n.transaction → slots_of new_lists u ≡ slots_of lists u) →
-    AreLinked queues lists → AreLinked (set queues s (queue_at queues s ++ n ∷ [])) new_lists
-linked_push queues lists new_lists s n h f w e o k = record {
+    AreLinked queues lists → AreLinked new_queues new_lists
+linked_push queues new_queues lists new_lists s n h f w e o k = record {
   listed = λ t slot. elim (same_or_other t n.transaction) [
-    | inl a ↦ subst (λ x. is_listed (slots_of new_lists x) slot ≡ stands_in (queue_at (set queues s (queue_at queues s ++ n ∷ [])) slot) x) (sym a)
-        (ap (λ xs. is_listed xs slot) e ∙ (listed_push (slots_of lists n.transaction) s slot ∙ elim (at_cases queues s (queue_at queues s ++ n ∷ []) slot h) [
+    | inl a ↦ subst (λ x. is_listed (slots_of new_lists x) slot ≡ stands_in (queue_at new_queues slot) x) (sym a)
+        (ap (λ xs. is_listed xs slot) e ∙ (listed_push (slots_of lists n.transaction) s slot ∙ elim (sets_cases queues new_queues s (queue_at queues s ++ n ∷ []) h slot) [
           | inl c ↦ one_more (is_listed (slots_of lists n.transaction) slot) s slot (sym c.0) ∙ sym (ap (λ q. stands_in q n.transaction) c.1 ∙ (stands_push (queue_at queues s) n n.transaction ∙ one_more (stands_in (queue_at queues s) n.transaction) n.transaction n.transaction refl))
           | inr c ↦ no_more (is_listed (slots_of lists n.transaction) slot) s slot (λ g. c.0 (sym g)) ∙ (k.listed n.transaction slot ∙ ap (λ q. stands_in q n.transaction) (sym c.1))
         ]))
-    | inr a ↦ ap (λ xs. is_listed xs slot) (o t a) ∙ (k.listed t slot ∙ elim (at_cases queues s (queue_at queues s ++ n ∷ []) slot h) [
+    | inr a ↦ ap (λ xs. is_listed xs slot) (o t a) ∙ (k.listed t slot ∙ elim (sets_cases queues new_queues s (queue_at queues s ++ n ∷ []) h slot) [
       | inl c ↦ sym (ap (λ q. stands_in q t) c.1 ∙ (stands_push (queue_at queues s) n t ∙ (no_more (stands_in (queue_at queues s) t) n.transaction t (λ g. a (sym g)) ∙ ap (λ x. stands_in (queue_at queues x) t) (sym c.0))))
       | inr c ↦ ap (λ q. stands_in q t) (sym c.1)
     ])
@@ -150,11 +158,11 @@ linked_push queues lists new_lists s n h f w e o k = record {
     | inr a ↦ subst AreDifferent (sym (o t a)) (k.once t)
   ];
   waits = λ t slot g. elim (same_or_other t n.transaction) [
-    | inl a ↦ elim (at_cases queues s (queue_at queues s ++ n ∷ []) slot h) [
+    | inl a ↦ elim (sets_cases queues new_queues s (queue_at queues s ++ n ∷ []) h slot) [
       | inl c ↦ ap (λ x. last_of (slots_of new_lists x)) a ∙ (ap last_of e ∙ (last_push (slots_of lists n.transaction) s ∙ ap Some (sym c.0)))
       | inr c ↦ absurd (let z : false ≡ true = sym (w slot) ∙ (ap (λ x. is_ungranted (request_in (queue_at queues slot) x)) (sym a) ∙ (ap (λ q. is_ungranted (request_in q t)) (sym c.1) ∙ g)) in cc)
     ]
-    | inr a ↦ ap last_of (o t a) ∙ elim (at_cases queues s (queue_at queues s ++ n ∷ []) slot h) [
+    | inr a ↦ ap last_of (o t a) ∙ elim (sets_cases queues new_queues s (queue_at queues s ++ n ∷ []) h slot) [
       | inl c ↦ k.waits t s (sym (ungranted_push (queue_at queues s) n t (λ z. a (sym z))) ∙ (ap (λ q. is_ungranted (request_in q t)) (sym c.1) ∙ g)) ∙ ap Some (sym c.0)
       | inr c ↦ k.waits t slot (ap (λ q. is_ungranted (request_in q t)) (sym c.1) ∙ g)
     ]
@@ -223,22 +231,22 @@ last_rest s x [] e n = absurd (n (let f : x ≡ s = cc in f))
 last_rest s x (y ∷ ys) e n = e
 
 -- where a transaction's first request is removed
-pub linked_pop : (queues : List Queue) (lists new_lists : Lists) (s t : ℕ) → s < length queues → Some s ≡ first_of (slots_of lists t) →
+pub linked_pop : (queues new_queues : Queues) (lists new_lists : Lists) (s t : ℕ) → SetsAt queues new_queues s (queue_without (queue_at queues s) t) → Some s ≡ first_of (slots_of lists t) →
     slots_of new_lists t ≡ rest_of (slots_of lists t) → ((u : ℕ) → u ≢ t → slots_of new_lists u ≡ slots_of lists u) →
-    AreLinked queues lists → AreLinked (set queues s (queue_without (queue_at queues s) t)) new_lists
-linked_pop queues lists new_lists s t h f e o k =
+    AreLinked queues lists → AreLinked new_queues new_lists
+linked_pop queues new_queues lists new_lists s t h f e o k =
     let rest = rest_of (slots_of lists t) in
     let split : slots_of lists t ≡ s ∷ rest = split_first (slots_of lists t) s f in
     let d : (is_listed rest s ≡ false) × AreDifferent rest = subst AreDifferent split (k.once t) in
-    let others = at_cases queues s (queue_without (queue_at queues s) t) in
+    let others = sets_cases queues new_queues s (queue_without (queue_at queues s) t) h in
     record {
       listed = λ u slot. elim (same_or_other u t) [
-        | inl a ↦ subst (λ x. is_listed (slots_of new_lists x) slot ≡ stands_in (queue_at (set queues s (queue_without (queue_at queues s) t)) slot) x) (sym a)
-            (ap (λ xs. is_listed xs slot) e ∙ elim (others slot h) [
+        | inl a ↦ subst (λ x. is_listed (slots_of new_lists x) slot ≡ stands_in (queue_at new_queues slot) x) (sym a)
+            (ap (λ xs. is_listed xs slot) e ∙ elim (others slot) [
               | inl c ↦ ap (is_listed rest) c.0 ∙ (d.0 ∙ sym (ap (λ q. stands_in q t) c.1 ∙ gone (queue_at queues s) t))
               | inr c ↦ sym (ap (λ b. b || is_listed rest slot) (other_test s slot (λ g. c.0 (sym g)))) ∙ (sym (ap (λ xs. is_listed xs slot) split) ∙ (k.listed t slot ∙ ap (λ q. stands_in q t) (sym c.1)))
             ])
-        | inr a ↦ ap (λ xs. is_listed xs slot) (o u a) ∙ (k.listed u slot ∙ elim (others slot h) [
+        | inr a ↦ ap (λ xs. is_listed xs slot) (o u a) ∙ (k.listed u slot ∙ elim (others slot) [
           | inl c ↦ ap (λ x. stands_in (queue_at queues x) u) c.0 ∙ sym (ap (λ q. stands_in q u) c.1 ∙ others_stand (queue_at queues s) t u a)
           | inr c ↦ ap (λ q. stands_in q u) (sym c.1)
         ])
@@ -248,11 +256,11 @@ linked_pop queues lists new_lists s t h f e o k =
         | inr a ↦ subst AreDifferent (sym (o u a)) (k.once u)
       ];
       waits = λ u slot g. elim (same_or_other u t) [
-        | inl a ↦ elim (others slot h) [
+        | inl a ↦ elim (others slot) [
           | inl c ↦ absurd (let z : false ≡ true = sym (gone_waits (queue_at queues s) t) ∙ (ap (λ x. is_ungranted (request_in (queue_without (queue_at queues s) t) x)) (sym a) ∙ (ap (λ q. is_ungranted (request_in q u)) (sym c.1) ∙ g)) in cc)
           | inr c ↦ ap (λ x. last_of (slots_of new_lists x)) a ∙ (ap last_of e ∙ last_rest s slot rest (sym (ap last_of split) ∙ k.waits t slot (ap (λ x. is_ungranted (request_in (queue_at queues slot) x)) (sym a) ∙ (ap (λ q. is_ungranted (request_in q u)) (sym c.1) ∙ g))) c.0)
         ]
-        | inr a ↦ ap last_of (o u a) ∙ elim (others slot h) [
+        | inr a ↦ ap last_of (o u a) ∙ elim (others slot) [
           | inl c ↦ k.waits u s (others_wait (queue_at queues s) t u a (ap (λ q. is_ungranted (request_in q u)) (sym c.1) ∙ g)) ∙ ap Some (sym c.0)
           | inr c ↦ k.waits u slot (ap (λ q. is_ungranted (request_in q u)) (sym c.1) ∙ g)
         ]
@@ -262,43 +270,21 @@ linked_pop queues lists new_lists s t h f e o k =
 abbrev waits_for : ℕ → Queue → Bool
 waits_for t q = is_ungranted (request_in q t)
 
-pub none_any : (t : ℕ) (queues : List Queue) → ((s : ℕ) → waits_for t (queue_at queues s) ≡ false) → list_any (waits_for t) queues ≡ false
-none_any t [] f = refl
-none_any t (q ∷ qs) f = rw (f 0) (none_any t qs (λ s. f (suc s)))
-
-some_any : (t : ℕ) (queues : List Queue) (s : ℕ) → waits_for t (queue_at queues s) ≡ true → list_any (waits_for t) queues ≡ true
-some_any t [] s e = absurd cc
-some_any t (q ∷ qs) zero e = rw e
-some_any t (q ∷ qs) (suc s) e = rw (some_any t qs s e) (or_true (waits_for t q))
-
-pub ready_at : (t : ℕ) (queues : List Queue) → list_any (waits_for t) queues ≡ false → (s : ℕ) → waits_for t (queue_at queues s) ≡ false
-ready_at t [] e s = refl
-ready_at t (q ∷ qs) e zero = (or_false (waits_for t q) (list_any (waits_for t) qs) e).0
-ready_at t (q ∷ qs) e (suc s) = ready_at t qs (or_false (waits_for t q) (list_any (waits_for t) qs) e).1 s
-
 not_true : (b : Bool) → (b ≡ true → ⊥) → b ≡ false
 not_true true f = absurd (f refl)
 not_true false f = refl
 
--- only the last of a transaction's slots may have it wait
-pub any_waits : (queues : List Queue) (lists : Lists) (t s : ℕ) → AreLinked queues lists → Some s ≡ last_of (slots_of lists t) → waits_for t (queue_at queues s) ≡ list_any (waits_for t) queues
-any_waits queues lists t s k e = by (waits_for t (queue_at queues s)) refl
+none_any : (p : ℕ → Bool) (xs : List ℕ) → ((x : ℕ) → p x ≡ false) → list_any p xs ≡ false
+none_any p [] f = refl
+none_any p (x ∷ xs) f = rw (f x) (none_any p xs f)
+
+some_any : (p : ℕ → Bool) (xs : List ℕ) (s : ℕ) → is_listed xs s ≡ true → p s ≡ true → list_any p xs ≡ true
+some_any p [] s e f = absurd cc
+some_any p (x ∷ xs) s e f = by (x == s) refl e (λ h. some_any p xs s h f)
   where
-    by : (b : Bool) → waits_for t (queue_at queues s) ≡ b → b ≡ list_any (waits_for t) queues
-    by true f = sym (some_any t queues s f)
-    by false f = sym (none_any t queues (λ x. not_true (waits_for t (queue_at queues x)) (λ g.
-        let h : Some s ≡ Some x = e ∙ k.waits t x g in
-        let i : s ≡ x = cc in
-        let j : waits_for t (queue_at queues s) ≡ true = ap (λ y. waits_for t (queue_at queues y)) i ∙ g in
-        cc)))
-
-pub none_waiting : (queues : List Queue) (lists : Lists) (t : ℕ) → AreLinked queues lists → None ≡ last_of (slots_of lists t) → false ≡ list_any (waits_for t) queues
-none_waiting queues lists t k e = sym (none_any t queues (λ x. not_true (waits_for t (queue_at queues x)) (λ g. let h : None ≡ Some x = e ∙ k.waits t x g in cc)))
-
-stands_range : (queues : List Queue) (s t : ℕ) → stands_in (queue_at queues s) t ≡ true → s < length queues
-stands_range [] s t e = absurd cc
-stands_range (q ∷ qs) zero t e = omega arith
-stands_range (q ∷ qs) (suc s) t e = let h = stands_range qs s t e in omega (arith, h)
+    by : (b : Bool) → (x == s) ≡ b → (b || is_listed xs s) ≡ true → (is_listed xs s ≡ true → list_any p xs ≡ true) → (p x || list_any p xs) ≡ true
+    by true g h ih = ap (λ b. b || list_any p xs) (ap p (test_same x s g) ∙ f)
+    by false g h ih = rw (ih h) (or_true (p x))
 
 first_listed : (xs : List ℕ) (s : ℕ) → Some s ≡ first_of xs → is_listed xs s ≡ true
 first_listed [] s e = absurd cc
@@ -308,6 +294,29 @@ pub last_listed : (xs : List ℕ) (s : ℕ) → Some s ≡ last_of xs → is_lis
 last_listed [] s e = absurd cc
 last_listed (x ∷ []) s e = let f : s ≡ x = cc in rw (same_test x s (sym f))
 last_listed (x ∷ y ∷ ys) s e = rw (last_listed (y ∷ ys) s e) (or_true (x == s))
+
+-- where a transaction waits anywhere, it waits at one of its slots
+pub waits_anywhere : (queues : Queues) (lists : Lists) (t s : ℕ) → AreLinked queues lists → waits_for t (queue_at queues s) ≡ true → is_waiting (record { queues = queues; lists = lists }) t ≡ true
+waits_anywhere queues lists t s k e = some_any (λ x. waits_for t (queue_at queues x)) (slots_of lists t) s (last_listed (slots_of lists t) s (sym (k.waits t s e))) e
+
+-- where it waits at none of its slots, it waits nowhere
+pub ready_at : (queues : Queues) (lists : Lists) (t : ℕ) → AreLinked queues lists → is_waiting (record { queues = queues; lists = lists }) t ≡ false → (s : ℕ) → waits_for t (queue_at queues s) ≡ false
+ready_at queues lists t k e s = not_true (waits_for t (queue_at queues s)) (λ f. let g : false ≡ true = sym e ∙ waits_anywhere queues lists t s k f in cc)
+
+-- only the last of a transaction's slots may have it wait
+pub any_waits : (queues : Queues) (lists : Lists) (t s : ℕ) → AreLinked queues lists → Some s ≡ last_of (slots_of lists t) → waits_for t (queue_at queues s) ≡ is_waiting (record { queues = queues; lists = lists }) t
+any_waits queues lists t s k e = by (waits_for t (queue_at queues s)) refl
+  where
+    by : (b : Bool) → waits_for t (queue_at queues s) ≡ b → b ≡ is_waiting (record { queues = queues; lists = lists }) t
+    by true f = sym (waits_anywhere queues lists t s k f)
+    by false f = sym (none_any (λ x. waits_for t (queue_at queues x)) (slots_of lists t) (λ x. not_true (waits_for t (queue_at queues x)) (λ g.
+        let h : Some s ≡ Some x = e ∙ k.waits t x g in
+        let i : s ≡ x = cc in
+        let j : waits_for t (queue_at queues s) ≡ true = ap (λ y. waits_for t (queue_at queues y)) i ∙ g in
+        cc)))
+
+pub none_waiting : (queues : Queues) (lists : Lists) (t : ℕ) → AreLinked queues lists → None ≡ last_of (slots_of lists t) → false ≡ is_waiting (record { queues = queues; lists = lists }) t
+none_waiting queues lists t k e = sym (none_any (λ x. waits_for t (queue_at queues x)) (slots_of lists t) (λ x. not_true (waits_for t (queue_at queues x)) (λ g. let h : None ≡ Some x = e ∙ k.waits t x g in cc)))
 
 pub found_is : (q : Queue) (t : ℕ) (own : Request) → request_in q t ≡ Some own → own.transaction ≡ t
 found_is [] t own e = absurd cc
@@ -332,23 +341,16 @@ again_kind q t mode own o e = by (is_exclusive own.mode || not (is_exclusive mod
     by false true f = inr f
     by false false f = inl f
 
-pub linked_again : (queues : List Queue) (lists : Lists) (s t : ℕ) (mode : Mode) (own : Request) (o : Outcome) → s < length queues → (o ≡ Granted) ⊎ (o ≡ Died) → request_in (queue_at queues s) t ≡ Some own →
-    AreLinked queues lists → AreLinked (set queues s (queue_after (queue_at queues s) t mode o)) lists
-linked_again queues lists s t mode own o h c f k = elim c [
-  | inl e ↦ subst (λ x. AreLinked (set queues s (queue_after (queue_at queues s) t mode x)) lists) (sym e)
-      (linked_with queues lists s (record { transaction = t; mode = mode; granted = true }) h (sym (stands_is (queue_at queues s) t) ∙ ap is_some f) k)
-  | inr e ↦ subst (λ x. AreLinked (set queues s (queue_after (queue_at queues s) t mode x)) lists) (sym e) (subst (λ x. AreLinked x lists) (sym (set_back queues s)) k)
+pub linked_again : (queues new_queues : Queues) (lists : Lists) (s t : ℕ) (mode : Mode) (own : Request) (o : Outcome) → SetsAt queues new_queues s (queue_after (queue_at queues s) t mode o) → (o ≡ Granted) ⊎ (o ≡ Died) → request_in (queue_at queues s) t ≡ Some own →
+    AreLinked queues lists → AreLinked new_queues lists
+linked_again queues new_queues lists s t mode own o h c f k = elim c [
+  | inl e ↦ linked_with queues new_queues lists s (record { transaction = t; mode = mode; granted = true }) (subst (λ x. SetsAt queues new_queues s (queue_after (queue_at queues s) t mode x)) e h)
+      (sym (stands_is (queue_at queues s) t) ∙ ap is_some f) k
+  | inr e ↦ linked_alike queues new_queues lists lists (sets_same queues new_queues s (queue_after (queue_at queues s) t mode o) h (ap (queue_after (queue_at queues s) t mode) e)) (λ u. refl) k
 ]
 
 pub list_again : (slots : List ℕ) (s : ℕ) (b : Bool) (o : Outcome) → (o ≡ Granted) ⊎ (o ≡ Died) → b ≡ true → slots ≡ slots_after slots s b o
 list_again slots s b o c e = elim c [ inl f ↦ rw (f, e) | inr f ↦ rw f ]
-
-linked_lists : (queues : List Queue) (lists new_lists : Lists) → ((u : ℕ) → slots_of new_lists u ≡ slots_of lists u) → AreLinked queues lists → AreLinked queues new_lists
-linked_lists queues lists new_lists f k = record {
-  listed = λ t slot. ap (λ xs. is_listed xs slot) (f t) ∙ k.listed t slot;
-  once = λ t. subst AreDifferent (sym (f t)) (k.once t);
-  waits = λ t slot g. ap last_of (f t) ∙ k.waits t slot g;
-}
 
 every : (t : ℕ) (lists new_lists : Lists) → slots_of new_lists t ≡ slots_of lists t → ((u : ℕ) → u ≢ t → slots_of new_lists u ≡ slots_of lists u) → (u : ℕ) → slots_of new_lists u ≡ slots_of lists u
 every t lists new_lists e o u = elim (same_or_other u t) [
@@ -356,24 +358,23 @@ every t lists new_lists e o u = elim (same_or_other u t) [
   | inr a ↦ o u a
 ]
 
-pub linked_first : (queues : List Queue) (lists new_lists : Lists) (s t : ℕ) (mode : Mode) (o : Outcome) → s < length queues → stands_in (queue_at queues s) t ≡ false →
+pub linked_first : (queues new_queues : Queues) (lists new_lists : Lists) (s t : ℕ) (mode : Mode) (o : Outcome) → SetsAt queues new_queues s (queue_after (queue_at queues s) t mode o) → stands_in (queue_at queues s) t ≡ false →
     ((slot : ℕ) → is_ungranted (request_in (queue_at queues slot) t) ≡ false) →
     slots_of new_lists t ≡ slots_after (slots_of lists t) s false o → ((u : ℕ) → u ≢ t → slots_of new_lists u ≡ slots_of lists u) →
-    AreLinked queues lists → AreLinked (set queues s (queue_after (queue_at queues s) t mode o)) new_lists
-linked_first queues lists new_lists s t mode Granted h f w e others k =
+    AreLinked queues lists → AreLinked new_queues new_lists
+linked_first queues new_queues lists new_lists s t mode Granted h f w e others k =
     let n : Request = record { transaction = t; mode = mode; granted = true } in
-    subst (λ x. AreLinked (set queues s x) new_lists) (sym (with_new (queue_at queues s) n f)) (linked_push queues lists new_lists s n h f w e others k)
-linked_first queues lists new_lists s t mode Queued h f w e others k =
-    linked_push queues lists new_lists s (record { transaction = t; mode = mode; granted = false }) h f w e others k
-linked_first queues lists new_lists s t mode Died h f w e others k =
-    subst (λ x. AreLinked x new_lists) (sym (set_back queues s)) (linked_lists queues lists new_lists (every t lists new_lists e others) k)
+    linked_push queues new_queues lists new_lists s n (subst (SetsAt queues new_queues s) (with_new (queue_at queues s) n f) h) f w e others k
+linked_first queues new_queues lists new_lists s t mode Queued h f w e others k =
+    linked_push queues new_queues lists new_lists s (record { transaction = t; mode = mode; granted = false }) h f w e others k
+linked_first queues new_queues lists new_lists s t mode Died h f w e others k =
+    linked_alike queues new_queues lists new_lists (sets_same queues new_queues s (queue_at queues s) h refl) (every t lists new_lists e others) k
 
-pub linked_result : {A E : Type 0} (result : Result A E) (told : A → Outcome) (queues new_queues : List Queue) (lists new_lists : Lists) (s t : ℕ) (mode : Mode) → s < length queues → stands_in (queue_at queues s) t ≡ false →
+pub linked_result : {A E : Type 0} (result : Result A E) (told : A → Outcome) (queues new_queues : Queues) (lists new_lists : Lists) (s t : ℕ) (mode : Mode) → stands_in (queue_at queues s) t ≡ false →
     ((slot : ℕ) → is_ungranted (request_in (queue_at queues slot) t) ≡ false) →
-    IfOk result (λ a. new_queues ≡ set queues s (queue_after (queue_at queues s) t mode (told a))) →
+    IfOk result (λ a. SetsAt queues new_queues s (queue_after (queue_at queues s) t mode (told a))) →
     IfOk result (λ a. slots_of new_lists t ≡ slots_after (slots_of lists t) s false (told a)) → ((u : ℕ) → u ≢ t → slots_of new_lists u ≡ slots_of lists u) →
-    OnErr result ((new_queues ≡ queues) × (new_lists ≡ lists)) → AreLinked queues lists → AreLinked new_queues new_lists
-linked_result (Ok a) told queues new_queues lists new_lists s t mode h f w q e others err k =
-    subst (λ x. AreLinked x new_lists) (sym q) (linked_first queues lists new_lists s t mode (told a) h f w e others k)
-linked_result (Err x) told queues new_queues lists new_lists s t mode h f w q e others err k =
-    subst (λ x. AreLinked x new_lists) (sym err.0) (subst (λ x. AreLinked queues x) (sym err.1) k)
+    OnErr result (AreAlike (record { queues = new_queues; lists = new_lists }) (record { queues = queues; lists = lists })) → AreLinked queues lists → AreLinked new_queues new_lists
+linked_result (Ok a) told queues new_queues lists new_lists s t mode f w q e others err k = linked_first queues new_queues lists new_lists s t mode (told a) q f w e others k
+linked_result (Err x) told queues new_queues lists new_lists s t mode f w q e others err k =
+    linked_alike queues new_queues lists new_lists err.queues (λ u. ap (λ l. slots_of l u) err.lists) k

@@ -1,26 +1,17 @@
 -- What adding and removing a request makes of the table.
-use Rattle.std.proofs.Common.{◌≡◌, ◌≢◌, ℕ, zero, suc, ◌==◌, ◌<◌, ◌⊎◌, inl, inr, List, [], ◌∷◌, ◌++◌, length, set, get_or, Option, Some, None, Bool, true, false, ◌||◌, cond, map, refl, sym, ◌∙◌, ap, arith}
+use Rattle.std.proofs.Common.{◌≡◌, ◌≢◌, ℕ, ◌==◌, ◌⊎◌, inl, inr, List, [], ◌∷◌, ◌++◌, Option, Some, None, Bool, true, false, ◌||◌, cond, refl, sym, ◌∙◌, ap}
 use Rattle.std.proofs.lemmas.Bool.{eqb-true, eq-eqb, cases_eq, or_cases, or_right}
 use Rattle.std.specs.Prelude.{unwrap_or, option_map}
 use Rattle.std.specs.Map.{lookup}
 use Rattle.std.specs.BTreeMap.{is_at}
 use Rattle.std.specs.Ordering.{nat_cmp}
-use Rattle.std.proofs.lemmas.List.{get_or-set_same, get_or-set_other, map-append}
+use Rattle.std.proofs.lemmas.List.{map-append}
 use Rattle.pc_types.specs.declared.Request.{Request}
 use Rattle.pc_locks.specs.declared.node.Node.{Node}
-use Rattle.pc_locks.specs.States.{slots_of, queue_at, is_listed, AreFilled}
-use Rattle.pc_locks.specs.Tables.{Nodes, node_at, request_of, slot_of, request_at, slot_at, place_of, requests, slots, ids_at, queues_in, lists_in, IsTable}
+use Rattle.pc_locks.specs.States.{slots_of, queue_at, is_listed, SetsAt, AreFilled}
+use Rattle.pc_locks.specs.Tables.{Nodes, node_at, request_of, slot_of, request_at, slot_at, place_of, requests, slots, queues_in, lists_in, IsTable}
+use Rattle.pc_locks.proofs.SlotLaws.{sets_cases}
 use Rattle.pc_locks.proofs.LineLemmas.{listed_end}
-
--- a row with one place changed
-pub map_same : {A B : Type 0} (d : A) (f g : A → B) (row : List A) → ((u : ℕ) → g (get_or row u d) ≡ f (get_or row u d)) → map g row ≡ map f row
-map_same d f g [] h = refl
-map_same d f g (x ∷ xs) h = rw (h 0, map_same d f g xs (λ u. h (suc u)))
-
-pub map_changed : {A B : Type 0} (d : A) (f g : A → B) (row : List A) (s : ℕ) (x : A) (new : B) → s < length row → g x ≡ new → ((u : ℕ) → u ≢ s → g (get_or row u d) ≡ f (get_or row u d)) → map g (set row s x) ≡ set (map f row) s new
-map_changed d f g [] s x new h e o = absurd (omega (arith, h))
-map_changed d f g (y ∷ ys) zero x new h e o = rw (e, map_same d f g ys (λ u. o (suc u) (λ z. omega (arith, z))))
-map_changed d f g (y ∷ ys) (suc s) x new h e o = rw (o 0 (λ z. omega (arith, z)), map_changed d f g ys s x new (omega (arith, h)) e (λ u n. o (suc u) (λ z. n (omega (arith, z)))))
 
 -- what is looked up
 pub found_slots : (nodes : Nodes) (entries : List (ℕ × List ℕ)) (t : ℕ) → slots_of (lists_in nodes entries) t ≡ slots nodes (slots_of entries t)
@@ -31,15 +22,6 @@ found_slots nodes (e ∷ es) t = by (is_at (nat_cmp t) e.0) (found_slots nodes e
         unwrap_or (cond b (Some (slots nodes e.1)) (lookup (is_at (nat_cmp t)) (lists_in nodes es))) [] ≡ slots nodes (unwrap_or (cond b (Some e.1) (lookup (is_at (nat_cmp t)) es)) [])
     by true h = refl
     by false h = h
-
-pub found_queue : (nodes : Nodes) (ids : List (List ℕ)) (s : ℕ) → queue_at (queues_in nodes ids) s ≡ requests nodes (ids_at ids s)
-found_queue nodes [] s = refl
-found_queue nodes (x ∷ xs) zero = refl
-found_queue nodes (x ∷ xs) (suc s) = found_queue nodes xs s
-
-pub length_queues : (nodes : Nodes) (ids : List (List ℕ)) → length (queues_in nodes ids) ≡ length ids
-length_queues nodes [] = refl
-length_queues nodes (x ∷ xs) = ap suc (length_queues nodes xs)
 
 -- a node's parts by its place
 slot_by : (node : Option Node) → slot_of node ≡ unwrap_or (option_map (λ (p : ℕ × ℕ). p.0) (place_of node)) 0
@@ -78,13 +60,6 @@ slots_agree nodes new_nodes (x ∷ xs) f =
     let e = slot_by (node_at new_nodes x) ∙ (ap (λ o. unwrap_or (option_map (λ (p : ℕ × ℕ). p.0) o) 0) (f x (ap (λ b. b || is_listed xs x) (eq-eqb x x refl))) ∙ sym (slot_by (node_at nodes x))) in
     rw (e, slots_agree nodes new_nodes xs (λ id g. f id (or_right (x == id) (is_listed xs id) g)))
 
--- what the new list of one place lists
-pub ids_changed : (ids : List (List ℕ)) (s : ℕ) (new : List ℕ) (u : ℕ) → s < length ids → ((u ≡ s) × (ids_at (set ids s new) u ≡ new)) ⊎ ((u ≢ s) × (ids_at (set ids s new) u ≡ ids_at ids u))
-ids_changed ids s new u h = elim (cases_eq u s) [
-  | inl e ↦ inl (e, ap (ids_at (set ids s new)) e ∙ get_or-set_same ids s new [] h)
-  | inr n ↦ inr (n, get_or-set_other ids s u new [] n)
-]
-
 no_end : (b : Bool) → (b || false) ≡ true → b ≡ true
 no_end true e = refl
 no_end false e = absurd cc
@@ -103,20 +78,20 @@ pub still_listed : (xs : List ℕ) (id x : ℕ) → is_listed xs x ≡ true → 
 still_listed xs id x e = listed_end xs id x ∙ ap (λ b. b || ((id == x) || false)) e
 
 -- an id without a request is in no list
-pub vacant_queue : (nodes : Nodes) (ids : List (List ℕ)) (entries : List (ℕ × List ℕ)) (id : ℕ) → IsTable nodes ids entries → node_at nodes id ≡ None → (s : ℕ) → is_listed (ids_at ids s) id ≡ true → ⊥
+pub vacant_queue : (nodes : Nodes) (ids : ℕ → List ℕ) (entries : List (ℕ × List ℕ)) (id : ℕ) → IsTable nodes ids entries → node_at nodes id ≡ None → (s : ℕ) → is_listed (ids s) id ≡ true → ⊥
 vacant_queue nodes ids entries id a e s f =
     let p = a.in_queue s id f in
     let g : ◌≡◌ {A = Option (ℕ × ℕ)} None (Some (s, p.0)) = ap place_of (sym e) ∙ p.1 in cc
 
-pub vacant_list : (nodes : Nodes) (ids : List (List ℕ)) (entries : List (ℕ × List ℕ)) (id : ℕ) → IsTable nodes ids entries → node_at nodes id ≡ None → (t : ℕ) → is_listed (slots_of entries t) id ≡ true → ⊥
+pub vacant_list : (nodes : Nodes) (ids : ℕ → List ℕ) (entries : List (ℕ × List ℕ)) (id : ℕ) → IsTable nodes ids entries → node_at nodes id ≡ None → (t : ℕ) → is_listed (slots_of entries t) id ≡ true → ⊥
 vacant_list nodes ids entries id a e t f =
     let p = a.in_list t id f in
     let g : ◌≡◌ {A = Option (ℕ × ℕ)} None (Some (p.0, t)) = ap place_of (sym e) ∙ p.1 in cc
 
 -- a request was added under a fresh id
-pub record Added (nodes new_nodes : Nodes) (ids : List (List ℕ)) (entries new_entries : List (ℕ × List ℕ)) (s id : ℕ) (request : Request) : Type 0 where
+pub record Added (nodes new_nodes : Nodes) (ids new_ids : ℕ → List ℕ) (entries new_entries : List (ℕ × List ℕ)) (s id : ℕ) (request : Request) : Type 0 where
   pub was : IsTable nodes ids entries
-  pub within : s < length ids
+  pub queue : SetsAt ids new_ids s (ids s ++ id ∷ [])
   pub vacant : node_at nodes id ≡ None
   pub here : node_at new_nodes id ≡ Some (record { request = request; slot = s })
   pub nodes_stay : (other : ℕ) → other ≢ id → node_at new_nodes other ≡ node_at nodes other
@@ -124,36 +99,33 @@ pub record Added (nodes new_nodes : Nodes) (ids : List (List ℕ)) (entries new_
   pub lists_stay : (u : ℕ) → u ≢ request.transaction → slots_of new_entries u ≡ slots_of entries u
   pub filled : AreFilled new_entries
 
-module _ (nodes new_nodes : Nodes) (ids : List (List ℕ)) (entries new_entries : List (ℕ × List ℕ)) (s id : ℕ) (request : Request) (a : Added nodes new_nodes ids entries new_entries s id request) where
-  abbrev new_ids : List (List ℕ)
-  new_ids = set ids s (ids_at ids s ++ id ∷ [])
-
+module _ (nodes new_nodes : Nodes) (ids new_ids : ℕ → List ℕ) (entries new_entries : List (ℕ × List ℕ)) (s id : ℕ) (request : Request) (a : Added nodes new_nodes ids new_ids entries new_entries s id request) where
   placed_here : place_of (node_at new_nodes id) ≡ Some (s, request.transaction)
   placed_here = ap place_of a.here
 
-  queue_stands : (u x : ℕ) → x ≢ id → is_listed (ids_at new_ids u) x ≡ true → is_listed (ids_at ids u) x ≡ true
-  queue_stands u x n e = elim (ids_changed ids s (ids_at ids s ++ id ∷ []) u a.within) [
-    | inl c ↦ elim (end_cases (ids_at ids s) id x (ap (λ xs. is_listed xs x) (sym c.1) ∙ e)) [
-      | inl f ↦ ap (λ v. is_listed (ids_at ids v) x) c.0 ∙ f
+  queue_stands : (u x : ℕ) → x ≢ id → is_listed (new_ids u) x ≡ true → is_listed (ids u) x ≡ true
+  queue_stands u x n e = elim (sets_cases ids new_ids s (ids s ++ id ∷ []) a.queue u) [
+    | inl c ↦ elim (end_cases (ids s) id x (ap (λ xs. is_listed xs x) (sym c.1) ∙ e)) [
+      | inl f ↦ ap (λ v. is_listed (ids v) x) c.0 ∙ f
       | inr f ↦ absurd (n f)
     ]
     | inr c ↦ ap (λ xs. is_listed xs x) (sym c.1) ∙ e
   ]
 
-  queue_keeps : (u x : ℕ) → is_listed (ids_at ids u) x ≡ true → is_listed (ids_at new_ids u) x ≡ true
-  queue_keeps u x e = elim (ids_changed ids s (ids_at ids s ++ id ∷ []) u a.within) [
-    | inl c ↦ ap (λ xs. is_listed xs x) c.1 ∙ still_listed (ids_at ids s) id x (ap (λ v. is_listed (ids_at ids v) x) (sym c.0) ∙ e)
+  queue_keeps : (u x : ℕ) → is_listed (ids u) x ≡ true → is_listed (new_ids u) x ≡ true
+  queue_keeps u x e = elim (sets_cases ids new_ids s (ids s ++ id ∷ []) a.queue u) [
+    | inl c ↦ ap (λ xs. is_listed xs x) c.1 ∙ still_listed (ids s) id x (ap (λ v. is_listed (ids v) x) (sym c.0) ∙ e)
     | inr c ↦ ap (λ xs. is_listed xs x) c.1 ∙ e
   ]
 
-  queue_of_it : (u : ℕ) → is_listed (ids_at new_ids u) id ≡ true → u ≡ s
-  queue_of_it u e = elim (ids_changed ids s (ids_at ids s ++ id ∷ []) u a.within) [
+  queue_of_it : (u : ℕ) → is_listed (new_ids u) id ≡ true → u ≡ s
+  queue_of_it u e = elim (sets_cases ids new_ids s (ids s ++ id ∷ []) a.queue u) [
     | inl c ↦ c.0
     | inr c ↦ absurd (vacant_queue nodes ids entries id a.was a.vacant u (ap (λ xs. is_listed xs id) (sym c.1) ∙ e))
   ]
 
-  queue_has_it : is_listed (ids_at new_ids s) id ≡ true
-  queue_has_it = ap (λ xs. is_listed xs id) (get_or-set_same ids s (ids_at ids s ++ id ∷ []) [] a.within) ∙ end_listed (ids_at ids s) id
+  queue_has_it : is_listed (new_ids s) id ≡ true
+  queue_has_it = ap (λ xs. is_listed xs id) a.queue.this ∙ end_listed (ids s) id
 
   list_stands : (u x : ℕ) → x ≢ id → is_listed (slots_of new_entries u) x ≡ true → is_listed (slots_of entries u) x ≡ true
   list_stands u x n e = elim (cases_eq u request.transaction) [
@@ -183,7 +155,7 @@ module _ (nodes new_nodes : Nodes) (ids : List (List ℕ)) (entries new_entries 
   added_table = record {
     in_queue = λ u x e. elim (cases_eq x id) [
       | inl c ↦
-          let f : u ≡ s = queue_of_it u (ap (is_listed (ids_at new_ids u)) (sym c) ∙ e) in
+          let f : u ≡ s = queue_of_it u (ap (is_listed (new_ids u)) (sym c) ∙ e) in
           (request.transaction, ap (λ y. place_of (node_at new_nodes y)) c ∙ (placed_here ∙ ap (λ v. Some (v, request.transaction)) (sym f)))
       | inr n ↦
           let p = a.was.in_queue u x (queue_stands u x n e) in
@@ -192,7 +164,7 @@ module _ (nodes new_nodes : Nodes) (ids : List (List ℕ)) (entries new_entries 
     in_list = λ u x e. elim (cases_eq x id) [
       | inl c ↦
           let f : u ≡ request.transaction = list_of_it u (ap (is_listed (slots_of new_entries u)) (sym c) ∙ e) in
-          (s, ap (λ y. place_of (node_at new_nodes y)) c ∙ (placed_here ∙ ap (λ v. Some (s, v)) (sym f)), ap (is_listed (ids_at new_ids s)) c ∙ queue_has_it)
+          (s, ap (λ y. place_of (node_at new_nodes y)) c ∙ (placed_here ∙ ap (λ v. Some (s, v)) (sym f)), ap (is_listed (new_ids s)) c ∙ queue_has_it)
       | inr n ↦
           let p = a.was.in_list u x (list_stands u x n e) in
           (p.0, ap place_of (a.nodes_stay x n) ∙ p.1, queue_keeps p.0 x p.2)
@@ -202,7 +174,7 @@ module _ (nodes new_nodes : Nodes) (ids : List (List ℕ)) (entries new_entries 
           let f = sym p ∙ (ap (λ y. place_of (node_at new_nodes y)) c ∙ placed_here) in
           let g = pair_first u t s request.transaction f in
           let h = pair_second u t s request.transaction f in
-          (ap (λ v. is_listed (ids_at new_ids v) x) g ∙ (ap (is_listed (ids_at new_ids s)) c ∙ queue_has_it), ap (λ v. is_listed (slots_of new_entries v) x) h ∙ (ap (is_listed (slots_of new_entries request.transaction)) c ∙ list_has_it))
+          (ap (λ v. is_listed (new_ids v) x) g ∙ (ap (is_listed (new_ids s)) c ∙ queue_has_it), ap (λ v. is_listed (slots_of new_entries v) x) h ∙ (ap (is_listed (slots_of new_entries request.transaction)) c ∙ list_has_it))
       | inr n ↦
           let w = a.was.with_both x u t (ap place_of (sym (a.nodes_stay x n)) ∙ p) in
           (queue_keeps u x w.0, list_keeps t x w.1)
@@ -210,9 +182,9 @@ module _ (nodes new_nodes : Nodes) (ids : List (List ℕ)) (entries new_entries 
     filled = a.filled;
   }
 
-  old_stays : (u x : ℕ) → is_listed (ids_at ids u) x ≡ true → node_at new_nodes x ≡ node_at nodes x
+  old_stays : (u x : ℕ) → is_listed (ids u) x ≡ true → node_at new_nodes x ≡ node_at nodes x
   old_stays u x e = elim (cases_eq x id) [
-    | inl c ↦ absurd (vacant_queue nodes ids entries id a.was a.vacant u (ap (is_listed (ids_at ids u)) (sym c) ∙ e))
+    | inl c ↦ absurd (vacant_queue nodes ids entries id a.was a.vacant u (ap (is_listed (ids u)) (sym c) ∙ e))
     | inr n ↦ a.nodes_stay x n
   ]
 
@@ -222,13 +194,13 @@ module _ (nodes new_nodes : Nodes) (ids : List (List ℕ)) (entries new_entries 
     | inr n ↦ ap place_of (a.nodes_stay x n)
   ]
 
-  pub added_queues : queues_in new_nodes new_ids ≡ set (queues_in nodes ids) s (queue_at (queues_in nodes ids) s ++ request ∷ [])
-  added_queues =
-      map_changed [] (requests nodes) (requests new_nodes) ids s (ids_at ids s ++ id ∷ []) (queue_at (queues_in nodes ids) s ++ request ∷ []) a.within
-      (map-append (request_at new_nodes) (ids_at ids s) (id ∷ [])
-      ∙ (ap (λ q. q ++ request_at new_nodes id ∷ []) (requests_same nodes new_nodes (ids_at ids s) (old_stays s) ∙ sym (found_queue nodes ids s))
-      ∙ ap (λ o. queue_at (queues_in nodes ids) s ++ request_of o ∷ []) a.here))
-      (λ u n. requests_same nodes new_nodes (ids_at ids u) (old_stays u))
+  pub added_queues : SetsAt (queues_in nodes ids) (queues_in new_nodes new_ids) s (queue_at (queues_in nodes ids) s ++ request ∷ [])
+  added_queues = record {
+    this = ap (requests new_nodes) a.queue.this
+        ∙ (map-append (request_at new_nodes) (ids s) (id ∷ [])
+        ∙ (ap (λ q. q ++ request_at new_nodes id ∷ []) (requests_same nodes new_nodes (ids s) (old_stays s)) ∙ ap (λ o. requests nodes (ids s) ++ request_of o ∷ []) a.here));
+    others = λ u n. ap (requests new_nodes) (a.queue.others u n) ∙ requests_same nodes new_nodes (ids u) (old_stays u);
+  }
 
   pub added_list : slots_of (lists_in new_nodes new_entries) request.transaction ≡ slots_of (lists_in nodes entries) request.transaction ++ s ∷ []
   added_list =

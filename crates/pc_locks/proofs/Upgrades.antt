@@ -10,7 +10,7 @@ use Rattle.pc_model.specs.Locks.{Queue, request_in, with_request, stronger, is_e
 use Rattle.pc_model.specs.Queues.{stands_in, AreOnce}
 use Rattle.pc_locks.specs.declared.node.Node.{Node}
 use Rattle.pc_locks.specs.States.{is_listed}
-use Rattle.pc_locks.specs.Tables.{Nodes, node_at, request_of, request_at, place_of, requests, ids_at, IsTable, IsOwn}
+use Rattle.pc_locks.specs.Tables.{Nodes, node_at, request_of, request_at, place_of, requests, IsTable, IsOwn, AreHeld}
 use Rattle.pc_locks.proofs.TableLemmas.{requests_same}
 use Rattle.pc_locks.proofs.RemovalLemmas.{member_stands, once_behind, back_listed}
 use Rattle.pc_locks.proofs.Grants.{written_is}
@@ -79,6 +79,6 @@ module _ (nodes new_nodes : Nodes) (ids : List ℕ) (t : ℕ) (previous : Option
       ∙ (sym (with_at (requests nodes o.before) (request_at nodes id) (requests nodes o.behind) (record { transaction = t; mode = mode; granted = true }) o.none_before o.passed)
       ∙ ap (λ q. with_request q (record { transaction = t; mode = mode; granted = true })) (sym (ap (requests nodes) o.split ∙ map-append (request_at nodes) o.before (id ∷ o.behind))))))))
 
--- an id of a slot has a request
-pub place_held : (nodes : Nodes) (ids : List (List ℕ)) (entries : List (ℕ × List ℕ)) (slot id : ℕ) → IsTable nodes ids entries → is_listed (ids_at ids slot) id ≡ true → is_some (place_of (node_at nodes id)) ≡ true
-place_held nodes ids entries slot id a e = ap is_some (a.in_queue slot id e).1
+-- the ids of a slot have requests
+pub table_held : (nodes : Nodes) (ids : ℕ → List ℕ) (entries : List (ℕ × List ℕ)) (slot : ℕ) → IsTable nodes ids entries → AreHeld nodes (ids slot)
+table_held nodes ids entries slot a = λ id e. ap is_some (a.in_queue slot id e).1

@@ -1,5 +1,5 @@
 -- Lists of ids that are linked in a row.
-use Rattle.std.specs.Prelude.{◌≡◌, ℕ, zero, suc, ◌<◌, ◌^◌, List, [], ◌∷◌, length, map, Option, Some, None, unwrap_or, slice_index_or, true}
+use Rattle.std.specs.Prelude.{◌≡◌, ◌≢◌, ℕ, zero, suc, ◌<◌, ◌^◌, List, [], ◌∷◌, length, map, Option, Some, None, unwrap_or, slice_index_or, true}
 use Rattle.std.specs.Map.{lookup}
 use Rattle.std.specs.BTreeMap.{is_at}
 use Rattle.std.specs.Ordering.{nat_cmp}
@@ -30,22 +30,28 @@ ids_of links chain = follow links most chain.first
 abbrev pub IsLine : List (Option ℕ) → Chain ℕ → List ℕ → Type 0
 IsLine links chain ids = IsChain (λ id. id < length links) (next_in links) chain ids
 
+-- over these links the chain is a list
+abbrev pub IsQueue : List (Option ℕ) → Chain ℕ → Type 0
+IsQueue links chain = IsLine links chain (ids_of links chain)
+
+-- the ids of each, given the ends
+abbrev pub ids_by : List (Option ℕ) → (ℕ → Chain ℕ) → ℕ → List ℕ
+ids_by links ends k = ids_of links (ends k)
+
 -- each is a chain, and no id is in two of them
 pub record AreLines (links : List (Option ℕ)) (chains : ℕ → Chain ℕ) : Type 0 where
   pub line : (k : ℕ) → IsLine links (chains k) (ids_of links (chains k))
   pub apart : (j k id : ℕ) → is_listed (ids_of links (chains j)) id ≡ true → is_listed (ids_of links (chains k)) id ≡ true → j ≡ k
 
+-- one of the chains became this list, and the others stayed
+pub record Become (links new_links : List (Option ℕ)) (lines new_lines : ℕ → Chain ℕ) (k : ℕ) (new : List ℕ) : Type 0 where
+  pub kept : AreLines new_links new_lines
+  pub this : ids_of new_links (new_lines k) ≡ new
+  pub others : (j : ℕ) → j ≢ k → ids_of new_links (new_lines j) ≡ ids_of links (lines j)
+
 -- the empty chain
 abbrev pub no_chain : Chain ℕ
 no_chain = record { first = None; last = None }
-
--- the chain at a place of the row
-abbrev pub chain_at : List (Chain ℕ) → ℕ → Chain ℕ
-chain_at chains slot = slice_index_or chains slot no_chain
-
--- the ids of each
-abbrev pub all_ids : List (Option ℕ) → List (Chain ℕ) → List (List ℕ)
-all_ids links chains = map (ids_of links) chains
 
 -- the ends of an empty list
 abbrev pub no_ends : Ends
@@ -64,11 +70,6 @@ pub record AreLists (links : List (Option ℕ)) (entries : List (ℕ × Ends)) :
   pub lines : AreLines links (λ t. (ends_at entries t).chain)
   pub lasts : (t : ℕ) → (ends_at entries t).last ≡ last_of (ids_of links (ends_at entries t).chain)
   pub filled : AreFilled (entry_ids links entries)
-
--- the ids of each slot, and below which number ids fit
-pub record Lines : Type 0 where
-  pub ids : List (List ℕ)
-  pub room : ℕ
 
 -- the ids of each transaction, and below which number ids fit
 pub record Listed : Type 0 where

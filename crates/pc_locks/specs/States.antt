@@ -1,11 +1,11 @@
 -- What locks are seen as: each slot's queue, and the slots of each transaction.
-use Rattle.std.specs.Prelude.{◌≡◌, ⊤, ℕ, ◌==◌, Bool, true, false, List, [], ◌∷◌, ◌++◌, Option, Some, None, is_some, unwrap_or, slice_index_or, slice_set, if◌then◌else◌}
+use Rattle.std.specs.Prelude.{◌≡◌, ◌≢◌, ⊤, ℕ, ◌==◌, Bool, true, false, List, [], ◌∷◌, ◌++◌, Option, Some, None, is_some, unwrap_or, if◌then◌else◌}
 use Rattle.std.specs.List.{list_any}
 use Rattle.std.specs.Ordering.{nat_cmp}
 use Rattle.std.specs.Map.{lookup}
 use Rattle.std.specs.BTreeMap.{is_at}
 use Rattle.pc_types.specs.declared.Outcome.{Outcome}
-use Rattle.pc_model.specs.Locks.{Queue, request_in, queue_without, is_ungranted}
+use Rattle.pc_model.specs.Locks.{Queue, request_in, is_ungranted}
 use Rattle.pc_types.specs.declared.Outcome.TheVariants.{Granted, Queued, Died}
 use Rattle.pc_model.specs.Queues.{stands_in, IsSettled}
 
@@ -17,14 +17,28 @@ Lists = List (ℕ × List ℕ)
 abbrev pub slots_of : Lists → ℕ → List ℕ
 slots_of lists t = unwrap_or (lookup (is_at (nat_cmp t)) lists) []
 
+-- the queue of each slot
+abbrev pub Queues : Type 0
+Queues = ℕ → Queue
+
 -- the queue of each slot, and the slots of each transaction
 pub record State : Type 0 where
-  pub queues : List Queue
+  pub queues : Queues
   pub lists : Lists
 
 -- the queue of a slot
-abbrev pub queue_at : List Queue → ℕ → Queue
-queue_at queues slot = slice_index_or queues slot []
+abbrev pub queue_at : Queues → ℕ → Queue
+queue_at queues slot = queues slot
+
+-- at this place it is x now, and at every other one what it was
+pub record SetsAt {A : Type 0} (old new : ℕ → A) (place : ℕ) (x : A) : Type 0 where
+  pub this : new place ≡ x
+  pub others : (other : ℕ) → other ≢ place → new other ≡ old other
+
+-- the same queue at each slot, and the same lists
+pub record AreAlike (a b : State) : Type 0 where
+  pub queues : (slot : ℕ) → queue_at a.queues slot ≡ queue_at b.queues slot
+  pub lists : a.lists ≡ b.lists
 
 -- the first of the list
 abbrev pub first_of : List ℕ → Option ℕ
@@ -57,18 +71,13 @@ slots_after slots slot stood Granted = if stood then slots else slots ++ slot �
 slots_after slots slot stood Queued = slots ++ slot ∷ []
 slots_after slots slot stood Died = slots
 
--- the queues once the transaction's request of this slot was removed
-abbrev pub queues_without : List Queue → ℕ → Option ℕ → List Queue
-queues_without queues t None = queues
-queues_without queues t (Some slot) = slice_set queues slot (queue_without (queue_at queues slot) t)
-
--- a request of the transaction waits
+-- at one of the transaction's slots its request waits
 abbrev pub is_waiting : State → ℕ → Bool
-is_waiting state t = list_any (λ queue. is_ungranted (request_in queue t)) state.queues
+is_waiting state t = list_any (λ slot. is_ungranted (request_in (queue_at state.queues slot) t)) (slots_of state.lists t)
 
 -- a slot stands in the transaction's list exactly where the transaction has a request in its queue, and none twice; only
 -- the last may wait
-pub record AreLinked (queues : List Queue) (lists : Lists) : Type 0 where
+pub record AreLinked (queues : Queues) (lists : Lists) : Type 0 where
   pub listed : (t slot : ℕ) → is_listed (slots_of lists t) slot ≡ stands_in (queue_at queues slot) t
   pub once : (t : ℕ) → AreDifferent (slots_of lists t)
   pub waits : (t slot : ℕ) → is_ungranted (request_in (queue_at queues slot) t) ≡ true → last_of (slots_of lists t) ≡ Some slot

@@ -1,19 +1,19 @@
 -- Requests in a slab, named by ids, and the ids of each slot and of each transaction.
-use Rattle.std.specs.Prelude.{◌≡◌, ◌<◌, is_some, ℕ, ◌==◌, ◌&&◌, not, nat_lt, Bool, true, false, List, [], ◌∷◌, ◌++◌, map, Option, Some, None, unwrap_or, option_map, slice_index_or, slice_set}
+use Rattle.std.specs.Prelude.{◌≡◌, ◌<◌, is_some, ℕ, ◌==◌, ◌&&◌, not, nat_lt, Bool, true, false, List, ◌∷◌, ◌++◌, length, map, Option, Some, None, unwrap_or, option_map, slice_index_or}
 use Rattle.std.specs.List.{list_any}
 use Rattle.std.specs.Map.{lookup}
 use Rattle.std.specs.BTreeMap.{is_at}
 use Rattle.std.specs.Ordering.{nat_cmp}
 use Rattle.slab.specs.Slab.{Slab, HasRoomFor}
-use Rattle.pc_locks.specs.Lines.{Lines, Listed}
+use Rattle.pc_locks.specs.Lines.{Listed}
 use Rattle.pc_types.specs.declared.Mode.TheVariants.{Shared}
 use Rattle.pc_types.specs.declared.Request.{Request}
 use Rattle.pc_model.specs.Locks.{Queue, are_compatible}
-use Rattle.pc_model.specs.Queues.{stands_in, IsSettled}
+use Rattle.pc_model.specs.Queues.{stands_in}
 use Rattle.pc_locks.specs.declared.node.Node.{Node}
 use Rattle.pc_locks.specs.declared.node.Test.{Test}
 use Rattle.pc_locks.specs.declared.node.Test.TheVariants as test
-use Rattle.pc_locks.specs.States.{Lists, AreLinked, AreFilled, queue_at, slots_of, is_listed, last_of}
+use Rattle.pc_locks.specs.States.{Lists, Queues, SetsAt, AreFilled, slots_of, is_listed, last_of}
 
 -- what a test asks of a request
 abbrev pub passes : Test → Request → Bool
@@ -58,13 +58,9 @@ requests nodes ids = map (request_at nodes) ids
 abbrev pub slots : Nodes → List ℕ → List ℕ
 slots nodes ids = map (slot_at nodes) ids
 
--- the ids of a slot
-abbrev pub ids_at : List (List ℕ) → ℕ → List ℕ
-ids_at ids slot = slice_index_or ids slot []
-
 -- the requests of each slot
-abbrev pub queues_in : Nodes → List (List ℕ) → List Queue
-queues_in nodes ids = map (requests nodes) ids
+abbrev pub queues_in : Nodes → (ℕ → List ℕ) → Queues
+queues_in nodes ids slot = requests nodes (ids slot)
 
 -- the slots of each transaction
 abbrev pub lists_in : Nodes → List (ℕ × List ℕ) → Lists
@@ -72,10 +68,10 @@ lists_in nodes entries = map (λ e. (e.0, slots nodes e.1)) entries
 
 -- each id of a slot has a request of it, each id of a transaction has a request of it, which stands with its slot, and each
 -- request stands with both; no transaction without an id has an entry
-pub record IsTable (nodes : Nodes) (ids : List (List ℕ)) (entries : List (ℕ × List ℕ)) : Type 0 where
-  pub in_queue : (slot id : ℕ) → is_listed (ids_at ids slot) id ≡ true → (t : ℕ) × (place_of (node_at nodes id) ≡ Some (slot, t))
-  pub in_list : (t id : ℕ) → is_listed (slots_of entries t) id ≡ true → (slot : ℕ) × (place_of (node_at nodes id) ≡ Some (slot, t)) × (is_listed (ids_at ids slot) id ≡ true)
-  pub with_both : (id slot t : ℕ) → place_of (node_at nodes id) ≡ Some (slot, t) → (is_listed (ids_at ids slot) id ≡ true) × (is_listed (slots_of entries t) id ≡ true)
+pub record IsTable (nodes : Nodes) (ids : ℕ → List ℕ) (entries : List (ℕ × List ℕ)) : Type 0 where
+  pub in_queue : (slot id : ℕ) → is_listed (ids slot) id ≡ true → (t : ℕ) × (place_of (node_at nodes id) ≡ Some (slot, t))
+  pub in_list : (t id : ℕ) → is_listed (slots_of entries t) id ≡ true → (slot : ℕ) × (place_of (node_at nodes id) ≡ Some (slot, t)) × (is_listed (ids slot) id ≡ true)
+  pub with_both : (id slot t : ℕ) → place_of (node_at nodes id) ≡ Some (slot, t) → (is_listed (ids slot) id ≡ true) × (is_listed (slots_of entries t) id ≡ true)
   pub filled : AreFilled entries
 
 -- the first id of the list whose request passes the test, and the one before it
@@ -93,24 +89,22 @@ IsOwn nodes ids t previous id = IsFound nodes ids (test.Of t) previous id
 
 -- one more request of the transaction fits without memory: there is a free place, which has a link in each of the two
 -- rows, and the transaction has an entry
-pub record HasRoom (nodes : Slab Node) (queues : Lines) (lists : Listed) (t : ℕ) : Type 0 where
+pub record HasRoom (nodes : Slab Node) (links : List (Option ℕ)) (lists : Listed) (t : ℕ) : Type 0 where
   pub nodes_fit : HasRoomFor nodes 1
-  pub queues_fit : nodes.vacant_key < queues.room
+  pub links_fit : nodes.vacant_key < length links
   pub lists_fit : nodes.vacant_key < lists.room
   pub known : is_some (lookup (is_at (nat_cmp t)) lists.entries) ≡ true
 
 -- of the slot's ids the first whose request is the transaction's was taken out
-pub record IsUnlinked (nodes : Nodes) (ids new_ids : List (List ℕ)) (slot t : ℕ) : Type 0 where
+pub record IsUnlinked (nodes : Nodes) (ids new_ids : ℕ → List ℕ) (slot t : ℕ) : Type 0 where
   pub before : List ℕ
   pub id : ℕ
   pub behind : List ℕ
-  pub split : ids_at ids slot ≡ before ++ id ∷ behind
+  pub split : ids slot ≡ before ++ id ∷ behind
   pub none_before : stands_in (requests nodes before) t ≡ false
   pub passed : ((request_at nodes id).transaction == t) ≡ true
-  pub new : new_ids ≡ slice_set ids slot (before ++ behind)
+  pub new : SetsAt ids new_ids slot (before ++ behind)
 
--- what locks keep
-pub record Keeps (nodes : Nodes) (ids : List (List ℕ)) (entries : List (ℕ × List ℕ)) : Type 0 where
-  pub table : IsTable nodes ids entries
-  pub settled : (slot : ℕ) → IsSettled (queue_at (queues_in nodes ids) slot)
-  pub linked : AreLinked (queues_in nodes ids) (lists_in nodes entries)
+-- each of the ids has a request
+abbrev pub AreHeld : Nodes → List ℕ → Type 0
+AreHeld nodes ids = (id : ℕ) → is_listed ids id ≡ true → is_some (place_of (node_at nodes id)) ≡ true

@@ -2,6 +2,7 @@
 #![tactic(auto)]
 
 mod ends;
+mod keeper;
 mod lists;
 mod locks;
 mod node;
@@ -9,4 +10,5 @@ mod queues;
 mod row;
 mod table;
 
+pub use keeper::QueueEnds;
 pub use locks::Locks;

@@ -1,44 +1,47 @@
 //! The locks of all slots.
-ghost use Rattle.std.specs.Prelude.{◌≡◌, ◌≢◌, ◌==◌, ◌<◌, ◌≤◌, [], not, true, false, ℕ, length, IfOk, OnErr, IfNone, replicate, slice_set};
-ghost use Rattle.pc_model.specs.Locks.{outcome, queue_after};
+ghost use Rattle.std.specs.Prelude.{◌≡◌, ◌≢◌, ◌==◌, [], not, true, false, ℕ, length, IfOk, OnErr, IfSome, IfNone};
+ghost use Rattle.pc_chain.specs.declared.chain.Chain.{Chain};
+ghost use Rattle.pc_chain.specs.Chains.{IsEmpty};
+ghost use Rattle.pc_model.specs.Locks.{outcome, queue_after, queue_without};
 ghost use Rattle.pc_model.specs.Queues.{stands_in};
-ghost use Rattle.pc_locks.specs.States.{queue_at, slots_of, slots_after, queues_without, first_of, rest_of, is_waiting, AreSettled};
+ghost use Rattle.pc_locks.specs.States.{queue_at, slots_of, slots_after, first_of, rest_of, is_waiting, SetsAt, AreAlike};
+ghost use Rattle.pc_locks.specs.Keepers.{queues_of, lists_of, state_of, AreEnds, AreSound};
 
+use crate::keeper::QueueEnds;
 use crate::node::Test;
 use crate::table::RequestTable;
-use pc_types::{MOST_KEYS, Mode, Outcome, SlotId, TxnNo};
+use pc_chain::Chain;
+use pc_types::{Mode, Outcome, SlotId, TxnNo};
 use std::alloc::{AllocError, Global};
 use std::marker::Model;
 
-/// The locks of slots, and what each transaction has requested. At all times the granted requests of each queue stand in
-/// front and fit together, a slot stands in a transaction's list exactly where the transaction has a request in its queue,
-/// only the last slot of a list may be one that its transaction waits for, and no transaction without a request has a list.
+/// The locks of slots, and what each transaction has requested. The ends of each slot's queue are kept by whoever is given at
+/// each call; what is seen of the locks is read off both (`specs/Keepers`, `state_of`). As long as both stand together, the
+/// granted requests of each queue stand in front and fit together, a slot stands in a transaction's list exactly where the
+/// transaction has a request in its queue, only the last slot of a list may be one that its transaction waits for, and no
+/// transaction without a request has a list.
 #[derive(Drop)]
 pub struct Locks {
     table: RequestTable,
 }
 
 impl Model for Locks {
-    ghost use Rattle.pc_locks.specs.States.{State};
-    ghost use Rattle.pc_locks.specs.Tables.{queues_in, lists_in, Keeps};
+    ghost use Rattle.pc_locks.specs.Keepers.{Kept, kept_of};
 
-    ghost Value = { State };
+    ghost Value = { Kept };
 
-    ghost view = { λ a. record { queues = queues_in a.table.nodes.slots a.table.queues.ids; lists = lists_in a.table.nodes.slots a.table.lists.entries } };
-
-    ghost invariant = { λ a. Keeps a.table.nodes.slots a.table.queues.ids a.table.lists.entries };
+    ghost view = { λ a. kept_of a.table };
 }
 
 impl Locks {
-    /// Locks of the slots 0 to `slots` - 1: no request stands. It fails only where memory ran out.
-    pub fn new(alloc: Global, slots: u32) -> Result<Locks, AllocError>
-        requires { (1 ≤ slots) × (slots ≤ MOST_KEYS) }
-        ensures queues { IfOk result (λ locks. locks.queues ≡ replicate slots []) }
-        ensures lists { IfOk result (λ locks. locks.lists ≡ []) }
-        ensures settled { IfOk result (λ locks. AreSettled locks) }
+    /// Locks without a request. They stand beside any ends of empty queues. It takes no memory.
+    pub fn new(alloc: Global) -> Locks
+        ensures ends { (ends : ℕ → Chain ℕ) → ((slot : ℕ) → IsEmpty (ends slot)) → AreEnds ends result }
+        ensures queues { (ends : ℕ → Chain ℕ) → ((slot : ℕ) → IsEmpty (ends slot)) → (slot : ℕ) → queue_at (queues_of ends result) slot ≡ [] }
+        ensures lists { lists_of result ≡ [] }
     {
-        let table = RequestTable::new(alloc, slots)?;
-        Ok(Locks { table })
+        let table = RequestTable::new(alloc);
+        Locks { table }
     }
 
     /// Answers a transaction's request of a slot. What the own lock covers is granted at once, and a new request where it is
@@ -46,49 +49,57 @@ impl Locks {
     /// dies and leaves no request; an upgrade beside another reader dies too, and the shared lock stays. A lock stands until
     /// it is released. The transaction may have no request that waits. Memory is asked for only where a new request is kept
     /// and there is no room for it. It fails only where memory ran out, and then nothing changed.
-    pub fn request(
+    pub fn request<K, E: QueueEnds<K>>(
         &mut self,
+        keeper: &mut E,
         transaction: TxnNo,
         slot: SlotId,
         mode: Mode,
     ) -> Result<Outcome, AllocError>
-        requires slot { slot < length self.old.queues }
-        requires ready { is_waiting self.old transaction ≡ false }
-        ensures before { AreSettled self.old }
-        ensures after { AreSettled self.new }
-        ensures told { IfOk result (λ answer. answer ≡ outcome (queue_at self.old.queues slot) transaction mode) }
-        ensures queues { IfOk result (λ answer. self.new.queues ≡ slice_set self.old.queues slot (queue_after (queue_at self.old.queues slot) transaction mode answer)) }
-        ensures list { IfOk result (λ answer. slots_of self.new.lists transaction ≡ slots_after (slots_of self.old.lists transaction) slot (stands_in (queue_at self.old.queues slot) transaction) answer) }
-        ensures others { (other : ℕ) → other ≢ transaction → slots_of self.new.lists other ≡ slots_of self.old.lists other }
-        ensures err { OnErr result (self.new ≡ self.old) }
+        requires sound { AreSound (E.has keeper.old) (E.ends_of keeper.old) self.old }
+        requires has { E.has keeper.old slot }
+        requires ready { is_waiting (state_of (E.ends_of keeper.old) self.old) transaction ≡ false }
+        ensures sound { AreSound (E.has keeper.new) (E.ends_of keeper.new) self.new }
+        ensures told { IfOk result (λ answer. answer ≡ outcome (queue_at (queues_of (E.ends_of keeper.old) self.old) slot) transaction mode) }
+        ensures queues { IfOk result (λ answer. SetsAt (queues_of (E.ends_of keeper.old) self.old) (queues_of (E.ends_of keeper.new) self.new) slot (queue_after (queue_at (queues_of (E.ends_of keeper.old) self.old) slot) transaction mode answer)) }
+        ensures list { IfOk result (λ answer. slots_of (lists_of self.new) transaction ≡ slots_after (slots_of (lists_of self.old) transaction) slot (stands_in (queue_at (queues_of (E.ends_of keeper.old) self.old) slot) transaction) answer) }
+        ensures others { (other : ℕ) → other ≢ transaction → slots_of (lists_of self.new) other ≡ slots_of (lists_of self.old) other }
+        ensures err { OnErr result (AreAlike (state_of (E.ends_of keeper.new) self.new) (state_of (E.ends_of keeper.old) self.old)) }
+        ensures keeper { OnErr result (keeper.new ≡ keeper.old) }
+        ensures beside { E.beside keeper.old keeper.new }
     {
-        match self.table.find(slot.0 as usize, Test::Of(transaction)) {
-            Some(found) => Ok(self.table.again(slot.0 as usize, found, transaction, mode)),
-            None => self.table.first(slot.0, transaction, mode),
+        let queue = keeper.ends(slot);
+        match self.table.find(queue, Test::Of(transaction)) {
+            Some(found) => Ok(self.table.again(queue, found, transaction, mode)),
+            None => self.table.first(keeper, slot, queue, transaction, mode),
         }
     }
 
     /// Removes the first request of the transaction's list, grants from the front of that slot's queue, and gives the slot;
     /// None exactly where the transaction has no request. It takes no memory and always succeeds, so that repeated it
     /// releases all, and then nothing is kept of the transaction.
-    pub fn release_one(&mut self, transaction: TxnNo) -> Option<SlotId>
-        ensures before { AreSettled self.old }
-        ensures after { AreSettled self.new }
-        ensures given { result ≡ first_of (slots_of self.old.lists transaction) }
-        ensures list { slots_of self.new.lists transaction ≡ rest_of (slots_of self.old.lists transaction) }
-        ensures others { (other : ℕ) → other ≢ transaction → slots_of self.new.lists other ≡ slots_of self.old.lists other }
-        ensures queues { self.new.queues ≡ queues_without self.old.queues transaction result }
-        ensures none { IfNone result (self.new ≡ self.old) }
+    pub fn release_one<K, E: QueueEnds<K>>(
+        &mut self,
+        keeper: &mut E,
+        transaction: TxnNo,
+    ) -> Option<SlotId>
+        requires sound { AreSound (E.has keeper.old) (E.ends_of keeper.old) self.old }
+        ensures sound { AreSound (E.has keeper.new) (E.ends_of keeper.new) self.new }
+        ensures given { result ≡ first_of (slots_of (lists_of self.old) transaction) }
+        ensures list { slots_of (lists_of self.new) transaction ≡ rest_of (slots_of (lists_of self.old) transaction) }
+        ensures others { (other : ℕ) → other ≢ transaction → slots_of (lists_of self.new) other ≡ slots_of (lists_of self.old) other }
+        ensures queues { IfSome result (λ slot. SetsAt (queues_of (E.ends_of keeper.old) self.old) (queues_of (E.ends_of keeper.new) self.new) slot (queue_without (queue_at (queues_of (E.ends_of keeper.old) self.old) slot) transaction)) }
+        ensures none { IfNone result ((self.new ≡ self.old) × (keeper.new ≡ keeper.old)) }
+        ensures beside { E.beside keeper.old keeper.new }
     {
-        let slot = self.table.take(transaction)?;
-        self.table.grant(slot as usize);
-        Some(SlotId(slot))
+        let slot = self.table.take(keeper, transaction)?;
+        self.table.grant(keeper.ends(slot));
+        Some(slot)
     }
 
-    /// Whether a request of the transaction waits.
+    /// Whether a request of the transaction waits, whoever keeps the ends.
     pub fn is_waiting(&self, transaction: TxnNo) -> bool
-        ensures answer { result ≡ is_waiting self.now transaction }
-        ensures settled { AreSettled self.now }
+        ensures { (ends : ℕ → Chain ℕ) → AreEnds ends self.now → result ≡ is_waiting (state_of ends self.now) transaction }
     {
         match self.table.last(transaction) {
             Some(last) => !self.table.request(last).granted,
@@ -97,11 +108,11 @@ impl Locks {
     }
 
     /// Whether a request of the slot stands, granted or waiting.
-    pub fn has_request(&self, slot: SlotId) -> bool
-        requires { slot < length self.now.queues }
-        ensures answer { result ≡ not (length (queue_at self.now.queues slot) == 0) }
-        ensures settled { AreSettled self.now }
+    pub fn has_request<K, E: QueueEnds<K>>(&self, keeper: &E, slot: SlotId) -> bool
+        requires ends { AreEnds (E.ends_of keeper.now) self.now }
+        requires has { E.has keeper.now slot }
+        ensures { result ≡ not (length (queue_at (queues_of (E.ends_of keeper.now) self.now) slot) == 0) }
     {
-        !self.table.is_empty(slot.0 as usize)
+        !self.table.is_empty(keeper.ends(slot))
     }
 }

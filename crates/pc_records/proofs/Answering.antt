@@ -1,7 +1,6 @@
 -- A request to write a key was answered, and the key is written where it was granted.
 use Rattle.std.proofs.Common.{◌≡◌, ℕ, ◌<◌, ◌≤◌, List, [], length, map, get_or, set, Option, Some, None, refl, sym, ap, ◌∙◌, subst, arith, true, false}
 use Rattle.std.specs.Prelude.{insert}
-use Rattle.std.specs.List.{list_any}
 use Rattle.std.specs.FinMap.{find}
 use Rattle.pc_types.specs.declared.Mode.{Mode}
 use Rattle.pc_types.specs.declared.Mode.TheVariants.{Exclusive}
@@ -9,19 +8,18 @@ use Rattle.pc_types.specs.declared.Class.{Class}
 use Rattle.pc_types.specs.declared.Class.TheVariants.{Before}
 use Rattle.pc_model.specs.Database.{key_cmp, same_bytes}
 use Rattle.pc_types.specs.declared.Outcome.{Outcome}
-use Rattle.pc_model.specs.Locks.{Queue, is_ungranted, request_in, outcome, queue_after}
+use Rattle.pc_model.specs.Locks.{is_ungranted, request_in, outcome, queue_after}
 use Rattle.pc_model.specs.Queues.{IsLegalQueue}
 use Rattle.pc_types.specs.declared.Outcome.TheVariants.{Granted}
-use Rattle.pc_locks.specs.States.{queue_at}
+use Rattle.pc_locks.specs.States.{Queues, queue_at}
 use Rattle.pc_records.specs.declared.versions.Writer.{Writer}
 use Rattle.pc_records.specs.Rows.{record_of, is_in_closed_set, requests_on}
 use Rattle.pc_records.specs.RowSteps.{rows_after}
 use Rattle.pc_records.specs.Tables.{Pending, pending_after}
-use Rattle.pc_records.specs.Slots.{Slot, rows_of, pending_in, write_of, pending_of, table_of, has_exclusive, is_locked, AreSound, AreKept, IsSlotOf, IsFirstIn, put_slot, granted_slot, new_slot, at_number, numbers_of, times, IsNewAt}
+use Rattle.pc_records.specs.Slots.{no_queues, Slot, rows_of, pending_in, write_of, pending_of, table_of, has_exclusive, is_locked, AreSound, AreKept, IsSlotOf, IsFirstIn, put_slot, granted_slot, new_slot, at_number, numbers_of, times, IsNewAt}
 use Rattle.pc_records.proofs.SlotPlaces.{slot_found, length-rows, number_set}
-use Rattle.pc_records.proofs.SlotWaiting.{none_of}
-use Rattle.pc_records.proofs.Queued.{queue_same}
-use Rattle.pc_records.proofs.Requesting.{slot_below, queue_found, rows_asked, kept_asked}
+use Rattle.pc_records.proofs.Queued.{set_at, queue_same}
+use Rattle.pc_records.proofs.Requesting.{queue_found, rows_asked, kept_asked}
 use Rattle.pc_records.proofs.Exclusive.{has_granted}
 use Rattle.pc_records.proofs.Lookups.{slot_of, of_slot, find_entry, slot_at, same_self}
 use Rattle.pc_records.proofs.Moments.{sound_new}
@@ -31,18 +29,15 @@ use Rattle.pc_records.proofs.Clearing.{IsClear, own_writer, clear_found, sound_a
 use Rattle.pc_records.proofs.Writing.{kept_put, rows_put, sound_put, pending_put, get_inserted, length_inserted}
 
 -- a key that has a slot
-module _ (point t : ℕ) (class : Class) (value : Option (List ℕ)) (slots new : List Slot) (key : List ℕ) (i : ℕ) (e : Slot) (queues new_queues : List Queue) (o : Outcome) (kept : AreKept slots queues) (sound : AreSound point queues slots) (lt : i < length slots) (is : e ≡ get_or slots i e)
-    (at : IsSlotOf slots key i) (at_e : (d : Slot) → same_bytes key (get_or slots i d).key ≡ true) (changed : new_queues ≡ set queues e.number (queue_after (queue_at queues e.number) t Exclusive o)) (answered : o ≡ outcome (queue_at queues e.number) t Exclusive) (legal : IsLegalQueue (queue_at queues e.number))
-    (ready : list_any (λ queue. is_ungranted (request_in queue t)) queues ≡ false) (outside : class ≡ Before → is_in_closed_set (record_of (rows_of queues slots) key) ≡ false) (again : (p : Pending) → find key_cmp key (pending_of slots) ≡ Some p → p.by ≡ t → p.class ≡ class)
+module _ (point t : ℕ) (class : Class) (value : Option (List ℕ)) (slots new : List Slot) (key : List ℕ) (i : ℕ) (e : Slot) (queues new_queues : Queues) (o : Outcome) (kept : AreKept slots queues) (sound : AreSound point queues slots) (lt : i < length slots) (is : e ≡ get_or slots i e)
+    (at : IsSlotOf slots key i) (at_e : (d : Slot) → same_bytes key (get_or slots i d).key ≡ true) (changed : new_queues ≡ set_at queues e.number (queue_after (queue_at queues e.number) t Exclusive o)) (answered : o ≡ outcome (queue_at queues e.number) t Exclusive) (legal : IsLegalQueue (queue_at queues e.number))
+    (ready : (m : ℕ) → is_ungranted (request_in (queue_at queues m) t) ≡ false) (outside : class ≡ Before → is_in_closed_set (record_of (rows_of queues slots) key) ≡ false) (again : (p : Pending) → find key_cmp key (pending_of slots) ≡ Some p → p.by ≡ t → p.class ≡ class)
     (new_is : new ≡ set slots i (granted_slot o point t class e.live value e)) where
   here : same_bytes key e.key ≡ true
   here = ap (λ (s : Slot). same_bytes key s.key) is ∙ at_e e
 
   found : slot_of slots key ≡ Some e
   found = slot_at slots key i e kept.rise lt (at_e e) ∙ ap Some (sym is)
-
-  below : e.number < length queues
-  below = slot_below slots queues key i e t Exclusive kept lt is
 
   outside_e : class ≡ Before → e.is_in_closed_set ≡ false
   outside_e before = ap is_in_closed_set (sym (slot_found slots key i e lt is queues at)) ∙ outside before
@@ -54,7 +49,7 @@ module _ (point t : ℕ) (class : Class) (value : Option (List ℕ)) (slots new 
   sound_queues_now = sound_asked point e.number t Exclusive o slots queues new_queues kept changed sound
 
   own : o ≡ Granted → (w : Writer) → e.writer ≡ Some w → w.transaction ≡ t
-  own granted = own_writer point t Exclusive (queue_at queues e.number) e (sound_at point queues slots i e sound lt is) legal (none_of t queues ready e.number) (sym answered ∙ granted)
+  own granted = own_writer point t Exclusive (queue_at queues e.number) e (sound_at point queues slots i e sound lt is) legal (ready e.number) (sym answered ∙ granted)
 
   own_both : o ≡ Granted → (w : Writer) → e.writer ≡ Some w → (w.transaction ≡ t) × (w.class ≡ class)
   own_both granted w writer = (
@@ -64,8 +59,8 @@ module _ (point t : ℕ) (class : Class) (value : Option (List ℕ)) (slots new 
 
   has : o ≡ Granted → has_exclusive (queue_at new_queues e.number) t ≡ true
   has granted =
-      ap (λ qs. has_exclusive (queue_at qs e.number) t) changed ∙ ap (λ q. has_exclusive q t) (queue_same queues e.number (queue_after (queue_at queues e.number) t Exclusive o) below)
-      ∙ ap (λ p. has_exclusive (queue_after (queue_at queues e.number) t Exclusive p) t) granted ∙ has_granted (queue_at queues e.number) t (none_of t queues ready e.number)
+      ap (λ qs. has_exclusive (queue_at qs e.number) t) changed ∙ ap (λ q. has_exclusive q t) (queue_same queues e.number (queue_after (queue_at queues e.number) t Exclusive o))
+      ∙ ap (λ p. has_exclusive (queue_after (queue_at queues e.number) t Exclusive p) t) granted ∙ has_granted (queue_at queues e.number) t (ready e.number)
 
   pub told_there : o ≡ outcome (requests_on (record_of (rows_of queues slots) key)) t Exclusive
   told_there = answered ∙ ap (λ q. outcome q t Exclusive) (sym (queue_found slots queues key i e t Exclusive kept lt is at))
@@ -84,18 +79,18 @@ module _ (point t : ℕ) (class : Class) (value : Option (List ℕ)) (slots new 
   pub sound_there : AreSound point new_queues new
   sound_there = sound_put point t class value slots new i e key new_queues kept_queues sound_queues_now lt is o outside_e new_is has
 
-  pub pending_there : (q : List ℕ) → find key_cmp q (pending_of new) ≡ pending_after o (table_of (length queues) queues slots point [] []) key (record { by = t; class = class; value = value }) q
-  pending_there q = pending_put point t class value slots new i e key new_queues kept_queues sound_queues_now lt is o outside_e new_is here own_both (length queues) queues q
+  pub pending_there : (capacity : ℕ) (q : List ℕ) → find key_cmp q (pending_of new) ≡ pending_after o (table_of capacity queues slots point [] []) key (record { by = t; class = class; value = value }) q
+  pending_there capacity q = pending_put point t class value slots new i e key new_queues kept_queues sound_queues_now lt is o outside_e new_is here own_both capacity queues q
 
 -- a key that has no slot: one went in
-module _ (point t : ℕ) (slots new : List Slot) (queues new_queues : List Queue) (key : List ℕ) (i n : ℕ) (mode : Mode) (o : Outcome) (kept : AreKept slots queues) (sound : AreSound point queues slots) (apart : times n (numbers_of slots) ≡ 0) (below : n < length queues) (gap : IsNewAt slots key i)
-    (answered : o ≡ outcome (queue_at queues n) t mode) (changed : new_queues ≡ set queues n (queue_after (queue_at queues n) t mode o)) (new_is : new ≡ insert slots i (new_slot n key)) where
+module _ (point t : ℕ) (slots new : List Slot) (queues new_queues : Queues) (key : List ℕ) (i n : ℕ) (mode : Mode) (o : Outcome) (kept : AreKept slots queues) (sound : AreSound point queues slots) (apart : times n (numbers_of slots) ≡ 0) (gap : IsNewAt slots key i)
+    (answered : o ≡ outcome (queue_at queues n) t mode) (changed : new_queues ≡ set_at queues n (queue_after (queue_at queues n) t mode o)) (new_is : new ≡ insert slots i (new_slot n key)) where
   bare_new : queue_at queues n ≡ []
   bare_new = kept.bare n apart
 
   queue_new : queue_at new_queues n ≡ queue_after [] t mode Granted
   queue_new =
-      ap (λ qs. queue_at qs n) changed ∙ queue_same queues n (queue_after (queue_at queues n) t mode o) below ∙ ap (λ q. queue_after q t mode o) bare_new
+      ap (λ qs. queue_at qs n) changed ∙ queue_same queues n (queue_after (queue_at queues n) t mode o) ∙ ap (λ q. queue_after q t mode o) bare_new
       ∙ ap (λ p. queue_after [] t mode p) (answered ∙ ap (λ q. outcome q t mode) bare_new)
 
   pub first_in : IsFirstIn slots new new_queues key t mode n
@@ -117,13 +112,13 @@ pub pending_in_new : (slots new : List Slot) (key : List ℕ) (i n : ℕ) → ne
 pending_in_new slots new key i n new_is = ap pending_of new_is ∙ entries_insert pending_in slots i (new_slot n key) refl
 
 -- and the key is written
-module _ (point t : ℕ) (class : Class) (value : Option (List ℕ)) (slots inserted new : List Slot) (key : List ℕ) (n : ℕ) (queues : List Queue) (first : IsFirstIn slots inserted queues key t Exclusive n) (kept : AreKept inserted queues) (sound : AreSound point queues inserted)
+module _ (point t : ℕ) (class : Class) (value : Option (List ℕ)) (slots inserted new : List Slot) (key : List ℕ) (n : ℕ) (queues : Queues) (first : IsFirstIn slots inserted queues key t Exclusive n) (kept : AreKept inserted queues) (sound : AreSound point queues inserted)
     (same : pending_of inserted ≡ pending_of slots) (new_is : new ≡ map (at_number (put_slot point t class None value) n) inserted) where
   abbrev x : Slot
   x = new_slot n key
 
   le : first.place ≤ length slots
-  le = let within = (first.gap []).in_range in omega (arith, within, length-rows [] slots)
+  le = let within = (first.gap no_queues).in_range in omega (arith, within, length-rows no_queues slots)
 
   is_x : x ≡ get_or inserted first.place x
   is_x = sym (ap (λ (ss : List Slot). get_or ss first.place x) first.inserted ∙ get_inserted slots first.place x x le)
@@ -148,7 +143,7 @@ module _ (point t : ℕ) (class : Class) (value : Option (List ℕ)) (slots inse
   pub sound_first_put : AreSound point queues new
   sound_first_put = sound_put point t class value inserted new first.place x key queues kept sound lt_x is_x Granted (λ e. refl) put_x (λ e. has_x)
 
-  pub pending_first_put : (capacity : ℕ) (other : List Queue) (q : List ℕ) → find key_cmp q (pending_of new) ≡ pending_after Granted (table_of capacity other slots point [] []) key (record { by = t; class = class; value = value }) q
+  pub pending_first_put : (capacity : ℕ) (other : Queues) (q : List ℕ) → find key_cmp q (pending_of new) ≡ pending_after Granted (table_of capacity other slots point [] []) key (record { by = t; class = class; value = value }) q
   pending_first_put capacity other q =
       pending_put point t class value inserted new first.place x key queues kept sound lt_x is_x Granted (λ e. refl) put_x (same_self key) (λ e w writer. none w writer) capacity other q
       ∙ ap (λ (ps : List (List ℕ × Pending)). pending_after Granted (record { capacity = capacity; rows = rows_of other slots; pending = ps; point = point; opened = []; shut = [] }) key (record { by = t; class = class; value = value }) q) same

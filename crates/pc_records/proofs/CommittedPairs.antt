@@ -8,7 +8,7 @@ use Rattle.std.proofs.lemmas.Bool.{lt-ltb, le-ltb}
 use Rattle.pc_model.specs.Maps as map_of
 use Rattle.pc_model.specs.Maps.{from_list}
 use Rattle.pc_model.specs.Database.{KeysRise, database_of, key_cmp, key_order, same_bytes}
-use Rattle.pc_model.specs.Locks.{Queue}
+use Rattle.pc_locks.specs.States.{Queues}
 use Rattle.pc_model.proofs.MapLaws.{get-from_list, same_map}
 use Rattle.pc_model.proofs.PairMapLaws.{entries_of}
 use Rattle.pc_table.specs.Rows.{Row as TableRow, Contents, in_slot, AreInSlots}
@@ -17,7 +17,7 @@ use Rattle.pc_table.proofs.RowLaws.{passing, find_filtered, found_has}
 use Rattle.pc_table.proofs.PassingLaws.{none_passed, row_passed, gap_passed}
 use Rattle.pc_records.specs.declared.slots.Cell.{Cell}
 use Rattle.pc_records.specs.Rows.{record_of, stored}
-use Rattle.pc_records.specs.Slots.{Slot, slot_with, slots_in, rows_of, with_entry, committed, contents_of, content_in, committed_pairs}
+use Rattle.pc_records.specs.Slots.{no_queues, Slot, slot_with, slots_in, rows_of, with_entry, committed, contents_of, content_in, committed_pairs}
 use Rattle.pc_records.proofs.Lookups.{of_slot, record_in, slot_of, find_entry, find_row, sorted_entries}
 use Rattle.pc_records.proofs.SlotRising.{contents_rise}
 use Rattle.pc_records.proofs.TableSlots.{slots_rise, find_slots, cell_of}
@@ -33,7 +33,7 @@ pub pairs_of : (slots : List Slot) → pairs_in (contents_of slots) ≡ committe
 pairs_of [] = refl
 pairs_of (s ∷ ss) = ap (with_entry s.key (committed s)) (pairs_of ss)
 
-stored_in : (queues : List Queue) (o : Option Slot) → of_slot committed o ≡ stored (record_in queues o)
+stored_in : (queues : Queues) (o : Option Slot) → of_slot committed o ≡ stored (record_in queues o)
 stored_in queues None = refl
 stored_in queues (Some s) = refl
 
@@ -117,7 +117,7 @@ module _ (side : Side) where
         ∙ entries_of (contents_of (slots_in side table.rows)) (contents_rise (slots_in side table.rows) (slots_rise side table.rows a.rise)))
 
   module _ (table : Contents Cell) (a : AreInSlots table) (left : List (List ℕ × Option (List ℕ))) (pairs : List (List ℕ × List ℕ)) (none : left ≡ []) (so_far : pairs ++ pairs_in left ≡ committed_pairs (slots_in side table.rows)) where
-    rise : KeysRise (rows_of [] (slots_in side table.rows))
+    rise : KeysRise (rows_of no_queues (slots_in side table.rows))
     rise = slots_rise side table.rows a.rise
 
     all_pairs : pairs ≡ committed_pairs (slots_in side table.rows)
@@ -126,7 +126,7 @@ module _ (side : Side) where
     pub pairs_rise : KeysRise pairs
     pairs_rise = rw all_pairs (sorted_entries committed (slots_in side table.rows) rise)
 
-    pub pairs_hold : (queues : List Queue) (q : List ℕ) → map_of.get (database_of pairs) q ≡ stored (record_of (rows_of queues (slots_in side table.rows)) q)
+    pub pairs_hold : (queues : Queues) (q : List ℕ) → map_of.get (database_of pairs) q ≡ stored (record_of (rows_of queues (slots_in side table.rows)) q)
     pairs_hold queues q =
         get-from_list key_order pairs q ∙ ap (find key_cmp q) all_pairs ∙ find_entry committed (slots_in side table.rows) q rise ∙ stored_in queues (slot_of (slots_in side table.rows) q) ∙ ap stored (sym (find_row queues (slots_in side table.rows) q))
 

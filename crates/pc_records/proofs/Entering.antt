@@ -15,7 +15,7 @@ use Rattle.pc_records.specs.Rows.{record_of, is_in_open_set}
 use Rattle.pc_model.specs.DistinctWrites.{AreDistinct}
 use Rattle.pc_records.specs.NewKeys.{with_new, new_keys}
 use Rattle.pc_records.specs.Tables.{value_of}
-use Rattle.pc_model.specs.Locks.{Queue}
+use Rattle.pc_locks.specs.States.{Queues}
 use Rattle.pc_records.specs.Slots.{Slot, slots_in, rows_of, pending_in, pending_of, write_of, at_key, settled}
 use Rattle.pc_records.specs.SetLists.{entering, entering_key, entering_keys}
 use Rattle.pc_records.proofs.Lookups.{slot_of, of_slot, record_in, key_found, find_row, find_entry, slot_map, same_self, same_turned}
@@ -85,7 +85,7 @@ module _ (side : Side) where
   opened_done ws i now keys all le so_far = sym (ap (λ vs. keys ++ entering_keys side now vs) (drop_all i ws le) ∙ append-nil keys) ∙ so_far
 
   -- where each of the keys has a write in place, the keys that go in are those that are new
-  module _ (queues : List Queue) (rows : List (TableRow Cell)) where
+  module _ (queues : Queues) (rows : List (TableRow Cell)) where
     new_one : (q : List ℕ) (s : Slot) → slot_of (slots_in side rows) q ≡ Some s → is_some s.writer ≡ true → entering_key side rows q ≡ with_new (is_in_open_set (record_of (rows_of queues (slots_in side rows)) q)) q []
     new_one q s found writer =
         by_slots rows q ∙ (ap (entering_slot q) found ∙ (ap (λ b. cond (b && not s.is_in_open_set) (q ∷ []) []) writer ∙ (by_test s.is_in_open_set ∙ sym (ap (λ o. with_new (is_in_open_set o) q []) (find_row queues (slots_in side rows) q ∙ ap (record_in queues) found)))))

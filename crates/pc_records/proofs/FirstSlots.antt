@@ -1,5 +1,5 @@
 -- The slots of pairs that rise, one after the other.
-use Rattle.std.proofs.Common.{◌≡◌, ℕ, zero, suc, ◌+◌, ◌<◌, List, [], ◌∷◌, ◌++◌, length, map, take, get_or, Option, Some, None, option_map, Bool, true, false, cond, refl, sym, ap, ◌∙◌, subst, replicate, ◌&&◌}
+use Rattle.std.proofs.Common.{◌≡◌, ℕ, zero, suc, ◌+◌, ◌<◌, List, [], ◌∷◌, ◌++◌, length, map, take, get_or, Option, Some, None, option_map, Bool, true, false, cond, refl, sym, ap, ◌∙◌, subst, ◌&&◌}
 use Rattle.std.specs.Ordering.{is_lt, is_eq}
 use Rattle.std.specs.declared.cmp.Ordering.{Ordering}
 use Rattle.std.specs.declared.cmp.Ordering.TheVariants.{Less, Equal, Greater}
@@ -7,17 +7,15 @@ use Rattle.std.specs.FinMap.{find, put, is_sorted}
 use Rattle.std.specs.FinMap.Entries.{below_all, by_order, find-put, find-append, is_sorted-put}
 use Rattle.std.proofs.lemmas.List.{take_more}
 use Rattle.pc_model.specs.Database.{KeysRise, key_cmp, key_order, same_bytes}
-use Rattle.pc_model.specs.Locks.{Queue}
 use Rattle.pc_model.proofs.PairMapLaws.{computes, tested}
 use Rattle.pc_model.proofs.RisingLaws.{both, and_of, Rise}
 use Rattle.pc_table.specs.Rows.{Row as TableRow, Contents, slot_of as table_slot, with_row, AreInSlots}
 use Rattle.pc_table.proofs.RowLaws.{no_row, same_rows}
-use Rattle.pc_locks.specs.States.{queue_at}
-use Rattle.pc_locks.proofs.QueueRowLaws.{none_at}
+use Rattle.pc_locks.specs.States.{Queues, queue_at}
 use Rattle.pc_records.specs.declared.slots.Cell.{Cell}
 use Rattle.pc_records.specs.Slots.{slots_in, base_cell, cells_in, base_row, AreKept}
 use Rattle.pc_records.proofs.Lookups.{same_turned}
-use Rattle.pc_records.proofs.TableSlots.{slots_rise, once_in, has_number}
+use Rattle.pc_records.proofs.TableSlots.{slots_rise, once_in}
 use Rattle.pc_dirty.specs.declared.side.Side.{Side}
 
 cells_put : (key : List ℕ) (n : ℕ) (x : Cell) (rows : List (TableRow Cell)) → cells_in (put key_cmp key (n, x) rows) ≡ put key_cmp key x (cells_in rows)
@@ -112,10 +110,9 @@ module _ (pairs : List (List ℕ × List ℕ)) (rise : KeysRise pairs) (i : ℕ)
 
 module _ (side : Side) where
   -- what the first slots keep
-  pub kept_first : (table : Contents Cell) (queues : List Queue) (capacity : ℕ) → AreInSlots table → table.capacity ≡ capacity → length queues ≡ capacity → queues ≡ replicate capacity [] → AreKept (slots_in side table.rows) queues
-  kept_first table queues capacity a count long are = record {
+  pub kept_first : (table : Contents Cell) (queues : Queues) → AreInSlots table → ((n : ℕ) → queue_at queues n ≡ []) → AreKept (slots_in side table.rows) queues
+  kept_first table queues a empty = record {
     rise = slots_rise side table.rows a.rise;
     once = once_in side table a;
-    below = λ n some. subst (λ m. n < m) (count ∙ sym long) (a.below n (has_number side table.rows n some));
-    bare = λ n none. ap (λ (qs : List Queue). queue_at qs n) are ∙ none_at capacity n;
+    bare = λ n none. empty n;
   }

@@ -7,13 +7,12 @@ use Rattle.pc_types.specs.declared.Class.TheVariants.{During}
 use Rattle.pc_model.specs.Database.{KeysRise, key_cmp, same_bytes}
 use Rattle.pc_model.specs.Locks.{Queue, queue_without}
 use Rattle.pc_types.specs.Phases.{same_class}
-use Rattle.pc_locks.specs.States.{queue_at}
+use Rattle.pc_locks.specs.States.{Queues, queue_at}
 use Rattle.pc_records.specs.declared.versions.Writer.{Writer}
 use Rattle.pc_records.specs.Rows.{is_kept}
 use Rattle.pc_records.specs.Tables.{Pending}
-use Rattle.pc_records.specs.Slots.{Slot, committed, row_of, rows_of, pending_in, write_of, pending_of, is_locked, is_kept_slot, IsSound, AreSound, AreKept, taken_slot}
-use Rattle.pc_records.proofs.SlotKeeping.{number_below}
-use Rattle.pc_records.proofs.Queued.{queue_same, queue_other}
+use Rattle.pc_records.specs.Slots.{no_queues, Slot, committed, row_of, rows_of, pending_in, write_of, pending_of, is_locked, is_kept_slot, IsSound, AreSound, AreKept, taken_slot}
+use Rattle.pc_records.proofs.Queued.{set_at, queue_same, queue_other}
 use Rattle.pc_records.proofs.Exclusive.{kept_released}
 use Rattle.pc_records.proofs.Lookups.{slot_of, of_slot, find_entry, slot_at, all_found}
 use Rattle.pc_records.proofs.Moments.{sound_queue, taken_sound, kept_row}
@@ -21,11 +20,11 @@ use Rattle.pc_records.proofs.SlotMoments.{sound_set, sound_queues, entries_set, 
 use Rattle.pc_records.proofs.Tidying.{no_requests}
 use Rattle.pc_records.proofs.Turning.{any_slot}
 
-pub sound_at : (point : ℕ) (queues : List Queue) (slots : List Slot) (i : ℕ) (e : Slot) → AreSound point queues slots → i < length slots → e ≡ get_or slots i e → IsSound point (queue_at queues e.number) e
+pub sound_at : (point : ℕ) (queues : Queues) (slots : List Slot) (i : ℕ) (e : Slot) → AreSound point queues slots → i < length slots → e ≡ get_or slots i e → IsSound point (queue_at queues e.number) e
 sound_at point queues slots i e sound lt is = subst (λ (s : Slot). IsSound point (queue_at queues s.number) s) (sym is) (sound.each i e lt)
 
 -- a slot that nothing keeps
-module _ (point : ℕ) (queues : List Queue) (slots : List Slot) (i : ℕ) (e : Slot) (sound : AreSound point queues slots) (lt : i < length slots) (is : e ≡ get_or slots i e) where
+module _ (point : ℕ) (queues : Queues) (slots : List Slot) (i : ℕ) (e : Slot) (sound : AreSound point queues slots) (lt : i < length slots) (is : e ≡ get_or slots i e) where
   pub kept_test : is_kept_slot (queue_at queues e.number) e ≡ is_kept (row_of queues e).1
   kept_test = kept_row point (queue_at queues e.number) e (sound_at point queues slots i e sound lt is)
 
@@ -42,7 +41,7 @@ module _ (point : ℕ) (queues : List Queue) (slots : List Slot) (i : ℕ) (e : 
   pending_freed new goes new_is = ap pending_of new_is ∙ entries_removed pending_in slots i e lt (ap pending_in (sym is) ∙ no_writer goes)
 
 -- a key is taken
-module _ (point : ℕ) (queues : List Queue) (slots marked : List Slot) (key : List ℕ) (i : ℕ) (sound : AreSound point queues slots) (rise : KeysRise (rows_of [] slots)) (lt : i < length slots) (here : same_bytes key (get_or slots i any_slot).key ≡ true)
+module _ (point : ℕ) (queues : Queues) (slots marked : List Slot) (key : List ℕ) (i : ℕ) (sound : AreSound point queues slots) (rise : KeysRise (rows_of no_queues slots)) (lt : i < length slots) (here : same_bytes key (get_or slots i any_slot).key ≡ true)
     (marked_is : marked ≡ set slots i (taken_slot point (get_or slots i any_slot))) where
   pub sound_taken : ((p : Pending) → find key_cmp key (pending_of slots) ≡ Some p → same_class p.class During ≡ false) → AreSound point queues marked
   sound_taken over = sound_set point queues slots marked i (taken_slot point (get_or slots i any_slot)) marked_is (taken_sound point (queue_at queues (get_or slots i any_slot).number) (get_or slots i any_slot) each (sound.each i any_slot lt)) sound
@@ -56,14 +55,13 @@ module _ (point : ℕ) (queues : List Queue) (slots marked : List Slot) (key : L
   pending_taken = ap pending_of marked_is ∙ entries_set pending_in slots i any_slot (taken_slot point (get_or slots i any_slot)) lt refl refl
 
 -- another queue at one number, in which the writers of the slots still have their locks
-pub sound_queued : (point n : ℕ) (q : Queue) (slots : List Slot) (queues new : List Queue) → AreKept slots queues → new ≡ set queues n q → All (λ s. is_locked (queue_at queues n) s.writer ≡ true → is_locked q s.writer ≡ true) slots → AreSound point queues slots → AreSound point new slots
+pub sound_queued : (point n : ℕ) (q : Queue) (slots : List Slot) (queues new : Queues) → AreKept slots queues → new ≡ set_at queues n q → All (λ s. is_locked (queue_at queues n) s.writer ≡ true → is_locked q s.writer ≡ true) slots → AreSound point queues slots → AreSound point new slots
 sound_queued point n q slots queues new kept new_is still sound = sound_queues point queues new slots each sound
   where
-    same : (k : ℕ) (d : Slot) → k < length slots → (b : Bool) → eqb (get_or slots k d).number n ≡ b → is_locked (queue_at queues (get_or slots k d).number) (get_or slots k d).writer ≡ true → is_locked (queue_at (set queues n q) (get_or slots k d).number) (get_or slots k d).writer ≡ true
+    same : (k : ℕ) (d : Slot) → k < length slots → (b : Bool) → eqb (get_or slots k d).number n ≡ b → is_locked (queue_at queues (get_or slots k d).number) (get_or slots k d).writer ≡ true → is_locked (queue_at (set_at queues n q) (get_or slots k d).number) (get_or slots k d).writer ≡ true
     same k d lt true at has =
         let number : (get_or slots k d).number ≡ n = grind (arith, nat_tests, at) in
-        let below : n < length queues = subst (λ m. m < length queues) number (number_below slots queues k d kept lt) in
-        ap (λ m. is_locked (queue_at (set queues n q) m) (get_or slots k d).writer) number ∙ ap (λ p. is_locked p (get_or slots k d).writer) (queue_same queues n q below) ∙ still k d lt (ap (λ m. is_locked (queue_at queues m) (get_or slots k d).writer) (sym number) ∙ has)
+        ap (λ m. is_locked (queue_at (set_at queues n q) m) (get_or slots k d).writer) number ∙ ap (λ p. is_locked p (get_or slots k d).writer) (queue_same queues n q) ∙ still k d lt (ap (λ m. is_locked (queue_at queues m) (get_or slots k d).writer) (sym number) ∙ has)
     same k d lt false at has = ap (λ p. is_locked p (get_or slots k d).writer) (queue_other queues n (get_or slots k d).number q at) ∙ has
 
     each : (k : ℕ) (d : Slot) → k < length slots → IsSound point (queue_at queues (get_or slots k d).number) (get_or slots k d) → IsSound point (queue_at new (get_or slots k d).number) (get_or slots k d)
@@ -72,7 +70,7 @@ sound_queued point n q slots queues new kept new_is still sound = sound_queues p
         (λ has. ap (λ qs. is_locked (queue_at qs (get_or slots k d).number) (get_or slots k d).writer) new_is ∙ same k d lt (eqb (get_or slots k d).number n) refl has) one
 
 -- a request of a transaction that has no write is removed
-pub sound_released : (point t n : ℕ) (slots : List Slot) (queues new : List Queue) → AreKept slots queues → new ≡ set queues n (queue_without (queue_at queues n) t) → ((q : List ℕ) (p : Pending) → find key_cmp q (pending_of slots) ≡ Some p → eqb p.by t ≡ false) →
+pub sound_released : (point t n : ℕ) (slots : List Slot) (queues new : Queues) → AreKept slots queues → new ≡ set_at queues n (queue_without (queue_at queues n) t) → ((q : List ℕ) (p : Pending) → find key_cmp q (pending_of slots) ≡ Some p → eqb p.by t ≡ false) →
     AreSound point queues slots → AreSound point new slots
 sound_released point t n slots queues new kept new_is over sound = sound_queued point n (queue_without (queue_at queues n) t) slots queues new kept new_is (all_found (λ s. is_locked (queue_at queues n) s.writer ≡ true → is_locked (queue_without (queue_at queues n) t) s.writer ≡ true) slots kept.rise each) sound
   where

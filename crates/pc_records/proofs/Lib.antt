@@ -6,6 +6,8 @@ mod InSlots
 mod Unlinked
 mod Listing
 mod KeepingSets
+mod KeepingSlots
+mod EndsKept
 mod Marking
 mod Settling
 mod Entering

@@ -9,13 +9,13 @@ use Rattle.std.specs.declared.cmp.Ordering.TheVariants.{Less, Equal, Greater}
 use Rattle.std.proofs.Math.ListN.{get_or-map}
 use Rattle.std.proofs.lemmas.Cmp.{eq_by_cmp_equiv}
 use Rattle.pc_model.specs.Database.{KeysRise, key_cmp, key_order, same_bytes}
-use Rattle.pc_model.specs.Locks.{Queue}
+use Rattle.pc_locks.specs.States.{Queues}
 use Rattle.pc_model.proofs.CountLaws.{and_both, below_apart}
 use Rattle.pc_model.proofs.JoinLaws.{one_key}
 use Rattle.pc_records.specs.declared.versions.Writer.{Writer}
 use Rattle.pc_records.specs.Rows.{Row, Record, record_of, stored}
 use Rattle.pc_records.specs.Tables.{read_of}
-use Rattle.pc_records.specs.Slots.{Slot, committed_by, write_of, pending_in, pending_of, row_of, rows_of, with_entry, entries_of, at_key}
+use Rattle.pc_records.specs.Slots.{no_queues, Slot, committed_by, write_of, pending_in, pending_of, row_of, rows_of, with_entry, entries_of, at_key}
 use Rattle.pc_records.proofs.Tidying.{below_at}
 
 -- the slot of the key
@@ -24,7 +24,7 @@ slot_of [] q = None
 slot_of (s ∷ ss) q = cond (same_bytes q s.key) (Some s) (slot_of ss q)
 
 -- the record of a slot, if there is one
-abbrev pub record_in : List Queue → Option Slot → Option Record
+abbrev pub record_in : Queues → Option Slot → Option Record
 record_in queues None = None
 record_in queues (Some s) = Some (row_of queues s).1
 
@@ -39,7 +39,7 @@ same_self q = (eq_by_cmp_equiv key_order.total).refl q
 pub same_turned : (a b : List ℕ) → same_bytes a b ≡ same_bytes b a
 same_turned a b = (eq_by_cmp_equiv key_order.total).symm a b
 
-pub find_row : (queues : List Queue) (slots : List Slot) (q : List ℕ) → record_of (rows_of queues slots) q ≡ record_in queues (slot_of slots q)
+pub find_row : (queues : Queues) (slots : List Slot) (q : List ℕ) → record_of (rows_of queues slots) q ≡ record_in queues (slot_of slots q)
 find_row queues [] q = refl
 find_row queues (s ∷ ss) q = by_test (same_bytes q s.key) (find_row queues ss q)
   where
@@ -51,22 +51,22 @@ none_of : {A : Type 0} (o : Option A) → is_some o ≡ false → o ≡ None
 none_of None e = refl
 none_of (Some x) e = cc
 
-pub no_slot : (queues : List Queue) (o : Option Slot) → record_in queues o ≡ None → o ≡ None
+pub no_slot : (queues : Queues) (o : Option Slot) → record_in queues o ≡ None → o ≡ None
 no_slot queues None e = refl
 no_slot queues (Some s) e = cc
 
 -- a key below those of all slots has none
-none_below : (key : List ℕ) (slots : List Slot) → below_all key_cmp key (rows_of [] slots) ≡ true → slot_of slots key ≡ None
-none_below key slots below = no_slot [] (slot_of slots key) (sym (find_row [] slots key) ∙ none_of _ (is_some-find key_cmp key (rows_of [] slots) ∙ below_apart key (rows_of [] slots) below))
+none_below : (key : List ℕ) (slots : List Slot) → below_all key_cmp key (rows_of no_queues slots) ≡ true → slot_of slots key ≡ None
+none_below key slots below = no_slot no_queues (slot_of slots key) (sym (find_row no_queues slots key) ∙ none_of _ (is_some-find key_cmp key (rows_of no_queues slots) ∙ below_apart key (rows_of no_queues slots) below))
 
 -- the key of a later slot is another one
-head_apart : (x : Slot) (xs : List Slot) (key : List ℕ) (i : ℕ) (d : Slot) → KeysRise (rows_of [] (x ∷ xs)) → i < length xs → same_bytes key (get_or xs i d).key ≡ true → same_bytes key x.key ≡ false
+head_apart : (x : Slot) (xs : List Slot) (key : List ℕ) (i : ℕ) (d : Slot) → KeysRise (rows_of no_queues (x ∷ xs)) → i < length xs → same_bytes key (get_or xs i d).key ≡ true → same_bytes key x.key ≡ false
 head_apart x xs key i d rise lt here =
-    let below = (and_both (below_all key_cmp x.key (rows_of [] xs)) (is_sorted key_cmp (rows_of [] xs)) rise).0 in
-    let less : is_lt (key_cmp x.key (get_or (rows_of [] xs) i (row_of [] d)).0) ≡ true = below_at x.key (rows_of [] xs) i (row_of [] d) (omega (arith, lt, length-rows xs)) below in
-    same_turned key x.key ∙ less_apart (key_cmp x.key key) (ap (λ (k : List ℕ). is_lt (key_cmp x.key k)) (one_key key (get_or xs i d).key here ∙ ap (λ (r : Row). r.0) (sym (get_or-map (row_of []) xs i d))) ∙ less)
+    let below = (and_both (below_all key_cmp x.key (rows_of no_queues xs)) (is_sorted key_cmp (rows_of no_queues xs)) rise).0 in
+    let less : is_lt (key_cmp x.key (get_or (rows_of no_queues xs) i (row_of no_queues d)).0) ≡ true = below_at x.key (rows_of no_queues xs) i (row_of no_queues d) (omega (arith, lt, length-rows xs)) below in
+    same_turned key x.key ∙ less_apart (key_cmp x.key key) (ap (λ (k : List ℕ). is_lt (key_cmp x.key k)) (one_key key (get_or xs i d).key here ∙ ap (λ (r : Row). r.0) (sym (get_or-map (row_of no_queues) xs i d))) ∙ less)
   where
-    length-rows : (slots : List Slot) → length (rows_of [] slots) ≡ length slots
+    length-rows : (slots : List Slot) → length (rows_of no_queues slots) ≡ length slots
     length-rows [] = refl
     length-rows (x ∷ xs) = grind (arith, length-rows xs)
 
@@ -76,13 +76,13 @@ head_apart x xs key i d rise lt here =
     less_apart Greater e = cc
 
 -- the slot at its place is that of its key
-pub slot_at : (slots : List Slot) (key : List ℕ) (i : ℕ) (d : Slot) → KeysRise (rows_of [] slots) → i < length slots → same_bytes key (get_or slots i d).key ≡ true → slot_of slots key ≡ Some (get_or slots i d)
+pub slot_at : (slots : List Slot) (key : List ℕ) (i : ℕ) (d : Slot) → KeysRise (rows_of no_queues slots) → i < length slots → same_bytes key (get_or slots i d).key ≡ true → slot_of slots key ≡ Some (get_or slots i d)
 slot_at [] key i d rise lt here = absurd (omega (arith, lt))
 slot_at (x ∷ xs) key zero d rise lt here = rw here refl
-slot_at (x ∷ xs) key (suc i) d rise lt here = rw (head_apart x xs key i d rise (omega (arith, lt)) here) (slot_at xs key i d (and_both (below_all key_cmp x.key (rows_of [] xs)) (is_sorted key_cmp (rows_of [] xs)) rise).1 (omega (arith, lt)) here)
+slot_at (x ∷ xs) key (suc i) d rise lt here = rw (head_apart x xs key i d rise (omega (arith, lt)) here) (slot_at xs key i d (and_both (below_all key_cmp x.key (rows_of no_queues xs)) (is_sorted key_cmp (rows_of no_queues xs)) rise).1 (omega (arith, lt)) here)
 
 -- what holds of each slot that is found holds of all
-pub all_found : (P : Slot → Type 0) (slots : List Slot) → KeysRise (rows_of [] slots) → ((q : List ℕ) (s : Slot) → slot_of slots q ≡ Some s → P s) → All P slots
+pub all_found : (P : Slot → Type 0) (slots : List Slot) → KeysRise (rows_of no_queues slots) → ((q : List ℕ) (s : Slot) → slot_of slots q ≡ Some s → P s) → All P slots
 all_found P slots rise each k d lt = each (get_or slots k d).key (get_or slots k d) (slot_at slots (get_or slots k d).key k d rise lt (same_self (get_or slots k d).key))
 
 -- a slot that is found has the key
@@ -97,33 +97,33 @@ key_found (x ∷ xs) q s found = by_test (same_bytes q x.key) refl found (key_fo
     by_test false is found rest = rest found
 
 -- what is found of a key is what its slot has
-below_entries : {X : Type 0} (f : Slot → Option X) (key : List ℕ) (slots : List Slot) → below_all key_cmp key (rows_of [] slots) ≡ true → below_all key_cmp key (entries_of f slots) ≡ true
+below_entries : {X : Type 0} (f : Slot → Option X) (key : List ℕ) (slots : List Slot) → below_all key_cmp key (rows_of no_queues slots) ≡ true → below_all key_cmp key (entries_of f slots) ≡ true
 below_entries f key [] h = refl
 below_entries {X} f key (s ∷ ss) h =
-    let parts = and_both (is_lt (key_cmp key s.key)) (below_all key_cmp key (rows_of [] ss)) h in
+    let parts = and_both (is_lt (key_cmp key s.key)) (below_all key_cmp key (rows_of no_queues ss)) h in
     by_value (f s) parts.0 (below_entries f key ss parts.1)
   where
     by_value : (o : Option X) → is_lt (key_cmp key s.key) ≡ true → below_all key_cmp key (entries_of f ss) ≡ true → below_all key_cmp key (with_entry s.key o (entries_of f ss)) ≡ true
     by_value None lt later = later
     by_value (Some x) lt later = rw (lt, later) refl
 
-pub sorted_entries : {X : Type 0} (f : Slot → Option X) (slots : List Slot) → KeysRise (rows_of [] slots) → KeysRise (entries_of f slots)
+pub sorted_entries : {X : Type 0} (f : Slot → Option X) (slots : List Slot) → KeysRise (rows_of no_queues slots) → KeysRise (entries_of f slots)
 sorted_entries f [] h = refl
 sorted_entries {X} f (s ∷ ss) h =
-    let parts = and_both (below_all key_cmp s.key (rows_of [] ss)) (is_sorted key_cmp (rows_of [] ss)) h in
+    let parts = and_both (below_all key_cmp s.key (rows_of no_queues ss)) (is_sorted key_cmp (rows_of no_queues ss)) h in
     by_value (f s) (below_entries f s.key ss parts.0) (sorted_entries f ss parts.1)
   where
     by_value : (o : Option X) → below_all key_cmp s.key (entries_of f ss) ≡ true → is_sorted key_cmp (entries_of f ss) ≡ true → is_sorted key_cmp (with_entry s.key o (entries_of f ss)) ≡ true
     by_value None below later = later
     by_value (Some x) below later = rw (below, later) refl
 
-pub find_entry : {X : Type 0} (f : Slot → Option X) (slots : List Slot) (q : List ℕ) → KeysRise (rows_of [] slots) → find key_cmp q (entries_of f slots) ≡ of_slot f (slot_of slots q)
+pub find_entry : {X : Type 0} (f : Slot → Option X) (slots : List Slot) (q : List ℕ) → KeysRise (rows_of no_queues slots) → find key_cmp q (entries_of f slots) ≡ of_slot f (slot_of slots q)
 find_entry f [] q h = refl
 find_entry {X} f (s ∷ ss) q h =
-    let parts = and_both (below_all key_cmp s.key (rows_of [] ss)) (is_sorted key_cmp (rows_of [] ss)) h in
+    let parts = and_both (below_all key_cmp s.key (rows_of no_queues ss)) (is_sorted key_cmp (rows_of no_queues ss)) h in
     by_value (f s) refl (same_bytes q s.key) refl (lacks parts.0) (find_entry f ss q parts.1)
   where
-    lacks : below_all key_cmp s.key (rows_of [] ss) ≡ true → find key_cmp s.key (entries_of f ss) ≡ None
+    lacks : below_all key_cmp s.key (rows_of no_queues ss) ≡ true → find key_cmp s.key (entries_of f ss) ≡ None
     lacks below = none_of _ (is_some-find key_cmp s.key (entries_of f ss) ∙ below_apart s.key (entries_of f ss) (below_entries f s.key ss below))
 
     by_value : (o : Option X) → f s ≡ o → (b : Bool) → same_bytes q s.key ≡ b → find key_cmp s.key (entries_of f ss) ≡ None → find key_cmp q (entries_of f ss) ≡ of_slot f (slot_of ss q) →
@@ -152,17 +152,17 @@ at_none f key (s ∷ ss) none = by_test (same_bytes key s.key) none (at_none f k
     by_test false none rest = ap (λ (xs : List Slot). s ∷ xs) (rest none)
 
 -- the slot of the key is changed at its place
-pub at_place : (f : Slot → Slot) (slots : List Slot) (key : List ℕ) (i : ℕ) (d : Slot) → KeysRise (rows_of [] slots) → i < length slots → same_bytes key (get_or slots i d).key ≡ true → set slots i (f (get_or slots i d)) ≡ map (at_key f key) slots
+pub at_place : (f : Slot → Slot) (slots : List Slot) (key : List ℕ) (i : ℕ) (d : Slot) → KeysRise (rows_of no_queues slots) → i < length slots → same_bytes key (get_or slots i d).key ≡ true → set slots i (f (get_or slots i d)) ≡ map (at_key f key) slots
 at_place f [] key i d rise lt here = absurd (omega (arith, lt))
 at_place f (x ∷ xs) key zero d rise lt here =
-    let below = (and_both (below_all key_cmp x.key (rows_of [] xs)) (is_sorted key_cmp (rows_of [] xs)) rise).0 in
-    let none : slot_of xs key ≡ None = none_below key xs (ap (λ (k : List ℕ). below_all key_cmp k (rows_of [] xs)) (one_key key x.key here) ∙ below) in
+    let below = (and_both (below_all key_cmp x.key (rows_of no_queues xs)) (is_sorted key_cmp (rows_of no_queues xs)) rise).0 in
+    let none : slot_of xs key ≡ None = none_below key xs (ap (λ (k : List ℕ). below_all key_cmp k (rows_of no_queues xs)) (one_key key x.key here) ∙ below) in
     rw here (ap (λ (ys : List Slot). f x ∷ ys) (sym (at_none f key xs none)))
 at_place f (x ∷ xs) key (suc i) d rise lt here =
-    rw (head_apart x xs key i d rise (omega (arith, lt)) here) (ap (λ (ys : List Slot). x ∷ ys) (at_place f xs key i d (and_both (below_all key_cmp x.key (rows_of [] xs)) (is_sorted key_cmp (rows_of [] xs)) rise).1 (omega (arith, lt)) here))
+    rw (head_apart x xs key i d rise (omega (arith, lt)) here) (ap (λ (ys : List Slot). x ∷ ys) (at_place f xs key i d (and_both (below_all key_cmp x.key (rows_of no_queues xs)) (is_sorted key_cmp (rows_of no_queues xs)) rise).1 (omega (arith, lt)) here))
 
 -- what stands in the place of a key that has a slot
-pub latest_in : (queues : List Queue) (slots : List Slot) (q : List ℕ) (s : Slot) → KeysRise (rows_of [] slots) → slot_of slots q ≡ Some s → s.live ≡ read_of (find key_cmp q (pending_of slots)) (stored (record_of (rows_of queues slots) q))
+pub latest_in : (queues : Queues) (slots : List Slot) (q : List ℕ) (s : Slot) → KeysRise (rows_of no_queues slots) → slot_of slots q ≡ Some s → s.live ≡ read_of (find key_cmp q (pending_of slots)) (stored (record_of (rows_of queues slots) q))
 latest_in queues slots q s rise found =
     by_writer s.writer ∙ sym (ap (λ o. read_of o (stored (record_of (rows_of queues slots) q))) (find_entry pending_in slots q rise ∙ ap (of_slot pending_in) found) ∙ ap (λ o. read_of (pending_in s) (stored o)) (find_row queues slots q ∙ ap (record_in queues) found))
   where

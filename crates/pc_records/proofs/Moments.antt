@@ -6,7 +6,7 @@ use Rattle.pc_types.specs.declared.Class.TheVariants.{Before, During, After}
 use Rattle.pc_model.specs.Locks.{Queue}
 use Rattle.pc_model.specs.Replies.{is_empty}
 use Rattle.pc_types.specs.Phases.{same_class}
-use Rattle.pc_locks.specs.States.{queue_at}
+use Rattle.pc_locks.specs.States.{Queues, queue_at}
 use Rattle.pc_records.specs.declared.versions.Stable.{Stable}
 use Rattle.pc_records.specs.declared.versions.Stable.TheVariants.{Empty, Held}
 use Rattle.pc_records.specs.declared.versions.Writer.{Writer}
@@ -84,7 +84,7 @@ module _ (point t : ℕ) (value : Option (List ℕ)) (s : Slot) where
         locked = has;
       }
 
-  row_first : (queues : List Queue) (class : Class) → pinned (first_put point t class s.live value s) ≡ pinned s → committed s ≡ s.live → row_of queues (first_put point t class s.live value s) ≡ row_of queues s
+  row_first : (queues : Queues) (class : Class) → pinned (first_put point t class s.live value s) ≡ pinned s → committed s ≡ s.live → row_of queues (first_put point t class s.live value s) ≡ row_of queues s
   row_first queues Before same live = rw same (rw live refl)
   row_first queues During same live = rw same (rw live refl)
   row_first queues After same live = by_test (s.is_in_closed_set && not (eqb s.mark point)) same
@@ -113,7 +113,7 @@ module _ (point t : ℕ) (class : Class) (value : Option (List ℕ)) (queue new 
           let class : same_class w.class During ≡ true = ap is_prepared (sym is) ∙ sound.prepared closed mark in
           ap is_held (sound.follows (rw (closed, mark) refl) ∙ ap held_for is ∙ ap (λ b. cond b (Held w.before) Empty) class)
 
-  pub put_row : (queues : List Queue) → row_of queues (put_slot point t class s.live value s) ≡ row_of queues s
+  pub put_row : (queues : Queues) → row_of queues (put_slot point t class s.live value s) ≡ row_of queues s
   put_row queues = by_writer s.writer refl
     where
       same_pinned : (a : Bool) (st : Stable) → (a ≡ true → is_held st ≡ true) → cond a (version_or st value) None ≡ cond a (version_or st s.live) None
@@ -244,10 +244,10 @@ settled_sound point queue s sound = by_writer s.writer refl
     by_writer (Some w) is = by_class w w.class is refl
 
 -- the row of a slot whose write is committed
-abbrev given_row : List Queue → Slot → Row
+abbrev given_row : Queues → Slot → Row
 given_row queues s = (s.key, record { value = s.live; is_in_open_set = true; is_in_closed_set = s.is_in_closed_set; pinned = pinned s; requests = queue_at queues s.number })
 
-pub row_settled : (queues : List Queue) (point : ℕ) (s : Slot) (w : Writer) → s.writer ≡ Some w → row_of queues (settled point s) ≡ (s.key, record (row_of queues s).1 { value = s.live; is_in_open_set = true })
+pub row_settled : (queues : Queues) (point : ℕ) (s : Slot) (w : Writer) → s.writer ≡ Some w → row_of queues (settled point s) ≡ (s.key, record (row_of queues s).1 { value = s.live; is_in_open_set = true })
 row_settled queues point s w is = ap (λ o. row_of queues (settled_from o point s)) is ∙ by_class w.class
   where
     by_class : (c : Class) → row_of queues (settled_class c point s) ≡ given_row queues s
@@ -288,7 +288,7 @@ undone_sound point queue s sound = by_writer s.writer refl
     by_writer None is = sound
     by_writer (Some w) is = by_test w is (same_class w.class During) (is_available point s) refl refl
 
-pub row_undone : (queues : List Queue) (point : ℕ) (queue : Queue) (s : Slot) → IsSound point queue s → row_of queues (undone point s) ≡ row_of queues s
+pub row_undone : (queues : Queues) (point : ℕ) (queue : Queue) (s : Slot) → IsSound point queue s → row_of queues (undone point s) ≡ row_of queues s
 row_undone queues point queue s sound = by_writer s.writer refl
   where
     same_pinned : (w : Writer) → s.writer ≡ Some w → (a m : Bool) (st : Stable) → s.is_in_closed_set ≡ a → eqb s.mark point ≡ m → s.stable ≡ st →
@@ -333,7 +333,7 @@ module _ (point later : ℕ) (queue : Queue) (s : Slot) (after : point < later) 
       marked true e = grind (arith, nat_tests, e, sound.passed)
       marked false e = no e
 
-  pub row_closed : (queues : List Queue) → is_prepared s.writer ≡ true → row_of queues (closed_slot s) ≡ closed_row (row_of queues s)
+  pub row_closed : (queues : Queues) → is_prepared s.writer ≡ true → row_of queues (closed_slot s) ≡ closed_row (row_of queues s)
   row_closed queues during = ap (λ v. (s.key, record { value = committed s; is_in_open_set = false; is_in_closed_set = s.is_in_open_set; pinned = cond s.is_in_open_set v None; requests = queue_at queues s.number })) (ap (λ st. version_or st s.live) stable_is ∙ by_writer s.writer during)
     where
       by_writer : (o : Option Writer) → is_prepared o ≡ true → version_or (held_for o) s.live ≡ committed_by o s.live

@@ -1,5 +1,5 @@
 -- A key that gets a slot, with a request.
-use Rattle.std.proofs.Common.{◌≡◌, ℕ, ◌<◌, List, length, filter, set, not, Some, None, Bool, true, false, cond, refl, sym, ap, ◌∙◌, subst}
+use Rattle.std.proofs.Common.{◌≡◌, ℕ, List, filter, set, not, Some, None, Bool, true, false, cond, refl, sym, ap, ◌∙◌}
 use Rattle.std.specs.Prelude.{insert}
 use Rattle.std.specs.FinMap.{find, put}
 use Rattle.std.specs.FinMap.Entries.{find-put}
@@ -7,16 +7,17 @@ use Rattle.pc_types.specs.declared.Mode.{Mode}
 use Rattle.pc_types.specs.declared.Outcome.{Outcome}
 use Rattle.pc_types.specs.declared.Outcome.TheVariants.{Granted}
 use Rattle.pc_model.specs.Database.{key_cmp, key_order, same_bytes}
-use Rattle.pc_model.specs.Locks.{Queue, outcome, queue_after}
+use Rattle.pc_model.specs.Locks.{outcome, queue_after}
 use Rattle.pc_model.proofs.JoinLaws.{one_key}
 use Rattle.pc_model.proofs.MapLaws.{find-without}
-use Rattle.pc_locks.specs.States.{queue_at}
+use Rattle.pc_locks.specs.States.{Queues, queue_at, SetsAt}
 use Rattle.pc_table.specs.Rows.{Row as TableRow, Contents, slot_of as table_slot, with_row, without_slot, IsNewSlot, AreInSlots}
 use Rattle.pc_table.proofs.RowLaws.{same_rows, rise_put, rise_filtered, removed_key}
 use Rattle.pc_records.specs.declared.slots.Cell.{Cell}
 use Rattle.pc_records.specs.Rows.{record_of, requests_on}
 use Rattle.pc_records.specs.RowSteps.{rows_after}
-use Rattle.pc_records.specs.Slots.{slots_in, base_cell, new_slot, rows_of, pending_of, numbers_of, times, AreKept, AreSound, IsNewAt, IsFirstIn}
+use Rattle.pc_records.specs.Slots.{Slot, slots_in, base_cell, new_slot, rows_of, pending_of, numbers_of, times, AreKept, AreSound, IsNewAt, IsFirstIn}
+use Rattle.pc_records.proofs.Queued.{set_at, set_is}
 use Rattle.pc_records.proofs.BlankSlots.{blank_slot}
 use Rattle.pc_records.proofs.SlotPlaces.{place, gap_at}
 use Rattle.pc_records.proofs.Requesting.{rows_new, kept_new}
@@ -46,30 +47,36 @@ module _ (side : Side) where
     pub pending_in : pending_of (slots_in side new.rows) ≡ pending_of (slots_in side old.rows)
     pending_in = pending_in_new (slots_in side old.rows) (slots_in side new.rows) key (place key (slots_in side old.rows)) id went_in
 
-    -- and the request was granted
-    module _ (point t : ℕ) (queues new_queues : List Queue) (mode : Mode) (o : Outcome) (kept : AreKept (slots_in side old.rows) queues) (sound : AreSound point queues (slots_in side old.rows)) (count : length queues ≡ old.capacity) (fresh : IsNewSlot old id) (answered : o ≡ outcome (queue_at queues id) t mode)
-        (changed : new_queues ≡ set queues id (queue_after (queue_at queues id) t mode o)) where
+    -- and the request was granted; all but the ends stayed
+    module _ (point t : ℕ) (asked : List Slot) (stay : asked ≡ slots_in side new.rows) (queues was new_queues : Queues) (same : was ≡ queues) (mode : Mode) (o : Outcome) (kept : AreKept (slots_in side old.rows) queues) (sound : AreSound point queues (slots_in side old.rows)) (fresh : IsNewSlot old id)
+        (told : o ≡ outcome (queue_at was id) t mode) (changed : SetsAt was new_queues id (queue_after (queue_at was id) t mode o)) where
       gap : IsNewAt (slots_in side old.rows) key (place key (slots_in side old.rows))
       gap = gap_at key (slots_in side old.rows) (λ qs. no_record side old.rows key qs none)
 
       apart : times id (numbers_of (slots_in side old.rows)) ≡ 0
       apart = no_number side old.rows id fresh.1
 
-      below : id < length queues
-      below = subst (λ n. id < n) (sym count) fresh.0
+      answered : o ≡ outcome (queue_at queues id) t mode
+      answered = told ∙ ap (λ (qs : Queues). outcome (queue_at qs id) t mode) same
 
-      pub rows_in : rows_of new_queues (slots_in side new.rows) ≡ rows_after (rows_of queues (slots_in side old.rows)) key t mode Granted
-      rows_in = rows_new (slots_in side old.rows) (slots_in side new.rows) queues new_queues key (place key (slots_in side old.rows)) id t mode o kept apart below gap answered changed went_in
+      set : new_queues ≡ set_at queues id (queue_after (queue_at queues id) t mode o)
+      set = set_is was new_queues id (queue_after (queue_at was id) t mode o) changed ∙ ap (λ (qs : Queues). set_at qs id (queue_after (queue_at qs id) t mode o)) same
 
-      pub kept_in : AreKept (slots_in side new.rows) new_queues
-      kept_in = kept_new (slots_in side old.rows) (slots_in side new.rows) queues new_queues key (place key (slots_in side old.rows)) id t mode o kept apart below gap answered changed went_in
+      in_now : asked ≡ insert (slots_in side old.rows) (place key (slots_in side old.rows)) (new_slot id key)
+      in_now = stay ∙ went_in
 
-      pub slot_first : IsFirstIn (slots_in side old.rows) (slots_in side new.rows) new_queues key t mode id
-      slot_first = first_in point t (slots_in side old.rows) (slots_in side new.rows) queues new_queues key (place key (slots_in side old.rows)) id mode o kept sound apart below gap answered changed went_in
+      pub rows_in : rows_of new_queues asked ≡ rows_after (rows_of queues (slots_in side old.rows)) key t mode Granted
+      rows_in = rows_new (slots_in side old.rows) asked queues new_queues key (place key (slots_in side old.rows)) id t mode o kept apart gap answered set in_now
 
-      pub sound_now : AreSound point new_queues (slots_in side new.rows)
-      sound_now = sound_in point t (slots_in side old.rows) (slots_in side new.rows) queues new_queues key (place key (slots_in side old.rows)) id mode o kept sound apart below gap answered changed went_in
+      pub kept_in : AreKept asked new_queues
+      kept_in = kept_new (slots_in side old.rows) asked queues new_queues key (place key (slots_in side old.rows)) id t mode o kept apart gap answered set in_now
+
+      pub slot_first : IsFirstIn (slots_in side old.rows) asked new_queues key t mode id
+      slot_first = first_in point t (slots_in side old.rows) asked queues new_queues key (place key (slots_in side old.rows)) id mode o kept sound apart gap answered set in_now
+
+      pub sound_now : AreSound point new_queues asked
+      sound_now = sound_in point t (slots_in side old.rows) asked queues new_queues key (place key (slots_in side old.rows)) id mode o kept sound apart gap answered set in_now
 
   -- a key without a slot has no request
-  pub told_first : (rows : List (TableRow Cell)) (key : List ℕ) (queues : List Queue) (t : ℕ) (mode : Mode) → table_slot rows key ≡ None → outcome (requests_on (record_of (rows_of queues (slots_in side rows)) key)) t mode ≡ Granted
+  pub told_first : (rows : List (TableRow Cell)) (key : List ℕ) (queues : Queues) (t : ℕ) (mode : Mode) → table_slot rows key ≡ None → outcome (requests_on (record_of (rows_of queues (slots_in side rows)) key)) t mode ≡ Granted
   told_first rows key queues t mode none = ap (λ o. outcome (requests_on o) t mode) (no_record side rows key queues none)

@@ -1,12 +1,12 @@
 -- The numbers of slots, where one goes in or goes.
 use Rattle.std.proofs.Common.{◌≡◌, ℕ, zero, suc, ◌+◌, ◌<◌, List, [], ◌∷◌, ◌++◌, length, take, drop, get_or, refl, ap, arith, cond, Bool, true, false, eqb}
 use Rattle.std.specs.Prelude.{insert}
-use Rattle.pc_model.specs.Locks.{Queue}
+use Rattle.pc_locks.specs.States.{Queues}
 use Rattle.pc_records.specs.Rows.{Row}
 use Rattle.pc_records.specs.Slots.{Slot, row_of, rows_of, numbers_of, times}
 
 -- a slot that goes in
-pub rows-insert : (queues : List Queue) (slots : List Slot) (i : ℕ) (x : Slot) → rows_of queues (insert slots i x) ≡ insert (rows_of queues slots) i (row_of queues x)
+pub rows-insert : (queues : Queues) (slots : List Slot) (i : ℕ) (x : Slot) → rows_of queues (insert slots i x) ≡ insert (rows_of queues slots) i (row_of queues x)
 rows-insert queues [] zero x = refl
 rows-insert queues [] (suc i) x = refl
 rows-insert queues (y ∷ ys) zero x = refl

@@ -1,7 +1,7 @@
 -- The open set is closed: the sides are turned. And the first sets, which are empty.
 use Rattle.std.proofs.Common.{◌≡◌, ℕ, suc, List, [], ◌∷◌, map, Option, Some, refl, sym, ap, ◌∙◌, subst, arith, cond, Bool, true, false, eqb}
 use Rattle.std.specs.Prelude.{All}
-use Rattle.pc_model.specs.Locks.{Queue}
+use Rattle.pc_locks.specs.States.{Queues}
 use Rattle.pc_model.specs.Points.{is_among}
 use Rattle.pc_dirty.specs.declared.side.Side.{Side}
 use Rattle.pc_dirty.specs.declared.side.Side.TheVariants.{First, Second}
@@ -48,11 +48,11 @@ module _ (rows : List (TableRow Cell)) (sets : Dirty) (l : IsListed rows sets) (
   pub linked_closing : AreSets (HasPlace rows) (next_in rows) sets (open_slots rows sets) []
   linked_closing = subst (λ (xs : List ℕ). AreSets (HasPlace rows) (next_in rows) sets (open_slots rows sets) xs) (no_keys rows (closed_slots rows sets) none) l.linked
 
-  pub none_closed : (queues : List Queue) → AreKept (slots_in sets.side rows) queues → (q : List ℕ) → is_in_closed_set (record_of (rows_of queues (slots_in sets.side rows)) q) ≡ false
+  pub none_closed : (queues : Queues) → AreKept (slots_in sets.side rows) queues → (q : List ℕ) → is_in_closed_set (record_of (rows_of queues (slots_in sets.side rows)) q) ≡ false
   none_closed queues kept q = (all_are_listed rows sets queues kept l 0 0).closed_set q ∙ ap (λ ks. is_among ks q) none
 
   -- the slots, with the open set on the other side
-  pub slots_turned : (queues : List Queue) → AreKept (slots_in sets.side rows) queues → slots_in (other_side sets.side) rows ≡ map closed_slot (slots_in sets.side rows)
+  pub slots_turned : (queues : Queues) → AreKept (slots_in sets.side rows) queues → slots_in (other_side sets.side) rows ≡ map closed_slot (slots_in sets.side rows)
   slots_turned queues kept = all_turned sets.side rows (all_found (λ s. s.is_in_closed_set ≡ false) (slots_in sets.side rows) kept.rise (λ q s found. sym (ap is_in_closed_set (find_row queues (slots_in sets.side rows) q ∙ ap (record_in queues) found)) ∙ none_closed queues kept q))
 
   module _ (new : Dirty) (side : new.side ≡ other_side sets.side) (turned : AreSets (HasPlace rows) (next_in rows) new [] (open_slots rows sets)) where

@@ -1,36 +1,28 @@
 -- What slots and queues keep.
-use Rattle.std.proofs.Common.{◌≡◌, ℕ, zero, suc, ◌+◌, ◌<◌, ◌≤◌, List, [], ◌++◌, length, take, drop, get_or, set, refl, sym, ap, ◌∙◌, subst, arith, cond, Bool, true, false, eqb, replicate}
+use Rattle.std.proofs.Common.{◌≡◌, ℕ, suc, ◌+◌, ◌<◌, ◌≤◌, List, [], ◌++◌, length, take, drop, get_or, refl, sym, ap, ◌∙◌, subst, arith, cond, Bool, true, false, eqb}
 use Rattle.std.specs.Prelude.{insert}
 use Rattle.std.proofs.lemmas.Bool.Decides.{nat_tests}
 use Rattle.pc_model.specs.Database.{KeysRise}
 use Rattle.pc_model.specs.Locks.{Queue}
-use Rattle.pc_locks.specs.States.{queue_at}
-use Rattle.pc_records.specs.Slots.{Slot, rows_of, numbers_of, times, AreKept}
+use Rattle.pc_locks.specs.States.{Queues, queue_at}
+use Rattle.pc_records.specs.Slots.{no_queues, Slot, rows_of, numbers_of, times, AreKept}
 use Rattle.pc_records.proofs.SlotRising.{keys_of, rise_any, rise_same}
 use Rattle.pc_records.proofs.Numbers.{times-insert, times-removed}
-use Rattle.pc_records.proofs.Queued.{length-set, queue_other, times_at}
-
--- the numbers are those of queues
-pub number_below : (slots : List Slot) (queues : List Queue) (i : ℕ) (d : Slot) → AreKept slots queues → i < length slots → (get_or slots i d).number < length queues
-number_below slots queues i d kept lt =
-    let n = (get_or slots i d).number in
-    kept.below n (times_at n slots i d lt refl)
+use Rattle.pc_records.proofs.Queued.{set_at, queue_other}
 
 -- other slots of the same keys and numbers
-pub kept_same : (slots new : List Slot) (queues : List Queue) → keys_of new ≡ keys_of slots → numbers_of new ≡ numbers_of slots → AreKept slots queues → AreKept new queues
+pub kept_same : (slots new : List Slot) (queues : Queues) → keys_of new ≡ keys_of slots → numbers_of new ≡ numbers_of slots → AreKept slots queues → AreKept new queues
 kept_same slots new queues keys numbers kept = record {
   rise = rise_same slots new keys kept.rise;
   once = λ n. subst (λ ns. times n ns ≤ 1) (sym numbers) (kept.once n);
-  below = λ n some. kept.below n (subst (λ ns. 0 < times n ns) numbers some);
   bare = λ n none. kept.bare n (ap (times n) (sym numbers) ∙ none);
 }
 
 -- another queue at a number that a slot has
-pub kept_queued : (slots : List Slot) (queues : List Queue) (n : ℕ) (q : Queue) → 0 < times n (numbers_of slots) → AreKept slots queues → AreKept slots (set queues n q)
+pub kept_queued : (slots : List Slot) (queues : Queues) (n : ℕ) (q : Queue) → 0 < times n (numbers_of slots) → AreKept slots queues → AreKept slots (set_at queues n q)
 kept_queued slots queues n q more kept = record {
   rise = kept.rise;
   once = kept.once;
-  below = λ m some. subst (λ l. m < l) (sym (length-set queues n q)) (kept.below m some);
   bare = λ m none. queue_other queues n m q (other m none) ∙ kept.bare m none;
 }
   where
@@ -45,13 +37,12 @@ kept_queued slots queues n q more kept = record {
         by_test false is = refl
 
 -- a slot goes in with a number that no slot has, and has this queue
-pub kept_inserted : (slots new : List Slot) (queues new_queues : List Queue) (i : ℕ) (x : Slot) (q : Queue) → AreKept slots queues → times x.number (numbers_of slots) ≡ 0 → x.number < length queues → new ≡ insert slots i x → new_queues ≡ set queues x.number q →
+pub kept_inserted : (slots new : List Slot) (queues new_queues : Queues) (i : ℕ) (x : Slot) (q : Queue) → AreKept slots queues → times x.number (numbers_of slots) ≡ 0 → new ≡ insert slots i x → new_queues ≡ set_at queues x.number q →
     KeysRise (rows_of new_queues new) → AreKept new new_queues
-kept_inserted slots new queues new_queues i x q kept apart below new_is queues_are rise = record {
-  rise = rise_any new_queues [] new rise;
+kept_inserted slots new queues new_queues i x q kept apart new_is queues_are rise = record {
+  rise = rise_any new_queues no_queues new rise;
   once = λ m. subst (λ k. k ≤ 1) (sym (count m)) (at_most m (eqb x.number m) refl (kept.once m));
-  below = λ m some. subst (λ l. m < l) (sym (ap length queues_are ∙ length-set queues x.number q)) (below_now m (eqb x.number m) refl (subst (λ k. 0 < k) (count m) some));
-  bare = λ m none. ap (λ (qs : List Queue). queue_at qs m) queues_are ∙ by_test m (eqb x.number m) refl (sym (count m) ∙ none);
+  bare = λ m none. ap (λ (qs : Queues). queue_at qs m) queues_are ∙ by_test m (eqb x.number m) refl (sym (count m) ∙ none);
 }
   where
     count : (m : ℕ) → times m (numbers_of new) ≡ times m (numbers_of slots) + cond (eqb x.number m) 1 0
@@ -64,24 +55,17 @@ kept_inserted slots new queues new_queues i x q kept apart below new_is queues_a
         omega (arith, none)
     at_most m false e once = omega (arith, once)
 
-    below_now : (m : ℕ) (b : Bool) → eqb x.number m ≡ b → 0 < times m (numbers_of slots) + cond b 1 0 → m < length queues
-    below_now m true e some =
-        let same : x.number ≡ m = grind (arith, nat_tests, e) in
-        subst (λ n. n < length queues) same below
-    below_now m false e some = kept.below m (omega (arith, some))
-
-    by_test : (m : ℕ) (b : Bool) → eqb x.number m ≡ b → times m (numbers_of slots) + cond b 1 0 ≡ 0 → queue_at (set queues x.number q) m ≡ []
+    by_test : (m : ℕ) (b : Bool) → eqb x.number m ≡ b → times m (numbers_of slots) + cond b 1 0 ≡ 0 → queue_at (set_at queues x.number q) m ≡ []
     by_test m true e none = absurd (omega (arith, none))
     by_test m false e none =
         let other : eqb m x.number ≡ false = grind (arith, nat_tests, e) in
         queue_other queues x.number m q other ∙ kept.bare m (omega (arith, none))
 
 -- a slot goes whose queue is empty
-pub kept_removed : (slots new : List Slot) (queues : List Queue) (i : ℕ) (e : Slot) → AreKept slots queues → i < length slots → e ≡ get_or slots i e → new ≡ take i slots ++ drop (suc i) slots → queue_at queues e.number ≡ [] → KeysRise (rows_of queues new) → AreKept new queues
+pub kept_removed : (slots new : List Slot) (queues : Queues) (i : ℕ) (e : Slot) → AreKept slots queues → i < length slots → e ≡ get_or slots i e → new ≡ take i slots ++ drop (suc i) slots → queue_at queues e.number ≡ [] → KeysRise (rows_of queues new) → AreKept new queues
 kept_removed slots new queues i e kept lt is new_is empty rise = record {
-  rise = rise_any queues [] new rise;
+  rise = rise_any queues no_queues new rise;
   once = λ m. let c = count m in let o = kept.once m in omega (arith, c, o);
-  below = λ m some. let c = count m in kept.below m (omega (arith, c, some));
   bare = λ m none. by_test m (eqb e.number m) refl (count m) none;
 }
   where
@@ -93,7 +77,3 @@ kept_removed slots new queues i e kept lt is new_is empty rise = record {
         let same : e.number ≡ m = grind (arith, nat_tests, at) in
         ap (queue_at queues) (sym same) ∙ empty
     by_test m false at c none = kept.bare m (omega (arith, c, none))
-
-pub length-none : (n : ℕ) → length (replicate {A = Queue} n []) ≡ n
-length-none zero = refl
-length-none (suc n) = ap suc (length-none n)

@@ -1,5 +1,5 @@
 -- What the moments keep in all slots, and what becomes of the rows and of the writes.
-use Rattle.std.proofs.Common.{◌≡◌, ℕ, zero, suc, ◌+◌, ◌<◌, ◌≤◌, List, [], ◌∷◌, ◌++◌, length, map, take, drop, get_or, set, Option, Some, None, is_some, option_map, refl, sym, ap, ◌∙◌, subst, arith, cond, Bool, true, false, replicate}
+use Rattle.std.proofs.Common.{◌≡◌, ℕ, zero, suc, ◌+◌, ◌<◌, ◌≤◌, List, [], ◌∷◌, ◌++◌, length, map, take, drop, get_or, set, Option, Some, None, is_some, option_map, refl, sym, ap, ◌∙◌, subst, arith, cond, Bool, true, false}
 use Rattle.std.specs.Prelude.{All, insert}
 use Rattle.std.specs.FinMap.{find}
 use Rattle.std.proofs.lemmas.List.Elements.{All-map, All-set, All-append, All-take, All-drop}
@@ -10,15 +10,14 @@ use Rattle.pc_model.specs.Database.{KeysRise, key_cmp, same_bytes, written}
 use Rattle.pc_model.specs.Locks.{Queue}
 use Rattle.pc_types.specs.Phases.{same_class}
 use Rattle.pc_model.proofs.PlaceLaws.{rest_at}
-use Rattle.pc_locks.specs.States.{queue_at}
-use Rattle.pc_locks.proofs.QueueRowLaws.{none_at}
+use Rattle.pc_locks.specs.States.{Queues, queue_at}
 use Rattle.pc_records.specs.declared.versions.Writer.{Writer}
 use Rattle.pc_table.specs.Rows.{Row as TableRow}
 use Rattle.pc_records.specs.declared.slots.Cell.{Cell}
 use Rattle.pc_records.specs.Rows.{Row, record_of, is_in_closed_set}
 use Rattle.pc_records.specs.RowSteps.{given, written_row, closed_row, committed_row}
 use Rattle.pc_records.specs.Tables.{Pending, value_of}
-use Rattle.pc_records.specs.Slots.{Slot, row_of, rows_of, numbers_of, pending_in, write_of, pending_of, with_entry, entries_of, is_prepared, IsSound, AreSound, AreKept, at_key, at_writes, settled, undone, closed_slot, slot_with, slots_in, base_cell, cells_in, base_row}
+use Rattle.pc_records.specs.Slots.{no_queues, Slot, row_of, rows_of, numbers_of, pending_in, write_of, pending_of, with_entry, entries_of, is_prepared, IsSound, AreSound, AreKept, at_key, at_writes, settled, undone, closed_slot, slot_with, slots_in, base_cell, cells_in, base_row}
 use Rattle.pc_records.proofs.BlankSlots.{blank_slot}
 use Rattle.pc_records.proofs.SlotRising.{keys_of, rise_same}
 use Rattle.pc_records.proofs.SlotKeeping.{kept_same}
@@ -35,32 +34,32 @@ pub numbers_map : (g : Slot → Slot) (slots : List Slot) → ((s : Slot) → (g
 numbers_map g [] keeps = refl
 numbers_map g (x ∷ xs) keeps = ap (λ (n : ℕ). n ∷ numbers_of (map g xs)) (keeps x) ∙ ap (λ (ns : List ℕ). x.number ∷ ns) (numbers_map g xs keeps)
 
-pub kept_map : (g : Slot → Slot) (slots new : List Slot) (queues : List Queue) → new ≡ map g slots → ((s : Slot) → (g s).key ≡ s.key) → ((s : Slot) → (g s).number ≡ s.number) → AreKept slots queues → AreKept new queues
+pub kept_map : (g : Slot → Slot) (slots new : List Slot) (queues : Queues) → new ≡ map g slots → ((s : Slot) → (g s).key ≡ s.key) → ((s : Slot) → (g s).number ≡ s.number) → AreKept slots queues → AreKept new queues
 kept_map g slots new queues is keys numbers kept = kept_same slots new queues (ap keys_of is ∙ keys_map g slots keys) (ap numbers_of is ∙ numbers_map g slots numbers) kept
 
-pub rise_map : (g : Slot → Slot) (slots : List Slot) → ((s : Slot) → (g s).key ≡ s.key) → KeysRise (rows_of [] slots) → KeysRise (rows_of [] (map g slots))
+pub rise_map : (g : Slot → Slot) (slots : List Slot) → ((s : Slot) → (g s).key ≡ s.key) → KeysRise (rows_of no_queues slots) → KeysRise (rows_of no_queues (map g slots))
 rise_map g slots keys rise = rise_same slots (map g slots) (keys_map g slots keys) rise
 
 -- the slot is sound beside these queues
-abbrev pub IsSoundIn : ℕ → List Queue → Slot → Type 0
+abbrev pub IsSoundIn : ℕ → Queues → Slot → Type 0
 IsSoundIn point queues slot = IsSound point (queue_at queues slot.number) slot
 
 -- all slots are sound
-pub sound_map : (g : Slot → Slot) (point later : ℕ) (queues : List Queue) (slots new : List Slot) → new ≡ map g slots → ((k : ℕ) (d : Slot) → k < length slots → IsSound point (queue_at queues (get_or slots k d).number) (get_or slots k d) → IsSound later (queue_at queues (g (get_or slots k d)).number) (g (get_or slots k d))) →
+pub sound_map : (g : Slot → Slot) (point later : ℕ) (queues : Queues) (slots new : List Slot) → new ≡ map g slots → ((k : ℕ) (d : Slot) → k < length slots → IsSound point (queue_at queues (get_or slots k d).number) (get_or slots k d) → IsSound later (queue_at queues (g (get_or slots k d)).number) (g (get_or slots k d))) →
     AreSound point queues slots → AreSound later queues new
 sound_map g point later queues slots new is each sound = record {
   each = subst (λ (ss : List Slot). All (λ slot. IsSound later (queue_at queues slot.number) slot) ss) (sym is) (All-map (λ (slot : Slot). IsSound later (queue_at queues slot.number) slot) g slots (λ k d lt. each k d lt (sound.each k d lt)));
 }
 
-pub sound_set : (point : ℕ) (queues : List Queue) (slots new : List Slot) (i : ℕ) (x : Slot) → new ≡ set slots i x → IsSound point (queue_at queues x.number) x → AreSound point queues slots → AreSound point queues new
+pub sound_set : (point : ℕ) (queues : Queues) (slots new : List Slot) (i : ℕ) (x : Slot) → new ≡ set slots i x → IsSound point (queue_at queues x.number) x → AreSound point queues slots → AreSound point queues new
 sound_set point queues slots new i x is one sound = record {
   each = subst (λ (ss : List Slot). All (λ slot. IsSound point (queue_at queues slot.number) slot) ss) (sym is) (All-set (λ (slot : Slot). IsSound point (queue_at queues slot.number) slot) slots i x one sound.each);
 }
 
-pub sound_queues : (point : ℕ) (queues new : List Queue) (slots : List Slot) → ((k : ℕ) (d : Slot) → k < length slots → IsSound point (queue_at queues (get_or slots k d).number) (get_or slots k d) → IsSound point (queue_at new (get_or slots k d).number) (get_or slots k d)) → AreSound point queues slots → AreSound point new slots
+pub sound_queues : (point : ℕ) (queues new : Queues) (slots : List Slot) → ((k : ℕ) (d : Slot) → k < length slots → IsSound point (queue_at queues (get_or slots k d).number) (get_or slots k d) → IsSound point (queue_at new (get_or slots k d).number) (get_or slots k d)) → AreSound point queues slots → AreSound point new slots
 sound_queues point queues new slots each sound = record { each = λ k d lt. each k d lt (sound.each k d lt) }
 
-pub sound_removed : (point : ℕ) (queues : List Queue) (slots new : List Slot) (i : ℕ) → new ≡ take i slots ++ drop (suc i) slots → AreSound point queues slots → AreSound point queues new
+pub sound_removed : (point : ℕ) (queues : Queues) (slots new : List Slot) (i : ℕ) → new ≡ take i slots ++ drop (suc i) slots → AreSound point queues slots → AreSound point queues new
 sound_removed point queues slots new i is sound = record {
   each = subst (λ (ss : List Slot). All (IsSoundIn point queues) ss) (sym is) (All-append (IsSoundIn point queues) (take i slots) (drop (suc i) slots) (All-take (IsSoundIn point queues) i slots sound.each) (All-drop (IsSoundIn point queues) (suc i) slots sound.each));
 }
@@ -75,7 +74,7 @@ all_insert P (y ∷ ys) zero x one all (suc k) d lt = all k d (omega (arith, lt)
 all_insert P (y ∷ ys) (suc i) x one all zero d lt = all 0 d (omega arith)
 all_insert P (y ∷ ys) (suc i) x one all (suc k) d lt = all_insert P ys i x one (λ j e in_range. all (suc j) e (omega (arith, in_range))) k d (omega (arith, lt))
 
-pub sound_inserted : (point : ℕ) (queues : List Queue) (slots new : List Slot) (i : ℕ) (x : Slot) → new ≡ insert slots i x → IsSound point (queue_at queues x.number) x → AreSound point queues slots → AreSound point queues new
+pub sound_inserted : (point : ℕ) (queues : Queues) (slots new : List Slot) (i : ℕ) (x : Slot) → new ≡ insert slots i x → IsSound point (queue_at queues x.number) x → AreSound point queues slots → AreSound point queues new
 sound_inserted point queues slots new i x is one sound = record { each = subst (λ (ss : List Slot). All (IsSoundIn point queues) ss) (sym is) (all_insert (IsSoundIn point queues) slots i x one sound.each) }
 
 -- what the slots have by key, where one slot is changed, inserted or removed
@@ -125,7 +124,7 @@ module _ (f : Slot → Slot) (keys : (s : Slot) → (f s).key ≡ s.key) (again 
       nothing (x ∷ xs) = ap (λ (ys : List Slot). x ∷ ys) (nothing xs)
 
   -- where what is changed has no writer, the writes are gone
-  pub pending_gone : (ws : List Write) (slots new : List Slot) → ((s : Slot) → (f s).writer ≡ None) → KeysRise (rows_of [] slots) → new ≡ map (at_writes f ws) slots → (q : List ℕ) → find key_cmp q (pending_of new) ≡ cond (is_some (written ws q)) None (find key_cmp q (pending_of slots))
+  pub pending_gone : (ws : List Write) (slots new : List Slot) → ((s : Slot) → (f s).writer ≡ None) → KeysRise (rows_of no_queues slots) → new ≡ map (at_writes f ws) slots → (q : List ℕ) → find key_cmp q (pending_of new) ≡ cond (is_some (written ws q)) None (find key_cmp q (pending_of slots))
   pending_gone ws slots new none rise is q =
       ap (λ (ss : List Slot). find key_cmp q (pending_of ss)) is ∙ find_entry pending_in (map (at_writes f ws) slots) q (rise_map (at_writes f ws) slots (key_at_writes ws) rise) ∙ ap (of_slot pending_in) (slot_map (at_writes f ws) slots q (key_at_writes ws))
       ∙ by_slot (slot_of slots q) refl ∙ sym (ap (λ o. cond (is_some (written ws q)) None o) (find_entry pending_in slots q rise))
@@ -145,7 +144,7 @@ module _ (f : Slot → Slot) (keys : (s : Slot) → (f s).key ≡ s.key) (again 
 number_at_writes : (f : Slot → Slot) → ((s : Slot) → (f s).number ≡ s.number) → (ws : List Write) (s : Slot) → (at_writes f ws s).number ≡ s.number
 number_at_writes f keeps ws s = elim (is_some (written ws s.key)) as (λ b. (cond b (f s) s).number ≡ s.number) [ true ↦ keeps s | false ↦ refl ]
 
-sound_at_writes : (f : Slot → Slot) (point : ℕ) (queues : List Queue) → ((s : Slot) → (f s).number ≡ s.number) → ((queue : Queue) (s : Slot) → IsSound point queue s → IsSound point queue (f s)) → (ws : List Write) (s : Slot) → IsSound point (queue_at queues s.number) s → IsSound point (queue_at queues (at_writes f ws s).number) (at_writes f ws s)
+sound_at_writes : (f : Slot → Slot) (point : ℕ) (queues : Queues) → ((s : Slot) → (f s).number ≡ s.number) → ((queue : Queue) (s : Slot) → IsSound point queue s → IsSound point queue (f s)) → (ws : List Write) (s : Slot) → IsSound point (queue_at queues s.number) s → IsSound point (queue_at queues (at_writes f ws s).number) (at_writes f ws s)
 sound_at_writes f point queues keeps each ws s sound = by_test (is_some (written ws s.key))
   where
     by_test : (b : Bool) → IsSound point (queue_at queues (cond b (f s) s).number) (cond b (f s) s)
@@ -153,7 +152,7 @@ sound_at_writes f point queues keeps each ws s sound = by_test (is_some (written
     by_test false = sound
 
 -- the writes are committed
-module _ (point : ℕ) (ws : List Write) (slots new : List Slot) (queues : List Queue) (is : new ≡ map (at_writes (settled point) ws) slots) (kept : AreKept slots queues) where
+module _ (point : ℕ) (ws : List Write) (slots new : List Slot) (queues : Queues) (is : new ≡ map (at_writes (settled point) ws) slots) (kept : AreKept slots queues) where
   pub kept_settled : AreKept new queues
   kept_settled = kept_map (at_writes (settled point) ws) slots new queues is (key_at_writes (settled point) (settled_key point) (settled_again point) ws) (number_at_writes (settled point) (settled_number point) ws) kept
 
@@ -191,7 +190,7 @@ module _ (point : ℕ) (ws : List Write) (slots new : List Slot) (queues : List 
           ap (option_map value_of) (sym (find_entry pending_in slots q kept.rise ∙ ap (of_slot pending_in) found)) ∙ stand q (ap (λ k. is_some (written ws k)) key ∙ some) ∙ ap (written ws) key
 
 -- the writes are undone
-module _ (point : ℕ) (ws : List Write) (slots new : List Slot) (queues : List Queue) (is : new ≡ map (at_writes (undone point) ws) slots) (kept : AreKept slots queues) (sound : AreSound point queues slots) where
+module _ (point : ℕ) (ws : List Write) (slots new : List Slot) (queues : Queues) (is : new ≡ map (at_writes (undone point) ws) slots) (kept : AreKept slots queues) (sound : AreSound point queues slots) where
   pub kept_undone : AreKept new queues
   kept_undone = kept_map (at_writes (undone point) ws) slots new queues is (key_at_writes (undone point) (undone_key point) (undone_again point) ws) (number_at_writes (undone point) (undone_number point) ws) kept
 
@@ -213,7 +212,7 @@ module _ (point : ℕ) (ws : List Write) (slots new : List Slot) (queues : List 
   rows_undone = ap (rows_of queues) is ∙ undone_all slots sound.each
 
 -- the open set is closed
-module _ (point later : ℕ) (slots new : List Slot) (queues : List Queue) (is : new ≡ map closed_slot slots) (kept : AreKept slots queues) (sound : AreSound point queues slots) (after : point < later)
+module _ (point later : ℕ) (slots new : List Slot) (queues : Queues) (is : new ≡ map closed_slot slots) (kept : AreKept slots queues) (sound : AreSound point queues slots) (after : point < later)
     (none : (q : List ℕ) → is_in_closed_set (record_of (rows_of queues slots) q) ≡ false) (during : (q : List ℕ) (p : Pending) → find key_cmp q (pending_of slots) ≡ Some p → p.class ≡ During) where
   all_open : All (λ s. s.is_in_closed_set ≡ false) slots
   all_open = all_found (λ s. s.is_in_closed_set ≡ false) slots kept.rise (λ q s found. sym (ap is_in_closed_set (find_row queues slots q ∙ ap (record_in queues) found)) ∙ none q)
@@ -252,7 +251,7 @@ module _ (point later : ℕ) (slots new : List Slot) (queues : List Queue) (is :
 
 -- the first slots
 -- a row that has the value of a pair alone
-first_cell : (r : TableRow Cell) (rs : List (TableRow Cell)) (p : List ℕ × List ℕ) (ps : List (List ℕ × List ℕ)) → cells_in (r ∷ rs) ≡ map base_row (p ∷ ps) → r.1.1 ≡ base_cell (Some p.1)
+pub first_cell : (r : TableRow Cell) (rs : List (TableRow Cell)) (p : List ℕ × List ℕ) (ps : List (List ℕ × List ℕ)) → cells_in (r ∷ rs) ≡ map base_row (p ∷ ps) → r.1.1 ≡ base_cell (Some p.1)
 first_cell r rs p ps e = ap (λ (c : List ℕ × Cell). c.1) (same_head e)
   where
     same_head : {A : Type 0} {x y : A} {xs ys : List A} → x ∷ xs ≡ y ∷ ys → x ≡ y
@@ -264,7 +263,7 @@ first_key r rs p ps e = ap (λ (c : List ℕ × Cell). c.0) (same_head e)
     same_head : {A : Type 0} {x y : A} {xs ys : List A} → x ∷ xs ≡ y ∷ ys → x ≡ y
     same_head e = cc
 
-other_cells : (r : TableRow Cell) (rs : List (TableRow Cell)) (p : List ℕ × List ℕ) (ps : List (List ℕ × List ℕ)) → cells_in (r ∷ rs) ≡ map base_row (p ∷ ps) → cells_in rs ≡ map base_row ps
+pub other_cells : (r : TableRow Cell) (rs : List (TableRow Cell)) (p : List ℕ × List ℕ) (ps : List (List ℕ × List ℕ)) → cells_in (r ∷ rs) ≡ map base_row (p ∷ ps) → cells_in rs ≡ map base_row ps
 other_cells r rs p ps e = same_tail e
   where
     same_tail : {A : Type 0} {x y : A} {xs ys : List A} → x ∷ xs ≡ y ∷ ys → xs ≡ ys
@@ -273,7 +272,7 @@ other_cells r rs p ps e = same_tail e
 module _ (side : Side) where
   -- the first slots, which have the values of pairs alone
   module _ (pairs : List (List ℕ × List ℕ)) (rows : List (TableRow Cell)) (are : cells_in rows ≡ map base_row pairs) where
-    pub sound_first : (queues : List Queue) → AreSound 0 queues (slots_in side rows)
+    pub sound_first : (queues : Queues) → AreSound 0 queues (slots_in side rows)
     sound_first queues = record { each = all rows pairs are }
       where
         one : (number : ℕ) (key : List ℕ) (cell : Cell) (value : List ℕ) → cell ≡ base_cell (Some value) → (queue : Queue) → IsSound 0 queue (slot_with side number key cell)
@@ -293,14 +292,14 @@ module _ (side : Side) where
         all (r ∷ rs) [] e = absurd cc
         all (r ∷ rs) (p ∷ ps) e = ap (λ (c : Cell). with_entry r.0 (write_of c.writer c.live) (pending_of (slots_in side rs))) (first_cell r rs p ps e) ∙ all rs ps (other_cells r rs p ps e)
 
-    pub rows_first : (capacity : ℕ) → rows_of (replicate capacity []) (slots_in side rows) ≡ map committed_row pairs
-    rows_first capacity = all rows pairs are
+    pub rows_first : (queues : Queues) → ((n : ℕ) → queue_at queues n ≡ []) → rows_of queues (slots_in side rows) ≡ map committed_row pairs
+    rows_first queues none = all rows pairs are
       where
-        all : (rs : List (TableRow Cell)) (ps : List (List ℕ × List ℕ)) → cells_in rs ≡ map base_row ps → rows_of (replicate capacity []) (slots_in side rs) ≡ map committed_row ps
+        all : (rs : List (TableRow Cell)) (ps : List (List ℕ × List ℕ)) → cells_in rs ≡ map base_row ps → rows_of queues (slots_in side rs) ≡ map committed_row ps
         all [] [] e = refl
         all [] (p ∷ ps) e = absurd cc
         all (r ∷ rs) [] e = absurd cc
         all (r ∷ rs) (p ∷ ps) e =
-            ap (λ (row : Row). row ∷ rows_of (replicate capacity []) (slots_in side rs)) (λ i. row_of (none_at capacity r.1.0 i ∷ []) (slot_with side 0 (first_key r rs p ps e i) (first_cell r rs p ps e i)))
-            ∙ ap (λ (s : Slot). row_of ([] ∷ []) s ∷ rows_of (replicate capacity []) (slots_in side rs)) (blank_slot side 0 p.0 (Some p.1))
+            ap (λ (row : Row). row ∷ rows_of queues (slots_in side rs)) (λ i. row_of (λ m. none r.1.0 i) (slot_with side 0 (first_key r rs p ps e i) (first_cell r rs p ps e i)))
+            ∙ ap (λ (s : Slot). row_of no_queues s ∷ rows_of queues (slots_in side rs)) (blank_slot side 0 p.0 (Some p.1))
             ∙ ap (λ (rest : List Row). committed_row p ∷ rest) (all rs ps (other_cells r rs p ps e))

@@ -8,27 +8,27 @@ use Rattle.std.proofs.Math.ListN.{get_or-map}
 use Rattle.std.proofs.lemmas.List.{get_or_default}
 use Rattle.std.proofs.lemmas.Bool.Decides.{nat_tests}
 use Rattle.pc_model.specs.Database.{key_cmp, key_order, KeysRise, same_bytes}
-use Rattle.pc_model.specs.Locks.{Queue}
+use Rattle.pc_locks.specs.States.{Queues}
 use Rattle.pc_model.specs.Places.{IsBehind, IsGap}
 use Rattle.pc_model.proofs.PlaceLaws.{at_hit, behind_more}
 use Rattle.pc_model.proofs.JoinLaws.{one_key}
 use Rattle.pc_records.specs.Rows.{Row, record_of}
-use Rattle.pc_records.specs.Slots.{Slot, row_of, rows_of, numbers_of, times, at_number, IsSlotOf, IsNewAt, IsNumbered}
+use Rattle.pc_records.specs.Slots.{no_queues, Slot, row_of, rows_of, numbers_of, times, at_number, IsSlotOf, IsNewAt, IsNumbered}
 use Rattle.pc_records.proofs.Queued.{times_at}
 
-pub length-rows : (queues : List Queue) (slots : List Slot) → length (rows_of queues slots) ≡ length slots
+pub length-rows : (queues : Queues) (slots : List Slot) → length (rows_of queues slots) ≡ length slots
 length-rows queues [] = refl
 length-rows queues (x ∷ xs) = grind (arith, length-rows queues xs)
 
 -- the key is greater than those of the first i slots, whatever the queues
 abbrev AreBehind : List Slot → List ℕ → ℕ → Type 0
-AreBehind slots key i = (queues : List Queue) → IsBehind (rows_of queues slots) key i
+AreBehind slots key i = (queues : Queues) → IsBehind (rows_of queues slots) key i
 
 module _ (slots : List Slot) (key : List ℕ) (i : ℕ) (e : Slot) (lt : i < length slots) (is : e ≡ get_or slots i e) where
-  in_rows : (queues : List Queue) → i < length (rows_of queues slots)
+  in_rows : (queues : Queues) → i < length (rows_of queues slots)
   in_rows queues = omega (arith, lt, length-rows queues slots)
 
-  is_row : (queues : List Queue) → row_of queues e ≡ get_or (rows_of queues slots) i (row_of queues e)
+  is_row : (queues : Queues) → row_of queues e ≡ get_or (rows_of queues slots) i (row_of queues e)
   is_row queues = ap (row_of queues) is ∙ sym (get_or-map (row_of queues) slots i e)
 
   slot_hit : AreBehind slots key i → key_cmp key e.key ≡ Equal → IsSlotOf slots key i
@@ -38,7 +38,7 @@ module _ (slots : List Slot) (key : List ℕ) (i : ℕ) (e : Slot) (lt : i < len
   slot_passed behind greater = λ queues. behind_more (rows_of queues slots) key i (row_of queues e) (in_rows queues) (is_row queues) (behind queues) greater
 
   -- the slot at its place has the key's record
-  pub slot_found : (queues : List Queue) → IsSlotOf slots key i → record_of (rows_of queues slots) key ≡ Some (row_of queues e).1
+  pub slot_found : (queues : Queues) → IsSlotOf slots key i → record_of (rows_of queues slots) key ≡ Some (row_of queues e).1
   slot_found queues at = (at queues).finds (row_of queues e) ∙ ap (λ (row : Row). Some row.1) (sym (is_row queues))
 
 first_of : (a b : Bool) → (a && b) ≡ true → a ≡ true
@@ -63,17 +63,17 @@ is_equal Greater h = cc
 turned : (k l : List ℕ) (o : Ordering) → key_cmp k l ≡ o → key_cmp l k ≡ ordering_reverse o
 turned k l o is = key_order.total.antisymm l k ∙ ap ordering_reverse is
 
-below_far : (key : List ℕ) (slots : List Slot) (j : ℕ) (d : Slot) → below_all key_cmp key (rows_of [] slots) ≡ true → j < length slots → key_cmp key (get_or slots j d).key ≡ Less
+below_far : (key : List ℕ) (slots : List Slot) (j : ℕ) (d : Slot) → below_all key_cmp key (rows_of no_queues slots) ≡ true → j < length slots → key_cmp key (get_or slots j d).key ≡ Less
 below_far key [] j d below lt = absurd (omega (arith, lt))
 below_far key (x ∷ xs) zero d below lt = is_less (key_cmp key x.key) (first_of _ _ below)
 below_far key (x ∷ xs) (suc j) d below lt = below_far key xs j d (second_of (is_lt (key_cmp key x.key)) _ below) (omega (arith, lt))
 
 -- each key is less than all behind it
-rise_far : (slots : List Slot) (i j : ℕ) (d : Slot) → KeysRise (rows_of [] slots) → i < j → j < length slots → key_cmp (get_or slots i d).key (get_or slots j d).key ≡ Less
+rise_far : (slots : List Slot) (i j : ℕ) (d : Slot) → KeysRise (rows_of no_queues slots) → i < j → j < length slots → key_cmp (get_or slots i d).key (get_or slots j d).key ≡ Less
 rise_far [] i j d rise before lt = absurd (omega (arith, lt))
 rise_far (x ∷ xs) i zero d rise before lt = absurd (omega (arith, before))
 rise_far (x ∷ xs) zero (suc j) d rise before lt = below_far x.key xs j d (first_of _ _ rise) (omega (arith, lt))
-rise_far (x ∷ xs) (suc i) (suc j) d rise before lt = rise_far xs i j d (second_of (below_all key_cmp x.key (rows_of [] xs)) _ rise) (omega (arith, before)) (omega (arith, lt))
+rise_far (x ∷ xs) (suc i) (suc j) d rise before lt = rise_far xs i j d (second_of (below_all key_cmp x.key (rows_of no_queues xs)) _ rise) (omega (arith, before)) (omega (arith, lt))
 
 -- how the keys of the slots stand to this one
 abbrev against : List ℕ → Slot → Ordering
@@ -91,7 +91,7 @@ behind slots key (suc i) d le less =
     subst (AreBehind slots key) (add-one i) (slot_passed slots key i e lt (get_or_default slots i d e lt) (behind slots key i d (omega (arith, le)) (λ k d before. less k d (omega (arith, before)))) (turned e.key key Less (less i d (omega arith))))
 
 -- the slot that has the key
-pub slot_of_key : (slots : List Slot) (key : List ℕ) (i : ℕ) → i < length slots → KeysRise (rows_of [] slots) → ((d : Slot) → same_bytes key (get_or slots i d).key ≡ true) → IsSlotOf slots key i
+pub slot_of_key : (slots : List Slot) (key : List ℕ) (i : ℕ) → i < length slots → KeysRise (rows_of no_queues slots) → ((d : Slot) → same_bytes key (get_or slots i d).key ≡ true) → IsSlotOf slots key i
 slot_of_key [] key i lt rise at = absurd (omega (arith, lt))
 slot_of_key (x ∷ xs) key i lt rise at =
     let slots : List Slot = x ∷ xs in
@@ -104,7 +104,7 @@ abbrev pub place : List ℕ → List Slot → ℕ
 place key [] = 0
 place key (s ∷ ss) = by_order (key_cmp key s.key) 0 0 (suc (place key ss))
 
-gap_rows : (queues : List Queue) (key : List ℕ) (slots : List Slot) → record_of (rows_of queues slots) key ≡ None → IsGap (rows_of queues slots) key (place key slots)
+gap_rows : (queues : Queues) (key : List ℕ) (slots : List Slot) → record_of (rows_of queues slots) key ≡ None → IsGap (rows_of queues slots) key (place key slots)
 gap_rows queues key [] none = record { in_range = omega arith; finds = refl; puts = λ v. refl }
 gap_rows queues key (s ∷ ss) none = by_test (key_cmp key s.key) refl none (gap_rows queues key ss)
   where
@@ -117,7 +117,7 @@ gap_rows queues key (s ∷ ss) none = by_test (key_cmp key s.key) refl none (gap
         let within = gap.in_range in
         record { in_range = omega (arith, within); finds = rw is none; puts = λ v. rw is (ap (λ (rows : List Row). row_of queues s ∷ rows) (gap.puts v)) }
 
-pub gap_at : (key : List ℕ) (slots : List Slot) → ((queues : List Queue) → record_of (rows_of queues slots) key ≡ None) → IsNewAt slots key (place key slots)
+pub gap_at : (key : List ℕ) (slots : List Slot) → ((queues : Queues) → record_of (rows_of queues slots) key ≡ None) → IsNewAt slots key (place key slots)
 gap_at key slots none = λ queues. gap_rows queues key slots (none queues)
 
 -- the slot of a number

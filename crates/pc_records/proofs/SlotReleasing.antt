@@ -5,14 +5,14 @@ use Rattle.std.proofs.Math.ListN.{get_or-map}
 use Rattle.pc_model.specs.Locks.{Queue, queue_without}
 use Rattle.pc_model.specs.Queues.{stands_in}
 use Rattle.pc_model.proofs.QueueLaws.{stands_granted}
-use Rattle.pc_locks.specs.States.{Lists, queue_at, slots_of, first_of, rest_of, is_listed, AreLinked}
+use Rattle.pc_locks.specs.States.{Queues, Lists, queue_at, slots_of, first_of, rest_of, is_listed, AreLinked}
 use Rattle.pc_records.specs.Rows.{Row, Record, is_kept}
 use Rattle.pc_records.specs.RowSteps.{if_kept, with_row, released, released_rows}
 use Rattle.pc_records.specs.Slots.{Slot, row_of, rows_of, numbers_of, times, AreKept, IsNumbered, tidied}
 use Rattle.pc_records.proofs.SlotPlaces.{length-rows}
-use Rattle.pc_records.proofs.Queued.{with_queue, rows-at, times_at}
+use Rattle.pc_records.proofs.Queued.{set_at, with_queue, rows-at, times_at}
 use Rattle.pc_records.proofs.Turning.{any_slot}
-use Rattle.pc_records.proofs.SlotKeeping.{number_below, kept_queued}
+use Rattle.pc_records.proofs.SlotKeeping.{kept_queued}
 
 keeps_out : (t : ℕ) (rs : Queue) → stands_in (filter (λ r. not (eqb r.transaction t)) rs) t ≡ false
 keeps_out t [] = refl
@@ -51,14 +51,14 @@ release_first t (row ∷ rows) zero d lt stands = by_test (is_kept (without t ro
 release_first t (row ∷ rows) (suc i) d lt stands = ap (λ (rs : List Row). with_row (released t row.1) row.0 rs) (release_first t rows i d (omega (arith, lt)) stands)
 
 -- where no request stands, nothing is released
-pub none_released : (t : ℕ) (queues : List Queue) (slots : List Slot) → ((n : ℕ) → stands_in (queue_at queues n) t ≡ false) → rows_of queues slots ≡ released_rows t (rows_of queues slots)
+pub none_released : (t : ℕ) (queues : Queues) (slots : List Slot) → ((n : ℕ) → stands_in (queue_at queues n) t ≡ false) → rows_of queues slots ≡ released_rows t (rows_of queues slots)
 none_released t queues [] none = refl
 none_released t queues (x ∷ xs) none =
     ap (λ (rs : List Row). row_of queues x ∷ rs) (none_released t queues xs none)
     ∙ ap (λ b. with_row (cond b (if_kept (without t (row_of queues x).1)) (Some (row_of queues x).1)) x.key (released_rows t (rows_of queues xs))) (sym (none x.number))
 
 -- a transaction with an empty list stands nowhere
-pub stands_nowhere : (t : ℕ) (queues : List Queue) (lists : Lists) → AreLinked queues lists → None ≡ first_of (slots_of lists t) → (n : ℕ) → stands_in (queue_at queues n) t ≡ false
+pub stands_nowhere : (t : ℕ) (queues : Queues) (lists : Lists) → AreLinked queues lists → None ≡ first_of (slots_of lists t) → (n : ℕ) → stands_in (queue_at queues n) t ≡ false
 stands_nowhere t queues lists linked none n = by_list (slots_of lists t) none (linked.listed t n)
   where
     by_list : (ns : List ℕ) → None ≡ first_of ns → is_listed ns n ≡ stands_in (queue_at queues n) t → stands_in (queue_at queues n) t ≡ false
@@ -66,7 +66,7 @@ stands_nowhere t queues lists linked none n = by_list (slots_of lists t) none (l
     by_list (m ∷ ms) e listed = absurd cc
 
 -- and it stands at the first slot of its list
-pub stands_first : (t n : ℕ) (queues : List Queue) (lists : Lists) → AreLinked queues lists → Some n ≡ first_of (slots_of lists t) → stands_in (queue_at queues n) t ≡ true
+pub stands_first : (t n : ℕ) (queues : Queues) (lists : Lists) → AreLinked queues lists → Some n ≡ first_of (slots_of lists t) → stands_in (queue_at queues n) t ≡ true
 stands_first t n queues lists linked first = by_list (slots_of lists t) first (linked.listed t n)
   where
     by_list : (ns : List ℕ) → Some n ≡ first_of ns → is_listed ns n ≡ stands_in (queue_at queues n) t → stands_in (queue_at queues n) t ≡ true
@@ -82,7 +82,7 @@ shorter n [] new e is = absurd cc
 shorter n (m ∷ ms) new e is = rw is (omega arith)
 
 -- where the transaction stands there is a slot
-pub slot_there : (t n : ℕ) (slots : List Slot) (queues : List Queue) → AreKept slots queues → stands_in (queue_at queues n) t ≡ true → times n (numbers_of slots) ≡ 0 → ⊥
+pub slot_there : (t n : ℕ) (slots : List Slot) (queues : Queues) → AreKept slots queues → stands_in (queue_at queues n) t ≡ true → times n (numbers_of slots) ≡ 0 → ⊥
 slot_there t n slots queues kept stands none =
     let empty : queue_at queues n ≡ [] = kept.bare n none in
     let no : false ≡ true = ap (λ q. stands_in q t) (sym empty) ∙ stands in
@@ -91,7 +91,7 @@ slot_there t n slots queues kept stands none =
     no_case : false ≡ true → ⊥
     no_case e = cc
 
-module _ (t n : ℕ) (slots : List Slot) (queues new_queues : List Queue) (i : ℕ) (kept : AreKept slots queues) (stands : stands_in (queue_at queues n) t ≡ true) (there : IsNumbered slots n i) (changed : new_queues ≡ set queues n (queue_without (queue_at queues n) t)) where
+module _ (t n : ℕ) (slots : List Slot) (queues new_queues : Queues) (i : ℕ) (kept : AreKept slots queues) (stands : stands_in (queue_at queues n) t ≡ true) (there : IsNumbered slots n i) (changed : new_queues ≡ set_at queues n (queue_without (queue_at queues n) t)) where
   pub kept_without : AreKept slots new_queues
   kept_without = subst (AreKept slots) (sym changed) (kept_queued slots queues n (queue_without (queue_at queues n) t) (times_at n slots i any_slot there.in_range (there.has any_slot)) kept)
 
@@ -99,8 +99,7 @@ module _ (t n : ℕ) (slots : List Slot) (queues new_queues : List Queue) (i : �
   rows_without : rows_of new_queues slots ≡ set (rows_of queues slots) i (with_queue (get_or slots i any_slot) (queue_without (queue_at queues n) t))
   rows_without =
       ap (λ qs. rows_of qs slots) changed
-      ∙ rows-at queues n (queue_without (queue_at queues n) t) slots i any_slot there.in_range (there.has any_slot) (subst (λ m. m < length queues) (there.has any_slot) (number_below slots queues i any_slot kept there.in_range))
-      (kept.once n)
+      ∙ rows-at queues n (queue_without (queue_at queues n) t) slots i any_slot there.in_range (there.has any_slot) (kept.once n)
 
   -- and what is released of the tidied rows is what was to be released
   pub released_first : (new : List Slot) → rows_of new_queues new ≡ tidied (rows_of new_queues slots) i → released_rows t (rows_of new_queues new) ≡ released_rows t (rows_of queues slots)

@@ -4,8 +4,8 @@ use Rattle.std.specs.FinMap.{is_sorted}
 use Rattle.std.specs.FinMap.Entries.{below_all}
 use Rattle.std.specs.Ordering.{is_lt}
 use Rattle.pc_model.specs.Database.{key_cmp, KeysRise}
-use Rattle.pc_model.specs.Locks.{Queue}
-use Rattle.pc_records.specs.Slots.{Slot, rows_of, contents_of}
+use Rattle.pc_locks.specs.States.{Queues}
+use Rattle.pc_records.specs.Slots.{no_queues, Slot, rows_of, contents_of}
 
 -- the keys of the slots
 abbrev pub keys_of : List Slot → List (List ℕ)
@@ -19,21 +19,21 @@ abbrev sorted_keys : List (List ℕ) → Bool
 sorted_keys [] = true
 sorted_keys (k ∷ ks) = below_keys k ks && sorted_keys ks
 
-below_is : (queues : List Queue) (key : List ℕ) (slots : List Slot) → below_all key_cmp key (rows_of queues slots) ≡ below_keys key (keys_of slots)
+below_is : (queues : Queues) (key : List ℕ) (slots : List Slot) → below_all key_cmp key (rows_of queues slots) ≡ below_keys key (keys_of slots)
 below_is queues key [] = refl
 below_is queues key (x ∷ xs) = ap (λ b. is_lt (key_cmp key x.key) && b) (below_is queues key xs)
 
-sorted_is : (queues : List Queue) (slots : List Slot) → is_sorted key_cmp (rows_of queues slots) ≡ sorted_keys (keys_of slots)
+sorted_is : (queues : Queues) (slots : List Slot) → is_sorted key_cmp (rows_of queues slots) ≡ sorted_keys (keys_of slots)
 sorted_is queues [] = refl
 sorted_is queues (x ∷ xs) = rw (below_is queues x.key xs, sorted_is queues xs) refl
 
 -- they rise whatever the queues
-pub rise_any : (p q : List Queue) (slots : List Slot) → KeysRise (rows_of p slots) → KeysRise (rows_of q slots)
+pub rise_any : (p q : Queues) (slots : List Slot) → KeysRise (rows_of p slots) → KeysRise (rows_of q slots)
 rise_any p q slots rise = sorted_is q slots ∙ (sym (sorted_is p slots) ∙ rise)
 
 -- and so do slots with the same keys
-pub rise_same : (slots new : List Slot) → keys_of new ≡ keys_of slots → KeysRise (rows_of [] slots) → KeysRise (rows_of [] new)
-rise_same slots new same rise = sorted_is [] new ∙ (ap sorted_keys same ∙ (sym (sorted_is [] slots) ∙ rise))
+pub rise_same : (slots new : List Slot) → keys_of new ≡ keys_of slots → KeysRise (rows_of no_queues slots) → KeysRise (rows_of no_queues new)
+rise_same slots new same rise = sorted_is no_queues new ∙ (ap sorted_keys same ∙ (sym (sorted_is no_queues slots) ∙ rise))
 
 -- and what is committed of the keys
 below_contents : (key : List ℕ) (slots : List Slot) → below_all key_cmp key (contents_of slots) ≡ below_keys key (keys_of slots)
@@ -44,5 +44,5 @@ sorted_contents : (slots : List Slot) → is_sorted key_cmp (contents_of slots) 
 sorted_contents [] = refl
 sorted_contents (x ∷ xs) = rw (below_contents x.key xs, sorted_contents xs) refl
 
-pub contents_rise : (slots : List Slot) → KeysRise (rows_of [] slots) → KeysRise (contents_of slots)
-contents_rise slots rise = sorted_contents slots ∙ (sym (sorted_is [] slots) ∙ rise)
+pub contents_rise : (slots : List Slot) → KeysRise (rows_of no_queues slots) → KeysRise (contents_of slots)
+contents_rise slots rise = sorted_contents slots ∙ (sym (sorted_is no_queues slots) ∙ rise)

@@ -3,7 +3,9 @@ use Rattle.std.proofs.Common.{◌≡◌, ℕ, zero, suc, ◌+◌, ◌<◌, List,
 use Rattle.std.specs.List.{list_any}
 use Rattle.std.proofs.lemmas.Bool.Decides.{nat_tests}
 use Rattle.pc_model.specs.Locks.{Queue, request_in, is_ungranted}
-use Rattle.pc_locks.specs.States.{queue_at}
+use Rattle.pc_locks.specs.States as states
+use Rattle.pc_locks.specs.States.{Queues, Lists, queue_at, slots_of, AreLinked}
+use Rattle.pc_locks.proofs.StateLaws.{ready_at}
 use Rattle.pc_records.specs.RowSteps.{is_waiting}
 use Rattle.pc_records.specs.Slots.{Slot, rows_of, numbers_of, times, AreKept}
 
@@ -19,7 +21,7 @@ or_true true = refl
 or_true false = refl
 
 -- none waits in a queue where none waits in the rows
-none_at : (t n : ℕ) (queues : List Queue) (slots : List Slot) → is_waiting (rows_of queues slots) t ≡ false → 0 < times n (numbers_of slots) → waits_in t (queue_at queues n) ≡ false
+none_at : (t n : ℕ) (queues : Queues) (slots : List Slot) → is_waiting (rows_of queues slots) t ≡ false → 0 < times n (numbers_of slots) → waits_in t (queue_at queues n) ≡ false
 none_at t n queues [] none more = absurd (omega (arith, more))
 none_at t n queues (x ∷ xs) none more =
     let parts = or_false (waits_in t (queue_at queues x.number)) (is_waiting (rows_of queues xs) t) none in
@@ -32,32 +34,27 @@ none_at t n queues (x ∷ xs) none more =
         ap (λ m. waits_in t (queue_at queues m)) (sym same) ∙ here
     by_test false is more here rest = rest more
 
-none_waits : (t n : ℕ) (queues : List Queue) (slots : List Slot) → ((n : ℕ) → times n (numbers_of slots) ≡ 0 → queue_at queues n ≡ []) → is_waiting (rows_of queues slots) t ≡ false → waits_in t (queue_at queues n) ≡ false
+none_waits : (t n : ℕ) (queues : Queues) (slots : List Slot) → ((n : ℕ) → times n (numbers_of slots) ≡ 0 → queue_at queues n ≡ []) → is_waiting (rows_of queues slots) t ≡ false → waits_in t (queue_at queues n) ≡ false
 none_waits t n queues slots bare none = by_count (times n (numbers_of slots)) refl
   where
     by_count : (m : ℕ) → times n (numbers_of slots) ≡ m → waits_in t (queue_at queues n) ≡ false
     by_count zero e = ap (waits_in t) (bare n e)
     by_count (suc m) e = none_at t n queues slots none (omega (arith, e))
 
-any_none : (t : ℕ) (queues : List Queue) → ((n : ℕ) → waits_in t (queue_at queues n) ≡ false) → list_any (waits_in t) queues ≡ false
-any_none t [] f = refl
-any_none t (q ∷ qs) f = rw (f 0) (any_none t qs (λ n. f (suc n)))
+any_none : (t : ℕ) (queues : Queues) (slots : List ℕ) → ((n : ℕ) → waits_in t (queue_at queues n) ≡ false) → list_any (λ n. waits_in t (queue_at queues n)) slots ≡ false
+any_none t queues [] f = refl
+any_none t queues (n ∷ ns) f = rw (f n) (any_none t queues ns f)
 
 -- and the other way round
-none_in_rows : (t : ℕ) (queues : List Queue) (slots : List Slot) → ((n : ℕ) → waits_in t (queue_at queues n) ≡ false) → is_waiting (rows_of queues slots) t ≡ false
+none_in_rows : (t : ℕ) (queues : Queues) (slots : List Slot) → ((n : ℕ) → waits_in t (queue_at queues n) ≡ false) → is_waiting (rows_of queues slots) t ≡ false
 none_in_rows t queues [] f = refl
 none_in_rows t queues (x ∷ xs) f = rw (f x.number) (none_in_rows t queues xs f)
 
-pub none_of : (t : ℕ) (queues : List Queue) → list_any (waits_in t) queues ≡ false → (n : ℕ) → waits_in t (queue_at queues n) ≡ false
-none_of t [] e n = refl
-none_of t (q ∷ qs) e zero = (or_false (waits_in t q) (list_any (waits_in t) qs) e).0
-none_of t (q ∷ qs) e (suc n) = none_of t qs (or_false (waits_in t q) (list_any (waits_in t) qs) e).1 n
-
-pub waits_same : (slots : List Slot) (queues : List Queue) (t : ℕ) → AreKept slots queues → list_any (waits_in t) queues ≡ is_waiting (rows_of queues slots) t
-waits_same slots queues t kept = by_test (list_any (waits_in t) queues) (is_waiting (rows_of queues slots) t) refl refl
+pub waits_same : (slots : List Slot) (queues : Queues) (lists : Lists) (t : ℕ) → AreLinked queues lists → AreKept slots queues → states.is_waiting (record { queues = queues; lists = lists }) t ≡ is_waiting (rows_of queues slots) t
+waits_same slots queues lists t linked kept = by_test (states.is_waiting (record { queues = queues; lists = lists }) t) (is_waiting (rows_of queues slots) t) refl refl
   where
-    by_test : (a b : Bool) → list_any (waits_in t) queues ≡ a → is_waiting (rows_of queues slots) t ≡ b → a ≡ b
+    by_test : (a b : Bool) → states.is_waiting (record { queues = queues; lists = lists }) t ≡ a → is_waiting (rows_of queues slots) t ≡ b → a ≡ b
     by_test true true e f = refl
     by_test false false e f = refl
-    by_test true false e f = sym e ∙ any_none t queues (λ n. none_waits t n queues slots kept.bare f)
-    by_test false true e f = sym (sym f ∙ none_in_rows t queues slots (none_of t queues e))
+    by_test true false e f = sym e ∙ any_none t queues (slots_of lists t) (λ n. none_waits t n queues slots kept.bare f)
+    by_test false true e f = sym (sym f ∙ none_in_rows t queues slots (ready_at queues lists t linked e))

@@ -9,14 +9,14 @@ use Rattle.std.specs.FinMap.Entries.{below_all, by_order}
 use Rattle.std.proofs.lemmas.Bool.Decides.{nat_tests}
 use Rattle.std.proofs.lemmas.List.{get_or_default}
 use Rattle.pc_model.specs.Database.{key_cmp, KeysRise, same_bytes}
-use Rattle.pc_model.specs.Locks.{Queue}
+use Rattle.pc_locks.specs.States.{Queues}
 use Rattle.pc_model.proofs.JoinLaws.{one_key}
 use Rattle.pc_model.proofs.RisingLaws.{both, none_below, Rise}
 use Rattle.pc_table.specs.Rows.{Row as TableRow, Contents, slot_of as table_slot, in_slot, with_record_in, HasRow, AreInSlots}
 use Rattle.pc_table.proofs.RowLaws.{no_row, same_some, slot_found, one_place, placed, record_found}
 use Rattle.pc_records.specs.declared.slots.Cell.{Cell}
 use Rattle.pc_records.specs.Rows.{record_of}
-use Rattle.pc_records.specs.Slots.{Slot, slot_with, slot_in, slots_in, rows_of, row_of, numbers_of, times, at_key, at_number, IsNumbered}
+use Rattle.pc_records.specs.Slots.{no_queues, Slot, slot_with, slot_in, slots_in, rows_of, row_of, numbers_of, times, at_key, at_number, IsNumbered}
 use Rattle.pc_records.proofs.Lookups.{slot_of, same_self, find_row, record_in, at_place}
 use Rattle.pc_records.proofs.Queued.{times_at}
 use Rattle.pc_records.proofs.SlotPlaces.{place, number_place, number_set}
@@ -50,18 +50,18 @@ no_find rows key e = by_place (find key_cmp key rows) e
 
 module _ (side : Side) where
   -- they rise as the rows do
-  below_slots : (key : List ℕ) (rows : List (TableRow Cell)) → below_all key_cmp key (rows_of [] (slots_in side rows)) ≡ below_all key_cmp key rows
+  below_slots : (key : List ℕ) (rows : List (TableRow Cell)) → below_all key_cmp key (rows_of no_queues (slots_in side rows)) ≡ below_all key_cmp key rows
   below_slots key [] = refl
   below_slots key (row ∷ rows) = rw (below_slots key rows) refl
 
-  sorted_slots : (rows : List (TableRow Cell)) → is_sorted key_cmp (rows_of [] (slots_in side rows)) ≡ is_sorted key_cmp rows
+  sorted_slots : (rows : List (TableRow Cell)) → is_sorted key_cmp (rows_of no_queues (slots_in side rows)) ≡ is_sorted key_cmp rows
   sorted_slots [] = refl
   sorted_slots (row ∷ rows) = rw (below_slots row.0 rows, sorted_slots rows) refl
 
-  pub slots_rise : (rows : List (TableRow Cell)) → Rise rows → KeysRise (rows_of [] (slots_in side rows))
+  pub slots_rise : (rows : List (TableRow Cell)) → Rise rows → KeysRise (rows_of no_queues (slots_in side rows))
   slots_rise rows rise = sorted_slots rows ∙ rise
 
-  pub rows_rise : (rows : List (TableRow Cell)) → KeysRise (rows_of [] (slots_in side rows)) → Rise rows
+  pub rows_rise : (rows : List (TableRow Cell)) → KeysRise (rows_of no_queues (slots_in side rows)) → Rise rows
   rows_rise rows rise = sym (sorted_slots rows) ∙ rise
 
   -- a number that has a row is that of a slot
@@ -165,7 +165,7 @@ module _ (side : Side) where
   pub no_slot_in : (rows : List (TableRow Cell)) (key : List ℕ) → table_slot rows key ≡ None → slot_of (slots_in side rows) key ≡ None
   no_slot_in rows key e = find_slots rows key ∙ ap (option_map (cell_of key)) (no_find rows key e)
 
-  pub no_record : (rows : List (TableRow Cell)) (key : List ℕ) (queues : List Queue) → table_slot rows key ≡ None → find key_cmp key (rows_of queues (slots_in side rows)) ≡ None
+  pub no_record : (rows : List (TableRow Cell)) (key : List ℕ) (queues : Queues) → table_slot rows key ≡ None → find key_cmp key (rows_of queues (slots_in side rows)) ≡ None
   no_record rows key queues e = find_row queues (slots_in side rows) key ∙ ap (record_in queues) (no_slot_in rows key e)
 
   -- a slot that gets another record
@@ -244,10 +244,10 @@ module _ (side : Side) where
   pub cell_found : (table : Contents Cell) → AreInSlots table → (key : List ℕ) (n : ℕ) (x : Cell) → table_slot table.rows key ≡ Some n → option_map (λ pair. pair.1) (in_slot table.rows n) ≡ Some x → slot_of (slots_in side table.rows) key ≡ Some (slot_with side n key x)
   cell_found table a key n x s e = find_slots table.rows key ∙ ap (option_map (cell_of key)) (record_found table key n a s x e)
 
-  pub record_there : (table : Contents Cell) → AreInSlots table → (key : List ℕ) (n : ℕ) (x : Cell) → table_slot table.rows key ≡ Some n → option_map (λ pair. pair.1) (in_slot table.rows n) ≡ Some x → (queues : List Queue) → record_of (rows_of queues (slots_in side table.rows)) key ≡ Some (row_of queues (slot_with side n key x)).1
+  pub record_there : (table : Contents Cell) → AreInSlots table → (key : List ℕ) (n : ℕ) (x : Cell) → table_slot table.rows key ≡ Some n → option_map (λ pair. pair.1) (in_slot table.rows n) ≡ Some x → (queues : Queues) → record_of (rows_of queues (slots_in side table.rows)) key ≡ Some (row_of queues (slot_with side n key x)).1
   record_there table a key n x s e queues = find_row queues (slots_in side table.rows) key ∙ ap (record_in queues) (cell_found table a key n x s e)
 
-  pub is_new_in : (rows : List (TableRow Cell)) (key : List ℕ) (queues : List Queue) → is_none (table_slot rows key) ≡ is_none (record_of (rows_of queues (slots_in side rows)) key)
+  pub is_new_in : (rows : List (TableRow Cell)) (key : List ℕ) (queues : Queues) → is_none (table_slot rows key) ≡ is_none (record_of (rows_of queues (slots_in side rows)) key)
   is_new_in rows key queues = by_place (find key_cmp key rows) ∙ sym (ap is_none (find_row queues (slots_in side rows) key ∙ ap (record_in queues) (find_slots rows key)))
     where
       by_place : (o : Option (ℕ × Cell)) → is_none (option_map (λ place. place.0) o) ≡ is_none (record_in queues (option_map (cell_of key) o))

@@ -4,7 +4,7 @@ use Rattle.std.specs.FinMap.{find}
 use Rattle.pc_types.specs.declared.Class.TheVariants.{During}
 use Rattle.pc_types.specs.Phases.{same_class}
 use Rattle.pc_model.specs.Database.{key_cmp, same_bytes}
-use Rattle.pc_model.specs.Locks.{Queue}
+use Rattle.pc_locks.specs.States.{Queues}
 use Rattle.pc_table.specs.Rows.{Contents, slot_of as table_slot, AreInSlots}
 use Rattle.pc_table.proofs.RowLaws.{placed}
 use Rattle.pc_records.specs.declared.slots.Cell.{Cell}
@@ -28,7 +28,7 @@ set_numbered (y ∷ ys) (suc i) n x lt is =
     record { in_range = omega (arith, within); has = rest.has }
 
 module _ (side : Side) where
-  module _ (table : Contents Cell) (a : AreInSlots table) (key : List ℕ) (id : ℕ) (s : table_slot table.rows key ≡ Some id) (point : ℕ) (queues : List Queue) (kept : AreKept (slots_in side table.rows) queues) (sound : AreSound point queues (slots_in side table.rows))
+  module _ (table : Contents Cell) (a : AreInSlots table) (key : List ℕ) (id : ℕ) (s : table_slot table.rows key ≡ Some id) (point : ℕ) (queues : Queues) (kept : AreKept (slots_in side table.rows) queues) (sound : AreSound point queues (slots_in side table.rows))
       (marked : List Slot) (marked_is : marked ≡ map (at_number (taken_slot point) id) (slots_in side table.rows)) where
     abbrev cell : Cell
     cell = (placed table.rows key id s).0

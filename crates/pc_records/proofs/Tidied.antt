@@ -1,21 +1,24 @@
 -- A slot that keeps its row, and one that nothing keeps.
-use Rattle.std.proofs.Common.{◌≡◌, ◌≢◌, ℕ, suc, ◌<◌, List, [], ◌∷◌, ◌++◌, map, take, drop, Option, Some, None, option_map, is_some, true, false, cond, eqb, refl, sym, ap, ◌∙◌, subst}
+use Rattle.std.proofs.Common.{◌≡◌, ◌≢◌, ℕ, suc, ◌<◌, List, [], ◌∷◌, ◌++◌, length, map, take, drop, Option, Some, None, option_map, is_some, Bool, true, false, not, ◌||◌, cond, eqb, refl, sym, ap, ◌∙◌, subst, arith}
+use Rattle.std.proofs.lemmas.Bool.Decides.{nat_tests}
 use Rattle.pc_types.specs.declared.Class.{Class}
 use Rattle.pc_types.specs.declared.Outcome.{Outcome}
 use Rattle.pc_types.specs.declared.Outcome.TheVariants.{Granted, Queued, Died}
 use Rattle.pc_model.specs.Locks.{Queue}
-use Rattle.pc_locks.specs.States.{queue_at}
+use Rattle.pc_locks.specs.States.{Queues, queue_at}
 use Rattle.pc_table.specs.Rows.{Row as TableRow, Contents, in_slot, without_slot, HasRow, AreInSlots}
 use Rattle.pc_table.proofs.RowLaws.{same_some}
 use Rattle.pc_records.specs.declared.slots.Cell.{Cell}
 use Rattle.pc_records.specs.Rows.{is_kept}
-use Rattle.pc_records.specs.Slots.{Slot, slot_with, slots_in, row_of, rows_of, pending_of, numbers_of, times, at_number, granted_slot, tidied, is_kept_slot, AreKept, AreSound, IsNumbered}
+use Rattle.pc_records.specs.Slots.{Slot, slot_with, slots_in, row_of, rows_of, pending_of, numbers_of, times, at_number, granted_slot, tidied, is_held, is_kept_slot, AreKept, AreSound, IsNumbered}
 use Rattle.pc_records.proofs.SlotPlaces.{number_place}
 use Rattle.pc_records.proofs.SlotMoments.{numbers_map, sound_removed}
 use Rattle.pc_records.proofs.Tidying.{slot_stays, slot_goes, keeps_without}
 use Rattle.pc_records.proofs.Freeing.{kept_test, pending_freed}
 use Rattle.pc_records.proofs.TableSlots.{IsPlaced, numbered_at, row_in, number_has, has_number, once_in, slot_gone}
 use Rattle.pc_dirty.specs.declared.side.Side.{Side}
+use Rattle.pc_dirty.specs.Sets.{other_side}
+use Rattle.pc_records.specs.Words.{is_marked}
 
 -- what is behind none
 pub none_behind : {A B : Type 0} (f : A → B) (o : Option A) (s : Option B) → option_map f o ≡ s → is_some o ≡ false → s ≡ None
@@ -44,7 +47,7 @@ module _ (side : Side) where
   pub row_stays : (old new : List (TableRow Cell)) (f : Slot → Slot) (n : ℕ) → ((s : Slot) → (f s).number ≡ s.number) → slots_in side new ≡ map (at_number f n) (slots_in side old) → HasRow old n → HasRow new n
   row_stays old new f n keeps is row = has_number side new n (subst (λ (ns : List ℕ). 0 < times n ns) (sym (ap numbers_of is ∙ numbers_map (at_number f n) (slots_in side old) (number_at f keeps n))) (number_has side old n row))
 
-  module _ (table : Contents Cell) (a : AreInSlots table) (point : ℕ) (queues : List Queue) (id : ℕ) (x : Cell) (row : HasRow table.rows id) (has : option_map (λ pair. pair.1) (in_slot table.rows id) ≡ Some x) (kept : AreKept (slots_in side table.rows) queues) (sound : AreSound point queues (slots_in side table.rows)) where
+  module _ (table : Contents Cell) (a : AreInSlots table) (point : ℕ) (queues : Queues) (id : ℕ) (x : Cell) (row : HasRow table.rows id) (has : option_map (λ pair. pair.1) (in_slot table.rows id) ≡ Some x) (kept : AreKept (slots_in side table.rows) queues) (sound : AreSound point queues (slots_in side table.rows)) where
     abbrev key : List ℕ
     key = (row_in table.rows id row).0.0
 
@@ -59,6 +62,17 @@ module _ (side : Side) where
 
     pub stays : is_kept_slot (queue_at queues id) (slot_with side id [] x) ≡ true → (i : ℕ) → IsNumbered (slots_in side table.rows) id i → rows_of queues (slots_in side table.rows) ≡ tidied (rows_of queues (slots_in side table.rows)) i
     stays keeps i at = slot_stays (slots_in side table.rows) (slots_in side table.rows) queues i (slot_with side id key x) (at_e i at).in_range (at_e i at).is (sym (test i at) ∙ keeps)
+
+    no_queue : (a b c d : Bool) (queue : Queue) → (a || (b || (not (eqb (length queue) 0) || (c || d)))) ≡ false → queue ≡ []
+    no_queue a b c d [] e = refl
+    no_queue true b c d (r ∷ rs) e = absurd cc
+    no_queue false true c d (r ∷ rs) e = absurd cc
+    no_queue false false c d (r ∷ rs) e =
+        let some : eqb (length (r ∷ rs)) 0 ≡ false = grind (arith, nat_tests) in
+        absurd (no (sym (ap (λ b. not b || (c || d)) some) ∙ e))
+      where
+        no : true ≡ false → ⊥
+        no e = cc
 
     module _ (new : Contents Cell) (gone : new ≡ without_slot table id) (nothing : is_kept_slot (queue_at queues id) (slot_with side id [] x) ≡ false) where
       left : (i : ℕ) → IsNumbered (slots_in side table.rows) id i → slots_in side new.rows ≡ take i (slots_in side table.rows) ++ drop (suc i) (slots_in side table.rows)
@@ -82,3 +96,6 @@ module _ (side : Side) where
 
       pub sound_gone : AreSound point queues (slots_in side new.rows)
       sound_gone = let p = some_place in sound_removed point queues (slots_in side table.rows) (slots_in side new.rows) p.0 (left p.0 p.1) sound
+
+      pub queue_gone : queue_at queues id ≡ []
+      queue_gone = no_queue (is_some x.live) (is_held x.stable) (is_marked side x) (is_marked (other_side side) x) (queue_at queues id) nothing

@@ -15,10 +15,10 @@ use Rattle.pc_model.specs.Places.{IsAt}
 use Rattle.pc_model.specs.Replies.{is_empty}
 use Rattle.pc_model.proofs.CountLaws.{and_both}
 use Rattle.pc_model.proofs.JoinLaws.{one_key}
-use Rattle.pc_locks.specs.States.{queue_at}
+use Rattle.pc_locks.specs.States.{Queues, queue_at}
 use Rattle.pc_records.specs.Rows.{Row, Record, record_of, is_kept}
 use Rattle.pc_records.specs.RowSteps.{if_kept, with_row, left_of, with_left, left_rows}
-use Rattle.pc_records.specs.Slots.{Slot, committed, row_of, rows_of, AreKept, IsSlotOf, tidied, taken_slot}
+use Rattle.pc_records.specs.Slots.{no_queues, Slot, committed, row_of, rows_of, AreKept, IsSlotOf, tidied, taken_slot}
 use Rattle.pc_records.proofs.SlotRising.{rise_any}
 use Rattle.pc_records.proofs.SlotPlaces.{length-rows}
 use Rattle.pc_records.proofs.SlotKeeping.{kept_removed}
@@ -62,7 +62,7 @@ tidied_gone [] i d lt kept = absurd (omega (arith, lt))
 tidied_gone (row ∷ rows) zero d lt kept = ap (λ b. with_row (cond b (Some row.1) None) row.0 rows) kept
 tidied_gone (row ∷ rows) (suc i) d lt kept = ap (λ (rs : List Row). row ∷ rs) (tidied_gone rows i d (omega (arith, lt)) kept)
 
-rows-without : (queues : List Queue) (xs : List Slot) (j : ℕ) → rows_of queues (take j xs ++ drop (suc j) xs) ≡ take j (rows_of queues xs) ++ drop (suc j) (rows_of queues xs)
+rows-without : (queues : Queues) (xs : List Slot) (j : ℕ) → rows_of queues (take j xs ++ drop (suc j) xs) ≡ take j (rows_of queues xs) ++ drop (suc j) (rows_of queues xs)
 rows-without queues [] j = grind (arith, common_steps)
 rows-without queues (x ∷ xs) zero = refl
 rows-without queues (x ∷ xs) (suc j) = ap (λ (rows : List Row). row_of queues x ∷ rows) (rows-without queues xs j)
@@ -72,7 +72,7 @@ no_requests true r c q e = absurd cc
 no_requests false r c [] e = refl
 no_requests false r c (x ∷ xs) e = absurd cc
 
-module _ (slots new : List Slot) (queues : List Queue) (i : ℕ) (e : Slot) (lt : i < length slots) (is : e ≡ get_or slots i e) where
+module _ (slots new : List Slot) (queues : Queues) (i : ℕ) (e : Slot) (lt : i < length slots) (is : e ≡ get_or slots i e) where
   same_row : get_or (rows_of queues slots) i (row_of queues e) ≡ row_of queues e
   same_row = get_or-map (row_of queues) slots i e ∙ ap (row_of queues) (sym is)
 
@@ -89,7 +89,7 @@ module _ (slots new : List Slot) (queues : List Queue) (i : ℕ) (e : Slot) (lt 
   pub keeps_without : AreKept slots queues → is_kept (row_of queues e).1 ≡ false → new ≡ take i slots ++ drop (suc i) slots → AreKept new queues
   keeps_without kept goes new_is =
       kept_removed slots new queues i e kept lt is new_is (no_requests (is_some (committed e)) e.is_in_open_set e.is_in_closed_set (queue_at queues e.number) goes)
-      (rw (slot_goes goes new_is) (rise_tidied (rows_of queues slots) i (rise_any [] queues slots kept.rise)))
+      (rw (slot_goes goes new_is) (rise_tidied (rows_of queues slots) i (rise_any no_queues queues slots kept.rise)))
 
 -- the rows of the other keys
 others_below : (key : List ℕ) (rows : List Row) → below_all key_cmp key rows ≡ true → filter (λ row. not (same_bytes key row.0)) rows ≡ rows
@@ -142,7 +142,7 @@ others_but key (row ∷ rows) (suc i) d rise lt here =
     symm a b = (eq_by_cmp_equiv key_order.total).symm a b
 
 -- what is taken of a key without a record
-pub left_away : (queues : List Queue) (slots : List Slot) (key : List ℕ) → record_of (rows_of queues slots) key ≡ None → rows_of queues slots ≡ left_rows (rows_of queues slots) key
+pub left_away : (queues : Queues) (slots : List Slot) (key : List ℕ) → record_of (rows_of queues slots) key ≡ None → rows_of queues slots ≡ left_rows (rows_of queues slots) key
 left_away queues slots key none = rw none (sym (others_all key (rows_of queues slots) none))
 
 -- a changed row at its place that is tidied
@@ -170,11 +170,11 @@ taken_rows rows key i d rise at here = by_record (if_kept (record (get_or rows i
         ∙ sym (ap (λ o. with_left (left_of o) key rows) (at.finds d) ∙ ap (λ o. with_left o key rows) is)
 
 -- and so in the slots
-pub taken_there : (point : ℕ) (slots marked new : List Slot) (queues : List Queue) (key : List ℕ) (i : ℕ) (d : Slot) → KeysRise (rows_of [] slots) → IsSlotOf slots key i → same_bytes key (get_or slots i d).key ≡ true →
+pub taken_there : (point : ℕ) (slots marked new : List Slot) (queues : Queues) (key : List ℕ) (i : ℕ) (d : Slot) → KeysRise (rows_of no_queues slots) → IsSlotOf slots key i → same_bytes key (get_or slots i d).key ≡ true →
     ((d : Slot) → marked ≡ set slots i (taken_slot point (get_or slots i d))) → rows_of queues new ≡ tidied (rows_of queues marked) i → rows_of queues new ≡ left_rows (rows_of queues slots) key
 taken_there point slots marked new queues key i d rise at here marked_is new_is =
     let row : get_or (rows_of queues slots) i (row_of queues d) ≡ row_of queues (get_or slots i d) = get_or-map (row_of queues) slots i d in
     let rows : rows_of queues marked ≡ set (rows_of queues slots) i ((get_or (rows_of queues slots) i (row_of queues d)).0, record (get_or (rows_of queues slots) i (row_of queues d)).1 { is_in_closed_set = false; pinned = None }) =
     ap (rows_of queues) (marked_is d) ∙ map-set (row_of queues) slots i (taken_slot point (get_or slots i d)) ∙ ap (λ (r : Row). set (rows_of queues slots) i (r.0, record r.1 { is_in_closed_set = false; pinned = None })) (sym row) in
     new_is ∙ ap (λ (rs : List Row). tidied rs i) rows
-    ∙ taken_rows (rows_of queues slots) key i (row_of queues d) (rise_any [] queues slots rise) (at queues) (ap (λ (r : Row). same_bytes key r.0) row ∙ here)
+    ∙ taken_rows (rows_of queues slots) key i (row_of queues d) (rise_any no_queues queues slots rise) (at queues) (ap (λ (r : Row). same_bytes key r.0) row ∙ here)

@@ -9,6 +9,7 @@ use Rattle.pc_table.proofs.RowLaws.{same_some}
 use Rattle.pc_records.specs.declared.slots.Cell.{Cell}
 use Rattle.pc_records.specs.Words.{link_of, with_link}
 use Rattle.pc_records.specs.SetLists.{HasPlace, link_in, next_in, marked_in, key_in, unlinked, unlinked_row, KeepRecords}
+use Rattle.pc_records.specs.Ends.{ends_of, ends_in}
 use Rattle.pc_records.specs.Slots.{Slot, slot_in, slots_in, numbers_of, times}
 use Rattle.pc_records.proofs.InSlots.{changed_in, in_changed, cell_there}
 use Rattle.pc_records.proofs.TableSlots.{once_in}
@@ -52,6 +53,13 @@ module _ (old new : Contents Cell) (keep : KeepRecords old new) where
   row_of : (o : Option (List ℕ × Cell)) → is_some (unlinked_in o) ≡ is_some o
   row_of None = refl
   row_of (Some p) = refl
+
+  end_of : (o : Option (List ℕ × Cell)) → ends_of (unlinked_in o) ≡ ends_of o
+  end_of None = refl
+  end_of (Some p) = refl
+
+  pub ends_keep : ends_in new.rows ≡ ends_in old.rows
+  ends_keep = λ i n. (sym (end_of (in_slot new.rows n)) ∙ (ap ends_of (in_keep n) ∙ end_of (in_slot old.rows n))) i
 
   pub marks_keep : (side : Side) (n : ℕ) → marked_in side (in_slot new.rows n) ≡ marked_in side (in_slot old.rows n)
   marks_keep side n = sym (mark_of side (in_slot new.rows n)) ∙ (ap (marked_in side) (in_keep n) ∙ mark_of side (in_slot old.rows n))

@@ -6,7 +6,7 @@ use Rattle.pc_types.specs.declared.Outcome.TheVariants.{Granted, Queued, Died}
 use Rattle.std.proofs.Common.{cond, Some}
 use Rattle.std.specs.FinMap.{find}
 use Rattle.pc_model.specs.Database.{key_cmp, same_bytes}
-use Rattle.pc_model.specs.Locks.{Queue}
+use Rattle.pc_locks.specs.States.{Queues}
 use Rattle.pc_dirty.specs.declared.side.Side.{Side}
 use Rattle.pc_dirty.specs.declared.dirty.Dirty.{Dirty}
 use Rattle.pc_table.specs.Rows.{Contents}
@@ -18,7 +18,7 @@ use Rattle.pc_records.specs.SetLists.{IsListed, open_keys, closed_keys, KeepSets
 use Rattle.pc_records.proofs.Listing.{kept_open, kept_closed}
 
 -- the records, of which the rows are these, and the writes in place those that there were
-pub seen_again : (table new : Contents Cell) (sets : Dirty) (queues : List Queue) (point : ℕ) (side : Side) (rows : Side → List Row) → side ≡ sets.side → KeepSets table.rows new.rows → IsListed table.rows sets → new.capacity ≡ table.capacity → rows_of queues (slots_in side new.rows) ≡ rows side →
+pub seen_again : (table new : Contents Cell) (sets : Dirty) (queues : Queues) (point : ℕ) (side : Side) (rows : Side → List Row) → side ≡ sets.side → KeepSets table.rows new.rows → IsListed table.rows sets → new.capacity ≡ table.capacity → rows_of queues (slots_in side new.rows) ≡ rows side →
     pending_of (slots_in side new.rows) ≡ pending_of (slots_in side table.rows) → table_of new.capacity queues (slots_in sets.side new.rows) point (open_keys new.rows sets) (closed_keys new.rows sets)
     ≡ record { capacity = table.capacity; rows = rows sets.side; pending = pending_of (slots_in sets.side table.rows); point = point; opened = open_keys table.rows sets; shut = closed_keys table.rows sets }
 seen_again table new sets queues point side rows is keep listed capacity rows_are pending = λ i. record {

@@ -6,14 +6,13 @@ use Rattle.pc_types.specs.declared.Class.{Class}
 use Rattle.pc_types.specs.declared.Class.TheVariants.{Before}
 use Rattle.pc_model.specs.Database.{KeysRise, key_cmp, same_bytes}
 use Rattle.pc_types.specs.declared.Outcome.{Outcome}
-use Rattle.pc_model.specs.Locks.{Queue}
 use Rattle.pc_types.specs.declared.Outcome.TheVariants.{Granted, Queued, Died}
 use Rattle.pc_model.proofs.JoinLaws.{one_key}
-use Rattle.pc_locks.specs.States.{queue_at}
+use Rattle.pc_locks.specs.States.{Queues, queue_at}
 use Rattle.pc_records.specs.declared.versions.Writer.{Writer}
 use Rattle.pc_records.specs.Rows.{Row}
 use Rattle.pc_records.specs.Tables.{pending_after}
-use Rattle.pc_records.specs.Slots.{Slot, row_of, rows_of, numbers_of, pending_in, pending_of, table_of, has_exclusive, IsSound, AreSound, AreKept, put_slot, granted_slot, at_key}
+use Rattle.pc_records.specs.Slots.{no_queues, Slot, row_of, rows_of, numbers_of, pending_in, pending_of, table_of, has_exclusive, IsSound, AreSound, AreKept, put_slot, granted_slot, at_key}
 use Rattle.pc_records.proofs.SlotRising.{keys_of}
 use Rattle.pc_records.proofs.SlotKeeping.{kept_same}
 use Rattle.pc_records.proofs.Lookups.{slot_of, of_slot, find_entry, slot_map, slot_at, at_place, key_found}
@@ -30,16 +29,16 @@ numbers_set [] i d x same = refl
 numbers_set (y ∷ ys) zero d x same = ap (λ (n : ℕ). n ∷ numbers_of ys) same
 numbers_set (y ∷ ys) (suc i) d x same = ap (λ (ns : List ℕ). y.number ∷ ns) (numbers_set ys i d x same)
 
-pub rows_set : (queues : List Queue) (slots : List Slot) (i : ℕ) (d x : Slot) → row_of queues x ≡ row_of queues (get_or slots i d) → rows_of queues (set slots i x) ≡ rows_of queues slots
+pub rows_set : (queues : Queues) (slots : List Slot) (i : ℕ) (d x : Slot) → row_of queues x ≡ row_of queues (get_or slots i d) → rows_of queues (set slots i x) ≡ rows_of queues slots
 rows_set queues [] i d x same = refl
 rows_set queues (y ∷ ys) zero d x same = ap (λ (r : Row). r ∷ rows_of queues ys) same
 rows_set queues (y ∷ ys) (suc i) d x same = ap (λ (rs : List Row). row_of queues y ∷ rs) (rows_set queues ys i d x same)
 
 -- another slot of the same key and number
-pub kept_set : (slots new : List Slot) (queues : List Queue) (i : ℕ) (d x : Slot) → new ≡ set slots i x → x.key ≡ (get_or slots i d).key → x.number ≡ (get_or slots i d).number → AreKept slots queues → AreKept new queues
+pub kept_set : (slots new : List Slot) (queues : Queues) (i : ℕ) (d x : Slot) → new ≡ set slots i x → x.key ≡ (get_or slots i d).key → x.number ≡ (get_or slots i d).number → AreKept slots queues → AreKept new queues
 kept_set slots new queues i d x is key number kept = kept_same slots new queues (ap keys_of is ∙ keys_set slots i d x key) (ap numbers_of is ∙ numbers_set slots i d x number) kept
 
-module _ (point t : ℕ) (class : Class) (value : Option (List ℕ)) (slots new : List Slot) (i : ℕ) (e : Slot) (key : List ℕ) (queues : List Queue) (kept : AreKept slots queues) (sound : AreSound point queues slots) (lt : i < length slots) (is : e ≡ get_or slots i e) where
+module _ (point t : ℕ) (class : Class) (value : Option (List ℕ)) (slots new : List Slot) (i : ℕ) (e : Slot) (key : List ℕ) (queues : Queues) (kept : AreKept slots queues) (sound : AreSound point queues slots) (lt : i < length slots) (is : e ≡ get_or slots i e) where
   found_at : same_bytes key e.key ≡ true → slot_of slots key ≡ Some e
   found_at here = slot_at slots key i e kept.rise lt (ap (λ (s : Slot). same_bytes key s.key) (sym is) ∙ here) ∙ ap Some (sym is)
 
@@ -77,7 +76,7 @@ module _ (point t : ℕ) (class : Class) (value : Option (List ℕ)) (slots new 
         by_outcome Queued has = one
         by_outcome Died has = one
 
-    pub pending_put : same_bytes key e.key ≡ true → (o ≡ Granted → (w : Writer) → e.writer ≡ Some w → (w.transaction ≡ t) × (w.class ≡ class)) → (capacity : ℕ) (other : List Queue) (q : List ℕ) →
+    pub pending_put : same_bytes key e.key ≡ true → (o ≡ Granted → (w : Writer) → e.writer ≡ Some w → (w.transaction ≡ t) × (w.class ≡ class)) → (capacity : ℕ) (other : Queues) (q : List ℕ) →
         find key_cmp q (pending_of new) ≡ pending_after o (table_of capacity other slots point [] []) key (record { by = t; class = class; value = value }) q
     pending_put here own capacity other q = by_outcome o own new_is
       where
@@ -111,8 +110,8 @@ module _ (point t : ℕ) (class : Class) (value : Option (List ℕ)) (slots new 
             key_put : (s : Slot) → (at_key put key s).key ≡ s.key
             key_put s = elim (same_bytes key s.key) as (λ b. (cond b (put s) s).key ≡ s.key) [ true ↦ put_key point t class e.live value s | false ↦ refl ]
 
-            rise_put : new ≡ map (at_key put key) slots → KeysRise (rows_of [] (map (at_key put key) slots))
-            rise_put new_map = subst (λ (ss : List Slot). KeysRise (rows_of [] ss)) new_map kept_put.rise
+            rise_put : new ≡ map (at_key put key) slots → KeysRise (rows_of no_queues (map (at_key put key) slots))
+            rise_put new_map = subst (λ (ss : List Slot). KeysRise (rows_of no_queues ss)) new_map kept_put.rise
 
 -- the slot that went in
 pub get_inserted : (slots : List Slot) (i : ℕ) (x d : Slot) → i ≤ length slots → get_or (insert slots i x) i d ≡ x

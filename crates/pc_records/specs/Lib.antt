@@ -5,5 +5,6 @@ pub mod Tables
 pub mod Words
 pub mod Slots
 pub mod SetLists
+pub mod Ends
 pub mod RowSets
 pub mod RowSteps

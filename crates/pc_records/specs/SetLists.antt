@@ -8,7 +8,7 @@ use Rattle.pc_dirty.specs.declared.side.Place.{Place}
 use Rattle.pc_dirty.specs.declared.side.Side.{Side}
 use Rattle.pc_dirty.specs.declared.dirty.Dirty.{Dirty}
 use Rattle.pc_dirty.specs.Sets.{other_side, AreSets, opened_of, closed_of}
-use Rattle.pc_model.specs.Locks.{Queue}
+use Rattle.pc_locks.specs.States.{Queues}
 use Rattle.pc_table.specs.Rows.{Row as TableRow, Contents, in_slot, HasRow}
 use Rattle.pc_records.specs.declared.slots.Cell.{Cell}
 use Rattle.pc_records.specs.declared.words.Word.{Word}
@@ -120,6 +120,6 @@ entering_keys side rows [] = []
 entering_keys side rows (w ∷ ws) = entering_key side rows w.key ++ entering_keys side rows ws
 
 -- the key, which was the first of the closed set, is taken, and these keys are left
-pub record IsTaken (queues : List Queue) (side : Side) (old : List (TableRow Cell)) (sets : Dirty) (new : List (TableRow Cell)) (key : List ℕ) (keys : List (List ℕ)) : Type 0 where
+pub record IsTaken (queues : Queues) (side : Side) (old : List (TableRow Cell)) (sets : Dirty) (new : List (TableRow Cell)) (key : List ℕ) (keys : List (List ℕ)) : Type 0 where
   pub rows : rows_of queues (slots_in sets.side new) ≡ left_rows (rows_of queues (slots_in side old)) key
   pub closed : closed_keys new sets ≡ keys

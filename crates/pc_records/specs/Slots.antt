@@ -11,7 +11,8 @@ use Rattle.pc_model.specs.Locks.{Queue, queue_after, is_exclusive}
 use Rattle.pc_types.specs.declared.Outcome.TheVariants.{Granted, Queued, Died}
 use Rattle.pc_model.specs.Places.{IsAt, IsGap}
 use Rattle.pc_types.specs.Phases.{same_class}
-use Rattle.pc_locks.specs.States.{queue_at}
+use Rattle.pc_locks.specs.States.{Queues, queue_at}
+use Rattle.pc_locks.specs.Lines.{no_chain}
 use Rattle.pc_dirty.specs.declared.side.Side.{Side}
 use Rattle.pc_dirty.specs.declared.side.Side.TheVariants.{First}
 use Rattle.pc_dirty.specs.Sets.{other_side}
@@ -49,9 +50,9 @@ slot_in side row = slot_with side row.1.0 row.0 row.1.1
 abbrev pub slots_in : Side → List (TableRow Cell) → List Slot
 slots_in side rows = map (slot_in side) rows
 
--- what is kept of a key that has this committed, a value or absence, and nothing else
+-- what is kept of a key that has this committed, a value or absence, and nothing else; no request stands
 abbrev pub base_cell : Option (List ℕ) → Cell
-base_cell content = record { live = content; stable = Empty; mark = 0; writer = None; first = blank_word; second = blank_word }
+base_cell content = record { live = content; stable = Empty; mark = 0; writer = None; first = blank_word; second = blank_word; ends = no_chain }
 
 -- what the rows of the table keep of their keys
 abbrev pub cells_in : List (TableRow Cell) → List (List ℕ × Cell)
@@ -88,12 +89,16 @@ write_of (Some w) live = Some (record { by = w.transaction; class = w.class; val
 abbrev pub pending_in : Slot → Option Pending
 pending_in slot = write_of slot.writer slot.live
 
+-- no slot has a request
+abbrev pub no_queues : Queues
+no_queues slot = []
+
 -- the row in a slot, given the queue of each number
-abbrev pub row_of : List Queue → Slot → Row
+abbrev pub row_of : Queues → Slot → Row
 row_of queues slot = (slot.key, record { value = committed slot; is_in_open_set = slot.is_in_open_set; is_in_closed_set = slot.is_in_closed_set; pinned = pinned slot; requests = queue_at queues slot.number })
 
 -- the rows in the slots
-abbrev pub rows_of : List Queue → List Slot → List Row
+abbrev pub rows_of : Queues → List Slot → List Row
 rows_of queues slots = map (row_of queues) slots
 
 -- the entries with this one before them, where there is one
@@ -124,7 +129,7 @@ abbrev pub pending_of : List Slot → List (List ℕ × Pending)
 pending_of slots = entries_of pending_in slots
 
 -- what is seen of slots, given the queue of each number, the point of the last closed set, and the keys of the two sets
-abbrev pub table_of : ℕ → List Queue → List Slot → ℕ → List (List ℕ) → List (List ℕ) → Table
+abbrev pub table_of : ℕ → Queues → List Slot → ℕ → List (List ℕ) → List (List ℕ) → Table
 table_of capacity queues slots point opened shut = record { capacity = capacity; rows = rows_of queues slots; pending = pending_of slots; point = point; opened = opened; shut = shut }
 
 -- the numbers of the slots
@@ -136,21 +141,19 @@ abbrev pub times : ℕ → List ℕ → ℕ
 times n [] = 0
 times n (m ∷ ms) = if m == n then times n ms + 1 else times n ms
 
--- what slots and queues keep: the keys rise, each slot has a number of its own that has a queue, and a number that no slot has
--- has no request
-pub record AreKept (slots : List Slot) (queues : List Queue) : Type 0 where
-  pub rise : KeysRise (rows_of [] slots)
+-- what slots and queues keep: the keys rise, each slot has a number of its own, and a number that no slot has has no request
+pub record AreKept (slots : List Slot) (queues : Queues) : Type 0 where
+  pub rise : KeysRise (rows_of no_queues slots)
   pub once : (n : ℕ) → times n (numbers_of slots) ≤ 1
-  pub below : (n : ℕ) → 0 < times n (numbers_of slots) → n < length queues
   pub bare : (n : ℕ) → times n (numbers_of slots) ≡ 0 → queue_at queues n ≡ []
 
 -- the slot at place i has the key, whatever the queues
 abbrev pub IsSlotOf : List Slot → List ℕ → ℕ → Type 0
-IsSlotOf slots key i = (queues : List Queue) → IsAt (rows_of queues slots) key i
+IsSlotOf slots key i = (queues : Queues) → IsAt (rows_of queues slots) key i
 
 -- no slot has the key, which goes in at place i, whatever the queues
 abbrev pub IsNewAt : List Slot → List ℕ → ℕ → Type 0
-IsNewAt slots key i = (queues : List Queue) → IsGap (rows_of queues slots) key i
+IsNewAt slots key i = (queues : Queues) → IsGap (rows_of queues slots) key i
 
 -- the slot at place i has the number
 pub record IsNumbered (slots : List Slot) (number : ℕ) (i : ℕ) : Type 0 where
@@ -205,7 +208,7 @@ pub record IsSound (point : ℕ) (queue : Queue) (slot : Slot) : Type 0 where
   pub locked : is_locked queue slot.writer ≡ true
 
 -- each of the slots keeps that
-pub record AreSound (point : ℕ) (queues : List Queue) (slots : List Slot) : Type 0 where
+pub record AreSound (point : ℕ) (queues : Queues) (slots : List Slot) : Type 0 where
   pub each : All (λ slot. IsSound point (queue_at queues slot.number) slot) slots
 
 -- something keeps the slot, given its queue: a value, a version, a request, or one of the two sets
@@ -247,7 +250,7 @@ granted_slot Queued point t class copy value slot = slot
 granted_slot Died point t class copy value slot = slot
 
 -- a slot of the key, which has the number and nothing else yet, went in, and the transaction has the granted request in its queue
-pub record IsFirstIn (slots : List Slot) (new : List Slot) (queues : List Queue) (key : List ℕ) (t : ℕ) (mode : Mode) (number : ℕ) : Type 0 where
+pub record IsFirstIn (slots : List Slot) (new : List Slot) (queues : Queues) (key : List ℕ) (t : ℕ) (mode : Mode) (number : ℕ) : Type 0 where
   pub place : ℕ
   pub gap : IsNewAt slots key place
   pub inserted : new ≡ insert slots place (new_slot number key)

@@ -2,6 +2,7 @@
 //! what is kept for the point, and the requests of locks.
 #![tactic(auto)]
 
+mod ends;
 mod links;
 mod records;
 mod slots;

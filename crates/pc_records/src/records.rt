@@ -10,10 +10,12 @@ ghost use Rattle.pc_types.specs.declared.Outcome.TheVariants.{Granted};
 ghost use Rattle.pc_types.specs.Phases.{same_class};
 ghost use Rattle.pc_locks.specs.States as states;
 ghost use Rattle.pc_locks.specs.States.{slots_of};
+ghost use Rattle.pc_locks.specs.Keepers.{state_of, lists_of, AreEnds};
 ghost use Rattle.pc_records.specs.Rows.{record_of, stored, is_in_closed_set, requests_on};
 ghost use Rattle.pc_model.specs.DistinctWrites.{AreDistinct};
 ghost use Rattle.pc_records.specs.NewKeys.{new_keys};
 ghost use Rattle.pc_records.specs.SetLists.{KeepSets, IsListed, IsTaken, open_keys, closed_keys};
+ghost use Rattle.pc_records.specs.Ends.{ends_in, queues_in};
 ghost use Rattle.pc_records.specs.RowSteps.{is_full_for, is_waiting, rows_after, released_rows, written_row, closed_row, left_rows, committed_row};
 ghost use Rattle.pc_records.specs.Tables.{Pending, kept_of, pending_at, value_of, latest, IsClearFor, pending_after, pending_without, AreListed, first_content, content_behind};
 ghost use Rattle.pc_records.specs.Slots.{slots_in, rows_of, pending_of, table_of, AreKept, AreSound, IsFirstIn};
@@ -32,7 +34,8 @@ use std::hash::RandomState;
 use std::marker::Model;
 
 /// The records, in the slots of a table; at most as many as its capacity. The locks have the requests of a slot's key at the
-/// slot's number. The two sets are linked through the slots. The point is that of the last closed set.
+/// slot's number, and the slot has the ends of their queue. The two sets are linked through the slots. The point is that of
+/// the last closed set.
 #[derive(Drop)]
 pub struct Records {
     table: Table<Cell>,
@@ -42,16 +45,17 @@ pub struct Records {
 }
 
 impl Model for Records {
-    ghost use Rattle.std.specs.Prelude.{◌≡◌, length};
+    ghost use Rattle.pc_locks.specs.Keepers.{AreEnds};
     ghost use Rattle.pc_records.specs.Tables.{Table};
+    ghost use Rattle.pc_records.specs.Ends.{ends_in, queues_in};
     ghost use Rattle.pc_records.specs.Slots.{slots_in, table_of, AreKept, AreSound};
     ghost use Rattle.pc_records.specs.SetLists.{IsListed, open_keys, closed_keys};
 
     ghost Value = { Table };
 
-    ghost view = { λ a. table_of a.table.capacity a.locks.queues (slots_in a.sets.side a.table.rows) a.point (open_keys a.table.rows a.sets) (closed_keys a.table.rows a.sets) };
+    ghost view = { λ a. table_of a.table.capacity (queues_in a.table.rows a.locks) (slots_in a.sets.side a.table.rows) a.point (open_keys a.table.rows a.sets) (closed_keys a.table.rows a.sets) };
 
-    ghost invariant = { λ a. AreKept (slots_in a.sets.side a.table.rows) a.locks.queues × ((length a.locks.queues ≡ a.table.capacity) × AreSound a.point a.locks.queues (slots_in a.sets.side a.table.rows)) × IsListed a.table.rows a.sets };
+    ghost invariant = { λ a. AreKept (slots_in a.sets.side a.table.rows) (queues_in a.table.rows a.locks) × (AreEnds (ends_in a.table.rows) a.locks × AreSound a.point (queues_in a.table.rows a.locks) (slots_in a.sets.side a.table.rows)) × IsListed a.table.rows a.sets };
 }
 
 impl Records {
@@ -69,7 +73,7 @@ impl Records {
         ensures { IfOk result (λ r. r ≡ record { capacity = capacity; rows = map committed_row pairs.now; pending = []; point = 0; opened = []; shut = [] }) }
     {
         let table = slots::table_of(alloc, capacity, pairs, seed)?;
-        let locks = Locks::new(alloc, table.capacity())?;
+        let locks = Locks::new(alloc);
         let sets = Dirty::new();
         Ok(Records {
             table,
@@ -269,24 +273,24 @@ fn share(
     transaction: TxnNo,
     key: &Key,
 ) -> Result<Outcome, AllocError>
-    requires kept { AreKept (slots_in side table.old.rows) locks.old.queues }
-    requires sound { AreSound point locks.old.queues (slots_in side table.old.rows) }
-    requires count { length locks.old.queues ≡ table.old.capacity }
-    requires ready { states.is_waiting locks.old transaction ≡ false }
-    ensures told { IfOk result (λ answer. answer ≡ outcome (requests_on (record_of (rows_of locks.old.queues (slots_in side table.old.rows)) key.now)) transaction Shared) }
-    ensures rows { IfOk result (λ answer. rows_of locks.new.queues (slots_in side table.new.rows) ≡ rows_after (rows_of locks.old.queues (slots_in side table.old.rows)) key.now transaction Shared answer) }
-    ensures clear { IfOk result (λ answer. answer ≡ Granted → IsClearFor (table_of (length locks.old.queues) locks.old.queues (slots_in side table.old.rows) point [] []) key.now transaction) }
-    ensures err { OnErr result (rows_of locks.new.queues (slots_in side table.new.rows) ≡ rows_of locks.old.queues (slots_in side table.old.rows)) }
+    requires kept { AreKept (slots_in side table.old.rows) (queues_in table.old.rows locks.old) }
+    requires sound { AreSound point (queues_in table.old.rows locks.old) (slots_in side table.old.rows) }
+    requires ends { AreEnds (ends_in table.old.rows) locks.old }
+    requires ready { states.is_waiting (state_of (ends_in table.old.rows) locks.old) transaction ≡ false }
+    ensures told { IfOk result (λ answer. answer ≡ outcome (requests_on (record_of (rows_of (queues_in table.old.rows locks.old) (slots_in side table.old.rows)) key.now)) transaction Shared) }
+    ensures rows { IfOk result (λ answer. rows_of (queues_in table.new.rows locks.new) (slots_in side table.new.rows) ≡ rows_after (rows_of (queues_in table.old.rows locks.old) (slots_in side table.old.rows)) key.now transaction Shared answer) }
+    ensures clear { IfOk result (λ answer. answer ≡ Granted → IsClearFor (table_of table.old.capacity (queues_in table.old.rows locks.old) (slots_in side table.old.rows) point [] []) key.now transaction) }
+    ensures err { OnErr result (rows_of (queues_in table.new.rows locks.new) (slots_in side table.new.rows) ≡ rows_of (queues_in table.old.rows locks.old) (slots_in side table.old.rows)) }
     ensures pending { pending_of (slots_in side table.new.rows) ≡ pending_of (slots_in side table.old.rows) }
-    ensures kept { AreKept (slots_in side table.new.rows) locks.new.queues }
-    ensures sound { AreSound point locks.new.queues (slots_in side table.new.rows) }
-    ensures count { length locks.new.queues ≡ table.new.capacity }
+    ensures kept { AreKept (slots_in side table.new.rows) (queues_in table.new.rows locks.new) }
+    ensures sound { AreSound point (queues_in table.new.rows locks.new) (slots_in side table.new.rows) }
+    ensures ends { AreEnds (ends_in table.new.rows) locks.new }
     ensures capacity { table.new.capacity ≡ table.old.capacity }
     ensures sets { KeepSets table.old.rows table.new.rows }
 {
     let mode = Mode::Shared;
     match table.find(key) {
-        Some(id) => locks.request(transaction, id, mode),
+        Some(id) => locks.request(table, transaction, id, mode),
         None => {
             request_new(alloc, table, locks, side, point, transaction, key, mode)?;
             Ok(Outcome::Granted)
@@ -307,21 +311,21 @@ fn write(
     key: &Key,
     value: Option<Value>,
 ) -> Result<Outcome, AllocError>
-    requires kept { AreKept (slots_in side table.old.rows) locks.old.queues }
-    requires sound { AreSound point locks.old.queues (slots_in side table.old.rows) }
-    requires count { length locks.old.queues ≡ table.old.capacity }
-    requires ready { states.is_waiting locks.old transaction ≡ false }
-    requires outside { class ≡ Before → is_in_closed_set (record_of (rows_of locks.old.queues (slots_in side table.old.rows)) key.now) ≡ false }
+    requires kept { AreKept (slots_in side table.old.rows) (queues_in table.old.rows locks.old) }
+    requires sound { AreSound point (queues_in table.old.rows locks.old) (slots_in side table.old.rows) }
+    requires ends { AreEnds (ends_in table.old.rows) locks.old }
+    requires ready { states.is_waiting (state_of (ends_in table.old.rows) locks.old) transaction ≡ false }
+    requires outside { class ≡ Before → is_in_closed_set (record_of (rows_of (queues_in table.old.rows locks.old) (slots_in side table.old.rows)) key.now) ≡ false }
     requires again { (p : Pending) → find key_cmp key.now (pending_of (slots_in side table.old.rows)) ≡ Some p → p.by ≡ transaction → p.class ≡ class }
-    ensures told { IfOk result (λ answer. answer ≡ outcome (requests_on (record_of (rows_of locks.old.queues (slots_in side table.old.rows)) key.now)) transaction Exclusive) }
-    ensures rows { IfOk result (λ answer. rows_of locks.new.queues (slots_in side table.new.rows) ≡ rows_after (rows_of locks.old.queues (slots_in side table.old.rows)) key.now transaction Exclusive answer) }
-    ensures clear { IfOk result (λ answer. answer ≡ Granted → IsClearFor (table_of (length locks.old.queues) locks.old.queues (slots_in side table.old.rows) point [] []) key.now transaction) }
-    ensures err { OnErr result (rows_of locks.new.queues (slots_in side table.new.rows) ≡ rows_of locks.old.queues (slots_in side table.old.rows)) }
-    ensures pending { IfOk result (λ answer. (q : List ℕ) → find key_cmp q (pending_of (slots_in side table.new.rows)) ≡ pending_after answer (table_of (length locks.old.queues) locks.old.queues (slots_in side table.old.rows) point [] []) key.now (record { by = transaction; class = class; value = value }) q) }
+    ensures told { IfOk result (λ answer. answer ≡ outcome (requests_on (record_of (rows_of (queues_in table.old.rows locks.old) (slots_in side table.old.rows)) key.now)) transaction Exclusive) }
+    ensures rows { IfOk result (λ answer. rows_of (queues_in table.new.rows locks.new) (slots_in side table.new.rows) ≡ rows_after (rows_of (queues_in table.old.rows locks.old) (slots_in side table.old.rows)) key.now transaction Exclusive answer) }
+    ensures clear { IfOk result (λ answer. answer ≡ Granted → IsClearFor (table_of table.old.capacity (queues_in table.old.rows locks.old) (slots_in side table.old.rows) point [] []) key.now transaction) }
+    ensures err { OnErr result (rows_of (queues_in table.new.rows locks.new) (slots_in side table.new.rows) ≡ rows_of (queues_in table.old.rows locks.old) (slots_in side table.old.rows)) }
+    ensures pending { IfOk result (λ answer. (q : List ℕ) → find key_cmp q (pending_of (slots_in side table.new.rows)) ≡ pending_after answer (table_of table.old.capacity (queues_in table.old.rows locks.old) (slots_in side table.old.rows) point [] []) key.now (record { by = transaction; class = class; value = value }) q) }
     ensures still { OnErr result (pending_of (slots_in side table.new.rows) ≡ pending_of (slots_in side table.old.rows)) }
-    ensures kept { AreKept (slots_in side table.new.rows) locks.new.queues }
-    ensures sound { AreSound point locks.new.queues (slots_in side table.new.rows) }
-    ensures count { length locks.new.queues ≡ table.new.capacity }
+    ensures kept { AreKept (slots_in side table.new.rows) (queues_in table.new.rows locks.new) }
+    ensures sound { AreSound point (queues_in table.new.rows locks.new) (slots_in side table.new.rows) }
+    ensures ends { AreEnds (ends_in table.new.rows) locks.new }
     ensures capacity { table.new.capacity ≡ table.old.capacity }
     ensures sets { KeepSets table.old.rows table.new.rows }
 {
@@ -329,7 +333,7 @@ fn write(
     match table.find(key) {
         Some(id) => {
             let copy = copy_content(alloc, &table.get(id).live)?;
-            let answer = locks.request(transaction, id, mode)?;
+            let answer = locks.request(table, transaction, id, mode)?;
             slots::put_granted(
                 table,
                 side,
@@ -363,25 +367,25 @@ fn request_new(
     key: &Key,
     mode: Mode,
 ) -> Result<SlotId, AllocError>
-    requires kept { AreKept (slots_in side table.old.rows) locks.old.queues }
-    requires sound { AreSound point locks.old.queues (slots_in side table.old.rows) }
-    requires count { length locks.old.queues ≡ table.old.capacity }
-    requires ready { states.is_waiting locks.old transaction ≡ false }
+    requires kept { AreKept (slots_in side table.old.rows) (queues_in table.old.rows locks.old) }
+    requires sound { AreSound point (queues_in table.old.rows locks.old) (slots_in side table.old.rows) }
+    requires ends { AreEnds (ends_in table.old.rows) locks.old }
+    requires ready { states.is_waiting (state_of (ends_in table.old.rows) locks.old) transaction ≡ false }
     requires new { slot_of table.old.rows key.now ≡ None }
-    ensures told { IfOk result (λ id. outcome (requests_on (record_of (rows_of locks.old.queues (slots_in side table.old.rows)) key.now)) transaction mode ≡ Granted) }
-    ensures rows { IfOk result (λ id. rows_of locks.new.queues (slots_in side table.new.rows) ≡ rows_after (rows_of locks.old.queues (slots_in side table.old.rows)) key.now transaction mode Granted) }
-    ensures slot { IfOk result (IsFirstIn (slots_in side table.old.rows) (slots_in side table.new.rows) locks.new.queues key.now transaction mode) }
+    ensures told { IfOk result (λ id. outcome (requests_on (record_of (rows_of (queues_in table.old.rows locks.old) (slots_in side table.old.rows)) key.now)) transaction mode ≡ Granted) }
+    ensures rows { IfOk result (λ id. rows_of (queues_in table.new.rows locks.new) (slots_in side table.new.rows) ≡ rows_after (rows_of (queues_in table.old.rows locks.old) (slots_in side table.old.rows)) key.now transaction mode Granted) }
+    ensures slot { IfOk result (IsFirstIn (slots_in side table.old.rows) (slots_in side table.new.rows) (queues_in table.new.rows locks.new) key.now transaction mode) }
     ensures row { IfOk result (HasRow table.new.rows) }
-    ensures err { OnErr result (rows_of locks.new.queues (slots_in side table.new.rows) ≡ rows_of locks.old.queues (slots_in side table.old.rows)) }
+    ensures err { OnErr result (rows_of (queues_in table.new.rows locks.new) (slots_in side table.new.rows) ≡ rows_of (queues_in table.old.rows locks.old) (slots_in side table.old.rows)) }
     ensures pending { pending_of (slots_in side table.new.rows) ≡ pending_of (slots_in side table.old.rows) }
-    ensures kept { AreKept (slots_in side table.new.rows) locks.new.queues }
-    ensures sound { AreSound point locks.new.queues (slots_in side table.new.rows) }
-    ensures count { length locks.new.queues ≡ table.new.capacity }
+    ensures kept { AreKept (slots_in side table.new.rows) (queues_in table.new.rows locks.new) }
+    ensures sound { AreSound point (queues_in table.new.rows locks.new) (slots_in side table.new.rows) }
+    ensures ends { AreEnds (ends_in table.new.rows) locks.new }
     ensures capacity { table.new.capacity ≡ table.old.capacity }
     ensures sets { KeepSets table.old.rows table.new.rows }
 {
     let id = slots::make(alloc, table, key)?;
-    match locks.request(transaction, id, mode) {
+    match locks.request(table, transaction, id, mode) {
         Ok(_) => Ok(id),
         Err(error) => {
             drop(table.remove(id));
@@ -399,21 +403,21 @@ fn release_next(
     point: Point,
     transaction: TxnNo,
 ) -> bool
-    requires kept { AreKept (slots_in side table.old.rows) locks.old.queues }
-    requires sound { AreSound point locks.old.queues (slots_in side table.old.rows) }
-    requires count { length locks.old.queues ≡ table.old.capacity }
+    requires kept { AreKept (slots_in side table.old.rows) (queues_in table.old.rows locks.old) }
+    requires sound { AreSound point (queues_in table.old.rows locks.old) (slots_in side table.old.rows) }
+    requires ends { AreEnds (ends_in table.old.rows) locks.old }
     requires over { (q : List ℕ) (p : Pending) → find key_cmp q (pending_of (slots_in side table.old.rows)) ≡ Some p → (p.by == transaction) ≡ false }
-    ensures kept { AreKept (slots_in side table.new.rows) locks.new.queues }
-    ensures sound { AreSound point locks.new.queues (slots_in side table.new.rows) }
-    ensures count { length locks.new.queues ≡ table.new.capacity }
+    ensures kept { AreKept (slots_in side table.new.rows) (queues_in table.new.rows locks.new) }
+    ensures sound { AreSound point (queues_in table.new.rows locks.new) (slots_in side table.new.rows) }
+    ensures ends { AreEnds (ends_in table.new.rows) locks.new }
     ensures capacity { table.new.capacity ≡ table.old.capacity }
     ensures pending { pending_of (slots_in side table.new.rows) ≡ pending_of (slots_in side table.old.rows) }
-    ensures rows { released_rows transaction (rows_of locks.new.queues (slots_in side table.new.rows)) ≡ released_rows transaction (rows_of locks.old.queues (slots_in side table.old.rows)) }
-    ensures shrinks { result ≡ true → length (slots_of locks.new.lists transaction) < length (slots_of locks.old.lists transaction) }
-    ensures done { result ≡ false → rows_of locks.new.queues (slots_in side table.new.rows) ≡ released_rows transaction (rows_of locks.old.queues (slots_in side table.old.rows)) }
+    ensures rows { released_rows transaction (rows_of (queues_in table.new.rows locks.new) (slots_in side table.new.rows)) ≡ released_rows transaction (rows_of (queues_in table.old.rows locks.old) (slots_in side table.old.rows)) }
+    ensures shrinks { result ≡ true → length (slots_of (lists_of locks.new) transaction) < length (slots_of (lists_of locks.old) transaction) }
+    ensures done { result ≡ false → rows_of (queues_in table.new.rows locks.new) (slots_in side table.new.rows) ≡ released_rows transaction (rows_of (queues_in table.old.rows locks.old) (slots_in side table.old.rows)) }
     ensures sets { KeepSets table.old.rows table.new.rows }
 {
-    match locks.release_one(transaction) {
+    match locks.release_one(table, transaction) {
         Some(id) => {
             slots::tidy(table, locks, side, point, id);
             true
@@ -424,16 +428,16 @@ fn release_next(
 
 // Removes all requests of the transaction, one after the other.
 fn release(table: &mut Table<Cell>, locks: &mut Locks, side: Side, point: Point, transaction: TxnNo)
-    requires kept { AreKept (slots_in side table.old.rows) locks.old.queues }
-    requires sound { AreSound point locks.old.queues (slots_in side table.old.rows) }
-    requires count { length locks.old.queues ≡ table.old.capacity }
+    requires kept { AreKept (slots_in side table.old.rows) (queues_in table.old.rows locks.old) }
+    requires sound { AreSound point (queues_in table.old.rows locks.old) (slots_in side table.old.rows) }
+    requires ends { AreEnds (ends_in table.old.rows) locks.old }
     requires over { (q : List ℕ) (p : Pending) → find key_cmp q (pending_of (slots_in side table.old.rows)) ≡ Some p → (p.by == transaction) ≡ false }
-    ensures kept { AreKept (slots_in side table.new.rows) locks.new.queues }
-    ensures sound { AreSound point locks.new.queues (slots_in side table.new.rows) }
-    ensures count { length locks.new.queues ≡ table.new.capacity }
+    ensures kept { AreKept (slots_in side table.new.rows) (queues_in table.new.rows locks.new) }
+    ensures sound { AreSound point (queues_in table.new.rows locks.new) (slots_in side table.new.rows) }
+    ensures ends { AreEnds (ends_in table.new.rows) locks.new }
     ensures capacity { table.new.capacity ≡ table.old.capacity }
     ensures pending { pending_of (slots_in side table.new.rows) ≡ pending_of (slots_in side table.old.rows) }
-    ensures rows { rows_of locks.new.queues (slots_in side table.new.rows) ≡ released_rows transaction (rows_of locks.old.queues (slots_in side table.old.rows)) }
+    ensures rows { rows_of (queues_in table.new.rows locks.new) (slots_in side table.new.rows) ≡ released_rows transaction (rows_of (queues_in table.old.rows locks.old) (slots_in side table.old.rows)) }
     ensures sets { KeepSets table.old.rows table.new.rows }
 {
     while release_next(table, locks, side, point, transaction) {}
@@ -441,18 +445,20 @@ fn release(table: &mut Table<Cell>, locks: &mut Locks, side: Side, point: Point,
 
 // The first key of the closed set, in which there is one, is taken, and its slot is free where nothing keeps it.
 fn take(table: &mut Table<Cell>, locks: &Locks, sets: &mut Dirty, point: Point)
-    requires kept { AreKept (slots_in sets.old.side table.old.rows) locks.now.queues }
-    requires sound { AreSound point locks.now.queues (slots_in sets.old.side table.old.rows) }
-    requires count { length locks.now.queues ≡ table.old.capacity }
+    requires kept { AreKept (slots_in sets.old.side table.old.rows) (queues_in table.old.rows locks.now) }
+    requires sound { AreSound point (queues_in table.old.rows locks.now) (slots_in sets.old.side table.old.rows) }
+    requires ends { AreEnds (ends_in table.old.rows) locks.now }
     requires listed { IsListed table.old.rows sets.old }
     requires first { (key : List ℕ) × (keys : List (List ℕ)) × (closed_keys table.old.rows sets.old ≡ key ∷ keys) × ((p : Pending) → find key_cmp key (pending_of (slots_in sets.old.side table.old.rows)) ≡ Some p → same_class p.class During ≡ false) }
-    ensures kept { AreKept (slots_in sets.new.side table.new.rows) locks.now.queues }
-    ensures sound { AreSound point locks.now.queues (slots_in sets.new.side table.new.rows) }
+    ensures kept { AreKept (slots_in sets.new.side table.new.rows) (queues_in table.new.rows locks.now) }
+    ensures sound { AreSound point (queues_in table.new.rows locks.now) (slots_in sets.new.side table.new.rows) }
     ensures capacity { table.new.capacity ≡ table.old.capacity }
     ensures pending { pending_of (slots_in sets.new.side table.new.rows) ≡ pending_of (slots_in sets.old.side table.old.rows) }
     ensures listed { IsListed table.new.rows sets.new }
+    ensures ends { AreEnds (ends_in table.new.rows) locks.now }
+    ensures queues { queues_in table.new.rows locks.now ≡ queues_in table.old.rows locks.now }
     ensures opened { open_keys table.new.rows sets.new ≡ open_keys table.old.rows sets.old }
-    ensures taken { (key : List ℕ) (keys : List (List ℕ)) → closed_keys table.old.rows sets.old ≡ key ∷ keys → IsTaken locks.now.queues sets.old.side table.old.rows sets.new table.new.rows key keys }
+    ensures taken { (key : List ℕ) (keys : List (List ℕ)) → closed_keys table.old.rows sets.old ≡ key ∷ keys → IsTaken (queues_in table.old.rows locks.now) sets.old.side table.old.rows sets.new table.new.rows key keys }
 {
     let side = sets.open_side();
     if let Some(id) = sets.pop_closed(table) {

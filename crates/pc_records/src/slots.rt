@@ -1,16 +1,18 @@
 //! Slots: what the table's rows have, each with its number and its key. The requests of a slot are those of the locks' queue
-//! at its number.
-ghost use Rattle.std.specs.Prelude.{◌≡◌, ◌<◌, ◌≤◌, ◌++◌, [], map, length, IfOk, OnOk, OnErr, None, Some, Ok, is_none, option_copied, option_map, List, ℕ};
+//! at its number, whose ends the slot keeps.
+ghost use Rattle.std.specs.Prelude.{◌≡◌, ◌==◌, ◌≤◌, ◌++◌, not, [], map, length, IfOk, OnOk, OnErr, None, Some, Ok, is_none, option_copied, option_map, List, ℕ};
 ghost use Rattle.std.specs.FinMap.{find};
 ghost use Rattle.pc_model.specs.Maps.{get};
 ghost use Rattle.pc_model.specs.Database.{KeysRise, key_cmp, database_of};
 ghost use Rattle.pc_model.specs.Locks.{Queue};
-ghost use Rattle.pc_locks.specs.States.{queue_at};
+ghost use Rattle.pc_locks.specs.States.{Queues};
+ghost use Rattle.pc_locks.specs.Keepers.{AreEnds};
 ghost use Rattle.pc_table.specs.Rows.{slot_of, in_slot, HasRow, IsNewSlot, AreInSlots, with_row, with_record};
 ghost use Rattle.pc_dirty.specs.declared.side.Side.{Side};
 ghost use Rattle.pc_dirty.specs.declared.side.Side.TheVariants.{First};
 ghost use Rattle.pc_records.specs.Rows.{record_of, stored};
 ghost use Rattle.pc_model.specs.DistinctWrites.{AreDistinct};
+ghost use Rattle.pc_records.specs.Ends.{ends_in, queues_in};
 ghost use Rattle.pc_records.specs.SetLists.{KeepSets, IsUnmarked, IsListed, open_keys, closed_keys, entering, entering_key, entering_keys};
 ghost use Rattle.pc_records.specs.Tables.{read_of};
 ghost use Rattle.pc_records.specs.Slots.{slot_with, slots_in, with_entry, content_in, base_cell, cells_in, base_row, contents_of, rows_of, pending_of, AreKept, AreSound, is_kept_slot, IsNumbered, tidied, put_slot, granted_slot, settled, undone, at_key, at_number, at_writes, taken_slot};
@@ -18,6 +20,7 @@ ghost use Rattle.pc_records.specs.Slots.{slot_with, slots_in, with_entry, conten
 use crate::versions;
 use crate::versions::{Stable, Writer};
 use crate::words::Word;
+use pc_chain::Chain;
 use pc_dirty::{Dirty, Side};
 use pc_locks::Locks;
 use pc_replay::first_of_each;
@@ -42,6 +45,8 @@ pub(crate) struct Cell {
     pub(crate) first: Word,
     /// The slot's word on the second side.
     pub(crate) second: Word,
+    /// The ends of the queue of the slot's requests.
+    pub(crate) ends: Chain<usize>,
 }
 
 impl Cell {
@@ -92,6 +97,7 @@ fn cell_with(content: Option<Value>) -> Cell
         writer: None,
         first: Word::blank(),
         second: Word::blank(),
+        ends: Chain::new(),
     }
 }
 
@@ -106,11 +112,14 @@ pub(crate) fn table_of(
     requires capacity { capacity ≤ MOST_KEYS }
     ensures capacity { IfOk result (λ table. table.capacity ≡ capacity) }
     ensures cells { IfOk result (λ table. cells_in table.rows ≡ map base_row pairs.now) }
+    ensures slots { IfOk result (λ table. AreInSlots table) }
 {
     let mut table = Table::new(alloc, capacity, seed)?;
     for pair in pairs {
         add(alloc, &mut table, &pair.0, &pair.1)?;
     }
+    // The call tells that each row has a slot of its own.
+    let _capacity = table.capacity();
     Ok(table)
 }
 
@@ -146,7 +155,7 @@ pub(crate) fn make(alloc: Global, table: &mut Table<Cell>, key: &Key) -> Result<
 
 // Whether the key has no record.
 pub(crate) fn is_new(table: &Table<Cell>, key: &Key) -> bool
-    ensures { (side : Side) (queues : List Queue) → result ≡ is_none (record_of (rows_of queues (slots_in side table.now.rows)) key.now) }
+    ensures { (side : Side) (queues : Queues) → result ≡ is_none (record_of (rows_of queues (slots_in side table.now.rows)) key.now) }
 {
     match table.find(key) {
         Some(_) => false,
@@ -156,7 +165,7 @@ pub(crate) fn is_new(table: &Table<Cell>, key: &Key) -> bool
 
 // What stands in the key's place.
 pub(crate) fn latest_at<'a>(table: &'a Table<Cell>, key: &Key) -> Option<&'a Value>
-    ensures { (side : Side) (queues : List Queue) → option_copied result ≡ read_of (find key_cmp key.now (pending_of (slots_in side table.now.rows))) (stored (record_of (rows_of queues (slots_in side table.now.rows)) key.now)) }
+    ensures { (side : Side) (queues : Queues) → option_copied result ≡ read_of (find key_cmp key.now (pending_of (slots_in side table.now.rows))) (stored (record_of (rows_of queues (slots_in side table.now.rows)) key.now)) }
 {
     match table.find(key) {
         Some(id) => table.get(id).live.as_ref(),
@@ -170,7 +179,7 @@ pub(crate) fn committed_pairs(
     table: &Table<Cell>,
 ) -> Result<Vec<(Key, Value)>, AllocError>
     ensures rise { IfOk result (λ pairs. KeysRise pairs.items) }
-    ensures contents { IfOk result (λ pairs. (side : Side) (queues : List Queue) (key : List ℕ) → get (database_of pairs.items) key ≡ stored (record_of (rows_of queues (slots_in side table.now.rows)) key)) }
+    ensures contents { IfOk result (λ pairs. (side : Side) (queues : Queues) (key : List ℕ) → get (database_of pairs.items) key ≡ stored (record_of (rows_of queues (slots_in side table.now.rows)) key)) }
 {
     let contents = contents_in(alloc, table)?;
     let mut pairs = Vec::new(alloc);
@@ -231,6 +240,7 @@ pub(crate) fn mark_taken(table: &mut Table<Cell>, side: Side, id: SlotId, point:
     ensures marks { IsUnmarked side id table.old.rows table.new.rows }
     ensures before { AreInSlots table.old }
     ensures capacity { table.new.capacity ≡ table.old.capacity }
+    ensures ends { ends_in table.new.rows ≡ ends_in table.old.rows }
 {
     versions::take(table.get_mut(id), side, point);
 }
@@ -249,6 +259,7 @@ pub(crate) fn put_at(
     requires { HasRow table.old.rows id }
     ensures slots { slots_in side table.new.rows ≡ map (at_number (put_slot point transaction class copy value) id) (slots_in side table.old.rows) }
     ensures capacity { table.new.capacity ≡ table.old.capacity }
+    ensures ends { ends_in table.new.rows ≡ ends_in table.old.rows }
     ensures sets { KeepSets table.old.rows table.new.rows }
 {
     versions::put(
@@ -277,6 +288,7 @@ pub(crate) fn put_granted(
     requires { HasRow table.old.rows id }
     ensures slots { slots_in side table.new.rows ≡ map (at_number (granted_slot answer point transaction class copy value) id) (slots_in side table.old.rows) }
     ensures capacity { table.new.capacity ≡ table.old.capacity }
+    ensures ends { ends_in table.new.rows ≡ ends_in table.old.rows }
     ensures sets { KeepSets table.old.rows table.new.rows }
 {
     if let Outcome::Granted = answer {
@@ -290,6 +302,7 @@ fn settle_slot(table: &mut Table<Cell>, sets: &mut Dirty, id: SlotId, point: Poi
     requires listed { IsListed table.old.rows sets.old }
     ensures slots { slots_in sets.old.side table.new.rows ≡ map (at_number (settled point) id) (slots_in sets.old.side table.old.rows) }
     ensures capacity { table.new.capacity ≡ table.old.capacity }
+    ensures ends { ends_in table.new.rows ≡ ends_in table.old.rows }
     ensures side { sets.new.side ≡ sets.old.side }
     ensures listed { IsListed table.new.rows sets.new }
     ensures opened { open_keys table.new.rows sets.new ≡ open_keys table.old.rows sets.old ++ entering sets.old.side (in_slot table.old.rows id) }
@@ -307,6 +320,7 @@ fn settle_key(table: &mut Table<Cell>, sets: &mut Dirty, key: &Key, point: Point
     requires listed { IsListed table.old.rows sets.old }
     ensures slots { slots_in sets.old.side table.new.rows ≡ map (at_key (settled point) key.now) (slots_in sets.old.side table.old.rows) }
     ensures capacity { table.new.capacity ≡ table.old.capacity }
+    ensures ends { ends_in table.new.rows ≡ ends_in table.old.rows }
     ensures side { sets.new.side ≡ sets.old.side }
     ensures listed { IsListed table.new.rows sets.new }
     ensures opened { open_keys table.new.rows sets.new ≡ open_keys table.old.rows sets.old ++ entering_key sets.old.side table.old.rows key.now }
@@ -323,6 +337,7 @@ pub(crate) fn settle_all(table: &mut Table<Cell>, sets: &mut Dirty, writes: &[Wr
     requires distinct { AreDistinct writes.now }
     ensures slots { slots_in sets.old.side table.new.rows ≡ map (at_writes (settled point) writes.now) (slots_in sets.old.side table.old.rows) }
     ensures capacity { table.new.capacity ≡ table.old.capacity }
+    ensures ends { ends_in table.new.rows ≡ ends_in table.old.rows }
     ensures side { sets.new.side ≡ sets.old.side }
     ensures listed { IsListed table.new.rows sets.new }
     ensures opened { open_keys table.new.rows sets.new ≡ open_keys table.old.rows sets.old ++ entering_keys sets.old.side table.old.rows writes.now }
@@ -338,6 +353,7 @@ fn undo_slot(table: &mut Table<Cell>, side: Side, id: SlotId, point: Point)
     requires { HasRow table.old.rows id }
     ensures slots { slots_in side table.new.rows ≡ map (at_number (undone point) id) (slots_in side table.old.rows) }
     ensures capacity { table.new.capacity ≡ table.old.capacity }
+    ensures ends { ends_in table.new.rows ≡ ends_in table.old.rows }
     ensures sets { KeepSets table.old.rows table.new.rows }
 {
     versions::undo(table.get_mut(id), side, point);
@@ -347,6 +363,7 @@ fn undo_slot(table: &mut Table<Cell>, side: Side, id: SlotId, point: Point)
 fn undo_key(table: &mut Table<Cell>, side: Side, key: &Key, point: Point)
     ensures slots { slots_in side table.new.rows ≡ map (at_key (undone point) key.now) (slots_in side table.old.rows) }
     ensures capacity { table.new.capacity ≡ table.old.capacity }
+    ensures ends { ends_in table.new.rows ≡ ends_in table.old.rows }
     ensures sets { KeepSets table.old.rows table.new.rows }
 {
     if let Some(id) = table.find(key) {
@@ -358,6 +375,7 @@ fn undo_key(table: &mut Table<Cell>, side: Side, key: &Key, point: Point)
 pub(crate) fn undo_all(table: &mut Table<Cell>, side: Side, writes: &[Write], point: Point)
     ensures slots { slots_in side table.new.rows ≡ map (at_writes (undone point) writes.now) (slots_in side table.old.rows) }
     ensures capacity { table.new.capacity ≡ table.old.capacity }
+    ensures ends { ends_in table.new.rows ≡ ends_in table.old.rows }
     ensures sets { KeepSets table.old.rows table.new.rows }
 {
     for write in writes {
@@ -366,13 +384,12 @@ pub(crate) fn undo_all(table: &mut Table<Cell>, side: Side, writes: &[Write], po
 }
 
 // Whether something keeps the slot: a value, a version, a request, or one of the two sets.
-fn is_kept(slot: &Cell, side: Side, id: SlotId, locks: &Locks) -> bool
-    requires { id < length locks.now.queues }
-    ensures { result ≡ is_kept_slot (queue_at locks.now.queues id) (slot_with side id [] slot.now) }
+fn is_kept(slot: &Cell, side: Side, is_requested: bool) -> bool
+    ensures { (id : ℕ) (queue : Queue) → is_requested ≡ not (length queue == 0) → result ≡ is_kept_slot queue (slot_with side id [] slot.now) }
 {
     slot.live.is_some()
         || versions::is_held(&slot.stable)
-        || locks.has_request(id)
+        || is_requested
         || slot.is_in(side)
         || slot.is_in(side.other())
 }
@@ -380,17 +397,20 @@ fn is_kept(slot: &Cell, side: Side, id: SlotId, locks: &Locks) -> bool
 // The slot is free where nothing keeps it.
 pub(crate) fn tidy(table: &mut Table<Cell>, locks: &Locks, side: Side, point: Point, id: SlotId)
     requires row { HasRow table.old.rows id }
-    requires kept { AreKept (slots_in side table.old.rows) locks.now.queues }
-    requires sound { AreSound point locks.now.queues (slots_in side table.old.rows) }
-    requires count { length locks.now.queues ≡ table.old.capacity }
-    ensures rows { (i : ℕ) → IsNumbered (slots_in side table.old.rows) id i → rows_of locks.now.queues (slots_in side table.new.rows) ≡ tidied (rows_of locks.now.queues (slots_in side table.old.rows)) i }
+    requires kept { AreKept (slots_in side table.old.rows) (queues_in table.old.rows locks.now) }
+    requires sound { AreSound point (queues_in table.old.rows locks.now) (slots_in side table.old.rows) }
+    requires ends { AreEnds (ends_in table.old.rows) locks.now }
+    ensures rows { (i : ℕ) → IsNumbered (slots_in side table.old.rows) id i → rows_of (queues_in table.new.rows locks.now) (slots_in side table.new.rows) ≡ tidied (rows_of (queues_in table.old.rows locks.now) (slots_in side table.old.rows)) i }
     ensures pending { pending_of (slots_in side table.new.rows) ≡ pending_of (slots_in side table.old.rows) }
-    ensures kept { AreKept (slots_in side table.new.rows) locks.now.queues }
-    ensures sound { AreSound point locks.now.queues (slots_in side table.new.rows) }
+    ensures kept { AreKept (slots_in side table.new.rows) (queues_in table.new.rows locks.now) }
+    ensures sound { AreSound point (queues_in table.new.rows locks.now) (slots_in side table.new.rows) }
+    ensures ends { AreEnds (ends_in table.new.rows) locks.now }
+    ensures queues { queues_in table.new.rows locks.now ≡ queues_in table.old.rows locks.now }
     ensures capacity { table.new.capacity ≡ table.old.capacity }
     ensures sets { KeepSets table.old.rows table.new.rows }
 {
-    if !is_kept(table.get(id), side, id, locks) {
+    let is_requested = locks.has_request(table, id);
+    if !is_kept(table.get(id), side, is_requested) {
         drop(table.remove(id));
     }
 }

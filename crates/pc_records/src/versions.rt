@@ -96,6 +96,7 @@ fn is_during(class: Class) -> bool
 fn save(slot: &mut Cell, side: Side, point: Point, class: Class, copy: Option<Value>)
     ensures slot { (number : ℕ) (key : List ℕ) → slot_with side number key slot.new ≡ saved point class copy (slot_with side number key slot.old) }
     ensures words { words_of slot.new ≡ words_of slot.old }
+    ensures ends { slot.new.ends ≡ slot.old.ends }
 {
     match class {
         Class::Before => {}
@@ -125,6 +126,7 @@ pub(crate) fn put(
 )
     ensures slot { (number : ℕ) (key : List ℕ) → slot_with side number key slot.new ≡ put_slot point transaction class copy value (slot_with side number key slot.old) }
     ensures words { words_of slot.new ≡ words_of slot.old }
+    ensures ends { slot.new.ends ≡ slot.old.ends }
 {
     let before = mem::replace(&mut slot.live, value);
     if slot.writer.is_none() {
@@ -141,6 +143,7 @@ pub(crate) fn put(
 pub(crate) fn settle(slot: &mut Cell, side: Side, point: Point) -> bool
     ensures slot { (number : ℕ) (key : List ℕ) → slot_with side number key slot.new ≡ settled point (slot_with side number key slot.old) }
     ensures links { HaveLinks slot.old slot.new }
+    ensures ends { slot.new.ends ≡ slot.old.ends }
     ensures fresh { result ≡ (is_some slot.old.writer && not (is_marked side slot.old)) }
 {
     let Some(writer) = slot.writer.take() else {
@@ -162,6 +165,7 @@ pub(crate) fn settle(slot: &mut Cell, side: Side, point: Point) -> bool
 pub(crate) fn undo(slot: &mut Cell, side: Side, point: Point)
     ensures slot { (number : ℕ) (key : List ℕ) → slot_with side number key slot.new ≡ undone point (slot_with side number key slot.old) }
     ensures words { words_of slot.new ≡ words_of slot.old }
+    ensures ends { slot.new.ends ≡ slot.old.ends }
 {
     if let Some(writer) = slot.writer.take() {
         slot.live = writer.before;
@@ -175,6 +179,7 @@ pub(crate) fn undo(slot: &mut Cell, side: Side, point: Point)
 pub(crate) fn take(slot: &mut Cell, side: Side, point: Point)
     ensures slot { (number : ℕ) (key : List ℕ) → slot_with side number key slot.new ≡ taken_slot point (slot_with side number key slot.old) }
     ensures links { HaveLinks slot.old slot.new }
+    ensures ends { slot.new.ends ≡ slot.old.ends }
 {
     slot.put_mark(side.other(), false);
     slot.stable = Stable::Empty;

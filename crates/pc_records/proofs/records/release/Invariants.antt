@@ -1,5 +1,7 @@
 use Rattle.std.proofs.Common.{◌≡◌, length}
 use Rattle.pc_locks.specs.States.{slots_of}
+use Rattle.pc_locks.specs.Keepers.{lists_of, AreEnds}
+use Rattle.pc_records.specs.Ends.{ends_in, queues_in}
 use Rattle.pc_records.specs.RowSteps.{released_rows}
 use Rattle.pc_records.specs.Slots.{slots_in, rows_of, pending_of, AreKept, AreSound}
 use Rattle.pc_records.specs.SetLists.{KeepSets}
@@ -9,14 +11,14 @@ use Rattle.pc_records.proofs.records.release.Given as goal
 abbrev pub invariant-loop-side : goal.invariant-loop-side
 invariant-loop-side l = record {
   sets : KeepSets l.initial.table.rows l.table.rows;
-  kept : AreKept (slots_in l.side l.table.rows) l.locks.queues;
-  sound : AreSound l.point l.locks.queues (slots_in l.side l.table.rows);
+  kept : AreKept (slots_in l.side l.table.rows) (queues_in l.table.rows l.locks);
+  sound : AreSound l.point (queues_in l.table.rows l.locks) (slots_in l.side l.table.rows);
   pending : pending_of (slots_in l.side l.table.rows) ≡ pending_of (slots_in l.side l.initial.table.rows);
-  count : length l.locks.queues ≡ l.table.capacity;
+  ends : AreEnds (ends_in l.table.rows) l.locks;
   capacity : l.table.capacity ≡ l.initial.table.capacity;
-  rows : released_rows l.transaction (rows_of l.locks.queues (slots_in l.side l.table.rows)) ≡ released_rows l.transaction (rows_of l.initial.locks.queues (slots_in l.side l.initial.table.rows));
+  rows : released_rows l.transaction (rows_of (queues_in l.table.rows l.locks) (slots_in l.side l.table.rows)) ≡ released_rows l.transaction (rows_of (queues_in l.initial.table.rows l.initial.locks) (slots_in l.side l.initial.table.rows));
 }
 
 -- the transaction's list gets shorter
 abbrev pub decreases-loop-side : goal.decreases-loop-side
-decreases-loop-side l = length (slots_of l.locks.lists l.transaction)
+decreases-loop-side l = length (slots_of (lists_of l.locks) l.transaction)

@@ -19,6 +19,7 @@ opened_now c =
 pub loop-write-preserved : goal.loop-write-preserved
 loop-write-preserved c = record {
   capacity = c.settle_key.ensures.capacity ∙ c.loop-write.invariant.capacity;
+  ends = c.settle_key.ensures.ends ∙ c.loop-write.invariant.ends;
   side = c.settle_key.ensures.side ∙ c.loop-write.invariant.side;
   listed = c.settle_key.ensures.listed;
   closed = c.settle_key.ensures.closed ∙ c.loop-write.invariant.closed;

@@ -1,5 +1,6 @@
 use Rattle.std.proofs.Common.{◌≡◌, ◌++◌, map, drop}
 use Rattle.pc_records.specs.Slots.{slots_in, at_writes, settled}
+use Rattle.pc_records.specs.Ends.{ends_in}
 use Rattle.pc_records.specs.SetLists.{IsListed, open_keys, closed_keys, entering_keys}
 use Rattle.pc_records.proofs.slots.settle_all.Given as goal
 
@@ -7,6 +8,7 @@ use Rattle.pc_records.proofs.slots.settle_all.Given as goal
 abbrev pub invariant-loop-write : goal.invariant-loop-write
 invariant-loop-write l = record {
   capacity : l.table.capacity ≡ l.fn.table.capacity;
+  ends : ends_in l.table.rows ≡ ends_in l.fn.table.rows;
   side : l.sets.side ≡ l.fn.sets.side;
   listed : IsListed l.table.rows l.sets;
   closed : closed_keys l.table.rows l.sets ≡ closed_keys l.fn.table.rows l.fn.sets;

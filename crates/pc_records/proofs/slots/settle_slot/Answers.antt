@@ -5,6 +5,9 @@ use Rattle.pc_records.specs.Slots.{slot_with, settled}
 use Rattle.pc_records.specs.SetLists.{open_slots, closed_slots}
 use Rattle.pc_records.proofs.TableSlots.{changed_slots}
 use Rattle.pc_records.proofs.Settling.{linked_after, avoids, fits, has_after, stays_listed, stays_open, stays_closed, goes_listed, goes_open, goes_closed, goes_slots}
+use Rattle.pc_table.specs.Rows.{with_record}
+use Rattle.pc_records.proofs.Unlinked.{ends_keep}
+use Rattle.pc_records.proofs.EndsKept.{ends_changed}
 use Rattle.pc_records.proofs.slots.settle_slot.Goals as goal
 
 pub add-requires-clause-has : goal.add-requires-clause-has
@@ -36,3 +39,9 @@ returns-else-is_new-clause-opened c = stays_open c.args.table.now c.get_mut.ensu
 
 pub returns-else-is_new-clause-closed : goal.returns-else-is_new-clause-closed
 returns-else-is_new-clause-closed c = stays_closed c.args.table.now c.get_mut.ensures.slots c.args.sets.now c.requires.listed c.args.id c.get_mut.result.now c.settle-is_new.new.slot c.get_mut.ensures.record_of c.args.point (subst (λ (s : Side). (number : ℕ) (key : List ℕ) → slot_with s number key c.settle-is_new.new.slot ≡ settled c.args.point (slot_with s number key c.get_mut.result.now)) c.open_side-side.ensures c.settle-is_new.ensures.slot) c.settle-is_new.ensures.links (sym c.if-is_new.false ∙ (subst (λ (s : Side). c.settle-is_new.result ≡ (is_some c.get_mut.result.now.writer && not (is_marked s c.get_mut.result.now))) c.open_side-side.ensures c.settle-is_new.ensures.fresh))
+
+pub returns-then-is_new-clause-ends : goal.returns-then-is_new-clause-ends
+returns-then-is_new-clause-ends c = ends_keep (with_record c.args.table.now c.args.id c.settle-is_new.new.slot) c.add.new.links c.add.ensures.beside ∙ ends_changed c.args.table.now.rows c.args.id c.get_mut.result.now c.settle-is_new.new.slot c.get_mut.ensures.record_of c.settle-is_new.ensures.ends
+
+pub returns-else-is_new-clause-ends : goal.returns-else-is_new-clause-ends
+returns-else-is_new-clause-ends c = ends_changed c.args.table.now.rows c.args.id c.get_mut.result.now c.settle-is_new.new.slot c.get_mut.ensures.record_of c.settle-is_new.ensures.ends

@@ -9,6 +9,7 @@ pub loop-write-preserved : goal.loop-write-preserved
 loop-write-preserved c = record {
   sets = sets_then c.args.table.now.rows c.loop-write.table.rows c.undo_key.new.table.rows c.loop-write.invariant.sets c.undo_key.ensures.sets;
   capacity = c.undo_key.ensures.capacity ∙ c.loop-write.invariant.capacity;
+  ends = c.undo_key.ensures.ends ∙ c.loop-write.invariant.ends;
   rest = writes_next (undone c.args.point) (undone_key c.args.point) (undone_again c.args.point) c.args.writes.now c.loop-write.write-index c.write-item.result (slots_in c.args.side c.args.table.now.rows) (slots_in c.args.side c.loop-write.table.rows) (slots_in c.args.side c.undo_key.new.table.rows) c.loop-write-test.true c.write-item.is c.undo_key.ensures.slots c.loop-write.invariant.rest;
 }
 

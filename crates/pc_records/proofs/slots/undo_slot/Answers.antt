@@ -1,6 +1,7 @@
 use Rattle.pc_records.specs.Slots.{undone}
 use Rattle.pc_records.proofs.TableSlots.{changed_slots}
 use Rattle.pc_records.proofs.KeepingSets.{changed_sets}
+use Rattle.pc_records.proofs.EndsKept.{ends_changed}
 use Rattle.pc_records.proofs.slots.undo_slot.Goals as goal
 
 pub returns-clause-slots : goal.returns-clause-slots
@@ -8,3 +9,6 @@ returns-clause-slots c = changed_slots c.args.side c.args.table.now c.args.id c.
 
 pub returns-clause-sets : goal.returns-clause-sets
 returns-clause-sets c = changed_sets c.args.table.now.rows c.args.id c.get_mut.result.now c.undo.new.slot c.get_mut.ensures.record_of c.undo.ensures.words
+
+pub returns-clause-ends : goal.returns-clause-ends
+returns-clause-ends c = ends_changed c.args.table.now.rows c.args.id c.get_mut.result.now c.undo.new.slot c.get_mut.ensures.record_of c.undo.ensures.ends

@@ -1,22 +1,20 @@
-use Rattle.std.proofs.Common.{not, ◌∙◌, ap, subst}
+use Rattle.std.proofs.Common.{not, ◌∙◌, sym, ap, subst}
 use Rattle.pc_types.specs.declared.Request.{Request}
-use Rattle.pc_locks.specs.States.{State, is_waiting, AreSettled}
-use Rattle.pc_locks.proofs.LocksLemmas.{waits_last, waits_never, keeps_settled}
+use Rattle.pc_locks.specs.Lines.{ids_by}
+use Rattle.pc_locks.specs.States.{is_waiting}
+use Rattle.pc_locks.specs.Keepers.{Kept, kept_of, state_of, AreEnds}
+use Rattle.pc_locks.proofs.LocksLemmas.{waits_last, waits_never, ends_keep}
 use Rattle.pc_locks.proofs.locks.Locks.is_waiting.Goals as goal
 
-pub returns-in-Some-clause-answer : goal.returns-in-Some-clause-answer
-returns-in-Some-clause-answer c =
+pub returns-in-Some : goal.returns-in-Some
+returns-in-Some c = λ ends a.
+    let kept = kept_of c.self.inside.table in
     ap (λ (r : Request). not r.granted) c.request.ensures
-    ∙ (waits_last c.self.inside.table.nodes.slots c.self.inside.table.queues.ids c.self.inside.table.lists.entries c.args.transaction c.in-Some.last c.self.invariant c.in-Some.ensures
-    ∙ ap (λ (s : State). is_waiting s c.args.transaction) c.self.view_is)
+    ∙ (waits_last kept.nodes (ids_by kept.links ends) kept.entries c.args.transaction c.in-Some.last (ends_keep ends kept (subst (AreEnds ends) (sym c.self.view_is) a)) c.in-Some.ensures
+    ∙ ap (λ (k : Kept). is_waiting (state_of ends k) c.args.transaction) c.self.view_is)
 
-pub returns-in-None-clause-answer : goal.returns-in-None-clause-answer
-returns-in-None-clause-answer c =
-    waits_never c.self.inside.table.nodes.slots c.self.inside.table.queues.ids c.self.inside.table.lists.entries c.args.transaction c.self.invariant c.in-None.ensures
-    ∙ ap (λ (s : State). is_waiting s c.args.transaction) c.self.view_is
-
-pub returns-in-Some-clause-settled : goal.returns-in-Some-clause-settled
-returns-in-Some-clause-settled c = subst AreSettled c.self.view_is (keeps_settled _ _ _ c.self.invariant)
-
-pub returns-in-None-clause-settled : goal.returns-in-None-clause-settled
-returns-in-None-clause-settled c = subst AreSettled c.self.view_is (keeps_settled _ _ _ c.self.invariant)
+pub returns-in-None : goal.returns-in-None
+returns-in-None c = λ ends a.
+    let kept = kept_of c.self.inside.table in
+    waits_never kept.nodes (ids_by kept.links ends) kept.entries c.args.transaction (ends_keep ends kept (subst (AreEnds ends) (sym c.self.view_is) a)) c.in-None.ensures
+    ∙ ap (λ (k : Kept). is_waiting (state_of ends k) c.args.transaction) c.self.view_is

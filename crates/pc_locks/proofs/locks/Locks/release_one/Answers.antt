@@ -1,52 +1,62 @@
-use Rattle.std.proofs.Common.{◌∙◌, sym, ap, subst, set}
+use Rattle.std.proofs.Common.{sym, ◌∙◌, ap, subst}
 use Rattle.pc_model.specs.Locks.{queue_without}
-use Rattle.pc_locks.specs.Lines.{Lines, Listed}
-use Rattle.pc_locks.specs.States.{State, AreDifferent, AreSettled, queue_at}
-use Rattle.pc_locks.specs.declared.table.RequestTable.{RequestTable}
-use Rattle.pc_locks.specs.Tables.{queues_in, lists_in, Keeps}
-use Rattle.pc_locks.proofs.TableLemmas.{found_slots}
-use Rattle.pc_locks.proofs.LocksLemmas.{Released, once_at, once_left, released, keeps_settled}
+use Rattle.pc_model.specs.Queues.{AreOnce}
+use Rattle.pc_locks.specs.Lines.{ids_of, ids_by}
+use Rattle.pc_locks.specs.States.{queue_at, slots_of, rest_of, SetsAt}
+use Rattle.pc_locks.specs.Tables.{requests}
+use Rattle.pc_locks.specs.Keepers.{Kept, kept_of, queues_of, lists_of, AreSound}
+use Rattle.pc_locks.proofs.LocksLemmas.{Released, once_left}
+use Rattle.pc_locks.proofs.Soundness.{kept_is, released_in, sound_released}
+use Rattle.pc_locks.proofs.locks.Locks.release_one.Given as given
 use Rattle.pc_locks.proofs.locks.Locks.release_one.Goals as goal
 use Rattle.pc_locks.proofs.locks.Locks.release_one.Goals.{After-grant}
 
-pub take-requires-clause-once : goal.take-requires-clause-once
-take-requires-clause-once c = λ s. once_at c.self.inside.table.nodes.slots c.self.inside.table.queues.ids c.self.inside.table.lists.entries s c.self.invariant
-
-pub take-requires-clause-different : goal.take-requires-clause-different
-take-requires-clause-different c = subst AreDifferent (found_slots c.self.inside.table.nodes.slots c.self.inside.table.lists.entries c.args.transaction) (c.self.invariant.linked.once c.args.transaction)
-
 pub grant-requires-clause-once : goal.grant-requires-clause-once
-grant-requires-clause-once c =
-    once_left c.self.inside.table.nodes.slots c.take.new.self.nodes.slots c.self.inside.table.queues.ids c.take.new.self.queues.ids c.self.inside.table.lists.entries c.in_ok-slot.slot c.args.transaction c.self.invariant
-    c.in_ok-slot.ensures.range c.in_ok-slot.ensures.queues
+grant-requires-clause-once g c =
+    let ends = g.E.QueueEnds.ends_of c.args.keeper.now in
+    let new_ends = g.E.QueueEnds.ends_of c.take.new.keeper in
+    let kept = kept_of c.self.inside.table in
+    let taken = kept_of c.take.new.self in
+    let a = subst (AreSound (g.E.QueueEnds.has c.args.keeper.now) ends) (sym c.self.view_is) c.requires.sound in
+    subst (λ x. AreOnce (requests taken.nodes (ids_of taken.links x))) (sym c.ends.ensures)
+    (once_left kept.nodes taken.nodes (ids_by kept.links ends) (ids_by taken.links new_ends) c.in_ok-slot.slot c.args.transaction (a.ends_are.settled.settled c.in_ok-slot.slot).1 c.in_ok-slot.ensures.queues)
 
-done : (c : After-grant) → Released c.self.inside.table.nodes.slots c.take.new.self.nodes.slots c.grant.new.self.nodes.slots c.self.inside.table.queues.ids c.take.new.self.queues.ids c.self.inside.table.lists.entries c.take.new.self.lists.entries c.in_ok-slot.slot c.args.transaction
-done c =
-    released c.self.inside.table.nodes.slots c.take.new.self.nodes.slots c.grant.new.self.nodes.slots c.self.inside.table.queues.ids c.take.new.self.queues.ids c.self.inside.table.lists.entries c.take.new.self.lists.entries c.in_ok-slot.slot c.args.transaction c.self.invariant
-    c.in_ok-slot.ensures.range c.in_ok-slot.ensures.table c.in_ok-slot.ensures.given c.in_ok-slot.ensures.list c.in_ok-slot.ensures.others c.in_ok-slot.ensures.queues c.grant.ensures.granted c.grant.ensures.places c.grant.ensures.others
+done : (g : given.Over) (c : After-grant g) → Released c.self.inside.table.nodes.slots c.take.new.self.nodes.slots c.grant.new.self.nodes.slots
+    (ids_by c.self.inside.table.links.links.items (g.E.QueueEnds.ends_of c.args.keeper.now)) (ids_by c.take.new.self.links.links.items (g.E.QueueEnds.ends_of c.take.new.keeper))
+    c.self.inside.table.lists.entries c.take.new.self.lists.entries c.in_ok-slot.slot c.args.transaction
+done g c =
+    let ends = g.E.QueueEnds.ends_of c.args.keeper.now in
+    let taken = kept_of c.take.new.self in
+    let a = subst (AreSound (g.E.QueueEnds.has c.args.keeper.now) ends) (sym c.self.view_is) c.requires.sound in
+    released_in ends (g.E.QueueEnds.ends_of c.take.new.keeper) (kept_of c.self.inside.table) taken c.grant.new.self.nodes.slots (ids_of taken.links c.ends.result) c.in_ok-slot.slot c.args.transaction a.ends_are c.in_ok-slot.ensures.tied (ap (ids_of taken.links) c.ends.ensures)
+    c.in_ok-slot.ensures.given c.in_ok-slot.ensures.list c.in_ok-slot.ensures.others c.in_ok-slot.ensures.queues c.grant.ensures.granted c.grant.ensures.places c.grant.ensures.others
 
-kept : (c : After-grant) → Keeps c.grant.new.self.nodes.slots c.grant.new.self.queues.ids c.grant.new.self.lists.entries
-kept c =
-    subst (λ (v : Lines). Keeps c.grant.new.self.nodes.slots v.ids c.grant.new.self.lists.entries) (sym c.grant.ensures.queues)
-    (subst (λ (v : Listed). Keeps c.grant.new.self.nodes.slots c.take.new.self.queues.ids v.entries) (sym c.grant.ensures.lists) (done c).keeps)
+pub returns-clause-sound : goal.returns-clause-sound
+returns-clause-sound g c =
+    let has = g.E.QueueEnds.has c.args.keeper.now in
+    let ends = g.E.QueueEnds.ends_of c.args.keeper.now in
+    let new_has = g.E.QueueEnds.has c.take.new.keeper in
+    let new_ends = g.E.QueueEnds.ends_of c.take.new.keeper in
+    let a = subst (AreSound has ends) (sym c.self.view_is) c.requires.sound in
+    subst (AreSound new_has new_ends) (sym (kept_is c.take.new.self c.grant.new.self c.grant.ensures.links c.grant.ensures.lists))
+    (sound_released has new_has ends new_ends (kept_of c.self.inside.table) (kept_of c.take.new.self) c.grant.new.self.nodes.slots c.in_ok-slot.slot c.args.transaction a c.in_ok-slot.ensures.tied c.in_ok-slot.ensures.has
+    (λ u h. (g.met.E.QueueEnds.beside_has c.args.keeper.now c.take.new.keeper u c.in_ok-slot.ensures.beside).0 h) (done g c))
 
-pub invariant_of-self-2 : goal.invariant_of-self-2
-invariant_of-self-2 c = kept c
+pub returns-clause-list : goal.returns-clause-list
+returns-clause-list g c =
+    ap (λ (k : Kept). slots_of (lists_of k) c.args.transaction) (kept_is c.take.new.self c.grant.new.self c.grant.ensures.links c.grant.ensures.lists)
+    ∙ (ap (λ x. slots_of x c.args.transaction) (done g c).lists ∙ (c.in_ok-slot.ensures.list ∙ ap (λ (k : Kept). rest_of (slots_of (lists_of k) c.args.transaction)) c.self.view_is))
 
-pub returns-clause-before : goal.returns-clause-before
-returns-clause-before c = subst AreSettled c.self.view_is (keeps_settled _ _ _ c.self.invariant)
-
-pub returns-clause-after : goal.returns-clause-after
-returns-clause-after c = keeps_settled _ _ _ (kept c)
-
-pub returns-in_err-slot-clause-before : goal.returns-in_err-slot-clause-before
-returns-in_err-slot-clause-before c = subst AreSettled c.self.view_is (keeps_settled _ _ _ c.self.invariant)
-
-pub returns-in_err-slot-clause-after : goal.returns-in_err-slot-clause-after
-returns-in_err-slot-clause-after c =
-    subst (λ (t : RequestTable). AreSettled (record { queues = queues_in t.nodes.slots t.queues.ids; lists = lists_in t.nodes.slots t.lists.entries })) (sym c.in_err-slot.ensures.none) (keeps_settled _ _ _ c.self.invariant)
+pub returns-clause-others : goal.returns-clause-others
+returns-clause-others g c = λ u n.
+    ap (λ (k : Kept). slots_of (lists_of k) u) (kept_is c.take.new.self c.grant.new.self c.grant.ensures.links c.grant.ensures.lists)
+    ∙ (ap (λ x. slots_of x u) (done g c).lists ∙ (c.in_ok-slot.ensures.others u n ∙ ap (λ (k : Kept). slots_of (lists_of k) u) c.self.view_is))
 
 pub returns-clause-queues : goal.returns-clause-queues
-returns-clause-queues c =
-    ap (λ (v : Lines). queues_in c.grant.new.self.nodes.slots v.ids) c.grant.ensures.queues
-    ∙ ((done c).queues ∙ ap (λ (s : State). set s.queues c.in_ok-slot.slot (queue_without (queue_at s.queues c.in_ok-slot.slot) c.args.transaction)) c.self.view_is)
+returns-clause-queues g c =
+    let ends = g.E.QueueEnds.ends_of c.args.keeper.now in
+    let new_ends = g.E.QueueEnds.ends_of c.take.new.keeper in
+    subst (λ (k : Kept). SetsAt (queues_of ends c.args.self.now) (queues_of new_ends k) c.in_ok-slot.slot (queue_without (queue_at (queues_of ends c.args.self.now) c.in_ok-slot.slot) c.args.transaction))
+    (sym (kept_is c.take.new.self c.grant.new.self c.grant.ensures.links c.grant.ensures.lists))
+    (subst (λ (k : Kept). SetsAt (queues_of ends k) (queues_of new_ends (record { nodes = c.grant.new.self.nodes.slots; links = c.take.new.self.links.links.items; entries = c.take.new.self.lists.entries })) c.in_ok-slot.slot
+    (queue_without (queue_at (queues_of ends k) c.in_ok-slot.slot) c.args.transaction)) c.self.view_is (done g c).queues)

@@ -1,103 +1,84 @@
-use Rattle.std.proofs.Common.{◌≡◌, ◌<◌, length, set, true, false, is_some, sym, ◌∙◌, ap, subst}
+use Rattle.std.proofs.Common.{◌≡◌, ℕ, true, false, is_some, sym, ◌∙◌, ap, subst}
 use Rattle.std.proofs.lemmas.Result.{IfOk-weaker}
 use Rattle.pc_model.specs.Locks.{outcome, queue_after}
 use Rattle.pc_model.specs.Queues.{stands_in}
 use Rattle.pc_model.proofs.QueueLaws.{stands_is, new_outcome}
-use Rattle.pc_locks.specs.Lines.{Lines, Listed}
-use Rattle.pc_locks.specs.States.{State, queue_at, slots_of, slots_after, is_waiting, AreSettled}
-use Rattle.pc_locks.specs.Tables.{queues_in, lists_in, Keeps}
-use Rattle.pc_locks.proofs.StateLaws.{ready_at, list_again}
-use Rattle.pc_locks.proofs.TableLemmas.{found_queue}
-use Rattle.pc_locks.proofs.LocksLemmas.{Answered, once_at, own_at, within_ids, answered_again, keeps_first, keeps_settled}
+use Rattle.pc_locks.specs.Lines.{ids_of, ids_by}
+use Rattle.pc_locks.specs.States.{queue_at, slots_of, slots_after, is_waiting, SetsAt}
+use Rattle.pc_locks.specs.Tables.{requests, IsOwn}
+use Rattle.pc_locks.specs.Keepers.{Kept, kept_of, queues_of, lists_of, state_of, AreSound}
+use Rattle.pc_locks.proofs.StateLaws.{list_again}
+use Rattle.pc_locks.proofs.LocksLemmas.{Answered, own_at}
+use Rattle.pc_locks.proofs.Soundness.{kept_is, answered_in, sound_answered, sound_first}
+use Rattle.pc_locks.proofs.locks.Locks.request.Given as given
 use Rattle.pc_locks.proofs.locks.Locks.request.Goals as goal
 use Rattle.pc_locks.proofs.locks.Locks.request.Goals.{After-again, After-first}
 
-pub again-requires-clause-once : goal.again-requires-clause-once
-again-requires-clause-once c = once_at c.self.inside.table.nodes.slots c.self.inside.table.queues.ids c.self.inside.table.lists.entries c.slot.inside.0 c.self.invariant
-
 -- the own request answered again
-answered : (c : After-again) → Answered c.self.inside.table.nodes.slots c.again.new.self.nodes.slots c.self.inside.table.queues.ids c.self.inside.table.lists.entries c.slot.inside.0 c.args.transaction c.args.mode c.again.result
-answered c =
-    let nodes = c.self.inside.table.nodes.slots in
-    let ids = c.self.inside.table.queues.ids in
-    let entries = c.self.inside.table.lists.entries in
-    let queues = queues_in nodes ids in
-    let n : c.slot.inside.0 < length queues = subst (λ (s : State). c.slot.inside.0 < length s.queues) (sym c.self.view_is) (subst (λ i. i < length c.args.self.now.queues) (sym c.slot.view_is) c.requires.slot) in
-    let h = within_ids nodes ids c.slot.inside.0 n in
-    let ready = ready_at c.args.transaction queues (ap (λ (s : State). is_waiting s c.args.transaction) c.self.view_is ∙ c.requires.ready) in
-    answered_again nodes c.again.new.self.nodes.slots ids entries c.slot.inside.0 c.args.transaction c.in-Some.found.previous c.in-Some.found.id c.args.mode c.again.result c.self.invariant h
-    (ready c.slot.inside.0) c.in-Some.ensures.some c.again.ensures.told c.again.ensures.queue c.again.ensures.places c.again.ensures.others
+answered : (g : given.Over) (c : After-again g) → Answered c.self.inside.table.nodes.slots c.again.new.self.nodes.slots (ids_by c.self.inside.table.links.links.items (g.E.QueueEnds.ends_of c.args.keeper.now)) c.self.inside.table.lists.entries c.args.slot c.args.transaction c.args.mode c.again.result
+answered g c =
+    let ends = g.E.QueueEnds.ends_of c.args.keeper.now in
+    let kept = kept_of c.self.inside.table in
+    let a = subst (AreSound (g.E.QueueEnds.has c.args.keeper.now) ends) (sym c.self.view_is) c.requires.sound in
+    let ready = ap (λ (k : Kept). is_waiting (state_of ends k) c.args.transaction) c.self.view_is ∙ c.requires.ready in
+    answered_in ends kept c.again.new.self.nodes.slots (ids_of kept.links c.ends-queue.result) c.args.slot c.args.transaction c.in-Some.found.previous c.in-Some.found.id c.args.mode c.again.result a.ends_are (ap (ids_of kept.links) c.ends-queue.ensures)
+    ready c.in-Some.ensures.some c.again.ensures.told c.again.ensures.queue c.again.ensures.places c.again.ensures.others
 
-kept_again : (c : After-again) → Keeps c.again.new.self.nodes.slots c.again.new.self.queues.ids c.again.new.self.lists.entries
-kept_again c =
-    subst (λ (v : Lines). Keeps c.again.new.self.nodes.slots v.ids c.again.new.self.lists.entries) (sym c.again.ensures.queues)
-    (subst (λ (v : Listed). Keeps c.again.new.self.nodes.slots c.self.inside.table.queues.ids v.entries) (sym c.again.ensures.lists) (answered c).keeps)
-
--- the first request answered
-kept_first : (c : After-first) → Keeps c.first.new.self.nodes.slots c.first.new.self.queues.ids c.first.new.self.lists.entries
-kept_first c =
-    let nodes = c.self.inside.table.nodes.slots in
-    let ids = c.self.inside.table.queues.ids in
-    let entries = c.self.inside.table.lists.entries in
-    let queues = queues_in nodes ids in
-    let n : c.slot.inside.0 < length queues = subst (λ (s : State). c.slot.inside.0 < length s.queues) (sym c.self.view_is) (subst (λ i. i < length c.args.self.now.queues) (sym c.slot.view_is) c.requires.slot) in
-    let h = within_ids nodes ids c.slot.inside.0 n in
-    let ready = ready_at c.args.transaction queues (ap (λ (s : State). is_waiting s c.args.transaction) c.self.view_is ∙ c.requires.ready) in
-    let fresh : stands_in (queue_at queues c.slot.inside.0) c.args.transaction ≡ false = ap (λ q. stands_in q c.args.transaction) (found_queue nodes ids c.slot.inside.0) ∙ c.in-None.ensures.none in
-    keeps_first c.first.result (λ o. o) nodes c.first.new.self.nodes.slots ids c.first.new.self.queues.ids entries c.first.new.self.lists.entries c.slot.inside.0 c.args.transaction c.args.mode c.self.invariant h fresh ready
-    c.first.ensures.table c.first.ensures.told c.first.ensures.queues c.first.ensures.list c.first.ensures.others c.first.ensures.err
-
-pub invariant_of-self : goal.invariant_of-self
-invariant_of-self c = kept_again c
-
-pub invariant_of-self-in-None : goal.invariant_of-self-in-None
-invariant_of-self-in-None c = kept_first c
-
-pub returns-in-Some-clause-before : goal.returns-in-Some-clause-before
-returns-in-Some-clause-before c = subst AreSettled c.self.view_is (keeps_settled _ _ _ c.self.invariant)
-
-pub returns-in-Some-clause-after : goal.returns-in-Some-clause-after
-returns-in-Some-clause-after c = keeps_settled _ _ _ (kept_again c)
-
-pub returns-in-None-clause-before : goal.returns-in-None-clause-before
-returns-in-None-clause-before c = subst AreSettled c.self.view_is (keeps_settled _ _ _ c.self.invariant)
-
-pub returns-in-None-clause-after : goal.returns-in-None-clause-after
-returns-in-None-clause-after c = keeps_settled _ _ _ (kept_first c)
+pub returns-in-Some-clause-sound : goal.returns-in-Some-clause-sound
+returns-in-Some-clause-sound g c =
+    let has = g.E.QueueEnds.has c.args.keeper.now in
+    let ends = g.E.QueueEnds.ends_of c.args.keeper.now in
+    let a = subst (AreSound has ends) (sym c.self.view_is) c.requires.sound in
+    subst (AreSound has ends) (sym (kept_is c.self.inside.table c.again.new.self c.again.ensures.links c.again.ensures.lists))
+    (sound_answered has ends (kept_of c.self.inside.table) c.again.new.self.nodes.slots c.args.slot c.args.transaction c.args.mode c.again.result a c.requires.has (answered g c))
 
 pub returns-in-Some-clause-told : goal.returns-in-Some-clause-told
-returns-in-Some-clause-told c =
-    let queues = queues_in c.self.inside.table.nodes.slots c.self.inside.table.queues.ids in
-    (answered c).told ∙ (ap (λ j. outcome (queue_at queues j) c.args.transaction c.args.mode) c.slot.view_is
-    ∙ ap (λ (s : State). outcome (queue_at s.queues c.args.slot) c.args.transaction c.args.mode) c.self.view_is)
+returns-in-Some-clause-told g c =
+    let ends = g.E.QueueEnds.ends_of c.args.keeper.now in
+    (answered g c).told ∙ ap (λ (k : Kept). outcome (queue_at (queues_of ends k) c.args.slot) c.args.transaction c.args.mode) c.self.view_is
 
 pub returns-in-Some-clause-queues : goal.returns-in-Some-clause-queues
-returns-in-Some-clause-queues c =
-    let queues = queues_in c.self.inside.table.nodes.slots c.self.inside.table.queues.ids in
-    ap (λ (v : Lines). queues_in c.again.new.self.nodes.slots v.ids) c.again.ensures.queues
-    ∙ ((answered c).queues ∙ (ap (λ j. set queues j (queue_after (queue_at queues j) c.args.transaction c.args.mode c.again.result)) c.slot.view_is
-    ∙ ap (λ (s : State). set s.queues c.args.slot (queue_after (queue_at s.queues c.args.slot) c.args.transaction c.args.mode c.again.result)) c.self.view_is))
+returns-in-Some-clause-queues g c =
+    let ends = g.E.QueueEnds.ends_of c.args.keeper.now in
+    subst (λ (k : Kept). SetsAt (queues_of ends c.args.self.now) (queues_of ends k) c.args.slot (queue_after (queue_at (queues_of ends c.args.self.now) c.args.slot) c.args.transaction c.args.mode c.again.result))
+    (sym (kept_is c.self.inside.table c.again.new.self c.again.ensures.links c.again.ensures.lists))
+    (subst (λ (k : Kept). SetsAt (queues_of ends k) (queues_of ends (record { nodes = c.again.new.self.nodes.slots; links = c.self.inside.table.links.links.items; entries = c.self.inside.table.lists.entries })) c.args.slot
+    (queue_after (queue_at (queues_of ends k) c.args.slot) c.args.transaction c.args.mode c.again.result)) c.self.view_is (answered g c).queues)
 
 pub returns-in-Some-clause-list : goal.returns-in-Some-clause-list
-returns-in-Some-clause-list c =
-    let nodes = c.self.inside.table.nodes.slots in
-    let ids = c.self.inside.table.queues.ids in
-    let entries = c.self.inside.table.lists.entries in
-    let queues = queues_in nodes ids in
-    let q = queue_at queues c.slot.inside.0 in
-    let stood : stands_in q c.args.transaction ≡ true = sym (stands_is q c.args.transaction) ∙ ap is_some (own_at nodes ids c.slot.inside.0 c.args.transaction c.in-Some.found.previous c.in-Some.found.id c.in-Some.ensures.some) in
-    ap (λ (v : Listed). slots_of (lists_in c.again.new.self.nodes.slots v.entries) c.args.transaction) c.again.ensures.lists
-    ∙ (ap (λ x. slots_of x c.args.transaction) (answered c).lists
-    ∙ (list_again (slots_of (lists_in nodes entries) c.args.transaction) c.slot.inside.0 (stands_in q c.args.transaction) c.again.result (answered c).kind stood
-    ∙ (ap (λ j. slots_after (slots_of (lists_in nodes entries) c.args.transaction) j (stands_in (queue_at queues j) c.args.transaction) c.again.result) c.slot.view_is
-    ∙ ap (λ (s : State). slots_after (slots_of s.lists c.args.transaction) c.args.slot (stands_in (queue_at s.queues c.args.slot) c.args.transaction) c.again.result) c.self.view_is)))
+returns-in-Some-clause-list g c =
+    let ends = g.E.QueueEnds.ends_of c.args.keeper.now in
+    let kept = kept_of c.self.inside.table in
+    let q = queue_at (queues_of ends kept) c.args.slot in
+    let own = subst (λ xs. IsOwn kept.nodes xs c.args.transaction c.in-Some.found.previous c.in-Some.found.id) (ap (ids_of kept.links) c.ends-queue.ensures) c.in-Some.ensures.some in
+    let stood : stands_in q c.args.transaction ≡ true = sym (stands_is q c.args.transaction) ∙ ap is_some (own_at kept.nodes (ids_by kept.links ends) c.args.slot c.args.transaction c.in-Some.found.previous c.in-Some.found.id own) in
+    ap (λ (k : Kept). slots_of (lists_of k) c.args.transaction) (kept_is c.self.inside.table c.again.new.self c.again.ensures.links c.again.ensures.lists)
+    ∙ (ap (λ x. slots_of x c.args.transaction) (answered g c).lists
+    ∙ (list_again (slots_of (lists_of kept) c.args.transaction) c.args.slot (stands_in q c.args.transaction) c.again.result (answered g c).kind stood
+    ∙ ap (λ (k : Kept). slots_after (slots_of (lists_of k) c.args.transaction) c.args.slot (stands_in (queue_at (queues_of ends k) c.args.slot) c.args.transaction) c.again.result) c.self.view_is))
+
+pub returns-in-Some-clause-others : goal.returns-in-Some-clause-others
+returns-in-Some-clause-others g c = λ u n.
+    ap (λ (k : Kept). slots_of (lists_of k) u) (kept_is c.self.inside.table c.again.new.self c.again.ensures.links c.again.ensures.lists)
+    ∙ (ap (λ x. slots_of x u) (answered g c).lists ∙ ap (λ (k : Kept). slots_of (lists_of k) u) c.self.view_is)
+
+-- a queue of these ids has no request of the transaction
+fresh : (g : given.Over) (c : After-first g) → stands_in (queue_at (queues_of (g.E.QueueEnds.ends_of c.args.keeper.now) (kept_of c.self.inside.table)) c.args.slot) c.args.transaction ≡ false
+fresh g c = ap (λ x. stands_in (requests c.self.inside.table.nodes.slots (ids_of c.self.inside.table.links.links.items x)) c.args.transaction) (sym c.ends-queue.ensures) ∙ c.in-None.ensures.none
+
+pub returns-in-None-clause-sound : goal.returns-in-None-clause-sound
+returns-in-None-clause-sound g c =
+    let has = g.E.QueueEnds.has c.args.keeper.now in
+    let ends = g.E.QueueEnds.ends_of c.args.keeper.now in
+    let a = subst (AreSound has ends) (sym c.self.view_is) c.requires.sound in
+    let ready = ap (λ (k : Kept). is_waiting (state_of ends k) c.args.transaction) c.self.view_is ∙ c.requires.ready in
+    let stays : (u : ℕ) → g.E.QueueEnds.has c.args.keeper.now u → g.E.QueueEnds.has c.first.new.keeper u = λ u h. (g.met.E.QueueEnds.beside_has c.args.keeper.now c.first.new.keeper u c.first.ensures.beside).0 h in
+    sound_first c.first.result (λ o. o) has (g.E.QueueEnds.has c.first.new.keeper) ends (g.E.QueueEnds.ends_of c.first.new.keeper) (kept_of c.self.inside.table) (kept_of c.first.new.self) c.args.slot c.args.transaction c.args.mode a
+    (stays c.args.slot c.requires.has) stays (fresh g c) ready c.first.ensures.tied c.first.ensures.told c.first.ensures.queues c.first.ensures.list c.first.ensures.others c.first.ensures.err
 
 pub returns-in-None-clause-told : goal.returns-in-None-clause-told
-returns-in-None-clause-told c =
-    let nodes = c.self.inside.table.nodes.slots in
-    let ids = c.self.inside.table.queues.ids in
-    let queues = queues_in nodes ids in
-    let fresh : stands_in (queue_at queues c.slot.inside.0) c.args.transaction ≡ false = ap (λ q. stands_in q c.args.transaction) (found_queue nodes ids c.slot.inside.0) ∙ c.in-None.ensures.none in
-    IfOk-weaker c.first.result _ _ (λ a e. e ∙ (sym (new_outcome (queue_at queues c.slot.inside.0) c.args.transaction c.args.mode fresh)
-    ∙ (ap (λ j. outcome (queue_at queues j) c.args.transaction c.args.mode) c.slot.view_is
-    ∙ ap (λ (s : State). outcome (queue_at s.queues c.args.slot) c.args.transaction c.args.mode) c.self.view_is))) c.first.ensures.told
+returns-in-None-clause-told g c =
+    let ends = g.E.QueueEnds.ends_of c.args.keeper.now in
+    let q = queue_at (queues_of ends (kept_of c.self.inside.table)) c.args.slot in
+    IfOk-weaker c.first.result _ _ (λ a e. e ∙ (sym (new_outcome q c.args.transaction c.args.mode (fresh g c))
+    ∙ ap (λ (k : Kept). outcome (queue_at (queues_of ends k) c.args.slot) c.args.transaction c.args.mode) c.self.view_is)) c.first.ensures.told

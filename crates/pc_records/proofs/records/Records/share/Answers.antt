@@ -1,3 +1,5 @@
+use Rattle.pc_locks.specs.Keepers.{lists_of}
+use Rattle.pc_records.specs.Ends.{queues_in}
 use Rattle.pc_records.specs.Slots.{slots_in}
 use Rattle.std.proofs.Common.{◌∙◌, ap}
 use Rattle.pc_records.specs.RowSteps.{is_waiting}
@@ -15,14 +17,14 @@ use Rattle.pc_records.proofs.records.Records.share.Goals as goal
 
 pub share-requires-clause-ready : goal.share-requires-clause-ready
 share-requires-clause-ready c =
-    waits_same (slots_in c.self.inside.sets.side c.self.inside.table.rows) c.self.inside.locks.queues c.args.transaction c.self.invariant.0
+    waits_same (slots_in c.self.inside.sets.side c.self.inside.table.rows) (queues_in c.self.inside.table.rows c.self.inside.locks) (lists_of c.self.inside.locks) c.args.transaction c.self.invariant.1.0.settled.linked c.self.invariant.0
     ∙ ap (λ (k : Table). is_waiting k.rows c.args.transaction) c.self.view_is ∙ c.requires.ready
 
 pub invariant_of-self : goal.invariant_of-self
-invariant_of-self c = (subst (λ (s : Side). AreKept (slots_in s c.share.new.table.rows) c.share.new.locks.queues) c.open_side.ensures c.share.ensures.kept, (c.share.ensures.count, subst (λ (s : Side). AreSound c.self.inside.point c.share.new.locks.queues (slots_in s c.share.new.table.rows)) c.open_side.ensures c.share.ensures.sound), kept_listed c.self.inside.table.rows c.share.new.table.rows c.self.inside.sets c.share.ensures.sets c.self.invariant.2)
+invariant_of-self c = (subst (λ (s : Side). AreKept (slots_in s c.share.new.table.rows) (queues_in c.share.new.table.rows c.share.new.locks)) c.open_side.ensures c.share.ensures.kept, (c.share.ensures.ends, subst (λ (s : Side). AreSound c.self.inside.point (queues_in c.share.new.table.rows c.share.new.locks) (slots_in s c.share.new.table.rows)) c.open_side.ensures c.share.ensures.sound), kept_listed c.self.inside.table.rows c.share.new.table.rows c.self.inside.sets c.share.ensures.sets c.self.invariant.2)
 
 pub returns-clause-rows : goal.returns-clause-rows
-returns-clause-rows c = rw (← c.self.view_is) (IfOk-weaker c.share.result _ _ (λ answer h. seen_again c.self.inside.table c.share.new.table c.self.inside.sets c.share.new.locks.queues c.self.inside.point c.open_side.result (λ s. rows_after (rows_of c.self.inside.locks.queues (slots_in s c.self.inside.table.rows)) c.args.key.now c.args.transaction Shared answer) c.open_side.ensures c.share.ensures.sets c.self.invariant.2 c.share.ensures.capacity h c.share.ensures.pending) c.share.ensures.rows)
+returns-clause-rows c = rw (← c.self.view_is) (IfOk-weaker c.share.result _ _ (λ answer h. seen_again c.self.inside.table c.share.new.table c.self.inside.sets (queues_in c.share.new.table.rows c.share.new.locks) c.self.inside.point c.open_side.result (λ s. rows_after (rows_of (queues_in c.self.inside.table.rows c.self.inside.locks) (slots_in s c.self.inside.table.rows)) c.args.key.now c.args.transaction Shared answer) c.open_side.ensures c.share.ensures.sets c.self.invariant.2 c.share.ensures.capacity h c.share.ensures.pending) c.share.ensures.rows)
 
 pub returns-clause-err : goal.returns-clause-err
-returns-clause-err c = rw (← c.self.view_is) (on_err_weaker c.share.result (λ h. seen_again c.self.inside.table c.share.new.table c.self.inside.sets c.share.new.locks.queues c.self.inside.point c.open_side.result (λ s. rows_of c.self.inside.locks.queues (slots_in s c.self.inside.table.rows)) c.open_side.ensures c.share.ensures.sets c.self.invariant.2 c.share.ensures.capacity h c.share.ensures.pending) c.share.ensures.err)
+returns-clause-err c = rw (← c.self.view_is) (on_err_weaker c.share.result (λ h. seen_again c.self.inside.table c.share.new.table c.self.inside.sets (queues_in c.share.new.table.rows c.share.new.locks) c.self.inside.point c.open_side.result (λ s. rows_of (queues_in c.self.inside.table.rows c.self.inside.locks) (slots_in s c.self.inside.table.rows)) c.open_side.ensures c.share.ensures.sets c.self.invariant.2 c.share.ensures.capacity h c.share.ensures.pending) c.share.ensures.err)

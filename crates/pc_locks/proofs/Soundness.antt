@@ -1,0 +1,112 @@
+-- Locks and a keeper of ends stay sound together.
+use Rattle.std.proofs.Common.{◌≡◌, ◌≢◌, ℕ, ◌==◌, inl, inr, List, [], Option, Some, true, false, not, sym, ◌∙◌, ap, subst}
+use Rattle.std.specs.Prelude.{Result, Ok, Err, IfOk, OnErr, filter}
+use Rattle.pc_types.specs.declared.Mode.{Mode}
+use Rattle.pc_types.specs.declared.Outcome.{Outcome}
+use Rattle.pc_chain.specs.declared.chain.Chain.{Chain}
+use Rattle.pc_chain.specs.Chains.{IsEmpty}
+use Rattle.pc_model.specs.Locks.{Queue, outcome_of_new, outcome_beside, queue_after, granted_behind, request_in, is_ungranted}
+use Rattle.pc_model.specs.Queues.{stands_in}
+use Rattle.pc_locks.specs.declared.row.LinkRow.{LinkRow}
+use Rattle.pc_locks.specs.declared.table.RequestTable.{RequestTable}
+use Rattle.pc_locks.specs.Lines.{Listed, most, follow, ids_by}
+use Rattle.pc_locks.specs.States.{Queues, State, queue_at, slots_of, slots_after, first_of, rest_of, is_listed, is_waiting, SetsAt, AreAlike}
+use Rattle.pc_locks.specs.Tables.{Nodes, node_at, request_at, place_of, requests, IsOwn}
+use Rattle.pc_locks.specs.Keepers.{Kept, kept_of, queues_of, lists_of, state_of, AreTied, AreEnds, AreSound}
+use Rattle.pc_locks.proofs.SlotLaws.{sets_cases}
+use Rattle.pc_locks.proofs.StateLaws.{ready_at}
+use Rattle.pc_locks.proofs.LineLemmas.{lines_none}
+use Rattle.pc_locks.proofs.LocksLemmas.{Keeps, Answered, Released, answered_again, released, keeps_new, keeps_first, ends_keep, keep_ends}
+
+-- a table whose links and lists are those of another
+pub kept_is : (old new : RequestTable) → new.links ≡ old.links → new.lists ≡ old.lists → kept_of new ≡ record { nodes = new.nodes.slots; links = old.links.links.items; entries = old.lists.entries }
+kept_is old new e f =
+    ap (λ (l : LinkRow). record { nodes = new.nodes.slots; links = l.links.items; entries = new.lists.entries }) e
+    ∙ ap (λ (v : Listed). record { nodes = new.nodes.slots; links = old.links.links.items; entries = v.entries }) f
+
+ids_none : (links : List (Option ℕ)) (ends : ℕ → Chain ℕ) → ((u : ℕ) → IsEmpty (ends u)) → (u : ℕ) → ids_by links ends u ≡ []
+ids_none links ends e u = ap (follow links most) (e u).0
+
+-- beside any ends of empty queues
+pub ends_new : (ends : ℕ → Chain ℕ) (kept : Kept) → kept.nodes ≡ [] → kept.entries ≡ [] → ((u : ℕ) → IsEmpty (ends u)) → AreEnds ends kept
+ends_new ends kept g f e =
+    let ids = ids_by kept.links ends in
+    keep_ends ends kept (lines_none kept.links ends (λ u. (e u).0) (λ u. (e u).1))
+    (subst (λ ns. Keeps ns ids kept.entries) (sym g) (subst (λ es. Keeps [] ids es) (sym f) (keeps_new ids (ids_none kept.links ends e))))
+
+pub queues_new : (ends : ℕ → Chain ℕ) (kept : Kept) → ((u : ℕ) → IsEmpty (ends u)) → (u : ℕ) → queue_at (queues_of ends kept) u ≡ []
+queues_new ends kept e u = ap (requests kept.nodes) (ids_none kept.links ends e u)
+
+-- each slot of which a transaction has a request is one of these
+abbrev pub AreAmong : (ℕ → Type 0) → Queues → Type 0
+AreAmong has queues = (u t : ℕ) → stands_in (queue_at queues u) t ≡ true → has u
+
+among_set : (has new_has : ℕ → Type 0) (queues new_queues : Queues) (s : ℕ) (q : Queue) → SetsAt queues new_queues s q → new_has s → ((u : ℕ) → has u → new_has u) → AreAmong has queues → AreAmong new_has new_queues
+among_set has new_has queues new_queues s q h n f k = λ u t e. elim (sets_cases queues new_queues s q h u) [
+  | inl c ↦ subst new_has (sym c.0) n
+  | inr c ↦ f u (k u t (ap (λ x. stands_in x t) (sym c.1) ∙ e))
+]
+
+among_result : {A E : Type 0} (result : Result A E) (new : A → Queue) (has new_has : ℕ → Type 0) (a b : State) (s : ℕ) → IfOk result (λ x. SetsAt a.queues b.queues s (new x)) → OnErr result (AreAlike b a) → new_has s → ((u : ℕ) → has u → new_has u) →
+    AreAmong has a.queues → AreAmong new_has b.queues
+among_result (Ok x) new has new_has a b s h e n f k = among_set has new_has a.queues b.queues s (new x) h n f k
+among_result (Err x) new has new_has a b s h e n f k = λ u t g. f u (k u t (ap (λ q. stands_in q t) (sym (e.queues u)) ∙ g))
+
+-- the transaction waits nowhere
+pub ready_of : (ends : ℕ → Chain ℕ) (kept : Kept) (t : ℕ) → AreEnds ends kept → is_waiting (state_of ends kept) t ≡ false → (u : ℕ) → is_ungranted (request_in (queue_at (queues_of ends kept) u) t) ≡ false
+ready_of ends kept t a e = ready_at (queues_of ends kept) (lists_of kept) t a.settled.linked e
+
+-- the own request answered again, in a queue with these ids
+pub answered_in : (ends : ℕ → Chain ℕ) (kept : Kept) (new_nodes : Nodes) (xs : List ℕ) (s t : ℕ) (previous : Option ℕ) (id : ℕ) (mode : Mode) (o : Outcome) → AreEnds ends kept → xs ≡ ids_by kept.links ends s →
+    is_waiting (state_of ends kept) t ≡ false → IsOwn kept.nodes xs t previous id →
+    o ≡ outcome_beside (requests kept.nodes xs) t mode (Some (request_at kept.nodes id)) → requests new_nodes xs ≡ queue_after (requests kept.nodes xs) t mode o →
+    ((x : ℕ) → place_of (node_at new_nodes x) ≡ place_of (node_at kept.nodes x)) → ((x : ℕ) → is_listed xs x ≡ false → node_at new_nodes x ≡ node_at kept.nodes x) →
+    Answered kept.nodes new_nodes (ids_by kept.links ends) kept.entries s t mode o
+answered_in ends kept new_nodes xs s t previous id mode o a e w own told queue places others =
+    answered_again kept.nodes new_nodes (ids_by kept.links ends) kept.entries s t previous id mode o (ends_keep ends kept a) (ready_of ends kept t a w s)
+    (subst (λ ys. IsOwn kept.nodes ys t previous id) e own)
+    (subst (λ ys. o ≡ outcome_beside (requests kept.nodes ys) t mode (Some (request_at kept.nodes id))) e told)
+    (subst (λ ys. requests new_nodes ys ≡ queue_after (requests kept.nodes ys) t mode o) e queue)
+    places (subst (λ ys. (x : ℕ) → is_listed ys x ≡ false → node_at new_nodes x ≡ node_at kept.nodes x) e others)
+
+pub sound_answered : (has : ℕ → Type 0) (ends : ℕ → Chain ℕ) (kept : Kept) (new_nodes : Nodes) (s t : ℕ) (mode : Mode) (o : Outcome) → AreSound has ends kept → has s → Answered kept.nodes new_nodes (ids_by kept.links ends) kept.entries s t mode o →
+    AreSound has ends (record { nodes = new_nodes; links = kept.links; entries = kept.entries })
+sound_answered has ends kept new_nodes s t mode o a n d = record {
+  ends_are = keep_ends ends (record { nodes = new_nodes; links = kept.links; entries = kept.entries }) a.ends_are.tied.lines d.keeps;
+  held = among_set has has _ _ s _ d.queues n (λ u h. h) a.held;
+}
+
+-- the first request answered
+pub sound_first : {A E : Type 0} (result : Result A E) (told : A → Outcome) (has new_has : ℕ → Type 0) (ends new_ends : ℕ → Chain ℕ) (kept new_kept : Kept) (s t : ℕ) (mode : Mode) → AreSound has ends kept → new_has s → ((u : ℕ) → has u → new_has u) →
+    stands_in (queue_at (queues_of ends kept) s) t ≡ false → is_waiting (state_of ends kept) t ≡ false → AreTied new_ends new_kept →
+    IfOk result (λ a. told a ≡ outcome_of_new (queue_at (queues_of ends kept) s) t mode) →
+    IfOk result (λ a. SetsAt (queues_of ends kept) (queues_of new_ends new_kept) s (queue_after (queue_at (queues_of ends kept) s) t mode (told a))) →
+    IfOk result (λ a. slots_of (lists_of new_kept) t ≡ slots_after (slots_of (lists_of kept) t) s false (told a)) →
+    ((u : ℕ) → u ≢ t → slots_of (lists_of new_kept) u ≡ slots_of (lists_of kept) u) →
+    OnErr result (AreAlike (state_of new_ends new_kept) (state_of ends kept)) → AreSound new_has new_ends new_kept
+sound_first result told has new_has ends new_ends kept new_kept s t mode a n f fresh w tied o q l others err = record {
+  ends_are = keep_ends new_ends new_kept tied.lines
+      (keeps_first result told kept.nodes new_kept.nodes (ids_by kept.links ends) (ids_by new_kept.links new_ends) kept.entries new_kept.entries s t mode
+      (ends_keep ends kept a.ends_are) fresh (ready_of ends kept t a.ends_are w) tied.table o q l others err);
+  held = among_result result (λ x. queue_after (queue_at (queues_of ends kept) s) t mode (told x)) has new_has (state_of ends kept) (state_of new_ends new_kept) s q err n f a.held;
+}
+
+-- a request taken out, and others granted, in a queue with these ids
+pub released_in : (ends new_ends : ℕ → Chain ℕ) (kept taken : Kept) (new_nodes : Nodes) (xs : List ℕ) (s t : ℕ) → AreEnds ends kept → AreTied new_ends taken → xs ≡ ids_by taken.links new_ends s →
+    Some s ≡ first_of (slots_of (lists_of kept) t) → slots_of (lists_of taken) t ≡ rest_of (slots_of (lists_of kept) t) → ((u : ℕ) → u ≢ t → slots_of (lists_of taken) u ≡ slots_of (lists_of kept) u) →
+    SetsAt (queues_of ends kept) (queues_of new_ends taken) s (filter (λ r. not (r.transaction == t)) (queue_at (queues_of ends kept) s)) →
+    requests new_nodes xs ≡ granted_behind [] (requests taken.nodes xs) →
+    ((x : ℕ) → place_of (node_at new_nodes x) ≡ place_of (node_at taken.nodes x)) → ((x : ℕ) → is_listed xs x ≡ false → node_at new_nodes x ≡ node_at taken.nodes x) →
+    Released kept.nodes taken.nodes new_nodes (ids_by kept.links ends) (ids_by taken.links new_ends) kept.entries taken.entries s t
+released_in ends new_ends kept taken new_nodes xs s t a tied e given list lists queues granted places others =
+    released kept.nodes taken.nodes new_nodes (ids_by kept.links ends) (ids_by taken.links new_ends) kept.entries taken.entries s t (ends_keep ends kept a) tied.table given list lists queues
+    (subst (λ ys. requests new_nodes ys ≡ granted_behind [] (requests taken.nodes ys)) e granted)
+    places (subst (λ ys. (x : ℕ) → is_listed ys x ≡ false → node_at new_nodes x ≡ node_at taken.nodes x) e others)
+
+pub sound_released : (has new_has : ℕ → Type 0) (ends new_ends : ℕ → Chain ℕ) (kept taken : Kept) (new_nodes : Nodes) (s t : ℕ) → AreSound has ends kept → AreTied new_ends taken → new_has s → ((u : ℕ) → has u → new_has u) →
+    Released kept.nodes taken.nodes new_nodes (ids_by kept.links ends) (ids_by taken.links new_ends) kept.entries taken.entries s t →
+    AreSound new_has new_ends (record { nodes = new_nodes; links = taken.links; entries = taken.entries })
+sound_released has new_has ends new_ends kept taken new_nodes s t a tied n f r = record {
+  ends_are = keep_ends new_ends (record { nodes = new_nodes; links = taken.links; entries = taken.entries }) tied.lines r.keeps;
+  held = among_set has new_has _ _ s _ r.queues n f a.held;
+}

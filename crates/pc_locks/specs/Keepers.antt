@@ -1,0 +1,50 @@
+-- What locks keep, what they are seen as beside the ends of the slots' queues, and what both keep together.
+use Rattle.std.specs.Prelude.{◌≡◌, ◌⊎◌, ℕ, List, [], Option, true}
+use Rattle.pc_chain.specs.declared.chain.Chain.{Chain}
+use Rattle.pc_chain.specs.Chains.{IsEmpty}
+use Rattle.pc_model.specs.Queues.{stands_in}
+use Rattle.pc_locks.specs.declared.table.RequestTable.{RequestTable}
+use Rattle.pc_locks.specs.Lines.{ids_by, AreLines}
+use Rattle.pc_locks.specs.States.{Lists, Queues, State, queue_at, AreSettled}
+use Rattle.pc_locks.specs.Tables.{Nodes, queues_in, lists_in, IsTable}
+
+-- the requests by id, the link of each id to the next one of its slot, and the ids of each transaction
+pub record Kept : Type 0 where
+  pub nodes : Nodes
+  pub links : List (Option ℕ)
+  pub entries : List (ℕ × List ℕ)
+
+-- what a table keeps
+abbrev pub kept_of : RequestTable → Kept
+kept_of table = record { nodes = table.nodes.slots; links = table.links.links.items; entries = table.lists.entries }
+
+-- the queue of each slot: the requests that the links lead to from its ends
+abbrev pub queues_of : (ℕ → Chain ℕ) → Kept → Queues
+queues_of ends kept = queues_in kept.nodes (ids_by kept.links ends)
+
+-- the slots of each transaction
+abbrev pub lists_of : Kept → Lists
+lists_of kept = lists_in kept.nodes kept.entries
+
+-- what the locks are seen as
+abbrev pub state_of : (ℕ → Chain ℕ) → Kept → State
+state_of ends kept = record { queues = queues_of ends kept; lists = lists_of kept }
+
+-- from these ends the links lead along chains, and these, the requests and the transactions' ids say the same
+pub record AreTied (ends : ℕ → Chain ℕ) (kept : Kept) : Type 0 where
+  pub lines : AreLines kept.links ends
+  pub table : IsTable kept.nodes (ids_by kept.links ends) kept.entries
+
+-- these are the ends of the queues of what is kept, and what is seen is settled
+pub record AreEnds (ends : ℕ → Chain ℕ) (kept : Kept) : Type 0 where
+  pub tied : AreTied ends kept
+  pub settled : AreSettled (state_of ends kept)
+
+-- what locks and a keeper of ends keep together; a slot of which a transaction has a request has ends
+pub record AreSound (has : ℕ → Type 0) (ends : ℕ → Chain ℕ) (kept : Kept) : Type 0 where
+  pub ends_are : AreEnds ends kept
+  pub held : (slot t : ℕ) → stands_in (queue_at (queues_of ends kept) slot) t ≡ true → has slot
+
+-- each slot has the same ends still, or has no request, and then those of an empty queue
+abbrev pub DifferWhereNone : (ℕ → Chain ℕ) → (ℕ → Chain ℕ) → Kept → Type 0
+DifferWhereNone ends new_ends kept = (slot : ℕ) → (new_ends slot ≡ ends slot) ⊎ ((queue_at (queues_of ends kept) slot ≡ []) × IsEmpty (new_ends slot))
