@@ -91,35 +91,35 @@ module _ (side : Side) where
         (sets : SetsAt queues asked_queues id (queue_after (queue_at queues id) t Exclusive o)) (answered : o ≡ outcome (queue_at queues id) t Exclusive) (legal : IsLegalQueue (queue_at queues id)) (ready : (m : ℕ) → is_ungranted (request_in (queue_at queues m) t) ≡ false)
         (outside : class ≡ Before → is_in_closed_set (record_of (rows_of queues (slots_in side table.rows)) key) ≡ false) (again : (p : Pending) → find key_cmp key (pending_of (slots_in side table.rows)) ≡ Some p → p.by ≡ t → p.class ≡ class) (copied : copy ≡ x.live)
         (put : new ≡ map (at_number (granted_slot o point t class copy value) id) asked) where
-      changed : new_queues ≡ set_at queues id (queue_after (queue_at queues id) t Exclusive o)
-      changed = still ∙ set_is queues asked_queues id (queue_after (queue_at queues id) t Exclusive o) sets
+      written_queues : new_queues ≡ set_at queues id (queue_after (queue_at queues id) t Exclusive o)
+      written_queues = still ∙ set_is queues asked_queues id (queue_after (queue_at queues id) t Exclusive o) sets
 
       put_is : new ≡ set (slots_in side table.rows) place.0 (granted_slot o point t class x.live value (slot_with side id key x))
       put_is = granted_is o point t class copy value (slots_in side table.rows) new place.0 id (slot_with side id key x) (once_in side table a id) (put ∙ ap (map (at_number (granted_slot o point t class copy value) id)) stay) copied place.1.in_range place.1.is refl
 
       pub written_told : o ≡ outcome (requests_on (record_of (rows_of queues (slots_in side table.rows)) key)) t Exclusive
-      written_told = told_there point t class value (slots_in side table.rows) new key place.0 (slot_with side id key x) queues new_queues o kept sound place.1.in_range place.1.is at same changed answered legal ready outside again put_is
+      written_told = told_there point t class value (slots_in side table.rows) new key place.0 (slot_with side id key x) queues new_queues o kept sound place.1.in_range place.1.is at same written_queues answered legal ready outside again put_is
 
       pub written_rows : rows_of new_queues new ≡ rows_after (rows_of queues (slots_in side table.rows)) key t Exclusive o
-      written_rows = rows_there point t class value (slots_in side table.rows) new key place.0 (slot_with side id key x) queues new_queues o kept sound place.1.in_range place.1.is at same changed answered legal ready outside again put_is
+      written_rows = rows_there point t class value (slots_in side table.rows) new key place.0 (slot_with side id key x) queues new_queues o kept sound place.1.in_range place.1.is at same written_queues answered legal ready outside again put_is
 
       pub written_clear : o ≡ Granted → IsClear (slots_in side table.rows) key t
-      written_clear = clear_there point t class value (slots_in side table.rows) new key place.0 (slot_with side id key x) queues new_queues o kept sound place.1.in_range place.1.is at same changed answered legal ready outside again put_is
+      written_clear = clear_there point t class value (slots_in side table.rows) new key place.0 (slot_with side id key x) queues new_queues o kept sound place.1.in_range place.1.is at same written_queues answered legal ready outside again put_is
 
       pub written_kept : AreKept new new_queues
-      written_kept = kept_there point t class value (slots_in side table.rows) new key place.0 (slot_with side id key x) queues new_queues o kept sound place.1.in_range place.1.is at same changed answered legal ready outside again put_is
+      written_kept = kept_there point t class value (slots_in side table.rows) new key place.0 (slot_with side id key x) queues new_queues o kept sound place.1.in_range place.1.is at same written_queues answered legal ready outside again put_is
 
       pub written_sound : AreSound point new_queues new
-      written_sound = sound_there point t class value (slots_in side table.rows) new key place.0 (slot_with side id key x) queues new_queues o kept sound place.1.in_range place.1.is at same changed answered legal ready outside again put_is
+      written_sound = sound_there point t class value (slots_in side table.rows) new key place.0 (slot_with side id key x) queues new_queues o kept sound place.1.in_range place.1.is at same written_queues answered legal ready outside again put_is
 
       pub written_pending : (capacity : ℕ) (q : List ℕ) → find key_cmp q (pending_of new) ≡ pending_after o (table_of capacity queues (slots_in side table.rows) point [] []) key (record { by = t; class = class; value = value }) q
-      written_pending = pending_there point t class value (slots_in side table.rows) new key place.0 (slot_with side id key x) queues new_queues o kept sound place.1.in_range place.1.is at same changed answered legal ready outside again put_is
+      written_pending = pending_there point t class value (slots_in side table.rows) new key place.0 (slot_with side id key x) queues new_queues o kept sound place.1.in_range place.1.is at same written_queues answered legal ready outside again put_is
 
   -- a request was removed, and all but the ends stayed
   module _ (table : Contents Cell) (t n : ℕ) (queues new_queues : Queues) (lists : Lists) (asked : List Slot) (stay : asked ≡ slots_in side table.rows) (kept : AreKept (slots_in side table.rows) queues) (linked : AreLinked queues lists) (first : Some n ≡ first_of (slots_of lists t))
       (sets : SetsAt queues new_queues n (queue_without (queue_at queues n) t)) where
-    changed : new_queues ≡ set_at queues n (queue_without (queue_at queues n) t)
-    changed = set_is queues new_queues n (queue_without (queue_at queues n) t) sets
+    let_go_queues : new_queues ≡ set_at queues n (queue_without (queue_at queues n) t)
+    let_go_queues = set_is queues new_queues n (queue_without (queue_at queues n) t) sets
 
     stands : stands_in (queue_at queues n) t ≡ true
     stands = stands_first t n queues lists linked first
@@ -135,12 +135,12 @@ module _ (side : Side) where
     spot = number_place n (slots_in side table.rows) some_slot
 
     pub kept_let_go : AreKept asked new_queues
-    kept_let_go = subst (λ (ss : List Slot). AreKept ss new_queues) (sym stay) (kept_without t n (slots_in side table.rows) queues new_queues spot.0 kept stands spot.1 changed)
+    kept_let_go = subst (λ (ss : List Slot). AreKept ss new_queues) (sym stay) (kept_without t n (slots_in side table.rows) queues new_queues spot.0 kept stands spot.1 let_go_queues)
 
     pub sound_let_go : (point : ℕ) → ((q : List ℕ) (p : Pending) → find key_cmp q (pending_of (slots_in side table.rows)) ≡ Some p → eqb p.by t ≡ false) → AreSound point queues (slots_in side table.rows) → AreSound point new_queues asked
-    sound_let_go point over sound = subst (AreSound point new_queues) (sym stay) (sound_released point t n (slots_in side table.rows) queues new_queues kept changed over sound)
+    sound_let_go point over sound = subst (AreSound point new_queues) (sym stay) (sound_released point t n (slots_in side table.rows) queues new_queues kept let_go_queues over sound)
 
     pub rows_let_go : (new : List Slot) (last : Queues) → last ≡ new_queues → ((i : ℕ) → IsNumbered asked n i → rows_of last new ≡ tidied (rows_of new_queues asked) i) → released_rows t (rows_of last new) ≡ released_rows t (rows_of queues (slots_in side table.rows))
     rows_let_go new last same tidy =
         ap (λ (qs : Queues). released_rows t (rows_of qs new)) same
-        ∙ released_first t n (slots_in side table.rows) queues new_queues spot.0 kept stands spot.1 changed new (sym (ap (λ (qs : Queues). rows_of qs new) same) ∙ subst (λ (ss : List Slot). IsNumbered ss n spot.0 → rows_of last new ≡ tidied (rows_of new_queues ss) spot.0) stay (tidy spot.0) spot.1)
+        ∙ released_first t n (slots_in side table.rows) queues new_queues spot.0 kept stands spot.1 let_go_queues new (sym (ap (λ (qs : Queues). rows_of qs new) same) ∙ subst (λ (ss : List Slot). IsNumbered ss n spot.0 → rows_of last new ≡ tidied (rows_of new_queues ss) spot.0) stay (tidy spot.0) spot.1)

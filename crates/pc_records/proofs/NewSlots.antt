@@ -1,5 +1,5 @@
 -- A key that gets a slot, with a request.
-use Rattle.std.proofs.Common.{◌≡◌, ℕ, List, filter, set, not, Some, None, Bool, true, false, cond, refl, sym, ap, ◌∙◌}
+use Rattle.std.proofs.Common.{◌≡◌, ℕ, List, filter, not, Some, None, Bool, true, false, cond, refl, sym, ap, ◌∙◌}
 use Rattle.std.specs.Prelude.{insert}
 use Rattle.std.specs.FinMap.{find, put}
 use Rattle.std.specs.FinMap.Entries.{find-put}
@@ -59,23 +59,23 @@ module _ (side : Side) where
       answered : o ≡ outcome (queue_at queues id) t mode
       answered = told ∙ ap (λ (qs : Queues). outcome (queue_at qs id) t mode) same
 
-      set : new_queues ≡ set_at queues id (queue_after (queue_at queues id) t mode o)
-      set = set_is was new_queues id (queue_after (queue_at was id) t mode o) changed ∙ ap (λ (qs : Queues). set_at qs id (queue_after (queue_at qs id) t mode o)) same
+      queues_now : new_queues ≡ set_at queues id (queue_after (queue_at queues id) t mode o)
+      queues_now = set_is was new_queues id (queue_after (queue_at was id) t mode o) changed ∙ ap (λ (qs : Queues). set_at qs id (queue_after (queue_at qs id) t mode o)) same
 
       in_now : asked ≡ insert (slots_in side old.rows) (place key (slots_in side old.rows)) (new_slot id key)
       in_now = stay ∙ went_in
 
       pub rows_in : rows_of new_queues asked ≡ rows_after (rows_of queues (slots_in side old.rows)) key t mode Granted
-      rows_in = rows_new (slots_in side old.rows) asked queues new_queues key (place key (slots_in side old.rows)) id t mode o kept apart gap answered set in_now
+      rows_in = rows_new (slots_in side old.rows) asked queues new_queues key (place key (slots_in side old.rows)) id t mode o kept apart gap answered queues_now in_now
 
       pub kept_in : AreKept asked new_queues
-      kept_in = kept_new (slots_in side old.rows) asked queues new_queues key (place key (slots_in side old.rows)) id t mode o kept apart gap answered set in_now
+      kept_in = kept_new (slots_in side old.rows) asked queues new_queues key (place key (slots_in side old.rows)) id t mode o kept apart gap answered queues_now in_now
 
       pub slot_first : IsFirstIn (slots_in side old.rows) asked new_queues key t mode id
-      slot_first = first_in point t (slots_in side old.rows) asked queues new_queues key (place key (slots_in side old.rows)) id mode o kept sound apart gap answered set in_now
+      slot_first = first_in point t (slots_in side old.rows) asked queues new_queues key (place key (slots_in side old.rows)) id mode o kept sound apart gap answered queues_now in_now
 
       pub sound_now : AreSound point new_queues asked
-      sound_now = sound_in point t (slots_in side old.rows) asked queues new_queues key (place key (slots_in side old.rows)) id mode o kept sound apart gap answered set in_now
+      sound_now = sound_in point t (slots_in side old.rows) asked queues new_queues key (place key (slots_in side old.rows)) id mode o kept sound apart gap answered queues_now in_now
 
   -- a key without a slot has no request
   pub told_first : (rows : List (TableRow Cell)) (key : List ℕ) (queues : Queues) (t : ℕ) (mode : Mode) → table_slot rows key ≡ None → outcome (requests_on (record_of (rows_of queues (slots_in side rows)) key)) t mode ≡ Granted

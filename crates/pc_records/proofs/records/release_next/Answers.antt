@@ -10,7 +10,7 @@ use Rattle.pc_records.proofs.Found.{kept_let_go, sound_let_go, rows_let_go}
 use Rattle.pc_records.proofs.records.release_next.Goals as goal
 
 pub release_one-requires : goal.release_one-requires
-release_one-requires c = are_sound c.args.side c.args.table.now.rows c.args.locks.now c.requires.kept c.requires.ends
+release_one-requires c = record { sound = are_sound c.args.side c.args.table.now.rows c.args.locks.now c.requires.kept c.requires.ends }
 
 pub tidy-requires-clause-row : goal.tidy-requires-clause-row
 tidy-requires-clause-row c =

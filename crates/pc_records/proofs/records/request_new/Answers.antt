@@ -14,7 +14,7 @@ use Rattle.pc_records.proofs.KeepingSets.{sets_same, sets_with, sets_then}
 use Rattle.pc_records.proofs.NewSlots.{pending_in, rows_in, kept_in, slot_first, sound_now, told_first, put_back}
 use Rattle.pc_records.proofs.Queued.{alike_is}
 use Rattle.pc_records.proofs.records.request_new.Goals as goal
-use Rattle.pc_records.proofs.records.request_new.Goals.{After-remove}
+use Rattle.pc_records.proofs.records.request_new.Goals.{After-drop}
 
 pub request-requires-clause-sound : goal.request-requires-clause-sound
 request-requires-clause-sound c = sound_with c.args.side c.args.table.now c.make.new.table c.args.key.now c.in_ok-id.id None c.args.locks.now c.requires.new c.in_ok-id.ensures.fresh c.in_ok-id.ensures.made c.requires.kept c.requires.ends
@@ -58,15 +58,15 @@ pub remove-requires : goal.remove-requires
 remove-requires c = row_stays_in c.make.new.table c.request.new.keeper c.in_ok-id.id c.request.ensures.beside c.in_ok-id.ensures.row
 
 -- where memory ran out the slot goes again
-back : (c : After-remove) → c.remove.new.self ≡ c.args.table.now
+back : (c : After-drop) → c.remove.new.self ≡ c.args.table.now
 back c =
     put_back c.args.table.now c.request.new.keeper c.remove.new.self c.args.key.now c.in_ok-id.id (base_cell None) c.make.ensures.before c.remove.ensures.before c.requires.new (subst (λ (t : Contents Cell). table_slot t.rows c.args.key.now ≡ Some c.in_ok-id.id) (sym c.in-Err.ensures.keeper) c.in_ok-id.ensures.slot)
     (c.in-Err.ensures.keeper ∙ c.in_ok-id.ensures.made) c.remove.ensures.rows
 
-ends_asked : (c : After-remove) → ends_in c.args.table.now.rows ≡ ends_in c.request.new.keeper.rows
+ends_asked : (c : After-drop) → ends_in c.args.table.now.rows ≡ ends_in c.request.new.keeper.rows
 ends_asked c = sym (ap (λ (t : Contents Cell). ends_in t.rows) c.in-Err.ensures.keeper ∙ ends_with c.args.table.now c.make.new.table c.args.key.now c.in_ok-id.id None c.requires.new c.in_ok-id.ensures.fresh c.in_ok-id.ensures.made)
 
-queues_back : (c : After-remove) → queues_in c.remove.new.self.rows c.request.new.self ≡ queues_in c.args.table.now.rows c.args.locks.now
+queues_back : (c : After-drop) → queues_in c.remove.new.self.rows c.request.new.self ≡ queues_in c.args.table.now.rows c.args.locks.now
 queues_back c =
     ap (λ (t : Contents Cell). queues_in t.rows c.request.new.self) (back c) ∙ ap (λ (ends : ℕ → Chain ℕ). queues_of ends c.request.new.self) (ends_asked c)
     ∙ ap (λ (s : State). s.queues) (alike_is (state_of (ends_in c.request.new.keeper.rows) c.request.new.self) (state_of (ends_in c.make.new.table.rows) c.args.locks.now) c.in-Err.ensures.err)
