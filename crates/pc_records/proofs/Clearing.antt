@@ -1,5 +1,5 @@
 -- What the answer to a request says of the writes, and what it keeps.
-use Rattle.std.proofs.Common.{◌≡◌, ℕ, List, [], get_or, Option, Some, None, refl, sym, ap, ◌∙◌, subst, true, false, Result, Ok, Err}
+use Rattle.std.proofs.Common.{◌≡◌, ℕ, List, get_or, Option, Some, None, refl, sym, ap, ◌∙◌, subst, true, false, Result, Ok, Err}
 use Rattle.std.specs.Prelude.{IfOk, OnErr, MatchOption}
 use Rattle.std.specs.FinMap.{find}
 use Rattle.pc_model.specs.Database.{KeysRise, key_cmp}

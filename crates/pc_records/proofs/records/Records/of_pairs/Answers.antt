@@ -1,4 +1,3 @@
-use Rattle.std.proofs.Common.{ℕ}
 use Rattle.pc_records.specs.Ends.{ends_in, queues_in}
 use Rattle.pc_records.proofs.EndsKept.{ends_first}
 use Rattle.pc_records.proofs.SlotMoments.{sound_first, pending_first, rows_first}
