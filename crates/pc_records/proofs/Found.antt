@@ -34,17 +34,6 @@ use Rattle.pc_dirty.specs.declared.side.Side.{Side}
 pub some_cell : (table : Contents Cell) (key : List ℕ) (id : ℕ) → table_slot table.rows key ≡ Some id → AreInSlots table → (x : Cell) × (option_map (λ pair. pair.1) (in_slot table.rows id) ≡ Some x)
 some_cell table key id s a = let h = placed table.rows key id s in (h.0, ap (option_map (λ (pair : List ℕ × Cell). pair.1)) ((a.each id key h.0).1 h.1))
 
--- the locks are as they were, and all but the ends
-module _ (was now : State) (slots new : List Slot) (stay : new ≡ slots) (alike : AreAlike now was) where
-  pub alike_rows : rows_of now.queues new ≡ rows_of was.queues slots
-  alike_rows = λ i. rows_of (alike_is now was alike i).queues (stay i)
-
-  pub alike_kept : AreKept slots was.queues → AreKept new now.queues
-  alike_kept kept = subst (λ (ss : List Slot). AreKept ss now.queues) (sym stay) (subst (λ (s : State). AreKept slots s.queues) (sym (alike_is now was alike)) kept)
-
-  pub alike_sound : (point : ℕ) → AreSound point was.queues slots → AreSound point now.queues new
-  alike_sound point sound = subst (AreSound point now.queues) (sym stay) (subst (λ (s : State). AreSound point s.queues slots) (sym (alike_is now was alike)) sound)
-
 module _ (side : Side) where
   -- a key that has a slot
   module _ (table : Contents Cell) (a : AreInSlots table) (key : List ℕ) (id : ℕ) (x : Cell) (s : table_slot table.rows key ≡ Some id) (has : option_map (λ pair. pair.1) (in_slot table.rows id) ≡ Some x) where
@@ -71,9 +60,6 @@ module _ (side : Side) where
 
       pub asked_rows : IfOk result (λ o. rows_of now.queues new ≡ rows_after (rows_of was.queues (slots_in side table.rows)) key t mode o)
       asked_rows = subst (λ (ss : List Slot). IfOk result (λ o. rows_of now.queues ss ≡ rows_after (rows_of was.queues (slots_in side table.rows)) key t mode o)) (sym stay) (rows_again result (λ o. o) (slots_in side table.rows) was now key place.0 (slot_with side id key x) t mode kept place.1.in_range place.1.is at changed)
-
-      pub asked_err : OnErr result (rows_of now.queues new ≡ rows_of was.queues (slots_in side table.rows))
-      asked_err = on_err_weaker result (λ e. λ i. rows_of (e i).queues (stay i)) err
 
       pub asked_kept : AreKept new now.queues
       asked_kept = subst (λ (ss : List Slot). AreKept ss now.queues) (sym stay) (kept_again result (λ o. o) (slots_in side table.rows) was now key place.0 (slot_with side id key x) t mode kept place.1.in_range place.1.is changed err)

@@ -18,6 +18,7 @@ mod Views
 mod FirstSlots
 mod Tidied
 mod Found
+mod Fullness
 mod Taken
 mod NewSlots
 mod Numbers

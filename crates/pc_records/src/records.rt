@@ -1,5 +1,5 @@
 //! The records.
-ghost use Rattle.std.specs.Prelude.{◌≡◌, ◌==◌, ◌<◌, ◌≤◌, ◌++◌, ◌∷◌, [], false, true, length, map, is_none, is_some, option_map, Some, IfOk, OnErr, option_copied, List, ℕ};
+ghost use Rattle.std.specs.Prelude.{◌≡◌, ◌==◌, ◌<◌, ◌≤◌, ◌++◌, ◌∷◌, [], false, true, length, map, is_none, is_some, option_map, Some, IfOk, IfErr, OnErr, if◌then◌else◌, option_copied, List, ℕ};
 ghost use Rattle.std.specs.FinMap.{find};
 ghost use Rattle.pc_types.specs.declared.Mode.TheVariants.{Shared, Exclusive};
 ghost use Rattle.pc_types.specs.declared.Class.TheVariants.{Before, During};
@@ -27,7 +27,7 @@ use pc_dirty::{Dirty, Side};
 use pc_locks::Locks;
 use pc_table::Table;
 use pc_types::{
-    Class, Key, MOST_KEYS, Mode, Outcome, Point, SlotId, TxnNo, Value, Write, copy_content,
+    Class, Key, MOST_KEYS, Mode, Outcome, Point, Refusal, SlotId, TxnNo, Value, Write, copy_content,
 };
 use std::alloc::{AllocError, Global};
 use std::hash::RandomState;
@@ -112,19 +112,22 @@ impl Records {
         self.locks.is_waiting(transaction)
     }
 
-    /// Answers the transaction's request to read the key; a key without a record gets one where the request stands.
+    /// Answers the transaction's request to read the key; a key without a record gets one where the request stands. It is
+    /// refused with `Full` exactly where the key has no record and there are as many as there may be, and else only where
+    /// memory ran out; the records are then as they were.
     pub fn share(
         &mut self,
         alloc: Global,
         transaction: TxnNo,
         key: &Key,
-    ) -> Result<Outcome, AllocError>
-        requires room { is_full_for (kept_of self.old) key.now ≡ false }
+    ) -> Result<Outcome, Refusal>
         requires ready { is_waiting self.old.rows transaction ≡ false }
         ensures told { IfOk result (λ answer. answer ≡ outcome (requests_on (record_of self.old.rows key.now)) transaction Shared) }
         ensures rows { IfOk result (λ answer. self.new ≡ record self.old { rows = rows_after self.old.rows key.now transaction Shared answer }) }
         ensures clear { IfOk result (λ answer. answer ≡ Granted → IsClearFor self.old key.now transaction) }
         ensures err { OnErr result (self.new ≡ self.old) }
+        ensures room { IfOk result (λ answer. is_full_for (kept_of self.old) key.now ≡ false) }
+        ensures refusal { IfErr result (λ e. e ≡ (if is_full_for (kept_of self.old) key.now then Refusal.Full else Refusal.OutOfMemory)) }
     {
         share(
             alloc,
@@ -137,7 +140,9 @@ impl Records {
         )
     }
 
-    /// Answers the transaction's request to write the key, and writes it in its place where the request is granted.
+    /// Answers the transaction's request to write the key, and writes it in its place where the request is granted. It is
+    /// refused with `Full` exactly where the key has no record and there are as many as there may be, and else only where
+    /// memory ran out; the records are then as they were.
     pub fn write(
         &mut self,
         alloc: Global,
@@ -145,8 +150,7 @@ impl Records {
         class: Class,
         key: &Key,
         value: Option<Value>,
-    ) -> Result<Outcome, AllocError>
-        requires room { is_full_for (kept_of self.old) key.now ≡ false }
+    ) -> Result<Outcome, Refusal>
         requires ready { is_waiting self.old.rows transaction ≡ false }
         requires outside { class ≡ Before → is_in_closed_set (record_of self.old.rows key.now) ≡ false }
         requires again { (p : Pending) → pending_at self.old key.now ≡ Some p → p.by ≡ transaction → p.class ≡ class }
@@ -158,6 +162,8 @@ impl Records {
         ensures opened { self.new.opened ≡ self.old.opened }
         ensures shut { self.new.shut ≡ self.old.shut }
         ensures err { OnErr result (self.new ≡ self.old) }
+        ensures room { IfOk result (λ answer. is_full_for (kept_of self.old) key.now ≡ false) }
+        ensures refusal { IfErr result (λ e. e ≡ (if is_full_for (kept_of self.old) key.now then Refusal.Full else Refusal.OutOfMemory)) }
     {
         write(
             alloc,
@@ -272,7 +278,7 @@ fn share(
     point: Point,
     transaction: TxnNo,
     key: &Key,
-) -> Result<Outcome, AllocError>
+) -> Result<Outcome, Refusal>
     requires kept { AreKept (slots_in side table.old.rows) (queues_in table.old.rows locks.old) }
     requires sound { AreSound point (queues_in table.old.rows locks.old) (slots_in side table.old.rows) }
     requires ends { AreEnds (ends_in table.old.rows) locks.old }
@@ -281,6 +287,8 @@ fn share(
     ensures rows { IfOk result (λ answer. rows_of (queues_in table.new.rows locks.new) (slots_in side table.new.rows) ≡ rows_after (rows_of (queues_in table.old.rows locks.old) (slots_in side table.old.rows)) key.now transaction Shared answer) }
     ensures clear { IfOk result (λ answer. answer ≡ Granted → IsClearFor (table_of table.old.capacity (queues_in table.old.rows locks.old) (slots_in side table.old.rows) point [] []) key.now transaction) }
     ensures err { OnErr result (rows_of (queues_in table.new.rows locks.new) (slots_in side table.new.rows) ≡ rows_of (queues_in table.old.rows locks.old) (slots_in side table.old.rows)) }
+    ensures room { IfOk result (λ answer. is_full_for (kept_of (table_of table.old.capacity (queues_in table.old.rows locks.old) (slots_in side table.old.rows) point [] [])) key.now ≡ false) }
+    ensures refusal { IfErr result (λ e. e ≡ (if is_full_for (kept_of (table_of table.old.capacity (queues_in table.old.rows locks.old) (slots_in side table.old.rows) point [] [])) key.now then Refusal.Full else Refusal.OutOfMemory)) }
     ensures pending { pending_of (slots_in side table.new.rows) ≡ pending_of (slots_in side table.old.rows) }
     ensures kept { AreKept (slots_in side table.new.rows) (queues_in table.new.rows locks.new) }
     ensures sound { AreSound point (queues_in table.new.rows locks.new) (slots_in side table.new.rows) }
@@ -290,7 +298,10 @@ fn share(
 {
     let mode = Mode::Shared;
     match table.find(key) {
-        Some(id) => locks.request(table, transaction, id, mode),
+        Some(id) => {
+            let answer = locks.request(table, transaction, id, mode)?;
+            Ok(answer)
+        }
         None => {
             request_new(alloc, table, locks, side, point, transaction, key, mode)?;
             Ok(Outcome::Granted)
@@ -310,7 +321,7 @@ fn write(
     class: Class,
     key: &Key,
     value: Option<Value>,
-) -> Result<Outcome, AllocError>
+) -> Result<Outcome, Refusal>
     requires kept { AreKept (slots_in side table.old.rows) (queues_in table.old.rows locks.old) }
     requires sound { AreSound point (queues_in table.old.rows locks.old) (slots_in side table.old.rows) }
     requires ends { AreEnds (ends_in table.old.rows) locks.old }
@@ -321,6 +332,8 @@ fn write(
     ensures rows { IfOk result (λ answer. rows_of (queues_in table.new.rows locks.new) (slots_in side table.new.rows) ≡ rows_after (rows_of (queues_in table.old.rows locks.old) (slots_in side table.old.rows)) key.now transaction Exclusive answer) }
     ensures clear { IfOk result (λ answer. answer ≡ Granted → IsClearFor (table_of table.old.capacity (queues_in table.old.rows locks.old) (slots_in side table.old.rows) point [] []) key.now transaction) }
     ensures err { OnErr result (rows_of (queues_in table.new.rows locks.new) (slots_in side table.new.rows) ≡ rows_of (queues_in table.old.rows locks.old) (slots_in side table.old.rows)) }
+    ensures room { IfOk result (λ answer. is_full_for (kept_of (table_of table.old.capacity (queues_in table.old.rows locks.old) (slots_in side table.old.rows) point [] [])) key.now ≡ false) }
+    ensures refusal { IfErr result (λ e. e ≡ (if is_full_for (kept_of (table_of table.old.capacity (queues_in table.old.rows locks.old) (slots_in side table.old.rows) point [] [])) key.now then Refusal.Full else Refusal.OutOfMemory)) }
     ensures pending { IfOk result (λ answer. (q : List ℕ) → find key_cmp q (pending_of (slots_in side table.new.rows)) ≡ pending_after answer (table_of table.old.capacity (queues_in table.old.rows locks.old) (slots_in side table.old.rows) point [] []) key.now (record { by = transaction; class = class; value = value }) q) }
     ensures still { OnErr result (pending_of (slots_in side table.new.rows) ≡ pending_of (slots_in side table.old.rows)) }
     ensures kept { AreKept (slots_in side table.new.rows) (queues_in table.new.rows locks.new) }
@@ -366,7 +379,7 @@ fn request_new(
     transaction: TxnNo,
     key: &Key,
     mode: Mode,
-) -> Result<SlotId, AllocError>
+) -> Result<SlotId, Refusal>
     requires kept { AreKept (slots_in side table.old.rows) (queues_in table.old.rows locks.old) }
     requires sound { AreSound point (queues_in table.old.rows locks.old) (slots_in side table.old.rows) }
     requires ends { AreEnds (ends_in table.old.rows) locks.old }
@@ -377,6 +390,8 @@ fn request_new(
     ensures slot { IfOk result (IsFirstIn (slots_in side table.old.rows) (slots_in side table.new.rows) (queues_in table.new.rows locks.new) key.now transaction mode) }
     ensures row { IfOk result (HasRow table.new.rows) }
     ensures err { OnErr result (rows_of (queues_in table.new.rows locks.new) (slots_in side table.new.rows) ≡ rows_of (queues_in table.old.rows locks.old) (slots_in side table.old.rows)) }
+    ensures room { IfOk result (λ id. is_full_for (kept_of (table_of table.old.capacity (queues_in table.old.rows locks.old) (slots_in side table.old.rows) point [] [])) key.now ≡ false) }
+    ensures refusal { IfErr result (λ e. e ≡ (if is_full_for (kept_of (table_of table.old.capacity (queues_in table.old.rows locks.old) (slots_in side table.old.rows) point [] [])) key.now then Refusal.Full else Refusal.OutOfMemory)) }
     ensures pending { pending_of (slots_in side table.new.rows) ≡ pending_of (slots_in side table.old.rows) }
     ensures kept { AreKept (slots_in side table.new.rows) (queues_in table.new.rows locks.new) }
     ensures sound { AreSound point (queues_in table.new.rows locks.new) (slots_in side table.new.rows) }
@@ -387,9 +402,9 @@ fn request_new(
     let id = slots::make(alloc, table, key)?;
     match locks.request(table, transaction, id, mode) {
         Ok(_) => Ok(id),
-        Err(error) => {
+        Err(_) => {
             drop(table.remove(id));
-            Err(error)
+            Err(Refusal::OutOfMemory)
         }
     }
 }

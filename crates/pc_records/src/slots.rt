@@ -1,6 +1,6 @@
 //! Slots: what the table's rows have, each with its number and its key. The requests of a slot are those of the locks' queue
 //! at its number, whose ends the slot keeps.
-ghost use Rattle.std.specs.Prelude.{◌≡◌, ◌==◌, ◌≤◌, ◌++◌, not, [], map, length, IfOk, OnOk, OnErr, None, Some, Ok, is_none, option_copied, option_map, List, ℕ};
+ghost use Rattle.std.specs.Prelude.{◌≡◌, ◌==◌, ◌≤◌, ◌++◌, not, [], false, map, length, IfOk, IfErr, OnOk, OnErr, None, Some, Ok, is_none, if◌then◌else◌, option_copied, option_map, List, ℕ};
 ghost use Rattle.std.specs.FinMap.{find};
 ghost use Rattle.pc_model.specs.Maps.{get};
 ghost use Rattle.pc_model.specs.Database.{KeysRise, key_cmp, database_of};
@@ -25,7 +25,7 @@ use pc_dirty::{Dirty, Side};
 use pc_locks::Locks;
 use pc_replay::first_of_each;
 use pc_table::{Blank, Table};
-use pc_types::{Class, Key, MOST_KEYS, Outcome, Point, SlotId, TxnNo, Value, Write};
+use pc_types::{Class, Key, MOST_KEYS, Outcome, Point, Refusal, SlotId, TxnNo, Value, Write};
 use std::alloc::{AllocError, Global};
 use std::hash::RandomState;
 
@@ -129,28 +129,32 @@ fn add(alloc: Global, table: &mut Table<Cell>, key: &Key, value: &Value) -> Resu
     ensures { OnOk result ((id : ℕ) × (table.new ≡ with_row table.old key.now id (base_cell (Some value.now)))) }
 {
     let value = value.copy(alloc)?;
-    let id = make(alloc, table, key)?;
-    let cell = table.get_mut(id);
-    *cell = cell_with(Some(value));
-    Ok(())
+    match make(alloc, table, key) {
+        Ok(id) => {
+            let cell = table.get_mut(id);
+            *cell = cell_with(Some(value));
+            Ok(())
+        }
+        Err(_) => Err(AllocError),
+    }
 }
 
-// A slot of the key, which has none and gets one; it fails only where memory ran out, or there is no free slot.
-pub(crate) fn make(alloc: Global, table: &mut Table<Cell>, key: &Key) -> Result<SlotId, AllocError>
+// A slot of the key, which has none and gets one; it is refused with `Full` where there is no free slot, and else only where
+// memory ran out.
+pub(crate) fn make(alloc: Global, table: &mut Table<Cell>, key: &Key) -> Result<SlotId, Refusal>
     requires { slot_of table.old.rows key.now ≡ None }
     ensures made { IfOk result (λ id. table.new ≡ with_row table.old key.now id (base_cell None)) }
     ensures fresh { IfOk result (IsNewSlot table.old) }
     ensures slot { IfOk result (λ id. slot_of table.new.rows key.now ≡ Some id) }
     ensures row { IfOk result (HasRow table.new.rows) }
     ensures changed { IfOk result (λ id. (cell : Cell) → with_record table.new id cell ≡ with_row table.old key.now id cell) }
+    ensures room { IfOk result (λ id. (length table.old.rows == table.old.capacity) ≡ false) }
+    ensures refusal { IfErr result (λ e. e ≡ (if length table.old.rows == table.old.capacity then Refusal.Full else Refusal.OutOfMemory)) }
     ensures err { OnErr result (table.new ≡ table.old) }
     ensures before { AreInSlots table.old }
     ensures after { AreInSlots table.new }
 {
-    match table.find_or_make(alloc, key) {
-        Ok(id) => Ok(id),
-        Err(_) => Err(AllocError),
-    }
+    table.find_or_make(alloc, key)
 }
 
 // Whether the key has no record.

@@ -9,6 +9,7 @@ use Rattle.pc_records.specs.Ends.{ends_in, queues_in}
 use Rattle.pc_records.specs.SetLists.{KeepSets}
 use Rattle.pc_records.specs.Slots.{slots_in, rows_of, pending_of, base_cell, AreKept, AreSound}
 use Rattle.pc_records.proofs.EndsKept.{ends_with, sound_with}
+use Rattle.pc_records.proofs.Fullness.{full_new, refused_new, ran_out}
 use Rattle.pc_records.proofs.KeepingSlots.{row_stays_in}
 use Rattle.pc_records.proofs.KeepingSets.{sets_same, sets_with, sets_then}
 use Rattle.pc_records.proofs.NewSlots.{pending_in, rows_in, kept_in, slot_first, sound_now, told_first, put_back}
@@ -91,3 +92,12 @@ returns-in-Err-clause-ends c = subst (λ (ends : ℕ → Chain ℕ). AreEnds end
 
 pub returns-in-Err-clause-sets : goal.returns-in-Err-clause-sets
 returns-in-Err-clause-sets c = subst (λ (t : Contents Cell). KeepSets c.args.table.now.rows t.rows) (sym (back c)) (sets_same c.args.table.now.rows)
+
+pub returns-in_err-id-clause-refusal : goal.returns-in_err-id-clause-refusal
+returns-in_err-id-clause-refusal c = refused_new c.args.side c.args.table.now.rows c.args.table.now.capacity (queues_in c.args.table.now.rows c.args.locks.now) c.args.key.now c.from_residual.result c.in_err-id.field-0.0 c.from_residual.ensures c.requires.new c.in_err-id.ensures.refusal
+
+pub returns-in-Ok-clause-room : goal.returns-in-Ok-clause-room
+returns-in-Ok-clause-room c = full_new c.args.side c.args.table.now.rows c.args.table.now.capacity (queues_in c.args.table.now.rows c.args.locks.now) c.args.key.now c.requires.new ∙ c.in_ok-id.ensures.room
+
+pub returns-in-Err-clause-refusal : goal.returns-in-Err-clause-refusal
+returns-in-Err-clause-refusal c = ran_out c.args.side c.args.table.now.rows c.args.table.now.capacity (queues_in c.args.table.now.rows c.args.locks.now) c.args.key.now (full_new c.args.side c.args.table.now.rows c.args.table.now.capacity (queues_in c.args.table.now.rows c.args.locks.now) c.args.key.now c.requires.new ∙ c.in_ok-id.ensures.room)

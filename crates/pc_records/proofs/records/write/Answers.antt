@@ -3,10 +3,12 @@ use Rattle.pc_chain.specs.declared.chain.Chain.{Chain}
 use Rattle.pc_locks.specs.States.{Queues}
 use Rattle.pc_locks.specs.Keepers.{queues_of, lists_of, AreEnds}
 use Rattle.pc_locks.proofs.StateLaws.{ready_at}
+use Rattle.pc_types.specs.declared.Refusal.TheVariants.{OutOfMemory}
 use Rattle.pc_records.specs.Ends.{queues_in}
 use Rattle.pc_records.specs.Slots.{slots_in, rows_of, AreKept, AreSound}
 use Rattle.pc_records.proofs.Found.{written_told, written_rows, written_kept, written_sound, written_clear, written_pending}
 use Rattle.pc_records.proofs.TableSlots.{no_slot_in}
+use Rattle.pc_records.proofs.Fullness.{full_there, refused_by, ran_out}
 use Rattle.pc_records.proofs.EndsKept.{are_sound}
 use Rattle.pc_records.proofs.KeepingSets.{sets_then}
 use Rattle.pc_records.proofs.Clearing.{clear_new}
@@ -87,3 +89,14 @@ returns-in_ok-id-in-None-clause-ends c =
 pub returns-in_ok-id-in-None-clause-clear : goal.returns-in_ok-id-in-None-clause-clear
 returns-in_ok-id-in-None-clause-clear c granted =
     clear_new (slots_in c.args.side c.args.table.now.rows) c.args.key.now c.args.transaction c.requires.kept.rise (no_slot_in c.args.side c.args.table.now.rows c.args.key.now (sym c.in-None.ensures.slot))
+
+pub returns-in_ok-answer-in-Some-clause-room : goal.returns-in_ok-answer-in-Some-clause-room
+returns-in_ok-answer-in-Some-clause-room c = full_there c.args.side c.args.table.now.rows c.args.table.now.capacity (queues_in c.args.table.now.rows c.args.locks.now) c.args.key.now c.in-Some.id (sym c.in-Some.ensures.slot)
+
+pub returns-in_err-copy-in-Some-clause-refusal : goal.returns-in_err-copy-in-Some-clause-refusal
+returns-in_err-copy-in-Some-clause-refusal c =
+    refused_by c.args.side c.args.table.now.rows c.args.table.now.capacity (queues_in c.args.table.now.rows c.args.locks.now) c.args.key.now c.from_residual.result OutOfMemory c.from_residual.ensures (ran_out c.args.side c.args.table.now.rows c.args.table.now.capacity (queues_in c.args.table.now.rows c.args.locks.now) c.args.key.now (full_there c.args.side c.args.table.now.rows c.args.table.now.capacity (queues_in c.args.table.now.rows c.args.locks.now) c.args.key.now c.in-Some.id (sym c.in-Some.ensures.slot)))
+
+pub returns-in_err-answer-in-Some-clause-refusal : goal.returns-in_err-answer-in-Some-clause-refusal
+returns-in_err-answer-in-Some-clause-refusal c =
+    refused_by c.args.side c.args.table.now.rows c.args.table.now.capacity (queues_in c.args.table.now.rows c.args.locks.now) c.args.key.now c.from_residual-in_err-answer-in-Some.result OutOfMemory c.from_residual-in_err-answer-in-Some.ensures (ran_out c.args.side c.args.table.now.rows c.args.table.now.capacity (queues_in c.args.table.now.rows c.args.locks.now) c.args.key.now (full_there c.args.side c.args.table.now.rows c.args.table.now.capacity (queues_in c.args.table.now.rows c.args.locks.now) c.args.key.now c.in-Some.id (sym c.in-Some.ensures.slot)))
