@@ -1,8 +1,11 @@
 -- What a table keeps, and what its calls give of it.
-use Rattle.std.proofs.Common.{◌≡◌, ℕ, suc, ◌+◌, ◌<◌, ◌≤◌, ◌==◌, List, [], ◌∷◌, length, set, Option, Some, None, option_map, is_some, Result, Ok, Err, refl, sym, ap, subst, ◌∙◌, length-set}
+use Rattle.std.proofs.Common.{◌≡◌, ℕ, suc, ◌+◌, ◌<◌, ◌≤◌, ◌==◌, List, [], ◌∷◌, length, set, Option, Some, None, option_map, is_some, true, Result, Ok, Err, refl, sym, ap, subst, ◌∙◌, length-set}
 use Rattle.std.specs.Prelude.{IfOk, IfSome, OnErr}
+use Rattle.std.specs.FinMap.{find}
 use Rattle.pc_types.specs.declared.refusal.Refusal.{Refusal}
 use Rattle.pc_types.specs.declared.limits.TheConstants.{MOST_KEYS}
+use Rattle.pc_model.specs.Database.{key_cmp, same_bytes}
+use Rattle.pc_model.proofs.JoinLaws.{one_key}
 use Rattle.pc_arena.specs.Slots.{Slots, at, is_full, with_item, IsTaken, AllFree}
 use Rattle.pc_arena.proofs.SlotLaws.{at_here, taken_below}
 use Rattle.pc_index.specs.Indexes.{Table, IsIndex}
@@ -172,3 +175,8 @@ seen_begun items capacity l f = λ i. record { capacity = l i; rows = bare 0 ite
     bare n [] f = refl
     bare n (None ∷ items) f = bare (n + 1) items (λ id. f (suc id))
     bare n (Some entry ∷ items) f = absurd (no_row (sym (f 0)))
+
+-- the slot in which the key is found is the key's
+pub own_slot : {T : Type 0} (table : Contents T) (id : ℕ) (key found : List ℕ) (x : T) → AreInSlots table → in_slot table.rows id ≡ Some (found, x) → same_bytes found key ≡ true → (slot_of table.rows key ≡ Some id) × HasRow table.rows id
+own_slot table id key found x slots here e =
+    (ap (option_map (λ place. place.0)) (subst (λ k. find key_cmp k table.rows ≡ Some (id, x)) (one_key found key e) ((slots.each id found x).0 here)), ap is_some here)

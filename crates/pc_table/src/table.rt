@@ -1,5 +1,5 @@
 //! The table itself.
-ghost use Rattle.std.specs.Prelude.{◌≡◌, ◌≤◌, ◌==◌, ℕ, [], length, IfOk, IfErr, IfSome, OnErr, Ok, Err, Some, None, option_map, if◌then◌else◌};
+ghost use Rattle.std.specs.Prelude.{◌≡◌, ◌≤◌, ◌==◌, ℕ, [], true, length, IfOk, IfErr, IfSome, OnErr, Ok, Err, Some, None, option_map, if◌then◌else◌};
 ghost use Rattle.std.specs.Borrow.{sem};
 ghost use Rattle.pc_table.specs.Rows.{slot_of, in_slot, without_slot, pair_behind, with_record, with_row, HasRow, IsNewSlot, AreInSlots};
 ghost use Rattle.pc_table.specs.Lending.{LendsRow};
@@ -72,6 +72,30 @@ impl<T: Blank> Table<T> {
         ensures slots { AreInSlots self.now }
     {
         self.index.find(&self.entries, key)
+    }
+
+    /// The slot of the key, which is looked for in this slot first: what `find` gives, without a search where it is there.
+    pub fn find_near(&self, key: &Key, near: SlotId) -> Option<SlotId>
+        ensures slot { result ≡ slot_of self.now.rows key.now }
+        ensures row { IfSome result (HasRow self.now.rows) }
+        ensures slots { AreInSlots self.now }
+    {
+        if self.is_in(key, near) {
+            Some(near)
+        } else {
+            self.find(key)
+        }
+    }
+
+    // Whether the key has the slot.
+    fn is_in(&self, key: &Key, id: SlotId) -> bool
+        ensures own { result ≡ true → (slot_of self.now.rows key.now ≡ Some id) × HasRow self.now.rows id }
+        ensures slots { AreInSlots self.now }
+    {
+        match self.get_if_taken(id) {
+            Some((found, _)) => found.is(key),
+            None => false,
+        }
     }
 
     /// The key of the slot, which has a row.
