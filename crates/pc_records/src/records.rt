@@ -194,8 +194,10 @@ impl Records {
     }
 
     /// The transaction of these writes, which stand in their places, is committed: they are the keys' values, and their
-    /// keys are in the open set, at its end where they weren't in it. It takes no memory.
-    pub fn commit(&mut self, writes: &[Write])
+    /// keys are in the open set, at its end where they weren't in it. The slots are those in which `write` found the keys, in
+    /// the order of the writes, as far as they are known: a key is looked for there before it is searched, and nothing else
+    /// depends on them. It takes no memory.
+    pub fn commit(&mut self, writes: &[Write], slots: &[SlotId])
         requires stand { (q : List ℕ) → is_some (written writes.now q) ≡ true → option_map value_of (pending_at self.old q) ≡ written writes.now q }
         requires distinct { AreDistinct writes.now }
         ensures rise { KeysRise self.old.rows }
@@ -206,12 +208,12 @@ impl Records {
         ensures shut { self.new.shut ≡ self.old.shut }
         ensures listed { AreListed self.old }
     {
-        slots::settle_all(&mut self.table, &mut self.sets, writes, self.point);
+        slots::settle_all(&mut self.table, &mut self.sets, writes, slots, self.point);
     }
 
-    /// The transaction of these writes is undone: what was committed of their keys stands in their places again. It takes
-    /// no memory.
-    pub fn undo(&mut self, writes: &[Write])
+    /// The transaction of these writes is undone: what was committed of their keys stands in their places again. The slots are
+    /// those of `commit`. It takes no memory.
+    pub fn undo(&mut self, writes: &[Write], slots: &[SlotId])
         ensures rise { KeysRise self.old.rows }
         ensures rows { kept_of self.new ≡ kept_of self.old }
         ensures pending { (q : List ℕ) → pending_at self.new q ≡ pending_without writes.now self.old q }
@@ -220,7 +222,7 @@ impl Records {
         ensures shut { self.new.shut ≡ self.old.shut }
     {
         let side = self.sets.open_side();
-        slots::undo_all(&mut self.table, side, writes, self.point);
+        slots::undo_all(&mut self.table, side, writes, slots, self.point);
     }
 
     /// The open set is closed, as that of the point, and another one begins. No record is looked at.

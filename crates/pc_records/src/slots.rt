@@ -319,8 +319,14 @@ fn settle_slot(table: &mut Table<Cell>, sets: &mut Dirty, id: SlotId, point: Poi
     }
 }
 
-// The write that stands in the key's place is committed.
-fn settle_key(table: &mut Table<Cell>, sets: &mut Dirty, key: &Key, point: Point)
+// The write that stands in the key's place is committed; the key is looked for near the slot first.
+fn settle_key(
+    table: &mut Table<Cell>,
+    sets: &mut Dirty,
+    key: &Key,
+    near: Option<SlotId>,
+    point: Point,
+)
     requires listed { IsListed table.old.rows sets.old }
     ensures slots { slots_in sets.old.side table.new.rows ≡ map (at_key (settled point) key.now) (slots_in sets.old.side table.old.rows) }
     ensures capacity { table.new.capacity ≡ table.old.capacity }
@@ -330,13 +336,19 @@ fn settle_key(table: &mut Table<Cell>, sets: &mut Dirty, key: &Key, point: Point
     ensures opened { open_keys table.new.rows sets.new ≡ open_keys table.old.rows sets.old ++ entering_key sets.old.side table.old.rows key.now }
     ensures closed { closed_keys table.new.rows sets.new ≡ closed_keys table.old.rows sets.old }
 {
-    if let Some(id) = table.find(key) {
+    if let Some(id) = table.find_near(key, near) {
         settle_slot(table, sets, id, point);
     }
 }
 
-// These writes, no two of which have one key, are committed.
-pub(crate) fn settle_all(table: &mut Table<Cell>, sets: &mut Dirty, writes: &[Write], point: Point)
+// These writes, no two of which have one key, are committed. The slots are where their keys were found, as far as that is known.
+pub(crate) fn settle_all(
+    table: &mut Table<Cell>,
+    sets: &mut Dirty,
+    writes: &[Write],
+    slots: &[SlotId],
+    point: Point,
+)
     requires listed { IsListed table.old.rows sets.old }
     requires distinct { AreDistinct writes.now }
     ensures slots { slots_in sets.old.side table.new.rows ≡ map (at_writes (settled point) writes.now) (slots_in sets.old.side table.old.rows) }
@@ -347,8 +359,9 @@ pub(crate) fn settle_all(table: &mut Table<Cell>, sets: &mut Dirty, writes: &[Wr
     ensures opened { open_keys table.new.rows sets.new ≡ open_keys table.old.rows sets.old ++ entering_keys sets.old.side table.old.rows writes.now }
     ensures closed { closed_keys table.new.rows sets.new ≡ closed_keys table.old.rows sets.old }
 {
+    let mut found = slots.iter();
     for write in writes {
-        settle_key(table, sets, &write.key, point);
+        settle_key(table, sets, &write.key, found.next().copied(), point);
     }
 }
 
@@ -363,27 +376,40 @@ fn undo_slot(table: &mut Table<Cell>, side: Side, id: SlotId, point: Point)
     versions::undo(table.get_mut(id), side, point);
 }
 
-// The write that stands in the key's place is undone.
-fn undo_key(table: &mut Table<Cell>, side: Side, key: &Key, point: Point)
+// The write that stands in the key's place is undone; the key is looked for near the slot first.
+fn undo_key(
+    table: &mut Table<Cell>,
+    side: Side,
+    key: &Key,
+    near: Option<SlotId>,
+    point: Point,
+)
     ensures slots { slots_in side table.new.rows ≡ map (at_key (undone point) key.now) (slots_in side table.old.rows) }
     ensures capacity { table.new.capacity ≡ table.old.capacity }
     ensures ends { ends_in table.new.rows ≡ ends_in table.old.rows }
     ensures sets { KeepSets table.old.rows table.new.rows }
 {
-    if let Some(id) = table.find(key) {
+    if let Some(id) = table.find_near(key, near) {
         undo_slot(table, side, id, point);
     }
 }
 
-// These writes are undone.
-pub(crate) fn undo_all(table: &mut Table<Cell>, side: Side, writes: &[Write], point: Point)
+// These writes are undone. The slots are where their keys were found, as far as that is known.
+pub(crate) fn undo_all(
+    table: &mut Table<Cell>,
+    side: Side,
+    writes: &[Write],
+    slots: &[SlotId],
+    point: Point,
+)
     ensures slots { slots_in side table.new.rows ≡ map (at_writes (undone point) writes.now) (slots_in side table.old.rows) }
     ensures capacity { table.new.capacity ≡ table.old.capacity }
     ensures ends { ends_in table.new.rows ≡ ends_in table.old.rows }
     ensures sets { KeepSets table.old.rows table.new.rows }
 {
+    let mut found = slots.iter();
     for write in writes {
-        undo_key(table, side, &write.key, point);
+        undo_key(table, side, &write.key, found.next().copied(), point);
     }
 }
 

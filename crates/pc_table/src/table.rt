@@ -74,16 +74,15 @@ impl<T: Blank> Table<T> {
         self.index.find(&self.entries, key)
     }
 
-    /// The slot of the key, which is looked for in this slot first: what `find` gives, without a search where it is there.
-    pub fn find_near(&self, key: &Key, near: SlotId) -> Option<SlotId>
+    /// The slot of the key, which is looked for in the given slot first: what `find` gives, without a search where it is there.
+    pub fn find_near(&self, key: &Key, near: Option<SlotId>) -> Option<SlotId>
         ensures slot { result ≡ slot_of self.now.rows key.now }
         ensures row { IfSome result (HasRow self.now.rows) }
         ensures slots { AreInSlots self.now }
     {
-        if self.is_in(key, near) {
-            Some(near)
-        } else {
-            self.find(key)
+        match near {
+            Some(id) if self.is_in(key, id) => near,
+            _ => self.find(key),
         }
     }
 
