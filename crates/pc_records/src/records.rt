@@ -33,6 +33,13 @@ use std::alloc::{AllocError, Global};
 use std::hash::RandomState;
 use std::marker::Model;
 
+/// How a request was answered, and the slot in which its key was found or got a record.
+#[derive(Clone, Copy, Debug)]
+pub struct Answer {
+    pub outcome: Outcome,
+    pub slot: SlotId,
+}
+
 /// The records, in the slots of a table; at most as many as its capacity. The locks have the requests of a slot's key at the
 /// slot's number, and the slot has the ends of their queue. The two sets are linked through the slots. The point is that of
 /// the last closed set.
@@ -150,14 +157,14 @@ impl Records {
         class: Class,
         key: &Key,
         value: Option<Value>,
-    ) -> Result<Outcome, Refusal>
+    ) -> Result<Answer, Refusal>
         requires ready { is_waiting self.old.rows transaction ≡ false }
         requires outside { class ≡ Before → is_in_closed_set (record_of self.old.rows key.now) ≡ false }
         requires again { (p : Pending) → pending_at self.old key.now ≡ Some p → p.by ≡ transaction → p.class ≡ class }
-        ensures told { IfOk result (λ answer. answer ≡ outcome (requests_on (record_of self.old.rows key.now)) transaction Exclusive) }
-        ensures rows { IfOk result (λ answer. kept_of self.new ≡ record (kept_of self.old) { rows = rows_after self.old.rows key.now transaction Exclusive answer }) }
-        ensures pending { IfOk result (λ answer. (q : List ℕ) → pending_at self.new q ≡ pending_after answer self.old key.now (record { by = transaction; class = class; value = value }) q) }
-        ensures clear { IfOk result (λ answer. answer ≡ Granted → IsClearFor self.old key.now transaction) }
+        ensures told { IfOk result (λ answer. answer.outcome ≡ outcome (requests_on (record_of self.old.rows key.now)) transaction Exclusive) }
+        ensures rows { IfOk result (λ answer. kept_of self.new ≡ record (kept_of self.old) { rows = rows_after self.old.rows key.now transaction Exclusive answer.outcome }) }
+        ensures pending { IfOk result (λ answer. (q : List ℕ) → pending_at self.new q ≡ pending_after answer.outcome self.old key.now (record { by = transaction; class = class; value = value }) q) }
+        ensures clear { IfOk result (λ answer. answer.outcome ≡ Granted → IsClearFor self.old key.now transaction) }
         ensures point { IfOk result (λ answer. self.new.point ≡ self.old.point) }
         ensures opened { self.new.opened ≡ self.old.opened }
         ensures shut { self.new.shut ≡ self.old.shut }
@@ -323,20 +330,20 @@ fn write(
     class: Class,
     key: &Key,
     value: Option<Value>,
-) -> Result<Outcome, Refusal>
+) -> Result<Answer, Refusal>
     requires kept { AreKept (slots_in side table.old.rows) (queues_in table.old.rows locks.old) }
     requires sound { AreSound point (queues_in table.old.rows locks.old) (slots_in side table.old.rows) }
     requires ends { AreEnds (ends_in table.old.rows) locks.old }
     requires ready { states.is_waiting (state_of (ends_in table.old.rows) locks.old) transaction ≡ false }
     requires outside { class ≡ Before → is_in_closed_set (record_of (rows_of (queues_in table.old.rows locks.old) (slots_in side table.old.rows)) key.now) ≡ false }
     requires again { (p : Pending) → find key_cmp key.now (pending_of (slots_in side table.old.rows)) ≡ Some p → p.by ≡ transaction → p.class ≡ class }
-    ensures told { IfOk result (λ answer. answer ≡ outcome (requests_on (record_of (rows_of (queues_in table.old.rows locks.old) (slots_in side table.old.rows)) key.now)) transaction Exclusive) }
-    ensures rows { IfOk result (λ answer. rows_of (queues_in table.new.rows locks.new) (slots_in side table.new.rows) ≡ rows_after (rows_of (queues_in table.old.rows locks.old) (slots_in side table.old.rows)) key.now transaction Exclusive answer) }
-    ensures clear { IfOk result (λ answer. answer ≡ Granted → IsClearFor (table_of table.old.capacity (queues_in table.old.rows locks.old) (slots_in side table.old.rows) point [] []) key.now transaction) }
+    ensures told { IfOk result (λ answer. answer.outcome ≡ outcome (requests_on (record_of (rows_of (queues_in table.old.rows locks.old) (slots_in side table.old.rows)) key.now)) transaction Exclusive) }
+    ensures rows { IfOk result (λ answer. rows_of (queues_in table.new.rows locks.new) (slots_in side table.new.rows) ≡ rows_after (rows_of (queues_in table.old.rows locks.old) (slots_in side table.old.rows)) key.now transaction Exclusive answer.outcome) }
+    ensures clear { IfOk result (λ answer. answer.outcome ≡ Granted → IsClearFor (table_of table.old.capacity (queues_in table.old.rows locks.old) (slots_in side table.old.rows) point [] []) key.now transaction) }
     ensures err { OnErr result (rows_of (queues_in table.new.rows locks.new) (slots_in side table.new.rows) ≡ rows_of (queues_in table.old.rows locks.old) (slots_in side table.old.rows)) }
     ensures room { IfOk result (λ answer. is_full_for (kept_of (table_of table.old.capacity (queues_in table.old.rows locks.old) (slots_in side table.old.rows) point [] [])) key.now ≡ false) }
     ensures refusal { IfErr result (λ e. e ≡ (if is_full_for (kept_of (table_of table.old.capacity (queues_in table.old.rows locks.old) (slots_in side table.old.rows) point [] [])) key.now then Refusal.Full else Refusal.OutOfMemory)) }
-    ensures pending { IfOk result (λ answer. (q : List ℕ) → find key_cmp q (pending_of (slots_in side table.new.rows)) ≡ pending_after answer (table_of table.old.capacity (queues_in table.old.rows locks.old) (slots_in side table.old.rows) point [] []) key.now (record { by = transaction; class = class; value = value }) q) }
+    ensures pending { IfOk result (λ answer. (q : List ℕ) → find key_cmp q (pending_of (slots_in side table.new.rows)) ≡ pending_after answer.outcome (table_of table.old.capacity (queues_in table.old.rows locks.old) (slots_in side table.old.rows) point [] []) key.now (record { by = transaction; class = class; value = value }) q) }
     ensures still { OnErr result (pending_of (slots_in side table.new.rows) ≡ pending_of (slots_in side table.old.rows)) }
     ensures kept { AreKept (slots_in side table.new.rows) (queues_in table.new.rows locks.new) }
     ensures sound { AreSound point (queues_in table.new.rows locks.new) (slots_in side table.new.rows) }
@@ -348,7 +355,7 @@ fn write(
     match table.find(key) {
         Some(id) => {
             let copy = copy_content(alloc, &table.get(id).live)?;
-            let answer = locks.request(table, transaction, id, mode)?;
+            let outcome = locks.request(table, transaction, id, mode)?;
             slots::put_granted(
                 table,
                 side,
@@ -358,14 +365,17 @@ fn write(
                 class,
                 copy,
                 value,
-                answer,
+                outcome,
             );
-            Ok(answer)
+            Ok(Answer { outcome, slot: id })
         }
         None => {
             let id = request_new(alloc, table, locks, side, point, transaction, key, mode)?;
             slots::put_at(table, side, id, point, transaction, class, None, value);
-            Ok(Outcome::Granted)
+            Ok(Answer {
+                outcome: Outcome::Granted,
+                slot: id,
+            })
         }
     }
 }
