@@ -20,7 +20,7 @@ use Rattle.pc_model.specs.Locks.{outcome}
 use Rattle.pc_model.specs.History.{class_in}
 use Rattle.pc_types.specs.declared.Class.{Class}
 use Rattle.pc_types.specs.declared.Class.TheVariants.{Before}
-use Rattle.pc_records.specs.Rows.{record_of, stored, at_point, requests_on}
+use Rattle.pc_records.specs.Rows.{Kept, record_of, stored, at_point, requests_on}
 use Rattle.pc_records.specs.RowSteps.{is_full_for, is_waiting, rows_after, released_rows, written_row, closed_row, left_rows}
 use Rattle.pc_records.specs.NewKeys.{new_keys, is_one_too_many}
 use Rattle.pc_engine.specs.Store.{Active, Store, setting_of, active}
@@ -75,6 +75,10 @@ after_asking w s key mode o sessions = record w { kept = record w.kept { rows = 
 abbrev pub outcome_in : Store → ℕ → List ℕ → Mode → Outcome
 outcome_in w s key mode = outcome (requests_on (record_of w.kept.rows key)) (number_in (active w s)) mode
 
+-- why a request of the key is refused that isn't answered: it has no record and can't get one, or memory ran out
+abbrev pub why_refused : Kept → List ℕ → Refusal
+why_refused kept key = if is_full_for kept key then why.Full else why.OutOfMemory
+
 -- the transaction's own write is read, or else what is committed, where the request is granted
 abbrev pub Gets : Store → ℕ → List ℕ → Reply → Store → Type 0
 Gets old s key reply new =
@@ -86,9 +90,9 @@ Gets old s key reply new =
 abbrev pub write_causes : Store → ℕ → List ℕ → List (Bool × Refusal)
 write_causes w s key = open_causes w s ((is_one_too_many (writes_in (active w s)) key, why.TooManyWrites) ∷ (is_full_for w.kept key, why.Full) ∷ [])
 
--- the first of them that stands, or none does
+-- the first of them that stands, or none does but perhaps the last
 abbrev pub WriteCause : Store → ℕ → List ℕ → Option Refusal → Type 0
-WriteCause w s key None = MayGoOn w s × (is_one_too_many (writes_in (active w s)) key ≡ false) × (is_full_for w.kept key ≡ false)
+WriteCause w s key None = MayGoOn w s × (is_one_too_many (writes_in (active w s)) key ≡ false)
 WriteCause w s key (Some r) = first_refusal (write_causes w s key) ≡ Some (told.Refused r)
 
 -- the key is set to the content or removed by the transaction, where the request is granted

@@ -8,6 +8,7 @@ ghost use Rattle.pc_engine.specs.Asking.{AsksOfOpen};
 ghost use Rattle.pc_engine.specs.Stands.{Stands, Follows};
 ghost use Rattle.pc_engine.specs.Steps.{Gets, WritesKey, Commits};
 
+use crate::transactions::why_refused;
 use crate::world::{World, in_limits};
 use pc_types::{Event, Key, Refusal, Reply, SessionNo};
 
@@ -37,10 +38,7 @@ impl World {
         if let Some(why) = self.open_cause(session) {
             return Reply::Refused(why);
         }
-        if self.records.is_full_for(key) {
-            return Reply::Refused(Refusal::Full);
-        }
-        Reply::Refused(Refusal::OutOfMemory)
+        Reply::Refused(why_refused(&self.records, key))
     }
 
     fn refuse_write(&self, session: SessionNo, key: &Key) -> Reply
@@ -50,7 +48,7 @@ impl World {
         if let Some(why) = self.write_cause(session, key) {
             return Reply::Refused(why);
         }
-        Reply::Refused(Refusal::OutOfMemory)
+        Reply::Refused(why_refused(&self.records, key))
     }
 
     fn refuse_commit(&self, session: SessionNo) -> Reply

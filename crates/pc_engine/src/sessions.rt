@@ -1,5 +1,5 @@
 //! The sessions' open transactions.
-ghost use Rattle.std.specs.Prelude.{◌≡◌, ◌<◌, ◌≤◌, ◌-◌, ◌==◌, length, [], ◌+◌, option_map, option_copied, None, Some, List, ℕ, IfOk, OnErr, is_none, replicate, true, false};
+ghost use Rattle.std.specs.Prelude.{◌≡◌, ◌<◌, ◌≤◌, ◌-◌, ◌==◌, length, [], ◌+◌, option_map, option_copied, None, Some, List, ℕ, IfOk, IfErr, OnErr, OnOk, is_none, replicate, true, false};
 ghost use Rattle.pc_model.specs.History.{class_in};
 ghost use Rattle.pc_model.specs.Database.{written};
 ghost use Rattle.pc_model.specs.Locks.{outcome};
@@ -13,12 +13,14 @@ ghost use Rattle.pc_types.specs.declared.Phase.{Phase};
 ghost use Rattle.pc_types.specs.declared.Outcome.TheVariants.{Granted};
 ghost use Rattle.pc_engine.specs.Sessions.{actives_of, active_of, with_session, number_in, class_at, writes_in, after_writing, after_dying, if_died, if_granted, AreFew};
 ghost use Rattle.pc_engine.specs.Store.{active_in};
+ghost use Rattle.pc_engine.specs.Steps.{why_refused};
 ghost use Rattle.pc_engine.specs.InPlace.{AreOpen, HoldTogether, StayTogether};
 ghost use Rattle.pc_records.specs.NewKeys.{is_one_too_many};
 
+use crate::transactions::why_refused;
 use pc_records::Records;
 use pc_txn::WriteSet;
-use pc_types::{Class, Key, Outcome, Reply, SessionNo, TxnNo, Value, Write, copy_content};
+use pc_types::{Class, Key, Outcome, Refusal, Reply, SessionNo, TxnNo, Value, Write, copy_content};
 use std::alloc::{AllocError, Global};
 
 /// An open transaction.
@@ -141,17 +143,17 @@ pub(crate) fn end(
 }
 
 /// The session's transaction requests to read the key, and reads it where the request is granted: what it has written
-/// itself, or else what is committed. Or memory ran out and nothing changed.
+/// itself, or else what is committed. It refuses with `Full` exactly where the key has no record and can't get one, and else
+/// only with `OutOfMemory`; nothing changed then.
 pub(crate) fn read(
     alloc: Global,
     records: &mut Records,
     sessions: &mut Vec<Option<Transaction>>,
     session: SessionNo,
     key: &Key,
-) -> Result<Reply, AllocError>
+) -> Result<Reply, Refusal>
     requires place { session - 1 < length sessions.old.items }
     requires opened { is_none (active_in (actives_of sessions.old.items) session) ≡ false }
-    requires room { is_full_for (kept_of records.old) key.now ≡ false }
     requires few { AreFew (actives_of sessions.old.items) }
     requires ready { is_waiting records.old.rows (number_in (active_in (actives_of sessions.old.items) session)) ≡ false }
     requires placed { (begun : ℕ) × AreOpen records.old (actives_of sessions.old.items) begun }
@@ -159,6 +161,8 @@ pub(crate) fn read(
         (read_reply (value_read (written (writes_in (active_in (actives_of sessions.old.items) session)) key.now) (stored (record_of records.old.rows key.now))))) }
     ensures records { IfOk result (λ reply. kept_of records.new ≡ record (kept_of records.old) { rows = rows_after records.old.rows key.now (number_in (active_in (actives_of sessions.old.items) session)) Shared (outcome (requests_on (record_of records.old.rows key.now)) (number_in (active_in (actives_of sessions.old.items) session)) Shared) }) }
     ensures sessions { IfOk result (λ reply. actives_of sessions.new.items ≡ if_died (outcome (requests_on (record_of records.old.rows key.now)) (number_in (active_in (actives_of sessions.old.items) session)) Shared) (with_session (actives_of sessions.old.items) session (after_dying (active_in (actives_of sessions.old.items) session))) (actives_of sessions.old.items)) }
+    ensures room { IfOk result (λ answer. is_full_for (kept_of records.old) key.now ≡ false) }
+    ensures refusal { IfErr result (λ e. e ≡ why_refused (kept_of records.old) key.now) }
     ensures same_records { OnErr result (kept_of records.new ≡ kept_of records.old) }
     ensures opened { records.new.opened ≡ records.old.opened }
     ensures shut { records.new.shut ≡ records.old.shut }
@@ -167,7 +171,9 @@ pub(crate) fn read(
     ensures few { AreFew (actives_of sessions.new.items) }
     ensures count { length sessions.new.items ≡ length sessions.old.items }
 {
-    let found = answer(alloc, records.latest(key))?;
+    let Ok(found) = answer(alloc, records.latest(key)) else {
+        return Err(why_refused(records, key));
+    };
     match records.share(alloc, number(sessions, session), key)? {
         Outcome::Granted => Ok(found),
         Outcome::Queued => Ok(Reply::Wait),
@@ -178,18 +184,17 @@ pub(crate) fn read(
     }
 }
 
-/// The session's transaction requests the write, and makes it where the request is granted; or memory ran out and nothing
-/// changed.
+/// The session's transaction requests the write, and makes it where the request is granted. It refuses with `Full` exactly
+/// where the key has no record and can't get one, and else only with `OutOfMemory`; nothing changed then.
 pub(crate) fn request(
     alloc: Global,
     records: &mut Records,
     sessions: &mut Vec<Option<Transaction>>,
     session: SessionNo,
     write: Write,
-) -> Result<Outcome, AllocError>
+) -> Result<Outcome, Refusal>
     requires place { session - 1 < length sessions.old.items }
     requires open { is_none (active_in (actives_of sessions.old.items) session) ≡ false }
-    requires room { is_full_for (kept_of records.old) write.key ≡ false }
     requires few { AreFew (actives_of sessions.old.items) }
     requires one { is_one_too_many (writes_in (active_in (actives_of sessions.old.items) session)) write.key ≡ false }
     requires ready { is_waiting records.old.rows (number_in (active_in (actives_of sessions.old.items) session)) ≡ false }
@@ -199,6 +204,8 @@ pub(crate) fn request(
     ensures records { IfOk result (λ answer. kept_of records.new ≡ record (kept_of records.old) { rows = rows_after records.old.rows write.key (number_in (active_in (actives_of sessions.old.items) session)) Exclusive answer }) }
     ensures sessions { IfOk result (λ answer. actives_of sessions.new.items ≡ if_died answer (with_session (actives_of sessions.old.items) session (after_dying (active_in (actives_of sessions.old.items) session)))
         (if_granted answer (with_session (actives_of sessions.old.items) session (after_writing (active_in (actives_of sessions.old.items) session) write)) (actives_of sessions.old.items))) }
+    ensures room { IfOk result (λ answer. is_full_for (kept_of records.old) write.key ≡ false) }
+    ensures refusal { IfErr result (λ e. e ≡ why_refused (kept_of records.old) write.key) }
     ensures same_records { OnErr result (kept_of records.new ≡ kept_of records.old) }
     ensures opened { records.new.opened ≡ records.old.opened }
     ensures shut { records.new.shut ≡ records.old.shut }
@@ -213,14 +220,13 @@ pub(crate) fn request(
     }
 }
 
-// The write is requested, and made where the request is granted; or memory ran out and nothing changed.
+// The write is requested, and made where the request is granted; where it is refused nothing changed.
 fn request_write(
     alloc: Global,
     records: &mut Records,
     transaction: &mut Transaction,
     write: Write,
-) -> Result<Outcome, AllocError>
-    requires room { is_full_for (kept_of records.old) write.key ≡ false }
+) -> Result<Outcome, Refusal>
     requires ready { is_waiting records.old.rows transaction.old.number ≡ false }
     requires outside { transaction.old.class ≡ Before → is_in_closed_set (record_of records.old.rows write.key) ≡ false }
     requires again { (p : Pending) → pending_at records.old write.key ≡ Some p → p.by ≡ transaction.old.number → p.class ≡ transaction.old.class }
@@ -230,13 +236,16 @@ fn request_write(
     ensures clear { IfOk result (λ answer. answer ≡ Granted → IsClearFor records.old write.key transaction.old.number) }
     ensures point { IfOk result (λ answer. records.new.point ≡ records.old.point) }
     ensures transaction { IfOk result (λ answer. Some (active_of transaction.new) ≡ if_granted answer (after_writing (Some (active_of transaction.old)) write) (if_died answer (after_dying (Some (active_of transaction.old))) (Some (active_of transaction.old)))) }
+    ensures room { IfOk result (λ answer. is_full_for (kept_of records.old) write.key ≡ false) }
+    ensures refusal { IfErr result (λ e. e ≡ why_refused (kept_of records.old) write.key) }
     ensures same_records { OnErr result (records.new ≡ records.old) }
     ensures opened { records.new.opened ≡ records.old.opened }
     ensures shut { records.new.shut ≡ records.old.shut }
     ensures same { OnErr result (active_of transaction.new ≡ active_of transaction.old) }
 {
-    transaction.writes.reserve()?;
-    let value = copy_content(alloc, &write.value)?;
+    let Ok(value) = prepared(alloc, &mut transaction.writes, &write.value) else {
+        return Err(why_refused(records, &write.key));
+    };
     let (number, class) = (transaction.number, transaction.class);
     let answer = records.write(alloc, number, class, &write.key, value)?;
     match answer {
@@ -245,6 +254,20 @@ fn request_write(
         Outcome::Died => transaction.has_died = true,
     }
     Ok(answer)
+}
+
+// A copy of the content, with room for one more write.
+fn prepared(
+    alloc: Global,
+    writes: &mut WriteSet,
+    content: &Option<Value>,
+) -> Result<Option<Value>, AllocError>
+    ensures copy { IfOk result (λ copy. copy ≡ content.now) }
+    ensures room { OnOk result (0 < writes.new.room) }
+    ensures same { writes.new.items ≡ writes.old.items }
+{
+    writes.reserve()?;
+    copy_content(alloc, content)
 }
 
 // The reply to a read that gives this.

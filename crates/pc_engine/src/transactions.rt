@@ -12,7 +12,7 @@ ghost use Rattle.pc_records.specs.NewKeys.{new_keys};
 ghost use Rattle.pc_records.specs.Tables.{kept_of};
 ghost use Rattle.pc_engine.specs.Sessions.{actives_of, with_session, number_in, class_at, writes_in};
 ghost use Rattle.pc_engine.specs.Store.{active_in};
-ghost use Rattle.pc_engine.specs.Steps.{OpenCause, WriteCause, Begins, Gets, WritesKey, Commits, Aborts};
+ghost use Rattle.pc_engine.specs.Steps.{OpenCause, WriteCause, why_refused, Begins, Gets, WritesKey, Commits, Aborts};
 
 use crate::sessions::{self, Transaction};
 use crate::world::World;
@@ -75,9 +75,6 @@ impl World {
         if let Some(why) = self.open_cause(session) {
             return Reply::Refused(why);
         }
-        if self.records.is_full_for(key) {
-            return Reply::Refused(Refusal::Full);
-        }
         match sessions::read(
             self.alloc,
             &mut self.records,
@@ -86,7 +83,7 @@ impl World {
             key,
         ) {
             Ok(reply) => reply,
-            Err(_) => Reply::Refused(Refusal::OutOfMemory),
+            Err(why) => Reply::Refused(why),
         }
     }
 
@@ -110,7 +107,7 @@ impl World {
             return Reply::Refused(why);
         }
         let Ok(write) = write_of(self.alloc, key, value) else {
-            return Reply::Refused(Refusal::OutOfMemory);
+            return Reply::Refused(why_refused(&self.records, key));
         };
         match sessions::request(
             self.alloc,
@@ -122,11 +119,11 @@ impl World {
             Ok(Outcome::Granted) => Reply::Ok,
             Ok(Outcome::Queued) => Reply::Wait,
             Ok(Outcome::Died) => Reply::Died,
-            Err(_) => Reply::Refused(Refusal::OutOfMemory),
+            Err(why) => Reply::Refused(why),
         }
     }
 
-    // Why a write of the key is refused whatever memory there is, if it is.
+    // Why a write of the key is refused whatever room and memory there is, if it is.
     pub(crate) fn write_cause(&self, session: SessionNo, key: &Key) -> Option<Refusal>
         ensures { WriteCause self.now session key.now result }
     {
@@ -135,9 +132,6 @@ impl World {
         }
         if sessions::is_one_too_many(&self.sessions, session, key) {
             return Some(Refusal::TooManyWrites);
-        }
-        if self.records.is_full_for(key) {
-            return Some(Refusal::Full);
         }
         None
     }
@@ -236,6 +230,17 @@ fn abort_open(
     records.undo(writes.as_slice());
     records.release(number);
     class
+}
+
+// Why a request of the key is refused where memory ran out: that the key has no record, and can't get one, comes first.
+pub(crate) fn why_refused(records: &Records, key: &Key) -> Refusal
+    ensures { result ≡ why_refused (kept_of records.now) key.now }
+{
+    if records.is_full_for(key) {
+        Refusal::Full
+    } else {
+        Refusal::OutOfMemory
+    }
 }
 
 // Whether a store of so many sessions has none of this number.
