@@ -1,7 +1,7 @@
 //! The sessions' open transactions.
 ghost use Rattle.std.specs.Prelude.{◌≡◌, ◌<◌, ◌≤◌, ◌-◌, ◌==◌, length, [], ◌+◌, option_map, option_copied, None, Some, List, ℕ, IfOk, IfErr, OnErr, OnOk, is_none, replicate, true, false};
 ghost use Rattle.pc_model.specs.History.{class_in};
-ghost use Rattle.pc_model.specs.Database.{written};
+ghost use Rattle.pc_model.specs.Database.{with_write, written};
 ghost use Rattle.pc_model.specs.Locks.{outcome};
 ghost use Rattle.pc_model.specs.Replies.{by_outcome, read_reply, value_read};
 ghost use Rattle.pc_records.specs.Rows.{record_of, stored, requests_on, is_in_closed_set};
@@ -18,9 +18,12 @@ ghost use Rattle.pc_engine.specs.InPlace.{AreOpen, HoldTogether, StayTogether};
 ghost use Rattle.pc_records.specs.NewKeys.{is_one_too_many};
 
 use crate::transactions::why_refused;
-use pc_records::Records;
+use pc_records::{Answer, Records};
 use pc_txn::WriteSet;
-use pc_types::{Class, Key, Outcome, Refusal, Reply, SessionNo, TxnNo, Value, Write, copy_content};
+use pc_types::{
+    Class, Key, Outcome, Refusal, Reply, SessionNo, SlotId, TxnNo, Value, Write, copy_content,
+};
+use smallvec::SmallVec;
 use std::alloc::{AllocError, Global};
 
 /// An open transaction.
@@ -30,6 +33,8 @@ pub(crate) struct Transaction {
     pub(crate) class: Class,
     pub(crate) has_died: bool,
     pub(crate) writes: WriteSet,
+    /// The numbers of the slots in which the keys of the writes were found, in the order of the writes, as far as they are known.
+    pub(crate) slots: SmallVec<u32, 4>,
 }
 
 /// So many sessions without a transaction.
@@ -116,6 +121,7 @@ pub(crate) fn begin(
         class,
         has_died: false,
         writes: WriteSet::new(alloc),
+        slots: SmallVec::new(alloc),
     };
     set(sessions, session, Some(transaction));
 }
@@ -247,13 +253,26 @@ fn request_write(
         return Err(why_refused(records, &write.key));
     };
     let (number, class) = (transaction.number, transaction.class);
-    let answer = records.write(alloc, number, class, &write.key, value)?;
-    match answer {
-        Outcome::Granted => transaction.writes.note(write),
+    let Answer { outcome, slot } = records.write(alloc, number, class, &write.key, value)?;
+    match outcome {
+        Outcome::Granted => note(&mut transaction.writes, &mut transaction.slots, write, slot),
         Outcome::Queued => {}
         Outcome::Died => transaction.has_died = true,
     }
-    Ok(answer)
+    Ok(outcome)
+}
+
+// Notes the write, and the slot of a key that it is the first write of, where there is memory for that: else the key will be
+// searched.
+fn note(writes: &mut WriteSet, slots: &mut SmallVec<u32, 4>, write: Write, slot: SlotId)
+    requires { 0 < writes.old.room }
+    ensures { writes.new.items ≡ with_write writes.old.items write }
+{
+    let known = writes.len();
+    writes.note(write);
+    if known < writes.len() {
+        let _ = slots.push(slot.0);
+    }
 }
 
 // A copy of the content, with room for one more write.

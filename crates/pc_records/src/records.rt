@@ -201,10 +201,10 @@ impl Records {
     }
 
     /// The transaction of these writes, which stand in their places, is committed: they are the keys' values, and their
-    /// keys are in the open set, at its end where they weren't in it. The slots are those in which `write` found the keys, in
-    /// the order of the writes, as far as they are known: a key is looked for there before it is searched, and nothing else
-    /// depends on them. It takes no memory.
-    pub fn commit(&mut self, writes: &[Write], slots: &[SlotId])
+    /// keys are in the open set, at its end where they weren't in it. The slots are the numbers of those that `write` told of
+    /// these keys, in the order of the writes, as far as they are known: a key is looked for there before it is searched, and
+    /// nothing else depends on them. It takes no memory.
+    pub fn commit(&mut self, writes: &[Write], slots: &[u32])
         requires stand { (q : List ℕ) → is_some (written writes.now q) ≡ true → option_map value_of (pending_at self.old q) ≡ written writes.now q }
         requires distinct { AreDistinct writes.now }
         ensures rise { KeysRise self.old.rows }
@@ -220,7 +220,7 @@ impl Records {
 
     /// The transaction of these writes is undone: what was committed of their keys stands in their places again. The slots are
     /// those of `commit`. It takes no memory.
-    pub fn undo(&mut self, writes: &[Write], slots: &[SlotId])
+    pub fn undo(&mut self, writes: &[Write], slots: &[u32])
         ensures rise { KeysRise self.old.rows }
         ensures rows { kept_of self.new ≡ kept_of self.old }
         ensures pending { (q : List ℕ) → pending_at self.new q ≡ pending_without writes.now self.old q }

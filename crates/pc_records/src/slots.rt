@@ -346,7 +346,7 @@ pub(crate) fn settle_all(
     table: &mut Table<Cell>,
     sets: &mut Dirty,
     writes: &[Write],
-    slots: &[SlotId],
+    slots: &[u32],
     point: Point,
 )
     requires listed { IsListed table.old.rows sets.old }
@@ -361,7 +361,7 @@ pub(crate) fn settle_all(
 {
     let mut found = slots.iter();
     for write in writes {
-        settle_key(table, sets, &write.key, found.next().copied(), point);
+        settle_key(table, sets, &write.key, found.next().map(|number| SlotId(*number)), point);
     }
 }
 
@@ -399,7 +399,7 @@ pub(crate) fn undo_all(
     table: &mut Table<Cell>,
     side: Side,
     writes: &[Write],
-    slots: &[SlotId],
+    slots: &[u32],
     point: Point,
 )
     ensures slots { slots_in side table.new.rows ≡ map (at_writes (undone point) writes.now) (slots_in side table.old.rows) }
@@ -409,7 +409,7 @@ pub(crate) fn undo_all(
 {
     let mut found = slots.iter();
     for write in writes {
-        undo_key(table, side, &write.key, found.next().copied(), point);
+        undo_key(table, side, &write.key, found.next().map(|number| SlotId(*number)), point);
     }
 }
 
