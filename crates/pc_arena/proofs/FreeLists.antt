@@ -1,9 +1,9 @@
 -- What taking, freeing and linking slots makes of the list of the free ones.
-use Rattle.std.proofs.Common.{◌≡◌, ◌≢◌, ℕ, ◌<◌, List, [], ◌∷◌, ◌++◌, length, set, Option, Some, None, is_none, sym, ap, subst, ◌∙◌, arith}
+use Rattle.std.proofs.Common.{◌≡◌, ◌≢◌, ℕ, zero, suc, ◌+◌, ◌<◌, List, [], ◌∷◌, ◌++◌, length, set, Option, Some, None, is_none, sym, ap, subst, ◌∙◌, arith}
 use Rattle.std.proofs.lemmas.Option.{none-some}
 use Rattle.pc_chain.specs.declared.chain.Chain.{Chain}
 use Rattle.pc_chain.specs.Chains.{first_of, rest_of, Avoids, AllHave, IsChain}
-use Rattle.pc_chain.proofs.ChainLaws.{have_still, have_push, have_others, have_both, avoids_all, all_avoids, avoids_pushed, chain_still}
+use Rattle.pc_chain.proofs.ChainLaws.{have_still, have_push, have_others, have_both, avoids_all, all_avoids, avoids_pushed, chain_still, empty_chain}
 use Rattle.pc_arena.specs.Slots.{at, is_full, IsTaken}
 use Rattle.pc_arena.specs.Cells.{IsFreeList}
 use Rattle.pc_arena.proofs.SlotLaws.{at_here, at_other, not_both, not_full, full_where_none}
@@ -43,6 +43,23 @@ module _ {T : Type 0} where
   free_taken_first n items links free new [] x v l f e c = absurd cc
   free_taken_first n items links free new (y ∷ ys) x v l f e c =
       let s : y ≡ x = cc in subst (λ (z : ℕ). IsFreeList n (set items z (Some v)) links new ys) s (free_taken n items links free new y ys v l f c)
+
+  -- a slot without a record is none that came behind with one
+  bare_pushed : (items : List (Option T)) (v : T) (id : ℕ) → at (items ++ Some v ∷ []) id ≡ None → id < length items + 1 → (id < length items) × (at items id ≡ None)
+  bare_pushed [] v zero e w = absurd cc
+  bare_pushed [] v (suc id) e w = absurd (omega (arith, w))
+  bare_pushed (x ∷ xs) v zero e w = (omega arith, e)
+  bare_pushed (x ∷ xs) v (suc id) e w = let r = bare_pushed xs v id e (omega (arith, w)) in (let u = r.0 in omega (arith, u), r.1)
+
+  -- no slot is free, and one more that has a record comes behind them
+  pub free_fresh : (n : ℕ) (items : List (Option T)) (links links' : List (Option ℕ)) (free new : Chain ℕ) (ids : List ℕ) (v : T) → length items ≡ n → IsFreeList n items links free ids → None ≡ first_of ids →
+      IsChain (λ id. id < n) (at links) new (rest_of ids) → IsFreeList (n + 1) (items ++ Some v ∷ []) links' new []
+  free_fresh n items links links' free new (y ∷ ys) v l f e c = absurd cc
+  free_fresh n items links links' free new [] v l f e c = record {
+    line = empty_chain (λ id. id < n + 1) (at links') new (c.first, c.last);
+    bare = tt;
+    all = λ id w h a. let r = bare_pushed items v id h (omega (arith, w, l)) in f.all id (let u = r.0 in omega (arith, u, l)) r.1 tt;
+  }
 
   -- a slot that has a record gets another one
   pub free_changed : (n : ℕ) (items : List (Option T)) (links : List (Option ℕ)) (free : Chain ℕ) (ids : List ℕ) (id : ℕ) (v : T) → id < length items → IsTaken items id →

@@ -1,5 +1,5 @@
 mod Columns
-mod Filling
 mod FreeLists
 mod Keeping
+mod Padding
 pub mod SlotLaws

@@ -1,10 +1,14 @@
 -- What cells keep, and the free slots among them.
-use Rattle.std.specs.Prelude.{◌≡◌, ◌<◌, ◌≤◌, ℕ, List, map, length, Option, None}
+use Rattle.std.specs.Prelude.{◌≡◌, ◌<◌, ◌≤◌, ◌-◌, ◌++◌, ℕ, List, map, length, replicate, Option, None}
 use Rattle.pc_types.specs.declared.limits.TheConstants.{MOST_KEYS}
 use Rattle.pc_chain.specs.declared.chain.Chain.{Chain}
 use Rattle.pc_chain.specs.Chains.{Avoids, AllHave, IsChain}
 use Rattle.pc_arena.specs.declared.cells.Cell.{Cell}
 use Rattle.pc_arena.specs.Slots.{Slots, at}
+
+-- so many more behind the list, each None
+abbrev pub padded : {X : Type 0} → ℕ → List (Option X) → List (Option X)
+padded n xs = xs ++ replicate n None
 
 module _ {T : Type 0} where
   -- the records of the cells
@@ -15,9 +19,13 @@ module _ {T : Type 0} where
   abbrev pub links_of : List (Cell T) → List (Option ℕ)
   links_of cells = map (λ (c : Cell T). c.link) cells
 
-  -- what is seen of cells
-  abbrev pub slots_of : List (Cell T) → Slots T
-  slots_of cells = record { items = items_of cells; links = links_of cells }
+  -- how many slots of so many were never written
+  abbrev pub unwritten : ℕ → List (Cell T) → ℕ
+  unwritten capacity cells = capacity - length cells
+
+  -- what is seen of so many slots, of which the first have these cells and the others were never written
+  abbrev pub slots_of : ℕ → List (Cell T) → Slots T
+  slots_of capacity cells = record { items = padded (unwritten capacity cells) (items_of cells); links = padded (unwritten capacity cells) (links_of cells) }
 
   -- these slots, and no others of the first n, have no record, and over these links the chain is the list of them
   pub record IsFreeList (n : ℕ) (items : List (Option T)) (links : List (Option ℕ)) (free : Chain ℕ) (ids : List ℕ) : Type 0 where
@@ -25,8 +33,9 @@ module _ {T : Type 0} where
     pub bare : AllHave (λ id. at items id ≡ None) ids
     pub all : (id : ℕ) → id < n → at items id ≡ None → Avoids id ids → ⊥
 
-  -- the chain is the list of the slots without a record
-  pub record IsKept (cells : List (Cell T)) (free : Chain ℕ) : Type 0 where
+  -- the chain is the list of the slots that were written and have no record
+  pub record IsKept (capacity : ℕ) (cells : List (Cell T)) (free : Chain ℕ) : Type 0 where
     pub ids : List ℕ
     pub list : IsFreeList (length cells) (items_of cells) (links_of cells) free ids
-    pub small : length cells ≤ MOST_KEYS
+    pub within : length cells ≤ capacity
+    pub small : capacity ≤ MOST_KEYS

@@ -1,8 +1,7 @@
 //! The arena itself.
-ghost use Rattle.std.specs.Prelude.{◌≡◌, ◌≢◌, ◌<◌, ◌≤◌, ℕ, length, replicate, IfOk, IfErr, OnErr, is_err, Some, None, option_copied, slice_set};
+ghost use Rattle.std.specs.Prelude.{◌≡◌, ◌≢◌, ◌≤◌, ℕ, length, IfOk, IfErr, OnErr, is_err, Some, None, option_copied, slice_set};
 ghost use Rattle.std.specs.Borrow.{sem};
 ghost use Rattle.pc_arena.specs.Lending.{LendsItem};
-ghost use Rattle.pc_arena.specs.Cells.{items_of};
 ghost use Rattle.pc_arena.specs.Slots.{at, is_full, with_item, IsTaken, IsFree, AllFree};
 
 use crate::cells::{ByLink, Cell, Cells};
@@ -13,26 +12,31 @@ use std::marker::Model;
 use std::mem;
 
 /// Records in slots, which are numbered from 0; a slot without a record is free. Each slot has a word of links beside its
-/// record, which leads to another slot or to none. The arena is seen as the records by slot, and the links. All memory is
-/// taken when it is made: it never has more slots, or fewer, and no record moves.
+/// record, which leads to another slot or to none. The arena is seen as the records by slot, and the links. The memory of
+/// all slots is reserved when it is made: it never has more slots, or fewer, and no record moves. A slot is written when it
+/// is first taken, and is seen until then as one that is free and leads to none; so an arena of which few slots were ever
+/// taken touches little of its memory.
 ///
-/// The free slots are linked by the same word, in the order in which they will be taken. So the link of a slot is anyone's
-/// as long as the slot has a record (`Links<ByLink>`), and has no meaning that lasts beyond that.
+/// The slots that were freed are linked by the same word, in the order in which they will be taken: all of them before a
+/// slot is taken for the first time. So the link of a slot is anyone's as long as the slot has a record (`Links<ByLink>`),
+/// and has no meaning that lasts beyond that.
 #[derive(Drop)]
 pub struct Arena<T> {
     cells: Cells<T>,
     free: Chain<SlotId>,
+    capacity: u32,
 }
 
 impl<T> Model for Arena<T> {
+    ghost use Rattle.std.specs.Prelude.{◌≤◌, vec_capacity};
     ghost use Rattle.pc_arena.specs.Slots.{Slots};
     ghost use Rattle.pc_arena.specs.Cells.{slots_of, IsKept};
 
     ghost Value = { Slots T };
 
-    ghost view = { λ a. slots_of a.cells.cells.items };
+    ghost view = { λ a. slots_of a.capacity a.cells.cells.items };
 
-    ghost invariant = { λ a. IsKept a.cells.cells.items a.free };
+    ghost invariant = { λ a. IsKept a.capacity a.cells.cells.items a.free × (a.capacity ≤ vec_capacity a.cells.cells) };
 }
 
 impl<T> Links<ByLink> for Arena<T> {
@@ -73,14 +77,15 @@ impl<T> Arena<T> {
         ensures count { result ≡ length self.now.items }
         ensures most { result ≤ MOST_KEYS }
     {
-        self.cells.cells.len() as u32
+        self.capacity
     }
 
     /// Whether each slot has a record.
     pub fn is_full(&self) -> bool
         ensures { result ≡ is_full self.now.items }
     {
-        self.free.first::<ByLink, Cells<T>>(&self.cells).is_none()
+        self.cells.cells.len() as u32 == self.capacity
+            && self.free.first::<ByLink, Cells<T>>(&self.cells).is_none()
     }
 
     /// The record in the slot, which has one.
@@ -122,14 +127,13 @@ impl<T: Drop> Arena<T> {
         ensures slots { IfOk result (λ arena. length arena.items ≡ slots) }
         ensures free { IfOk result (λ arena. AllFree arena.items) }
     {
-        let mut cells = Cells {
-            cells: blank_cells(alloc, slots)?,
-        };
-        let mut free = Chain::new();
-        for id in 0..slots {
-            free.push_back::<ByLink, Cells<T>>(&mut cells, SlotId(id));
-        }
-        Ok(Arena { cells, free })
+        Ok(Arena {
+            cells: Cells {
+                cells: Vec::with_capacity(alloc, slots as usize)?,
+            },
+            free: Chain::new(),
+            capacity: slots,
+        })
     }
 
     /// Puts the record into a free slot and gives the slot. Refuses with `Full` exactly where no slot is free, and the arena
@@ -141,11 +145,19 @@ impl<T: Drop> Arena<T> {
         ensures refusal { IfErr result (λ e. e ≡ Refusal.Full) }
         ensures err { OnErr result (self.new ≡ self.old) }
     {
-        let Some(id) = self.free.pop_front::<ByLink, Cells<T>>(&self.cells) else {
+        if let Some(id) = self.free.pop_front::<ByLink, Cells<T>>(&self.cells) {
+            self.cells.cells[id.0 as usize].item = Some(item);
+            return Ok(id);
+        }
+        let written = self.cells.cells.len() as u32;
+        if written == self.capacity {
             return Err(Refusal::Full);
-        };
-        self.cells.cells[id.0 as usize].item = Some(item);
-        Ok(id)
+        }
+        self.cells.cells.push_reserved(Cell {
+            link: None,
+            item: Some(item),
+        });
+        Ok(SlotId(written))
     }
 
     /// Takes the record out of the slot, which has one, and is free from then on. Other records stay, and so do the links of
@@ -163,19 +175,4 @@ impl<T: Drop> Arena<T> {
         self.free.push_back::<ByLink, Cells<T>>(&mut self.cells, id);
         item
     }
-}
-
-// So many cells without a record.
-fn blank_cells<T: Drop>(alloc: Global, slots: u32) -> Result<Vec<Cell<T>>, AllocError>
-    ensures count { IfOk result (λ cells. length cells.items ≡ slots) }
-    ensures bare { IfOk result (λ cells. items_of cells.items ≡ replicate slots None) }
-{
-    let mut cells = Vec::with_capacity(alloc, slots as usize)?;
-    for _ in 0..slots {
-        cells.push(Cell {
-            link: None,
-            item: None,
-        })?;
-    }
-    Ok(cells)
 }

@@ -1,5 +1,5 @@
 //! Cells: what a slot keeps.
-ghost use Rattle.std.specs.Prelude.{◌≡◌, ◌≢◌, ◌<◌, ℕ, length, Some, IsSome};
+ghost use Rattle.std.specs.Prelude.{◌≡◌, ◌≢◌, ◌<◌, ℕ, length, Some, IsSome, vec_capacity};
 ghost use Rattle.std.specs.Borrow.{sem, Lends};
 ghost use Rattle.std.specs.contracts.option.Option.{the_row as the_option};
 ghost use Rattle.pc_arena.specs.Slots.{at};
@@ -42,7 +42,7 @@ fn some_mut<T>(option: &mut Option<T>) -> &mut T
     }
 }
 
-/// The cells of all slots.
+/// The cells of the slots that were ever taken: the first of the arena's slots.
 #[derive(Drop)]
 pub(crate) struct Cells<T> {
     pub(crate) cells: Vec<Cell<T>>,
@@ -53,7 +53,7 @@ pub(crate) struct Cells<T> {
 pub struct ByLink;
 
 impl<T> Links<ByLink> for Cells<T> {
-    ghost use Rattle.std.specs.Prelude.{◌<◌, ◌≡◌, length, refl};
+    ghost use Rattle.std.specs.Prelude.{◌<◌, ◌≡◌, length, refl, vec_capacity};
     ghost use Rattle.std.proofs.Common.{◌∙◌};
     ghost use Rattle.pc_arena.specs.Slots.{at};
     ghost use Rattle.pc_arena.specs.Cells.{links_of, items_of};
@@ -64,7 +64,7 @@ impl<T> Links<ByLink> for Cells<T> {
 
     ghost next_of = { λ c id. at (links_of c.cells.items) id };
 
-    ghost beside = { λ a b. items_of b.cells.items ≡ items_of a.cells.items };
+    ghost beside = { λ a b. (items_of b.cells.items ≡ items_of a.cells.items) × (vec_capacity b.cells ≡ vec_capacity a.cells) };
 
     fn next(&self, id: SlotId) -> Option<SlotId> {
         self.cells[id.0 as usize].link
@@ -75,12 +75,12 @@ impl<T> Links<ByLink> for Cells<T> {
         ensures set { at (links_of self.new.cells.items) id ≡ next }
         ensures others { (other : ℕ) → other ≢ id → at (links_of self.new.cells.items) other ≡ at (links_of self.old.cells.items) other }
         ensures has { (other : ℕ) → other < length self.old.cells.items → other < length self.new.cells.items }
-        ensures beside { items_of self.new.cells.items ≡ items_of self.old.cells.items }
+        ensures beside { (items_of self.new.cells.items ≡ items_of self.old.cells.items) × (vec_capacity self.new.cells ≡ vec_capacity self.old.cells) }
     {
         self.cells[id.0 as usize].link = next;
     }
 
-    ghost beside_same = { λ a. refl };
+    ghost beside_same = { λ a. (refl, refl) };
 
-    ghost beside_then = { λ a b c p q. q ∙ p };
+    ghost beside_then = { λ a b c p q. (q.0 ∙ p.0, q.1 ∙ p.1) };
 }
