@@ -1,5 +1,5 @@
 //! A write set: the final write of each key.
-ghost use Rattle.std.specs.Prelude.{◌≡◌, ◌<◌, ◌==◌, ◌&&◌, [], length, slice_set, is_none, is_some, IsOk, OnOk, IfOk, IfErr};
+ghost use Rattle.std.specs.Prelude.{◌≡◌, ◌<◌, ◌≤◌, ◌+◌, ◌==◌, ◌&&◌, [], length, slice_set, is_none, is_some, IsOk, OnOk, IfOk, IfErr, vec_len, vec_capacity};
 ghost use Rattle.pc_model.specs.Database.{with_write, written};
 ghost use Rattle.pc_model.specs.DistinctWrites.{AreDistinct};
 ghost use Rattle.pc_model.specs.Places.{IsAt, IsGap};
@@ -80,7 +80,7 @@ impl WriteSet {
         ensures at_hand { 0 < self.old.room → IsOk result }
         ensures same { self.new.items ≡ self.old.items }
     {
-        self.writes.reserve(1)?;
+        make_room(&mut self.writes)?;
         self.order.reserve(1)?;
         Ok(())
     }
@@ -115,6 +115,21 @@ impl WriteSet {
         let WriteSet { mut writes, .. } = self;
         writes.shrink_to_fit();
         Items::from_vec(writes)
+    }
+}
+
+// Makes room for a write: for the first one alone, since most transactions write one key, and then for ever more at once.
+fn make_room(writes: &mut Vec<Write>) -> Result<(), AllocError>
+    ensures room { OnOk result (vec_len writes.new + 1 ≤ vec_capacity writes.new) }
+    ensures at_hand { vec_len writes.old + 1 ≤ vec_capacity writes.old → IsOk result }
+    ensures same { writes.new.items ≡ writes.old.items }
+    ensures len { vec_len writes.new ≡ vec_len writes.old }
+    ensures capacity { vec_capacity writes.old ≤ vec_capacity writes.new }
+{
+    if writes.is_empty() {
+        writes.reserve_exact(1)
+    } else {
+        writes.reserve(1)
     }
 }
 
