@@ -1,7 +1,8 @@
 -- What each step of the checkpointer leaves of a world that stands after a history.
 use Rattle.std.proofs.Common.{◌≡◌, ℕ, ◌+◌, List, [], ◌∷◌, ◌++◌, length, map, append-nil, subst, Option, Some, None, is_none, refl, sym, ap, ◌∙◌, cond, true, false, Bool, not, eqb, ◌||◌}
 use Rattle.std.specs.Prelude.{IfSome}
-use Rattle.std.specs.List.{IsDistinct, AllByRecursion}
+use Rattle.std.specs.FinMap.{put as put_entry}
+use Rattle.std.specs.List.{IsDistinct}
 use Rattle.pc_types.specs.declared.Event.{Event}
 use Rattle.pc_types.specs.declared.Event.TheVariants as asked
 use Rattle.pc_types.specs.declared.Reply.{Reply}
@@ -14,7 +15,7 @@ use Rattle.pc_types.specs.declared.Step.{Step}
 use Rattle.pc_types.specs.declared.Entry.{Entry}
 use Rattle.pc_types.specs.declared.Entry.TheVariants.{Token}
 use Rattle.pc_model.specs.Maps as map_of
-use Rattle.pc_model.specs.Database.{same_bytes}
+use Rattle.pc_model.specs.Database.{key_cmp, same_bytes}
 use Rattle.pc_model.specs.Log.{after, is_resolve}
 use Rattle.pc_model.specs.Files.{File, shelf, shelved_by, file_at, join_of, triples_taken}
 use Rattle.pc_model.specs.History.{History, effect, effect_of, log_of, begun, phase_of, point_of, entries_by, begun_by, phase_by, point_by}
@@ -22,7 +23,7 @@ use Rattle.pc_types.specs.declared.Class.{Class}
 use Rattle.pc_model.specs.History.Effect.{Moves, Nothing}
 use Rattle.pc_types.specs.declared.Class.TheVariants.{Before, During, After}
 use Rattle.pc_model.specs.Locks.{queue_of, queue_by}
-use Rattle.pc_model.specs.Points.{is_among, touched, taken, taken_by}
+use Rattle.pc_model.specs.Points.{Triples, is_among, touched, taken, taken_by}
 use Rattle.pc_model.specs.Replies.{Setting, first_refusal, or_else, not_yet, is_in, active_in, log_is_full, join_refusal, join_causes, IsFileReply, is_empty, open_set, written_by, closed_set, TakesFirst as AnswersFirst}
 use Rattle.pc_types.specs.Phases.{same_phase}
 use Rattle.pc_model.specs.Headline.{is_taking}
@@ -34,16 +35,17 @@ use Rattle.pc_model.proofs.StandingLaws.{closed_stays, each_key_once, none_left,
 use Rattle.pc_model.specs.LegalEffects.{changes_closed}
 use Rattle.pc_engine.specs.Store.{Store, setting_of}
 use Rattle.pc_engine.specs.Steps.{after_moving, after_sealing, start_causes, move_due, take_due, done_due, part_taken, StartsPoint, Moves as MovesOn, Seals, TakesFirst, Takes, Shelves, Joins}
-use Rattle.pc_engine.specs.Stands.{IsReadOff, Stands, Follows}
+use Rattle.pc_engine.specs.Stands.{IsReadOff, Stands, Follows, by_key}
 use Rattle.pc_records.proofs.FollowingLaws.{same_records}
 use Rattle.pc_records.proofs.CycleLaws.{closed_records, left_records, taken_value}
 use Rattle.pc_engine.specs.Sessions.{count_of}
 use Rattle.pc_records.specs.Rows.{record_of, at_point}
 use Rattle.pc_engine.proofs.ActiveSessions.{active_by, count_now}
+use Rattle.pc_engine.proofs.Gathered.{apart_from, by_key_more, by_key_none, count_by_key, earlier_apart, front_once, same_triples}
 use Rattle.pc_engine.proofs.Owing.{with_step, IsLeft, owes_follows, refused_idle, states_stay}
 
 -- the phase has changed, but not to resolve
-moved_off : (w : Store) (h : History) (step : Step) (to : Phase) (n : ℕ) → HasLegalEffects (setting_of w) (step ∷ h) → effect step ≡ Moves to n → is_resolve to ≡ false → (is_taking to ≡ true → w.cycle.taken ≡ taken h) → IsReadOff w h →
+moved_off : (w : Store) (h : History) (step : Step) (to : Phase) (n : ℕ) → HasLegalEffects (setting_of w) (step ∷ h) → effect step ≡ Moves to n → is_resolve to ≡ false → (is_taking to ≡ true → w.cycle.taken ≡ by_key (taken h)) → IsReadOff w h →
     IsReadOff (after_moving to n w) (step ∷ h)
 moved_off w h step to n legal e other taking parts =
     let log : log_of (step ∷ h) ≡ log_of h ++ Token to n ∷ [] = ap (λ d. log_of h ++ entries_by d h) e in
@@ -63,7 +65,7 @@ moved_off w h step to n legal e other taking parts =
         point = sym (ap (λ d. point_by d (point_of h)) e);
         open_set = parts.cycle.open_set ∙ sym written;
         closed_set = parts.cycle.closed_set ∙ sym closed;
-        taken = λ t. taking (ap is_taking (sym phase) ∙ t) ∙ sym takes;
+        taken = λ t. taking (ap is_taking (sym phase) ∙ t) ∙ sym (ap by_key takes);
         shelved = parts.cycle.shelved ∙ sym (ap (λ d. shelf w.base.run h ++ shelved_by w.base.run d h (shelf w.base.run h)) e ∙ append-nil (shelf w.base.run h));
       };
     }
@@ -78,11 +80,6 @@ yet_idle event n = by_none (eqb n 0) (not_yet_does_nothing event n)
 idle_or : (event : Event) (a b : Option Reply) → IfSome a (λ d. effect_of event d ≡ Nothing) → IfSome b (λ d. effect_of event d ≡ Nothing) → IfSome (or_else a b) (λ d. effect_of event d ≡ Nothing)
 idle_or event None b p q = q
 idle_or event (Some d) b p q = p
-
--- of keys that stand once each a first one isn't among the others
-apart_from : (key : List ℕ) (keys : List (List ℕ)) → AllByRecursion (λ k. same_bytes key k ≡ false) keys → is_among keys key ≡ false
-apart_from key [] all = refl
-apart_from key (k ∷ keys) all = ap (λ b. b || is_among keys key) all.0 ∙ apart_from key keys all.1
 
 next_apart : (gone : List (List ℕ)) (key : List ℕ) (keys : List (List ℕ)) → IsDistinct same_bytes (gone ++ key ∷ keys) → is_among keys key ≡ false
 unfolding IsDistinct
@@ -170,7 +167,7 @@ module _ (old new : Store) (h : History) (reply : Reply) (stands : Stands old h)
                 point = refl;
                 open_set = refl;
                 closed_set = stands.parts.cycle.open_set ∙ sym (closes.0 ∙ closes.1);
-                taken = λ t. refl;
+                taken = λ t. sym by_key_none;
                 shelved = stands.parts.cycle.shelved ∙ sym (append-nil (shelf old.base.run h));
               };
             },
@@ -229,7 +226,8 @@ module _ (old new : Store) (h : History) (reply : Reply) (stands : Stands old h)
           let past : is_past_token (phase_of h) ≡ true = ap is_past_token captures in
           let keys = each_key_once st h legal_before in
           let order : map (λ t. t.0) (taken h) ++ k ∷ ks ≡ touched (point_of h) (log_of h) = ap (λ more. map (λ t. t.0) (taken h) ++ more) is ∙ keys.taken_and_left (past_token st h legal_before past) in
-          let once : is_among ks k ≡ false = next_apart (map (λ t. t.0) (taken h)) k ks (subst (IsDistinct same_bytes) (sym order) keys.once) in
+          let distinct = subst (IsDistinct same_bytes) (sym order) keys.once in
+          let once : is_among ks k ≡ false = next_apart (map (λ t. t.0) (taken h)) k ks distinct in
           let closed : closed_set (with_step h asked.Take (told.Took k content)) ≡ ks = take_leaves st h (record { event = asked.Take; reply = told.Took k content }) legal_before k content ks refl (sym is) in
           rw (d.0, d.1) (
             refl,
@@ -244,7 +242,7 @@ module _ (old new : Store) (h : History) (reply : Reply) (stands : Stands old h)
                 point = stands.parts.cycle.point;
                 open_set = stands.parts.cycle.open_set;
                 closed_set = sym closed;
-                taken = λ t. ap (λ ts. ts ++ (k, content) ∷ []) (stands.parts.cycle.taken taking);
+                taken = λ t. ap (put_entry key_cmp k content) (stands.parts.cycle.taken taking) ∙ by_key_more (taken h) k content (earlier_apart (map (λ t. t.0) (taken h)) k ks distinct);
                 shelved = stands.parts.cycle.shelved ∙ sym (append-nil (shelf old.base.run h));
               };
             },
@@ -255,7 +253,7 @@ module _ (old new : Store) (h : History) (reply : Reply) (stands : Stands old h)
   shelves_follows step =
       owes_follows old new h asked.Done reply _ (done_due old) stands tt same idle step
       (λ none d. d.0 ∙ ap (λ n. told.PartDone n (length old.shelf + 1) (length old.cycle.taken)) stands.parts.cycle.point ∙ ap (λ (fs : List File). told.PartDone (point_of h) (length fs + 1) (length old.cycle.taken)) stands.parts.cycle.shelved
-      ∙ ap (λ ts. told.PartDone (point_of h) (length (shelf old.base.run h) + 1) (length ts)) (stands.parts.cycle.taken (ap is_taking (is_phase Capture (first_phase Capture _ none)))))
+      ∙ ap (λ n. told.PartDone (point_of h) (length (shelf old.base.run h) + 1) n) (counted (is_phase Capture (first_phase Capture _ none))))
       (λ none d legal. rw (d.0, d.1) (shelved_off (first_phase Capture _ none) (rw d.0 at legal)))
     where
       late : List (Bool × Refusal)
@@ -273,12 +271,20 @@ module _ (old new : Store) (h : History) (reply : Reply) (stands : Stands old h)
           idle_or asked.Done (first_refusal ((not (same_phase old.cycle.phase Capture), why.WrongPhase) ∷ [])) (or_else (not_yet (length old.cycle.closed_set)) (first_refusal late)) (refused_idle asked.Done ((not (same_phase old.cycle.phase Capture), why.WrongPhase) ∷ []))
           (idle_or asked.Done (not_yet (length old.cycle.closed_set)) (first_refusal late) (yet_idle asked.Done (length old.cycle.closed_set)) (refused_idle asked.Done late))
 
+      -- as many entries as keys that were taken
+      counted : phase_of h ≡ Capture → length old.cycle.taken ≡ length (taken h)
+      counted captures =
+          let keys = each_key_once st h legal_before in
+          let order = keys.taken_and_left (past_token st h legal_before (ap is_past_token captures)) in
+          ap (λ (ts : List (List ℕ × Option (List ℕ))). length ts) (stands.parts.cycle.taken (ap is_taking captures)) ∙ count_by_key (taken h) (front_once (map (λ t. t.0) (taken h)) (closed_set h) (subst (IsDistinct same_bytes) (sym order) keys.once))
+
       shelved_off : is_in Capture h ≡ true → HasLegalEffects st (with_step h asked.Done (told.PartDone old.cycle.point (length old.shelf + 1) (length old.cycle.taken))) →
           IsLeft old (record old { log = old.log ++ Token Complete old.cycle.point ∷ []; cycle = record old.cycle { phase = Complete; taken = [] }; shelf = old.shelf ++ part_taken old ∷ [] }) h asked.Done (told.PartDone old.cycle.point (length old.shelf + 1) (length old.cycle.taken))
       shelved_off captures legal =
           let done : Step = record { event = asked.Done; reply = told.PartDone old.cycle.point (length old.shelf + 1) (length old.cycle.taken) } in
           let closed : closed_set (done ∷ h) ≡ closed_set h = closed_stays st h done legal refl in
-          let takes : old.cycle.taken ≡ taken h = stands.parts.cycle.taken (ap is_taking (is_phase Capture captures)) in (
+          let takes : triples_taken old.cycle.point old.cycle.taken ≡ triples_taken old.cycle.point (taken h) =
+          ap (triples_taken old.cycle.point) (stands.parts.cycle.taken (ap is_taking (is_phase Capture captures))) ∙ same_triples old.cycle.point (taken h) in (
             refl,
             record {
               records = same_records old.base.pairs old.kept.rows h (done ∷ h) (after-append old.base.pairs (log_of h) (Token Complete old.cycle.point ∷ [])) (λ q. refl) refl closed (states_stay st h done legal) stands.parts.records;
@@ -293,7 +299,7 @@ module _ (old new : Store) (h : History) (reply : Reply) (stands : Stands old h)
                 closed_set = stands.parts.cycle.closed_set ∙ sym closed;
                 taken = λ t. cc;
                 shelved = ap (λ (fs : List File). fs ++ part_taken old ∷ []) stands.parts.cycle.shelved
-                    ∙ ap (λ ts. shelf old.base.run h ++ record { run = old.base.run; points = Rattle.pc_model.specs.Sets.insert Rattle.pc_model.specs.Sets.empty old.cycle.point; triples = triples_taken old.cycle.point ts } ∷ []) takes;
+                    ∙ ap (λ (triples : Triples). shelf old.base.run h ++ record { run = old.base.run; points = Rattle.pc_model.specs.Sets.insert Rattle.pc_model.specs.Sets.empty old.cycle.point; triples = triples } ∷ []) takes;
               };
             },
             tt,

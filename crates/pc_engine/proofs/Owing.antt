@@ -32,7 +32,7 @@ use Rattle.pc_records.proofs.WaitingLaws.{waiting_now}
 use Rattle.pc_engine.specs.Sessions.{number_in, has_died_in}
 use Rattle.pc_engine.specs.Store.{Active, Store, Cycle, setting_of, active}
 use Rattle.pc_engine.specs.Steps.{open_causes, Owes}
-use Rattle.pc_engine.specs.Stands.{IsCycle, IsReadOff, Stands, KeepsPoints, Follows}
+use Rattle.pc_engine.specs.Stands.{IsCycle, IsReadOff, Stands, KeepsPoints, Follows, by_key}
 use Rattle.pc_engine.proofs.ActiveSessions.{active_now, active_by}
 use Rattle.pc_engine.proofs.Serial.{is_serial}
 
@@ -63,7 +63,7 @@ same_cycle st c files h step legal phase point written same takes shelved was = 
   point = was.point ∙ sym point;
   open_set = was.open_set ∙ sym written;
   closed_set = was.closed_set ∙ sym (closed_stays st h step legal same);
-  taken = λ t. was.taken (rw phase at t) ∙ sym takes;
+  taken = λ t. was.taken (rw phase at t) ∙ sym (ap by_key takes);
   shelved = was.shelved ∙ sym shelved;
 }
 

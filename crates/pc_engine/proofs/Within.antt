@@ -102,7 +102,7 @@ module _ (begun : ℕ) (log : List Entry) (phase : Phase) (point : ℕ) (open_ke
       }
 
   -- the first key of the closed set is taken
-  pub taken_within : (ss : List (Option Active)) (opened left : List (List ℕ)) (key : List ℕ) (keys : List (List ℕ)) (all : List (List ℕ × Option (List ℕ))) → IsWithinLimits begun log ss phase point open_keys closed taken shelf → opened ≡ open_keys → closed ≡ key ∷ keys → left ≡ keys → length all ≡ length taken + 1 →
+  pub taken_within : (ss : List (Option Active)) (opened left : List (List ℕ)) (key : List ℕ) (keys : List (List ℕ)) (all : List (List ℕ × Option (List ℕ))) → IsWithinLimits begun log ss phase point open_keys closed taken shelf → opened ≡ open_keys → closed ≡ key ∷ keys → left ≡ keys → length all ≤ length taken + 1 →
       IsWithinLimits begun log ss phase point opened left all shelf
   taken_within ss opened left key keys all limits a first b one = rw (a, b) (record {
     most_begun = limits.most_begun;

@@ -4,6 +4,7 @@ use Rattle.pc_types.specs.declared.Event.{Event}
 use Rattle.pc_types.specs.declared.Reply.{Reply}
 use Rattle.pc_types.specs.declared.Reply.TheVariants as told
 use Rattle.pc_model.specs.Maps as map_of
+use Rattle.pc_model.specs.Database.{key_order}
 use Rattle.pc_model.specs.Points.{taken}
 use Rattle.pc_model.specs.Log.{after}
 use Rattle.pc_model.specs.History.{History, log_of, begun, is_open, number_of, class_of, has_died, writes_of, phase_of, point_of}
@@ -16,13 +17,17 @@ use Rattle.pc_records.specs.Rows.{record_of, stored}
 use Rattle.pc_records.specs.Following.{AreRecords}
 use Rattle.pc_engine.specs.Store.{Active, Store, Cycle, setting_of, active}
 
+-- what was taken, in the order of keys; of each key the first
+abbrev pub by_key : List (List ℕ × Option (List ℕ)) → List (List ℕ × Option (List ℕ))
+by_key takes = (map_of.from_list {o = key_order} takes).entries
+
 -- the cycle and the shelf are what the history says
 pub record IsCycle (run : ℕ) (c : Cycle) (files : List File) (history : History) : Type 0 where
   pub phase : c.phase ≡ phase_of history
   pub point : c.point ≡ point_of history
   pub open_set : c.open_set ≡ open_set history
   pub closed_set : c.closed_set ≡ closed_set history
-  pub taken : is_taking (phase_of history) ≡ true → c.taken ≡ taken history
+  pub taken : is_taking (phase_of history) ≡ true → c.taken ≡ by_key (taken history)
   pub shelved : files ≡ shelf run history
 
 -- the session's open transaction, by the history

@@ -1,5 +1,6 @@
 -- What one event does to a world.
 use Rattle.std.specs.Prelude.{◌≡◌, ℕ, ◌+◌, ◌-◌, ◌<◌, ◌==◌, not, Bool, false, List, [], ◌∷◌, ◌++◌, length, map, Option, Some, None, ◌⊎◌, is_some, is_none, if◌then◌else◌, MatchOption}
+use Rattle.std.specs.FinMap.{put as put_entry}
 use Rattle.pc_types.specs.declared.Entry.TheVariants.{Commit, Token}
 use Rattle.pc_types.specs.declared.Phase.{Phase}
 use Rattle.pc_types.specs.declared.Phase.TheVariants as phase
@@ -8,7 +9,7 @@ use Rattle.pc_types.specs.declared.Reply.TheVariants as told
 use Rattle.pc_types.specs.declared.Refusal.{Refusal}
 use Rattle.pc_types.specs.declared.Refusal.TheVariants as why
 use Rattle.pc_types.specs.declared.limits.TheConstants.{MOST_FILES, MOST_LOG_ENTRIES, MOST_POINTS}
-use Rattle.pc_model.specs.Database.{written}
+use Rattle.pc_model.specs.Database.{key_cmp, written}
 use Rattle.pc_model.specs.Sets as set
 use Rattle.pc_model.specs.Files.{File, file_at, join_of, triples_taken}
 use Rattle.pc_model.specs.Replies.{first_refusal, or_else, not_yet, no_session, read_reply, value_read, by_outcome, is_empty, join_refusal, IsFileReply}
@@ -161,13 +162,13 @@ Seals old reply new =
 abbrev pub take_due : Store → Option Reply
 take_due w = or_else (first_refusal ((not (is_in phase.Capture w), why.WrongPhase) ∷ [])) (if is_empty w.cycle.closed_set then Some told.NoneLeft else None)
 
--- the first of these keys is taken with what it has at the point
+-- the first of these keys is taken with what it has at the point, and stands at its place among those that were taken
 abbrev pub TakesFirst : List (List ℕ) → Store → Reply → Store → Type 0
 TakesFirst [] old reply new = ⊥
 TakesFirst (key ∷ keys) old reply new =
     let content = at_point (record_of old.kept.rows key) in
     (reply ≡ told.Took key content)
-    × (new ≡ record old { kept = record old.kept { rows = left_rows old.kept.rows key }; cycle = record old.cycle { closed_set = keys; taken = old.cycle.taken ++ (key, content) ∷ [] } })
+    × (new ≡ record old { kept = record old.kept { rows = left_rows old.kept.rows key }; cycle = record old.cycle { closed_set = keys; taken = put_entry key_cmp key content old.cycle.taken } })
 
 -- a key of the closed set is taken
 abbrev pub Takes : Store → Reply → Store → Type 0

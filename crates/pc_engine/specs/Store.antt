@@ -17,7 +17,7 @@ pub record Active : Type 0 where
   pub writes : List Write
 
 -- Where the cycle of a checkpoint stands: its phase and point; the open set, the keys that commits wrote since the last
--- resolve token; the closed set, the keys of the point that are left to take; and what was taken of it, in this order.
+-- resolve token; the closed set, the keys of the point that are left to take; and what was taken of it, rising by key.
 pub record Cycle : Type 0 where
   pub phase : Phase
   pub point : ℕ

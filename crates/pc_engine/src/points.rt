@@ -5,11 +5,13 @@ ghost use Rattle.pc_phase.specs.Agreement.{reply_of};
 ghost use Rattle.pc_engine.specs.Counts.{holders};
 ghost use Rattle.pc_engine.specs.Steps.{StartsPoint, Seals, Moves, Takes, Shelves, Joins};
 
-use crate::shelving::{Shelvable, joined, part_of};
+use crate::shelving::{Shelvable, joined, keep};
 use crate::world::World;
+use pc_part::SharedPart;
 use pc_phase::{Change, Held, Phases};
 use pc_types::{Entry, FileNo, Key, MOST_FILES, Phase, Refusal, Reply, Value};
 use std::alloc::{AllocError, Global};
+use std::collections::BTreeMap;
 
 impl World {
     pub(crate) fn start_point(&mut self) -> Reply
@@ -45,7 +47,7 @@ impl World {
         change_phase(&mut self.phases, Change::Seal, 0);
         let (phase, point) = (self.phases.phase(), self.phases.point());
         self.log.append_reserved(Entry::Token(phase, point));
-        self.taken.clear();
+        self.taken = BTreeMap::new(self.alloc);
         self.records.close(point);
         Reply::Phase(phase, point)
     }
@@ -85,11 +87,10 @@ impl World {
         let Ok(pair) = copied(self.alloc, first, at_point) else {
             return Reply::Refused(Refusal::OutOfMemory);
         };
-        if self.taken.reserve(1).is_err() {
+        if keep(&mut self.taken, pair).is_err() {
             return Reply::Refused(Refusal::OutOfMemory);
         }
         self.records.take();
-        self.taken.push_reserved(pair);
         Reply::Took(key, content)
     }
 
@@ -106,19 +107,18 @@ impl World {
         if self.log.is_full() {
             return Reply::Refused(Refusal::LogFull);
         }
-        let point = self.phases.point();
-        let Ok(part) = part_of(self.alloc, self.base.run(), point, &self.taken) else {
-            return Reply::Refused(Refusal::OutOfMemory);
-        };
         if self.shelf.reserve(1).is_err() || self.log.reserve().is_err() {
             return Reply::Refused(Refusal::OutOfMemory);
         }
+        let (run, point) = (self.base.run(), self.phases.point());
         let entries = self.taken.len() as u32;
+        let Ok(part) = SharedPart::of_taken(self.alloc, run, point, &mut self.taken) else {
+            return Reply::Refused(Refusal::OutOfMemory);
+        };
         change_phase(&mut self.phases, Change::Done, left);
         self.log
             .append_reserved(Entry::Token(Phase::Complete, point));
         self.shelf.push_reserved(part);
-        self.taken.clear();
         Reply::PartDone(point, FileNo(self.shelf.len() as u32), entries)
     }
 

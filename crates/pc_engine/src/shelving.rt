@@ -1,41 +1,28 @@
-//! What was taken becomes a part, and parts on the shelf are joined.
-ghost use Rattle.std.specs.Prelude.{◌≡◌, ◌≤◌, ℕ, length, IfOk, IfErr, option_copied};
-ghost use Rattle.pc_model.specs.Sets as set;
-ghost use Rattle.pc_model.specs.Database.{KeysRise};
-ghost use Rattle.pc_model.specs.Files.{triples_taken, file_at};
+//! What is taken is kept in the order of keys, and parts on the shelf are joined.
+ghost use Rattle.std.specs.Prelude.{◌≡◌, IfOk, IfErr, OnOk, OnErr, option_copied};
+ghost use Rattle.std.specs.FinMap.{put as put_entry};
+ghost use Rattle.pc_model.specs.Database.{key_cmp};
+ghost use Rattle.pc_model.specs.Files.{file_at};
 ghost use Rattle.pc_engine.specs.Shelves.{IsJoin, IsShelvable};
 
 use pc_part::{Part, SharedPart, join};
-use pc_replay::first_of_each;
-use pc_types::{FileNo, Items, Key, MOST_FILE_ENTRIES, MOST_FILES, Point, Refusal, Value};
+use pc_types::{FileNo, Items, Key, MOST_FILES, Point, Refusal, Value};
 use std::alloc::{AllocError, Global};
+use std::collections::BTreeMap;
 
-/// The part of the point, made of what was taken of it.
-pub(crate) fn part_of(
-    alloc: Global,
-    run: u64,
-    point: Point,
-    taken: &[(Key, Option<Value>)],
-) -> Result<SharedPart, Refusal>
-    requires point { 1 ≤ point }
-    requires limit { length taken.now ≤ MOST_FILE_ENTRIES }
-    ensures { IfOk result (λ part. part ≡ record { run = run; points = set.insert set.empty point; triples = triples_taken point taken.now }) }
+/// Puts the pair among what was taken, in the place of its key. Where memory ran out what was taken stays.
+pub(crate) fn keep(
+    taken: &mut BTreeMap<Key, Option<Value>>,
+    pair: (Key, Option<Value>),
+) -> Result<(), AllocError>
+    ensures put { OnOk result (taken.new.entries ≡ put_entry key_cmp pair.0 pair.1 taken.old.entries) }
+    ensures kept { OnErr result (taken.new.entries ≡ taken.old.entries) }
 {
-    let entries = rising(alloc, taken)?;
-    let part = Part::of_point(alloc, run, point, entries)?;
-    SharedPart::new(alloc, part)
-}
-
-// The first pair of each key, rising by key.
-fn rising(
-    alloc: Global,
-    taken: &[(Key, Option<Value>)],
-) -> Result<Vec<(Key, Option<Value>)>, AllocError>
-    ensures rise { IfOk result (λ entries. KeysRise entries.items) }
-    ensures count { IfOk result (λ entries. length entries.items ≤ length taken.now) }
-    ensures same { IfOk result (λ entries. (point : ℕ) → triples_taken point entries.items ≡ triples_taken point taken.now) }
-{
-    first_of_each(alloc, taken)
+    let (key, content) = pair;
+    match taken.insert(key, content) {
+        Ok(_) => Ok(()),
+        Err(_) => Err(AllocError),
+    }
 }
 
 /// The owner on the shelf of the file of this number, from 1 on.

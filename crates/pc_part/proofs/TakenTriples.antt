@@ -10,7 +10,7 @@ use Rattle.pc_model.specs.Maps as map_of
 use Rattle.pc_model.specs.Sets as set
 use Rattle.pc_model.specs.Sets.{Set, number_order}
 use Rattle.pc_model.specs.Database.{key_cmp, KeysRise}
-use Rattle.pc_model.specs.Files.{triples_taken}
+use Rattle.pc_model.specs.Files.{File, triples_taken}
 use Rattle.pc_model.specs.TripleLists.{entries_of}
 use Rattle.pc_model.specs.Points.{Triples}
 use Rattle.pc_types.specs.declared.Triple.{Triple}
@@ -49,6 +49,11 @@ triples_same point (t ∷ taken) = ap (λ m. map_of.insert m t.0 (record { point
 -- the triples are those of what was taken
 pub taken_triples : (point : ℕ) (taken : Taken) (triples : List Triple) → triples ≡ map (triple_at point) taken → triples_of triples ≡ triples_taken point taken
 taken_triples point taken triples is = rw is (triples_same point taken)
+
+-- a part without an entry is the part of what was taken, once the triples of that are in it
+pub moved_in : (run point : ℕ) (part new : File) (triples : List Triple) (moved taken : Taken) → part ≡ record { run = run; points = set.insert set.empty point; triples = map_of.empty } → new ≡ record part { triples = triples_of triples } → triples ≡ map (triple_at point) moved → moved ≡ taken →
+    new ≡ record { run = run; points = set.insert set.empty point; triples = triples_taken point taken }
+moved_in run point part new triples moved taken first then is same = rw (then, first, taken_triples point moved triples is, same) refl
 
 -- rising triples are the entries of their map
 pub entries_known : (inside given : List Triple) (triples : Triples) → KeysRise (entries_of inside) → triples_of inside ≡ triples → given ≡ inside → entries_of given ≡ triples.entries

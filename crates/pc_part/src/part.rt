@@ -4,6 +4,7 @@ ghost use Rattle.pc_model.specs.Database.{KeysRise};
 ghost use Rattle.pc_model.specs.Files.{triples_taken};
 ghost use Rattle.pc_model.specs.TripleLists.{entries_of};
 ghost use Rattle.pc_model.specs.Ranges.{ranges_of};
+ghost use Rattle.pc_model.specs.Maps as map_of;
 ghost use Rattle.pc_model.specs.Sets as set;
 ghost use Rattle.pc_part.specs.Bases.{IsWithinLimit};
 ghost use Rattle.pc_part.specs.Parts.{AreCovered, AreRanges, CoversTo, bounds_of, points_of, triple_at, triples_of};
@@ -58,6 +59,26 @@ impl Part {
         let ranges = vec![in alloc; Range { low, high }]?;
         let entries = triples_at(alloc, point, entries)?;
         Ok(Part::from_lists(run, ranges, entries))
+    }
+
+    /// The part of the point without an entry. It fails only where memory ran out.
+    pub(crate) fn empty(alloc: Global, run: u64, point: Point) -> Result<Part, AllocError>
+        requires { 1 ≤ point }
+        ensures { IfOk result (λ part. part ≡ record { run = run; points = set.insert set.empty point; triples = map_of.empty }) }
+    {
+        let (low, high) = (point, point);
+        let ranges = vec![in alloc; Range { low, high }]?;
+        Ok(Part::from_lists(run, ranges, Vec::new(alloc)))
+    }
+
+    /// Has these entries in place of its own.
+    pub(crate) fn set_entries(&mut self, entries: Vec<Triple>)
+        requires rise { KeysRise (entries_of entries.items) }
+        requires covered { AreCovered self.old.points entries.items }
+        requires limit { IsWithinLimit entries.items }
+        ensures { self.new ≡ record self.old { triples = triples_of entries.items } }
+    {
+        self.entries = entries;
     }
 
     /// The part of these points with these entries.

@@ -1,10 +1,18 @@
 //! Parts that are shared by reference count.
-ghost use Rattle.std.specs.Prelude.{◌≡◌, IfOk, IfErr};
+ghost use Rattle.std.specs.Prelude.{◌≡◌, ◌≤◌, [], length, map, vec_capacity, IfOk, IfErr, OnOk, OnErr};
+ghost use Rattle.std.specs.BTreeMap.{IsOrdered};
+ghost use Rattle.pc_model.specs.Database.{key_cmp};
+ghost use Rattle.pc_model.specs.Sets as set;
+ghost use Rattle.pc_model.specs.Files.{triples_taken};
+ghost use Rattle.pc_part.specs.Bases.{IsWithinLimit};
+ghost use Rattle.pc_part.specs.Parts.{triple_at};
 
 use crate::part::Part;
-use pc_types::Refusal;
+use pc_types::{Key, Point, Refusal, Triple, Value};
 use std::alloc::Global;
+use std::collections::BTreeMap;
 use std::marker::Model;
+use std::mem;
 use std::sync::Arc;
 
 /// An owner of a part that others may own too, in any threads: at most 9,223,372,036,854,775,807 of one part. The part
@@ -39,6 +47,33 @@ impl SharedPart {
         }
     }
 
+    /// The part of the point, of what was taken of it, with one owner: what was taken is moved into it, and nothing is copied;
+    /// then nothing is left of it where it was. It is at most as much as a file may have. All memory is made before anything
+    /// is moved. Refuses with `OutOfMemory` alone; what was taken is then as it was.
+    pub fn of_taken(
+        alloc: Global,
+        run: u64,
+        point: Point,
+        taken: &mut BTreeMap<Key, Option<Value>>,
+    ) -> Result<SharedPart, Refusal>
+        requires point { 1 ≤ point }
+        requires limit { IsWithinLimit taken.old.entries }
+        ensures part { IfOk result (λ shared. shared ≡ record { run = run; points = set.insert set.empty point; triples = triples_taken point taken.old.entries }) }
+        ensures moved { OnOk result (taken.new.entries ≡ []) }
+        ensures kept { OnErr result (taken.new ≡ taken.old) }
+        ensures memory { IfErr result (λ e. e ≡ Refusal.OutOfMemory) }
+    {
+        let room = Vec::with_capacity(alloc, taken.len())?;
+        let part = Part::empty(alloc, run, point)?;
+        let mut shared = SharedPart::new(alloc, part)?;
+        let Some(part) = Arc::get_mut(&mut shared.part) else {
+            return Err(Refusal::OutOfMemory);
+        };
+        let taken = mem::replace(taken, BTreeMap::new(alloc));
+        part.set_entries(triples_of(room, point, taken));
+        Ok(shared)
+    }
+
     /// One more owner of the same part. It takes a constant time and no memory, and copies nothing. Refuses with
     /// `OutOfMemory` alone, which stands for the greatest number of owners.
     pub fn again(&self) -> Result<SharedPart, Refusal>
@@ -57,4 +92,22 @@ impl SharedPart {
     {
         &*self.part
     }
+}
+
+// What was taken as triples of the point, in the room that there is.
+fn triples_of(room: Vec<Triple>, point: Point, taken: BTreeMap<Key, Option<Value>>) -> Vec<Triple>
+    requires empty { room.items ≡ [] }
+    requires room { length taken.entries ≤ vec_capacity room }
+    ensures triples { result.items ≡ map (triple_at point) taken.entries }
+    ensures ordered { IsOrdered key_cmp taken }
+{
+    let mut triples = room;
+    for (key, content) in taken {
+        triples.push_reserved(Triple {
+            key,
+            point,
+            content,
+        });
+    }
+    triples
 }

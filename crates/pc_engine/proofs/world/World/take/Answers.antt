@@ -1,7 +1,7 @@
-use Rattle.std.proofs.Common.{ap, ◌∙◌, List, Option, ℕ, length}
-use Rattle.std.proofs.lemmas.List.{length-append}
+use Rattle.std.proofs.Common.{◌+◌, ◌≤◌, ap, subst, sym, List, Option, ℕ, length}
 use Rattle.pc_records.specs.Tables.{Table}
 use Rattle.pc_engine.proofs.FirstClosed.{first_key}
+use Rattle.pc_engine.proofs.Gathered.{length_put}
 use Rattle.pc_engine.proofs.Together.{taken_together, same_sets}
 use Rattle.pc_engine.proofs.Within.{taken_within}
 use Rattle.pc_engine.proofs.world.World.take.Goals as goal
@@ -12,8 +12,8 @@ invariant_of-self-2 c =
     let left = c.take.ensures.taken c.in-Some.first.now found.0 found.1 in
     let opened = ap (λ (t : Table). t.opened) left in
     let shut = ap (λ (t : Table). t.shut) left in
-    let added = rw c.reserve.ensures.items at c.push_reserved.ensures.items in (
-      taken_within _ _ _ _ _ _ _ _ _ _ _ c.in-Some.first.now found.0 _ c.self.invariant.0 opened found.1 shut (ap (λ (ts : List (List ℕ × Option (List ℕ))). length ts) added ∙ length-append c.self.inside.taken.items _),
+    let put = c.keep.ensures.put in (
+      taken_within _ _ _ _ _ _ _ _ _ _ _ c.in-Some.first.now found.0 _ c.self.invariant.0 opened found.1 shut (subst (λ (ts : List (List ℕ × Option (List ℕ))). length ts ≤ length c.self.inside.taken.entries + 1) (sym put) (length_put _ _ c.self.inside.taken.entries)),
       same_sets _ _ _ _ _ _ _ _ _ opened shut (taken_together c.self.inside.records c.take.new.self _ _ _ _ _ _ c.in-Some.first.now found.0 c.self.invariant.1 left found.1),
       c.self.invariant.2,
     )
