@@ -64,11 +64,14 @@ either_first q k l x y z apart = by_tests (same_bytes q l) (same_bytes q k) (λ 
 -- one more take, of a key that was not taken: it is found last
 find-last : (q k : List ℕ) (content : Option (List ℕ)) (takes : List Pair) → is_among (keys_in takes) k ≡ false → find key_cmp q (takes ++ (k, content) ∷ []) ≡ cond (same_bytes q k) (Some content) (find key_cmp q takes)
 find-last q k content [] apart = refl
-find-last q k content (t ∷ ts) apart = by_test (same_bytes k t.0) refl apart
+find-last q k content (t ∷ ts) apart = by_test (same_bytes k t.0) refl apart (λ e. find-last q k content ts e)
   where
-    by_test : (b : Bool) → same_bytes k t.0 ≡ b → (b || is_among (keys_in ts) k) ≡ false → find key_cmp q ((t ∷ ts) ++ (k, content) ∷ []) ≡ cond (same_bytes q k) (Some content) (find key_cmp q (t ∷ ts))
-    by_test true is e = cc
-    by_test false is e = ap (cond (same_bytes q t.0) (Some t.1)) (find-last q k content ts e) ∙ either_first q k t.0 (Some t.1) (Some content) (find key_cmp q ts) is
+    found_last : List Pair → Type 0
+    found_last takes = find key_cmp q (takes ++ (k, content) ∷ []) ≡ cond (same_bytes q k) (Some content) (find key_cmp q takes)
+
+    by_test : (b : Bool) → same_bytes k t.0 ≡ b → (b || is_among (keys_in ts) k) ≡ false → (is_among (keys_in ts) k ≡ false → found_last ts) → found_last (t ∷ ts)
+    by_test true is e others = cc
+    by_test false is e others = ap (cond (same_bytes q t.0) (Some t.1)) (others e) ∙ either_first q k t.0 (Some t.1) (Some content) (find key_cmp q ts) is
 
 -- so it has its place among the others
 pub by_key_more : (takes : List Pair) (k : List ℕ) (content : Option (List ℕ)) → is_among (keys_in takes) k ≡ false → put key_cmp k content (by_key takes) ≡ by_key (takes ++ (k, content) ∷ [])

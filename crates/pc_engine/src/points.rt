@@ -87,9 +87,9 @@ impl World {
         let Ok(pair) = copied(self.alloc, first, at_point) else {
             return Reply::Refused(Refusal::OutOfMemory);
         };
-        if keep(&mut self.taken, pair).is_err() {
+        let Ok(()) = keep(&mut self.taken, pair) else {
             return Reply::Refused(Refusal::OutOfMemory);
-        }
+        };
         self.records.take();
         Reply::Took(key, content)
     }
