@@ -278,7 +278,7 @@ impl Records {
     }
 }
 
-// Answers the transaction's request to read the key, or memory ran out and nothing changed.
+// Answers the transaction's request to read the key, or there was no room for it or memory ran out, and nothing changed.
 fn share(
     alloc: Global,
     table: &mut Table<Cell>,
@@ -307,10 +307,7 @@ fn share(
 {
     let mode = Mode::Shared;
     match table.find(key) {
-        Some(id) => {
-            let answer = locks.request(table, transaction, id, mode)?;
-            Ok(answer)
-        }
+        Some(id) => Ok(locks.request(table, transaction, id, mode)?),
         None => {
             request_new(alloc, table, locks, side, point, transaction, key, mode)?;
             Ok(Outcome::Granted)
@@ -318,8 +315,8 @@ fn share(
     }
 }
 
-// Answers the transaction's request to write the key, and writes it where the request is granted; or memory ran out and
-// nothing changed. What the slot may have to keep is copied before the locks are asked.
+// Answers the transaction's request to write the key, and writes it where the request is granted; or there was no room for
+// it or memory ran out, and nothing changed. What the slot may have to keep is copied before the locks are asked.
 fn write(
     alloc: Global,
     table: &mut Table<Cell>,
@@ -380,8 +377,8 @@ fn write(
     }
 }
 
-// Gives a key that has no slot one, with the transaction's request of it, which is granted; where memory ran out nothing
-// changed.
+// Gives a key that has no slot one, with the transaction's request of it, which is granted; where there was no room or memory
+// ran out nothing changed.
 fn request_new(
     alloc: Global,
     table: &mut Table<Cell>,

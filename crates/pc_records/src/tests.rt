@@ -1,5 +1,5 @@
 //! Tests of the moments of a slot, and of requests, releases and what keeps a slot.
-ghost use Rattle.std.specs.Prelude.{◌≡◌, []};
+ghost use Rattle.std.specs.Prelude.{◌≡◌, [], IfOk, IsErr};
 
 use crate::slots::Cell;
 use crate::{Records, versions};
@@ -175,7 +175,9 @@ enum Told {
     Granted,
     // It waits, or has to abort.
     Refused,
-    // A request of the transaction waits, or there is no room for the key.
+    // There is no room for the key.
+    NoRoom,
+    // A request of the transaction waits.
     NotAsked,
     Done,
     Is(bool),
@@ -183,7 +185,19 @@ enum Told {
     Count(usize),
 }
 
-use Told::{Content, Count, Done, Granted, Is, NotAsked, Refused};
+use Told::{Content, Count, Done, Granted, Is, NoRoom, NotAsked, Refused};
+
+// What an answer or a refusal says.
+fn told_of(answer: Result<Outcome, Refusal>) -> Result<Told, Refusal>
+    ensures { IfOk result (λ told. told ≡ Told.NoRoom → IsErr answer) }
+{
+    match answer {
+        Ok(Outcome::Granted) => Ok(Granted),
+        Ok(_) => Ok(Refused),
+        Err(Refusal::Full) => Ok(NoRoom),
+        Err(why) => Err(why),
+    }
+}
 
 fn read(alloc: Global, records: &mut Records, transaction: u64, key: u8) -> Result<Told, Refusal>
     requires { records.old.pending ≡ [] }
@@ -191,13 +205,10 @@ fn read(alloc: Global, records: &mut Records, transaction: u64, key: u8) -> Resu
 {
     let key = Key::new(alloc, &[key])?;
     let transaction = TxnNo(transaction);
-    if records.is_waiting(transaction) || records.is_full_for(&key) {
+    if records.is_waiting(transaction) {
         return Ok(NotAsked);
     }
-    match records.share(alloc, transaction, &key)? {
-        Outcome::Granted => Ok(Granted),
-        _ => Ok(Refused),
-    }
+    told_of(records.share(alloc, transaction, &key))
 }
 
 fn release(records: &mut Records, transaction: u64) -> Told
@@ -251,7 +262,7 @@ const SLOTS: [(Ask, Told); 14] = [
     (Values, Count(1)),
     (Read(1, 7), Granted),
     (Read(2, 7), Granted),
-    (Read(2, 8), NotAsked),
+    (Read(2, 8), NoRoom),
     (Release(1), Done),
     (IsFullFor(8), Is(true)),
     (Release(2), Done),
@@ -270,5 +281,37 @@ fn slots_kept(rt: HostRuntime) -> Result<(), Fail> {
     pairs.push((Key::new(alloc, &[5])?, Value::new(alloc, &[50])?))?;
     let mut records = Records::of_pairs(alloc, 2, &pairs, RandomState::new(&rt)?)?;
     assert_eq!(rt; first_other(alloc, &mut records, &SLOTS)?, None);
+    Ok(())
+}
+
+// Removes the key; the first transaction does.
+fn remove(alloc: Global, records: &mut Records, key: u8) -> Result<Told, Refusal>
+    requires { records.old.pending ≡ [] }
+    ensures { IfOk result (λ told. told ≡ Told.NoRoom → records.new.pending ≡ []) }
+{
+    let key = Key::new(alloc, &[key])?;
+    if records.is_waiting(TxnNo(1)) {
+        return Ok(NotAsked);
+    }
+    told_of(records.write(alloc, TxnNo(1), DURING, &key, None))
+}
+
+// A key without a record is removed, and where there is no room for it one with a record.
+fn remove_both(alloc: Global, records: &mut Records) -> Result<(Told, Told), Refusal>
+    requires { records.old.pending ≡ [] }
+{
+    match remove(alloc, records, 7)? {
+        NoRoom => Ok((NoRoom, remove(alloc, records, 5)?)),
+        told => Ok((told, NotAsked)),
+    }
+}
+
+#[test]
+fn writes_in_full_records(rt: HostRuntime) -> Result<(), Fail> {
+    let alloc = rt.alloc();
+    let mut pairs = Vec::new(alloc);
+    pairs.push((Key::new(alloc, &[5])?, Value::new(alloc, &[50])?))?;
+    let mut records = Records::of_pairs(alloc, 1, &pairs, RandomState::new(&rt)?)?;
+    assert_eq!(rt; remove_both(alloc, &mut records)?, (NoRoom, Granted));
     Ok(())
 }

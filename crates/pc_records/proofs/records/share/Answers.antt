@@ -18,77 +18,76 @@ use Rattle.pc_records.proofs.records.share.Goals as goal
 pub request-requires-clause-sound : goal.request-requires-clause-sound
 request-requires-clause-sound c = are_sound c.args.side c.args.table.now.rows c.args.locks.now c.requires.kept c.requires.ends
 
-pub returns-in_ok-answer-in-Some-clause-told : goal.returns-in_ok-answer-in-Some-clause-told
-returns-in_ok-answer-in-Some-clause-told c =
+pub returns-in_ok-request-in-Some-clause-told : goal.returns-in_ok-request-in-Some-clause-told
+returns-in_ok-request-in-Some-clause-told c =
     let x = some_cell c.args.table.now c.args.key.now c.in-Some.id (sym c.in-Some.ensures.slot) c.find.ensures.slots in
-    let r : Result Outcome Refusal = Ok c.in_ok-answer-in-Some.answer in
-    asked_told c.args.side c.args.table.now c.find.ensures.slots c.args.key.now c.in-Some.id x.0 (sym c.in-Some.ensures.slot) x.1 r (state_of (ends_in c.args.table.now.rows) c.args.locks.now) (state_of (ends_in c.request.new.keeper.rows) c.request.new.self) (slots_in c.args.side c.request.new.keeper.rows) (c.request.ensures.beside.slots c.args.side) c.args.point c.args.transaction Shared c.requires.kept c.requires.sound c.in_ok-answer-in-Some.ensures.told c.in_ok-answer-in-Some.ensures.queues tt
+    let r : Result Outcome Refusal = Ok c.in_ok-request-in-Some.field-0 in
+    asked_told c.args.side c.args.table.now c.find.ensures.slots c.args.key.now c.in-Some.id x.0 (sym c.in-Some.ensures.slot) x.1 r (state_of (ends_in c.args.table.now.rows) c.args.locks.now) (state_of (ends_in c.request.new.keeper.rows) c.request.new.self) (slots_in c.args.side c.request.new.keeper.rows) (c.request.ensures.beside.slots c.args.side) c.args.point c.args.transaction Shared c.requires.kept c.requires.sound c.in_ok-request-in-Some.ensures.told c.in_ok-request-in-Some.ensures.queues tt
 
-pub returns-in_ok-answer-in-Some-clause-rows : goal.returns-in_ok-answer-in-Some-clause-rows
-returns-in_ok-answer-in-Some-clause-rows c =
+pub returns-in_ok-request-in-Some-clause-rows : goal.returns-in_ok-request-in-Some-clause-rows
+returns-in_ok-request-in-Some-clause-rows c =
     let x = some_cell c.args.table.now c.args.key.now c.in-Some.id (sym c.in-Some.ensures.slot) c.find.ensures.slots in
-    let r : Result Outcome Refusal = Ok c.in_ok-answer-in-Some.answer in
-    asked_rows c.args.side c.args.table.now c.find.ensures.slots c.args.key.now c.in-Some.id x.0 (sym c.in-Some.ensures.slot) x.1 r (state_of (ends_in c.args.table.now.rows) c.args.locks.now) (state_of (ends_in c.request.new.keeper.rows) c.request.new.self) (slots_in c.args.side c.request.new.keeper.rows) (c.request.ensures.beside.slots c.args.side) c.args.point c.args.transaction Shared c.requires.kept c.requires.sound c.in_ok-answer-in-Some.ensures.told c.in_ok-answer-in-Some.ensures.queues tt
+    let r : Result Outcome Refusal = Ok c.in_ok-request-in-Some.field-0 in
+    asked_rows c.args.side c.args.table.now c.find.ensures.slots c.args.key.now c.in-Some.id x.0 (sym c.in-Some.ensures.slot) x.1 r (state_of (ends_in c.args.table.now.rows) c.args.locks.now) (state_of (ends_in c.request.new.keeper.rows) c.request.new.self) (slots_in c.args.side c.request.new.keeper.rows) (c.request.ensures.beside.slots c.args.side) c.args.point c.args.transaction Shared c.requires.kept c.requires.sound c.in_ok-request-in-Some.ensures.told c.in_ok-request-in-Some.ensures.queues tt
 
-pub returns-in_ok-answer-in-Some-clause-kept : goal.returns-in_ok-answer-in-Some-clause-kept
-returns-in_ok-answer-in-Some-clause-kept c =
+pub returns-in_ok-request-in-Some-clause-kept : goal.returns-in_ok-request-in-Some-clause-kept
+returns-in_ok-request-in-Some-clause-kept c =
     let x = some_cell c.args.table.now c.args.key.now c.in-Some.id (sym c.in-Some.ensures.slot) c.find.ensures.slots in
     asked_kept c.args.side c.args.table.now c.find.ensures.slots c.args.key.now c.in-Some.id x.0 (sym c.in-Some.ensures.slot) x.1 c.request.result (state_of (ends_in c.args.table.now.rows) c.args.locks.now) (state_of (ends_in c.request.new.keeper.rows) c.request.new.self) (slots_in c.args.side c.request.new.keeper.rows) (c.request.ensures.beside.slots c.args.side) c.args.point c.args.transaction Shared c.requires.kept c.requires.sound c.request.ensures.told c.request.ensures.queues c.request.ensures.err
 
-pub returns-in_err-answer-in-Some-clause-kept : goal.returns-in_err-answer-in-Some-clause-kept
-returns-in_err-answer-in-Some-clause-kept c =
+pub returns-in_err-request-in-Some-clause-kept : goal.returns-in_err-request-in-Some-clause-kept
+returns-in_err-request-in-Some-clause-kept c =
     let x = some_cell c.args.table.now c.args.key.now c.in-Some.id (sym c.in-Some.ensures.slot) c.find.ensures.slots in
     asked_kept c.args.side c.args.table.now c.find.ensures.slots c.args.key.now c.in-Some.id x.0 (sym c.in-Some.ensures.slot) x.1 c.request.result (state_of (ends_in c.args.table.now.rows) c.args.locks.now) (state_of (ends_in c.request.new.keeper.rows) c.request.new.self) (slots_in c.args.side c.request.new.keeper.rows) (c.request.ensures.beside.slots c.args.side) c.args.point c.args.transaction Shared c.requires.kept c.requires.sound c.request.ensures.told c.request.ensures.queues c.request.ensures.err
 
-pub returns-in_ok-answer-in-Some-clause-sound : goal.returns-in_ok-answer-in-Some-clause-sound
-returns-in_ok-answer-in-Some-clause-sound c =
+pub returns-in_ok-request-in-Some-clause-sound : goal.returns-in_ok-request-in-Some-clause-sound
+returns-in_ok-request-in-Some-clause-sound c =
     let x = some_cell c.args.table.now c.args.key.now c.in-Some.id (sym c.in-Some.ensures.slot) c.find.ensures.slots in
     asked_sound c.args.side c.args.table.now c.find.ensures.slots c.args.key.now c.in-Some.id x.0 (sym c.in-Some.ensures.slot) x.1 c.request.result (state_of (ends_in c.args.table.now.rows) c.args.locks.now) (state_of (ends_in c.request.new.keeper.rows) c.request.new.self) (slots_in c.args.side c.request.new.keeper.rows) (c.request.ensures.beside.slots c.args.side) c.args.point c.args.transaction Shared c.requires.kept c.requires.sound c.request.ensures.told c.request.ensures.queues c.request.ensures.err
 
-pub returns-in_err-answer-in-Some-clause-sound : goal.returns-in_err-answer-in-Some-clause-sound
-returns-in_err-answer-in-Some-clause-sound c =
+pub returns-in_err-request-in-Some-clause-sound : goal.returns-in_err-request-in-Some-clause-sound
+returns-in_err-request-in-Some-clause-sound c =
     let x = some_cell c.args.table.now c.args.key.now c.in-Some.id (sym c.in-Some.ensures.slot) c.find.ensures.slots in
     asked_sound c.args.side c.args.table.now c.find.ensures.slots c.args.key.now c.in-Some.id x.0 (sym c.in-Some.ensures.slot) x.1 c.request.result (state_of (ends_in c.args.table.now.rows) c.args.locks.now) (state_of (ends_in c.request.new.keeper.rows) c.request.new.self) (slots_in c.args.side c.request.new.keeper.rows) (c.request.ensures.beside.slots c.args.side) c.args.point c.args.transaction Shared c.requires.kept c.requires.sound c.request.ensures.told c.request.ensures.queues c.request.ensures.err
 
-pub returns-in_ok-answer-in-Some-clause-clear : goal.returns-in_ok-answer-in-Some-clause-clear
-returns-in_ok-answer-in-Some-clause-clear c =
+pub returns-in_ok-request-in-Some-clause-clear : goal.returns-in_ok-request-in-Some-clause-clear
+returns-in_ok-request-in-Some-clause-clear c =
     let x = some_cell c.args.table.now c.args.key.now c.in-Some.id (sym c.in-Some.ensures.slot) c.find.ensures.slots in
-    let r : Result Outcome Refusal = Ok c.in_ok-answer-in-Some.answer in
-    asked_clear c.args.side c.args.table.now c.find.ensures.slots c.args.key.now c.in-Some.id x.0 (sym c.in-Some.ensures.slot) x.1 r (state_of (ends_in c.args.table.now.rows) c.args.locks.now) (state_of (ends_in c.request.new.keeper.rows) c.request.new.self) (slots_in c.args.side c.request.new.keeper.rows) (c.request.ensures.beside.slots c.args.side) c.args.point c.args.transaction Shared c.requires.kept c.requires.sound c.in_ok-answer-in-Some.ensures.told c.in_ok-answer-in-Some.ensures.queues tt
+    let r : Result Outcome Refusal = Ok c.in_ok-request-in-Some.field-0 in
+    asked_clear c.args.side c.args.table.now c.find.ensures.slots c.args.key.now c.in-Some.id x.0 (sym c.in-Some.ensures.slot) x.1 r (state_of (ends_in c.args.table.now.rows) c.args.locks.now) (state_of (ends_in c.request.new.keeper.rows) c.request.new.self) (slots_in c.args.side c.request.new.keeper.rows) (c.request.ensures.beside.slots c.args.side) c.args.point c.args.transaction Shared c.requires.kept c.requires.sound c.in_ok-request-in-Some.ensures.told c.in_ok-request-in-Some.ensures.queues tt
     (settled_legal _ (c.requires.ends.settled.settled c.in-Some.id)) (ready_at (queues_in c.args.table.now.rows c.args.locks.now) (lists_of c.args.locks.now) c.args.transaction c.requires.ends.settled.linked c.requires.ready)
 
-pub returns-in_ok-answer-in-Some-clause-pending : goal.returns-in_ok-answer-in-Some-clause-pending
-returns-in_ok-answer-in-Some-clause-pending c = ap pending_of (c.request.ensures.beside.slots c.args.side)
+pub returns-in_ok-request-in-Some-clause-pending : goal.returns-in_ok-request-in-Some-clause-pending
+returns-in_ok-request-in-Some-clause-pending c = ap pending_of (c.request.ensures.beside.slots c.args.side)
 
-pub returns-in_err-answer-in-Some-clause-pending : goal.returns-in_err-answer-in-Some-clause-pending
-returns-in_err-answer-in-Some-clause-pending c = ap pending_of (c.request.ensures.beside.slots c.args.side)
+pub returns-in_err-request-in-Some-clause-pending : goal.returns-in_err-request-in-Some-clause-pending
+returns-in_err-request-in-Some-clause-pending c = ap pending_of (c.request.ensures.beside.slots c.args.side)
 
 pub returns-in_ok-request_new-in-None-clause-clear : goal.returns-in_ok-request_new-in-None-clause-clear
 returns-in_ok-request_new-in-None-clause-clear c granted = clear_new (slots_in c.args.side c.args.table.now.rows) c.args.key.now c.args.transaction c.requires.kept.rise (no_slot_in c.args.side c.args.table.now.rows c.args.key.now (sym c.in-None.ensures.slot))
 
-pub returns-in_ok-answer-in-Some-clause-ends : goal.returns-in_ok-answer-in-Some-clause-ends
-returns-in_ok-answer-in-Some-clause-ends c = c.request.ensures.sound.ends_are
+pub returns-in_ok-request-in-Some-clause-ends : goal.returns-in_ok-request-in-Some-clause-ends
+returns-in_ok-request-in-Some-clause-ends c = c.request.ensures.sound.ends_are
 
-pub returns-in_err-answer-in-Some-clause-ends : goal.returns-in_err-answer-in-Some-clause-ends
-returns-in_err-answer-in-Some-clause-ends c = c.request.ensures.sound.ends_are
+pub returns-in_err-request-in-Some-clause-ends : goal.returns-in_err-request-in-Some-clause-ends
+returns-in_err-request-in-Some-clause-ends c = c.request.ensures.sound.ends_are
 
-pub returns-in_ok-answer-in-Some-clause-capacity : goal.returns-in_ok-answer-in-Some-clause-capacity
-returns-in_ok-answer-in-Some-clause-capacity c = c.request.ensures.beside.capacity
+pub returns-in_ok-request-in-Some-clause-capacity : goal.returns-in_ok-request-in-Some-clause-capacity
+returns-in_ok-request-in-Some-clause-capacity c = c.request.ensures.beside.capacity
 
-pub returns-in_err-answer-in-Some-clause-capacity : goal.returns-in_err-answer-in-Some-clause-capacity
-returns-in_err-answer-in-Some-clause-capacity c = c.request.ensures.beside.capacity
+pub returns-in_err-request-in-Some-clause-capacity : goal.returns-in_err-request-in-Some-clause-capacity
+returns-in_err-request-in-Some-clause-capacity c = c.request.ensures.beside.capacity
 
-pub returns-in_ok-answer-in-Some-clause-sets : goal.returns-in_ok-answer-in-Some-clause-sets
-returns-in_ok-answer-in-Some-clause-sets c = c.request.ensures.beside.sets
+pub returns-in_ok-request-in-Some-clause-sets : goal.returns-in_ok-request-in-Some-clause-sets
+returns-in_ok-request-in-Some-clause-sets c = c.request.ensures.beside.sets
 
+pub returns-in_err-request-in-Some-clause-sets : goal.returns-in_err-request-in-Some-clause-sets
+returns-in_err-request-in-Some-clause-sets c = c.request.ensures.beside.sets
 
-pub returns-in_err-answer-in-Some-clause-sets : goal.returns-in_err-answer-in-Some-clause-sets
-returns-in_err-answer-in-Some-clause-sets c = c.request.ensures.beside.sets
-
-pub returns-in_err-answer-in-Some-clause-refusal : goal.returns-in_err-answer-in-Some-clause-refusal
-returns-in_err-answer-in-Some-clause-refusal c =
+pub returns-in_err-request-in-Some-clause-refusal : goal.returns-in_err-request-in-Some-clause-refusal
+returns-in_err-request-in-Some-clause-refusal c =
     let room = full_there c.args.side c.args.table.now.rows c.args.table.now.capacity (queues_in c.args.table.now.rows c.args.locks.now) c.args.key.now c.in-Some.id (sym c.in-Some.ensures.slot) in
     refused_by c.args.side c.args.table.now.rows c.args.table.now.capacity (queues_in c.args.table.now.rows c.args.locks.now) c.args.key.now c.from_residual.result OutOfMemory c.from_residual.ensures (ran_out c.args.side c.args.table.now.rows c.args.table.now.capacity (queues_in c.args.table.now.rows c.args.locks.now) c.args.key.now room)
 
-pub returns-in_ok-answer-in-Some-clause-room : goal.returns-in_ok-answer-in-Some-clause-room
-returns-in_ok-answer-in-Some-clause-room c = full_there c.args.side c.args.table.now.rows c.args.table.now.capacity (queues_in c.args.table.now.rows c.args.locks.now) c.args.key.now c.in-Some.id (sym c.in-Some.ensures.slot)
+pub returns-in_ok-request-in-Some-clause-room : goal.returns-in_ok-request-in-Some-clause-room
+returns-in_ok-request-in-Some-clause-room c = full_there c.args.side c.args.table.now.rows c.args.table.now.capacity (queues_in c.args.table.now.rows c.args.locks.now) c.args.key.now c.in-Some.id (sym c.in-Some.ensures.slot)
