@@ -36,7 +36,8 @@ impl QueueEnds<ByEnds> for Table<Cell> {
         ensures others { (other : ℕ) → other ≢ slot → ends_in self.new.rows other ≡ ends_in self.old.rows other }
         ensures beside { KeepSlots self.old self.new }
     {
-        self.get_mut(slot).ends = ends;
+        let cell = self.get_mut(slot);
+        cell.ends = ends;
     }
 
     ghost beside_same = { λ a. record { capacity = refl; row = λ slot. refl; slots = λ side. refl; sets = record { same = λ slot. refl } } };
