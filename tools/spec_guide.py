@@ -198,7 +198,7 @@ def listed(order, specs, known):
 def mark():
     """Puts the lists in the place of those that the page has."""
     before, title, rest = text_of(PAGE).partition("\n## What has to be believed\n")
-    text, plan, behind = rest.partition("\n## The plan\n")
+    text, plan, behind = rest.partition("\n## What is to be bettered\n")
     kept = [line for line in text.rstrip().split("\n") if not line.startswith("- **")]
     with open(PAGE, "w", encoding="utf-8") as it:
         it.write(before + title + "\n".join(kept).rstrip() + "\n\n" + "\n".join(headlines()) + "\n" + plan + behind)
