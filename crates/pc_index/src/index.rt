@@ -106,8 +106,9 @@ impl Index {
         }
     }
 
-    // The blank record of the key, which no record has yet, in a free slot.
-    fn make<T: Keyed>(
+    /// The slot of the blank record of a key that no record has, which goes into a free slot; each other key keeps its slot.
+    /// Refuses as `find_or_make` does.
+    pub fn make<T: Keyed>(
         &mut self,
         arena: &mut Arena<T>,
         alloc: Global,

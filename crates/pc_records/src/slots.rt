@@ -129,7 +129,7 @@ fn add(alloc: Global, table: &mut Table<Cell>, key: &Key, value: &Value) -> Resu
     ensures { OnOk result ((id : ℕ) × (table.new ≡ with_row table.old key.now id (base_cell (Some value.now)))) }
 {
     let value = value.copy(alloc)?;
-    match make(alloc, table, key) {
+    match table.find_or_make(alloc, key) {
         Ok(id) => {
             let cell = table.get_mut(id);
             *cell = cell_with(Some(value));
@@ -154,7 +154,7 @@ pub(crate) fn make(alloc: Global, table: &mut Table<Cell>, key: &Key) -> Result<
     ensures before { AreInSlots table.old }
     ensures after { AreInSlots table.new }
 {
-    table.find_or_make(alloc, key)
+    table.make(alloc, key)
 }
 
 // Whether the key has no record.
@@ -361,7 +361,13 @@ pub(crate) fn settle_all(
 {
     let mut found = slots.iter();
     for write in writes {
-        settle_key(table, sets, &write.key, found.next().map(|number| SlotId(*number)), point);
+        settle_key(
+            table,
+            sets,
+            &write.key,
+            found.next().map(|number| SlotId(*number)),
+            point,
+        );
     }
 }
 
@@ -377,13 +383,7 @@ fn undo_slot(table: &mut Table<Cell>, side: Side, id: SlotId, point: Point)
 }
 
 // The write that stands in the key's place is undone; the key is looked for near the slot first.
-fn undo_key(
-    table: &mut Table<Cell>,
-    side: Side,
-    key: &Key,
-    near: Option<SlotId>,
-    point: Point,
-)
+fn undo_key(table: &mut Table<Cell>, side: Side, key: &Key, near: Option<SlotId>, point: Point)
     ensures slots { slots_in side table.new.rows ≡ map (at_key (undone point) key.now) (slots_in side table.old.rows) }
     ensures capacity { table.new.capacity ≡ table.old.capacity }
     ensures ends { ends_in table.new.rows ≡ ends_in table.old.rows }
@@ -409,7 +409,13 @@ pub(crate) fn undo_all(
 {
     let mut found = slots.iter();
     for write in writes {
-        undo_key(table, side, &write.key, found.next().map(|number| SlotId(*number)), point);
+        undo_key(
+            table,
+            side,
+            &write.key,
+            found.next().map(|number| SlotId(*number)),
+            point,
+        );
     }
 }
 

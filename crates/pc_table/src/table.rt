@@ -156,6 +156,24 @@ impl<T: Blank> Table<T> {
         self.index.find_or_make(&mut self.entries, alloc, key)
     }
 
+    /// The slot of a key that has no row and gets one, in a free slot, with a blank record: what `find_or_make` does, without a
+    /// search. Refuses as that does, and the table is then as it was.
+    pub fn make(&mut self, alloc: Global, key: &Key) -> Result<SlotId, Refusal>
+        requires { slot_of self.old.rows key.now ≡ None }
+        ensures made { IfOk result (λ id. self.new ≡ with_row self.old key.now id T.blank) }
+        ensures fresh { IfOk result (IsNewSlot self.old) }
+        ensures slot { IfOk result (λ id. slot_of self.new.rows key.now ≡ Some id) }
+        ensures row { IfOk result (HasRow self.new.rows) }
+        ensures changed { IfOk result (λ id. (x : T) → with_record self.new id x ≡ with_row self.old key.now id x) }
+        ensures full { length self.old.rows ≡ self.old.capacity → result ≡ Err Refusal.Full }
+        ensures refusal { IfErr result (λ e. e ≡ (if length self.old.rows == self.old.capacity then Refusal.Full else Refusal.OutOfMemory)) }
+        ensures err { OnErr result (self.new ≡ self.old) }
+        ensures before { AreInSlots self.old }
+        ensures after { AreInSlots self.new }
+    {
+        self.index.make(&mut self.entries, alloc, key)
+    }
+
     /// Takes away the row in the slot, which has one, and gives its record. The slot is free from then on. It takes no memory.
     pub fn remove(&mut self, id: SlotId) -> T
         requires { HasRow self.old.rows id }
