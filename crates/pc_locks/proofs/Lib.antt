@@ -7,6 +7,8 @@ mod LocksLemmas
 mod Outcomes
 mod QueueLines
 mod RemovalLemmas
+mod RowAnswers
+mod RowLaws
 pub mod SlotLaws
 mod Soundness
 pub mod StateLaws

@@ -1,6 +1,8 @@
 -- Lists of ids that are linked in a row.
-use Rattle.std.specs.Prelude.{◌≡◌, ◌≢◌, ℕ, zero, suc, ◌<◌, ◌^◌, List, [], ◌∷◌, length, map, Option, Some, None, unwrap_or, slice_index_or, true}
-use Rattle.std.specs.Map.{lookup}
+use Rattle.std.specs.Prelude.{◌≡◌, ◌≢◌, ℕ, zero, suc, ◌<◌, ◌≤◌, ◌^◌, List, [], ◌∷◌, length, map, Option, Some, None, unwrap_or, slice_index_or, true}
+use Rattle.std.specs.List.{insert}
+use Rattle.std.specs.List.Sorted.{IsStrictlySortedBy}
+use Rattle.std.specs.Map.{lookup, keys_of}
 use Rattle.std.specs.BTreeMap.{is_at}
 use Rattle.std.specs.Ordering.{nat_cmp}
 use Rattle.pc_chain.specs.declared.chain.Chain.{Chain}
@@ -60,6 +62,21 @@ no_ends = record { chain = no_chain; last = None }
 -- a transaction's ends
 abbrev pub ends_at : List (ℕ × Ends) → ℕ → Ends
 ends_at entries t = unwrap_or (lookup (is_at (nat_cmp t)) entries) no_ends
+
+-- the entries rise by the transaction's number
+abbrev pub AreRising : List (ℕ × Ends) → Type 0
+AreRising entries = IsStrictlySortedBy nat_cmp (keys_of entries)
+
+-- the transaction's entry stands there
+pub record IsEntryAt (entries : List (ℕ × Ends)) (t at : ℕ) : Type 0 where
+  pub within : at < length entries
+  pub number : (e : ℕ × Ends) → (slice_index_or entries at e).0 ≡ t
+
+-- the transaction has no entry, and one would go there
+pub record IsGapAt (entries : List (ℕ × Ends)) (t at : ℕ) : Type 0 where
+  pub within : at ≤ length entries
+  pub none : lookup (is_at (nat_cmp t)) entries ≡ None
+  pub rising : (ends : Ends) → AreRising (insert entries at (t, ends))
 
 -- the ids of each transaction
 abbrev pub entry_ids : List (Option ℕ) → List (ℕ × Ends) → List (ℕ × List ℕ)

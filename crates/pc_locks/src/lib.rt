@@ -2,6 +2,7 @@
 #![tactic(auto)]
 
 mod ends;
+mod ends_row;
 mod keeper;
 mod lists;
 mod locks;

@@ -1,23 +1,20 @@
 //! Lists of ids, one for each transaction.
-ghost use Rattle.std.specs.Prelude.{◌≡◌, ◌≢◌, ◌<◌, ◌≤◌, ◌++◌, ◌∷◌, [], ℕ, true, false, is_some, length, IsOk, OnOk, OnErr, IfNone, None};
+ghost use Rattle.std.specs.Prelude.{◌≡◌, ◌≢◌, ◌<◌, ◌++◌, ◌∷◌, [], ℕ, true, false, is_some, IsOk, OnOk, OnErr, IfNone};
 ghost use Rattle.std.specs.Ordering.{nat_cmp};
 ghost use Rattle.std.specs.Map.{lookup};
 ghost use Rattle.std.specs.BTreeMap.{is_at};
-ghost use Rattle.pc_locks.specs.Lines.{ends_at, no_chain, no_ends};
 ghost use Rattle.pc_locks.specs.States.{slots_of, first_of, rest_of, last_of, is_listed, AreFilled};
 
-use crate::ends::Ends;
+use crate::ends_row::EndsRow;
 use crate::row::LinkRow;
-use pc_chain::Chain;
 use std::alloc::{AllocError, Global};
-use std::collections::BTreeMap;
 use std::marker::Model;
 
 /// The lists, each a chain over one row of links. No id stands in two of them.
 #[derive(Drop)]
 pub(crate) struct Lists {
     links: LinkRow,
-    ends: BTreeMap<u64, Ends>,
+    ends: EndsRow,
 }
 
 impl Model for Lists {
@@ -26,9 +23,9 @@ impl Model for Lists {
 
     ghost Value = { Listed };
 
-    ghost view = { λ a. record { entries = entry_ids a.links.links.items a.ends.entries; room = length a.links.links.items } };
+    ghost view = { λ a. record { entries = entry_ids a.links.links.items a.ends; room = length a.links.links.items } };
 
-    ghost invariant = { λ a. AreLists a.links.links.items a.ends.entries };
+    ghost invariant = { λ a. AreLists a.links.links.items a.ends };
 }
 
 impl Lists {
@@ -38,7 +35,7 @@ impl Lists {
     {
         Lists {
             links: LinkRow::new(alloc),
-            ends: BTreeMap::new(alloc),
+            ends: EndsRow::new(alloc),
         }
     }
 
@@ -53,11 +50,11 @@ impl Lists {
         ensures err { OnErr result (self.new.entries ≡ self.old.entries) }
     {
         self.links.reserve(id)?;
-        keep(&mut self.ends, transaction)?;
-        let mut ends = ends_of(&self.ends, transaction);
+        self.ends.keep(transaction)?;
+        let mut ends = self.ends.ends_of(transaction);
         ends.chain.push_back(&mut self.links, id);
         ends.last = Some(id);
-        put(&mut self.ends, transaction, ends);
+        self.ends.put(transaction, ends);
         Ok(())
     }
 
@@ -69,12 +66,12 @@ impl Lists {
         ensures filled { AreFilled self.new.entries }
         ensures none { IfNone result (self.new ≡ self.old) }
     {
-        let mut ends = ends_of(&self.ends, transaction);
+        let mut ends = self.ends.ends_of(transaction);
         let id = ends.chain.pop_front(&self.links)?;
         if ends.chain.first(&self.links).is_some() {
-            put(&mut self.ends, transaction, ends);
+            self.ends.put(transaction, ends);
         } else {
-            forget(&mut self.ends, transaction);
+            self.ends.forget(transaction);
         }
         Some(id)
     }
@@ -83,56 +80,6 @@ impl Lists {
     pub(crate) fn last(&self, transaction: u64) -> Option<usize>
         ensures { result ≡ last_of (slots_of self.now.entries transaction) }
     {
-        ends_of(&self.ends, transaction).last
+        self.ends.ends_of(transaction).last
     }
-}
-
-// A transaction's ends; empty ones where it has none.
-fn ends_of(entries: &BTreeMap<u64, Ends>, transaction: u64) -> Ends
-    ensures { result ≡ ends_at entries.now.entries transaction }
-{
-    match entries.get(&transaction) {
-        Some(ends) => *ends,
-        None => Ends {
-            chain: Chain::new(),
-            last: None,
-        },
-    }
-}
-
-// Makes sure that the transaction has ends. Where memory ran out nothing changed.
-fn keep(entries: &mut BTreeMap<u64, Ends>, transaction: u64) -> Result<(), AllocError>
-    ensures ends { (other : ℕ) → ends_at entries.new.entries other ≡ ends_at entries.old.entries other }
-    ensures known { OnOk result (is_some (lookup (is_at (nat_cmp transaction)) entries.new.entries) ≡ true) }
-    ensures others { (other : ℕ) → other ≢ transaction → lookup (is_at (nat_cmp other)) entries.new.entries ≡ lookup (is_at (nat_cmp other)) entries.old.entries }
-    ensures room { is_some (lookup (is_at (nat_cmp transaction)) entries.old.entries) ≡ true → IsOk result }
-    ensures err { OnErr result (entries.new.entries ≡ entries.old.entries) }
-{
-    if !entries.contains_key(&transaction) {
-        let ends = Ends {
-            chain: Chain::new(),
-            last: None,
-        };
-        entries.insert(transaction, ends)?;
-    }
-    Ok(())
-}
-
-// Writes the ends of a transaction that has some.
-fn put(entries: &mut BTreeMap<u64, Ends>, transaction: u64, ends: Ends)
-    requires { is_some (lookup (is_at (nat_cmp transaction)) entries.old.entries) ≡ true }
-    ensures this { ends_at entries.new.entries transaction ≡ ends }
-    ensures others { (other : ℕ) → other ≢ transaction → lookup (is_at (nat_cmp other)) entries.new.entries ≡ lookup (is_at (nat_cmp other)) entries.old.entries }
-{
-    if let Some(place) = entries.get_mut(&transaction) {
-        *place = ends;
-    }
-}
-
-// Removes the ends of a transaction.
-fn forget(entries: &mut BTreeMap<u64, Ends>, transaction: u64)
-    ensures this { lookup (is_at (nat_cmp transaction)) entries.new.entries ≡ None }
-    ensures others { (other : ℕ) → other ≢ transaction → lookup (is_at (nat_cmp other)) entries.new.entries ≡ lookup (is_at (nat_cmp other)) entries.old.entries }
-{
-    entries.remove(&transaction);
 }
