@@ -3,6 +3,8 @@ use Rattle.std.specs.Prelude.{ℕ, ◌<◌, List, length, Option, None, slice_in
 use Rattle.pc_dirty.specs.declared.side.Place.{Place}
 use Rattle.pc_dirty.specs.declared.side.Side.{Side}
 use Rattle.pc_dirty.specs.declared.side.Side.TheVariants.{First, Second}
+use Rattle.pc_dirty.specs.declared.dirty.Dirty.{Dirty}
+use Rattle.pc_dirty.specs.Sets.{place_of, AreSets}
 
 -- of two links that on the side
 abbrev pub on_side : Side → Option Place → Option Place → Option Place
@@ -16,3 +18,9 @@ link_at firsts seconds place = on_side place.side (slice_index_or firsts place.s
 -- the place's slot has a link on each side
 abbrev pub has_links : List (Option Place) → List (Option Place) → Place → Type 0
 has_links firsts seconds place = (place.slot < length firsts) × (place.slot < length seconds)
+
+-- twelve slots have links, and over these the open set is the list
+pub record AreKept (firsts seconds : List (Option Place)) (dirty : Dirty) (opened : List ℕ) : Type 0 where
+  pub closed : List ℕ
+  pub sets : AreSets (has_links firsts seconds) (link_at firsts seconds) dirty opened closed
+  pub last : has_links firsts seconds (place_of First 11)

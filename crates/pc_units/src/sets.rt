@@ -1,7 +1,8 @@
-//! Tests of the two sets: over a row of links, in the order of first addition.
-ghost use Rattle.std.specs.Prelude.{◌≡◌, ◌≢◌, ◌<◌, ◌≤◌, IfOk, length};
+//! Tests of the two sets: worked rows, over a row of links.
+ghost use Rattle.std.specs.Prelude.{◌≡◌, ◌≢◌, ◌<◌, ◌≤◌, IfOk, OnOk, IsTrue, length};
+ghost use Rattle.pc_chain.specs.Chains.{Avoids};
 ghost use Rattle.pc_dirty.specs.declared.side.Place.{Place};
-ghost use Rattle.pc_units.specs.Rows.{link_at, has_links};
+ghost use Rattle.pc_units.specs.Rows.{link_at, has_links, AreKept};
 
 use pc_chain::Links;
 use pc_dirty::{Dirty, Place, Side};
@@ -66,42 +67,177 @@ fn unlinked(alloc: Global, len: usize) -> Result<Row, AllocError>
     })
 }
 
-// Of sets with the slots 2 and 0, which are closed, and 2 again, which is added then: how many are open and closed, the first
-// closed one, and what is taken, three times; and what is taken once the sets are closed again.
-fn used(row: &mut Row) -> ([u32; 3], [Option<SlotId>; 5])
-    requires { (3 ≤ length row.old.first.items) × (3 ≤ length row.old.second.items) }
-{
-    let mut sets = Dirty::new();
-    sets.add(row, SlotId(2));
-    sets.add(row, SlotId(0));
-    let before = sets.open_len(row);
-    sets.close(row);
-    sets.add(row, SlotId(2));
-    let opened = sets.open_len(row);
-    let closed = sets.closed_len(row);
-    let first = sets.first_closed(row);
-    let one = sets.pop_closed(row);
-    let two = sets.pop_closed(row);
-    let none = sets.pop_closed(row);
-    sets.close(row);
-    let again = sets.pop_closed(row);
-    ([before, opened, closed], [first, one, two, none, again])
+// The sets, the links of twelve slots, and which slots the open set has.
+#[derive(Drop)]
+struct Kept {
+    row: Row,
+    sets: Dirty,
+    opened: Vec<u32>,
 }
+
+// Two empty sets.
+fn nothing_kept(alloc: Global) -> Result<Kept, AllocError>
+    ensures { IfOk result (λ kept. AreKept kept.row.first.items kept.row.second.items kept.sets kept.opened.items) }
+{
+    Ok(Kept {
+        row: unlinked(alloc, 12)?,
+        sets: Dirty::new(),
+        opened: Vec::new(alloc),
+    })
+}
+
+// What is asked of the sets.
+#[derive(Clone, Copy)]
+enum Ask {
+    Add(u32),
+    Close,
+    Pop,
+    First,
+    Counts,
+}
+
+#[derive(Clone, Copy, Debug, PartialEq)]
+enum Told {
+    Done,
+    // The slot is in the open set, or the closed set isn't empty.
+    Refused,
+    Slot(u32),
+    Nothing,
+    // How many are open, and how many closed.
+    Counted(u32, u32),
+}
+
+use Ask::{Add, Close, Counts, First, Pop};
+use Told::{Counted, Done, Nothing, Refused, Slot};
+
+fn slot_of(found: Option<SlotId>) -> Told {
+    match found {
+        Some(SlotId(number)) => Slot(number),
+        None => Nothing,
+    }
+}
+
+// Whether one of twelve slots isn't yet among these.
+fn is_new(opened: &[u32], slot: u32) -> bool
+    ensures { IsTrue result → (slot < 12) × (length opened.now < 12) × Avoids slot opened.now }
+{
+    slot < 12 && opened.len() < 12 && !opened.contains(&slot)
+}
+
+fn added(kept: &mut Kept, slot: u32) -> Result<Told, AllocError>
+    requires { AreKept kept.old.row.first.items kept.old.row.second.items kept.old.sets kept.old.opened.items }
+    ensures { OnOk result (AreKept kept.new.row.first.items kept.new.row.second.items kept.new.sets kept.new.opened.items) }
+{
+    if !is_new(kept.opened.as_slice(), slot) {
+        return Ok(Refused);
+    }
+    kept.opened.push(slot)?;
+    kept.sets.add(&mut kept.row, SlotId(slot));
+    Ok(Done)
+}
+
+fn closed(kept: &mut Kept) -> Told
+    requires { AreKept kept.old.row.first.items kept.old.row.second.items kept.old.sets kept.old.opened.items }
+    ensures { AreKept kept.new.row.first.items kept.new.row.second.items kept.new.sets kept.new.opened.items }
+{
+    if !kept.sets.closed_is_empty(&kept.row) {
+        return Refused;
+    }
+    kept.sets.close(&kept.row);
+    kept.opened.clear();
+    Done
+}
+
+fn popped(kept: &mut Kept) -> Told
+    requires { AreKept kept.old.row.first.items kept.old.row.second.items kept.old.sets kept.old.opened.items }
+    ensures { AreKept kept.new.row.first.items kept.new.row.second.items kept.new.sets kept.new.opened.items }
+{
+    slot_of(kept.sets.pop_closed(&kept.row))
+}
+
+fn answer(kept: &mut Kept, ask: Ask) -> Result<Told, AllocError>
+    requires { AreKept kept.old.row.first.items kept.old.row.second.items kept.old.sets kept.old.opened.items }
+    ensures { OnOk result (AreKept kept.new.row.first.items kept.new.row.second.items kept.new.sets kept.new.opened.items) }
+{
+    match ask {
+        Add(slot) => added(kept, slot),
+        Close => Ok(closed(kept)),
+        Pop => Ok(popped(kept)),
+        First => Ok(slot_of(kept.sets.first_closed(&kept.row))),
+        Counts => Ok(Counted(
+            kept.sets.open_len(&kept.row),
+            kept.sets.closed_len(&kept.row),
+        )),
+    }
+}
+
+// The number of the first row that is answered otherwise.
+fn first_wrong(kept: &mut Kept, rows: &[(Ask, Told)]) -> Result<Option<usize>, AllocError>
+    requires { AreKept kept.old.row.first.items kept.old.row.second.items kept.old.sets kept.old.opened.items }
+{
+    for (at, (ask, wanted)) in rows.iter().enumerate() {
+        if answer(kept, *ask)? != *wanted {
+            return Ok(Some(at));
+        }
+    }
+    Ok(None)
+}
+
+const ROWS: [(Ask, Told); 43] = [
+    // Empty, also once they are closed.
+    (Counts, Counted(0, 0)),
+    (Pop, Nothing),
+    (First, Nothing),
+    (Close, Done),
+    (Pop, Nothing),
+    (Counts, Counted(0, 0)),
+    // A slot goes in once.
+    (Add(2), Done),
+    (Add(11), Done),
+    (Add(2), Refused),
+    (Counts, Counted(2, 0)),
+    (First, Nothing),
+    (Pop, Nothing),
+    // Closed.
+    (Close, Done),
+    (Counts, Counted(0, 2)),
+    (First, Slot(2)),
+    // A slot that is added while it is closed is in both.
+    (Add(11), Done),
+    (Add(3), Done),
+    (Add(2), Done),
+    (Counts, Counted(3, 2)),
+    (Close, Refused),
+    // Taken in the order of first addition, while others go in.
+    (First, Slot(2)),
+    (Pop, Slot(2)),
+    (Add(0), Done),
+    (Add(2), Refused),
+    (First, Slot(11)),
+    (Close, Refused),
+    (Counts, Counted(4, 1)),
+    (Pop, Slot(11)),
+    (Pop, Nothing),
+    (Add(5), Done),
+    // Closed again as soon as all were taken, on the other side.
+    (Close, Done),
+    (Counts, Counted(0, 5)),
+    (Pop, Slot(11)),
+    (Pop, Slot(3)),
+    (Add(3), Done),
+    (Pop, Slot(2)),
+    (Pop, Slot(0)),
+    (First, Slot(5)),
+    (Pop, Slot(5)),
+    (Close, Done),
+    (Pop, Slot(3)),
+    (Pop, Nothing),
+    (Counts, Counted(0, 0)),
+];
 
 #[test]
 fn sets_over_one_row(rt: HostRuntime) -> Result<(), Fail> {
-    let mut row = unlinked(rt.alloc(), 3)?;
-    let (counts, slots) = used(&mut row);
-    assert_eq!(rt; counts, [2, 1, 2]);
-    assert_eq!(rt;
-        slots,
-        [
-            Some(SlotId(2)),
-            Some(SlotId(2)),
-            Some(SlotId(0)),
-            None,
-            Some(SlotId(2))
-        ]
-    );
+    let mut kept = nothing_kept(rt.alloc())?;
+    assert_eq!(rt; first_wrong(&mut kept, &ROWS)?, None);
     Ok(())
 }
