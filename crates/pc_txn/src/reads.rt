@@ -1,5 +1,6 @@
 //! A read set: the first read of each key that was not written.
 ghost use Rattle.std.specs.Prelude.{◌≡◌, ◌<◌, [], slice_get, IsOk, OnOk, IfOk, IfErr, Some};
+ghost use Rattle.pc_model.specs.Database.{key_cmp};
 ghost use Rattle.pc_model.specs.Places.{IsAt, IsGap};
 ghost use Rattle.pc_model.specs.Receipts.{is_read, with_read};
 ghost use Rattle.pc_txn.specs.Orders.{key_at, entries, IsOrder};
@@ -10,6 +11,7 @@ use crate::writes::WriteSet;
 use pc_types::{Items, Key, Value};
 use smallvec::SmallVec;
 use std::alloc::{AllocError, Global};
+use std::cmp::Ordering;
 use std::marker::Model;
 
 /// What one transaction has read of keys that it had not written: of each key the first read, in their order, with the
@@ -114,13 +116,13 @@ impl ReadSet {
     }
 }
 
-// The bytes of the key at the place, none past the last one.
-fn bytes_at(reads: &[(Key, Option<Value>)], place: usize) -> &[u8]
-    ensures { result.now ≡ key_at (read_keys reads.now) place }
+// How the key at the place is ordered against this one; past the last place stand no bytes.
+fn compare_at(reads: &[(Key, Option<Value>)], place: usize, key: &Key) -> Ordering
+    ensures { result ≡ key_cmp (key_at (read_keys reads.now) place) key.now }
 {
     match reads.get(place) {
-        Some(read) => read.0.as_bytes(),
-        None => &[],
+        Some(read) => read.0.compare(key),
+        None => (&[] as &[u8]).cmp(&key.as_bytes()),
     }
 }
 
@@ -130,5 +132,5 @@ fn position(reads: &[(Key, Option<Value>)], order: &[usize], key: &Key) -> Resul
     ensures at { IfOk result (IsAt (entries (read_keys reads.now) order.now) key.now) }
     ensures gap { IfErr result (IsGap (entries (read_keys reads.now) order.now) key.now) }
 {
-    order.binary_search_by(|place| bytes_at(reads, *place).cmp(&key.as_bytes()))
+    order.binary_search_by(|place| compare_at(reads, *place, key))
 }

@@ -1,6 +1,6 @@
 //! A write set: the final write of each key.
 ghost use Rattle.std.specs.Prelude.{◌≡◌, ◌<◌, ◌≤◌, ◌+◌, ◌==◌, ◌&&◌, [], length, slice_set, is_none, is_some, IsOk, OnOk, IfOk, IfErr, vec_len, vec_capacity};
-ghost use Rattle.pc_model.specs.Database.{with_write, written};
+ghost use Rattle.pc_model.specs.Database.{key_cmp, with_write, written};
 ghost use Rattle.pc_model.specs.DistinctWrites.{AreDistinct};
 ghost use Rattle.pc_model.specs.Places.{IsAt, IsGap};
 ghost use Rattle.pc_txn.specs.Orders.{key_at, entries, IsOrder};
@@ -10,6 +10,7 @@ use crate::order::{self, Places};
 use pc_types::{Items, Key, MOST_WRITES, Write};
 use smallvec::SmallVec;
 use std::alloc::{AllocError, Global};
+use std::cmp::Ordering;
 use std::marker::Model;
 
 /// What one transaction has written: the final write of each key, in the order of first writes. A key is found by a search
@@ -133,13 +134,13 @@ fn make_room(writes: &mut Vec<Write>) -> Result<(), AllocError>
     }
 }
 
-// The bytes of the key at the place, none past the last one.
-fn bytes_at(writes: &[Write], place: usize) -> &[u8]
-    ensures { result.now ≡ key_at (written_keys writes.now) place }
+// How the key at the place is ordered against this one; past the last place stand no bytes.
+fn compare_at(writes: &[Write], place: usize, key: &Key) -> Ordering
+    ensures { result ≡ key_cmp (key_at (written_keys writes.now) place) key.now }
 {
     match writes.get(place) {
-        Some(write) => write.key.as_bytes(),
-        None => &[],
+        Some(write) => write.key.compare(key),
+        None => (&[] as &[u8]).cmp(&key.as_bytes()),
     }
 }
 
@@ -149,7 +150,7 @@ fn position(writes: &[Write], order: &[usize], key: &Key) -> Result<usize, usize
     ensures at { IfOk result (IsAt (entries (written_keys writes.now) order.now) key.now) }
     ensures gap { IfErr result (IsGap (entries (written_keys writes.now) order.now) key.now) }
 {
-    order.binary_search_by(|place| bytes_at(writes, *place).cmp(&key.as_bytes()))
+    order.binary_search_by(|place| compare_at(writes, *place, key))
 }
 
 // Puts the write in the place of another.
