@@ -204,7 +204,8 @@ fn commit_open(
             slots,
             ..
         },
-    ) = sessions::end(sessions, session) else {
+    ) = sessions::end(sessions, session)
+    else {
         unreachable!();
     };
     records.commit(writes.as_slice(), slots.as_slice());
@@ -238,7 +239,8 @@ fn abort_open(
             slots,
             ..
         },
-    ) = sessions::end(sessions, session) else {
+    ) = sessions::end(sessions, session)
+    else {
         unreachable!();
     };
     records.undo(writes.as_slice(), slots.as_slice());

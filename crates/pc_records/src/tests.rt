@@ -293,7 +293,10 @@ fn remove(alloc: Global, records: &mut Records, key: u8) -> Result<Told, Refusal
     if records.is_waiting(TxnNo(1)) {
         return Ok(NotAsked);
     }
-    told_of(records.write(alloc, TxnNo(1), DURING, &key, None))
+    match records.write(alloc, TxnNo(1), DURING, &key, None) {
+        Ok(answer) => told_of(Ok(answer.outcome)),
+        Err(why) => told_of(Err(why)),
+    }
 }
 
 // A key without a record is removed, and where there is no room for it one with a record.
