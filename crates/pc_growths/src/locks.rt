@@ -1,8 +1,7 @@
 //! Locks beside a twin: one growth of memory is refused, so at most one of the two is ever asked again for an event.
-ghost use Rattle.std.specs.Prelude.{◌≡◌, ◌<◌, ◌≤◌, length, IfOk};
 
-use pc_locks::Locks;
-use pc_types::{MOST_KEYS, Mode, Outcome, SlotId, TxnNo};
+use pc_lock_slots::{SLOTS, Slots};
+use pc_types::{Mode, Outcome, SlotId, TxnNo};
 use std::alloc::{AllocError, Global};
 use std::test::Fail;
 
@@ -52,28 +51,21 @@ const ROWS: [(Event, &str); 29] = [
 ];
 
 // What comes of an event, where memory isn't wanting.
-fn done(locks: &mut Locks, event: Event) -> Result<&'static str, AllocError>
-    requires { 2 ≤ length locks.old.queues }
-    ensures { length locks.new.queues ≡ length locks.old.queues }
-{
+fn done(locks: &mut Slots, event: Event) -> Result<&'static str, AllocError> {
     let (number, slot, mode) = event;
     let transaction = TxnNo(number);
     let Some(mode) = mode else {
         return Ok(released(locks, transaction));
     };
-    if locks.is_waiting(transaction) {
-        return Ok("waits");
-    }
-    match locks.request(transaction, SlotId(slot % 2), mode)? {
-        Outcome::Granted => Ok("granted"),
-        Outcome::Queued => Ok("queued"),
-        Outcome::Died => Ok("died"),
+    match locks.request(transaction, slot, mode)? {
+        None => Ok("waits"),
+        Some(Outcome::Granted) => Ok("granted"),
+        Some(Outcome::Queued) => Ok("queued"),
+        Some(Outcome::Died) => Ok("died"),
     }
 }
 
-fn released(locks: &mut Locks, transaction: TxnNo) -> &'static str
-    ensures { length locks.new.queues ≡ length locks.old.queues }
-{
+fn released(locks: &mut Slots, transaction: TxnNo) -> &'static str {
     match locks.release_one(transaction) {
         Some(SlotId(0)) => "released 0",
         Some(_) => "released 1",
@@ -82,24 +74,18 @@ fn released(locks: &mut Locks, transaction: TxnNo) -> &'static str
 }
 
 // Whether both look the same: at each of the two slots, and for the transactions 1 to 64.
-fn look_alike(one: &Locks, other: &Locks) -> bool
-    requires { (2 ≤ length one.now.queues) × (2 ≤ length other.now.queues) }
-{
+fn look_alike(one: &Slots, other: &Slots) -> bool {
     for number in 1..=64u64 {
         if one.is_waiting(TxnNo(number)) != other.is_waiting(TxnNo(number)) {
             return false;
         }
     }
-    one.has_request(SlotId(0)) == other.has_request(SlotId(0))
-        && one.has_request(SlotId(1)) == other.has_request(SlotId(1))
+    one.has_request(0) == other.has_request(0) && one.has_request(1) == other.has_request(1)
 }
 
 // What comes of an event. Where memory was wanting they are asked again, and have to look as the twin, which wasn't asked
 // for this event yet.
-fn done_again(locks: &mut Locks, twin: &Locks, event: Event) -> Result<&'static str, AllocError>
-    requires { (2 ≤ length locks.old.queues) × (2 ≤ length twin.now.queues) }
-    ensures { length locks.new.queues ≡ length locks.old.queues }
-{
+fn done_again(locks: &mut Slots, twin: &Slots, event: Event) -> Result<&'static str, AllocError> {
     if let Ok(word) = done(locks, event) {
         return Ok(word);
     }
@@ -109,10 +95,7 @@ fn done_again(locks: &mut Locks, twin: &Locks, event: Event) -> Result<&'static 
     done(locks, event)
 }
 
-fn twin_done(twin: &mut Locks, event: Event) -> Result<&'static str, AllocError>
-    requires { 2 ≤ length twin.old.queues }
-    ensures { length twin.new.queues ≡ length twin.old.queues }
-{
+fn twin_done(twin: &mut Slots, event: Event) -> Result<&'static str, AllocError> {
     if let Ok(word) = done(twin, event) {
         return Ok(word);
     }
@@ -121,35 +104,28 @@ fn twin_done(twin: &mut Locks, event: Event) -> Result<&'static str, AllocError>
 
 // Whether the event comes to this in both, and they look alike then.
 fn is_right(
-    locks: &mut Locks,
-    twin: &mut Locks,
+    locks: &mut Slots,
+    twin: &mut Slots,
     event: Event,
     wanted: &str,
-) -> Result<bool, AllocError>
-    requires { (2 ≤ length locks.old.queues) × (2 ≤ length twin.old.queues) }
-    ensures locks { length locks.new.queues ≡ length locks.old.queues }
-    ensures twin { length twin.new.queues ≡ length twin.old.queues }
-{
+) -> Result<bool, AllocError> {
     let word = done_again(locks, twin, event)?;
     let other = twin_done(twin, event)?;
     Ok(word == wanted && other == wanted && look_alike(locks, twin))
 }
 
-// Locks of so many slots; where memory is wanting they are made again.
-fn new_locks(alloc: Global, slots: u32) -> Result<Locks, AllocError>
-    requires { (1 ≤ slots) × (slots ≤ MOST_KEYS) }
-    ensures { IfOk result (λ locks. slots ≤ length locks.queues) }
-{
-    match Locks::new(alloc, slots) {
+// Locks; where memory is wanting they are made again.
+fn new_locks(alloc: Global) -> Result<Slots, AllocError> {
+    match Slots::new(alloc) {
         Ok(locks) => Ok(locks),
-        Err(_) => Locks::new(alloc, slots),
+        Err(_) => Slots::new(alloc),
     }
 }
 
 // The first of the rows at which the locks or their twin say something else, or look otherwise.
 fn first_wrong_row(alloc: Global) -> Result<Option<usize>, AllocError> {
-    let mut locks = new_locks(alloc, 2)?;
-    let mut twin = new_locks(alloc, 2)?;
+    let mut locks = new_locks(alloc)?;
+    let mut twin = new_locks(alloc)?;
     for (i, row) in ROWS.iter().enumerate() {
         if !is_right(&mut locks, &mut twin, row.0, row.1)? {
             return Ok(Some(i));
@@ -193,8 +169,8 @@ fn crowd_row(n: u64) -> (Event, &'static str) {
 
 // The first of the crowd's 192 events at which the locks or their twin say something else, or look otherwise.
 fn first_wrong_of_crowd(alloc: Global) -> Result<Option<u64>, AllocError> {
-    let mut locks = new_locks(alloc, 2)?;
-    let mut twin = new_locks(alloc, 2)?;
+    let mut locks = new_locks(alloc)?;
+    let mut twin = new_locks(alloc)?;
     for n in 0..192u64 {
         let (event, word) = crowd_row(n);
         if !is_right(&mut locks, &mut twin, event, word)? {
@@ -205,33 +181,21 @@ fn first_wrong_of_crowd(alloc: Global) -> Result<Option<u64>, AllocError> {
 }
 
 // Whether the transaction 1 is granted to read the slot; it asks again where memory was wanting.
-fn reads(locks: &mut Locks, slot: u32) -> Result<bool, AllocError>
-    requires { slot < length locks.old.queues }
-    ensures { length locks.new.queues ≡ length locks.old.queues }
-{
+fn reads(locks: &mut Slots, slot: u32) -> Result<bool, AllocError> {
     if let Ok(is_granted) = reads_once(locks, slot) {
         return Ok(is_granted);
     }
     reads_once(locks, slot)
 }
 
-fn reads_once(locks: &mut Locks, slot: u32) -> Result<bool, AllocError>
-    requires { slot < length locks.old.queues }
-    ensures { length locks.new.queues ≡ length locks.old.queues }
-{
-    if locks.is_waiting(TxnNo(1)) {
-        return Ok(false);
-    }
-    let outcome = locks.request(TxnNo(1), SlotId(slot), Mode::Shared)?;
-    Ok(outcome == Outcome::Granted)
+fn reads_once(locks: &mut Slots, slot: u32) -> Result<bool, AllocError> {
+    let answer = locks.request(TxnNo(1), slot, Mode::Shared)?;
+    Ok(answer == Some(Outcome::Granted))
 }
 
 // Whether it is granted to read each of 16 slots.
-fn reads_all(locks: &mut Locks) -> Result<bool, AllocError>
-    requires { 16 ≤ length locks.old.queues }
-    ensures { length locks.new.queues ≡ length locks.old.queues }
-{
-    for slot in 0..16u32 {
+fn reads_all(locks: &mut Slots) -> Result<bool, AllocError> {
+    for slot in 0..SLOTS {
         if !reads(locks, slot)? {
             return Ok(false);
         }
@@ -240,8 +204,8 @@ fn reads_all(locks: &mut Locks) -> Result<bool, AllocError>
 }
 
 // Whether it then releases them in that order, and nothing more.
-fn releases_all(locks: &mut Locks) -> bool {
-    for slot in 0..16u32 {
+fn releases_all(locks: &mut Slots) -> bool {
+    for slot in 0..SLOTS {
         if locks.release_one(TxnNo(1)) != Some(SlotId(slot)) {
             return false;
         }
@@ -251,7 +215,7 @@ fn releases_all(locks: &mut Locks) -> bool {
 
 // Whether one transaction's long list of slots is right.
 fn is_long_list_right(alloc: Global) -> Result<bool, AllocError> {
-    let mut locks = new_locks(alloc, 16)?;
+    let mut locks = new_locks(alloc)?;
     Ok(reads_all(&mut locks)? && releases_all(&mut locks))
 }
 
@@ -259,11 +223,11 @@ fn is_long_list_right(alloc: Global) -> Result<bool, AllocError> {
 // was wanting, and then gives each back and reads it once more. Its list never becomes empty, and the place that it gave
 // back has its links, so that no growth is asked for and none can be refused.
 fn reads_again_at_once(alloc: Global) -> Result<bool, AllocError> {
-    let mut locks = new_locks(alloc, 16)?;
+    let mut locks = new_locks(alloc)?;
     if !reads_all(&mut locks)? {
         return Ok(false);
     }
-    for slot in 0..16u32 {
+    for slot in 0..SLOTS {
         if locks.release_one(TxnNo(1)) != Some(SlotId(slot)) || !reads_once(&mut locks, slot)? {
             return Ok(false);
         }

@@ -9,8 +9,6 @@
 
 mod counts;
 mod lists;
-mod row;
-mod slots;
 mod table;
 
 use counts::Counts;

@@ -1,6 +1,6 @@
 //! The locks of two slots, with what three transactions know of their own requests.
 
-use crate::slots::Slots;
+use pc_lock_slots::Slots;
 use pc_types::{Mode, Outcome, Refusal, TxnNo};
 use std::alloc::Global;
 

@@ -1,7 +1,7 @@
 //! The ends of the slots' queues, in a row.
 ghost use Rattle.std.specs.Prelude.{◌≡◌, ◌≢◌, ◌<◌, ℕ, length, IfOk, replicate};
 ghost use Rattle.pc_locks.specs.Lines.{no_chain};
-ghost use Rattle.pc_lock_lists.specs.Rows.{ends_at};
+ghost use Rattle.pc_lock_slots.specs.Rows.{ends_at};
 
 use pc_chain::Chain;
 use pc_locks::QueueEnds;
@@ -20,7 +20,7 @@ pub struct ByRow;
 impl QueueEnds<ByRow> for Row {
     ghost use Rattle.std.specs.Prelude.{◌≡◌, ◌<◌, length, refl};
     ghost use Rattle.std.proofs.Common.{◌∙◌, sym, subst};
-    ghost use Rattle.pc_lock_lists.specs.Rows.{ends_at};
+    ghost use Rattle.pc_lock_slots.specs.Rows.{ends_at};
 
     ghost has = { λ row slot. slot < length row.ends.items };
 
@@ -49,12 +49,12 @@ impl QueueEnds<ByRow> for Row {
 }
 
 impl Row {
-    /// The ends of the empty queues of two slots.
+    /// The ends of the empty queues of sixteen slots.
     pub fn new(alloc: Global) -> Result<Row, AllocError>
-        ensures { IfOk result (λ row. row.ends.items ≡ replicate 2 no_chain) }
+        ensures { IfOk result (λ row. row.ends.items ≡ replicate 16 no_chain) }
     {
         Ok(Row {
-            ends: vec![in alloc; Chain::new(); 2]?,
+            ends: vec![in alloc; Chain::new(); 16]?,
         })
     }
 }

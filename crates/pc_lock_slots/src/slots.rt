@@ -1,4 +1,4 @@
-//! The locks of two slots, with the ends of their queues.
+//! The locks of sixteen slots, with the ends of their queues.
 ghost use Rattle.std.specs.Prelude.{◌≡◌};
 
 use crate::row::Row;
@@ -6,6 +6,9 @@ use pc_locks::Locks;
 use pc_types::{Mode, Outcome, SlotId, TxnNo};
 use std::alloc::{AllocError, Global};
 use std::marker::Model;
+
+/// How many slots there are. A greater number is that of a slot by its remainder.
+pub const SLOTS: u32 = 16;
 
 /// Locks, and who keeps the ends of their queues.
 #[derive(Drop)]
@@ -18,7 +21,7 @@ impl Model for Slots {
     ghost use Rattle.std.specs.Prelude.{ℕ, ◌<◌, ◌≤◌, length};
     ghost use Rattle.std.specs.Coded.{coded_ℕ};
     ghost use Rattle.pc_locks.specs.Keepers.{AreSound};
-    ghost use Rattle.pc_lock_lists.specs.Rows.{ends_at};
+    ghost use Rattle.pc_lock_slots.specs.Rows.{ends_at};
 
     ghost Value = { ℕ };
 
@@ -26,7 +29,7 @@ impl Model for Slots {
 
     ghost view = { λ a. length a.row.ends.items };
 
-    ghost invariant = { λ a. (2 ≤ length a.row.ends.items) × AreSound (λ slot. slot < length a.row.ends.items) (ends_at a.row.ends.items) a.locks };
+    ghost invariant = { λ a. (16 ≤ length a.row.ends.items) × AreSound (λ slot. slot < length a.row.ends.items) (ends_at a.row.ends.items) a.locks };
 }
 
 impl Slots {
@@ -42,12 +45,12 @@ impl Slots {
         self.locks.is_waiting(transaction)
     }
 
-    /// Whether a request of the slot 0 or 1 stands.
+    /// Whether a request of the slot stands.
     pub fn has_request(&self, slot: u32) -> bool {
-        self.locks.has_request(&self.row, SlotId(slot % 2))
+        self.locks.has_request(&self.row, SlotId(slot % SLOTS))
     }
 
-    /// How a request of the slot 0 or 1 is answered; None where the transaction waits.
+    /// How a request of the slot is answered; None where the transaction waits. Where memory ran out nothing changed.
     pub fn request(
         &mut self,
         transaction: TxnNo,
@@ -57,7 +60,7 @@ impl Slots {
         if self.locks.is_waiting(transaction) {
             return Ok(None);
         }
-        let slot = SlotId(slot % 2);
+        let slot = SlotId(slot % SLOTS);
         let answer = self.locks.request(&mut self.row, transaction, slot, mode)?;
         Ok(Some(answer))
     }

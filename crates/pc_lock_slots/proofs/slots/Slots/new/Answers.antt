@@ -1,8 +1,8 @@
 use Rattle.std.proofs.Common.{◌<◌, length, ap, arith}
 use Rattle.pc_locks.proofs.KeeperLaws.{sound_none}
-use Rattle.pc_lock_lists.specs.Rows.{ends_at}
-use Rattle.pc_lock_lists.proofs.EmptyRows.{empty_at}
-use Rattle.pc_lock_lists.proofs.slots.Slots.new.Goals as goal
+use Rattle.pc_lock_slots.specs.Rows.{ends_at}
+use Rattle.pc_lock_slots.proofs.EmptyRows.{empty_at}
+use Rattle.pc_lock_slots.proofs.slots.Slots.new.Goals as goal
 
 pub invariant_of-result : goal.invariant_of-result
 invariant_of-result c =
