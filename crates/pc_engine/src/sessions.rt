@@ -136,16 +136,17 @@ pub(crate) fn note_death(sessions: &mut Vec<Option<Transaction>>, session: Sessi
     }
 }
 
-/// The session's transaction is taken out, if it has one.
-pub(crate) fn end(
-    sessions: &mut Vec<Option<Transaction>>,
-    session: SessionNo,
-) -> Option<Transaction>
-    requires { session - 1 < length sessions.old.items }
-    ensures given { option_map active_of result ≡ active_in (actives_of sessions.old.items) session }
+/// The session's open transaction, which is taken out.
+pub(crate) fn end(sessions: &mut Vec<Option<Transaction>>, session: SessionNo) -> Transaction
+    requires place { session - 1 < length sessions.old.items }
+    requires opened { is_none (active_in (actives_of sessions.old.items) session) ≡ false }
+    ensures given { Some (active_of result) ≡ active_in (actives_of sessions.old.items) session }
     ensures rest { actives_of sessions.new.items ≡ with_session (actives_of sessions.old.items) session None }
 {
-    sessions[place(session)].take()
+    match sessions[place(session)].take() {
+        Some(transaction) => transaction,
+        None => unreachable!(),
+    }
 }
 
 /// The session's transaction requests to read the key, and reads it where the request is granted: what it has written

@@ -197,17 +197,12 @@ fn commit_open(
         → HoldTogether records.new (actives_of sessions.new.items) begun phase point (open_keys ++ new_keys records.old.rows (writes_in (active_in (actives_of sessions.old.items) session))) closed }
 {
     let number = sessions::number(sessions, session);
-    let Some(
-        Transaction {
-            class,
-            writes,
-            slots,
-            ..
-        },
-    ) = sessions::end(sessions, session)
-    else {
-        unreachable!();
-    };
+    let Transaction {
+        class,
+        writes,
+        slots,
+        ..
+    } = sessions::end(sessions, session);
     records.commit(writes.as_slice(), slots.as_slice());
     let entry_number = log.append_reserved(Entry::Commit(session, writes.into_writes()));
     records.release(number);
@@ -232,17 +227,12 @@ fn abort_open(
     ensures together { StayTogether records.old (actives_of sessions.old.items) records.new (actives_of sessions.new.items) }
 {
     let number = sessions::number(sessions, session);
-    let Some(
-        Transaction {
-            class,
-            writes,
-            slots,
-            ..
-        },
-    ) = sessions::end(sessions, session)
-    else {
-        unreachable!();
-    };
+    let Transaction {
+        class,
+        writes,
+        slots,
+        ..
+    } = sessions::end(sessions, session);
     records.undo(writes.as_slice(), slots.as_slice());
     records.release(number);
     class
