@@ -87,25 +87,26 @@ module _ (us vs : List ℕ) (i : ℕ) where
       ended (x ∷ xs) [] a b = let t : length vs < length us = omega (arith, e, a, b) in sym (nat_cmp_is (length us) (length vs) Greater t)
       ended (x ∷ xs) (y ∷ ys) a b = absurd (omega (arith, e, a, b))
 
-module _ (us vs : List ℕ) (g : IsBytes us) (h : IsBytes vs) (i x y : ℕ) (p : i + 8 ≤ length us) (q : i + 8 ≤ length vs)
-    (a : x ≡ big_endian 0 (take 8 (drop i us))) (b : y ≡ big_endian 0 (take 8 (drop i vs))) where
-  word : nat_cmp x y ≡ slice_cmp nat_cmp (take 8 (drop i us)) (take 8 (drop i vs))
-  word = (λ t. nat_cmp (a t) (b t)) ∙ numbers 8 0 0 (drop i us) (drop i vs) (omega (arith, length-drop i us)) (omega (arith, length-drop i vs)) (IsBytes-drop i us g) (IsBytes-drop i vs h)
+-- so many bytes of each, read as a word
+module _ (w : ℕ) (us vs : List ℕ) (g : IsBytes us) (h : IsBytes vs) (i x y : ℕ) (p : i + w ≤ length us) (q : i + w ≤ length vs)
+    (a : x ≡ big_endian 0 (take w (drop i us))) (b : y ≡ big_endian 0 (take w (drop i vs))) where
+  word : nat_cmp x y ≡ slice_cmp nat_cmp (take w (drop i us)) (take w (drop i vs))
+  word = (λ t. nat_cmp (a t) (b t)) ∙ numbers w 0 0 (drop i us) (drop i vs) (omega (arith, length-drop i us)) (omega (arith, length-drop i vs)) (IsBytes-drop i us g) (IsBytes-drop i vs h)
 
-  here : slice_cmp nat_cmp (drop i us) (drop i vs) ≡ ordering_then (nat_cmp x y) (slice_cmp nat_cmp (drop (i + 8) us) (drop (i + 8) vs))
+  here : slice_cmp nat_cmp (drop i us) (drop i vs) ≡ ordering_then (nat_cmp x y) (slice_cmp nat_cmp (drop (i + w) us) (drop (i + w) vs))
   here =
-      split 8 (drop i us) (drop i vs) (omega (arith, length-drop i us)) (omega (arith, length-drop i vs))
-      ∙ (λ t. ordering_then (sym word t) (slice_cmp nat_cmp (drop-drop 8 i us t) (drop-drop 8 i vs t)))
+      split w (drop i us) (drop i vs) (omega (arith, length-drop i us)) (omega (arith, length-drop i vs))
+      ∙ (λ t. ordering_then (sym word t) (slice_cmp nat_cmp (drop-drop w i us t) (drop-drop w i vs t)))
 
   -- behind words that are the same
-  pub past_word : x ≡ y → slice_cmp nat_cmp (drop i us) (drop i vs) ≡ slice_cmp nat_cmp (drop (i + 8) us) (drop (i + 8) vs)
-  past_word e = here ∙ ap (λ r. ordering_then r (slice_cmp nat_cmp (drop (i + 8) us) (drop (i + 8) vs))) (level x y e)
+  pub past_word : x ≡ y → slice_cmp nat_cmp (drop i us) (drop i vs) ≡ slice_cmp nat_cmp (drop (i + w) us) (drop (i + w) vs)
+  past_word e = here ∙ ap (λ r. ordering_then r (slice_cmp nat_cmp (drop (i + w) us) (drop (i + w) vs))) (level x y e)
 
   -- words that differ
   pub by_word : x ≢ y → nat_cmp x y ≡ slice_cmp nat_cmp (drop i us) (drop i vs)
   by_word e = decided (nat_cmp x y) (ranks x y) ∙ sym here
     where
-      decided : (r : Ordering) → MatchOrdering r (x < y) (x ≡ y) (y < x) → r ≡ ordering_then r (slice_cmp nat_cmp (drop (i + 8) us) (drop (i + 8) vs))
+      decided : (r : Ordering) → MatchOrdering r (x < y) (x ≡ y) (y < x) → r ≡ ordering_then r (slice_cmp nat_cmp (drop (i + w) us) (drop (i + w) vs))
       decided Less l = refl
       decided Equal l = absurd (e l)
       decided Greater l = refl

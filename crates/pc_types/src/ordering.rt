@@ -18,7 +18,22 @@ pub(crate) fn order(a: &[u8], b: &[u8]) -> Ordering
             return x.cmp(&y);
         }
     }
-    order_behind(a, b, words * 8)
+    order_half(a, b, words * 8)
+}
+
+// How the bytes from there on are ordered; the first four are compared as one number, where both have as many.
+fn order_half(a: &[u8], b: &[u8], start: usize) -> Ordering
+    requires { (start ≤ length a.now) × (start ≤ length b.now) }
+    ensures { result ≡ slice_cmp nat_cmp (drop start a.now) (drop start b.now) }
+{
+    if a.len().min(b.len()) - start < 4 {
+        return order_behind(a, b, start);
+    }
+    let (x, y) = (half_at(a, start), half_at(b, start));
+    if x != y {
+        return x.cmp(&y);
+    }
+    order_behind(a, b, start + 4)
 }
 
 // How the bytes from there on are ordered.
@@ -50,5 +65,18 @@ fn word_at(bytes: &[u8], start: usize) -> u64
         bytes[start + 5],
         bytes[start + 6],
         bytes[start + 7],
+    ])
+}
+
+// The number that the four bytes from there on spell, the highest one first.
+fn half_at(bytes: &[u8], start: usize) -> u32
+    requires { start + 4 ≤ length bytes.now }
+    ensures { result ≡ big_endian 0 (take 4 (drop start bytes.now)) }
+{
+    u32::from_be_bytes([
+        bytes[start],
+        bytes[start + 1],
+        bytes[start + 2],
+        bytes[start + 3],
     ])
 }
