@@ -1,6 +1,9 @@
 -- Columns of cells.
-use Rattle.std.proofs.Common.{◌≡◌, ◌≢◌, ℕ, ◌<◌, List, Option, None, length, get_or, set, map, refl, sym, ap, ◌∙◌}
+use Rattle.std.proofs.Common.{◌≡◌, ◌≢◌, ℕ, ◌<◌, List, Option, Some, None, length, get_or, set, map, refl, sym, ap, ◌∙◌}
 use Rattle.std.proofs.lemmas.List.{get_or-map, length-map, map-set, set-get_or}
+use Rattle.pc_arena.specs.declared.cells.Cell.{Cell}
+use Rattle.pc_arena.specs.declared.cells.Cell.TheVariants.{Free, Taken}
+use Rattle.pc_arena.specs.Cells.{item_of, link_of, with_record}
 use Rattle.pc_arena.specs.Slots.{at}
 use Rattle.pc_arena.proofs.SlotLaws.{at_here, at_other}
 
@@ -22,3 +25,13 @@ column_other f xs i j k y e n = ap (λ c. at c k) (column_set f xs i j y (f y) e
 -- what a column has at a cell that was read
 pub column_read : {X Y : Type 0} (f : X → Option Y) (xs : List X) (i j : ℕ) (x : X) → i ≡ j → j < length xs → x ≡ get_or xs i x → at (map f xs) j ≡ f x
 column_read f xs i j x e w r = get_or-map f xs j x None w ∙ ap f (ap (λ k. get_or xs k x) (sym e) ∙ sym r)
+
+module _ {T : Type 0} where
+  -- a cell with another record has it, and leads to where it led
+  pub item_with : (cell : Cell T) (item : T) → item_of (with_record cell item) ≡ Some item
+  item_with (Free leads next) item = refl
+  item_with (Taken leads next old) item = refl
+
+  pub link_with : (cell : Cell T) (item : T) → link_of (with_record cell item) ≡ link_of cell
+  link_with (Free leads next) item = refl
+  link_with (Taken leads next old) item = refl

@@ -9,7 +9,6 @@ use pc_chain::{Chain, Links};
 use pc_types::{MOST_KEYS, Refusal, SlotId};
 use std::alloc::{AllocError, Global};
 use std::marker::Model;
-use std::mem;
 
 /// Records in slots, which are numbered from 0; a slot without a record is free. Each slot has a word of links beside its
 /// record, which leads to another slot or to none. The arena is seen as the records by slot, and the links. The memory of
@@ -53,7 +52,7 @@ impl<T> Links<ByLink> for Arena<T> {
     ghost beside = { λ a b. b.items ≡ a.items };
 
     fn next(&self, id: SlotId) -> Option<SlotId> {
-        self.cells.cells[id.0 as usize].link
+        self.cells.cells[id.0 as usize].link()
     }
 
     fn set_next(&mut self, id: SlotId, next: Option<SlotId>)
@@ -63,7 +62,7 @@ impl<T> Links<ByLink> for Arena<T> {
         ensures has { (other : ℕ) → IsTaken self.old.items other → IsTaken self.new.items other }
         ensures beside { self.new.items ≡ self.old.items }
     {
-        self.cells.cells[id.0 as usize].link = next;
+        self.cells.cells[id.0 as usize].put_link(next);
     }
 
     ghost beside_same = { λ a. refl };
@@ -94,7 +93,7 @@ impl<T> Arena<T> {
         ensures value { at self.now.items id ≡ Some result.now }
         ensures most { length self.now.items ≤ MOST_KEYS }
     {
-        match &self.cells.cells[id.0 as usize].item {
+        match self.cells.cells[id.0 as usize].item() {
             Some(item) => item,
             None => unreachable!(),
         }
@@ -105,7 +104,7 @@ impl<T> Arena<T> {
         ensures { option_copied result ≡ at self.now.items id }
     {
         match self.cells.cells.get(id.0 as usize) {
-            Some(cell) => cell.item.as_ref(),
+            Some(cell) => cell.item(),
             None => None,
         }
     }
@@ -146,17 +145,14 @@ impl<T: Drop> Arena<T> {
         ensures err { OnErr result (self.new ≡ self.old) }
     {
         if let Some(id) = self.free.pop_front::<ByLink, Cells<T>>(&self.cells) {
-            self.cells.cells[id.0 as usize].item = Some(item);
+            self.cells.cells[id.0 as usize].put_item(item);
             return Ok(id);
         }
         let written = self.cells.cells.len() as u32;
         if written == self.capacity {
             return Err(Refusal::Full);
         }
-        self.cells.cells.push_reserved(Cell {
-            link: None,
-            item: Some(item),
-        });
+        self.cells.cells.push_reserved(Cell::taken(item));
         Ok(SlotId(written))
     }
 
@@ -168,10 +164,7 @@ impl<T: Drop> Arena<T> {
         ensures items { self.new.items ≡ slice_set self.old.items id None }
         ensures links { (other : ℕ) → other ≢ id → IsTaken self.old.items other → at self.new.links other ≡ at self.old.links other }
     {
-        let cell = &mut self.cells.cells[id.0 as usize];
-        let Some(item) = mem::replace(&mut cell.item, None) else {
-            unreachable!();
-        };
+        let item = self.cells.cells[id.0 as usize].take_item();
         self.free.push_back::<ByLink, Cells<T>>(&mut self.cells, id);
         item
     }
