@@ -1,6 +1,5 @@
 //! The chain itself: its two ends.
-ghost use Rattle.std.specs.Prelude.{◌≡◌, ◌≢◌, ◌↔◌, ◌<◌, ◌^◌, IsTrue, [], ◌∷◌, ◌++◌, List, length, Some, None, IfSome};
-ghost use Rattle.std.specs.List.{list_any};
+ghost use Rattle.std.specs.Prelude.{◌≡◌, ◌≢◌, [], ◌∷◌, ◌++◌, List, Some, None, IfSome};
 ghost use Rattle.pc_chain.specs.Chains.{first_of, last_of, rest_of, Avoids, AreApart, IsChain, IsEmpty, SetsLink};
 
 use crate::links::Links;
@@ -114,62 +113,5 @@ fn link<K, L: Links<K>>(links: &mut L, last: Option<<L as Links<K>>::Id>, id: <L
 {
     if let Some(last) = last {
         links.set_next(last, Some(id));
-    }
-}
-
-impl<I: Copy + PartialEq> Chain<I> {
-    /// Whether the id is in the list, which has fewer than 2^64 ids.
-    pub fn contains<K, L: Links<K, Id = I>>(&self, links: &L, id: I) -> bool
-        requires { (xs : List I) × IsChain (L.has links.now) (L.next_of links.now) self.now xs × (length xs < 2 ^ 64) }
-        ensures { (xs : List I) → IsChain (L.has links.now) (L.next_of links.now) self.now xs → result ≡ list_any (λ x. I.eq x id) xs }
-    {
-        let mut at = self.first;
-        for _ in 0..u64::MAX {
-            let Some(here) = at else {
-                return false;
-            };
-            if here == id {
-                return true;
-            }
-            at = links.next(here);
-        }
-        false
-    }
-
-    /// Takes the id, which is in the list, out of it, by going along the list up to it; the list has fewer than 2^64 ids, which
-    /// `==` tells from each other. Only the link of the id before it changes, so that each chain without a common id stays the
-    /// list that it was.
-    pub fn unlink<K, L: Links<K, Id = I>>(&mut self, links: &mut L, id: I)
-        requires told { (x y : I) → IsTrue (I.eq x y) ↔ (x ≡ y) }
-        requires stands { (before rest : List I) × IsChain (L.has links.old) (L.next_of links.old) self.old (before ++ id ∷ rest) × (length (before ++ id ∷ rest) < 2 ^ 64) }
-        ensures list { (before rest : List I) → IsChain (L.has links.old) (L.next_of links.old) self.old (before ++ id ∷ rest) → IsChain (L.has links.new) (L.next_of links.new) self.new (before ++ rest) }
-        ensures links { (before rest : List I) (other : I) → IsChain (L.has links.old) (L.next_of links.old) self.old (before ++ id ∷ rest) → Avoids other before → L.next_of links.new other ≡ L.next_of links.old other }
-        ensures others { (before rest ys : List I) (other : Chain I) → IsChain (L.has links.old) (L.next_of links.old) self.old (before ++ id ∷ rest) → IsChain (L.has links.old) (L.next_of links.old) other ys → AreApart (before ++ id ∷ rest) ys → IsChain (L.has links.new) (L.next_of links.new) other ys }
-        ensures has { (other : I) → L.has links.old other → L.has links.new other }
-        ensures beside { L.beside links.old links.new }
-    {
-        let previous = self.before(&*links, id);
-        self.unlink_after(links, previous);
-    }
-
-    // The id before this one, which is in the list; None where it is the first.
-    fn before<K, L: Links<K, Id = I>>(&self, links: &L, id: I) -> Option<I>
-        requires told { (x y : I) → IsTrue (I.eq x y) ↔ (x ≡ y) }
-        requires stands { (before rest : List I) × IsChain (L.has links.now) (L.next_of links.now) self.now (before ++ id ∷ rest) × (length (before ++ id ∷ rest) < 2 ^ 64) }
-        ensures { (before rest : List I) → IsChain (L.has links.now) (L.next_of links.now) self.now (before ++ id ∷ rest) → result ≡ last_of before }
-    {
-        let mut previous = None;
-        let mut place = self.first;
-        for _ in 0..u64::MAX {
-            let Some(here) = place else {
-                return previous;
-            };
-            if here == id {
-                return previous;
-            }
-            previous = Some(here);
-            place = links.next(here);
-        }
-        previous
     }
 }

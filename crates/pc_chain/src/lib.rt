@@ -1,10 +1,12 @@
-//! Chains: lists that are linked by ids, over links that someone else keeps.
+//! Chains and stacks: lists that are linked by ids, over links that someone else keeps.
 #![tactic(auto)]
 
 mod chain;
 mod links;
+mod stack;
 #[cfg(test)]
 mod tests;
 
 pub use chain::Chain;
 pub use links::Links;
+pub use stack::Stack;

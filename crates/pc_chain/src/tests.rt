@@ -1,7 +1,7 @@
 //! Chains over a vector of links.
 ghost use Rattle.std.specs.Prelude.{◌≡◌, ◌≢◌, ◌<◌, ◌≤◌, ℕ, None, IfOk, slice_index_or, vec_len};
 
-use crate::{Chain, Links};
+use crate::{Chain, Links, Stack};
 use std::alloc::{AllocError, Global};
 use std::test::Fail;
 
@@ -52,9 +52,9 @@ fn unlinked(alloc: Global, len: usize) -> Result<Row, AllocError>
     })
 }
 
-// What two chains over one row give: the id behind 0 of the chain 0, 2; whether 1 is in the chain of 1 alone, and 0; and what is
-// taken from the front of the first chain, three times.
-fn used(row: &mut Row) -> (Option<usize>, bool, bool, [Option<usize>; 3])
+// What two chains over one row give: the id behind 0 of the chain 0, 2; and what is taken from the front of that chain, three
+// times, once 2 was added again.
+fn used(row: &mut Row) -> (Option<usize>, [Option<usize>; 3])
     requires { 3 ≤ vec_len row.old.links }
 {
     let mut evens = Chain::new();
@@ -63,22 +63,41 @@ fn used(row: &mut Row) -> (Option<usize>, bool, bool, [Option<usize>; 3])
     odds.push_back(row, 1);
     evens.push_back(row, 2);
     let behind = evens.unlink_after(row, Some(0));
-    let has_one = odds.contains(row, 1);
-    let has_zero = odds.contains(row, 0);
     evens.push_back(row, 2);
     let first = evens.pop_front(row);
     let second = evens.pop_front(row);
     let third = evens.pop_front(row);
-    (behind, has_one, has_zero, [first, second, third])
+    (behind, [first, second, third])
 }
 
 #[test]
 fn two_chains_over_one_row(rt: HostRuntime) -> Result<(), Fail> {
     let mut row = unlinked(rt.alloc(), 3)?;
-    let (behind, has_one, has_zero, taken) = used(&mut row);
+    let (behind, taken) = used(&mut row);
     assert_eq!(rt; behind, Some(2));
-    assert!(rt; has_one);
-    assert!(rt; !has_zero);
     assert_eq!(rt; taken, [Some(0), Some(2), None]);
+    Ok(())
+}
+
+// What stands first in a stack that 0, 1 and 2 came into: at once, once 1 has left and with it the id behind 2, and once 2 has left.
+fn stacked(row: &mut Row) -> [Option<usize>; 4]
+    requires { 3 ≤ vec_len row.old.links }
+{
+    let mut stack = Stack::new();
+    stack.push_front(row, 0);
+    stack.push_front(row, 1);
+    stack.push_front(row, 2);
+    let top = stack.first(&*row);
+    stack.unlink(row, 1);
+    let left = stack.first(&*row);
+    let behind = row.next(2);
+    stack.unlink(row, 2);
+    [top, left, behind, stack.first(&*row)]
+}
+
+#[test]
+fn a_stack_over_a_row(rt: HostRuntime) -> Result<(), Fail> {
+    let mut row = unlinked(rt.alloc(), 3)?;
+    assert_eq!(rt; stacked(&mut row), [Some(2), Some(2), Some(0), Some(0)]);
     Ok(())
 }

@@ -4,7 +4,7 @@ use Rattle.std.proofs.lemmas.Bool.{or_parts}
 use Rattle.std.proofs.lemmas.Option.{none-some}
 use Rattle.std.specs.List.{list_any}
 use Rattle.pc_chain.specs.Chains.{Avoids}
-use Rattle.pc_chain.proofs.ChainLaws.{chain_fits}
+use Rattle.pc_chain.proofs.StackLaws.{stack_fits}
 use Rattle.pc_arena.specs.Slots.{Slots, at, IsTaken}
 use Rattle.pc_arena.proofs.SlotLaws.{taken_below}
 use Rattle.pc_index.specs.Indexes.{Table, place_of, chain_at, IsIndex}
@@ -48,4 +48,4 @@ module _ {T : Type 0} (key_of : T → List ℕ) where
   none_absent items key found s e id h = none-some id (sym e ∙ (s id).1 h)
 
   pub chain_short : (slots : Slots T) (table : Table) (i : IsIndex key_of slots table) (b : ℕ) → b < length table.chains → length (i.ids b) ≤ length slots.items
-  chain_short slots table i b w = chain_fits (IsTaken slots.items) (at slots.links) (chain_at table b) (i.ids b) (length slots.items) (taken_below slots.items) (i.chains b w)
+  chain_short slots table i b w = stack_fits (IsTaken slots.items) (at slots.links) (chain_at table b) (i.ids b) (length slots.items) (taken_below slots.items) (i.chains b w)

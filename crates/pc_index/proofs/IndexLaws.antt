@@ -1,7 +1,8 @@
 -- What leaves each key and each link keeps the index.
 use Rattle.std.proofs.Common.{◌≡◌, ◌≢◌, ℕ, ◌<◌, length, inl, inr, set, List, Option, Some, None, option_map, is_some, refl, sym, ap, ◌∙◌}
 use Rattle.std.proofs.lemmas.Bool.{cases_eq}
-use Rattle.pc_chain.proofs.ChainLaws.{have_still, have_from, chain_still}
+use Rattle.pc_chain.proofs.ChainLaws.{have_still, have_from}
+use Rattle.pc_chain.proofs.StackLaws.{stack_still}
 use Rattle.pc_arena.specs.Slots.{Slots, at, IsTaken}
 use Rattle.pc_arena.proofs.SlotLaws.{at_here, at_other, taken_below}
 use Rattle.pc_index.specs.Indexes.{Table, chain_at, IsIndex}
@@ -16,7 +17,7 @@ module _ {T : Type 0} (key_of : T → List ℕ) where
   pub index_kept : (old new : Slots T) (table : Table) → ((id : ℕ) → key_at key_of new.items id ≡ key_at key_of old.items id) → ((id : ℕ) → at new.links id ≡ at old.links id) → IsIndex key_of old table → IsIndex key_of new table
   index_kept old new table k l i = record {
     ids = i.ids;
-    chains = λ b w. chain_still (IsTaken old.items) (IsTaken new.items) (at old.links) (at new.links) (chain_at table b) (i.ids b)
+    chains = λ b w. stack_still (IsTaken old.items) (IsTaken new.items) (at old.links) (at new.links) (chain_at table b) (i.ids b)
         (λ y h. sym (some_mapped (at new.items y)) ∙ (ap is_some (k y) ∙ (some_mapped (at old.items y) ∙ h)))
         (have_from (λ y. at new.links y ≡ at old.links y) l (i.ids b)) (i.chains b w);
     placed = λ b w. have_still (IsPlaced key_of old.items table b) (IsPlaced key_of new.items table b) (λ y h key e. h key (sym (k y) ∙ e)) (i.ids b) (i.placed b w);

@@ -2,7 +2,7 @@
 use Rattle.std.proofs.Common.{◌≡◌, ◌≢◌, ℕ, ◌==◌, ◌<◌, ◌-◌, inl, inr, List, [], ◌∷◌, length, get_or, set, Option, Some, None, option_map, is_some, true, cond, bit_and, refl, sym, ◌∙◌, ap, subst, length-set}
 use Rattle.std.proofs.lemmas.Bool.{eq-eqb, ne_eqb, cases_eq, cond-true, cond-false, false≢true}
 use Rattle.std.proofs.lemmas.List.{get_or-set_same, get_or-set_other, get_or_read}
-use Rattle.pc_chain.specs.declared.chain.Chain.{Chain}
+use Rattle.pc_chain.specs.declared.stack.Stack.{Stack}
 use Rattle.pc_chain.specs.Chains.{Avoids, AreApart, AllHave}
 use Rattle.pc_chain.proofs.ChainLaws.{have_still, have_both, all_avoids}
 use Rattle.pc_arena.specs.Slots.{Slots, at, IsTaken}
@@ -21,31 +21,31 @@ pub changed_other : {X : Type 0} (f : ℕ → X) (p : ℕ) (x : X) (b : ℕ) →
 changed_other f p x b n = cond-false (b == p) x (f b) (ne_eqb b p n)
 
 -- the table with another chain at one place
-abbrev pub with_chain : Table → ℕ → Chain ℕ → Table
+abbrev pub with_chain : Table → ℕ → Stack ℕ → Table
 with_chain table p chain = record table { chains = set table.chains p chain }
 
-pub place_same : (table : Table) (p : ℕ) (chain : Chain ℕ) (key : List ℕ) → place_of (with_chain table p chain) key ≡ place_of table key
+pub place_same : (table : Table) (p : ℕ) (chain : Stack ℕ) (key : List ℕ) → place_of (with_chain table p chain) key ≡ place_of table key
 place_same table p chain key = ap (λ (n : ℕ). bit_and (key_hash table.seed key) (n - 1)) (length-set table.chains p chain)
 
-pub table_written : (inside table : Table) (n p : ℕ) (chain : Chain ℕ) → inside ≡ table → n ≡ p → with_chain inside n chain ≡ with_chain table p chain
+pub table_written : (inside table : Table) (n p : ℕ) (chain : Stack ℕ) → inside ≡ table → n ≡ p → with_chain inside n chain ≡ with_chain table p chain
 table_written inside table n p chain e f = ap (λ (t : Table). with_chain t n chain) e ∙ ap (λ (q : ℕ). with_chain table q chain) f
 
 -- the chain that was read at the place of a key
-pub chain_read : (inside table : Table) (n p : ℕ) (chain : Chain ℕ) → inside ≡ table → n ≡ p → n < length table.chains → chain ≡ get_or inside.chains n chain → (p < length table.chains) × (chain ≡ chain_at table p)
+pub chain_read : (inside table : Table) (n p : ℕ) (chain : Stack ℕ) → inside ≡ table → n ≡ p → n < length table.chains → chain ≡ get_or inside.chains n chain → (p < length table.chains) × (chain ≡ chain_at table p)
 chain_read inside table n p chain e f w r = (
   subst (λ (q : ℕ). q < length table.chains) f w,
-  get_or_read inside.chains n chain (subst (λ (t : Table). n < length t.chains) (sym e) w) r (record { first = None; last = None }) ∙ (ap (λ (t : Table). chain_at t n) e ∙ ap (chain_at table) f),
+  get_or_read inside.chains n chain (subst (λ (t : Table). n < length t.chains) (sym e) w) r (record { first = None }) ∙ (ap (λ (t : Table). chain_at t n) e ∙ ap (chain_at table) f),
 )
 
 -- what holds of the chain and the list of each place, where it holds of the new ones of one place and of the old ones of all others
-pub each_place : (P : Chain ℕ → List ℕ → Type 0) (table : Table) (ids : ℕ → List ℕ) (p : ℕ) (chain : Chain ℕ) (list : List ℕ) → p < length table.chains → P chain list →
+pub each_place : (P : Stack ℕ → List ℕ → Type 0) (table : Table) (ids : ℕ → List ℕ) (p : ℕ) (chain : Stack ℕ) (list : List ℕ) → p < length table.chains → P chain list →
     ((b : ℕ) → b < length table.chains → b ≢ p → P (chain_at table b) (ids b)) → (b : ℕ) → b < length table.chains → P (chain_at (with_chain table p chain) b) (changed ids p list b)
 each_place P table ids p chain list v h o b w = elim (cases_eq b p) [
   | inl e ↦
-      let c : chain_at (with_chain table p chain) b ≡ chain = ap (chain_at (with_chain table p chain)) e ∙ get_or-set_same table.chains p chain (record { first = None; last = None }) v in
+      let c : chain_at (with_chain table p chain) b ≡ chain = ap (chain_at (with_chain table p chain)) e ∙ get_or-set_same table.chains p chain (record { first = None }) v in
       rw (c, changed_here ids p list b e) h
   | inr n ↦
-      let c : chain_at (with_chain table p chain) b ≡ chain_at table b = get_or-set_other table.chains p b chain (record { first = None; last = None }) n in
+      let c : chain_at (with_chain table p chain) b ≡ chain_at table b = get_or-set_other table.chains p b chain (record { first = None }) n in
       rw (c, changed_other ids p list b n) (o b w n)
 ]
 

@@ -2,8 +2,9 @@
 use Rattle.std.proofs.Common.{◌≡◌, ◌≢◌, ℕ, ◌<◌, ◌≤◌, inl, inr, List, [], ◌∷◌, ◌++◌, length, set, Option, Some, None, option_map, is_some, sym, ◌∙◌, ap, subst, arith, length-set}
 use Rattle.std.proofs.lemmas.Bool.{cases_eq}
 use Rattle.std.proofs.lemmas.Option.{none-some}
-use Rattle.pc_chain.specs.declared.chain.Chain.{Chain}
-use Rattle.pc_chain.specs.Chains.{Avoids, AreApart, AllHave, Leads, IsChain}
+use Rattle.pc_chain.specs.declared.stack.Stack.{Stack}
+use Rattle.pc_chain.specs.Chains.{Avoids, AreApart, AllHave, Leads}
+use Rattle.pc_chain.specs.Stacks.{IsStack}
 use Rattle.pc_chain.proofs.ChainLaws.{have_still, have_both, have_without, avoids_all, leads_still, once}
 use Rattle.pc_arena.specs.Slots.{Slots, at, IsTaken}
 use Rattle.pc_arena.proofs.SlotLaws.{at_here, at_other, taken_below}
@@ -27,16 +28,16 @@ avoids_with y id (x ∷ xs) rest n a = (a.0, avoids_with y id xs rest n a.1)
 
 module _ {T : Type 0} (key_of : T → List ℕ) where
   -- the chain of the slot's key, and where in it the slot stands
-  pub record Standing (old : Slots T) (table : Table) (i : IsIndex key_of old table) (id : ℕ) (item : T) (chain : Chain ℕ) : Type 0 where
+  pub record Standing (old : Slots T) (table : Table) (i : IsIndex key_of old table) (id : ℕ) (item : T) (chain : Stack ℕ) : Type 0 where
     pub taken : at old.items id ≡ Some item
     pub place_in : place_of table (key_of item) < length table.chains
     pub before : List ℕ
     pub rest : List ℕ
     pub split : i.ids (place_of table (key_of item)) ≡ before ++ id ∷ rest
-    pub line : IsChain (IsTaken old.items) (at old.links) chain (before ++ id ∷ rest)
+    pub line : IsStack (IsTaken old.items) (at old.links) chain (before ++ id ∷ rest)
     pub short : length (before ++ id ∷ rest) ≤ length old.items
 
-  pub standing : (old : Slots T) (table : Table) (i : IsIndex key_of old table) (id : ℕ) (item : T) (chain : Chain ℕ) → at old.items id ≡ Some item → place_of table (key_of item) < length table.chains →
+  pub standing : (old : Slots T) (table : Table) (i : IsIndex key_of old table) (id : ℕ) (item : T) (chain : Stack ℕ) → at old.items id ≡ Some item → place_of table (key_of item) < length table.chains →
       chain ≡ chain_at table (place_of table (key_of item)) → Standing old table i id item chain
   standing old table i id item chain t w e =
       let p : ℕ = place_of table (key_of item) in
@@ -47,19 +48,19 @@ module _ {T : Type 0} (key_of : T → List ℕ) where
         before = s.0;
         rest = s.1;
         split = s.2;
-        line = subst (λ (c : Chain ℕ). IsChain (IsTaken old.items) (at old.links) c (s.0 ++ id ∷ s.1)) (sym e) (subst (IsChain (IsTaken old.items) (at old.links) (chain_at table p)) s.2 (i.chains p w));
+        line = subst (λ (c : Stack ℕ). IsStack (IsTaken old.items) (at old.links) c (s.0 ++ id ∷ s.1)) (sym e) (subst (IsStack (IsTaken old.items) (at old.links) (chain_at table p)) s.2 (i.chains p w));
         short = subst (λ (ys : List ℕ). length ys ≤ length old.items) s.2 (chain_short key_of old table i p w);
       }
 
   -- chains of other places have nothing in common with it
-  pub others_apart : (old : Slots T) (table : Table) (i : IsIndex key_of old table) (id : ℕ) (item : T) (chain : Chain ℕ) (s : Standing old table i id item chain) (b : ℕ) → b < length table.chains → b ≢ place_of table (key_of item) →
+  pub others_apart : (old : Slots T) (table : Table) (i : IsIndex key_of old table) (id : ℕ) (item : T) (chain : Stack ℕ) (s : Standing old table i id item chain) (b : ℕ) → b < length table.chains → b ≢ place_of table (key_of item) →
       AreApart (s.before ++ id ∷ s.rest) (i.ids b)
   others_apart old table i id item chain s b w n = subst (λ (ys : List ℕ). AreApart ys (i.ids b)) s.split (places_apart key_of old table i (place_of table (key_of item)) b s.place_in w n)
 
   -- what the slot leaves: its chain without it, and no record
-  pub record Removed (old mid new : Slots T) (table : Table) (i : IsIndex key_of old table) (id : ℕ) (item : T) (chain left : Chain ℕ) (s : Standing old table i id item chain) : Type 0 where
-    pub list : IsChain (IsTaken mid.items) (at mid.links) left (s.before ++ s.rest)
-    pub others : (b : ℕ) → b < length table.chains → b ≢ place_of table (key_of item) → IsChain (IsTaken mid.items) (at mid.links) (chain_at table b) (i.ids b)
+  pub record Removed (old mid new : Slots T) (table : Table) (i : IsIndex key_of old table) (id : ℕ) (item : T) (chain left : Stack ℕ) (s : Standing old table i id item chain) : Type 0 where
+    pub list : IsStack (IsTaken mid.items) (at mid.links) left (s.before ++ s.rest)
+    pub others : (b : ℕ) → b < length table.chains → b ≢ place_of table (key_of item) → IsStack (IsTaken mid.items) (at mid.links) (chain_at table b) (i.ids b)
     pub same : mid.items ≡ old.items
     pub items : new.items ≡ set mid.items id None
     pub links : (y : ℕ) → y ≢ id → IsTaken mid.items y → at new.links y ≡ at mid.links y
@@ -79,7 +80,7 @@ module _ {T : Type 0} (key_of : T → List ℕ) where
   slot_removed items id item key found t n s =
       slot_kept key_of items id None key found (taken_below items id (ap is_some t)) (λ e. n (one_key (key_of item) key (key_at key_of items id) (ap (option_map key_of) t) e)) (none-some key) s
 
-  module _ (old mid new : Slots T) (table : Table) (i : IsIndex key_of old table) (id : ℕ) (item : T) (chain left : Chain ℕ) (s : Standing old table i id item chain) (m : Removed old mid new table i id item chain left s) where
+  module _ (old mid new : Slots T) (table : Table) (i : IsIndex key_of old table) (id : ℕ) (item : T) (chain left : Stack ℕ) (s : Standing old table i id item chain) (m : Removed old mid new table i id item chain left s) where
     abbrev place : ℕ
     place = place_of table (key_of item)
 
@@ -93,12 +94,11 @@ module _ {T : Type 0} (key_of : T → List ℕ) where
     gone y k e = key_gone old.items id item new.items s.taken (m.items ∙ ap (λ (is : List (Option T)). set is id None) m.same) y k e
 
     -- a chain that the slot isn't in stays
-    line_left : (c : Chain ℕ) (ys : List ℕ) → Avoids id ys → IsChain (IsTaken mid.items) (at mid.links) c ys → IsChain (IsTaken new.items) (at new.links) c ys
+    line_left : (c : Stack ℕ) (ys : List ℕ) → Avoids id ys → IsStack (IsTaken mid.items) (at mid.links) c ys → IsStack (IsTaken new.items) (at new.links) c ys
     line_left c ys a l =
         let apart : AllHave (λ y. y ≢ id) ys = avoids_all id ys a in
         record {
           first = l.first;
-          last = l.last;
           leads = leads_still (at mid.links) (at new.links) ys (have_both (λ y. y ≢ id) (IsTaken mid.items) (λ y. at new.links y ≡ at mid.links y) ys m.links apart l.held) l.leads;
           held = have_both (λ y. y ≢ id) (IsTaken mid.items) (IsTaken new.items) ys (λ y n t. ap (λ (is : List (Option T)). is_some (at is y)) m.items ∙ (ap is_some (at_other mid.items id y None n) ∙ t)) apart l.held;
         }
@@ -106,8 +106,8 @@ module _ {T : Type 0} (key_of : T → List ℕ) where
     avoids_list : Avoids id list
     avoids_list = once (at old.links) id s.before s.rest (subst (Leads (at old.links)) s.split (i.chains place s.place_in).leads)
 
-    chains : (b : ℕ) → b < length table.chains → IsChain (IsTaken new.items) (at new.links) (chain_at new_table b) (changed i.ids place list b)
-    chains = each_place (IsChain (IsTaken new.items) (at new.links)) table i.ids place left list s.place_in (line_left left list avoids_list m.list)
+    chains : (b : ℕ) → b < length table.chains → IsStack (IsTaken new.items) (at new.links) (chain_at new_table b) (changed i.ids place list b)
+    chains = each_place (IsStack (IsTaken new.items) (at new.links)) table i.ids place left list s.place_in (line_left left list avoids_list m.list)
         (λ b w n. line_left (chain_at table b) (i.ids b) (elsewhere key_of old table i b id (key_of item) w (ap (option_map key_of) s.taken) n) (m.others b w n))
 
     still_placed : (b : ℕ) (ys : List ℕ) → AllHave (IsPlaced key_of old.items table b) ys → AllHave (IsPlaced key_of new.items new_table b) ys

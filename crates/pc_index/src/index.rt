@@ -8,7 +8,7 @@ ghost use Rattle.pc_index.specs.Keys.{key_at, IsSlotOf, IsAbsent, KeepsOthers, I
 use crate::hashing::hash_of;
 use crate::keyed::Keyed;
 use pc_arena::{Arena, ByLink};
-use pc_chain::{Chain, Links};
+use pc_chain::{Links, Stack};
 use pc_types::{Key, Refusal, SlotId};
 use std::alloc::{AllocError, Global};
 use std::hash::RandomState;
@@ -19,11 +19,12 @@ use std::marker::Model;
 /// is said by `IsIndex`: each record is found by its key, and no two records have the same one. A record may be changed in
 /// its slot as long as its key stays, but slots are taken and freed by the index alone.
 ///
-/// A find goes along one chain. There are as many chains as the least power of two at or above the arena's capacity, and
-/// the hash is SipHash under a seed of two secret words, so whoever picks the keys can't tell which share a chain.
+/// A find goes along one chain, from the record that was made last. There are as many chains as the least power of two at or
+/// above the arena's capacity, and the hash is SipHash under a seed of two secret words, so whoever picks the keys can't tell
+/// which share a chain.
 #[derive(Drop)]
 pub struct Index {
-    chains: Vec<Chain<SlotId>>,
+    chains: Vec<Stack<SlotId>>,
     seed: RandomState,
 }
 
@@ -52,7 +53,7 @@ impl Index {
         ensures chains { IfOk result (λ index. IsNextPowerOfTwo (length arena.now.items) (length index.chains)) }
     {
         let count = arena.capacity().next_power_of_two();
-        let chains = vec![in alloc; Chain::new(); count as usize]?;
+        let chains = vec![in alloc; Stack::new(); count as usize]?;
         Ok(Index { chains, seed })
     }
 
@@ -131,7 +132,7 @@ impl Index {
         };
         let id = arena.take_slot(item)?;
         let place = self.place(key);
-        self.chains[place].push_back::<ByLink, Arena<T>>(arena, id);
+        self.chains[place].push_front::<ByLink, Arena<T>>(arena, id);
         Ok(id)
     }
 

@@ -1,4 +1,4 @@
-use Rattle.std.proofs.Common.{◌≢◌, ◌<◌, ◌^◌, ℕ, [], ◌∷◌, length, refl, arith, lit<}
+use Rattle.std.proofs.Common.{◌≢◌, ℕ, [], ◌∷◌, refl, arith}
 use Rattle.pc_chain.proofs.ChainLaws.{empty_chain}
 use Rattle.pc_chain.proofs.tests.used.Goals as goal
 
@@ -7,15 +7,6 @@ zero_one = omega arith
 
 zero_two : ◌≢◌ {A = ℕ} 0 2
 zero_two = omega arith
-
-one_two : ◌≢◌ {A = ℕ} 1 2
-one_two = omega arith
-
-two_one : ◌≢◌ {A = ℕ} 2 1
-two_one = omega arith
-
-few : length {A = ℕ} (1 ∷ []) < 2 ^ 64
-few = lit< tt
 
 pub push_back-requires-3-clause-stands : goal.push_back-requires-3-clause-stands
 push_back-requires-3-clause-stands c =
@@ -33,30 +24,6 @@ unlink_after-behind-requires c =
     let e2 = c.push_back-2.ensures.others [] (0 ∷ []) c.push_back.new.self o0 e1 (tt, tt) (zero_one, tt) in
     let e3 = c.push_back-3.ensures.list (0 ∷ []) e2 (zero_two, tt) in
     (0 ∷ [], 2 ∷ [], e3, refl)
-
-pub contains-has_one-requires : goal.contains-has_one-requires
-contains-has_one-requires c =
-    let o0 = empty_chain _ _ c.new-odds.result c.new-odds.ensures in
-    let e0 = empty_chain _ _ c.new-evens.result c.new-evens.ensures in
-    let e1 = c.push_back.ensures.list [] e0 tt in
-    let e2 = c.push_back-2.ensures.others [] (0 ∷ []) c.push_back.new.self o0 e1 (tt, tt) (zero_one, tt) in
-    let e3 = c.push_back-3.ensures.list (0 ∷ []) e2 (zero_two, tt) in
-    let o1 = c.push_back-2.ensures.list [] o0 tt in
-    let o2 = c.push_back-3.ensures.others (0 ∷ []) (1 ∷ []) c.push_back-2.new.self e2 o1 ((zero_one, tt), tt) (one_two, tt) in
-    let o3 = c.unlink_after-behind.ensures.others (0 ∷ []) (2 ∷ []) (1 ∷ []) c.push_back-2.new.self e3 refl o2 ((zero_one, (two_one, tt)), tt) in
-    (1 ∷ [], o3, few)
-
-pub contains-has_zero-requires : goal.contains-has_zero-requires
-contains-has_zero-requires c =
-    let o0 = empty_chain _ _ c.new-odds.result c.new-odds.ensures in
-    let e0 = empty_chain _ _ c.new-evens.result c.new-evens.ensures in
-    let e1 = c.push_back.ensures.list [] e0 tt in
-    let e2 = c.push_back-2.ensures.others [] (0 ∷ []) c.push_back.new.self o0 e1 (tt, tt) (zero_one, tt) in
-    let e3 = c.push_back-3.ensures.list (0 ∷ []) e2 (zero_two, tt) in
-    let o1 = c.push_back-2.ensures.list [] o0 tt in
-    let o2 = c.push_back-3.ensures.others (0 ∷ []) (1 ∷ []) c.push_back-2.new.self e2 o1 ((zero_one, tt), tt) (one_two, tt) in
-    let o3 = c.unlink_after-behind.ensures.others (0 ∷ []) (2 ∷ []) (1 ∷ []) c.push_back-2.new.self e3 refl o2 ((zero_one, (two_one, tt)), tt) in
-    (1 ∷ [], o3, few)
 
 pub push_back-requires-4-clause-stands : goal.push_back-requires-4-clause-stands
 push_back-requires-4-clause-stands c =

@@ -1,6 +1,6 @@
 use Rattle.std.proofs.Common.{Some, sym, ◌∙◌, ap}
 use Rattle.pc_chain.proofs.Passing.{passed_all, passed_here, passed_next, here_has}
-use Rattle.pc_chain.proofs.chain.Chain.before.Goals as goal
+use Rattle.pc_chain.proofs.stack.Stack.before.Goals as goal
 
 pub returns-in_default : goal.returns-in_default
 returns-in_default g c = λ before rest s. absurd (passed_here _ _ _ _ before rest (c.loop.invariant before rest s) c.in_default.is)
