@@ -86,7 +86,9 @@ fn run_points(rt: &HostRuntime, cycles: Cycles, is_timed: bool) -> Result<(), Fa
     for (i, cycle) in done.iter().enumerate() {
         print!(rt; "point {} taken {}", i + 1, cycle.taken)?;
         if is_timed {
+            print!(rt; " seal_ns {}", cycle.sealing.as_nanos())?;
             print!(rt; " take_us {}", cycle.taking.as_micros())?;
+            print!(rt; " done_us {}", cycle.finishing.as_micros())?;
         }
         println!(rt; "")?;
     }

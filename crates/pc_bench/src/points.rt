@@ -21,8 +21,12 @@ const SESSION: SessionNo = SessionNo(1);
 pub struct Cycle {
     /// How many keys were taken.
     pub taken: u32,
-    /// How long that took.
+    /// How long the seal took, which closes the set of the keys that were written.
+    pub sealing: Duration,
+    /// How long it took to take the keys.
     pub taking: Duration,
+    /// How long it took to make a part of what was taken.
+    pub finishing: Duration,
 }
 
 /// Goes through so many cycles: writes all keys, and takes them at the point, in each cycle no more than there are.
@@ -69,14 +73,26 @@ fn take_point(clock: &impl Clock, world: &mut World, keys: u32) -> Result<Cycle,
     ensures { IfOk result (λ cycle. cycle.taken ≤ keys) }
 {
     ask(world, &Event::StartPoint)?;
-    ask(world, &Event::Seal)?;
+    let sealing = time_of(clock, world, &Event::Seal)?;
     ask(world, &Event::OpenCapture)?;
     let start = Instant::now(clock)?;
     let taken = take_all(world, keys)?;
     let taking = start.elapsed(clock)?;
-    ask(world, &Event::Done)?;
+    let finishing = time_of(clock, world, &Event::Done)?;
     ask(world, &Event::Rest)?;
-    Ok(Cycle { taken, taking })
+    Ok(Cycle {
+        taken,
+        sealing,
+        taking,
+        finishing,
+    })
+}
+
+// How long the store takes to answer the event, which isn't refused.
+fn time_of(clock: &impl Clock, world: &mut World, event: &Event) -> Result<Duration, Failure> {
+    let start = Instant::now(clock)?;
+    ask(world, event)?;
+    Ok(start.elapsed(clock)?)
 }
 
 // Takes keys until none is left, at most so many.

@@ -18,7 +18,7 @@ ghost use Rattle.pc_engine.specs.InPlace.{AreOpen, HoldTogether, StayTogether};
 ghost use Rattle.pc_records.specs.NewKeys.{is_one_too_many};
 
 use crate::transactions::why_refused;
-use pc_records::{Answer, Records};
+use pc_records::{Answer, Reading, Records};
 use pc_txn::WriteSet;
 use pc_types::{
     Class, Key, Outcome, Refusal, Reply, SessionNo, SlotId, TxnNo, Value, Write, copy_content,
@@ -178,11 +178,9 @@ pub(crate) fn read(
     ensures few { AreFew (actives_of sessions.new.items) }
     ensures count { length sessions.new.items ≡ length sessions.old.items }
 {
-    let Ok(found) = answer(alloc, records.latest(key)) else {
-        return Err(why_refused(records, key));
-    };
-    match records.share(alloc, number(sessions, session), key)? {
-        Outcome::Granted => Ok(found),
+    let Reading { outcome, found } = records.read(alloc, number(sessions, session), key)?;
+    match outcome {
+        Outcome::Granted => Ok(answer(found)),
         Outcome::Queued => Ok(Reply::Wait),
         Outcome::Died => {
             note_death(sessions, session);
@@ -291,11 +289,11 @@ fn prepared(
 }
 
 // The reply to a read that gives this.
-fn answer(alloc: Global, found: Option<&Value>) -> Result<Reply, AllocError>
-    ensures { IfOk result (λ r. r ≡ read_reply (option_copied found.entry)) }
+fn answer(found: Option<Value>) -> Reply
+    ensures { result ≡ read_reply found }
 {
     match found {
-        None => Ok(Reply::Absent),
-        Some(value) => Ok(Reply::Found(value.copy(alloc)?)),
+        None => Reply::Absent,
+        Some(value) => Reply::Found(value),
     }
 }

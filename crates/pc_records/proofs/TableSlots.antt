@@ -15,9 +15,10 @@ use Rattle.pc_model.proofs.RisingLaws.{both, none_below, Rise}
 use Rattle.pc_table.specs.Rows.{Row as TableRow, Contents, slot_of as table_slot, in_slot, with_record_in, HasRow, AreInSlots}
 use Rattle.pc_table.proofs.RowLaws.{no_row, same_some, slot_found, one_place, placed, record_found}
 use Rattle.pc_records.specs.declared.slots.Cell.{Cell}
-use Rattle.pc_records.specs.Rows.{record_of}
-use Rattle.pc_records.specs.Slots.{no_queues, Slot, slot_with, slot_in, slots_in, rows_of, row_of, numbers_of, times, at_key, at_number, IsNumbered}
-use Rattle.pc_records.proofs.Lookups.{slot_of, same_self, find_row, record_in, at_place}
+use Rattle.pc_records.specs.Rows.{record_of, stored}
+use Rattle.pc_records.specs.Tables.{read_of}
+use Rattle.pc_records.specs.Slots.{no_queues, Slot, slot_with, slot_in, slots_in, pending_in, pending_of, rows_of, row_of, numbers_of, times, at_key, at_number, IsNumbered}
+use Rattle.pc_records.proofs.Lookups.{slot_of, of_slot, same_self, find_row, find_entry, record_in, at_place}
 use Rattle.pc_records.proofs.Queued.{times_at}
 use Rattle.pc_records.proofs.SlotPlaces.{place, number_place, number_set}
 use Rattle.pc_dirty.specs.declared.side.Side.{Side}
@@ -253,3 +254,10 @@ module _ (side : Side) where
       by_place : (o : Option (ℕ × Cell)) → is_none (option_map (λ place. place.0) o) ≡ is_none (record_in queues (option_map (cell_of key) o))
       by_place None = refl
       by_place (Some p) = refl
+
+-- nothing stands in the place of a key that has no slot
+pub latest_of_none : (side : Side) (rows : List (TableRow Cell)) → Rise rows → (key : List ℕ) (queues : Queues) → table_slot rows key ≡ None
+    → None ≡ read_of (find key_cmp key (pending_of (slots_in side rows))) (stored (record_of (rows_of queues (slots_in side rows)) key))
+latest_of_none side rows rise key queues e =
+    sym (ap (λ o. read_of o (stored (record_of (rows_of queues (slots_in side rows)) key))) (find_entry pending_in (slots_in side rows) key (slots_rise side rows rise) ∙ ap (of_slot pending_in) (no_slot_in side rows key e))
+    ∙ ap stored (no_record side rows key queues e))

@@ -11,4 +11,4 @@ mod tests;
 mod versions;
 mod words;
 
-pub use records::{Answer, Records};
+pub use records::{Answer, Reading, Records};

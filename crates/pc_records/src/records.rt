@@ -1,5 +1,5 @@
 //! The records.
-ghost use Rattle.std.specs.Prelude.{◌≡◌, ◌==◌, ◌<◌, ◌≤◌, ◌++◌, ◌∷◌, [], false, true, length, map, is_none, is_some, option_map, Some, IfOk, IfErr, OnErr, if◌then◌else◌, option_copied, List, ℕ};
+ghost use Rattle.std.specs.Prelude.{◌≡◌, ◌==◌, ◌<◌, ◌≤◌, ◌++◌, ◌∷◌, [], false, true, length, map, is_none, is_some, option_map, Some, IfOk, IfErr, OnErr, if◌then◌else◌, List, ℕ};
 ghost use Rattle.std.specs.FinMap.{find};
 ghost use Rattle.pc_types.specs.declared.Mode.TheVariants.{Shared, Exclusive};
 ghost use Rattle.pc_types.specs.declared.Class.TheVariants.{Before, During};
@@ -17,7 +17,7 @@ ghost use Rattle.pc_records.specs.NewKeys.{new_keys};
 ghost use Rattle.pc_records.specs.SetLists.{KeepSets, IsListed, IsTaken, open_keys, closed_keys};
 ghost use Rattle.pc_records.specs.Ends.{ends_in, queues_in};
 ghost use Rattle.pc_records.specs.RowSteps.{is_full_for, is_waiting, rows_after, released_rows, written_row, closed_row, left_rows, committed_row};
-ghost use Rattle.pc_records.specs.Tables.{Pending, kept_of, pending_at, value_of, latest, IsClearFor, pending_after, pending_without, AreListed, first_content, content_behind};
+ghost use Rattle.pc_records.specs.Tables.{Pending, kept_of, read_of, pending_at, value_of, latest, IsClearFor, pending_after, pending_without, AreListed, first_content, content_behind};
 ghost use Rattle.pc_records.specs.Slots.{slots_in, rows_of, pending_of, table_of, AreKept, AreSound, IsFirstIn};
 ghost use Rattle.pc_table.specs.Rows.{slot_of, HasRow};
 
@@ -38,6 +38,14 @@ use std::marker::Model;
 pub struct Answer {
     pub outcome: Outcome,
     pub slot: SlotId,
+}
+
+/// How a request to read was answered, and what stands in the key's place: what an open transaction has written last, or else
+/// the committed value.
+#[derive(Drop)]
+pub struct Reading {
+    pub outcome: Outcome,
+    pub found: Option<Value>,
 }
 
 /// The records, in the slots of a table; at most as many as its capacity. The locks have the requests of a slot's key at the
@@ -97,13 +105,6 @@ impl Records {
         slots::is_new(&self.table, key) && self.table.is_full()
     }
 
-    /// What stands in the key's place: what an open transaction has written last, or else the committed value.
-    pub fn latest(&self, key: &Key) -> Option<&Value>
-        ensures { option_copied result ≡ latest self.now key.now }
-    {
-        slots::latest_at(&self.table, key)
-    }
-
     /// The committed pairs, rising by key.
     pub fn committed(&self, alloc: Global) -> Result<Vec<(Key, Value)>, AllocError>
         ensures rise { IfOk result (λ pairs. KeysRise pairs.items) }
@@ -119,24 +120,20 @@ impl Records {
         self.locks.is_waiting(transaction)
     }
 
-    /// Answers the transaction's request to read the key; a key without a record gets one where the request stands. It is
-    /// refused with `Full` exactly where the key has no record and there are as many as there may be, and else only where
-    /// memory ran out; the records are then as they were.
-    pub fn share(
-        &mut self,
-        alloc: Global,
-        transaction: TxnNo,
-        key: &Key,
-    ) -> Result<Outcome, Refusal>
+    /// Answers the transaction's request to read the key, with a copy of what stands in its place; a key without a record gets
+    /// one where the request stands. It is refused with `Full` exactly where the key has no record and there are as many as
+    /// there may be, and else only where memory ran out; the records are then as they were.
+    pub fn read(&mut self, alloc: Global, transaction: TxnNo, key: &Key) -> Result<Reading, Refusal>
         requires ready { is_waiting self.old.rows transaction ≡ false }
-        ensures told { IfOk result (λ answer. answer ≡ outcome (requests_on (record_of self.old.rows key.now)) transaction Shared) }
-        ensures rows { IfOk result (λ answer. self.new ≡ record self.old { rows = rows_after self.old.rows key.now transaction Shared answer }) }
-        ensures clear { IfOk result (λ answer. answer ≡ Granted → IsClearFor self.old key.now transaction) }
+        ensures told { IfOk result (λ answer. answer.outcome ≡ outcome (requests_on (record_of self.old.rows key.now)) transaction Shared) }
+        ensures found { IfOk result (λ answer. answer.found ≡ latest self.old key.now) }
+        ensures rows { IfOk result (λ answer. self.new ≡ record self.old { rows = rows_after self.old.rows key.now transaction Shared answer.outcome }) }
+        ensures clear { IfOk result (λ answer. answer.outcome ≡ Granted → IsClearFor self.old key.now transaction) }
         ensures err { OnErr result (self.new ≡ self.old) }
         ensures room { IfOk result (λ answer. is_full_for (kept_of self.old) key.now ≡ false) }
         ensures refusal { IfErr result (λ e. e ≡ (if is_full_for (kept_of self.old) key.now then Refusal.Full else Refusal.OutOfMemory)) }
     {
-        share(
+        read(
             alloc,
             &mut self.table,
             &mut self.locks,
@@ -278,8 +275,9 @@ impl Records {
     }
 }
 
-// Answers the transaction's request to read the key, or there was no room for it or memory ran out, and nothing changed.
-fn share(
+// Answers the transaction's request to read the key, with a copy of what stands in its place, which is made before the locks
+// are asked; or there was no room for it or memory ran out, and nothing changed.
+fn read(
     alloc: Global,
     table: &mut Table<Cell>,
     locks: &mut Locks,
@@ -287,14 +285,15 @@ fn share(
     point: Point,
     transaction: TxnNo,
     key: &Key,
-) -> Result<Outcome, Refusal>
+) -> Result<Reading, Refusal>
     requires kept { AreKept (slots_in side table.old.rows) (queues_in table.old.rows locks.old) }
     requires sound { AreSound point (queues_in table.old.rows locks.old) (slots_in side table.old.rows) }
     requires ends { AreEnds (ends_in table.old.rows) locks.old }
     requires ready { states.is_waiting (state_of (ends_in table.old.rows) locks.old) transaction ≡ false }
-    ensures told { IfOk result (λ answer. answer ≡ outcome (requests_on (record_of (rows_of (queues_in table.old.rows locks.old) (slots_in side table.old.rows)) key.now)) transaction Shared) }
-    ensures rows { IfOk result (λ answer. rows_of (queues_in table.new.rows locks.new) (slots_in side table.new.rows) ≡ rows_after (rows_of (queues_in table.old.rows locks.old) (slots_in side table.old.rows)) key.now transaction Shared answer) }
-    ensures clear { IfOk result (λ answer. answer ≡ Granted → IsClearFor (table_of table.old.capacity (queues_in table.old.rows locks.old) (slots_in side table.old.rows) point [] []) key.now transaction) }
+    ensures told { IfOk result (λ answer. answer.outcome ≡ outcome (requests_on (record_of (rows_of (queues_in table.old.rows locks.old) (slots_in side table.old.rows)) key.now)) transaction Shared) }
+    ensures found { IfOk result (λ answer. answer.found ≡ read_of (find key_cmp key.now (pending_of (slots_in side table.old.rows))) (stored (record_of (rows_of (queues_in table.old.rows locks.old) (slots_in side table.old.rows)) key.now))) }
+    ensures rows { IfOk result (λ answer. rows_of (queues_in table.new.rows locks.new) (slots_in side table.new.rows) ≡ rows_after (rows_of (queues_in table.old.rows locks.old) (slots_in side table.old.rows)) key.now transaction Shared answer.outcome) }
+    ensures clear { IfOk result (λ answer. answer.outcome ≡ Granted → IsClearFor (table_of table.old.capacity (queues_in table.old.rows locks.old) (slots_in side table.old.rows) point [] []) key.now transaction) }
     ensures err { OnErr result (rows_of (queues_in table.new.rows locks.new) (slots_in side table.new.rows) ≡ rows_of (queues_in table.old.rows locks.old) (slots_in side table.old.rows)) }
     ensures room { IfOk result (λ answer. is_full_for (kept_of (table_of table.old.capacity (queues_in table.old.rows locks.old) (slots_in side table.old.rows) point [] [])) key.now ≡ false) }
     ensures refusal { IfErr result (λ e. e ≡ (if is_full_for (kept_of (table_of table.old.capacity (queues_in table.old.rows locks.old) (slots_in side table.old.rows) point [] [])) key.now then Refusal.Full else Refusal.OutOfMemory)) }
@@ -307,10 +306,17 @@ fn share(
 {
     let mode = Mode::Shared;
     match table.find(key) {
-        Some(id) => Ok(locks.request(table, transaction, id, mode)?),
+        Some(id) => {
+            let found = copy_content(alloc, &table.get(id).live)?;
+            let outcome = locks.request(table, transaction, id, mode)?;
+            Ok(Reading { outcome, found })
+        }
         None => {
             request_new(alloc, table, locks, side, point, transaction, key, mode)?;
-            Ok(Outcome::Granted)
+            Ok(Reading {
+                outcome: Outcome::Granted,
+                found: None,
+            })
         }
     }
 }

@@ -1,9 +1,8 @@
 //! Slots: what the table's rows have, each with its number and its key. The requests of a slot are those of the locks' queue
 //! at its number, whose ends the slot keeps.
-ghost use Rattle.std.specs.Prelude.{◌≡◌, ◌==◌, ◌≤◌, ◌++◌, not, [], false, map, length, IfOk, IfErr, OnOk, OnErr, None, Some, Ok, is_none, if◌then◌else◌, option_copied, option_map, List, ℕ};
-ghost use Rattle.std.specs.FinMap.{find};
+ghost use Rattle.std.specs.Prelude.{◌≡◌, ◌==◌, ◌≤◌, ◌++◌, not, [], false, map, length, IfOk, IfErr, OnOk, OnErr, None, Some, Ok, is_none, if◌then◌else◌, option_map, List, ℕ};
 ghost use Rattle.pc_model.specs.Maps.{get};
-ghost use Rattle.pc_model.specs.Database.{KeysRise, key_cmp, database_of};
+ghost use Rattle.pc_model.specs.Database.{KeysRise, database_of};
 ghost use Rattle.pc_model.specs.Locks.{Queue};
 ghost use Rattle.pc_locks.specs.States.{Queues};
 ghost use Rattle.pc_locks.specs.Keepers.{AreEnds};
@@ -14,7 +13,6 @@ ghost use Rattle.pc_records.specs.Rows.{record_of, stored};
 ghost use Rattle.pc_model.specs.DistinctWrites.{AreDistinct};
 ghost use Rattle.pc_records.specs.Ends.{ends_in, queues_in};
 ghost use Rattle.pc_records.specs.SetLists.{KeepSets, IsUnmarked, IsListed, open_keys, closed_keys, entering, entering_key, entering_keys};
-ghost use Rattle.pc_records.specs.Tables.{read_of};
 ghost use Rattle.pc_records.specs.Slots.{slot_with, slots_in, with_entry, content_in, base_cell, cells_in, base_row, contents_of, rows_of, pending_of, AreKept, AreSound, is_kept_slot, IsNumbered, tidied, put_slot, granted_slot, settled, undone, at_key, at_number, at_writes, taken_slot};
 
 use crate::versions;
@@ -164,16 +162,6 @@ pub(crate) fn is_new(table: &Table<Cell>, key: &Key) -> bool
     match table.find(key) {
         Some(_) => false,
         None => true,
-    }
-}
-
-// What stands in the key's place.
-pub(crate) fn latest_at<'a>(table: &'a Table<Cell>, key: &Key) -> Option<&'a Value>
-    ensures { (side : Side) (queues : Queues) → option_copied result ≡ read_of (find key_cmp key.now (pending_of (slots_in side table.now.rows))) (stored (record_of (rows_of queues (slots_in side table.now.rows)) key.now)) }
-{
-    match table.find(key) {
-        Some(id) => table.get(id).live.as_ref(),
-        None => None,
     }
 }
 

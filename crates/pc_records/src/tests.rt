@@ -2,7 +2,7 @@
 ghost use Rattle.std.specs.Prelude.{◌≡◌, [], IfOk, IsErr};
 
 use crate::slots::Cell;
-use crate::{Records, versions};
+use crate::{Reading, Records, versions};
 use pc_dirty::Side;
 use pc_table::Blank;
 use pc_types::{Class, Key, Outcome, Point, Refusal, TxnNo, Value, copy_content};
@@ -163,12 +163,11 @@ enum Ask {
     Release(u64),
     IsFullFor(u8),
     IsWaiting(u64),
-    Latest(u8),
     // How many keys have a value.
     Values,
 }
 
-use Ask::{IsFullFor, IsWaiting, Latest, Read, Release, Values};
+use Ask::{IsFullFor, IsWaiting, Read, Release, Values};
 
 #[derive(Clone, Copy, Debug, PartialEq)]
 enum Told {
@@ -181,11 +180,12 @@ enum Told {
     NotAsked,
     Done,
     Is(bool),
-    Content(Option<u8>),
+    // What a read found.
+    Found(Option<u8>),
     Count(usize),
 }
 
-use Told::{Content, Count, Done, Granted, Is, NoRoom, NotAsked, Refused};
+use Told::{Count, Done, Found, Granted, Is, NoRoom, NotAsked, Refused};
 
 // What an answer or a refusal says.
 fn told_of(answer: Result<Outcome, Refusal>) -> Result<Told, Refusal>
@@ -199,6 +199,14 @@ fn told_of(answer: Result<Outcome, Refusal>) -> Result<Told, Refusal>
     }
 }
 
+// What a request to read found, if it is granted.
+fn found_by(reading: &Reading) -> Told {
+    match reading.outcome {
+        Outcome::Granted => Found(content_of(reading.found.as_ref())),
+        _ => Refused,
+    }
+}
+
 fn read(alloc: Global, records: &mut Records, transaction: u64, key: u8) -> Result<Told, Refusal>
     requires { records.old.pending ≡ [] }
     ensures { records.new.pending ≡ [] }
@@ -208,7 +216,10 @@ fn read(alloc: Global, records: &mut Records, transaction: u64, key: u8) -> Resu
     if records.is_waiting(transaction) {
         return Ok(NotAsked);
     }
-    told_of(records.share(alloc, transaction, &key))
+    match records.read(alloc, transaction, &key) {
+        Ok(reading) => Ok(found_by(&reading)),
+        Err(why) => told_of(Err(why)),
+    }
 }
 
 fn release(records: &mut Records, transaction: u64) -> Told
@@ -224,7 +235,6 @@ fn said(alloc: Global, records: &Records, ask: Ask) -> Result<Told, Refusal> {
     match ask {
         IsFullFor(key) => Ok(Is(records.is_full_for(&Key::new(alloc, &[key])?))),
         IsWaiting(transaction) => Ok(Is(records.is_waiting(TxnNo(transaction)))),
-        Latest(key) => Ok(Content(content_of(records.latest(&Key::new(alloc, &[key])?)))),
         _ => Ok(Count(records.committed(alloc)?.len())),
     }
 }
@@ -256,22 +266,21 @@ fn first_other(
     Ok(None)
 }
 
-const SLOTS: [(Ask, Told); 14] = [
+const SLOTS: [(Ask, Told); 13] = [
     // A key with a value, and one slot of two readers in turn: it is free once both have released.
-    (Latest(5), Content(Some(50))),
+    (Read(3, 5), Found(Some(50))),
     (Values, Count(1)),
-    (Read(1, 7), Granted),
-    (Read(2, 7), Granted),
+    (Read(1, 7), Found(None)),
+    (Read(2, 7), Found(None)),
     (Read(2, 8), NoRoom),
     (Release(1), Done),
     (IsFullFor(8), Is(true)),
     (Release(2), Done),
     (IsFullFor(8), Is(false)),
-    (Read(3, 8), Granted),
+    (Read(3, 8), Found(None)),
     (IsFullFor(7), Is(true)),
     (IsFullFor(8), Is(false)),
     (IsWaiting(3), Is(false)),
-    (Latest(8), Content(None)),
 ];
 
 #[test]
