@@ -10,5 +10,5 @@ mod waits;
 pub use closing::Closed;
 pub use pc_latch::{LogPass, PartTicket};
 pub use session::{Answer, Session};
-pub use store::{Held, Opened, Shared};
+pub use store::{Held, Opened, Shared, pause};
 pub use waits::{Waits, Woken};

@@ -19,7 +19,7 @@ ghost use Rattle.pc_shared.specs.Sitters.{new_sitters, IsLeft, AreApart, HasAll,
 
 use crate::closing::{Closed, close};
 use crate::session::Session;
-use crate::waits::{Waits, Woken};
+use crate::waits::{News, Waits, Woken};
 use pc_engine::World;
 use pc_latch::{Latched, LogPass, PartTicket};
 use pc_part::Base;
@@ -47,7 +47,6 @@ impl Model for Opened {
     ghost use Rattle.pc_model.specs.Database.{database_code};
     ghost use Rattle.pc_engine.specs.Stands.{Stands};
     ghost use Rattle.pc_engine.specs.Store.{setting_of};
-    ghost use Rattle.pc_engine.specs.Stands.{Stands};
     ghost use Rattle.pc_tie.specs.Seats.{Name};
 
     ghost Value = { Name };
@@ -118,6 +117,7 @@ impl Opened {
             latch: Mutex::new(Held::new(world, dealer.into_keeper())),
             granted: Condvar::new(),
             changed: Condvar::new(),
+            turned: Condvar::new(),
             count,
         };
         Ok((shared, sessions, pass))
@@ -133,6 +133,7 @@ pub struct Shared<N: StoreName> {
     pub(crate) latch: Mutex<Held<N>>,
     pub(crate) granted: Condvar,
     pub(crate) changed: Condvar,
+    pub(crate) turned: Condvar,
     pub(crate) count: u8,
     ghost count_is: { N.name.setting.sessions ≡ count },
 }
@@ -164,8 +165,8 @@ const LOOKS: u32 = 7;
 // How many moments a thread pauses after its first look: in some microseconds whoever has the latch ends a transaction or two.
 const FIRST_PAUSE: u32 = 128;
 
-// Lets so many moments go by.
-fn pause(moments: u32) {
+/// Lets so many moments go by; each is some tens of cycles of the processor.
+pub fn pause(moments: u32) {
     for _ in 0..moments {
         hint::spin_loop();
     }
@@ -192,6 +193,9 @@ impl<N: StoreName> Shared<N> {
         }
         if woken.for_change {
             self.changed.notify_all();
+        }
+        if woken.for_phase {
+            self.turned.notify_all();
         }
     }
 
@@ -224,7 +228,9 @@ impl<N: StoreName> Shared<N> {
                 held = self.granted.wait(rt, held);
                 held.waits.for_locks = held.waits.for_locks.saturating_sub(1);
             } else {
-                self.wake(held.waits.note(&reply));
+                let woken = held.waits.note(&reply);
+                drop(held);
+                self.wake(woken);
                 return (event, reply);
             }
         }
@@ -238,7 +244,9 @@ impl<N: StoreName> Shared<N> {
     {
         let mut held = self.get_latch(rt);
         let reply = held.latched.advance(&self.tie);
-        self.wake(held.waits.note(&reply));
+        let woken = held.waits.note(&reply);
+        drop(held);
+        self.wake(woken);
         reply
     }
 
@@ -248,7 +256,9 @@ impl<N: StoreName> Shared<N> {
     {
         let mut held = self.get_latch(rt);
         let reply = held.latched.take(&self.tie);
-        self.wake(held.waits.note(&reply));
+        let woken = held.waits.note(&reply);
+        drop(held);
+        self.wake(woken);
         reply
     }
 
@@ -292,6 +302,7 @@ impl<N: StoreName> Shared<N> {
             latch,
             granted: _,
             changed: _,
+            turned: _,
             count,
         } = self;
         let Held { latched, waits: _ } = latch.into_inner();
@@ -314,27 +325,41 @@ impl<N: StoreName> Shared<N> {
     pub fn until_changed<R: Wait>(&self, rt: &R, seen: u64) -> u64
         ensures { result ≢ seen }
     {
+        self.until(rt, &self.changed, News::Change, seen)
+    }
+
+    /// Waits until the count of changes of the phase isn't `seen`, and gives the count. Each answer that names a new phase is
+    /// such a change, and so is a mark of the end; after the greatest `u64` the count goes on from 0. Who waits with the count
+    /// from before a look misses none, and is woken by none of the calls of sessions.
+    pub fn until_phase<R: Wait>(&self, rt: &R, seen: u64) -> u64
+        ensures { result ≢ seen }
+    {
+        self.until(rt, &self.turned, News::Phase, seen)
+    }
+
+    // Waits until it has come another number of times, which the condition tells of.
+    fn until<R: Wait>(&self, rt: &R, told: &Condvar, news: News, seen: u64) -> u64
+        ensures { result ≢ seen }
+    {
         let mut held = self.get_latch(rt);
         for _ in rt.forever() {
-            let count = held.waits.changes;
+            let count = held.waits.count(news);
             if count != seen {
                 return count;
             }
-            held.waits.for_change = held.waits.for_change.saturating_add(1);
-            held = self.changed.wait(rt, held);
-            held.waits.for_change = held.waits.for_change.saturating_sub(1);
+            held.waits.begin_waiting(news);
+            held = told.wait(rt, held);
+            held.waits.end_waiting(news);
         }
         unreachable!()
     }
 
-    /// Marks the end, for loops that ask whether it is marked. It is a change, and ends nothing by itself.
+    /// Marks the end, for loops that ask whether it is marked. It is a change, of the phase too, and ends nothing by itself.
     pub fn mark_end<R: Wait>(&self, rt: &R) {
         let mut held = self.get_latch(rt);
-        let for_change = held.waits.end();
-        self.wake(Woken {
-            for_locks: false,
-            for_change,
-        });
+        let woken = held.waits.end();
+        drop(held);
+        self.wake(woken);
     }
 
     /// Whether the end was marked.

@@ -1,12 +1,45 @@
 //! Who waits at a store's latch, and how often the store has changed.
 use pc_types::Reply;
 
-/// How many calls wait for a lock and how many for a change, the count of changes, and whether the end was marked.
+/// What a thread may wait for, beside locks.
+#[derive(Clone, Copy, Debug, PartialEq, Eq)]
+pub(crate) enum News {
+    /// The store changes.
+    Change,
+    /// The phase of the checkpoint's cycle changes.
+    Phase,
+}
+
+/// How often something has come, and how many calls wait for it.
+#[derive(Drop)]
+struct Awaited {
+    count: u64,
+    waiting: u64,
+}
+
+impl Awaited {
+    // It has not come yet, and nobody waits for it.
+    fn new() -> Awaited {
+        Awaited {
+            count: 0,
+            waiting: 0,
+        }
+    }
+
+    // It comes once more: whether somebody waits for it.
+    fn come(&mut self) -> bool {
+        self.count = self.count.wrapping_add(1);
+        self.waiting > 0
+    }
+}
+
+/// How many calls wait for a lock, how often the store and its phase have changed and how many calls wait for that, and whether
+/// the end was marked.
 #[derive(Drop)]
 pub struct Waits {
     pub(crate) for_locks: u64,
-    pub(crate) for_change: u64,
-    pub(crate) changes: u64,
+    changes: Awaited,
+    phases: Awaited,
     pub(crate) has_ended: bool,
 }
 
@@ -15,6 +48,7 @@ pub struct Waits {
 pub struct Woken {
     pub(crate) for_locks: bool,
     pub(crate) for_change: bool,
+    pub(crate) for_phase: bool,
 }
 
 // Whether the reply says that the store has changed: it is no wait and no refusal, and doesn't say that nothing could be done.
@@ -23,6 +57,11 @@ fn is_change(reply: &Reply) -> bool {
         reply,
         Reply::Wait | Reply::Refused(_) | Reply::NotYet(_) | Reply::NoneLeft
     )
+}
+
+// Whether the reply says that the phase has changed.
+fn is_phase(reply: &Reply) -> bool {
+    matches!(reply, Reply::Phase(_, _) | Reply::PartDone(_, _, _))
 }
 
 // Whether the reply ends a transaction, and so lets locks go.
@@ -35,32 +74,56 @@ impl Waits {
     pub(crate) fn new() -> Waits {
         Waits {
             for_locks: 0,
-            for_change: 0,
-            changes: 0,
+            changes: Awaited::new(),
+            phases: Awaited::new(),
             has_ended: false,
         }
     }
 
-    // Counts a change, and says who is to be woken: who waits for one.
-    fn change(&mut self) -> bool {
-        self.changes = self.changes.wrapping_add(1);
-        self.for_change > 0
-    }
-
-    // Notes the reply, and says who is to be woken: after a change those who wait for one, and after the end of a transaction
-    // those who wait for locks.
-    pub(crate) fn note(&mut self, reply: &Reply) -> Woken {
-        let for_change = is_change(reply) && self.change();
-        let for_locks = ends_transaction(reply) && self.for_locks > 0;
-        Woken {
-            for_locks,
-            for_change,
+    fn awaited(&mut self, news: News) -> &mut Awaited {
+        match news {
+            News::Change => &mut self.changes,
+            News::Phase => &mut self.phases,
         }
     }
 
-    // Marks the end, which is a change.
-    pub(crate) fn end(&mut self) -> bool {
+    // How often it has come.
+    pub(crate) fn count(&self, news: News) -> u64 {
+        match news {
+            News::Change => self.changes.count,
+            News::Phase => self.phases.count,
+        }
+    }
+
+    // One more call waits for it.
+    pub(crate) fn begin_waiting(&mut self, news: News) {
+        let awaited = self.awaited(news);
+        awaited.waiting = awaited.waiting.saturating_add(1);
+    }
+
+    // One call less waits for it.
+    pub(crate) fn end_waiting(&mut self, news: News) {
+        let awaited = self.awaited(news);
+        awaited.waiting = awaited.waiting.saturating_sub(1);
+    }
+
+    // Notes the reply, and says who is to be woken: those who wait for what it tells, and after the end of a transaction those who
+    // wait for locks.
+    pub(crate) fn note(&mut self, reply: &Reply) -> Woken {
+        Woken {
+            for_locks: ends_transaction(reply) && self.for_locks > 0,
+            for_change: is_change(reply) && self.changes.come(),
+            for_phase: is_phase(reply) && self.phases.come(),
+        }
+    }
+
+    // Marks the end, which counts as a change of the store and of its phase.
+    pub(crate) fn end(&mut self) -> Woken {
         self.has_ended = true;
-        self.change()
+        Woken {
+            for_locks: false,
+            for_change: self.changes.come(),
+            for_phase: self.phases.come(),
+        }
     }
 }

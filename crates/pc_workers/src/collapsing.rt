@@ -15,7 +15,7 @@ use std::alloc::Global;
 use std::sync::Wait;
 
 // The file of the point behind the number, once a look shows the point; none where the end had been marked before a look that
-// doesn't. Between two looks it waits until the count of changes is another than the one from before.
+// doesn't. Between two looks it waits until the phase has changed: a point is published before the rest that ends its cycle.
 fn await_file<N: StoreName, R: Wait>(
     rt: &R,
     shared: &Shared<N>,
@@ -38,7 +38,7 @@ fn await_file<N: StoreName, R: Wait>(
         if has_ended {
             return None;
         }
-        seen = shared.until_changed(rt, seen);
+        seen = shared.until_phase(rt, seen);
     }
     unreachable!()
 }

@@ -7,7 +7,7 @@ ghost use Rattle.pc_log.specs.Texts.{entry_text, log_text};
 ghost use Rattle.pc_workers.specs.Logging.{Logged, LogsMore, rest_text};
 
 use pc_log::{encode_entry, encode_header};
-use pc_shared::{Closed, LogPass, Shared};
+use pc_shared::{Closed, LogPass, Shared, pause};
 use pc_tie::StoreName;
 use pc_types::{Entry, Lsn, Refusal, Tally};
 use std::io;
@@ -15,6 +15,10 @@ use std::sync::Wait;
 
 /// The logger asks for at most so many entries at once.
 pub const MOST_BATCH: usize = 64;
+
+// How many moments the logger lets go by where it found fewer entries than it asked for: meanwhile more of them come, and it gets
+// the latch less often.
+const PAUSE: u32 = 1024;
 
 // One entry after the other.
 fn put_entries<W: io::Write>(out: &mut Tally<W>, entries: &[Entry]) -> Result<(), Refusal>
@@ -27,7 +31,7 @@ fn put_entries<W: io::Write>(out: &mut Tally<W>, entries: &[Entry]) -> Result<()
     Ok(())
 }
 
-// The next entries go out. False where there are none.
+// The next entries go out, and where they are fewer than were asked for the logger pauses. False where there are none.
 fn log_batch<N: StoreName, R: Wait, W: io::Write>(
     rt: &R,
     shared: &Shared<N>,
@@ -38,7 +42,13 @@ fn log_batch<N: StoreName, R: Wait, W: io::Write>(
 {
     let entries = shared.log_next(rt, pass, MOST_BATCH)?;
     put_entries(out, entries.as_slice())?;
-    Ok(!entries.is_empty())
+    if entries.is_empty() {
+        return Ok(false);
+    }
+    if entries.len() < MOST_BATCH {
+        pause(PAUSE);
+    }
+    Ok(true)
 }
 
 // A turn of the logger: the next entries go out. Where there are none, it says whether the end had been marked before it looked
