@@ -161,6 +161,10 @@ module _ {T : Type 0} (slots : Slots (Entry T)) (by_key : Table) (table : Conten
         let there = slot_after n o in
         record { kept = n; slot = there; changed = changed_after n o there }
 
+    -- the same where no record had the key
+    pub after_made : IsAbsent key_in slots.items key → IfOk result (λ id. IsMade (entry_of key x) slots.items new.items id) → OnErr result ((new ≡ slots) × (new_key ≡ by_key)) → IsIndex key_in new new_key → AfterCall
+    after_made gone m e i = after_call (λ id there. absurd (gone id there)) (λ absent. m) e i
+
   pub kept_removed : (id : ℕ) (new : Slots (Entry T)) (new_key : Table) → new.items ≡ set slots.items id None → IsIndex key_in new new_key → IsKept new new_key
   kept_removed id new new_key e i = record { index = i; most = subst (λ (n : ℕ). n ≤ MOST_KEYS) (sym (ap length e ∙ length-set slots.items id None)) k.most }
 

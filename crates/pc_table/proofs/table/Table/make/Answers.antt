@@ -5,7 +5,7 @@ use Rattle.pc_types.specs.declared.refusal.Refusal.{Refusal}
 use Rattle.pc_table.specs.Entries.{contents_of}
 use Rattle.pc_table.proofs.RowLaws.{slot_has}
 use Rattle.pc_table.proofs.Seen.{in_slots}
-use Rattle.pc_table.proofs.Keeping.{if_ok, kept_slots, full_of, slot_absent, seen_made, slot_made, after_call}
+use Rattle.pc_table.proofs.Keeping.{if_ok, kept_slots, full_of, slot_absent, seen_made, slot_made, after_made}
 use Rattle.pc_table.proofs.table.Table.make.Goals as goal
 
 pub make-requires-clause-absent : goal.make-requires-clause-absent
@@ -20,19 +20,19 @@ returns-clause-fresh g c = if_ok _ _ c.make.result (λ id m. slot_made _ _ _ c.s
 pub returns-clause-slot : goal.returns-clause-slot
 returns-clause-slot g c =
     let gone = slot_absent _ _ _ c.self.view_is c.self.invariant c.args.key.now c.requires in
-    let after = after_call _ _ _ c.self.view_is c.self.invariant g.T.Blank.blank c.args.key.now c.make.new.arena c.make.new.self c.make.result (λ id there. absurd (gone id there)) (λ absent. c.make.ensures.made) c.make.ensures.err c.make.ensures.index in
+    let after = after_made _ _ _ c.self.view_is c.self.invariant g.T.Blank.blank c.args.key.now c.make.new.arena c.make.new.self c.make.result gone c.make.ensures.made c.make.ensures.err c.make.ensures.index in
     after.slot
 
 pub returns-clause-row : goal.returns-clause-row
 returns-clause-row g c =
     let gone = slot_absent _ _ _ c.self.view_is c.self.invariant c.args.key.now c.requires in
-    let after = after_call _ _ _ c.self.view_is c.self.invariant g.T.Blank.blank c.args.key.now c.make.new.arena c.make.new.self c.make.result (λ id there. absurd (gone id there)) (λ absent. c.make.ensures.made) c.make.ensures.err c.make.ensures.index in
+    let after = after_made _ _ _ c.self.view_is c.self.invariant g.T.Blank.blank c.args.key.now c.make.new.arena c.make.new.self c.make.result gone c.make.ensures.made c.make.ensures.err c.make.ensures.index in
     if_ok _ _ c.make.result (slot_has (contents_of c.make.new.arena.items).rows c.args.key.now) after.slot
 
 pub returns-clause-changed : goal.returns-clause-changed
 returns-clause-changed g c =
     let gone = slot_absent _ _ _ c.self.view_is c.self.invariant c.args.key.now c.requires in
-    let after = after_call _ _ _ c.self.view_is c.self.invariant g.T.Blank.blank c.args.key.now c.make.new.arena c.make.new.self c.make.result (λ id there. absurd (gone id there)) (λ absent. c.make.ensures.made) c.make.ensures.err c.make.ensures.index in
+    let after = after_made _ _ _ c.self.view_is c.self.invariant g.T.Blank.blank c.args.key.now c.make.new.arena c.make.new.self c.make.result gone c.make.ensures.made c.make.ensures.err c.make.ensures.index in
     after.changed
 
 pub returns-clause-full : goal.returns-clause-full
@@ -47,5 +47,5 @@ returns-clause-before g c = kept_slots _ _ _ c.self.view_is c.self.invariant
 pub returns-clause-after : goal.returns-clause-after
 returns-clause-after g c =
     let gone = slot_absent _ _ _ c.self.view_is c.self.invariant c.args.key.now c.requires in
-    let after = after_call _ _ _ c.self.view_is c.self.invariant g.T.Blank.blank c.args.key.now c.make.new.arena c.make.new.self c.make.result (λ id there. absurd (gone id there)) (λ absent. c.make.ensures.made) c.make.ensures.err c.make.ensures.index in
+    let after = after_made _ _ _ c.self.view_is c.self.invariant g.T.Blank.blank c.args.key.now c.make.new.arena c.make.new.self c.make.result gone c.make.ensures.made c.make.ensures.err c.make.ensures.index in
     in_slots _ _ after.kept
