@@ -5,13 +5,13 @@ ghost use Rattle.pc_phase.specs.Agreement.{reply_of};
 ghost use Rattle.pc_engine.specs.Counts.{holders};
 ghost use Rattle.pc_engine.specs.Steps.{StartsPoint, Seals, Moves, Takes, Shelves, Joins};
 
-use crate::shelving::{Shelvable, joined, keep};
+use crate::shelving::{Shelvable, joined};
 use crate::world::World;
 use pc_part::SharedPart;
 use pc_phase::{Change, Held, Phases};
+use pc_taken::Taken;
 use pc_types::{Entry, FileNo, Key, MOST_FILES, Phase, Refusal, Reply, Value};
 use std::alloc::{AllocError, Global};
-use std::collections::BTreeMap;
 
 impl World {
     pub(crate) fn start_point(&mut self) -> Reply
@@ -47,7 +47,7 @@ impl World {
         change_phase(&mut self.phases, Change::Seal, 0);
         let (phase, point) = (self.phases.phase(), self.phases.point());
         self.log.append_reserved(Entry::Token(phase, point));
-        self.taken = BTreeMap::new(self.alloc);
+        self.taken = Taken::new(self.alloc);
         self.records.close(point);
         Reply::Phase(phase, point)
     }
@@ -84,10 +84,10 @@ impl World {
         let Ok((key, content)) = copied(self.alloc, first, at_point) else {
             return Reply::Refused(Refusal::OutOfMemory);
         };
-        let Ok(pair) = copied(self.alloc, first, at_point) else {
+        let Ok((kept_key, kept_content)) = copied(self.alloc, first, at_point) else {
             return Reply::Refused(Refusal::OutOfMemory);
         };
-        let Ok(()) = keep(&mut self.taken, pair) else {
+        let Ok(()) = self.taken.put(kept_key, kept_content) else {
             return Reply::Refused(Refusal::OutOfMemory);
         };
         self.records.take();

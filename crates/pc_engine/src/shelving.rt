@@ -1,29 +1,11 @@
-//! What is taken is kept in the order of keys, and parts on the shelf are joined.
-ghost use Rattle.std.specs.Prelude.{◌≡◌, IfOk, IfErr, OnOk, OnErr, option_copied};
-ghost use Rattle.std.specs.FinMap.{put as put_entry};
-ghost use Rattle.pc_model.specs.Database.{key_cmp};
+//! Parts on the shelf, and joins of them.
+ghost use Rattle.std.specs.Prelude.{◌≡◌, IfOk, IfErr, option_copied};
 ghost use Rattle.pc_model.specs.Files.{file_at};
 ghost use Rattle.pc_engine.specs.Shelves.{IsJoin, IsShelvable};
 
 use pc_part::{Part, SharedPart, join};
-use pc_types::{FileNo, Items, Key, MOST_FILES, Point, Refusal, Value};
-use std::alloc::{AllocError, Global};
-use std::collections::BTreeMap;
-
-/// Puts the pair among what was taken, in the place of its key. Where memory ran out what was taken stays.
-pub(crate) fn keep(
-    taken: &mut BTreeMap<Key, Option<Value>>,
-    pair: (Key, Option<Value>),
-) -> Result<(), AllocError>
-    ensures put { OnOk result (taken.new.entries ≡ put_entry key_cmp pair.0 pair.1 taken.old.entries) }
-    ensures kept { OnErr result (taken.new.entries ≡ taken.old.entries) }
-{
-    let (key, content) = pair;
-    match taken.insert(key, content) {
-        Ok(_) => Ok(()),
-        Err(_) => Err(AllocError),
-    }
-}
+use pc_types::{FileNo, Items, MOST_FILES, Point, Refusal};
+use std::alloc::Global;
 
 /// The owner on the shelf of the file of this number, from 1 on.
 pub(crate) fn shared_at(shelf: &[SharedPart], number: FileNo) -> Option<&SharedPart>

@@ -22,9 +22,9 @@ use pc_log::Log;
 use pc_part::{Base, Part, SharedPart};
 use pc_phase::{Change, Phases};
 use pc_records::Records;
+use pc_taken::Taken;
 use pc_types::{Entry, Event, FileNo, Key, MOST_KEYS, MOST_SESSIONS, Phase, Refusal, Reply, Value};
 use std::alloc::Global;
-use std::collections::BTreeMap;
 use std::hash::RandomState;
 use std::marker::Model;
 
@@ -38,7 +38,7 @@ pub struct World {
     pub(crate) log: Log,
     pub(crate) begun: u64,
     pub(crate) phases: Phases,
-    pub(crate) taken: BTreeMap<Key, Option<Value>>,
+    pub(crate) taken: Taken,
     pub(crate) shelf: Vec<SharedPart>,
 }
 
@@ -64,11 +64,11 @@ impl Model for World {
       kept = kept_of w.records;
       log = entries_of w.log;
       begun = w.begun;
-      cycle = record { phase = w.phases.phase; point = w.phases.point; open_set = w.records.opened; closed_set = w.records.shut; taken = w.taken.entries };
+      cycle = record { phase = w.phases.phase; point = w.phases.point; open_set = w.records.opened; closed_set = w.records.shut; taken = w.taken };
       shelf = w.shelf.items;
     } };
 
-    ghost invariant = { λ w. IsWithinLimits w.begun (entries_of w.log) (actives_of w.sessions.items) w.phases.phase w.phases.point w.records.opened w.records.shut w.taken.entries w.shelf.items
+    ghost invariant = { λ w. IsWithinLimits w.begun (entries_of w.log) (actives_of w.sessions.items) w.phases.phase w.phases.point w.records.opened w.records.shut w.taken w.shelf.items
         × HoldTogether w.records (actives_of w.sessions.items) w.begun w.phases.phase w.phases.point w.records.opened w.records.shut
         × AreCounted w.phases (actives_of w.sessions.items) };
 }
@@ -108,7 +108,7 @@ impl World {
             log: Log::new(alloc),
             begun: 0,
             phases: Phases::new(),
-            taken: BTreeMap::new(alloc),
+            taken: Taken::new(alloc),
             shelf: Vec::new(alloc),
         })
     }

@@ -16,7 +16,8 @@ use Rattle.pc_model.specs.Points.{Triples}
 use Rattle.pc_types.specs.declared.Triple.{Triple}
 use Rattle.pc_model.proofs.PairMapLaws as pairs
 use Rattle.pc_part.specs.declared.ranges.Range.{Range}
-use Rattle.pc_part.specs.Parts.{points_of, triple_at, triples_of, AreCovered}
+use Rattle.pc_part.specs.Parts.{points_of, triples_of, AreCovered}
+use Rattle.pc_taken.specs.Takings.{triple_at}
 use Rattle.pc_part.proofs.RangePointLaws.{contains-points_of}
 
 abbrev Taken : Type 0
@@ -51,9 +52,9 @@ pub taken_triples : (point : ℕ) (taken : Taken) (triples : List Triple) → tr
 taken_triples point taken triples is = rw is (triples_same point taken)
 
 -- a part without an entry is the part of what was taken, once the triples of that are in it
-pub moved_in : (run point : ℕ) (part new : File) (triples : List Triple) (moved taken : Taken) → part ≡ record { run = run; points = set.insert set.empty point; triples = map_of.empty } → new ≡ record part { triples = triples_of triples } → triples ≡ map (triple_at point) moved → moved ≡ taken →
+pub moved_in : (run point : ℕ) (part new : File) (triples : List Triple) (taken : Taken) → part ≡ record { run = run; points = set.insert set.empty point; triples = map_of.empty } → new ≡ record part { triples = triples_of triples } → triples ≡ map (triple_at point) taken →
     new ≡ record { run = run; points = set.insert set.empty point; triples = triples_taken point taken }
-moved_in run point part new triples moved taken first then is same = rw (then, first, taken_triples point moved triples is, same) refl
+moved_in run point part new triples taken first then is = rw (then, first, taken_triples point taken triples is) refl
 
 -- rising triples are the entries of their map
 pub entries_known : (inside given : List Triple) (triples : Triples) → KeysRise (entries_of inside) → triples_of inside ≡ triples → given ≡ inside → entries_of given ≡ triples.entries

@@ -66,10 +66,6 @@ AreCovered points triples = All (λ triple. IsTrue (set.contains points triple.p
 abbrev pub triples_of : List Triple → Triples
 triples_of triples = map_of.from_list (entries_of triples)
 
--- what was taken for a key, as a triple of the point
-abbrev pub triple_at : ℕ → List ℕ × Option (List ℕ) → Triple
-triple_at point entry = record { key = entry.0; point = point; content = entry.1 }
-
 -- what a key has at a point is stored as the point and the content
 abbrev pub at_point_code : Coded AtPoint
 at_point_code = code_by (ℕ × Option (List ℕ)) (coded× coded_ℕ (coded_option (coded_list coded_ℕ))) (λ a. (a.point, a.content)) (λ t. record { point = t.0; content = t.1 }) (λ _. refl)

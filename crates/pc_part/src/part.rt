@@ -7,7 +7,8 @@ ghost use Rattle.pc_model.specs.Ranges.{ranges_of};
 ghost use Rattle.pc_model.specs.Maps as map_of;
 ghost use Rattle.pc_model.specs.Sets as set;
 ghost use Rattle.pc_part.specs.Bases.{IsWithinLimit};
-ghost use Rattle.pc_part.specs.Parts.{AreCovered, AreRanges, CoversTo, bounds_of, points_of, triple_at, triples_of};
+ghost use Rattle.pc_part.specs.Parts.{AreCovered, AreRanges, CoversTo, bounds_of, points_of, triples_of};
+ghost use Rattle.pc_taken.specs.Takings.{triple_at};
 
 use crate::ranges::{Range, last_covered, points_in};
 use pc_types::{Items, Key, Point, Refusal, Triple, Value};

@@ -1,18 +1,14 @@
 //! Parts that are shared by reference count.
-ghost use Rattle.std.specs.Prelude.{◌≡◌, ◌≤◌, [], length, map, vec_capacity, IfOk, IfErr, OnOk, OnErr};
-ghost use Rattle.std.specs.BTreeMap.{IsOrdered};
-ghost use Rattle.pc_model.specs.Database.{key_cmp};
+ghost use Rattle.std.specs.Prelude.{◌≡◌, ◌≤◌, [], IfOk, IfErr, OnOk, OnErr};
 ghost use Rattle.pc_model.specs.Sets as set;
 ghost use Rattle.pc_model.specs.Files.{triples_taken};
 ghost use Rattle.pc_part.specs.Bases.{IsWithinLimit};
-ghost use Rattle.pc_part.specs.Parts.{triple_at};
 
 use crate::part::Part;
-use pc_types::{Key, Point, Refusal, Triple, Value};
+use pc_taken::Taken;
+use pc_types::{Point, Refusal};
 use std::alloc::Global;
-use std::collections::BTreeMap;
 use std::marker::Model;
-use std::mem;
 use std::sync::Arc;
 
 /// An owner of a part that others may own too, in any threads: at most 9,223,372,036,854,775,807 of one part. The part
@@ -54,12 +50,12 @@ impl SharedPart {
         alloc: Global,
         run: u64,
         point: Point,
-        taken: &mut BTreeMap<Key, Option<Value>>,
+        taken: &mut Taken,
     ) -> Result<SharedPart, Refusal>
         requires point { 1 ≤ point }
-        requires limit { IsWithinLimit taken.old.entries }
-        ensures part { IfOk result (λ shared. shared ≡ record { run = run; points = set.insert set.empty point; triples = triples_taken point taken.old.entries }) }
-        ensures moved { OnOk result (taken.new.entries ≡ []) }
+        requires limit { IsWithinLimit taken.old }
+        ensures part { IfOk result (λ shared. shared ≡ record { run = run; points = set.insert set.empty point; triples = triples_taken point taken.old }) }
+        ensures moved { OnOk result (taken.new ≡ []) }
         ensures kept { OnErr result (taken.new ≡ taken.old) }
         ensures memory { IfErr result (λ e. e ≡ Refusal.OutOfMemory) }
     {
@@ -69,8 +65,7 @@ impl SharedPart {
         let Some(part) = Arc::get_mut(&mut shared.part) else {
             return Err(Refusal::OutOfMemory);
         };
-        let taken = mem::replace(taken, BTreeMap::new(alloc));
-        part.set_entries(triples_of(room, point, taken));
+        part.set_entries(taken.move_into(room, point));
         Ok(shared)
     }
 
@@ -92,22 +87,4 @@ impl SharedPart {
     {
         &*self.part
     }
-}
-
-// What was taken as triples of the point, in the room that there is.
-fn triples_of(room: Vec<Triple>, point: Point, taken: BTreeMap<Key, Option<Value>>) -> Vec<Triple>
-    requires empty { room.items ≡ [] }
-    requires room { length taken.entries ≤ vec_capacity room }
-    ensures triples { result.items ≡ map (triple_at point) taken.entries }
-    ensures ordered { IsOrdered key_cmp taken }
-{
-    let mut triples = room;
-    for (key, content) in taken {
-        triples.push_reserved(Triple {
-            key,
-            point,
-            content,
-        });
-    }
-    triples
 }

@@ -37,7 +37,7 @@ returns-clause-stands c =
 pub invariant_of-result : goal.invariant_of-result
 invariant_of-result c =
     rw c.new-2.ensures (
-      first_within _ _ _ _ _ _ c.args.sessions c.new.ensures c.in_ok-sessions.ensures c.requires.sessions.1 (ap (λ (t : Table). t.opened) c.in_ok-records.ensures) (ap (λ (t : Table). t.shut) c.in_ok-records.ensures) c.new-3.ensures.empty c.new-4.ensures.items,
+      first_within _ _ _ _ _ _ c.args.sessions c.new.ensures c.in_ok-sessions.ensures c.requires.sessions.1 (ap (λ (t : Table). t.opened) c.in_ok-records.ensures) (ap (λ (t : Table). t.shut) c.in_ok-records.ensures) c.new-3.ensures c.new-4.ensures.items,
       first_together _ _ _ _ c.args.capacity c.args.sessions c.pairs-pairs.result.now c.in_ok-records.ensures c.in_ok-sessions.ensures (ap (λ (t : Table). t.opened) c.in_ok-records.ensures) (ap (λ (t : Table). t.shut) c.in_ok-records.ensures),
       first_counted _ _ c.args.sessions refl c.in_ok-sessions.ensures,
     )

@@ -1,0 +1,87 @@
+//! Two lists of entries by key: one that only grows at its end, and a tree for what came out of order.
+ghost use Rattle.std.specs.Prelude.{◌≡◌, ◌≤◌, ◌<◌, ◌^◌, ◌↔◌, ◌∷◌, [], length, map, not, is_some, vec_capacity, IsTrue, IfOk, OnOk, OnErr};
+ghost use Rattle.std.specs.FinMap.{find, put as put_entry};
+ghost use Rattle.pc_model.specs.Database.{KeysRise, key_cmp};
+ghost use Rattle.pc_model.specs.Merges.{with_item};
+ghost use Rattle.pc_taken.specs.Takings.{IsAbove, as_one, newest, triple_at};
+
+use itertools::{EitherOrBoth, Itertools};
+use pc_types::{Key, Point, Triple, Value};
+use std::alloc::AllocError;
+use std::collections::BTreeMap;
+
+// Whether the key is above those of all entries, which rise by key.
+pub(crate) fn is_above(entries: &[(Key, Option<Value>)], key: &Key) -> bool
+    requires { KeysRise entries.now }
+    ensures { IsTrue result ↔ IsAbove key.now entries.now }
+{
+    match entries.last() {
+        Some(last) => last.0.compare(key).is_lt(),
+        None => true,
+    }
+}
+
+// Whether an entry has the key, among entries that rise by key.
+pub(crate) fn has_key(entries: &[(Key, Option<Value>)], key: &Key) -> bool
+    requires { KeysRise entries.now }
+    ensures { result ≡ is_some (find key_cmp key.now entries.now) }
+{
+    entries
+        .binary_search_by(|entry| entry.0.compare(key))
+        .is_ok()
+}
+
+// Puts the entry into the tree, and tells whether its key is new there. Where memory ran out the tree stays.
+pub(crate) fn put_among(
+    others: &mut BTreeMap<Key, Option<Value>>,
+    key: Key,
+    content: Option<Value>,
+) -> Result<bool, AllocError>
+    ensures put { OnOk result (others.new.entries ≡ put_entry key_cmp key content others.old.entries) }
+    ensures new { IfOk result (λ is_new. is_new ≡ not (is_some (find key_cmp key others.old.entries))) }
+    ensures few { OnOk result (length others.new.entries < 2 ^ 63) }
+    ensures kept { OnErr result (others.new.entries ≡ others.old.entries) }
+{
+    let before = others.len();
+    match others.insert(key, content) {
+        Ok(_) => Ok(others.len() > before),
+        Err(_) => Err(AllocError),
+    }
+}
+
+// The entries of both, rising by key, as triples of the point, in the room that there is.
+pub(crate) fn merged(
+    room: Vec<Triple>,
+    point: Point,
+    rising: Vec<(Key, Option<Value>)>,
+    others: BTreeMap<Key, Option<Value>>,
+) -> Vec<Triple>
+    requires room { length (as_one rising.items others.entries) ≤ vec_capacity room }
+    requires empty { room.items ≡ [] }
+    ensures { result.items ≡ map (triple_at point) (as_one rising.items others.entries) }
+{
+    let mut triples = room;
+    for item in rising
+        .into_iter()
+        .merge_join_by(others, |one, other| one.0.compare(&other.0))
+    {
+        let (key, content) = newer(item);
+        triples.push_reserved(Triple {
+            key,
+            point,
+            content,
+        });
+    }
+    triples
+}
+
+// The entry of a key; of two of them the second.
+fn newer(item: EitherOrBoth<(Key, Option<Value>), (Key, Option<Value>)>) -> (Key, Option<Value>)
+    ensures { with_item newest item [] ≡ result ∷ [] }
+{
+    match item {
+        EitherOrBoth::Left(one) => one,
+        EitherOrBoth::Right(other) => other,
+        EitherOrBoth::Both(one, other) => (one.0, other.1),
+    }
+}

@@ -1,0 +1,91 @@
+//! What was taken of a point, as one value.
+ghost use Rattle.std.specs.Prelude.{◌≡◌, ◌≤◌, [], length, map, vec_capacity, OnOk, OnErr};
+ghost use Rattle.std.specs.FinMap.{put as put_entry};
+ghost use Rattle.pc_model.specs.Database.{KeysRise, key_cmp};
+ghost use Rattle.pc_taken.specs.Takings.{triple_at};
+
+use crate::entries::{has_key, is_above, merged, put_among};
+use pc_types::{Key, Point, Triple, Value};
+use std::alloc::{AllocError, Global};
+use std::collections::BTreeMap;
+use std::marker::Model;
+use std::mem;
+
+/// What was taken of a point: each key once, with what it had there, a value or nothing. A contract sees it as the list of
+/// these entries, which rise strictly by key. A put of a key above all others costs one comparison; another one costs a
+/// logarithm of how many keys there are.
+#[derive(Drop)]
+pub struct Taken {
+    alloc: Global,
+    // Each key that was above all others when it came.
+    rising: Vec<(Key, Option<Value>)>,
+    // The keys that weren't. An entry here counts before one of the same key above.
+    others: BTreeMap<Key, Option<Value>>,
+    // How many keys both have together.
+    count: usize,
+}
+
+impl Model for Taken {
+    ghost use Rattle.std.specs.Prelude.{ℕ, List, Option};
+    ghost use Rattle.pc_taken.specs.Takings.{AreTaken, as_one, taken_code};
+
+    ghost Value = { List (List ℕ × Option (List ℕ)) };
+
+    ghost coded = { taken_code };
+
+    ghost view = { λ t. as_one t.rising.items t.others.entries };
+
+    ghost invariant = { λ t. AreTaken t.rising.items t.others.entries t.count };
+}
+
+impl Taken {
+    /// Nothing yet. It takes no memory.
+    pub fn new(alloc: Global) -> Taken
+        ensures { result ≡ [] }
+    {
+        Taken {
+            alloc,
+            rising: Vec::new(alloc),
+            others: BTreeMap::new(alloc),
+            count: 0,
+        }
+    }
+
+    /// How many keys were taken.
+    pub fn len(&self) -> usize
+        ensures { result ≡ length self.now }
+    {
+        self.count
+    }
+
+    /// Puts the key in its place, with what it had at the point; what was there of the same key is replaced. It fails only
+    /// where memory ran out, and then nothing has changed.
+    pub fn put(&mut self, key: Key, content: Option<Value>) -> Result<(), AllocError>
+        ensures put { OnOk result (self.new ≡ put_entry key_cmp key content self.old) }
+        ensures kept { OnErr result (self.new ≡ self.old) }
+    {
+        if is_above(&self.rising, &key) {
+            self.rising.push((key, content))?;
+            self.count += 1;
+            return Ok(());
+        }
+        let is_there = has_key(&self.rising, &key);
+        let is_new = put_among(&mut self.others, key, content)?;
+        self.count += usize::from(is_new && !is_there);
+        Ok(())
+    }
+
+    /// All that was taken, as triples of the point in the order of their keys, in the room that there is, which is empty and
+    /// enough; nothing is left then. All is moved: nothing is copied, and no memory is taken.
+    pub fn move_into(&mut self, room: Vec<Triple>, point: Point) -> Vec<Triple>
+        requires room { length self.old ≤ vec_capacity room }
+        requires empty { room.items ≡ [] }
+        ensures triples { result.items ≡ map (triple_at point) self.old }
+        ensures rise { KeysRise self.old }
+        ensures moved { self.new ≡ [] }
+    {
+        let nothing = Taken::new(self.alloc);
+        let Taken { rising, others, .. } = mem::replace(self, nothing);
+        merged(room, point, rising, others)
+    }
+}
