@@ -111,8 +111,8 @@ impl World {
             return Reply::Refused(Refusal::OutOfMemory);
         }
         let (run, point) = (self.base.run(), self.phases.point());
-        let entries = self.taken.len() as u32;
-        let Ok(part) = SharedPart::of_taken(self.alloc, run, point, &mut self.taken) else {
+        let Ok((part, entries)) = SharedPart::of_taken(self.alloc, run, point, &mut self.taken)
+        else {
             return Reply::Refused(Refusal::OutOfMemory);
         };
         change_phase(&mut self.phases, Change::Done, left);

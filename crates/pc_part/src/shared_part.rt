@@ -1,5 +1,5 @@
 //! Parts that are shared by reference count.
-ghost use Rattle.std.specs.Prelude.{◌≡◌, ◌≤◌, [], IfOk, IfErr, OnOk, OnErr};
+ghost use Rattle.std.specs.Prelude.{◌≡◌, ◌≤◌, [], length, IfOk, IfErr, OnOk, OnErr};
 ghost use Rattle.pc_model.specs.Sets as set;
 ghost use Rattle.pc_model.specs.Files.{triples_taken};
 ghost use Rattle.pc_part.specs.Bases.{IsWithinLimit};
@@ -43,30 +43,33 @@ impl SharedPart {
         }
     }
 
-    /// The part of the point, of what was taken of it, with one owner: what was taken is moved into it, and nothing is copied;
-    /// then nothing is left of it where it was. It is at most as much as a file may have. All memory is made before anything
-    /// is moved. Refuses with `OutOfMemory` alone; what was taken is then as it was.
+    /// The part of the point, of what was taken of it, with one owner, and how many entries it has: what was taken is moved
+    /// into it, and nothing is copied; then nothing is left of it where it was. It is at most as much as a file may have. All
+    /// memory is made before anything is moved. Refuses with `OutOfMemory` alone; what was taken is then as it was.
     pub fn of_taken(
         alloc: Global,
         run: u64,
         point: Point,
         taken: &mut Taken,
-    ) -> Result<SharedPart, Refusal>
+    ) -> Result<(SharedPart, u32), Refusal>
         requires point { 1 ≤ point }
         requires limit { IsWithinLimit taken.old }
-        ensures part { IfOk result (λ shared. shared ≡ record { run = run; points = set.insert set.empty point; triples = triples_taken point taken.old }) }
+        ensures part { IfOk result (λ made. made.0 ≡ record { run = run; points = set.insert set.empty point; triples = triples_taken point taken.old }) }
+        ensures count { IfOk result (λ made. made.1 ≡ length taken.old) }
         ensures moved { OnOk result (taken.new ≡ []) }
         ensures kept { OnErr result (taken.new ≡ taken.old) }
         ensures memory { IfErr result (λ e. e ≡ Refusal.OutOfMemory) }
     {
-        let room = Vec::with_capacity(alloc, taken.len())?;
+        let room = Vec::with_capacity(alloc, taken.room())?;
         let part = Part::empty(alloc, run, point)?;
         let mut shared = SharedPart::new(alloc, part)?;
         let Some(part) = Arc::get_mut(&mut shared.part) else {
             return Err(Refusal::OutOfMemory);
         };
-        part.set_entries(taken.move_into(room, point));
-        Ok(shared)
+        let entries = taken.move_into(room, point);
+        let count = entries.len() as u32;
+        part.set_entries(entries);
+        Ok((shared, count))
     }
 
     /// One more owner of the same part. It takes a constant time and no memory, and copies nothing. Refuses with

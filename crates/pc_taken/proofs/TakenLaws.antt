@@ -1,21 +1,18 @@
 -- Two lists of entries as one: what a put into either does.
-use Rattle.std.proofs.Common.{◌≡◌, ◌↔◌, ℕ, zero, suc, ◌-◌, Result, Ok, Err, is_ok, ◌+◌, ◌<◌, ◌≤◌, ◌^◌, List, [], ◌∷◌, ◌++◌, map, length, get_or, drop, Option, Some, None, is_some, not, Bool, true, false, ◌&&◌, cond, refl, sym, ap, subst, ◌∙◌, append_assoc, arith}
+use Rattle.std.proofs.Common.{◌≡◌, ◌↔◌, ℕ, zero, suc, ◌-◌, ◌+◌, ◌<◌, ◌≤◌, List, [], ◌∷◌, ◌++◌, map, length, get_or, drop, Option, Some, None, Bool, true, false, cond, refl, sym, ap, subst, ◌∙◌, append_assoc, arith}
 use Rattle.std.specs.Prelude.{IsTrue}
-use Rattle.std.specs.Int.{from_bool}
 use Rattle.std.specs.List.{slice_get}
-use Rattle.std.specs.List.Sorted.{IsBinarySearchResult, IsSearchInRange}
-use Rattle.pc_model.specs.Places.{IsAt}
-use Rattle.std.specs.Ordering.{is_eq, is_lt}
+use Rattle.std.specs.Ordering.{is_lt}
 use Rattle.std.specs.declared.cmp.Ordering.TheVariants.{Less, Greater}
 use Rattle.std.specs.FinMap.{find, put, is_sorted}
-use Rattle.std.specs.FinMap.Entries.{below_all, by_order, find-put, is_sorted-put, length-put, same_entries}
+use Rattle.std.specs.FinMap.Entries.{below_all, by_order, find-put, is_sorted-put, same_entries}
 use Rattle.std.proofs.lemmas.List.{append-nil}
 use Rattle.pc_model.specs.Database.{key_cmp, key_order, same_bytes, KeysRise}
 use Rattle.pc_model.specs.Merges.{gathered, with_item}
 use Rattle.pc_model.proofs.JoinLaws.{one_key}
 use Rattle.pc_model.proofs.PairMapLaws.{computes, tested}
 use Rattle.pc_model.proofs.RisingLaws.{both, is_less}
-use Rattle.pc_model.proofs.SearchLaws.{turned, against, found_at, found_gap}
+use Rattle.pc_model.proofs.SearchLaws.{turned}
 use Rattle.pc_model.proofs.MergeLaws.{Merges, merges, merged_items, one_more, none_left}
 use Rattle.pc_model.proofs.MergeItemLaws.{items, items_len}
 use Rattle.itertools.specs.declared.either_or_both.EitherOrBoth.{EitherOrBoth}
@@ -67,19 +64,6 @@ above_last key (x ∷ xs) e b rise is test = (
     at : slice_get (x ∷ xs) (length xs) ≡ Some e
     at = ap (slice_get (x ∷ xs)) (sym place) ∙ sym is
 
--- a search by halves finds the key where an entry has it
-pub has_found : (key : List ℕ) (es : List Entry) (r : Result ℕ ℕ) → KeysRise es → IsSearchInRange r (length es) → IsBinarySearchResult (against key) es r → is_ok r ≡ is_some (find key_cmp key es)
-has_found key es (Ok i) rise bound at = by_place es key i (found_at es key (Ok i) rise bound at)
-  where
-    by_place : (es : List Entry) (key : List ℕ) (i : ℕ) → IsAt es key i → true ≡ is_some (find key_cmp key es)
-    by_place [] key i at = absurd (omega (arith, at.in_range))
-    by_place (x ∷ xs) key i at = sym (ap is_some (at.finds x))
-has_found key es (Err i) rise bound parted = sym (ap is_some (found_gap es key (Err i) rise bound parted).finds)
-
-find_above : (key : List ℕ) (es : List Entry) → IsAbove key es → find key_cmp key es ≡ None
-find_above key [] above = refl
-find_above key (e ∷ es) above = ap (λ o. cond (is_eq o) (Some e.1) (find key_cmp key es)) above.0 ∙ find_above key es above.1
-
 -- a key above a longer list is above its beginning
 above_less : (q : List ℕ) (es more : List Entry) → IsAbove q (es ++ more) → IsAbove q es
 above_less q [] more above = tt
@@ -96,19 +80,8 @@ module _ (rising others : List Entry) (rise : KeysRise rising) (others_rise : Ke
   pub find_one : (q : List ℕ) → find key_cmp q (as_one rising others) ≡ newest (find key_cmp q rising) (find key_cmp q others)
   find_one = as_merge.finds
 
--- a key that the first list has, or the second
-has_one : {X : Type 0} (f o : Option X) → is_some (newest f o) ≡ not (not (is_some o) && not (is_some f))
-has_one None None = refl
-has_one (Some x) None = refl
-has_one None (Some y) = refl
-has_one (Some x) (Some y) = refl
-
-if_not : (b : Bool) (m n : ℕ) → cond (not b) m n ≡ cond b n m
-if_not true m n = refl
-if_not false m n = refl
-
 -- a key that is above all goes behind the first list
-module _ (rising others new : List Entry) (count : ℕ) (key : List ℕ) (x : Option (List ℕ)) (taken : AreTaken rising others count) (above : IsAbove key rising) (is : new ≡ rising ++ (key, x) ∷ []) where
+module _ (rising others new : List Entry) (key : List ℕ) (x : Option (List ℕ)) (taken : AreTaken rising others) (above : IsAbove key rising) (is : new ≡ rising ++ (key, x) ∷ []) where
   is_put : put key_cmp key x rising ≡ new
   is_put = put_above key x rising above ∙ sym is
 
@@ -124,20 +97,15 @@ module _ (rising others new : List Entry) (count : ℕ) (key : List ℕ) (x : Op
       find_one new others new_rises taken.others_rise q ∙ ap (λ f. newest f (find key_cmp q others)) (ap (find key_cmp q) (sym is_put) ∙ find-put key_cmp key_order.total q key x rising) ∙ newly q (same_bytes q key) refl
       ∙ ap (cond (same_bytes q key) (Some x)) (sym (find_one rising others taken.rise taken.others_rise q)) ∙ sym (find-put key_cmp key_order.total q key x (as_one rising others)))
 
-  is_new : find key_cmp key (as_one rising others) ≡ None
-  is_new = find_one rising others taken.rise taken.others_rise key ∙ ap (newest (find key_cmp key rising)) (taken.below key above) ∙ find_above key rising above
-
-  pub still_pushed : AreTaken new others (count + 1)
+  pub still_pushed : AreTaken new others
   still_pushed = record {
     rise = new_rises;
     others_rise = taken.others_rise;
-    others_few = taken.others_few;
     below = λ q far. taken.below q (above_less q rising ((key, x) ∷ []) (subst (IsAbove q) is far));
-    counted = ap (λ n. n + 1) taken.counted ∙ sym (ap length pushed ∙ length-put key_cmp key_order.total key x (as_one rising others) (computes (one_rises rising others taken.rise taken.others_rise)) ∙ ap (λ f. cond (is_some f) (length (as_one rising others)) (length (as_one rising others) + 1)) is_new);
   }
 
 -- any other key goes into the second
-module _ (rising others new : List Entry) (count after : ℕ) (key : List ℕ) (x : Option (List ℕ)) (there fresh : Bool) (taken : AreTaken rising others count) (not_above : IsAbove key rising → ⊥) (is : new ≡ put key_cmp key x others) where
+module _ (rising others new : List Entry) (key : List ℕ) (x : Option (List ℕ)) (taken : AreTaken rising others) (not_above : IsAbove key rising → ⊥) (is : new ≡ put key_cmp key x others) where
   others_rise_still : KeysRise new
   others_rise_still = subst KeysRise (sym is) (tested (is_sorted-put key_cmp key_order.total key x others (computes taken.others_rise)))
 
@@ -157,19 +125,11 @@ module _ (rising others new : List Entry) (count after : ℕ) (key : List ℕ) (
   none_above q far true same = absurd (not_above (subst (λ k. IsAbove k rising) (one_key q key same) far))
   none_above q far false same = taken.below q far
 
-  pub still_put : length new < 2 ^ 63 → there ≡ is_some (find key_cmp key rising) → fresh ≡ not (is_some (find key_cmp key others)) → after ≡ cond (fresh && not there) (count + 1) count → AreTaken rising new after
-  still_put few is_there is_fresh is_after = record {
+  pub still_put : AreTaken rising new
+  still_put = record {
     rise = taken.rise;
     others_rise = others_rise_still;
-    others_few = few;
     below = λ q far. find_new q ∙ none_above q far (same_bytes q key) refl;
-    counted =
-        let len = length (as_one rising others) in
-        let f = find key_cmp key rising in
-        let o = find key_cmp key others in
-        is_after ∙ ap (λ n. cond (fresh && not there) (n + 1) n) taken.counted ∙ ap (λ b. cond (b && not there) (len + 1) len) is_fresh ∙ ap (λ b. cond (not (is_some o) && not b) (len + 1) len) is_there
-        ∙ sym (if_not (not (is_some o) && not (is_some f)) len (len + 1)) ∙ sym (ap length put_in ∙ length-put key_cmp key_order.total key x (as_one rising others) (computes (one_rises rising others taken.rise taken.others_rise))
-        ∙ ap (λ b. cond b len (len + 1)) (ap is_some (find_one rising others taken.rise taken.others_rise key) ∙ has_one f o));
   }
 
 -- as many entries as items
@@ -180,10 +140,10 @@ one_each (Right b ∷ all) = ap suc (one_each all)
 one_each (Both a b ∷ all) = ap suc (one_each all)
 
 -- no more than both lists have
-pub few_taken : (rising others : List Entry) (count : ℕ) → AreTaken rising others count → count ≤ length rising + length others
-few_taken rising others count taken =
-    let same : count ≡ length (items rising others) = taken.counted ∙ ap length (sym (merged_items newest rising others)) ∙ one_each (items rising others) in
-    omega (arith, same, items_len rising others)
+pub few_taken : (rising others : List Entry) (n m : ℕ) → n ≡ length rising → m ≡ length others → length (as_one rising others) ≤ n + m
+few_taken rising others n m first second =
+    let same : length (as_one rising others) ≡ length (items rising others) = ap length (sym (merged_items newest rising others)) ∙ one_each (items rising others) in
+    omega (arith, first, second, same, items_len rising others)
 
 -- what is moved so far, before what the items to come make
 abbrev pub moves_from : List Entry → List Entry → ℕ → List Entry
@@ -213,44 +173,16 @@ room_for e left rest len cap next room = let one : length left ≡ suc (length r
 pub room_left : (e : Entry) (left rest : List Entry) (len more cap after : ℕ) → left ≡ e ∷ rest → len + length left ≤ cap → more ≡ len + 1 → after ≡ cap → more + length rest ≤ after
 room_left e left rest len more cap after next room one same = let less : length left ≡ suc (length rest) = ap length next in omega (arith, less, room, one, same)
 
--- one more can be counted
-pub one_more_fits : (rising others : List Entry) (count len cap : ℕ) → AreTaken rising others count → len ≡ length rising → len ≤ cap → cap < 2 ^ 63 → count + 1 < 2 ^ 64
-one_more_fits rising others count len cap taken is within small = omega (arith, few_taken rising others count taken, taken.others_few, is, within, small)
-
-pub counts : (b c : Bool) (n r count : ℕ) → b ≡ c → r ≡ from_bool b → n ≡ count + r → n ≡ cond c (count + 1) count
-counts true true n r count same one is = omega (arith, one, is)
-counts false false n r count same one is = omega (arith, one, is)
-counts true false n r count same one is = absurd (no_both same)
-  where
-    no_both : true ≡ false → ⊥
-    no_both e = cc
-counts false true n r count same one is = absurd (no_both same)
-  where
-    no_both : false ≡ true → ⊥
-    no_both e = cc
-
 pub refuted : {A : Type 0} (b : Bool) → IsTrue b ↔ A → b ≡ false → A → ⊥
 refuted b tests is a = cc (tests.1 a, is)
-
-pub both_hold : (a b r : Bool) → a ≡ true → r ≡ b → r ≡ (a && b)
-both_hold a b r first is = is ∙ sym (ap (λ t. t && b) first)
-
-pub one_fails : (a b r : Bool) → a ≡ false → r ≡ a → r ≡ (a && b)
-one_fails a b r first is = is ∙ first ∙ sym (ap (λ t. t && b) first)
-
-pub at_most : (b : Bool) (n count : ℕ) → n ≡ cond b (count + 1) count → n ≤ count + 1
-at_most true n count is = omega (arith, is)
-at_most false n count is = omega (arith, is)
 
 -- at first nothing is taken
 pub first_one : (rising others : List Entry) → rising ≡ [] → others ≡ [] → as_one rising others ≡ []
 first_one rising others none nothing = rw (none, nothing) (sym (merged_items newest [] []))
 
-pub first_taken : (rising others : List Entry) → rising ≡ [] → others ≡ [] → AreTaken rising others 0
+pub first_taken : (rising others : List Entry) → rising ≡ [] → others ≡ [] → AreTaken rising others
 first_taken rising others none nothing = record {
   rise = rw none refl;
   others_rise = rw nothing refl;
-  others_few = let zero : length others ≡ 0 = ap length nothing in omega (arith, zero);
   below = λ key above. rw nothing refl;
-  counted = sym (ap length (first_one rising others none nothing));
 }

@@ -1,5 +1,5 @@
 -- What was taken of a point: two lists of entries by key, seen as one.
-use Rattle.std.specs.Prelude.{◌≡◌, ℕ, ◌<◌, ◌^◌, List, length, Option, Some, None}
+use Rattle.std.specs.Prelude.{◌≡◌, ℕ, List, Option, Some, None}
 use Rattle.std.specs.List.{AllByRecursion}
 use Rattle.std.specs.Coded.{Coded, coded×, coded_ℕ, coded_list, coded_option}
 use Rattle.std.specs.FinMap.{find}
@@ -25,13 +25,11 @@ as_one = merged newest
 abbrev pub IsAbove : {X : Type 0} → List ℕ → List (List ℕ × X) → Type 0
 IsAbove key entries = AllByRecursion (λ entry. key_cmp key entry.0 ≡ Greater) entries
 
--- both lists rise by key, a key above those of the first is in neither, and so many keys are in one or both
-pub record AreTaken (rising others : List Entry) (count : ℕ) : Type 0 where
+-- both lists rise by key, and a key above those of the first is in neither
+pub record AreTaken (rising others : List Entry) : Type 0 where
   pub rise : KeysRise rising
   pub others_rise : KeysRise others
-  pub others_few : length others < 2 ^ 63
   pub below : (key : List ℕ) → IsAbove key rising → find key_cmp key others ≡ None
-  pub counted : count ≡ length (as_one rising others)
 
 -- an entry as a triple of the point
 abbrev pub triple_at : ℕ → Entry → Triple

@@ -1,6 +1,6 @@
 //! Two lists of entries by key: one that only grows at its end, and a tree for what came out of order.
-ghost use Rattle.std.specs.Prelude.{◌≡◌, ◌≤◌, ◌<◌, ◌^◌, ◌↔◌, ◌∷◌, [], length, map, not, is_some, vec_capacity, IsTrue, IfOk, OnOk, OnErr};
-ghost use Rattle.std.specs.FinMap.{find, put as put_entry};
+ghost use Rattle.std.specs.Prelude.{◌≡◌, ◌≤◌, ◌↔◌, ◌∷◌, [], length, map, vec_capacity, IsTrue, OnOk, OnErr};
+ghost use Rattle.std.specs.FinMap.{put as put_entry};
 ghost use Rattle.pc_model.specs.Database.{KeysRise, key_cmp};
 ghost use Rattle.pc_model.specs.Merges.{with_item};
 ghost use Rattle.pc_taken.specs.Takings.{IsAbove, as_one, newest, triple_at};
@@ -21,30 +21,17 @@ pub(crate) fn is_above(entries: &[(Key, Option<Value>)], key: &Key) -> bool
     }
 }
 
-// Whether an entry has the key, among entries that rise by key.
-pub(crate) fn has_key(entries: &[(Key, Option<Value>)], key: &Key) -> bool
-    requires { KeysRise entries.now }
-    ensures { result ≡ is_some (find key_cmp key.now entries.now) }
-{
-    entries
-        .binary_search_by(|entry| entry.0.compare(key))
-        .is_ok()
-}
-
-// Puts the entry into the tree, and tells whether its key is new there. Where memory ran out the tree stays.
+// Puts the entry into the tree. Where memory ran out the tree stays.
 pub(crate) fn put_among(
     others: &mut BTreeMap<Key, Option<Value>>,
     key: Key,
     content: Option<Value>,
-) -> Result<bool, AllocError>
+) -> Result<(), AllocError>
     ensures put { OnOk result (others.new.entries ≡ put_entry key_cmp key content others.old.entries) }
-    ensures new { IfOk result (λ is_new. is_new ≡ not (is_some (find key_cmp key others.old.entries))) }
-    ensures few { OnOk result (length others.new.entries < 2 ^ 63) }
     ensures kept { OnErr result (others.new.entries ≡ others.old.entries) }
 {
-    let before = others.len();
     match others.insert(key, content) {
-        Ok(_) => Ok(others.len() > before),
+        Ok(_) => Ok(()),
         Err(_) => Err(AllocError),
     }
 }

@@ -4,7 +4,7 @@ ghost use Rattle.std.specs.FinMap.{put as put_entry};
 ghost use Rattle.pc_model.specs.Database.{KeysRise, key_cmp};
 ghost use Rattle.pc_taken.specs.Takings.{triple_at};
 
-use crate::entries::{has_key, is_above, merged, put_among};
+use crate::entries::{is_above, merged, put_among};
 use pc_types::{Key, Point, Triple, Value};
 use std::alloc::{AllocError, Global};
 use std::collections::BTreeMap;
@@ -21,8 +21,6 @@ pub struct Taken {
     rising: Vec<(Key, Option<Value>)>,
     // The keys that weren't. An entry here counts before one of the same key above.
     others: BTreeMap<Key, Option<Value>>,
-    // How many keys both have together.
-    count: usize,
 }
 
 impl Model for Taken {
@@ -35,7 +33,7 @@ impl Model for Taken {
 
     ghost view = { λ t. as_one t.rising.items t.others.entries };
 
-    ghost invariant = { λ t. AreTaken t.rising.items t.others.entries t.count };
+    ghost invariant = { λ t. AreTaken t.rising.items t.others.entries };
 }
 
 impl Taken {
@@ -47,15 +45,15 @@ impl Taken {
             alloc,
             rising: Vec::new(alloc),
             others: BTreeMap::new(alloc),
-            count: 0,
         }
     }
 
-    /// How many keys were taken.
-    pub fn len(&self) -> usize
-        ensures { result ≡ length self.now }
+    /// How many entries there is to be room for where all of it is moved: no fewer than keys were taken, and as many unless a
+    /// key came twice.
+    pub fn room(&self) -> usize
+        ensures { length self.now ≤ result }
     {
-        self.count
+        self.rising.len() + self.others.len()
     }
 
     /// Puts the key in its place, with what it had at the point; what was there of the same key is replaced. It fails only
@@ -66,12 +64,9 @@ impl Taken {
     {
         if is_above(&self.rising, &key) {
             self.rising.push((key, content))?;
-            self.count += 1;
             return Ok(());
         }
-        let is_there = has_key(&self.rising, &key);
-        let is_new = put_among(&mut self.others, key, content)?;
-        self.count += usize::from(is_new && !is_there);
+        put_among(&mut self.others, key, content)?;
         Ok(())
     }
 
