@@ -316,7 +316,8 @@ fn share(
 }
 
 // Answers the transaction's request to write the key, and writes it where the request is granted; or there was no room for
-// it or memory ran out, and nothing changed. What the slot may have to keep is copied before the locks are asked.
+// it or memory ran out, and nothing changed. What the slot may have to keep is copied before the locks are asked, and there is
+// room for it then.
 fn write(
     alloc: Global,
     table: &mut Table<Cell>,
@@ -351,6 +352,7 @@ fn write(
     let mode = Mode::Exclusive;
     match table.find(key) {
         Some(id) => {
+            let room = versions::room(alloc)?;
             let copy = copy_content(alloc, &table.get(id).live)?;
             let outcome = locks.request(table, transaction, id, mode)?;
             slots::put_granted(
@@ -360,6 +362,7 @@ fn write(
                 point,
                 transaction,
                 class,
+                room,
                 copy,
                 value,
                 outcome,
@@ -367,8 +370,19 @@ fn write(
             Ok(Answer { outcome, slot: id })
         }
         None => {
+            let room = slots::room_in(alloc, table)?;
             let id = request_new(alloc, table, locks, side, point, transaction, key, mode)?;
-            slots::put_at(table, side, id, point, transaction, class, None, value);
+            slots::put_at(
+                table,
+                side,
+                id,
+                point,
+                transaction,
+                class,
+                room,
+                None,
+                value,
+            );
             Ok(Answer {
                 outcome: Outcome::Granted,
                 slot: id,
@@ -486,7 +500,7 @@ fn take(table: &mut Table<Cell>, locks: &Locks, sets: &mut Dirty, point: Point)
 {
     let side = sets.open_side();
     if let Some(id) = sets.pop_closed(table) {
-        slots::mark_taken(table, side, id, point);
+        slots::mark_taken(table, side, id);
         slots::tidy(table, locks, side, point, id);
     }
 }

@@ -8,7 +8,7 @@ use Rattle.pc_records.specs.Ends.{queues_in}
 use Rattle.pc_records.specs.Slots.{slots_in, rows_of, AreKept, AreSound}
 use Rattle.pc_records.proofs.Found.{written_told, written_rows, written_kept, written_sound, written_clear, written_pending}
 use Rattle.pc_records.proofs.TableSlots.{no_slot_in}
-use Rattle.pc_records.proofs.Fullness.{full_there, refused_by, ran_out}
+use Rattle.pc_records.proofs.Fullness.{full_there, refused_by, refused_new, ran_out}
 use Rattle.pc_records.proofs.EndsKept.{are_sound}
 use Rattle.pc_records.proofs.KeepingSets.{sets_then}
 use Rattle.pc_records.proofs.Clearing.{clear_new}
@@ -95,8 +95,16 @@ returns-in_ok-outcome-in-Some-clause-room c = full_there c.args.side c.args.tabl
 
 pub returns-in_err-copy-in-Some-clause-refusal : goal.returns-in_err-copy-in-Some-clause-refusal
 returns-in_err-copy-in-Some-clause-refusal c =
-    refused_by c.args.side c.args.table.now.rows c.args.table.now.capacity (queues_in c.args.table.now.rows c.args.locks.now) c.args.key.now c.from_residual.result OutOfMemory c.from_residual.ensures (ran_out c.args.side c.args.table.now.rows c.args.table.now.capacity (queues_in c.args.table.now.rows c.args.locks.now) c.args.key.now (full_there c.args.side c.args.table.now.rows c.args.table.now.capacity (queues_in c.args.table.now.rows c.args.locks.now) c.args.key.now c.in-Some.id (sym c.in-Some.ensures.slot)))
+    refused_by c.args.side c.args.table.now.rows c.args.table.now.capacity (queues_in c.args.table.now.rows c.args.locks.now) c.args.key.now c.from_residual-in_err-copy-in-Some.result OutOfMemory c.from_residual-in_err-copy-in-Some.ensures (ran_out c.args.side c.args.table.now.rows c.args.table.now.capacity (queues_in c.args.table.now.rows c.args.locks.now) c.args.key.now (full_there c.args.side c.args.table.now.rows c.args.table.now.capacity (queues_in c.args.table.now.rows c.args.locks.now) c.args.key.now c.in-Some.id (sym c.in-Some.ensures.slot)))
 
 pub returns-in_err-outcome-in-Some-clause-refusal : goal.returns-in_err-outcome-in-Some-clause-refusal
 returns-in_err-outcome-in-Some-clause-refusal c =
     refused_by c.args.side c.args.table.now.rows c.args.table.now.capacity (queues_in c.args.table.now.rows c.args.locks.now) c.args.key.now c.from_residual-in_err-outcome-in-Some.result OutOfMemory c.from_residual-in_err-outcome-in-Some.ensures (ran_out c.args.side c.args.table.now.rows c.args.table.now.capacity (queues_in c.args.table.now.rows c.args.locks.now) c.args.key.now (full_there c.args.side c.args.table.now.rows c.args.table.now.capacity (queues_in c.args.table.now.rows c.args.locks.now) c.args.key.now c.in-Some.id (sym c.in-Some.ensures.slot)))
+
+pub returns-in_err-room-in-Some-clause-refusal : goal.returns-in_err-room-in-Some-clause-refusal
+returns-in_err-room-in-Some-clause-refusal c =
+    refused_by c.args.side c.args.table.now.rows c.args.table.now.capacity (queues_in c.args.table.now.rows c.args.locks.now) c.args.key.now c.from_residual.result OutOfMemory c.from_residual.ensures (ran_out c.args.side c.args.table.now.rows c.args.table.now.capacity (queues_in c.args.table.now.rows c.args.locks.now) c.args.key.now (full_there c.args.side c.args.table.now.rows c.args.table.now.capacity (queues_in c.args.table.now.rows c.args.locks.now) c.args.key.now c.in-Some.id (sym c.in-Some.ensures.slot)))
+
+pub returns-in_err-room-in-None-clause-refusal : goal.returns-in_err-room-in-None-clause-refusal
+returns-in_err-room-in-None-clause-refusal c =
+    refused_new c.args.side c.args.table.now.rows c.args.table.now.capacity (queues_in c.args.table.now.rows c.args.locks.now) c.args.key.now c.from_residual-in_err-room-in-None.result c.in_err-room-in-None.field-0.0 c.from_residual-in_err-room-in-None.ensures (sym c.in-None.ensures.slot) c.in_err-room-in-None.ensures.refusal
