@@ -253,6 +253,16 @@ saved point Before copy slot = slot
 saved point During copy slot = record slot { stable = held_or slot.stable copy }
 saved point After copy slot = if slot.is_in_closed_set && not (slot.mark == point) then record slot { stable = Held copy; mark = point } else slot
 
+-- a transaction of the class saves a copy of what stands in the place, where it has not written the slot yet
+abbrev pub saves_copy : Class → ℕ → Slot → Bool
+saves_copy Before point slot = false
+saves_copy During point slot = not (is_held slot.stable)
+saves_copy After point slot = slot.is_in_closed_set && not (slot.mark == point)
+
+-- the write of a transaction of the class keeps a copy of what stands in the place
+abbrev pub keeps_copy : ℕ → Class → Slot → Bool
+keeps_copy point class slot = is_none slot.writer && saves_copy class point slot
+
 -- the slot once a transaction has written the key for the first time
 abbrev pub first_put : ℕ → ℕ → Class → Option (List ℕ) → Option (List ℕ) → Slot → Slot
 first_put point t class copy value slot = record (saved point class copy slot) { live = value; writer = Some (record { transaction = t; class = class; before = slot.live }) }

@@ -26,9 +26,7 @@ use crate::{slots, versions};
 use pc_dirty::{Dirty, Side};
 use pc_locks::Locks;
 use pc_table::Table;
-use pc_types::{
-    Class, Key, MOST_KEYS, Mode, Outcome, Point, Refusal, SlotId, TxnNo, Value, Write, copy_content,
-};
+use pc_types::{Class, Key, MOST_KEYS, Mode, Outcome, Point, Refusal, SlotId, TxnNo, Value, Write};
 use std::alloc::{AllocError, Global};
 use std::hash::RandomState;
 use std::marker::Model;
@@ -316,8 +314,8 @@ fn share(
 }
 
 // Answers the transaction's request to write the key, and writes it where the request is granted; or there was no room for
-// it or memory ran out, and nothing changed. What the slot may have to keep is copied before the locks are asked, and there is
-// room for it then.
+// it or memory ran out, and nothing changed. What the slot has to keep is copied before the locks are asked, and there is room for
+// it then.
 fn write(
     alloc: Global,
     table: &mut Table<Cell>,
@@ -353,7 +351,7 @@ fn write(
     match table.find(key) {
         Some(id) => {
             let room = versions::room(alloc)?;
-            let copy = copy_content(alloc, &table.get(id).live)?;
+            let copy = versions::copy_to_keep(alloc, table.get(id), side, point, class)?;
             let outcome = locks.request(table, transaction, id, mode)?;
             slots::put_granted(
                 table,

@@ -261,8 +261,8 @@ pub(crate) fn room_in(alloc: Global, table: &Table<Cell>) -> Result<Box<Aside>, 
     }
 }
 
-// The transaction writes the slot's key in its place; the copy is one of what stands there, and the room is for what the slot
-// keeps aside where it has none.
+// The transaction writes the slot's key in its place; the copy is one of what stands there, where one is kept, and the room is
+// for what the slot keeps aside where it has none.
 pub(crate) fn put_at(
     table: &mut Table<Cell>,
     side: Side,

@@ -5,7 +5,7 @@ use crate::slots::Cell;
 use crate::{Records, versions};
 use pc_dirty::Side;
 use pc_table::Blank;
-use pc_types::{Class, Key, Outcome, Point, Refusal, TxnNo, Value, copy_content};
+use pc_types::{Class, Key, Outcome, Point, Refusal, TxnNo, Value};
 use std::alloc::Global;
 use std::hash::RandomState;
 use std::test::Fail;
@@ -65,7 +65,7 @@ fn happen(alloc: Global, seen: &mut Followed, moment: Moment) -> Result<(), Refu
     let Followed { slot, side, point } = seen;
     match moment {
         Write(class, content) => {
-            let copy = copy_content(alloc, &slot.live)?;
+            let copy = versions::copy_to_keep(alloc, slot, *side, *point, class)?;
             let value = value_of(alloc, content)?;
             let room = versions::room(alloc)?;
             versions::put(slot, *side, *point, TxnNo(1), class, room, copy, value);

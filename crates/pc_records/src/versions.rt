@@ -1,15 +1,15 @@
 //! The moments of one slot: its key is written in its place, the write is committed or undone, and the key is taken. The side is
 //! that of the open set.
-ghost use Rattle.std.specs.Prelude.{◌≡◌, ◌&&◌, ◌||◌, not, ℕ, List, [], true, Option, None, Some, is_some, option_copied, IfOk};
+ghost use Rattle.std.specs.Prelude.{◌≡◌, ◌&&◌, ◌||◌, not, ℕ, List, [], false, true, Option, None, Some, is_some, option_copied, IfOk};
 ghost use Rattle.pc_types.specs.declared.Class.TheVariants as class_of;
 ghost use Rattle.pc_types.specs.Phases.{same_class};
 ghost use Rattle.pc_dirty.specs.declared.side.Side.TheVariants.{First};
 ghost use Rattle.pc_records.specs.Words.{is_marked, words_of, HaveLinks};
-ghost use Rattle.pc_records.specs.Slots.{Slot, slot_with, nothing_aside, is_blank, aside_in, writer_in, with_aside, committed, version_or, pinned, is_held, saved, put_slot, settled, undone, taken_slot};
+ghost use Rattle.pc_records.specs.Slots.{Slot, slot_with, nothing_aside, is_blank, aside_in, writer_in, with_aside, committed, version_or, pinned, is_held, keeps_copy, saved, put_slot, settled, undone, taken_slot};
 
 use crate::slots::Cell;
 use pc_dirty::Side;
-use pc_types::{Class, Point, TxnNo, Value};
+use pc_types::{Class, Point, TxnNo, Value, copy_content};
 use std::alloc::{AllocError, Global};
 use std::mem;
 
@@ -143,6 +143,16 @@ pub(crate) fn has_version(slot: &Cell) -> bool
     }
 }
 
+// The point that the version is known to be of.
+fn mark_of(slot: &Cell) -> Point
+    ensures { result ≡ (aside_in slot.now.aside).mark }
+{
+    match &slot.aside {
+        Some(aside) => aside.mark,
+        None => Point(0),
+    }
+}
+
 // Whether a version is held.
 fn is_held(stable: &Stable) -> bool
     ensures { result ≡ is_held stable.now }
@@ -163,8 +173,41 @@ fn is_during(class: Class) -> bool
     }
 }
 
-// A transaction of the class is about to write the key, which it has not written yet: this copy of what stands there may be
-// kept.
+// A copy of what stands in the slot, where a write of a transaction of the class keeps one; else None.
+pub(crate) fn copy_to_keep(
+    alloc: Global,
+    slot: &Cell,
+    side: Side,
+    point: Point,
+    class: Class,
+) -> Result<Option<Value>, AllocError>
+    ensures kept { IfOk result (λ copy. (number : ℕ) (key : List ℕ) → keeps_copy point class (slot_with side number key slot.now) ≡ true → copy ≡ slot.now.live) }
+    ensures none { IfOk result (λ copy. keeps_copy point class (slot_with side 0 [] slot.now) ≡ false → copy ≡ None) }
+{
+    if keeps_copy(slot, side, point, class) {
+        copy_content(alloc, &slot.live)
+    } else {
+        Ok(None)
+    }
+}
+
+// Whether a write of a transaction of the class keeps a copy of what stands in the slot: it is the first of its transaction,
+// and `save` keeps the copy.
+fn keeps_copy(slot: &Cell, side: Side, point: Point, class: Class) -> bool
+    ensures { (number : ℕ) (key : List ℕ) → result ≡ keeps_copy point class (slot_with side number key slot.now) }
+{
+    if writer_of(slot).is_some() {
+        return false;
+    }
+    match class {
+        Class::Before => false,
+        Class::During => !has_version(slot),
+        Class::After => slot.is_in(side.other()) && mark_of(slot).0 != point.0,
+    }
+}
+
+// A transaction of the class is about to write the key, which it has not written yet: the copy is one of what stands there,
+// where one is kept.
 fn save(aside: &mut Aside, is_closed: bool, point: Point, class: Class, copy: Option<Value>)
     ensures { (slot : Slot) → slot.is_in_closed_set ≡ is_closed → with_aside aside.new slot ≡ saved point class copy (with_aside aside.old slot) }
 {
@@ -184,7 +227,8 @@ fn save(aside: &mut Aside, is_closed: bool, point: Point, class: Class, copy: Op
     }
 }
 
-// The transaction writes the key in place of what stood there before, of which the copy is one; its first write is noted.
+// The transaction writes the key in place of what stood there before; its first write is noted. The copy is that of
+// `copy_to_keep`.
 fn note(
     aside: &mut Aside,
     is_closed: bool,
@@ -206,8 +250,8 @@ fn note(
     }
 }
 
-// The transaction writes the key in its place; the copy is one of what stands there. The slot keeps the room where it has
-// none, and it is dropped where it has one.
+// The transaction writes the key in its place; the copy is that of `copy_to_keep`. The slot keeps the room where it has none,
+// and it is dropped where it has one.
 pub(crate) fn put(
     slot: &mut Cell,
     side: Side,

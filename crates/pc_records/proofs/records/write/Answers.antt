@@ -23,37 +23,37 @@ pub returns-in_ok-outcome-in-Some-clause-told : goal.returns-in_ok-outcome-in-So
 returns-in_ok-outcome-in-Some-clause-told c =
     written_told c.args.side c.args.table.now c.find.ensures.slots c.args.key.now c.in-Some.id c.get.result.now (sym c.in-Some.ensures.slot) c.get.ensures.record_of c.args.point c.args.transaction c.args.class c.in_ok-copy-in-Some.copy c.args.value (slots_in c.args.side c.request.new.keeper.rows) (slots_in c.args.side c.put_granted.new.table.rows) (c.request.ensures.beside.slots c.args.side)
     (queues_in c.args.table.now.rows c.args.locks.now) (queues_in c.request.new.keeper.rows c.request.new.self) (queues_in c.put_granted.new.table.rows c.request.new.self) (ap (λ (ends : ℕ → Chain ℕ). queues_of ends c.request.new.self) c.put_granted.ensures.ends) c.in_ok-outcome-in-Some.outcome c.requires.kept c.requires.sound c.in_ok-outcome-in-Some.ensures.queues c.in_ok-outcome-in-Some.ensures.told
-    (settled_legal _ (c.requires.ends.settled.settled c.in-Some.id)) (ready_at (queues_in c.args.table.now.rows c.args.locks.now) (lists_of c.args.locks.now) c.args.transaction c.requires.ends.settled.linked c.requires.ready) c.requires.outside c.requires.again c.in_ok-copy-in-Some.ensures c.put_granted.ensures.slots
+    (settled_legal _ (c.requires.ends.settled.settled c.in-Some.id)) (ready_at (queues_in c.args.table.now.rows c.args.locks.now) (lists_of c.args.locks.now) c.args.transaction c.requires.ends.settled.linked c.requires.ready) c.requires.outside c.requires.again (c.in_ok-copy-in-Some.ensures.kept c.in-Some.id c.args.key.now) c.put_granted.ensures.slots
 
 pub returns-in_ok-outcome-in-Some-clause-rows : goal.returns-in_ok-outcome-in-Some-clause-rows
 returns-in_ok-outcome-in-Some-clause-rows c =
     written_rows c.args.side c.args.table.now c.find.ensures.slots c.args.key.now c.in-Some.id c.get.result.now (sym c.in-Some.ensures.slot) c.get.ensures.record_of c.args.point c.args.transaction c.args.class c.in_ok-copy-in-Some.copy c.args.value (slots_in c.args.side c.request.new.keeper.rows) (slots_in c.args.side c.put_granted.new.table.rows) (c.request.ensures.beside.slots c.args.side)
     (queues_in c.args.table.now.rows c.args.locks.now) (queues_in c.request.new.keeper.rows c.request.new.self) (queues_in c.put_granted.new.table.rows c.request.new.self) (ap (λ (ends : ℕ → Chain ℕ). queues_of ends c.request.new.self) c.put_granted.ensures.ends) c.in_ok-outcome-in-Some.outcome c.requires.kept c.requires.sound c.in_ok-outcome-in-Some.ensures.queues c.in_ok-outcome-in-Some.ensures.told
-    (settled_legal _ (c.requires.ends.settled.settled c.in-Some.id)) (ready_at (queues_in c.args.table.now.rows c.args.locks.now) (lists_of c.args.locks.now) c.args.transaction c.requires.ends.settled.linked c.requires.ready) c.requires.outside c.requires.again c.in_ok-copy-in-Some.ensures c.put_granted.ensures.slots
+    (settled_legal _ (c.requires.ends.settled.settled c.in-Some.id)) (ready_at (queues_in c.args.table.now.rows c.args.locks.now) (lists_of c.args.locks.now) c.args.transaction c.requires.ends.settled.linked c.requires.ready) c.requires.outside c.requires.again (c.in_ok-copy-in-Some.ensures.kept c.in-Some.id c.args.key.now) c.put_granted.ensures.slots
 
 pub returns-in_ok-outcome-in-Some-clause-clear : goal.returns-in_ok-outcome-in-Some-clause-clear
 returns-in_ok-outcome-in-Some-clause-clear c =
     written_clear c.args.side c.args.table.now c.find.ensures.slots c.args.key.now c.in-Some.id c.get.result.now (sym c.in-Some.ensures.slot) c.get.ensures.record_of c.args.point c.args.transaction c.args.class c.in_ok-copy-in-Some.copy c.args.value (slots_in c.args.side c.request.new.keeper.rows) (slots_in c.args.side c.put_granted.new.table.rows) (c.request.ensures.beside.slots c.args.side)
     (queues_in c.args.table.now.rows c.args.locks.now) (queues_in c.request.new.keeper.rows c.request.new.self) (queues_in c.put_granted.new.table.rows c.request.new.self) (ap (λ (ends : ℕ → Chain ℕ). queues_of ends c.request.new.self) c.put_granted.ensures.ends) c.in_ok-outcome-in-Some.outcome c.requires.kept c.requires.sound c.in_ok-outcome-in-Some.ensures.queues c.in_ok-outcome-in-Some.ensures.told
-    (settled_legal _ (c.requires.ends.settled.settled c.in-Some.id)) (ready_at (queues_in c.args.table.now.rows c.args.locks.now) (lists_of c.args.locks.now) c.args.transaction c.requires.ends.settled.linked c.requires.ready) c.requires.outside c.requires.again c.in_ok-copy-in-Some.ensures c.put_granted.ensures.slots
+    (settled_legal _ (c.requires.ends.settled.settled c.in-Some.id)) (ready_at (queues_in c.args.table.now.rows c.args.locks.now) (lists_of c.args.locks.now) c.args.transaction c.requires.ends.settled.linked c.requires.ready) c.requires.outside c.requires.again (c.in_ok-copy-in-Some.ensures.kept c.in-Some.id c.args.key.now) c.put_granted.ensures.slots
 
 pub returns-in_ok-outcome-in-Some-clause-kept : goal.returns-in_ok-outcome-in-Some-clause-kept
 returns-in_ok-outcome-in-Some-clause-kept c =
     written_kept c.args.side c.args.table.now c.find.ensures.slots c.args.key.now c.in-Some.id c.get.result.now (sym c.in-Some.ensures.slot) c.get.ensures.record_of c.args.point c.args.transaction c.args.class c.in_ok-copy-in-Some.copy c.args.value (slots_in c.args.side c.request.new.keeper.rows) (slots_in c.args.side c.put_granted.new.table.rows) (c.request.ensures.beside.slots c.args.side)
     (queues_in c.args.table.now.rows c.args.locks.now) (queues_in c.request.new.keeper.rows c.request.new.self) (queues_in c.put_granted.new.table.rows c.request.new.self) (ap (λ (ends : ℕ → Chain ℕ). queues_of ends c.request.new.self) c.put_granted.ensures.ends) c.in_ok-outcome-in-Some.outcome c.requires.kept c.requires.sound c.in_ok-outcome-in-Some.ensures.queues c.in_ok-outcome-in-Some.ensures.told
-    (settled_legal _ (c.requires.ends.settled.settled c.in-Some.id)) (ready_at (queues_in c.args.table.now.rows c.args.locks.now) (lists_of c.args.locks.now) c.args.transaction c.requires.ends.settled.linked c.requires.ready) c.requires.outside c.requires.again c.in_ok-copy-in-Some.ensures c.put_granted.ensures.slots
+    (settled_legal _ (c.requires.ends.settled.settled c.in-Some.id)) (ready_at (queues_in c.args.table.now.rows c.args.locks.now) (lists_of c.args.locks.now) c.args.transaction c.requires.ends.settled.linked c.requires.ready) c.requires.outside c.requires.again (c.in_ok-copy-in-Some.ensures.kept c.in-Some.id c.args.key.now) c.put_granted.ensures.slots
 
 pub returns-in_ok-outcome-in-Some-clause-sound : goal.returns-in_ok-outcome-in-Some-clause-sound
 returns-in_ok-outcome-in-Some-clause-sound c =
     written_sound c.args.side c.args.table.now c.find.ensures.slots c.args.key.now c.in-Some.id c.get.result.now (sym c.in-Some.ensures.slot) c.get.ensures.record_of c.args.point c.args.transaction c.args.class c.in_ok-copy-in-Some.copy c.args.value (slots_in c.args.side c.request.new.keeper.rows) (slots_in c.args.side c.put_granted.new.table.rows) (c.request.ensures.beside.slots c.args.side)
     (queues_in c.args.table.now.rows c.args.locks.now) (queues_in c.request.new.keeper.rows c.request.new.self) (queues_in c.put_granted.new.table.rows c.request.new.self) (ap (λ (ends : ℕ → Chain ℕ). queues_of ends c.request.new.self) c.put_granted.ensures.ends) c.in_ok-outcome-in-Some.outcome c.requires.kept c.requires.sound c.in_ok-outcome-in-Some.ensures.queues c.in_ok-outcome-in-Some.ensures.told
-    (settled_legal _ (c.requires.ends.settled.settled c.in-Some.id)) (ready_at (queues_in c.args.table.now.rows c.args.locks.now) (lists_of c.args.locks.now) c.args.transaction c.requires.ends.settled.linked c.requires.ready) c.requires.outside c.requires.again c.in_ok-copy-in-Some.ensures c.put_granted.ensures.slots
+    (settled_legal _ (c.requires.ends.settled.settled c.in-Some.id)) (ready_at (queues_in c.args.table.now.rows c.args.locks.now) (lists_of c.args.locks.now) c.args.transaction c.requires.ends.settled.linked c.requires.ready) c.requires.outside c.requires.again (c.in_ok-copy-in-Some.ensures.kept c.in-Some.id c.args.key.now) c.put_granted.ensures.slots
 
 pub returns-in_ok-outcome-in-Some-clause-pending : goal.returns-in_ok-outcome-in-Some-clause-pending
 returns-in_ok-outcome-in-Some-clause-pending c =
     written_pending c.args.side c.args.table.now c.find.ensures.slots c.args.key.now c.in-Some.id c.get.result.now (sym c.in-Some.ensures.slot) c.get.ensures.record_of c.args.point c.args.transaction c.args.class c.in_ok-copy-in-Some.copy c.args.value (slots_in c.args.side c.request.new.keeper.rows) (slots_in c.args.side c.put_granted.new.table.rows) (c.request.ensures.beside.slots c.args.side)
     (queues_in c.args.table.now.rows c.args.locks.now) (queues_in c.request.new.keeper.rows c.request.new.self) (queues_in c.put_granted.new.table.rows c.request.new.self) (ap (λ (ends : ℕ → Chain ℕ). queues_of ends c.request.new.self) c.put_granted.ensures.ends) c.in_ok-outcome-in-Some.outcome c.requires.kept c.requires.sound c.in_ok-outcome-in-Some.ensures.queues c.in_ok-outcome-in-Some.ensures.told
-    (settled_legal _ (c.requires.ends.settled.settled c.in-Some.id)) (ready_at (queues_in c.args.table.now.rows c.args.locks.now) (lists_of c.args.locks.now) c.args.transaction c.requires.ends.settled.linked c.requires.ready) c.requires.outside c.requires.again c.in_ok-copy-in-Some.ensures c.put_granted.ensures.slots c.args.table.now.capacity
+    (settled_legal _ (c.requires.ends.settled.settled c.in-Some.id)) (ready_at (queues_in c.args.table.now.rows c.args.locks.now) (lists_of c.args.locks.now) c.args.transaction c.requires.ends.settled.linked c.requires.ready) c.requires.outside c.requires.again (c.in_ok-copy-in-Some.ensures.kept c.in-Some.id c.args.key.now) c.put_granted.ensures.slots c.args.table.now.capacity
 
 pub returns-in_ok-outcome-in-Some-clause-ends : goal.returns-in_ok-outcome-in-Some-clause-ends
 returns-in_ok-outcome-in-Some-clause-ends c = subst (λ (ends : ℕ → Chain ℕ). AreEnds ends c.request.new.self) (sym c.put_granted.ensures.ends) c.request.ensures.sound.ends_are
