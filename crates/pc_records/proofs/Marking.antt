@@ -10,15 +10,15 @@ use Rattle.pc_dirty.proofs.SetLaws.{sets_stay, opened_have, closed_have}
 use Rattle.pc_table.specs.Rows.{Row as TableRow, in_slot, with_record_in}
 use Rattle.pc_table.proofs.RowLaws.{same_some}
 use Rattle.pc_records.specs.declared.slots.Cell.{Cell}
-use Rattle.pc_records.specs.Words.{words_of, is_marked, with_mark, link_of, HaveLinks}
+use Rattle.pc_records.specs.Words.{words_of, is_marked, with_mark, place_at, link_of, HaveLinks}
 use Rattle.pc_records.specs.Slots.{Slot, slot_with, is_held, is_kept_slot, taken_slot, aside_in}
 use Rattle.pc_model.specs.Locks.{Queue}
 use Rattle.pc_records.specs.SetLists.{HasPlace, link_in, next_in, marked_in, key_in, KeepLinks, IsUnmarked}
 use Rattle.pc_records.proofs.InSlots.{changed_in, in_changed}
 
 link_same : (side : Side) (x y : Cell) → HaveLinks x y → link_of side y ≡ link_of side x
-link_same First x y h = h.first
-link_same Second x y h = h.second
+link_same First x y h = λ i. place_at (h.first_slot i) (h.first_side i)
+link_same Second x y h = λ i. place_at (h.second_slot i) (h.second_side i)
 
 module _ (rows : List (TableRow Cell)) (id : ℕ) (x y : Cell) (has : option_map (λ pair. pair.1) (in_slot rows id) ≡ Some x) where
   abbrev changed : List (TableRow Cell)
@@ -84,8 +84,8 @@ linked_keep old new sets opened closed k d =
 
 -- a cell whose links and marks stay
 pub same_words : (side : Side) (x y : Cell) → HaveLinks x y → is_marked side y ≡ is_marked side x → is_marked (other_side side) y ≡ is_marked (other_side side) x → words_of y ≡ words_of x
-same_words First x y h a b = λ i. (record { link = h.first i; is_in = a i }, record { link = h.second i; is_in = b i })
-same_words Second x y h a b = λ i. (record { link = h.first i; is_in = b i }, record { link = h.second i; is_in = a i })
+same_words First x y h a b = λ i. (record { slot = h.first_slot i; leads_to = h.first_side i; is_in = a i }, record { slot = h.second_slot i; leads_to = h.second_side i; is_in = b i })
+same_words Second x y h a b = λ i. (record { slot = h.first_slot i; leads_to = h.first_side i; is_in = b i }, record { slot = h.second_slot i; leads_to = h.second_side i; is_in = a i })
 
 -- a slot that nothing keeps is in no set
 pub nothing_marked : (side : Side) (queue : Queue) (id : ℕ) (x : Cell) → is_kept_slot queue (slot_with side id [] x) ≡ false → (x.first.is_in || x.second.is_in) ≡ false

@@ -14,7 +14,7 @@ use Rattle.pc_records.specs.declared.slots.Cell.{Cell}
 use Rattle.pc_records.specs.declared.words.Word.{Word}
 use Rattle.pc_records.specs.RowSteps.{left_rows}
 use Rattle.pc_records.specs.Slots.{slots_in, rows_of, writer_in}
-use Rattle.pc_records.specs.Words.{words_of, is_marked, link_of}
+use Rattle.pc_records.specs.Words.{words_of, is_marked, link_of, without_link}
 
 -- the slot has a row, and so a link on each side
 abbrev pub HasPlace : List (TableRow Cell) → Place → Type 0
@@ -94,7 +94,7 @@ pub record IsUnmarked (side : Side) (id : ℕ) (old new : List (TableRow Cell)) 
 
 -- the cell without its links
 abbrev pub unlinked : Cell → Cell
-unlinked cell = record cell { first = record cell.first { link = None }; second = record cell.second { link = None } }
+unlinked cell = record cell { first = without_link cell.first; second = without_link cell.second }
 
 -- the row without its links
 abbrev pub unlinked_row : TableRow Cell → TableRow Cell
