@@ -16,7 +16,8 @@ use Rattle.pc_records.specs.declared.versions.Writer.{Writer}
 use Rattle.pc_records.specs.Rows.{record_of, is_in_closed_set, requests_on}
 use Rattle.pc_records.specs.RowSteps.{rows_after}
 use Rattle.pc_records.specs.Tables.{Pending, pending_after}
-use Rattle.pc_records.specs.Slots.{no_queues, Slot, rows_of, pending_in, write_of, pending_of, table_of, has_exclusive, is_locked, AreSound, AreKept, IsSlotOf, IsFirstIn, put_slot, granted_slot, new_slot, at_number, numbers_of, times, IsNewAt}
+use Rattle.pc_records.specs.Slots.{no_queues, Slot, rows_of, pending_in, write_of, pending_of, table_of, has_exclusive, is_locked, AreSound, AreKept, IsSlotOf, IsFirstIn, keeps_copy, put_slot, granted_slot, new_slot, at_number, numbers_of, times, IsNewAt}
+use Rattle.pc_records.proofs.Copies.{granted_alike}
 use Rattle.pc_records.proofs.SlotPlaces.{slot_found, length-rows, number_set}
 use Rattle.pc_records.proofs.Queued.{set_at, queue_same}
 use Rattle.pc_records.proofs.Requesting.{queue_found, rows_asked, kept_asked}
@@ -151,9 +152,9 @@ module _ (point t : ℕ) (class : Class) (value : Option (List ℕ)) (slots inse
       none : (w : Writer) → None ≡ Some w → (w.transaction ≡ t) × (w.class ≡ class)
       none w e = absurd (let z : None ≡ Some w = e in cc)
 
--- what was written with a copy of what stands there
-pub granted_is : (o : Outcome) (point t : ℕ) (class : Class) (copy value : Option (List ℕ)) (slots new : List Slot) (i n : ℕ) (e : Slot) → times n (numbers_of slots) ≤ 1 → new ≡ map (at_number (granted_slot o point t class copy value) n) slots → copy ≡ e.live → i < length slots → e ≡ get_or slots i e → e.number ≡ n →
+-- what was written with a copy of what stands there, as far as one is kept
+pub granted_is : (o : Outcome) (point t : ℕ) (class : Class) (copy value : Option (List ℕ)) (slots new : List Slot) (i n : ℕ) (e : Slot) → times n (numbers_of slots) ≤ 1 → new ≡ map (at_number (granted_slot o point t class copy value) n) slots → (keeps_copy point class e ≡ true → copy ≡ e.live) → i < length slots → e ≡ get_or slots i e → e.number ≡ n →
     new ≡ set slots i (granted_slot o point t class e.live value e)
-granted_is o point t class copy value slots new i n e once new_is copy_is lt is number =
+granted_is o point t class copy value slots new i n e once new_is copied lt is number =
     new_is ∙ number_set (granted_slot o point t class copy value) n slots i e once lt (ap (λ (s : Slot). s.number) (sym is) ∙ number)
-    ∙ ap (λ v. set slots i (granted_slot o point t class v value (get_or slots i e))) copy_is ∙ ap (λ (s : Slot). set slots i (granted_slot o point t class e.live value s)) (sym is)
+    ∙ ap (λ (s : Slot). set slots i (granted_slot o point t class copy value s)) (sym is) ∙ ap (λ (s : Slot). set slots i s) (granted_alike o point t class copy e.live value e copied)

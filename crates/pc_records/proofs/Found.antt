@@ -19,7 +19,7 @@ use Rattle.pc_records.specs.declared.slots.Cell.{Cell}
 use Rattle.pc_records.specs.Rows.{record_of, is_in_closed_set, requests_on}
 use Rattle.pc_records.specs.RowSteps.{rows_after, released_rows}
 use Rattle.pc_records.specs.Tables.{Pending, pending_after}
-use Rattle.pc_records.specs.Slots.{Slot, slot_with, slots_in, rows_of, pending_of, table_of, numbers_of, times, at_number, granted_slot, tidied, AreSound, AreKept, IsSlotOf, IsNumbered}
+use Rattle.pc_records.specs.Slots.{Slot, slot_with, slots_in, rows_of, pending_of, table_of, numbers_of, times, at_number, keeps_copy, granted_slot, tidied, AreSound, AreKept, IsSlotOf, IsNumbered}
 use Rattle.pc_records.proofs.Queued.{set_at, set_is, alike_is}
 use Rattle.pc_records.proofs.SlotPlaces.{slot_of_key, number_place}
 use Rattle.pc_records.proofs.SlotReleasing.{stands_first, slot_there, kept_without, released_first}
@@ -75,7 +75,7 @@ module _ (side : Side) where
     -- and the key was written where the request was granted
     module _ (point t : ℕ) (class : Class) (copy value : Option (List ℕ)) (asked new : List Slot) (stay : asked ≡ slots_in side table.rows) (queues asked_queues new_queues : Queues) (still : new_queues ≡ asked_queues) (o : Outcome) (kept : AreKept (slots_in side table.rows) queues) (sound : AreSound point queues (slots_in side table.rows))
         (sets : SetsAt queues asked_queues id (queue_after (queue_at queues id) t Exclusive o)) (answered : o ≡ outcome (queue_at queues id) t Exclusive) (legal : IsLegalQueue (queue_at queues id)) (ready : (m : ℕ) → is_ungranted (request_in (queue_at queues m) t) ≡ false)
-        (outside : class ≡ Before → is_in_closed_set (record_of (rows_of queues (slots_in side table.rows)) key) ≡ false) (again : (p : Pending) → find key_cmp key (pending_of (slots_in side table.rows)) ≡ Some p → p.by ≡ t → p.class ≡ class) (copied : copy ≡ x.live)
+        (outside : class ≡ Before → is_in_closed_set (record_of (rows_of queues (slots_in side table.rows)) key) ≡ false) (again : (p : Pending) → find key_cmp key (pending_of (slots_in side table.rows)) ≡ Some p → p.by ≡ t → p.class ≡ class) (copied : keeps_copy point class (slot_with side id key x) ≡ true → copy ≡ x.live)
         (put : new ≡ map (at_number (granted_slot o point t class copy value) id) asked) where
       written_queues : new_queues ≡ set_at queues id (queue_after (queue_at queues id) t Exclusive o)
       written_queues = still ∙ set_is queues asked_queues id (queue_after (queue_at queues id) t Exclusive o) sets

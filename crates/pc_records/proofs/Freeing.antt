@@ -42,9 +42,9 @@ module _ (point : ℕ) (queues : Queues) (slots : List Slot) (i : ℕ) (e : Slot
 
 -- a key is taken
 module _ (point : ℕ) (queues : Queues) (slots marked : List Slot) (key : List ℕ) (i : ℕ) (sound : AreSound point queues slots) (rise : KeysRise (rows_of no_queues slots)) (lt : i < length slots) (here : same_bytes key (get_or slots i any_slot).key ≡ true)
-    (marked_is : marked ≡ set slots i (taken_slot point (get_or slots i any_slot))) where
+    (marked_is : marked ≡ set slots i (taken_slot (get_or slots i any_slot))) where
   pub sound_taken : ((p : Pending) → find key_cmp key (pending_of slots) ≡ Some p → same_class p.class During ≡ false) → AreSound point queues marked
-  sound_taken over = sound_set point queues slots marked i (taken_slot point (get_or slots i any_slot)) marked_is (taken_sound point (queue_at queues (get_or slots i any_slot).number) (get_or slots i any_slot) each (sound.each i any_slot lt)) sound
+  sound_taken over = sound_set point queues slots marked i (taken_slot (get_or slots i any_slot)) marked_is (taken_sound point (queue_at queues (get_or slots i any_slot).number) (get_or slots i any_slot) each (sound.each i any_slot lt)) sound
     where
       each : (w : Writer) → (get_or slots i any_slot).writer ≡ Some w → same_class w.class During ≡ false
       each w writer =
@@ -52,7 +52,7 @@ module _ (point : ℕ) (queues : Queues) (slots marked : List Slot) (key : List 
           (find_entry pending_in slots key rise ∙ ap (of_slot pending_in) (slot_at slots key i any_slot rise lt here) ∙ ap (λ o. write_of o (get_or slots i any_slot).live) writer)
 
   pub pending_taken : pending_of marked ≡ pending_of slots
-  pending_taken = ap pending_of marked_is ∙ entries_set pending_in slots i any_slot (taken_slot point (get_or slots i any_slot)) lt refl refl
+  pending_taken = ap pending_of marked_is ∙ entries_set pending_in slots i any_slot (taken_slot (get_or slots i any_slot)) lt refl refl
 
 -- another queue at one number, in which the writers of the slots still have their locks
 pub sound_queued : (point n : ℕ) (q : Queue) (slots : List Slot) (queues new : Queues) → AreKept slots queues → new ≡ set_at queues n q → All (λ s. is_locked (queue_at queues n) s.writer ≡ true → is_locked q s.writer ≡ true) slots → AreSound point queues slots → AreSound point new slots

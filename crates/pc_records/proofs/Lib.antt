@@ -24,6 +24,7 @@ mod NewSlots
 mod Numbers
 mod Turning
 mod CommittedPairs
+mod Copies
 mod Queued
 mod SlotKeeping
 mod Tidying

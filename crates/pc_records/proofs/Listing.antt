@@ -11,7 +11,7 @@ use Rattle.pc_table.specs.Rows.{Row as TableRow, in_slot}
 use Rattle.pc_table.proofs.RowLaws.{no_row, same_some}
 use Rattle.pc_records.specs.declared.slots.Cell.{Cell}
 use Rattle.pc_records.specs.declared.words.Word.{Word}
-use Rattle.pc_records.specs.Words.{words_of}
+use Rattle.pc_records.specs.Words.{link_at, words_of}
 use Rattle.pc_records.specs.SetLists.{HasPlace, link_in, next_in, marked_in, key_in, keys_at, is_listed, AreLists, open_slots, closed_slots, IsListed, open_keys, closed_keys, in_sets, KeepSets}
 
 -- what the sets have of two words, with the key
@@ -62,8 +62,8 @@ pub record IsSameThere (side : Side) (a b : Option (List ℕ × Cell)) : Type 0 
   pub link : link_in side b ≡ link_in side a
 
 links_same : (side : Side) (p q : List ℕ × Cell) → words_of q.1 ≡ words_of p.1 → link_in side (Some q) ≡ link_in side (Some p)
-links_same First p q e = ap (λ (w : Word × Word). w.0.link) e
-links_same Second p q e = ap (λ (w : Word × Word). w.1.link) e
+links_same First p q e = ap (λ (w : Word × Word). link_at w.0) e
+links_same Second p q e = ap (λ (w : Word × Word). link_at w.1) e
 
 pub same_there : (side : Side) (a b : Option (List ℕ × Cell)) → in_sets b ≡ in_sets a → marked_in side a ≡ true → IsSameThere side a b
 same_there First None b e m = absurd cc

@@ -10,15 +10,15 @@ use Rattle.pc_dirty.proofs.SetLaws.{sets_stay, opened_have, closed_have}
 use Rattle.pc_table.specs.Rows.{Row as TableRow, in_slot, with_record_in}
 use Rattle.pc_table.proofs.RowLaws.{same_some}
 use Rattle.pc_records.specs.declared.slots.Cell.{Cell}
-use Rattle.pc_records.specs.Words.{words_of, is_marked, link_of, HaveLinks}
-use Rattle.pc_records.specs.Slots.{Slot, slot_with, is_held, is_kept_slot, taken_slot}
+use Rattle.pc_records.specs.Words.{words_of, is_marked, with_mark, place_at, link_of, HaveLinks}
+use Rattle.pc_records.specs.Slots.{Slot, slot_with, is_held, is_kept_slot, taken_slot, aside_in}
 use Rattle.pc_model.specs.Locks.{Queue}
 use Rattle.pc_records.specs.SetLists.{HasPlace, link_in, next_in, marked_in, key_in, KeepLinks, IsUnmarked}
 use Rattle.pc_records.proofs.InSlots.{changed_in, in_changed}
 
 link_same : (side : Side) (x y : Cell) → HaveLinks x y → link_of side y ≡ link_of side x
-link_same First x y h = h.first
-link_same Second x y h = h.second
+link_same First x y h = λ i. place_at (h.first_slot i) (h.first_side i)
+link_same Second x y h = λ i. place_at (h.second_slot i) (h.second_side i)
 
 module _ (rows : List (TableRow Cell)) (id : ℕ) (x y : Cell) (has : option_map (λ pair. pair.1) (in_slot rows id) ≡ Some x) where
   abbrev changed : List (TableRow Cell)
@@ -57,8 +57,8 @@ module _ (rows : List (TableRow Cell)) (id : ℕ) (x y : Cell) (has : option_map
       by_test side slot false is (Some p) e = refl
       by_test side slot true is (Some p) e = link_same side x y h ∙ ap (link_of side) (sym (here slot is p e))
 
-  pub unmarked : (side : Side) (point : ℕ) → HaveLinks x y → ((number : ℕ) (key : List ℕ) → slot_with side number key y ≡ taken_slot point (slot_with side number key x)) → IsUnmarked side id rows changed
-  unmarked side point h turns = record {
+  pub unmarked : (side : Side) → HaveLinks x y → ((number : ℕ) (key : List ℕ) → slot_with side number key y ≡ taken_slot (slot_with side number key x)) → IsUnmarked side id rows changed
+  unmarked side h turns = record {
     links = links_kept h;
     open_marks = λ slot. mark_there side slot ∙ by_test slot (eqb slot id) refl;
     closed_marks = λ slot. mark_there (other_side side) slot ∙ ap (λ b. cond (eqb slot id) b (marked_in (other_side side) (in_slot rows slot))) (ap (λ (s : Slot). s.is_in_closed_set) (turns 0 []));
@@ -84,15 +84,15 @@ linked_keep old new sets opened closed k d =
 
 -- a cell whose links and marks stay
 pub same_words : (side : Side) (x y : Cell) → HaveLinks x y → is_marked side y ≡ is_marked side x → is_marked (other_side side) y ≡ is_marked (other_side side) x → words_of y ≡ words_of x
-same_words First x y h a b = λ i. (record { link = h.first i; is_in = a i }, record { link = h.second i; is_in = b i })
-same_words Second x y h a b = λ i. (record { link = h.first i; is_in = b i }, record { link = h.second i; is_in = a i })
+same_words First x y h a b = λ i. (record { slot = h.first_slot i; leads_to = h.first_side i; is_in = a i }, record { slot = h.second_slot i; leads_to = h.second_side i; is_in = b i })
+same_words Second x y h a b = λ i. (record { slot = h.first_slot i; leads_to = h.first_side i; is_in = b i }, record { slot = h.second_slot i; leads_to = h.second_side i; is_in = a i })
 
 -- a slot that nothing keeps is in no set
 pub nothing_marked : (side : Side) (queue : Queue) (id : ℕ) (x : Cell) → is_kept_slot queue (slot_with side id [] x) ≡ false → (x.first.is_in || x.second.is_in) ≡ false
 nothing_marked side queue id x e =
     let marks = is_marked side x || is_marked (other_side side) x in
     let asked = not (length queue == 0) in
-    by_side side (or_parts asked marks (or_parts (is_held x.stable) (asked || marks) (or_parts (is_some x.live) (is_held x.stable || (asked || marks)) e).1).1).1
+    by_side side (or_parts asked marks (or_parts (is_held (aside_in x.aside).stable) (asked || marks) (or_parts (is_some x.live) (is_held (aside_in x.aside).stable || (asked || marks)) e).1).1).1
   where
     turned : (a b : Bool) → (a || b) ≡ false → (b || a) ≡ false
     turned true b e = cc
@@ -102,3 +102,8 @@ nothing_marked side queue id x e =
     by_side : (s : Side) → (is_marked s x || is_marked (other_side s) x) ≡ false → (x.first.is_in || x.second.is_in) ≡ false
     by_side First e = e
     by_side Second e = turned x.second.is_in x.first.is_in e
+
+-- a slot that is marked on the side of the open set
+pub slot_marked : (side : Side) (number : ℕ) (key : List ℕ) (x : Cell) → slot_with side number key (with_mark side true x) ≡ record (slot_with side number key x) { is_in_open_set = true }
+slot_marked First number key x = refl
+slot_marked Second number key x = refl

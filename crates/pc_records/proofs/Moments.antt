@@ -144,19 +144,12 @@ put_key point t class copy value s = elim s.writer as (λ o. (put_beside o point
 pub put_number : (point t : ℕ) (class : Class) (copy value : Option (List ℕ)) (s : Slot) → (put_slot point t class copy value s).number ≡ s.number
 put_number point t class copy value s = elim s.writer as (λ o. (put_beside o point t class copy value s).number ≡ s.number) [ None ↦ saved_number point class copy s | Some w ↦ refl ]
 
--- what is saved of a slot in which the value stands already, and its writer
-pub put_saved : (point t : ℕ) (class : Class) (copy value was stands : Option (List ℕ)) (s now : Slot) → s.writer ≡ None → was ≡ s.live → stands ≡ value → now ≡ saved point class copy (record s { live = stands }) →
-    record now { writer = Some (record { transaction = t; class = class; before = was }) } ≡ put_slot point t class copy value s
-put_saved point t class copy value was stands s now none was_is stands_is is =
-    ap (λ (x : Slot). record x { writer = Some (record { transaction = t; class = class; before = was }) }) (is ∙ ap (λ v. saved point class copy (record s { live = v })) stands_is)
-    ∙ ap (λ (v : Option (List ℕ)). record (saved point class copy (record s { live = value })) { writer = Some (record { transaction = t; class = class; before = v }) }) was_is ∙ by_class class ∙ sym (ap (λ o. put_beside o point t class copy value s) none)
-  where
-    by_class : (c : Class) → record (saved point c copy (record s { live = value })) { writer = Some (record { transaction = t; class = class; before = s.live }) } ≡ record (saved point c copy s) { live = value; writer = Some (record { transaction = t; class = class; before = s.live }) }
-    by_class Before = refl
-    by_class During = refl
-    by_class After =
-        elim (s.is_in_closed_set && not (eqb s.mark point)) as (λ b. record (cond b (record s { live = value; stable = Held copy; mark = point }) (record s { live = value })) { writer = Some (record { transaction = t; class = class; before = s.live }) }
-        ≡ record (cond b (record s { stable = Held copy; mark = point }) s) { live = value; writer = Some (record { transaction = t; class = class; before = s.live }) }) [ true ↦ refl | false ↦ refl ]
+-- what is saved of a slot, the value, and the writer
+pub put_saved : (point t : ℕ) (class : Class) (copy value was : Option (List ℕ)) (s now : Slot) → s.writer ≡ None → was ≡ s.live → now ≡ saved point class copy s →
+    record now { live = value; writer = Some (record { transaction = t; class = class; before = was }) } ≡ put_slot point t class copy value s
+put_saved point t class copy value was s now none was_is is =
+    ap (λ (x : Slot). record x { live = value; writer = Some (record { transaction = t; class = class; before = was }) }) is
+    ∙ ap (λ (v : Option (List ℕ)). record (saved point class copy s) { live = value; writer = Some (record { transaction = t; class = class; before = v }) }) was_is ∙ sym (ap (λ o. put_beside o point t class copy value s) none)
 
 -- and the write that stands then
 pub put_pending : (point t : ℕ) (class : Class) (copy value : Option (List ℕ)) (s : Slot) → ((w : Writer) → s.writer ≡ Some w → (w.transaction ≡ t) × (w.class ≡ class)) → pending_in (put_slot point t class copy value s) ≡ Some (record { by = t; class = class; value = value })
@@ -314,7 +307,7 @@ row_undone queues point queue s sound = by_writer s.writer refl
         ∙ ap (λ v. (s.key, record { value = v; is_in_open_set = s.is_in_open_set; is_in_closed_set = s.is_in_closed_set; pinned = pinned s; requests = queue_at queues s.number })) (sym value)
 
 -- a key is taken
-pub taken_sound : (point : ℕ) (queue : Queue) (s : Slot) → ((w : Writer) → s.writer ≡ Some w → same_class w.class During ≡ false) → IsSound point queue s → IsSound point queue (taken_slot point s)
+pub taken_sound : (point : ℕ) (queue : Queue) (s : Slot) → ((w : Writer) → s.writer ≡ Some w → same_class w.class During ≡ false) → IsSound point queue s → IsSound point queue (taken_slot s)
 taken_sound point queue s over sound = record { passed = omega arith; holds = λ e. absurd (no e); follows = λ e. by_writer s.writer refl; prepared = λ c e. absurd (no c); locked = sound.locked }
   where
     by_writer : (o : Option Writer) → s.writer ≡ o → Empty ≡ held_for o

@@ -16,7 +16,7 @@ use Rattle.pc_records.specs.declared.slots.Cell.{Cell}
 use Rattle.pc_records.specs.declared.versions.Stable.TheVariants.{Empty}
 use Rattle.pc_records.specs.declared.versions.Writer.{Writer}
 use Rattle.pc_records.specs.Words.{is_marked, HaveLinks}
-use Rattle.pc_records.specs.Slots.{Slot, slot_with, slots_in, settled, settled_class, settled_from}
+use Rattle.pc_records.specs.Slots.{Slot, slot_with, slots_in, settled, settled_class, settled_from, writer_in}
 use Rattle.pc_records.specs.SetLists.{HasPlace, next_in, marked_in, key_in, keys_at, is_listed, AreLists, open_slots, closed_slots, IsListed, open_keys, closed_keys, entering, KeepSets, KeepRecords}
 use Rattle.pc_records.proofs.InSlots.{cell_there}
 use Rattle.pc_records.proofs.Unlinked.{slots_keep, marks_keep, key_keeps}
@@ -108,7 +108,7 @@ module _ (table : Contents Cell) (a : AreInSlots table) (sets : Dirty) (l : IsLi
   abbrev after : List (TableRow Cell)
   after = map (with_record_in id y) table.rows
 
-  open_now : is_marked sets.side y ≡ cond (is_some x.writer) true (is_marked sets.side x)
+  open_now : is_marked sets.side y ≡ cond (is_some (writer_in x)) true (is_marked sets.side x)
   open_now = ap (λ (s : Slot). s.is_in_open_set) (turns 0 []) ∙ settled_open point (slot_with sets.side 0 [] x)
 
   closed_now : is_marked (other_side sets.side) y ≡ is_marked (other_side sets.side) x
@@ -122,9 +122,9 @@ module _ (table : Contents Cell) (a : AreInSlots table) (sets : Dirty) (l : IsLi
       by_row (Some p) e = ap (λ o. marked_in side (option_map (λ c. (p.0, c)) o)) e
 
   -- it doesn't go in
-  module _ (stays : false ≡ (is_some x.writer && not (is_marked sets.side x))) where
+  module _ (stays : false ≡ (is_some (writer_in x) && not (is_marked sets.side x))) where
     open_same : is_marked sets.side y ≡ is_marked sets.side x
-    open_same = open_now ∙ by_test (is_some x.writer) (is_marked sets.side x) stays
+    open_same = open_now ∙ by_test (is_some (writer_in x)) (is_marked sets.side x) stays
       where
         by_test : (w m : Bool) → false ≡ (w && not m) → cond w true m ≡ m
         by_test true true e = refl
@@ -147,16 +147,16 @@ module _ (table : Contents Cell) (a : AreInSlots table) (sets : Dirty) (l : IsLi
     stays_closed = kept_closed table.rows after sets keeps l
 
   -- it goes in
-  module _ (goes : true ≡ (is_some x.writer && not (is_marked sets.side x))) where
+  module _ (goes : true ≡ (is_some (writer_in x) && not (is_marked sets.side x))) where
     marked_now : is_marked sets.side y ≡ true
-    marked_now = open_now ∙ by_test (is_some x.writer) (is_marked sets.side x) goes
+    marked_now = open_now ∙ by_test (is_some (writer_in x)) (is_marked sets.side x) goes
       where
         by_test : (w m : Bool) → true ≡ (w && not m) → cond w true m ≡ true
         by_test true m e = refl
         by_test false m e = cc
 
     not_before : is_marked sets.side x ≡ false
-    not_before = by_test (is_some x.writer) (is_marked sets.side x) goes
+    not_before = by_test (is_some (writer_in x)) (is_marked sets.side x) goes
       where
         by_test : (w m : Bool) → true ≡ (w && not m) → m ≡ false
         by_test true true e = cc

@@ -12,7 +12,7 @@ use Rattle.pc_table.specs.Rows.{Row as TableRow, in_slot}
 use Rattle.pc_records.specs.declared.slots.Cell.{Cell}
 use Rattle.pc_records.specs.Words.{is_marked}
 use Rattle.pc_records.specs.Rows.{record_of, is_in_closed_set}
-use Rattle.pc_records.specs.Slots.{Slot, slot_with, slots_in, slot_in, rows_of, closed_slot, AreKept, base_cell, base_row, cells_in}
+use Rattle.pc_records.specs.Slots.{Slot, slot_with, slots_in, slot_in, rows_of, closed_slot, AreKept, base_cell, base_row, cells_in, aside_in, writer_in}
 use Rattle.pc_records.specs.SetLists.{HasPlace, next_in, marked_in, keys_at, is_listed, AreLists, open_slots, closed_slots, IsListed, open_keys, closed_keys}
 use Rattle.pc_records.proofs.Lookups.{all_found, find_row, record_in}
 use Rattle.pc_records.proofs.Listing.{named, open_keys_named, closed_keys_named}
@@ -31,9 +31,9 @@ one_turned side number key x none = λ i. record {
   number = number;
   key = key;
   live = x.live;
-  stable = x.stable;
-  mark = x.mark;
-  writer = x.writer;
+  stable = (aside_in x.aside).stable;
+  mark = (aside_in x.aside).mark;
+  writer = writer_in x;
   is_in_open_set = none i;
   is_in_closed_set = is_marked (turned_twice side i) x;
 }

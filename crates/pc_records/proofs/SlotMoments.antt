@@ -17,7 +17,7 @@ use Rattle.pc_records.specs.declared.slots.Cell.{Cell}
 use Rattle.pc_records.specs.Rows.{Row, record_of, is_in_closed_set}
 use Rattle.pc_records.specs.RowSteps.{given, written_row, closed_row, committed_row}
 use Rattle.pc_records.specs.Tables.{Pending, value_of}
-use Rattle.pc_records.specs.Slots.{no_queues, Slot, row_of, rows_of, numbers_of, pending_in, write_of, pending_of, with_entry, entries_of, is_prepared, IsSound, AreSound, AreKept, at_key, at_writes, settled, undone, closed_slot, slot_with, slots_in, base_cell, cells_in, base_row}
+use Rattle.pc_records.specs.Slots.{no_queues, Slot, row_of, rows_of, numbers_of, pending_in, write_of, pending_of, with_entry, entries_of, is_prepared, IsSound, AreSound, AreKept, at_key, at_writes, settled, undone, closed_slot, slot_with, slots_in, base_cell, cells_in, base_row, writer_in}
 use Rattle.pc_records.proofs.BlankSlots.{blank_slot}
 use Rattle.pc_records.proofs.SlotRising.{keys_of, rise_same}
 use Rattle.pc_records.proofs.SlotKeeping.{kept_same}
@@ -290,7 +290,7 @@ module _ (side : Side) where
         all : (rs : List (TableRow Cell)) (ps : List (List ℕ × List ℕ)) → cells_in rs ≡ map base_row ps → pending_of (slots_in side rs) ≡ []
         all [] ps e = refl
         all (r ∷ rs) [] e = absurd cc
-        all (r ∷ rs) (p ∷ ps) e = ap (λ (c : Cell). with_entry r.0 (write_of c.writer c.live) (pending_of (slots_in side rs))) (first_cell r rs p ps e) ∙ all rs ps (other_cells r rs p ps e)
+        all (r ∷ rs) (p ∷ ps) e = ap (λ (c : Cell). with_entry r.0 (write_of (writer_in c) c.live) (pending_of (slots_in side rs))) (first_cell r rs p ps e) ∙ all rs ps (other_cells r rs p ps e)
 
     pub rows_first : (queues : Queues) → ((n : ℕ) → queue_at queues n ≡ []) → rows_of queues (slots_in side rows) ≡ map committed_row pairs
     rows_first queues none = all rows pairs are

@@ -29,7 +29,7 @@ set_numbered (y ∷ ys) (suc i) n x lt is =
 
 module _ (side : Side) where
   module _ (table : Contents Cell) (a : AreInSlots table) (key : List ℕ) (id : ℕ) (s : table_slot table.rows key ≡ Some id) (point : ℕ) (queues : Queues) (kept : AreKept (slots_in side table.rows) queues) (sound : AreSound point queues (slots_in side table.rows))
-      (marked : List Slot) (marked_is : marked ≡ map (at_number (taken_slot point) id) (slots_in side table.rows)) where
+      (marked : List Slot) (marked_is : marked ≡ map (at_number taken_slot id) (slots_in side table.rows)) where
     abbrev cell : Cell
     cell = (placed table.rows key id s).0
 
@@ -39,17 +39,17 @@ module _ (side : Side) where
     same : (d : Slot) → same_bytes key (get_or (slots_in side table.rows) place.0 d).key ≡ true
     same = placed_same (slots_in side table.rows) place.0 (slot_with side id key cell) place.1
 
-    marked_set : (d : Slot) → marked ≡ set (slots_in side table.rows) place.0 (taken_slot point (get_or (slots_in side table.rows) place.0 d))
-    marked_set d = marked_is ∙ number_set (taken_slot point) id (slots_in side table.rows) place.0 d (once_in side table a id) place.1.in_range ((placed_number (slots_in side table.rows) place.0 (slot_with side id key cell) place.1).has d)
+    marked_set : (d : Slot) → marked ≡ set (slots_in side table.rows) place.0 (taken_slot (get_or (slots_in side table.rows) place.0 d))
+    marked_set d = marked_is ∙ number_set taken_slot id (slots_in side table.rows) place.0 d (once_in side table a id) place.1.in_range ((placed_number (slots_in side table.rows) place.0 (slot_with side id key cell) place.1).has d)
 
-    number_kept : (s : Slot) → (at_number (taken_slot point) id s).number ≡ s.number
-    number_kept s = elim (eqb s.number id) as (λ b. (cond b (taken_slot point s) s).number ≡ s.number) [ true ↦ refl | false ↦ refl ]
+    number_kept : (s : Slot) → (at_number taken_slot id s).number ≡ s.number
+    number_kept s = elim (eqb s.number id) as (λ b. (cond b (taken_slot s) s).number ≡ s.number) [ true ↦ refl | false ↦ refl ]
 
-    key_kept : (s : Slot) → (at_number (taken_slot point) id s).key ≡ s.key
-    key_kept s = elim (eqb s.number id) as (λ b. (cond b (taken_slot point s) s).key ≡ s.key) [ true ↦ refl | false ↦ refl ]
+    key_kept : (s : Slot) → (at_number taken_slot id s).key ≡ s.key
+    key_kept s = elim (eqb s.number id) as (λ b. (cond b (taken_slot s) s).key ≡ s.key) [ true ↦ refl | false ↦ refl ]
 
     pub marked_kept : AreKept marked queues
-    marked_kept = kept_map (at_number (taken_slot point) id) (slots_in side table.rows) marked queues marked_is key_kept number_kept kept
+    marked_kept = kept_map (at_number taken_slot id) (slots_in side table.rows) marked queues marked_is key_kept number_kept kept
 
     pub marked_sound : ((p : Pending) → find key_cmp key (pending_of (slots_in side table.rows)) ≡ Some p → same_class p.class During ≡ false) → AreSound point queues marked
     marked_sound over = sound_taken point queues (slots_in side table.rows) marked key place.0 sound kept.rise place.1.in_range (same any_slot) (marked_set any_slot) over
@@ -59,5 +59,5 @@ module _ (side : Side) where
 
     pub marked_rows : (new : List Slot) → ((i : ℕ) → IsNumbered marked id i → rows_of queues new ≡ tidied (rows_of queues marked) i) → rows_of queues new ≡ left_rows (rows_of queues (slots_in side table.rows)) key
     marked_rows new tidy =
-        taken_there point (slots_in side table.rows) marked new queues key place.0 any_slot kept.rise (slot_of_key (slots_in side table.rows) key place.0 place.1.in_range kept.rise same) (same any_slot) marked_set
-        (tidy place.0 (subst (λ (ss : List Slot). IsNumbered ss id place.0) (sym (marked_set any_slot)) (set_numbered (slots_in side table.rows) place.0 id (taken_slot point (get_or (slots_in side table.rows) place.0 any_slot)) place.1.in_range ((placed_number (slots_in side table.rows) place.0 (slot_with side id key cell) place.1).has any_slot))))
+        taken_there (slots_in side table.rows) marked new queues key place.0 any_slot kept.rise (slot_of_key (slots_in side table.rows) key place.0 place.1.in_range kept.rise same) (same any_slot) marked_set
+        (tidy place.0 (subst (λ (ss : List Slot). IsNumbered ss id place.0) (sym (marked_set any_slot)) (set_numbered (slots_in side table.rows) place.0 id (taken_slot (get_or (slots_in side table.rows) place.0 any_slot)) place.1.in_range ((placed_number (slots_in side table.rows) place.0 (slot_with side id key cell) place.1).has any_slot))))

@@ -10,7 +10,7 @@ use Rattle.pc_table.specs.Rows.{Row as TableRow, Contents, in_slot, without_slot
 use Rattle.pc_table.proofs.RowLaws.{same_some}
 use Rattle.pc_records.specs.declared.slots.Cell.{Cell}
 use Rattle.pc_records.specs.Rows.{is_kept}
-use Rattle.pc_records.specs.Slots.{Slot, slot_with, slots_in, row_of, rows_of, pending_of, numbers_of, times, at_number, granted_slot, tidied, is_held, is_kept_slot, AreKept, AreSound, IsNumbered}
+use Rattle.pc_records.specs.Slots.{Slot, slot_with, slots_in, row_of, rows_of, pending_of, numbers_of, times, at_number, granted_slot, tidied, is_held, is_kept_slot, AreKept, AreSound, IsNumbered, aside_in}
 use Rattle.pc_records.proofs.SlotPlaces.{number_place}
 use Rattle.pc_records.proofs.SlotMoments.{numbers_map, sound_removed}
 use Rattle.pc_records.proofs.Tidying.{slot_stays, slot_goes, keeps_without}
@@ -98,4 +98,4 @@ module _ (side : Side) where
       sound_gone = let p = some_place in sound_removed point queues (slots_in side table.rows) (slots_in side new.rows) p.0 (left p.0 p.1) sound
 
       pub queue_gone : queue_at queues id ≡ []
-      queue_gone = no_queue (is_some x.live) (is_held x.stable) (is_marked side x) (is_marked (other_side side) x) (queue_at queues id) nothing
+      queue_gone = no_queue (is_some x.live) (is_held (aside_in x.aside).stable) (is_marked side x) (is_marked (other_side side) x) (queue_at queues id) nothing

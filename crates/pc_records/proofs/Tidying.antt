@@ -170,11 +170,11 @@ taken_rows rows key i d rise at here = by_record (if_kept (record (get_or rows i
         ∙ sym (ap (λ o. with_left (left_of o) key rows) (at.finds d) ∙ ap (λ o. with_left o key rows) is)
 
 -- and so in the slots
-pub taken_there : (point : ℕ) (slots marked new : List Slot) (queues : Queues) (key : List ℕ) (i : ℕ) (d : Slot) → KeysRise (rows_of no_queues slots) → IsSlotOf slots key i → same_bytes key (get_or slots i d).key ≡ true →
-    ((d : Slot) → marked ≡ set slots i (taken_slot point (get_or slots i d))) → rows_of queues new ≡ tidied (rows_of queues marked) i → rows_of queues new ≡ left_rows (rows_of queues slots) key
-taken_there point slots marked new queues key i d rise at here marked_is new_is =
+pub taken_there : (slots marked new : List Slot) (queues : Queues) (key : List ℕ) (i : ℕ) (d : Slot) → KeysRise (rows_of no_queues slots) → IsSlotOf slots key i → same_bytes key (get_or slots i d).key ≡ true →
+    ((d : Slot) → marked ≡ set slots i (taken_slot (get_or slots i d))) → rows_of queues new ≡ tidied (rows_of queues marked) i → rows_of queues new ≡ left_rows (rows_of queues slots) key
+taken_there slots marked new queues key i d rise at here marked_is new_is =
     let row : get_or (rows_of queues slots) i (row_of queues d) ≡ row_of queues (get_or slots i d) = get_or-map (row_of queues) slots i d in
     let rows : rows_of queues marked ≡ set (rows_of queues slots) i ((get_or (rows_of queues slots) i (row_of queues d)).0, record (get_or (rows_of queues slots) i (row_of queues d)).1 { is_in_closed_set = false; pinned = None }) =
-    ap (rows_of queues) (marked_is d) ∙ map-set (row_of queues) slots i (taken_slot point (get_or slots i d)) ∙ ap (λ (r : Row). set (rows_of queues slots) i (r.0, record r.1 { is_in_closed_set = false; pinned = None })) (sym row) in
+    ap (rows_of queues) (marked_is d) ∙ map-set (row_of queues) slots i (taken_slot (get_or slots i d)) ∙ ap (λ (r : Row). set (rows_of queues slots) i (r.0, record r.1 { is_in_closed_set = false; pinned = None })) (sym row) in
     new_is ∙ ap (λ (rs : List Row). tidied rs i) rows
     ∙ taken_rows (rows_of queues slots) key i (row_of queues d) (rise_any no_queues queues slots rise) (at queues) (ap (λ (r : Row). same_bytes key r.0) row ∙ here)

@@ -72,8 +72,10 @@ module _ (old new : Contents Cell) (keep : KeepRecords old new) where
 
 -- the link that was set, and the others of the cell
 link_here : (side : Side) (link : Option Place) (x : Cell) → link_of side (with_link side link x) ≡ link
-link_here First link x = refl
-link_here Second link x = refl
+link_here First None x = refl
+link_here First (Some p) x = refl
+link_here Second None x = refl
+link_here Second (Some p) x = refl
 
 link_there : (side other : Side) (link : Option Place) (x : Cell) → other ≢ side → link_of other (with_link side link x) ≡ link_of other x
 link_there First First link x n = absurd (n refl)
@@ -82,8 +84,10 @@ link_there Second First link x n = refl
 link_there Second Second link x n = absurd (n refl)
 
 unlinked_same : (side : Side) (link : Option Place) (x : Cell) → unlinked (with_link side link x) ≡ unlinked x
-unlinked_same First link x = refl
-unlinked_same Second link x = refl
+unlinked_same First None x = refl
+unlinked_same First (Some p) x = refl
+unlinked_same Second None x = refl
+unlinked_same Second (Some p) x = refl
 
 -- no row but that of the slot changes
 rows_away : (n : ℕ) (y : Cell) (rows : List (TableRow Cell)) → times n (numbers_of (slots_in First rows)) ≡ 0 → map unlinked_row (map (with_record_in n y) rows) ≡ map unlinked_row rows

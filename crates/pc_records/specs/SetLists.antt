@@ -13,8 +13,8 @@ use Rattle.pc_table.specs.Rows.{Row as TableRow, Contents, in_slot, HasRow}
 use Rattle.pc_records.specs.declared.slots.Cell.{Cell}
 use Rattle.pc_records.specs.declared.words.Word.{Word}
 use Rattle.pc_records.specs.RowSteps.{left_rows}
-use Rattle.pc_records.specs.Slots.{slots_in, rows_of}
-use Rattle.pc_records.specs.Words.{words_of, is_marked, link_of}
+use Rattle.pc_records.specs.Slots.{slots_in, rows_of, writer_in}
+use Rattle.pc_records.specs.Words.{words_of, is_marked, link_of, without_link}
 
 -- the slot has a row, and so a link on each side
 abbrev pub HasPlace : List (TableRow Cell) → Place → Type 0
@@ -94,7 +94,7 @@ pub record IsUnmarked (side : Side) (id : ℕ) (old new : List (TableRow Cell)) 
 
 -- the cell without its links
 abbrev pub unlinked : Cell → Cell
-unlinked cell = record cell { first = record cell.first { link = None }; second = record cell.second { link = None } }
+unlinked cell = record cell { first = without_link cell.first; second = without_link cell.second }
 
 -- the row without its links
 abbrev pub unlinked_row : TableRow Cell → TableRow Cell
@@ -108,7 +108,7 @@ pub record KeepRecords (old new : Contents Cell) : Type 0 where
 -- the key of a slot that goes into the open set once its write is committed: it has a writer, and isn't in the set
 abbrev pub entering : Side → Option (List ℕ × Cell) → List (List ℕ)
 entering side None = []
-entering side (Some p) = if is_some p.1.writer && not (is_marked side p.1) then p.0 ∷ [] else []
+entering side (Some p) = if is_some (writer_in p.1) && not (is_marked side p.1) then p.0 ∷ [] else []
 
 -- the same of a key
 abbrev pub entering_key : Side → List (TableRow Cell) → List ℕ → List (List ℕ)

@@ -1,5 +1,6 @@
 -- Slots: what the rows of the table have, each with its number and its key. The requests of a slot are the queue at its number.
-use Rattle.std.specs.Prelude.{◌≡◌, ℕ, zero, suc, ◌+◌, ◌<◌, ◌≤◌, ◌==◌, ◌&&◌, ◌||◌, not, Bool, true, false, List, [], ◌∷◌, map, length, insert, All, Option, Some, None, is_some, slice_index_or, if◌then◌else◌}
+use Rattle.std.specs.Prelude.{◌≡◌, ℕ, zero, suc, ◌+◌, ◌<◌, ◌≤◌, ◌==◌, ◌&&◌, ◌||◌, not, Bool, true, false, List, [], ◌∷◌, map, length, insert, All, Option, Some, None, is_some, is_none, slice_index_or, if◌then◌else◌}
+use Rattle.std.specs.Global.{Box}
 use Rattle.std.specs.List.{list_any}
 use Rattle.pc_types.specs.declared.Mode.{Mode}
 use Rattle.pc_types.specs.declared.Class.{Class}
@@ -18,6 +19,7 @@ use Rattle.pc_dirty.specs.declared.side.Side.TheVariants.{First}
 use Rattle.pc_dirty.specs.Sets.{other_side}
 use Rattle.pc_table.specs.Rows.{Row as TableRow}
 use Rattle.pc_records.specs.declared.slots.Cell.{Cell}
+use Rattle.pc_records.specs.declared.versions.Aside.{Aside}
 use Rattle.pc_records.specs.declared.versions.Stable.{Stable}
 use Rattle.pc_records.specs.declared.versions.Stable.TheVariants.{Empty, Held}
 use Rattle.pc_records.specs.declared.versions.Writer.{Writer}
@@ -38,9 +40,26 @@ pub record Slot : Type 0 where
   pub is_in_open_set : Bool
   pub is_in_closed_set : Bool
 
+-- nothing is kept aside
+abbrev pub nothing_aside : Aside
+nothing_aside = record { writer = None; stable = Empty; mark = 0 }
+
+-- what is kept aside in the box, and nothing where there is none
+abbrev pub aside_in : Option (Box Aside) → Aside
+aside_in None = nothing_aside
+aside_in (Some b) = b.value
+
+-- the open transaction that has written the cell's key
+abbrev pub writer_in : Cell → Option Writer
+writer_in cell = (aside_in cell.aside).writer
+
+-- the slot with this kept aside
+abbrev pub with_aside : Aside → Slot → Slot
+with_aside aside slot = record slot { stable = aside.stable; mark = aside.mark; writer = aside.writer }
+
 -- the slot of the number and the key that has this, where the open set is on the side
 abbrev pub slot_with : Side → ℕ → List ℕ → Cell → Slot
-slot_with side number key cell = record { number = number; key = key; live = cell.live; stable = cell.stable; mark = cell.mark; writer = cell.writer; is_in_open_set = is_marked side cell; is_in_closed_set = is_marked (other_side side) cell }
+slot_with side number key cell = record { number = number; key = key; live = cell.live; stable = (aside_in cell.aside).stable; mark = (aside_in cell.aside).mark; writer = writer_in cell; is_in_open_set = is_marked side cell; is_in_closed_set = is_marked (other_side side) cell }
 
 -- the slot in a row of the table
 abbrev pub slot_in : Side → TableRow Cell → Slot
@@ -52,7 +71,7 @@ slots_in side rows = map (slot_in side) rows
 
 -- what is kept of a key that has this committed, a value or absence, and nothing else; no request stands
 abbrev pub base_cell : Option (List ℕ) → Cell
-base_cell content = record { live = content; stable = Empty; mark = 0; writer = None; first = blank_word; second = blank_word; ends = no_chain }
+base_cell content = record { live = content; aside = None; first = blank_word; second = blank_word; ends = no_chain }
 
 -- what the rows of the table keep of their keys
 abbrev pub cells_in : List (TableRow Cell) → List (List ℕ × Cell)
@@ -175,6 +194,10 @@ abbrev pub is_held : Stable → Bool
 is_held Empty = false
 is_held (Held value) = true
 
+-- nothing is kept
+abbrev pub is_blank : Aside → Bool
+is_blank aside = is_none aside.writer && (not (is_held aside.stable) && (aside.mark == 0))
+
 -- what is held beside a writer where the slot isn't available
 abbrev pub held_for : Option Writer → Stable
 held_for None = Empty
@@ -229,6 +252,16 @@ abbrev pub saved : ℕ → Class → Option (List ℕ) → Slot → Slot
 saved point Before copy slot = slot
 saved point During copy slot = record slot { stable = held_or slot.stable copy }
 saved point After copy slot = if slot.is_in_closed_set && not (slot.mark == point) then record slot { stable = Held copy; mark = point } else slot
+
+-- a transaction of the class saves a copy of what stands in the place, where it has not written the slot yet
+abbrev pub saves_copy : Class → ℕ → Slot → Bool
+saves_copy Before point slot = false
+saves_copy During point slot = not (is_held slot.stable)
+saves_copy After point slot = slot.is_in_closed_set && not (slot.mark == point)
+
+-- the write of a transaction of the class keeps a copy of what stands in the place
+abbrev pub keeps_copy : ℕ → Class → Slot → Bool
+keeps_copy point class slot = is_none slot.writer && saves_copy class point slot
 
 -- the slot once a transaction has written the key for the first time
 abbrev pub first_put : ℕ → ℕ → Class → Option (List ℕ) → Option (List ℕ) → Slot → Slot
@@ -297,5 +330,5 @@ abbrev pub closed_slot : Slot → Slot
 closed_slot slot = record slot { is_in_open_set = false; is_in_closed_set = slot.is_in_open_set }
 
 -- the slot once its key is taken
-abbrev pub taken_slot : ℕ → Slot → Slot
-taken_slot point slot = record slot { is_in_closed_set = false; stable = Empty; mark = point }
+abbrev pub taken_slot : Slot → Slot
+taken_slot slot = record slot { is_in_closed_set = false; stable = Empty; mark = 0 }

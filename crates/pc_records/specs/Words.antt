@@ -1,5 +1,5 @@
 -- The words of a slot, one on each side of the two sets.
-use Rattle.std.specs.Prelude.{◌≡◌, Bool, false, Option, None}
+use Rattle.std.specs.Prelude.{◌≡◌, ℕ, Bool, false, Option, Some, None}
 use Rattle.pc_dirty.specs.declared.side.Place.{Place}
 use Rattle.pc_dirty.specs.declared.side.Side.{Side}
 use Rattle.pc_dirty.specs.declared.side.Side.TheVariants.{First, Second}
@@ -8,7 +8,25 @@ use Rattle.pc_records.specs.declared.words.Word.{Word}
 
 -- the word of a slot that is in no set
 abbrev pub blank_word : Word
-blank_word = record { link = None; is_in = false }
+blank_word = record { slot = 0; leads_to = None; is_in = false }
+
+-- the slot on the side that a link leads to
+abbrev pub place_at : ℕ → Option Side → Option Place
+place_at slot None = None
+place_at slot (Some side) = Some (record { slot = slot; side = side })
+
+-- what the link of a word leads to
+abbrev pub link_at : Word → Option Place
+link_at word = place_at word.slot word.leads_to
+
+-- the word with this link
+abbrev pub linked : Option Place → Word → Word
+linked None word = record word { leads_to = None }
+linked (Some place) word = record word { slot = place.slot; leads_to = Some place.side }
+
+-- the word without a link
+abbrev pub without_link : Word → Word
+without_link word = record word { slot = 0; leads_to = None }
 
 -- of two words that on the side
 abbrev pub word_on : Side → Word → Word → Word
@@ -29,7 +47,7 @@ is_marked side cell = (word_of side cell).is_in
 
 -- what the link on the side leads to
 abbrev pub link_of : Side → Cell → Option Place
-link_of side cell = (word_of side cell).link
+link_of side cell = link_at (word_of side cell)
 
 -- the cell with this mark on the side
 abbrev pub with_mark : Side → Bool → Cell → Cell
@@ -37,9 +55,11 @@ with_mark side mark cell = record cell { first = word_on side (record cell.first
 
 -- the cell with this link on the side
 abbrev pub with_link : Side → Option Place → Cell → Cell
-with_link side link cell = record cell { first = word_on side (record cell.first { link = link }) cell.first; second = word_on side cell.second (record cell.second { link = link }) }
+with_link side link cell = record cell { first = word_on side (linked link cell.first) cell.first; second = word_on side cell.second (linked link cell.second) }
 
 -- the links are those that there were
 pub record HaveLinks (old new : Cell) : Type 0 where
-  pub first : new.first.link ≡ old.first.link
-  pub second : new.second.link ≡ old.second.link
+  pub first_slot : new.first.slot ≡ old.first.slot
+  pub first_side : new.first.leads_to ≡ old.first.leads_to
+  pub second_slot : new.second.slot ≡ old.second.slot
+  pub second_side : new.second.leads_to ≡ old.second.leads_to

@@ -22,8 +22,8 @@ impl Cell {
         ensures { result ≡ link_of side self.now }
     {
         match side {
-            Side::First => self.first.link,
-            Side::Second => self.second.link,
+            Side::First => self.first.link(),
+            Side::Second => self.second.link(),
         }
     }
 
@@ -32,8 +32,8 @@ impl Cell {
         ensures { self.new ≡ with_link side link self.old }
     {
         match side {
-            Side::First => self.first.link = link,
-            Side::Second => self.second.link = link,
+            Side::First => self.first.put_link(link),
+            Side::Second => self.second.put_link(link),
         }
     }
 }

@@ -26,9 +26,7 @@ use crate::{slots, versions};
 use pc_dirty::{Dirty, Side};
 use pc_locks::Locks;
 use pc_table::Table;
-use pc_types::{
-    Class, Key, MOST_KEYS, Mode, Outcome, Point, Refusal, SlotId, TxnNo, Value, Write, copy_content,
-};
+use pc_types::{Class, Key, MOST_KEYS, Mode, Outcome, Point, Refusal, SlotId, TxnNo, Value, Write};
 use std::alloc::{AllocError, Global};
 use std::hash::RandomState;
 use std::marker::Model;
@@ -322,7 +320,8 @@ fn read(
 }
 
 // Answers the transaction's request to write the key, and writes it where the request is granted; or there was no room for
-// it or memory ran out, and nothing changed. What the slot may have to keep is copied before the locks are asked.
+// it or memory ran out, and nothing changed. What the slot has to keep is copied before the locks are asked, and there is room for
+// it then.
 fn write(
     alloc: Global,
     table: &mut Table<Cell>,
@@ -357,7 +356,8 @@ fn write(
     let mode = Mode::Exclusive;
     match table.find(key) {
         Some(id) => {
-            let copy = copy_content(alloc, &table.get(id).live)?;
+            let room = versions::room(alloc)?;
+            let copy = versions::copy_to_keep(alloc, table.get(id), side, point, class)?;
             let outcome = locks.request(table, transaction, id, mode)?;
             slots::put_granted(
                 table,
@@ -366,6 +366,7 @@ fn write(
                 point,
                 transaction,
                 class,
+                room,
                 copy,
                 value,
                 outcome,
@@ -373,8 +374,19 @@ fn write(
             Ok(Answer { outcome, slot: id })
         }
         None => {
+            let room = slots::room_in(alloc, table)?;
             let id = request_new(alloc, table, locks, side, point, transaction, key, mode)?;
-            slots::put_at(table, side, id, point, transaction, class, None, value);
+            slots::put_at(
+                table,
+                side,
+                id,
+                point,
+                transaction,
+                class,
+                room,
+                None,
+                value,
+            );
             Ok(Answer {
                 outcome: Outcome::Granted,
                 slot: id,
@@ -492,7 +504,7 @@ fn take(table: &mut Table<Cell>, locks: &Locks, sets: &mut Dirty, point: Point)
 {
     let side = sets.open_side();
     if let Some(id) = sets.pop_closed(table) {
-        slots::mark_taken(table, side, id, point);
+        slots::mark_taken(table, side, id);
         slots::tidy(table, locks, side, point, id);
     }
 }

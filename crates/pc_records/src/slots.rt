@@ -13,10 +13,10 @@ ghost use Rattle.pc_records.specs.Rows.{record_of, stored};
 ghost use Rattle.pc_model.specs.DistinctWrites.{AreDistinct};
 ghost use Rattle.pc_records.specs.Ends.{ends_in, queues_in};
 ghost use Rattle.pc_records.specs.SetLists.{KeepSets, IsUnmarked, IsListed, open_keys, closed_keys, entering, entering_key, entering_keys};
-ghost use Rattle.pc_records.specs.Slots.{slot_with, slots_in, with_entry, content_in, base_cell, cells_in, base_row, contents_of, rows_of, pending_of, AreKept, AreSound, is_kept_slot, IsNumbered, tidied, put_slot, granted_slot, settled, undone, at_key, at_number, at_writes, taken_slot};
+ghost use Rattle.pc_records.specs.Slots.{slot_with, nothing_aside, slots_in, with_entry, content_in, base_cell, cells_in, base_row, contents_of, rows_of, pending_of, AreKept, AreSound, is_kept_slot, IsNumbered, tidied, put_slot, granted_slot, settled, undone, at_key, at_number, at_writes, taken_slot};
 
 use crate::versions;
-use crate::versions::{Stable, Writer};
+use crate::versions::Aside;
 use crate::words::Word;
 use pc_chain::Chain;
 use pc_dirty::{Dirty, Side};
@@ -33,12 +33,8 @@ pub(crate) struct Cell {
     /// What stands in the key's place, a value or absence: what an open transaction has written last, or else what is
     /// committed.
     pub(crate) live: Option<Value>,
-    /// What the key had before, where that is kept for a point.
-    pub(crate) stable: Stable,
-    /// The point that the stable version is known to be of, if the key is in the closed set.
-    pub(crate) mark: Point,
-    /// The open transaction that has written the key.
-    pub(crate) writer: Option<Writer>,
+    /// What an open transaction or a point needs beside that; none while nothing does.
+    pub(crate) aside: Option<Box<Aside>>,
     /// The slot's word on the first side.
     pub(crate) first: Word,
     /// The slot's word on the second side.
@@ -90,9 +86,7 @@ fn cell_with(content: Option<Value>) -> Cell
 {
     Cell {
         live: content,
-        stable: Stable::Empty,
-        mark: Point(0),
-        writer: None,
+        aside: None,
         first: Word::blank(),
         second: Word::blank(),
         ends: Chain::new(),
@@ -225,19 +219,38 @@ fn push_content(
 }
 
 // The key of the slot is taken.
-pub(crate) fn mark_taken(table: &mut Table<Cell>, side: Side, id: SlotId, point: Point)
+pub(crate) fn mark_taken(table: &mut Table<Cell>, side: Side, id: SlotId)
     requires { HasRow table.old.rows id }
-    ensures slots { slots_in side table.new.rows ≡ map (at_number (taken_slot point) id) (slots_in side table.old.rows) }
+    ensures slots { slots_in side table.new.rows ≡ map (at_number taken_slot id) (slots_in side table.old.rows) }
     ensures row { HasRow table.new.rows id }
     ensures marks { IsUnmarked side id table.old.rows table.new.rows }
     ensures before { AreInSlots table.old }
     ensures capacity { table.new.capacity ≡ table.old.capacity }
     ensures ends { ends_in table.new.rows ≡ ends_in table.old.rows }
 {
-    versions::take(table.get_mut(id), side, point);
+    versions::take(table.get_mut(id), side);
 }
 
-// The transaction writes the slot's key in its place; the copy is one of what stands there.
+// Room for what a slot that is still to be made keeps aside; it is refused with `Full` where there is no free slot, and else
+// only where memory ran out.
+pub(crate) fn room_in(alloc: Global, table: &Table<Cell>) -> Result<Box<Aside>, Refusal>
+    ensures room { IfOk result (λ room. room.value ≡ nothing_aside) }
+    ensures refusal { IfErr result (λ e. e ≡ (if length table.now.rows == table.now.capacity then Refusal.Full else Refusal.OutOfMemory)) }
+{
+    match versions::room(alloc) {
+        Ok(room) => Ok(room),
+        Err(_) => {
+            if table.is_full() {
+                Err(Refusal::Full)
+            } else {
+                Err(Refusal::OutOfMemory)
+            }
+        }
+    }
+}
+
+// The transaction writes the slot's key in its place; the copy is one of what stands there, where one is kept, and the room is
+// for what the slot keeps aside where it has none.
 pub(crate) fn put_at(
     table: &mut Table<Cell>,
     side: Side,
@@ -245,10 +258,12 @@ pub(crate) fn put_at(
     point: Point,
     transaction: TxnNo,
     class: Class,
+    room: Box<Aside>,
     copy: Option<Value>,
     value: Option<Value>,
 )
-    requires { HasRow table.old.rows id }
+    requires row { HasRow table.old.rows id }
+    requires room { room.value ≡ nothing_aside }
     ensures slots { slots_in side table.new.rows ≡ map (at_number (put_slot point transaction class copy value) id) (slots_in side table.old.rows) }
     ensures capacity { table.new.capacity ≡ table.old.capacity }
     ensures ends { ends_in table.new.rows ≡ ends_in table.old.rows }
@@ -260,12 +275,14 @@ pub(crate) fn put_at(
         point,
         transaction,
         class,
+        room,
         copy,
         value,
     );
 }
 
-// The transaction writes the slot's key in its place where its request was granted; the copy is one of what stands there.
+// The transaction writes the slot's key in its place where its request was granted; the copy and the room are those of
+// `put_at`.
 pub(crate) fn put_granted(
     table: &mut Table<Cell>,
     side: Side,
@@ -273,18 +290,30 @@ pub(crate) fn put_granted(
     point: Point,
     transaction: TxnNo,
     class: Class,
+    room: Box<Aside>,
     copy: Option<Value>,
     value: Option<Value>,
     answer: Outcome,
 )
-    requires { HasRow table.old.rows id }
+    requires row { HasRow table.old.rows id }
+    requires room { room.value ≡ nothing_aside }
     ensures slots { slots_in side table.new.rows ≡ map (at_number (granted_slot answer point transaction class copy value) id) (slots_in side table.old.rows) }
     ensures capacity { table.new.capacity ≡ table.old.capacity }
     ensures ends { ends_in table.new.rows ≡ ends_in table.old.rows }
     ensures sets { KeepSets table.old.rows table.new.rows }
 {
     if let Outcome::Granted = answer {
-        put_at(table, side, id, point, transaction, class, copy, value);
+        put_at(
+            table,
+            side,
+            id,
+            point,
+            transaction,
+            class,
+            room,
+            copy,
+            value,
+        );
     }
 }
 
@@ -412,7 +441,7 @@ fn is_kept(slot: &Cell, side: Side, is_requested: bool) -> bool
     ensures { (id : ℕ) (queue : Queue) → is_requested ≡ not (length queue == 0) → result ≡ is_kept_slot queue (slot_with side id [] slot.now) }
 {
     slot.live.is_some()
-        || versions::is_held(&slot.stable)
+        || versions::has_version(slot)
         || is_requested
         || slot.is_in(side)
         || slot.is_in(side.other())

@@ -5,7 +5,7 @@ use crate::slots::Cell;
 use crate::{Reading, Records, versions};
 use pc_dirty::Side;
 use pc_table::Blank;
-use pc_types::{Class, Key, Outcome, Point, Refusal, TxnNo, Value, copy_content};
+use pc_types::{Class, Key, Outcome, Point, Refusal, TxnNo, Value};
 use std::alloc::Global;
 use std::hash::RandomState;
 use std::test::Fail;
@@ -24,9 +24,10 @@ enum Moment {
 
 use Moment::{Close, Commit, Take, Undo, Write};
 
-// What stands in the place, what is committed, and what the key has at the point where it is in the closed set.
+// What stands in the place, what is committed, what the key has at the point where it is in the closed set, and whether
+// anything is kept aside.
 #[derive(Clone, Copy, Debug, PartialEq)]
-struct Seen(Option<u8>, Option<u8>, Option<u8>);
+struct Seen(Option<u8>, Option<u8>, Option<u8>, bool);
 
 // A slot, the side of the open set, and the point of the last closed one.
 #[derive(Drop)]
@@ -55,6 +56,7 @@ fn look_at(slot: &Cell, side: Side) -> Seen {
         content_of(slot.live.as_ref()),
         content_of(versions::committed_of(slot)),
         content_of(versions::pinned_of(slot, side)),
+        slot.aside.is_some(),
     )
 }
 
@@ -63,9 +65,10 @@ fn happen(alloc: Global, seen: &mut Followed, moment: Moment) -> Result<(), Refu
     let Followed { slot, side, point } = seen;
     match moment {
         Write(class, content) => {
-            let copy = copy_content(alloc, &slot.live)?;
+            let copy = versions::copy_to_keep(alloc, slot, *side, *point, class)?;
             let value = value_of(alloc, content)?;
-            versions::put(slot, *side, *point, TxnNo(1), class, copy, value);
+            let room = versions::room(alloc)?;
+            versions::put(slot, *side, *point, TxnNo(1), class, room, copy, value);
         }
         Commit => {
             versions::settle(slot, *side, *point);
@@ -75,7 +78,7 @@ fn happen(alloc: Global, seen: &mut Followed, moment: Moment) -> Result<(), Refu
             *side = side.other();
             *point = Point(if point.0 < 9 { point.0 + 1 } else { 9 });
         }
-        Take => versions::take(slot, *side, *point),
+        Take => versions::take(slot, *side),
     }
     Ok(())
 }
@@ -111,43 +114,64 @@ const AFTER: Class = Class::After;
 
 const MOMENTS: [(Moment, Seen); 32] = [
     // An abort puts the committed value back, and a second write replaces the first one.
-    (Write(BEFORE, Some(51)), Seen(Some(51), Some(50), None)),
-    (Write(BEFORE, None), Seen(None, Some(50), None)),
-    (Undo, Seen(Some(50), Some(50), None)),
-    (Write(BEFORE, Some(52)), Seen(Some(52), Some(50), None)),
-    (Commit, Seen(Some(52), Some(52), None)),
+    (
+        Write(BEFORE, Some(51)),
+        Seen(Some(51), Some(50), None, true),
+    ),
+    (Write(BEFORE, None), Seen(None, Some(50), None, true)),
+    (Undo, Seen(Some(50), Some(50), None, false)),
+    (
+        Write(BEFORE, Some(52)),
+        Seen(Some(52), Some(50), None, true),
+    ),
+    (Commit, Seen(Some(52), Some(52), None, false)),
     // A writer of the prepare phase is open when the set is closed: the point has what was committed then.
-    (Write(DURING, Some(53)), Seen(Some(53), Some(52), None)),
-    (Close, Seen(Some(53), Some(52), Some(52))),
-    (Write(DURING, None), Seen(None, Some(52), Some(52))),
-    (Undo, Seen(Some(52), Some(52), Some(52))),
-    (Write(AFTER, Some(54)), Seen(Some(54), Some(52), Some(52))),
-    (Write(AFTER, Some(55)), Seen(Some(55), Some(52), Some(52))),
-    (Commit, Seen(Some(55), Some(55), Some(52))),
+    (
+        Write(DURING, Some(53)),
+        Seen(Some(53), Some(52), None, true),
+    ),
+    (Close, Seen(Some(53), Some(52), Some(52), true)),
+    (Write(DURING, None), Seen(None, Some(52), Some(52), true)),
+    (Undo, Seen(Some(52), Some(52), Some(52), false)),
+    (
+        Write(AFTER, Some(54)),
+        Seen(Some(54), Some(52), Some(52), true),
+    ),
+    (
+        Write(AFTER, Some(55)),
+        Seen(Some(55), Some(52), Some(52), true),
+    ),
+    (Commit, Seen(Some(55), Some(55), Some(52), true)),
     // Another one after the point, which aborts: what is kept stays.
-    (Write(AFTER, None), Seen(None, Some(55), Some(52))),
-    (Undo, Seen(Some(55), Some(55), Some(52))),
-    (Take, Seen(Some(55), Some(55), None)),
+    (Write(AFTER, None), Seen(None, Some(55), Some(52), true)),
+    (Undo, Seen(Some(55), Some(55), Some(52), true)),
+    (Take, Seen(Some(55), Some(55), None, false)),
     // Once the key is taken nothing is kept of it.
-    (Write(AFTER, Some(56)), Seen(Some(56), Some(55), None)),
-    (Commit, Seen(Some(56), Some(56), None)),
-    (Close, Seen(Some(56), Some(56), Some(56))),
-    (Take, Seen(Some(56), Some(56), None)),
+    (Write(AFTER, Some(56)), Seen(Some(56), Some(55), None, true)),
+    (Commit, Seen(Some(56), Some(56), None, false)),
+    (Close, Seen(Some(56), Some(56), Some(56), false)),
+    (Take, Seen(Some(56), Some(56), None, false)),
     // A writer of the prepare phase commits after the point of a key that an earlier commit wrote.
-    (Write(BEFORE, None), Seen(None, Some(56), None)),
-    (Commit, Seen(None, None, None)),
-    (Write(DURING, Some(57)), Seen(Some(57), None, None)),
-    (Close, Seen(Some(57), None, None)),
-    (Commit, Seen(Some(57), Some(57), None)),
-    (Write(AFTER, Some(58)), Seen(Some(58), Some(57), None)),
-    (Undo, Seen(Some(57), Some(57), None)),
-    (Take, Seen(Some(57), Some(57), None)),
+    (Write(BEFORE, None), Seen(None, Some(56), None, true)),
+    (Commit, Seen(None, None, None, false)),
+    (Write(DURING, Some(57)), Seen(Some(57), None, None, true)),
+    (Close, Seen(Some(57), None, None, true)),
+    (Commit, Seen(Some(57), Some(57), None, true)),
+    (Write(AFTER, Some(58)), Seen(Some(58), Some(57), None, true)),
+    (Undo, Seen(Some(57), Some(57), None, true)),
+    (Take, Seen(Some(57), Some(57), None, false)),
     // It commits in prepare: what it found is forgotten.
-    (Write(DURING, Some(59)), Seen(Some(59), Some(57), None)),
-    (Commit, Seen(Some(59), Some(59), None)),
-    (Close, Seen(Some(59), Some(59), Some(59))),
-    (Write(DURING, Some(60)), Seen(Some(60), Some(59), Some(59))),
-    (Commit, Seen(Some(60), Some(60), Some(59))),
+    (
+        Write(DURING, Some(59)),
+        Seen(Some(59), Some(57), None, true),
+    ),
+    (Commit, Seen(Some(59), Some(59), None, false)),
+    (Close, Seen(Some(59), Some(59), Some(59), false)),
+    (
+        Write(DURING, Some(60)),
+        Seen(Some(60), Some(59), Some(59), true),
+    ),
+    (Commit, Seen(Some(60), Some(60), Some(59), true)),
 ];
 
 #[test]

@@ -1,17 +1,28 @@
 //! The moments of one slot: its key is written in its place, the write is committed or undone, and the key is taken. The side is
 //! that of the open set.
-ghost use Rattle.std.specs.Prelude.{◌≡◌, ◌&&◌, not, ℕ, List, [], is_some, option_copied, IfOk};
+ghost use Rattle.std.specs.Prelude.{◌≡◌, ◌&&◌, ◌||◌, not, ℕ, List, [], false, true, Option, None, Some, is_some, option_copied, IfOk};
 ghost use Rattle.pc_types.specs.declared.Class.TheVariants as class_of;
 ghost use Rattle.pc_types.specs.Phases.{same_class};
 ghost use Rattle.pc_dirty.specs.declared.side.Side.TheVariants.{First};
 ghost use Rattle.pc_records.specs.Words.{is_marked, words_of, HaveLinks};
-ghost use Rattle.pc_records.specs.Slots.{slot_with, committed, pinned, is_held, is_available, saved, put_slot, settled, undone, taken_slot};
+ghost use Rattle.pc_records.specs.Slots.{Slot, slot_with, nothing_aside, is_blank, aside_in, writer_in, with_aside, committed, version_or, pinned, is_held, keeps_copy, saved, put_slot, settled, undone, taken_slot};
 
 use crate::slots::Cell;
 use pc_dirty::Side;
-use pc_types::{Class, Point, TxnNo, Value};
+use pc_types::{Class, Point, TxnNo, Value, copy_content};
 use std::alloc::{AllocError, Global};
 use std::mem;
+
+/// What a slot keeps beside what stands in its key's place, while an open transaction or a point needs it.
+#[derive(Drop)]
+pub(crate) struct Aside {
+    /// The open transaction that has written the key.
+    pub(crate) writer: Option<Writer>,
+    /// What the key had before, where that is kept for a point.
+    pub(crate) stable: Stable,
+    /// The point that the stable version is known to be of, if the key is in the closed set.
+    pub(crate) mark: Point,
+}
 
 /// What a key had before, kept for the point.
 #[derive(Drop)]
@@ -31,11 +42,59 @@ pub(crate) struct Writer {
     pub(crate) before: Option<Value>,
 }
 
+// A box in which nothing is kept yet.
+pub(crate) fn room(alloc: Global) -> Result<Box<Aside>, AllocError>
+    ensures { IfOk result (λ room. room.value ≡ nothing_aside) }
+{
+    let aside = Aside {
+        writer: None,
+        stable: Stable::Empty,
+        mark: Point(0),
+    };
+    Ok(Box::new(alloc, aside)?)
+}
+
+// The slot's box, or this one where it has none.
+fn or_room(aside: Option<Box<Aside>>, room: Box<Aside>) -> Box<Aside>
+    requires { room.value ≡ nothing_aside }
+    ensures { result.value ≡ aside_in aside }
+{
+    match aside {
+        Some(aside) => aside,
+        None => room,
+    }
+}
+
+// The box, which is dropped where nothing is kept in it.
+fn trimmed(aside: Box<Aside>) -> Option<Box<Aside>>
+    ensures seen { aside_in result ≡ aside.value }
+    ensures dropped { is_blank aside.value ≡ true → result ≡ None }
+{
+    if is_blank(&aside) { None } else { Some(aside) }
+}
+
+// Whether nothing is kept.
+fn is_blank(aside: &Aside) -> bool
+    ensures { result ≡ is_blank aside.now }
+{
+    aside.writer.is_none() && !is_held(&aside.stable) && aside.mark.0 == 0
+}
+
+// The open transaction that has written the slot's key.
+fn writer_of(slot: &Cell) -> Option<&Writer>
+    ensures { option_copied result ≡ writer_in slot.now }
+{
+    match &slot.aside {
+        Some(aside) => aside.writer.as_ref(),
+        None => None,
+    }
+}
+
 // The committed value of the slot's key.
 pub(crate) fn committed_of(slot: &Cell) -> Option<&Value>
     ensures { option_copied result ≡ committed (slot_with First 0 [] slot.now) }
 {
-    match &slot.writer {
+    match writer_of(slot) {
         Some(writer) => writer.before.as_ref(),
         None => slot.live.as_ref(),
     }
@@ -58,27 +117,50 @@ pub(crate) fn pinned_of(slot: &Cell, side: Side) -> Option<&Value>
     if !slot.is_in(side.other()) {
         return None;
     }
-    match &slot.stable {
+    match &slot.aside {
+        Some(aside) => version_or(&aside.stable, &slot.live),
+        None => slot.live.as_ref(),
+    }
+}
+
+// The version that is held, or else what stands in the place.
+fn version_or<'a>(stable: &'a Stable, live: &'a Option<Value>) -> Option<&'a Value>
+    ensures { option_copied result ≡ version_or stable.now live.now }
+{
+    match stable {
         Stable::Held(value) => value.as_ref(),
-        Stable::Empty => slot.live.as_ref(),
+        Stable::Empty => live.as_ref(),
+    }
+}
+
+// Whether the slot holds a version.
+pub(crate) fn has_version(slot: &Cell) -> bool
+    ensures { result ≡ is_held (aside_in slot.now.aside).stable }
+{
+    match &slot.aside {
+        Some(aside) => is_held(&aside.stable),
+        None => false,
+    }
+}
+
+// The point that the version is known to be of.
+fn mark_of(slot: &Cell) -> Point
+    ensures { result ≡ (aside_in slot.now.aside).mark }
+{
+    match &slot.aside {
+        Some(aside) => aside.mark,
+        None => Point(0),
     }
 }
 
 // Whether a version is held.
-pub(crate) fn is_held(stable: &Stable) -> bool
+fn is_held(stable: &Stable) -> bool
     ensures { result ≡ is_held stable.now }
 {
     match stable {
         Stable::Held(_) => true,
         Stable::Empty => false,
     }
-}
-
-// Whether what the slot holds is what its key has at the point.
-fn is_available(slot: &Cell, side: Side, point: Point) -> bool
-    ensures { result ≡ is_available point (slot_with side 0 [] slot.now) }
-{
-    slot.is_in(side.other()) && slot.mark.0 == point.0
 }
 
 // Whether the class is that of a transaction that began in prepare.
@@ -91,47 +173,76 @@ fn is_during(class: Class) -> bool
     }
 }
 
-// A transaction of the class is about to write the key, which it has not written yet: the slot may keep this copy of what
-// stands there.
-fn save(slot: &mut Cell, side: Side, point: Point, class: Class, copy: Option<Value>)
-    ensures slot { (number : ℕ) (key : List ℕ) → slot_with side number key slot.new ≡ saved point class copy (slot_with side number key slot.old) }
-    ensures words { words_of slot.new ≡ words_of slot.old }
-    ensures ends { slot.new.ends ≡ slot.old.ends }
+// A copy of what stands in the slot, where a write of a transaction of the class keeps one; else None.
+pub(crate) fn copy_to_keep(
+    alloc: Global,
+    slot: &Cell,
+    side: Side,
+    point: Point,
+    class: Class,
+) -> Result<Option<Value>, AllocError>
+    ensures kept { IfOk result (λ copy. (number : ℕ) (key : List ℕ) → keeps_copy point class (slot_with side number key slot.now) ≡ true → copy ≡ slot.now.live) }
+    ensures none { IfOk result (λ copy. keeps_copy point class (slot_with side 0 [] slot.now) ≡ false → copy ≡ None) }
+{
+    if keeps_copy(slot, side, point, class) {
+        copy_content(alloc, &slot.live)
+    } else {
+        Ok(None)
+    }
+}
+
+// Whether a write of a transaction of the class keeps a copy of what stands in the slot: it is the first of its transaction,
+// and `save` keeps the copy.
+fn keeps_copy(slot: &Cell, side: Side, point: Point, class: Class) -> bool
+    ensures { (number : ℕ) (key : List ℕ) → result ≡ keeps_copy point class (slot_with side number key slot.now) }
+{
+    if writer_of(slot).is_some() {
+        return false;
+    }
+    match class {
+        Class::Before => false,
+        Class::During => !has_version(slot),
+        Class::After => slot.is_in(side.other()) && mark_of(slot).0 != point.0,
+    }
+}
+
+// A transaction of the class is about to write the key, which it has not written yet: the copy is one of what stands there,
+// where one is kept.
+fn save(aside: &mut Aside, is_closed: bool, point: Point, class: Class, copy: Option<Value>)
+    ensures { (slot : Slot) → slot.is_in_closed_set ≡ is_closed → with_aside aside.new slot ≡ saved point class copy (with_aside aside.old slot) }
 {
     match class {
         Class::Before => {}
         Class::During => {
-            if let Stable::Empty = slot.stable {
-                slot.stable = Stable::Held(copy);
+            if let Stable::Empty = aside.stable {
+                aside.stable = Stable::Held(copy);
             }
         }
         Class::After => {
-            if slot.is_in(side.other()) && slot.mark.0 != point.0 {
-                slot.stable = Stable::Held(copy);
-                slot.mark = point;
+            if is_closed && aside.mark.0 != point.0 {
+                aside.stable = Stable::Held(copy);
+                aside.mark = point;
             }
         }
     }
 }
 
-// The transaction writes the key in its place; the copy is one of what stands there.
-pub(crate) fn put(
-    slot: &mut Cell,
-    side: Side,
+// The transaction writes the key in place of what stood there before; its first write is noted. The copy is that of
+// `copy_to_keep`.
+fn note(
+    aside: &mut Aside,
+    is_closed: bool,
     point: Point,
     transaction: TxnNo,
     class: Class,
     copy: Option<Value>,
-    value: Option<Value>,
+    before: Option<Value>,
 )
-    ensures slot { (number : ℕ) (key : List ℕ) → slot_with side number key slot.new ≡ put_slot point transaction class copy value (slot_with side number key slot.old) }
-    ensures words { words_of slot.new ≡ words_of slot.old }
-    ensures ends { slot.new.ends ≡ slot.old.ends }
+    ensures { (slot : Slot) (value : Option (List ℕ)) → slot.is_in_closed_set ≡ is_closed → before ≡ slot.live → record (with_aside aside.new slot) { live = value } ≡ put_slot point transaction class copy value (with_aside aside.old slot) }
 {
-    let before = mem::replace(&mut slot.live, value);
-    if slot.writer.is_none() {
-        save(slot, side, point, class, copy);
-        slot.writer = Some(Writer {
+    if aside.writer.is_none() {
+        save(aside, is_closed, point, class, copy);
+        aside.writer = Some(Writer {
             transaction,
             class,
             before,
@@ -139,26 +250,88 @@ pub(crate) fn put(
     }
 }
 
+// The transaction writes the key in its place; the copy is that of `copy_to_keep`. The slot keeps the room where it has none,
+// and it is dropped where it has one.
+pub(crate) fn put(
+    slot: &mut Cell,
+    side: Side,
+    point: Point,
+    transaction: TxnNo,
+    class: Class,
+    room: Box<Aside>,
+    copy: Option<Value>,
+    value: Option<Value>,
+)
+    requires { room.value ≡ nothing_aside }
+    ensures slot { (number : ℕ) (key : List ℕ) → slot_with side number key slot.new ≡ put_slot point transaction class copy value (slot_with side number key slot.old) }
+    ensures words { words_of slot.new ≡ words_of slot.old }
+    ensures ends { slot.new.ends ≡ slot.old.ends }
+{
+    let is_closed = slot.is_in(side.other());
+    let before = mem::replace(&mut slot.live, value);
+    let mut aside = or_room(slot.aside.take(), room);
+    note(
+        &mut aside,
+        is_closed,
+        point,
+        transaction,
+        class,
+        copy,
+        before,
+    );
+    slot.aside = Some(aside);
+}
+
+// The write of the writer, if there is one, is committed: true where there is.
+fn commit(aside: &mut Aside, is_closed: bool, point: Point) -> bool
+    ensures slot { (slot : Slot) → slot.is_in_closed_set ≡ is_closed → with_aside aside.new (record slot { is_in_open_set = result || slot.is_in_open_set }) ≡ settled point (with_aside aside.old slot) }
+    ensures written { result ≡ is_some aside.old.writer }
+{
+    let Some(writer) = aside.writer.take() else {
+        return false;
+    };
+    if is_during(writer.class) {
+        if is_closed {
+            aside.mark = point;
+        } else {
+            aside.stable = Stable::Empty;
+        }
+    }
+    true
+}
+
 // The write that stands in the slot, if there is one, is committed. True where the slot was not in the open set, and is in it now.
 pub(crate) fn settle(slot: &mut Cell, side: Side, point: Point) -> bool
     ensures slot { (number : ℕ) (key : List ℕ) → slot_with side number key slot.new ≡ settled point (slot_with side number key slot.old) }
     ensures links { HaveLinks slot.old slot.new }
     ensures ends { slot.new.ends ≡ slot.old.ends }
-    ensures fresh { result ≡ (is_some slot.old.writer && not (is_marked side slot.old)) }
+    ensures fresh { result ≡ (is_some (writer_in slot.old) && not (is_marked side slot.old)) }
 {
-    let Some(writer) = slot.writer.take() else {
+    let Some(mut aside) = slot.aside.take() else {
         return false;
     };
-    if is_during(writer.class) {
-        if slot.is_in(side.other()) {
-            slot.mark = point;
-        } else {
-            slot.stable = Stable::Empty;
-        }
+    let is_closed = slot.is_in(side.other());
+    let is_written = commit(&mut aside, is_closed, point);
+    slot.aside = trimmed(aside);
+    if !is_written {
+        return false;
     }
     let is_new = !slot.is_in(side);
     slot.put_mark(side, true);
     is_new
+}
+
+// The write of the writer, if there is one, is undone: what it found stands in the place again.
+fn withdraw(aside: &mut Aside, live: &mut Option<Value>, is_closed: bool, point: Point)
+    ensures { (slot : Slot) → slot.is_in_closed_set ≡ is_closed → with_aside aside.new (record slot { live = live.new }) ≡ undone point (with_aside aside.old (record slot { live = live.old })) }
+{
+    if let Some(writer) = aside.writer.take() {
+        *live = writer.before;
+        let is_available = is_closed && aside.mark.0 == point.0;
+        if is_during(writer.class) && !is_available {
+            aside.stable = Stable::Empty;
+        }
+    }
 }
 
 // The write that stands in the slot, if there is one, is undone.
@@ -167,21 +340,23 @@ pub(crate) fn undo(slot: &mut Cell, side: Side, point: Point)
     ensures words { words_of slot.new ≡ words_of slot.old }
     ensures ends { slot.new.ends ≡ slot.old.ends }
 {
-    if let Some(writer) = slot.writer.take() {
-        slot.live = writer.before;
-        if is_during(writer.class) && !is_available(slot, side, point) {
-            slot.stable = Stable::Empty;
-        }
+    let is_closed = slot.is_in(side.other());
+    if let Some(mut aside) = slot.aside.take() {
+        withdraw(&mut aside, &mut slot.live, is_closed, point);
+        slot.aside = trimmed(aside);
     }
 }
 
 // The key of the slot is taken.
-pub(crate) fn take(slot: &mut Cell, side: Side, point: Point)
-    ensures slot { (number : ℕ) (key : List ℕ) → slot_with side number key slot.new ≡ taken_slot point (slot_with side number key slot.old) }
+pub(crate) fn take(slot: &mut Cell, side: Side)
+    ensures slot { (number : ℕ) (key : List ℕ) → slot_with side number key slot.new ≡ taken_slot (slot_with side number key slot.old) }
     ensures links { HaveLinks slot.old slot.new }
     ensures ends { slot.new.ends ≡ slot.old.ends }
 {
     slot.put_mark(side.other(), false);
-    slot.stable = Stable::Empty;
-    slot.mark = point;
+    if let Some(mut aside) = slot.aside.take() {
+        aside.stable = Stable::Empty;
+        aside.mark = Point(0);
+        slot.aside = trimmed(aside);
+    }
 }

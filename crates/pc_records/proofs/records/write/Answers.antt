@@ -8,7 +8,7 @@ use Rattle.pc_records.specs.Ends.{queues_in}
 use Rattle.pc_records.specs.Slots.{slots_in, rows_of, AreKept, AreSound}
 use Rattle.pc_records.proofs.Found.{written_told, written_rows, written_kept, written_sound, written_clear, written_pending}
 use Rattle.pc_records.proofs.TableSlots.{no_slot_in}
-use Rattle.pc_records.proofs.Fullness.{full_there, refused_by, ran_out}
+use Rattle.pc_records.proofs.Fullness.{full_there, refused_by, refused_new, ran_out}
 use Rattle.pc_records.proofs.EndsKept.{are_sound}
 use Rattle.pc_records.proofs.KeepingSets.{sets_then}
 use Rattle.pc_records.proofs.Clearing.{clear_new}
@@ -23,37 +23,37 @@ pub returns-in_ok-outcome-in-Some-clause-told : goal.returns-in_ok-outcome-in-So
 returns-in_ok-outcome-in-Some-clause-told c =
     written_told c.args.side c.args.table.now c.find.ensures.slots c.args.key.now c.in-Some.id c.get.result.now (sym c.in-Some.ensures.slot) c.get.ensures.record_of c.args.point c.args.transaction c.args.class c.in_ok-copy-in-Some.copy c.args.value (slots_in c.args.side c.request.new.keeper.rows) (slots_in c.args.side c.put_granted.new.table.rows) (c.request.ensures.beside.slots c.args.side)
     (queues_in c.args.table.now.rows c.args.locks.now) (queues_in c.request.new.keeper.rows c.request.new.self) (queues_in c.put_granted.new.table.rows c.request.new.self) (ap (λ (ends : ℕ → Chain ℕ). queues_of ends c.request.new.self) c.put_granted.ensures.ends) c.in_ok-outcome-in-Some.outcome c.requires.kept c.requires.sound c.in_ok-outcome-in-Some.ensures.queues c.in_ok-outcome-in-Some.ensures.told
-    (settled_legal _ (c.requires.ends.settled.settled c.in-Some.id)) (ready_at (queues_in c.args.table.now.rows c.args.locks.now) (lists_of c.args.locks.now) c.args.transaction c.requires.ends.settled.linked c.requires.ready) c.requires.outside c.requires.again c.in_ok-copy-in-Some.ensures c.put_granted.ensures.slots
+    (settled_legal _ (c.requires.ends.settled.settled c.in-Some.id)) (ready_at (queues_in c.args.table.now.rows c.args.locks.now) (lists_of c.args.locks.now) c.args.transaction c.requires.ends.settled.linked c.requires.ready) c.requires.outside c.requires.again (c.in_ok-copy-in-Some.ensures.kept c.in-Some.id c.args.key.now) c.put_granted.ensures.slots
 
 pub returns-in_ok-outcome-in-Some-clause-rows : goal.returns-in_ok-outcome-in-Some-clause-rows
 returns-in_ok-outcome-in-Some-clause-rows c =
     written_rows c.args.side c.args.table.now c.find.ensures.slots c.args.key.now c.in-Some.id c.get.result.now (sym c.in-Some.ensures.slot) c.get.ensures.record_of c.args.point c.args.transaction c.args.class c.in_ok-copy-in-Some.copy c.args.value (slots_in c.args.side c.request.new.keeper.rows) (slots_in c.args.side c.put_granted.new.table.rows) (c.request.ensures.beside.slots c.args.side)
     (queues_in c.args.table.now.rows c.args.locks.now) (queues_in c.request.new.keeper.rows c.request.new.self) (queues_in c.put_granted.new.table.rows c.request.new.self) (ap (λ (ends : ℕ → Chain ℕ). queues_of ends c.request.new.self) c.put_granted.ensures.ends) c.in_ok-outcome-in-Some.outcome c.requires.kept c.requires.sound c.in_ok-outcome-in-Some.ensures.queues c.in_ok-outcome-in-Some.ensures.told
-    (settled_legal _ (c.requires.ends.settled.settled c.in-Some.id)) (ready_at (queues_in c.args.table.now.rows c.args.locks.now) (lists_of c.args.locks.now) c.args.transaction c.requires.ends.settled.linked c.requires.ready) c.requires.outside c.requires.again c.in_ok-copy-in-Some.ensures c.put_granted.ensures.slots
+    (settled_legal _ (c.requires.ends.settled.settled c.in-Some.id)) (ready_at (queues_in c.args.table.now.rows c.args.locks.now) (lists_of c.args.locks.now) c.args.transaction c.requires.ends.settled.linked c.requires.ready) c.requires.outside c.requires.again (c.in_ok-copy-in-Some.ensures.kept c.in-Some.id c.args.key.now) c.put_granted.ensures.slots
 
 pub returns-in_ok-outcome-in-Some-clause-clear : goal.returns-in_ok-outcome-in-Some-clause-clear
 returns-in_ok-outcome-in-Some-clause-clear c =
     written_clear c.args.side c.args.table.now c.find.ensures.slots c.args.key.now c.in-Some.id c.get.result.now (sym c.in-Some.ensures.slot) c.get.ensures.record_of c.args.point c.args.transaction c.args.class c.in_ok-copy-in-Some.copy c.args.value (slots_in c.args.side c.request.new.keeper.rows) (slots_in c.args.side c.put_granted.new.table.rows) (c.request.ensures.beside.slots c.args.side)
     (queues_in c.args.table.now.rows c.args.locks.now) (queues_in c.request.new.keeper.rows c.request.new.self) (queues_in c.put_granted.new.table.rows c.request.new.self) (ap (λ (ends : ℕ → Chain ℕ). queues_of ends c.request.new.self) c.put_granted.ensures.ends) c.in_ok-outcome-in-Some.outcome c.requires.kept c.requires.sound c.in_ok-outcome-in-Some.ensures.queues c.in_ok-outcome-in-Some.ensures.told
-    (settled_legal _ (c.requires.ends.settled.settled c.in-Some.id)) (ready_at (queues_in c.args.table.now.rows c.args.locks.now) (lists_of c.args.locks.now) c.args.transaction c.requires.ends.settled.linked c.requires.ready) c.requires.outside c.requires.again c.in_ok-copy-in-Some.ensures c.put_granted.ensures.slots
+    (settled_legal _ (c.requires.ends.settled.settled c.in-Some.id)) (ready_at (queues_in c.args.table.now.rows c.args.locks.now) (lists_of c.args.locks.now) c.args.transaction c.requires.ends.settled.linked c.requires.ready) c.requires.outside c.requires.again (c.in_ok-copy-in-Some.ensures.kept c.in-Some.id c.args.key.now) c.put_granted.ensures.slots
 
 pub returns-in_ok-outcome-in-Some-clause-kept : goal.returns-in_ok-outcome-in-Some-clause-kept
 returns-in_ok-outcome-in-Some-clause-kept c =
     written_kept c.args.side c.args.table.now c.find.ensures.slots c.args.key.now c.in-Some.id c.get.result.now (sym c.in-Some.ensures.slot) c.get.ensures.record_of c.args.point c.args.transaction c.args.class c.in_ok-copy-in-Some.copy c.args.value (slots_in c.args.side c.request.new.keeper.rows) (slots_in c.args.side c.put_granted.new.table.rows) (c.request.ensures.beside.slots c.args.side)
     (queues_in c.args.table.now.rows c.args.locks.now) (queues_in c.request.new.keeper.rows c.request.new.self) (queues_in c.put_granted.new.table.rows c.request.new.self) (ap (λ (ends : ℕ → Chain ℕ). queues_of ends c.request.new.self) c.put_granted.ensures.ends) c.in_ok-outcome-in-Some.outcome c.requires.kept c.requires.sound c.in_ok-outcome-in-Some.ensures.queues c.in_ok-outcome-in-Some.ensures.told
-    (settled_legal _ (c.requires.ends.settled.settled c.in-Some.id)) (ready_at (queues_in c.args.table.now.rows c.args.locks.now) (lists_of c.args.locks.now) c.args.transaction c.requires.ends.settled.linked c.requires.ready) c.requires.outside c.requires.again c.in_ok-copy-in-Some.ensures c.put_granted.ensures.slots
+    (settled_legal _ (c.requires.ends.settled.settled c.in-Some.id)) (ready_at (queues_in c.args.table.now.rows c.args.locks.now) (lists_of c.args.locks.now) c.args.transaction c.requires.ends.settled.linked c.requires.ready) c.requires.outside c.requires.again (c.in_ok-copy-in-Some.ensures.kept c.in-Some.id c.args.key.now) c.put_granted.ensures.slots
 
 pub returns-in_ok-outcome-in-Some-clause-sound : goal.returns-in_ok-outcome-in-Some-clause-sound
 returns-in_ok-outcome-in-Some-clause-sound c =
     written_sound c.args.side c.args.table.now c.find.ensures.slots c.args.key.now c.in-Some.id c.get.result.now (sym c.in-Some.ensures.slot) c.get.ensures.record_of c.args.point c.args.transaction c.args.class c.in_ok-copy-in-Some.copy c.args.value (slots_in c.args.side c.request.new.keeper.rows) (slots_in c.args.side c.put_granted.new.table.rows) (c.request.ensures.beside.slots c.args.side)
     (queues_in c.args.table.now.rows c.args.locks.now) (queues_in c.request.new.keeper.rows c.request.new.self) (queues_in c.put_granted.new.table.rows c.request.new.self) (ap (λ (ends : ℕ → Chain ℕ). queues_of ends c.request.new.self) c.put_granted.ensures.ends) c.in_ok-outcome-in-Some.outcome c.requires.kept c.requires.sound c.in_ok-outcome-in-Some.ensures.queues c.in_ok-outcome-in-Some.ensures.told
-    (settled_legal _ (c.requires.ends.settled.settled c.in-Some.id)) (ready_at (queues_in c.args.table.now.rows c.args.locks.now) (lists_of c.args.locks.now) c.args.transaction c.requires.ends.settled.linked c.requires.ready) c.requires.outside c.requires.again c.in_ok-copy-in-Some.ensures c.put_granted.ensures.slots
+    (settled_legal _ (c.requires.ends.settled.settled c.in-Some.id)) (ready_at (queues_in c.args.table.now.rows c.args.locks.now) (lists_of c.args.locks.now) c.args.transaction c.requires.ends.settled.linked c.requires.ready) c.requires.outside c.requires.again (c.in_ok-copy-in-Some.ensures.kept c.in-Some.id c.args.key.now) c.put_granted.ensures.slots
 
 pub returns-in_ok-outcome-in-Some-clause-pending : goal.returns-in_ok-outcome-in-Some-clause-pending
 returns-in_ok-outcome-in-Some-clause-pending c =
     written_pending c.args.side c.args.table.now c.find.ensures.slots c.args.key.now c.in-Some.id c.get.result.now (sym c.in-Some.ensures.slot) c.get.ensures.record_of c.args.point c.args.transaction c.args.class c.in_ok-copy-in-Some.copy c.args.value (slots_in c.args.side c.request.new.keeper.rows) (slots_in c.args.side c.put_granted.new.table.rows) (c.request.ensures.beside.slots c.args.side)
     (queues_in c.args.table.now.rows c.args.locks.now) (queues_in c.request.new.keeper.rows c.request.new.self) (queues_in c.put_granted.new.table.rows c.request.new.self) (ap (λ (ends : ℕ → Chain ℕ). queues_of ends c.request.new.self) c.put_granted.ensures.ends) c.in_ok-outcome-in-Some.outcome c.requires.kept c.requires.sound c.in_ok-outcome-in-Some.ensures.queues c.in_ok-outcome-in-Some.ensures.told
-    (settled_legal _ (c.requires.ends.settled.settled c.in-Some.id)) (ready_at (queues_in c.args.table.now.rows c.args.locks.now) (lists_of c.args.locks.now) c.args.transaction c.requires.ends.settled.linked c.requires.ready) c.requires.outside c.requires.again c.in_ok-copy-in-Some.ensures c.put_granted.ensures.slots c.args.table.now.capacity
+    (settled_legal _ (c.requires.ends.settled.settled c.in-Some.id)) (ready_at (queues_in c.args.table.now.rows c.args.locks.now) (lists_of c.args.locks.now) c.args.transaction c.requires.ends.settled.linked c.requires.ready) c.requires.outside c.requires.again (c.in_ok-copy-in-Some.ensures.kept c.in-Some.id c.args.key.now) c.put_granted.ensures.slots c.args.table.now.capacity
 
 pub returns-in_ok-outcome-in-Some-clause-ends : goal.returns-in_ok-outcome-in-Some-clause-ends
 returns-in_ok-outcome-in-Some-clause-ends c = subst (λ (ends : ℕ → Chain ℕ). AreEnds ends c.request.new.self) (sym c.put_granted.ensures.ends) c.request.ensures.sound.ends_are
@@ -95,8 +95,16 @@ returns-in_ok-outcome-in-Some-clause-room c = full_there c.args.side c.args.tabl
 
 pub returns-in_err-copy-in-Some-clause-refusal : goal.returns-in_err-copy-in-Some-clause-refusal
 returns-in_err-copy-in-Some-clause-refusal c =
-    refused_by c.args.side c.args.table.now.rows c.args.table.now.capacity (queues_in c.args.table.now.rows c.args.locks.now) c.args.key.now c.from_residual.result OutOfMemory c.from_residual.ensures (ran_out c.args.side c.args.table.now.rows c.args.table.now.capacity (queues_in c.args.table.now.rows c.args.locks.now) c.args.key.now (full_there c.args.side c.args.table.now.rows c.args.table.now.capacity (queues_in c.args.table.now.rows c.args.locks.now) c.args.key.now c.in-Some.id (sym c.in-Some.ensures.slot)))
+    refused_by c.args.side c.args.table.now.rows c.args.table.now.capacity (queues_in c.args.table.now.rows c.args.locks.now) c.args.key.now c.from_residual-in_err-copy-in-Some.result OutOfMemory c.from_residual-in_err-copy-in-Some.ensures (ran_out c.args.side c.args.table.now.rows c.args.table.now.capacity (queues_in c.args.table.now.rows c.args.locks.now) c.args.key.now (full_there c.args.side c.args.table.now.rows c.args.table.now.capacity (queues_in c.args.table.now.rows c.args.locks.now) c.args.key.now c.in-Some.id (sym c.in-Some.ensures.slot)))
 
 pub returns-in_err-outcome-in-Some-clause-refusal : goal.returns-in_err-outcome-in-Some-clause-refusal
 returns-in_err-outcome-in-Some-clause-refusal c =
     refused_by c.args.side c.args.table.now.rows c.args.table.now.capacity (queues_in c.args.table.now.rows c.args.locks.now) c.args.key.now c.from_residual-in_err-outcome-in-Some.result OutOfMemory c.from_residual-in_err-outcome-in-Some.ensures (ran_out c.args.side c.args.table.now.rows c.args.table.now.capacity (queues_in c.args.table.now.rows c.args.locks.now) c.args.key.now (full_there c.args.side c.args.table.now.rows c.args.table.now.capacity (queues_in c.args.table.now.rows c.args.locks.now) c.args.key.now c.in-Some.id (sym c.in-Some.ensures.slot)))
+
+pub returns-in_err-room-in-Some-clause-refusal : goal.returns-in_err-room-in-Some-clause-refusal
+returns-in_err-room-in-Some-clause-refusal c =
+    refused_by c.args.side c.args.table.now.rows c.args.table.now.capacity (queues_in c.args.table.now.rows c.args.locks.now) c.args.key.now c.from_residual.result OutOfMemory c.from_residual.ensures (ran_out c.args.side c.args.table.now.rows c.args.table.now.capacity (queues_in c.args.table.now.rows c.args.locks.now) c.args.key.now (full_there c.args.side c.args.table.now.rows c.args.table.now.capacity (queues_in c.args.table.now.rows c.args.locks.now) c.args.key.now c.in-Some.id (sym c.in-Some.ensures.slot)))
+
+pub returns-in_err-room-in-None-clause-refusal : goal.returns-in_err-room-in-None-clause-refusal
+returns-in_err-room-in-None-clause-refusal c =
+    refused_new c.args.side c.args.table.now.rows c.args.table.now.capacity (queues_in c.args.table.now.rows c.args.locks.now) c.args.key.now c.from_residual-in_err-room-in-None.result c.in_err-room-in-None.field-0.0 c.from_residual-in_err-room-in-None.ensures (sym c.in-None.ensures.slot) c.in_err-room-in-None.ensures.refusal

@@ -1,8 +1,13 @@
-use Rattle.std.proofs.Common.{rules}
-use Rattle.pc_records.specs.Slots.{slot_with}
-use Rattle.pc_records.proofs.Moments.{put_saved}
+use Rattle.std.proofs.Common.{ℕ, List, Option, sym, ap, ◌∙◌}
+use Rattle.pc_dirty.specs.declared.side.Side.{Side}
+use Rattle.pc_records.specs.declared.versions.Aside.{Aside}
+use Rattle.pc_records.specs.Words.{is_marked}
+use Rattle.pc_records.specs.Slots.{slot_with, with_aside, aside_in, put_slot}
 use Rattle.pc_records.proofs.versions.put.Goals as goal
 
-pub returns-then-is_none-clause-slot : goal.returns-then-is_none-clause-slot
-returns-then-is_none-clause-slot c number key =
-    put_saved c.args.point c.args.transaction c.args.class c.args.copy c.args.value c.replace-before.result c.replace-before.new.dest (slot_with c.args.side number key c.args.slot.now) (slot_with c.args.side number key c.save.new.slot) (search rules) c.replace-before.ensures.value c.replace-before.ensures.after (c.save.ensures.slot number key)
+pub returns-clause-slot : goal.returns-clause-slot
+returns-clause-slot c number key =
+    let s = slot_with c.args.side number key c.args.slot.now in
+    ap (λ (v : Option (List ℕ)). record (with_aside c.note.new.aside s) { live = v }) c.replace-before.ensures.after
+    ∙ (c.note.ensures s c.args.value (sym (c.is_in-is_closed.ensures ∙ ap (λ (x : Side). is_marked x c.args.slot.now) c.other.ensures)) c.replace-before.ensures.value
+    ∙ ap (λ (a : Aside). put_slot c.args.point c.args.transaction c.args.class c.args.copy c.args.value (with_aside a s)) (c.deref_mut.ensures.value ∙ (c.or_room-aside.ensures ∙ ap aside_in c.take.ensures.value)))
