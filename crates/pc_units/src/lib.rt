@@ -12,3 +12,5 @@ mod notes;
 mod phases;
 #[cfg(test)]
 mod sets;
+#[cfg(test)]
+mod takings;
