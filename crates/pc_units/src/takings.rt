@@ -59,10 +59,9 @@ fn are_told(triples: &[Triple], rows: &[(u8, u8)]) -> bool {
 // Whether what is put so is moved out so, once.
 fn is_moved(alloc: Global, puts: &[(u8, u8)], rows: &[(u8, u8)]) -> Result<bool, Refusal> {
     let mut taken = taken_of(alloc, puts)?;
-    let len = taken.len();
-    let room = Vec::with_capacity(alloc, len)?;
+    let room = Vec::with_capacity(alloc, taken.room())?;
     let triples = taken.move_into(room, Point(3));
-    Ok(len == rows.len() && taken.len() == 0 && are_told(&triples, rows))
+    Ok(taken.room() == 0 && are_told(&triples, rows))
 }
 
 // Each key once, by key, with what was put last.
