@@ -26,7 +26,9 @@ use crate::{slots, versions};
 use pc_dirty::{Dirty, Side};
 use pc_locks::Locks;
 use pc_table::Table;
-use pc_types::{Class, Key, MOST_KEYS, Mode, Outcome, Point, Refusal, SlotId, TxnNo, Value, Write};
+use pc_types::{
+    Class, Key, MOST_KEYS, Mode, Outcome, Point, Refusal, SlotId, TxnNo, Value, Write, copy_content,
+};
 use std::alloc::{AllocError, Global};
 use std::hash::RandomState;
 use std::marker::Model;
