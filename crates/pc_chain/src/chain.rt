@@ -25,6 +25,22 @@ impl<I: Copy> Chain<I> {
         }
     }
 
+    /// The ends as they are kept, the first and the last, each None in the empty list: for a keeper of many chains that keeps
+    /// them in fewer bytes.
+    pub fn ends(&self) -> (Option<I>, Option<I>)
+        ensures { result ≡ (self.now.first, self.now.last) }
+    {
+        let Chain { first, last } = *self;
+        (first, last)
+    }
+
+    /// The chain that has these ends, which are those of a chain (`ends`).
+    pub fn of_ends(first: Option<I>, last: Option<I>) -> Self
+        ensures { result ≡ record { first = first; last = last } }
+    {
+        Chain { first, last }
+    }
+
     /// The first id of the list.
     pub fn first<K, L: Links<K, Id = I>>(&self, links: &L) -> Option<I>
         ensures { (xs : List I) → IsChain (L.has links.now) (L.next_of links.now) self.now xs → result ≡ first_of xs }

@@ -1,8 +1,10 @@
--- The words of a slot, one on each side of the two sets.
-use Rattle.std.specs.Prelude.{◌≡◌, ℕ, Bool, false, Option, Some, None}
+-- The words of a slot, one on each side of the two sets, and the ends of the queue of its requests.
+use Rattle.std.specs.Prelude.{◌≡◌, ℕ, Bool, true, false, Option, Some, None}
+use Rattle.pc_chain.specs.declared.chain.Chain.{Chain}
 use Rattle.pc_dirty.specs.declared.side.Place.{Place}
 use Rattle.pc_dirty.specs.declared.side.Side.{Side}
 use Rattle.pc_dirty.specs.declared.side.Side.TheVariants.{First, Second}
+use Rattle.pc_records.specs.declared.ends.Ends.{Ends}
 use Rattle.pc_records.specs.declared.slots.Cell.{Cell}
 use Rattle.pc_records.specs.declared.words.Word.{Word}
 
@@ -63,3 +65,16 @@ pub record HaveLinks (old new : Cell) : Type 0 where
   pub first_side : new.first.leads_to ≡ old.first.leads_to
   pub second_slot : new.second.slot ≡ old.second.slot
   pub second_side : new.second.leads_to ≡ old.second.leads_to
+
+-- the ends of an empty queue
+abbrev pub no_ends : Ends
+no_ends = record { first = 0; last = 0; has_first = false; has_last = false }
+
+-- the end, where there is one
+abbrev pub end_at : Bool → ℕ → Option ℕ
+end_at true end = Some end
+end_at false end = None
+
+-- the chain with the ends
+abbrev pub chain_of : Ends → Chain ℕ
+chain_of ends = record { first = end_at ends.has_first ends.first; last = end_at ends.has_last ends.last }

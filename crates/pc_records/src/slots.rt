@@ -15,10 +15,10 @@ ghost use Rattle.pc_records.specs.Ends.{ends_in, queues_in};
 ghost use Rattle.pc_records.specs.SetLists.{KeepSets, IsUnmarked, IsListed, open_keys, closed_keys, entering, entering_key, entering_keys};
 ghost use Rattle.pc_records.specs.Slots.{slot_with, nothing_aside, slots_in, with_entry, content_in, base_cell, cells_in, base_row, contents_of, rows_of, pending_of, AreKept, AreSound, is_kept_slot, IsNumbered, tidied, put_slot, granted_slot, settled, undone, at_key, at_number, at_writes, taken_slot};
 
+use crate::ends::Ends;
 use crate::versions;
 use crate::versions::Aside;
 use crate::words::Word;
-use pc_chain::Chain;
 use pc_dirty::{Dirty, Side};
 use pc_locks::Locks;
 use pc_replay::first_of_each;
@@ -40,7 +40,7 @@ pub(crate) struct Cell {
     /// The slot's word on the second side.
     pub(crate) second: Word,
     /// The ends of the queue of the slot's requests.
-    pub(crate) ends: Chain<usize>,
+    pub(crate) ends: Ends,
 }
 
 impl Cell {
@@ -89,7 +89,7 @@ fn cell_with(content: Option<Value>) -> Cell
         aside: None,
         first: Word::blank(),
         second: Word::blank(),
-        ends: Chain::new(),
+        ends: Ends::empty(),
     }
 }
 
