@@ -12,9 +12,8 @@ use Rattle.pc_locks.proofs.KeeperLaws.{other_ends, other_state, other_sound}
 use Rattle.pc_table.specs.Rows.{Row as TableRow, Contents, in_slot, slot_of as table_slot, with_record_in, with_row, without_slot, HasRow, IsNewSlot, AreInSlots}
 use Rattle.pc_table.proofs.RowLaws.{same_some}
 use Rattle.pc_records.specs.declared.slots.Cell.{Cell}
-use Rattle.pc_records.specs.declared.ends.Ends.{Ends}
-use Rattle.pc_records.specs.Words.{chain_of}
-use Rattle.pc_records.specs.Slots.{Slot, slots_in, base_cell, cells_in, base_row, at_number, AreKept}
+use Rattle.pc_records.specs.Words.{chain_in, words_of, with_ends}
+use Rattle.pc_records.specs.Slots.{Slot, slot_with, slots_in, base_cell, cells_in, base_row, at_number, AreKept}
 use Rattle.pc_records.specs.Ends.{ends_of, ends_in, queues_in, KeepSlots}
 use Rattle.pc_records.proofs.InSlots.{changed_in, in_changed, in_put, in_left, cell_there}
 use Rattle.pc_records.proofs.TableSlots.{no_find, no_number, changed_slots}
@@ -27,7 +26,7 @@ each_same : (rows new : List (TableRow Cell)) → ((slot : ℕ) → ends_in new 
 each_same rows new h = λ i slot. h slot i
 
 -- a record whose ends stay
-pub ends_changed : (rows : List (TableRow Cell)) (id : ℕ) (x y : Cell) → option_map (λ pair. pair.1) (in_slot rows id) ≡ Some x → y.ends ≡ x.ends → ends_in (map (with_record_in id y) rows) ≡ ends_in rows
+pub ends_changed : (rows : List (TableRow Cell)) (id : ℕ) (x y : Cell) → option_map (λ pair. pair.1) (in_slot rows id) ≡ Some x → chain_in y ≡ chain_in x → ends_in (map (with_record_in id y) rows) ≡ ends_in rows
 ends_changed rows id x y has same = each_same rows (map (with_record_in id y) rows) (λ slot. ap ends_of (in_changed id y rows slot) ∙ by_test slot (eqb slot id) refl (in_slot rows slot) refl)
   where
     by_test : (slot : ℕ) (b : Bool) → eqb slot id ≡ b → (o : Option (List ℕ × Cell)) → in_slot rows slot ≡ o → ends_of (option_map (λ p. (p.0, cond b y p.1)) o) ≡ ends_of o
@@ -35,7 +34,7 @@ ends_changed rows id x y has same = each_same rows (map (with_record_in id y) ro
     by_test slot false is (Some p) e = refl
     by_test slot true is (Some p) e =
         let here : Some p.1 ≡ Some x = sym (ap (option_map (λ (pair : List ℕ × Cell). pair.1)) e) ∙ (ap (λ m. option_map (λ (pair : List ℕ × Cell). pair.1) (in_slot rows m)) (eqb-true slot id is) ∙ has) in
-        ap chain_of (same ∙ ap (λ (c : Cell). c.ends) (sym (same_some here)))
+        same ∙ ap chain_in (sym (same_some here))
 
 -- a row that goes in, of a key that has nothing yet
 pub ends_with : (old new : Contents Cell) (key : List ℕ) (id : ℕ) (content : Option (List ℕ)) → table_slot old.rows key ≡ None → IsNewSlot old id → new ≡ with_row old key id (base_cell content) → ends_in new.rows ≡ ends_in old.rows
@@ -53,7 +52,7 @@ ends_first (r ∷ rs) [] e slot = absurd cc
 ends_first (r ∷ rs) (p ∷ ps) e slot = by_test (eqb r.1.0 slot) (ends_first rs ps (other_cells r rs p ps e) slot)
   where
     by_test : (b : Bool) → IsEmpty (ends_in rs slot) → IsEmpty (ends_of (cond b (Some (r.0, r.1.1)) (in_slot rs slot)))
-    by_test true rest = subst (λ (c : Cell). IsEmpty (chain_of c.ends)) (sym (first_cell r rs p ps e)) (refl, refl)
+    by_test true rest = subst (λ (c : Cell). IsEmpty (chain_in c)) (sym (first_cell r rs p ps e)) (refl, refl)
     by_test false rest = rest
 
 -- a row that goes, whose queue is empty
@@ -97,34 +96,31 @@ at_same n [] = refl
 at_same n (s ∷ ss) = ap (λ (rest : List Slot). cond (eqb s.number n) s s ∷ rest) (at_same n ss) ∙ elim (eqb s.number n) as (λ b. cond b s s ∷ ss ≡ s ∷ ss) [ true ↦ refl | false ↦ refl ]
 
 -- a record that gets other ends
-module _ (table : Contents Cell) (a : AreInSlots table) (id : ℕ) (x : Cell) (has : option_map (λ pair. pair.1) (in_slot table.rows id) ≡ Some x) (ends : Chain ℕ) (flat : Ends) (are : chain_of flat ≡ ends) where
-  abbrev with_ends : Cell
-  with_ends = record x { ends = flat }
-
+module _ (table : Contents Cell) (a : AreInSlots table) (id : ℕ) (x : Cell) (has : option_map (λ pair. pair.1) (in_slot table.rows id) ≡ Some x) (y : Cell) (rest : y ≡ with_ends y x) (ends : Chain ℕ) (are : chain_in y ≡ ends) where
   abbrev set_rows : List (TableRow Cell)
-  set_rows = map (with_record_in id with_ends) table.rows
+  set_rows = map (with_record_in id y) table.rows
 
   pub ends_set : ends_in set_rows id ≡ ends
   ends_set =
       let t = cell_there (in_slot table.rows id) x has in
-      ap ends_of (in_changed id with_ends table.rows id ∙ ap (changed_in id with_ends id) t.1) ∙ (ap (λ b. chain_of (cond b with_ends x).ends) (eq-eqb id id refl) ∙ are)
+      ap ends_of (in_changed id y table.rows id ∙ ap (changed_in id y id) t.1) ∙ (ap (λ b. chain_in (cond b y x)) (eq-eqb id id refl) ∙ are)
 
   pub ends_others : (other : ℕ) → other ≢ id → ends_in set_rows other ≡ ends_in table.rows other
-  ends_others other n = ap ends_of (in_changed id with_ends table.rows other) ∙ by_test (eqb other id) refl (in_slot table.rows other)
+  ends_others other n = ap ends_of (in_changed id y table.rows other) ∙ by_test (eqb other id) refl (in_slot table.rows other)
     where
-      by_test : (b : Bool) → eqb other id ≡ b → (o : Option (List ℕ × Cell)) → ends_of (option_map (λ p. (p.0, cond b with_ends p.1)) o) ≡ ends_of o
+      by_test : (b : Bool) → eqb other id ≡ b → (o : Option (List ℕ × Cell)) → ends_of (option_map (λ p. (p.0, cond b y p.1)) o) ≡ ends_of o
       by_test true is o = absurd (n (eqb-true other id is))
       by_test false is None = refl
       by_test false is (Some p) = refl
 
-  some_stays : (slot : ℕ) (o : Option (List ℕ × Cell)) → is_some (changed_in id with_ends slot o) ≡ is_some o
+  some_stays : (slot : ℕ) (o : Option (List ℕ × Cell)) → is_some (changed_in id y slot o) ≡ is_some o
   some_stays slot None = refl
   some_stays slot (Some p) = refl
 
   pub slots_kept : KeepSlots table (record table { rows = set_rows })
   slots_kept = record {
     capacity = refl;
-    row = λ slot. ap is_some (in_changed id with_ends table.rows slot) ∙ some_stays slot (in_slot table.rows slot);
-    slots = λ side. changed_slots side table id x with_ends (λ s. s) a has (λ number key. refl) ∙ at_same id (slots_in side table.rows);
-    sets = changed_sets table.rows id x with_ends has refl;
+    row = λ slot. ap is_some (in_changed id y table.rows slot) ∙ some_stays slot (in_slot table.rows slot);
+    slots = λ side. changed_slots side table id x y (λ s. s) a has (λ number key. ap (slot_with side number key) rest) ∙ at_same id (slots_in side table.rows);
+    sets = changed_sets table.rows id x y has (ap words_of rest);
   }

@@ -9,12 +9,12 @@ use Rattle.pc_table.specs.Rows.{Row as TableRow, Contents, in_slot}
 use Rattle.pc_records.specs.declared.slots.Cell.{Cell}
 use Rattle.pc_records.specs.Slots.{slots_in}
 use Rattle.pc_records.specs.SetLists.{KeepSets}
-use Rattle.pc_records.specs.Words.{chain_of}
+use Rattle.pc_records.specs.Words.{chain_in}
 
 -- the ends in a slot; those of an empty queue where it has no row
 abbrev pub ends_of : Option (List ℕ × Cell) → Chain ℕ
 ends_of None = no_chain
-ends_of (Some p) = chain_of p.1.ends
+ends_of (Some p) = chain_in p.1
 
 -- the ends of each slot's queue
 abbrev pub ends_in : List (TableRow Cell) → ℕ → Chain ℕ

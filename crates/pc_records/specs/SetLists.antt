@@ -11,10 +11,9 @@ use Rattle.pc_dirty.specs.Sets.{other_side, AreSets, opened_of, closed_of}
 use Rattle.pc_locks.specs.States.{Queues}
 use Rattle.pc_table.specs.Rows.{Row as TableRow, Contents, in_slot, HasRow}
 use Rattle.pc_records.specs.declared.slots.Cell.{Cell}
-use Rattle.pc_records.specs.declared.words.Word.{Word}
 use Rattle.pc_records.specs.RowSteps.{left_rows}
 use Rattle.pc_records.specs.Slots.{slots_in, rows_of, writer_in}
-use Rattle.pc_records.specs.Words.{words_of, is_marked, link_of, without_link}
+use Rattle.pc_records.specs.Words.{Word, words_of, is_marked, link_of, unlinked}
 
 -- the slot has a row, and so a link on each side
 abbrev pub HasPlace : List (TableRow Cell) → Place → Type 0
@@ -91,10 +90,6 @@ pub record IsUnmarked (side : Side) (id : ℕ) (old new : List (TableRow Cell)) 
   pub links : KeepLinks old new
   pub open_marks : (slot : ℕ) → marked_in side (in_slot new slot) ≡ marked_in side (in_slot old slot)
   pub closed_marks : (slot : ℕ) → marked_in (other_side side) (in_slot new slot) ≡ (if slot == id then false else marked_in (other_side side) (in_slot old slot))
-
--- the cell without its links
-abbrev pub unlinked : Cell → Cell
-unlinked cell = record cell { first = without_link cell.first; second = without_link cell.second }
 
 -- the row without its links
 abbrev pub unlinked_row : TableRow Cell → TableRow Cell

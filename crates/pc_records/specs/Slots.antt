@@ -25,7 +25,7 @@ use Rattle.pc_records.specs.declared.versions.Writer.{Writer}
 use Rattle.pc_records.specs.Rows.{Row}
 use Rattle.pc_records.specs.RowSteps.{if_kept, with_row}
 use Rattle.pc_records.specs.Tables.{Pending, Table}
-use Rattle.pc_records.specs.Words.{blank_word, no_ends, is_marked}
+use Rattle.pc_records.specs.Words.{blank_mark, is_marked}
 
 -- a slot: its number, its key, and what is kept of the key: what stands in its place, the version that is held and the point that
 -- it is known to be of, the open transaction that has written the key, and whether the key is in the two sets
@@ -70,7 +70,7 @@ slots_in side rows = map (slot_in side) rows
 
 -- what is kept of a key that has this committed, a value or absence, and nothing else; no request stands
 abbrev pub base_cell : Option (List ℕ) → Cell
-base_cell content = record { live = content; aside = None; first = blank_word; second = blank_word; ends = no_ends }
+base_cell content = record { live = content; aside = None; first_next = 0; second_next = 0; first = blank_mark; second = blank_mark; has_first = false; has_last = false; first_request = 0; last_request = 0 }
 
 -- what the rows of the table keep of their keys
 abbrev pub cells_in : List (TableRow Cell) → List (List ℕ × Cell)

@@ -4,13 +4,18 @@ use Rattle.pc_chain.specs.declared.chain.Chain.{Chain}
 use Rattle.pc_dirty.specs.declared.side.Place.{Place}
 use Rattle.pc_dirty.specs.declared.side.Side.{Side}
 use Rattle.pc_dirty.specs.declared.side.Side.TheVariants.{First, Second}
-use Rattle.pc_records.specs.declared.ends.Ends.{Ends}
 use Rattle.pc_records.specs.declared.slots.Cell.{Cell}
-use Rattle.pc_records.specs.declared.words.Word.{Word}
+use Rattle.pc_records.specs.declared.words.Mark.{Mark}
 
--- the word of a slot that is in no set
-abbrev pub blank_word : Word
-blank_word = record { slot = 0; leads_to = None; is_in = false }
+-- a slot's word on one side: the slot and the side that its link leads to, if it leads to one, and whether the slot is in the set
+pub record Word : Type 0 where
+  pub slot : ℕ
+  pub leads_to : Option Side
+  pub is_in : Bool
+
+-- the mark of a slot that is in no set
+abbrev pub blank_mark : Mark
+blank_mark = record { leads_to = None; is_in = false }
 
 -- the slot on the side that a link leads to
 abbrev pub place_at : ℕ → Option Side → Option Place
@@ -21,27 +26,39 @@ place_at slot (Some side) = Some (record { slot = slot; side = side })
 abbrev pub link_at : Word → Option Place
 link_at word = place_at word.slot word.leads_to
 
--- the word with this link
-abbrev pub linked : Option Place → Word → Word
-linked None word = record word { leads_to = None }
-linked (Some place) word = record word { slot = place.slot; leads_to = Some place.side }
+-- the slot that a link leads to; 0 where it leads to none
+abbrev pub slot_of : Option Place → ℕ
+slot_of None = 0
+slot_of (Some place) = place.slot
 
--- the word without a link
-abbrev pub without_link : Word → Word
-without_link word = record word { slot = 0; leads_to = None }
+-- the side that a link leads to
+abbrev pub side_of : Option Place → Option Side
+side_of None = None
+side_of (Some place) = Some place.side
 
--- of two words that on the side
-abbrev pub word_on : Side → Word → Word → Word
-word_on First a b = a
-word_on Second a b = b
+-- the mark with this link
+abbrev pub leading : Option Place → Mark → Mark
+leading link mark = record mark { leads_to = side_of link }
+
+-- of two that on the side
+abbrev pub on_side : {X : Type 0} → Side → X → X → X
+on_side First a b = a
+on_side Second a b = b
+
+-- the words of a cell
+abbrev pub first_word : Cell → Word
+first_word cell = record { slot = cell.first_next; leads_to = cell.first.leads_to; is_in = cell.first.is_in }
+
+abbrev pub second_word : Cell → Word
+second_word cell = record { slot = cell.second_next; leads_to = cell.second.leads_to; is_in = cell.second.is_in }
 
 -- the word on the side
 abbrev pub word_of : Side → Cell → Word
-word_of side cell = word_on side cell.first cell.second
+word_of side cell = on_side side (first_word cell) (second_word cell)
 
 -- both words
 abbrev pub words_of : Cell → Word × Word
-words_of cell = (cell.first, cell.second)
+words_of cell = (first_word cell, second_word cell)
 
 -- the slot is in the set on the side
 abbrev pub is_marked : Side → Cell → Bool
@@ -53,28 +70,37 @@ link_of side cell = link_at (word_of side cell)
 
 -- the cell with this mark on the side
 abbrev pub with_mark : Side → Bool → Cell → Cell
-with_mark side mark cell = record cell { first = word_on side (record cell.first { is_in = mark }) cell.first; second = word_on side cell.second (record cell.second { is_in = mark }) }
+with_mark side mark cell = record cell { first = on_side side (record cell.first { is_in = mark }) cell.first; second = on_side side cell.second (record cell.second { is_in = mark }) }
 
 -- the cell with this link on the side
 abbrev pub with_link : Side → Option Place → Cell → Cell
-with_link side link cell = record cell { first = word_on side (linked link cell.first) cell.first; second = word_on side cell.second (linked link cell.second) }
+with_link side link cell = record cell {
+  first_next = on_side side (slot_of link) cell.first_next;
+  second_next = on_side side cell.second_next (slot_of link);
+  first = on_side side (leading link cell.first) cell.first;
+  second = on_side side cell.second (leading link cell.second);
+}
+
+-- the cell without its links
+abbrev pub unlinked : Cell → Cell
+unlinked cell = record cell { first_next = 0; second_next = 0; first = leading None cell.first; second = leading None cell.second }
 
 -- the links are those that there were
 pub record HaveLinks (old new : Cell) : Type 0 where
-  pub first_slot : new.first.slot ≡ old.first.slot
+  pub first_slot : new.first_next ≡ old.first_next
   pub first_side : new.first.leads_to ≡ old.first.leads_to
-  pub second_slot : new.second.slot ≡ old.second.slot
+  pub second_slot : new.second_next ≡ old.second_next
   pub second_side : new.second.leads_to ≡ old.second.leads_to
 
--- the ends of an empty queue
-abbrev pub no_ends : Ends
-no_ends = record { first = 0; last = 0; has_first = false; has_last = false }
-
--- the end, where there is one
+-- an end of a queue, where there is one
 abbrev pub end_at : Bool → ℕ → Option ℕ
 end_at true end = Some end
 end_at false end = None
 
--- the chain with the ends
-abbrev pub chain_of : Ends → Chain ℕ
-chain_of ends = record { first = end_at ends.has_first ends.first; last = end_at ends.has_last ends.last }
+-- the ends of the queue of a cell
+abbrev pub chain_in : Cell → Chain ℕ
+chain_in cell = record { first = end_at cell.has_first cell.first_request; last = end_at cell.has_last cell.last_request }
+
+-- the second cell with the ends of the first
+abbrev pub with_ends : Cell → Cell → Cell
+with_ends ends cell = record cell { has_first = ends.has_first; has_last = ends.has_last; first_request = ends.first_request; last_request = ends.last_request }

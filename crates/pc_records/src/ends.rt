@@ -3,7 +3,7 @@ ghost use Rattle.std.specs.Prelude.{◌≡◌, ◌≢◌, ℕ};
 ghost use Rattle.pc_chain.specs.declared.chain.Chain.{Chain};
 ghost use Rattle.pc_table.specs.Rows.{HasRow};
 ghost use Rattle.pc_records.specs.Ends.{ends_in, KeepSlots};
-ghost use Rattle.pc_records.specs.Words.{end_at};
+ghost use Rattle.pc_records.specs.Words.{end_at, chain_in, with_ends};
 
 use crate::slots::Cell;
 use pc_chain::Chain;
@@ -11,60 +11,33 @@ use pc_locks::QueueEnds;
 use pc_table::Table;
 use pc_types::SlotId;
 
-/// The ends of the queue of a slot's requests, with their parts beside one another, so that they have 24 bytes.
-#[derive(Clone, Copy)]
-pub(crate) struct Ends {
-    first: usize,
-    last: usize,
-    has_first: bool,
-    has_last: bool,
-}
-
-impl Ends {
-    ghost use Rattle.std.specs.Prelude.{◌≡◌};
-    ghost use Rattle.pc_records.specs.Words.{no_ends, chain_of};
-
-    /// Those of an empty queue.
-    pub(crate) fn empty() -> Ends
-        ensures { result ≡ no_ends }
-    {
-        Ends {
-            first: 0,
-            last: 0,
-            has_first: false,
-            has_last: false,
-        }
-    }
-
-    // Those of the chain.
-    fn of_chain(chain: Chain<usize>) -> Ends
-        ensures { chain_of result ≡ chain }
-    {
-        let (first, last) = chain.ends();
-        Ends {
-            first: first.unwrap_or(0),
-            last: last.unwrap_or(0),
-            has_first: first.is_some(),
-            has_last: last.is_some(),
-        }
-    }
-
-    // The chain with these ends.
-    fn chain(self) -> Chain<usize>
-        ensures { result ≡ chain_of self }
-    {
-        Chain::of_ends(
-            end_at(self.has_first, self.first),
-            end_at(self.has_last, self.last),
-        )
-    }
-}
-
 // The end, where there is one.
 fn end_at(has_end: bool, end: usize) -> Option<usize>
     ensures { result ≡ end_at has_end end }
 {
     if has_end { Some(end) } else { None }
+}
+
+// The ends of the cell's queue.
+fn chain_in(cell: &Cell) -> Chain<usize>
+    ensures { result ≡ chain_in cell.now }
+{
+    Chain::of_ends(
+        end_at(cell.has_first, cell.first_request),
+        end_at(cell.has_last, cell.last_request),
+    )
+}
+
+// Sets the ends of the cell's queue, and nothing else.
+fn put_ends(cell: &mut Cell, ends: Chain<usize>)
+    ensures chain { chain_in cell.new ≡ ends }
+    ensures rest { cell.new ≡ with_ends cell.new cell.old }
+{
+    let (first, last) = ends.ends();
+    cell.has_first = first.is_some();
+    cell.has_last = last.is_some();
+    cell.first_request = first.unwrap_or(0);
+    cell.last_request = last.unwrap_or(0);
 }
 
 /// Marks the ends in each slot.
@@ -84,7 +57,7 @@ impl QueueEnds<ByEnds> for Table<Cell> {
     ghost beside = { λ a b. KeepSlots a b };
 
     fn ends(&self, slot: SlotId) -> Chain<usize> {
-        self.get(slot).ends.chain()
+        chain_in(self.get(slot))
     }
 
     fn set_ends(&mut self, slot: SlotId, ends: Chain<usize>)
@@ -93,8 +66,7 @@ impl QueueEnds<ByEnds> for Table<Cell> {
         ensures others { (other : ℕ) → other ≢ slot → ends_in self.new.rows other ≡ ends_in self.old.rows other }
         ensures beside { KeepSlots self.old self.new }
     {
-        let cell = self.get_mut(slot);
-        cell.ends = Ends::of_chain(ends);
+        put_ends(self.get_mut(slot), ends);
     }
 
     ghost beside_same = { λ a. record { capacity = refl; row = λ slot. refl; slots = λ side. refl; sets = record { same = λ slot. refl } } };

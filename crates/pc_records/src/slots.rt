@@ -15,10 +15,9 @@ ghost use Rattle.pc_records.specs.Ends.{ends_in, queues_in};
 ghost use Rattle.pc_records.specs.SetLists.{KeepSets, IsUnmarked, IsListed, open_keys, closed_keys, entering, entering_key, entering_keys};
 ghost use Rattle.pc_records.specs.Slots.{slot_with, nothing_aside, slots_in, with_entry, content_in, base_cell, cells_in, base_row, contents_of, rows_of, pending_of, AreKept, AreSound, is_kept_slot, IsNumbered, tidied, put_slot, granted_slot, settled, undone, at_key, at_number, at_writes, taken_slot};
 
-use crate::ends::Ends;
 use crate::versions;
 use crate::versions::Aside;
-use crate::words::Word;
+use crate::words::Mark;
 use pc_dirty::{Dirty, Side};
 use pc_locks::Locks;
 use pc_replay::first_of_each;
@@ -35,12 +34,18 @@ pub(crate) struct Cell {
     pub(crate) live: Option<Value>,
     /// What an open transaction or a point needs beside that; none while nothing does.
     pub(crate) aside: Option<Box<Aside>>,
-    /// The slot's word on the first side.
-    pub(crate) first: Word,
-    /// The slot's word on the second side.
-    pub(crate) second: Word,
-    /// The ends of the queue of the slot's requests.
-    pub(crate) ends: Ends,
+    /// The slots that the links of the two sides lead to, where they lead to one. From here on small fields stand side by side,
+    /// so that all of them and the ends of the queue take 32 bytes.
+    pub(crate) first_next: SlotId,
+    pub(crate) second_next: SlotId,
+    /// What else the slot has on each side.
+    pub(crate) first: Mark,
+    pub(crate) second: Mark,
+    /// Whether the queue of the slot's requests has a first and a last one, and which they are then.
+    pub(crate) has_first: bool,
+    pub(crate) has_last: bool,
+    pub(crate) first_request: usize,
+    pub(crate) last_request: usize,
 }
 
 impl Cell {
@@ -87,9 +92,14 @@ fn cell_with(content: Option<Value>) -> Cell
     Cell {
         live: content,
         aside: None,
-        first: Word::blank(),
-        second: Word::blank(),
-        ends: Ends::empty(),
+        first_next: SlotId(0),
+        second_next: SlotId(0),
+        first: Mark::blank(),
+        second: Mark::blank(),
+        has_first: false,
+        has_last: false,
+        first_request: 0,
+        last_request: 0,
     }
 }
 

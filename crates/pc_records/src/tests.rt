@@ -1,5 +1,5 @@
 //! Tests of the moments of a slot, and of requests, releases and what keeps a slot.
-ghost use Rattle.std.specs.Prelude.{◌≡◌, [], IfOk, IsErr};
+ghost use Rattle.std.specs.Prelude.{◌≡◌, ◌≤◌, [], IfOk, IsErr};
 
 use crate::slots::Cell;
 use crate::{Reading, Records, versions};
@@ -307,12 +307,20 @@ const SLOTS: [(Ask, Told); 13] = [
     (IsWaiting(3), Is(false)),
 ];
 
+// Records of one pair, with room for so many.
+fn records_of_one(alloc: Global, capacity: u32, seed: RandomState) -> Result<Records, Refusal>
+    requires { (1 ≤ capacity) × (capacity ≤ 2) }
+    ensures { IfOk result (λ records. records.pending ≡ []) }
+{
+    let mut pairs = Vec::new(alloc);
+    pairs.push((Key::new(alloc, &[5])?, Value::new(alloc, &[50])?))?;
+    Ok(Records::of_pairs(alloc, capacity, &pairs, seed)?)
+}
+
 #[test]
 fn slots_kept(rt: HostRuntime) -> Result<(), Fail> {
     let alloc = rt.alloc();
-    let mut pairs = Vec::new(alloc);
-    pairs.push((Key::new(alloc, &[5])?, Value::new(alloc, &[50])?))?;
-    let mut records = Records::of_pairs(alloc, 2, &pairs, RandomState::new(&rt)?)?;
+    let mut records = records_of_one(alloc, 2, RandomState::new(&rt)?)?;
     assert_eq!(rt; first_other(alloc, &mut records, &SLOTS)?, None);
     Ok(())
 }
@@ -345,9 +353,7 @@ fn remove_both(alloc: Global, records: &mut Records) -> Result<(Told, Told), Ref
 #[test]
 fn writes_in_full_records(rt: HostRuntime) -> Result<(), Fail> {
     let alloc = rt.alloc();
-    let mut pairs = Vec::new(alloc);
-    pairs.push((Key::new(alloc, &[5])?, Value::new(alloc, &[50])?))?;
-    let mut records = Records::of_pairs(alloc, 1, &pairs, RandomState::new(&rt)?)?;
+    let mut records = records_of_one(alloc, 1, RandomState::new(&rt)?)?;
     assert_eq!(rt; remove_both(alloc, &mut records)?, (NoRoom, Granted));
     Ok(())
 }

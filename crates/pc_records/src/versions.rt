@@ -4,7 +4,7 @@ ghost use Rattle.std.specs.Prelude.{◌≡◌, ◌&&◌, ◌||◌, not, ℕ, Lis
 ghost use Rattle.pc_types.specs.declared.Class.TheVariants as class_of;
 ghost use Rattle.pc_types.specs.Phases.{same_class};
 ghost use Rattle.pc_dirty.specs.declared.side.Side.TheVariants.{First};
-ghost use Rattle.pc_records.specs.Words.{is_marked, words_of, HaveLinks};
+ghost use Rattle.pc_records.specs.Words.{is_marked, words_of, chain_in, HaveLinks};
 ghost use Rattle.pc_records.specs.Slots.{Slot, slot_with, nothing_aside, is_blank, aside_in, writer_in, with_aside, committed, version_or, pinned, is_held, keeps_copy, saved, put_slot, settled, undone, taken_slot};
 
 use crate::slots::Cell;
@@ -265,7 +265,7 @@ pub(crate) fn put(
     requires { room.value ≡ nothing_aside }
     ensures slot { (number : ℕ) (key : List ℕ) → slot_with side number key slot.new ≡ put_slot point transaction class copy value (slot_with side number key slot.old) }
     ensures words { words_of slot.new ≡ words_of slot.old }
-    ensures ends { slot.new.ends ≡ slot.old.ends }
+    ensures ends { chain_in slot.new ≡ chain_in slot.old }
 {
     let is_closed = slot.is_in(side.other());
     let before = mem::replace(&mut slot.live, value);
@@ -304,7 +304,7 @@ fn commit(aside: &mut Aside, is_closed: bool, point: Point) -> bool
 pub(crate) fn settle(slot: &mut Cell, side: Side, point: Point) -> bool
     ensures slot { (number : ℕ) (key : List ℕ) → slot_with side number key slot.new ≡ settled point (slot_with side number key slot.old) }
     ensures links { HaveLinks slot.old slot.new }
-    ensures ends { slot.new.ends ≡ slot.old.ends }
+    ensures ends { chain_in slot.new ≡ chain_in slot.old }
     ensures fresh { result ≡ (is_some (writer_in slot.old) && not (is_marked side slot.old)) }
 {
     let Some(mut aside) = slot.aside.take() else {
@@ -338,7 +338,7 @@ fn withdraw(aside: &mut Aside, live: &mut Option<Value>, is_closed: bool, point:
 pub(crate) fn undo(slot: &mut Cell, side: Side, point: Point)
     ensures slot { (number : ℕ) (key : List ℕ) → slot_with side number key slot.new ≡ undone point (slot_with side number key slot.old) }
     ensures words { words_of slot.new ≡ words_of slot.old }
-    ensures ends { slot.new.ends ≡ slot.old.ends }
+    ensures ends { chain_in slot.new ≡ chain_in slot.old }
 {
     let is_closed = slot.is_in(side.other());
     if let Some(mut aside) = slot.aside.take() {
@@ -351,7 +351,7 @@ pub(crate) fn undo(slot: &mut Cell, side: Side, point: Point)
 pub(crate) fn take(slot: &mut Cell, side: Side)
     ensures slot { (number : ℕ) (key : List ℕ) → slot_with side number key slot.new ≡ taken_slot (slot_with side number key slot.old) }
     ensures links { HaveLinks slot.old slot.new }
-    ensures ends { slot.new.ends ≡ slot.old.ends }
+    ensures ends { chain_in slot.new ≡ chain_in slot.old }
 {
     slot.put_mark(side.other(), false);
     if let Some(mut aside) = slot.aside.take() {
