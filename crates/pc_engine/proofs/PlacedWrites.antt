@@ -7,7 +7,8 @@ use Rattle.pc_types.specs.declared.Write.{Write}
 use Rattle.pc_model.specs.Database.{same_bytes, with_write, written}
 use Rattle.pc_model.specs.Replies.{value_read}
 use Rattle.pc_model.proofs.JoinLaws.{one_key}
-use Rattle.pc_records.specs.Tables.{Table, Pending, pending_at, pending_without, value_of, read_of, IsClearFor}
+use Rattle.pc_slots.specs.Slots.{Pending}
+use Rattle.pc_records.specs.Tables.{Table, pending_at, pending_without, value_of, read_of, IsClearFor}
 use Rattle.pc_engine.specs.Sessions.{number_in, class_at, writes_in, after_writing}
 use Rattle.pc_engine.specs.Store.{Active}
 use Rattle.pc_engine.specs.InPlace.{at_place, write_in, AreInPlace, AreNumbered}

@@ -21,7 +21,8 @@ use Rattle.pc_model.proofs.JoinLaws.{one_key}
 use Rattle.pc_records.specs.Rows.{Row, Kept, record_of, is_in_open_set, is_in_closed_set}
 use Rattle.pc_records.specs.RowSteps.{rows_after, released_rows, written_row, closed_row, left_rows, committed_row}
 use Rattle.pc_records.specs.NewKeys.{new_keys, with_new}
-use Rattle.pc_records.specs.Tables.{Table, Pending, pending_at, pending_without, kept_of, pending_after, value_of, read_of, IsClearFor}
+use Rattle.pc_slots.specs.Slots.{Pending}
+use Rattle.pc_records.specs.Tables.{Table, pending_at, pending_without, kept_of, pending_after, value_of, read_of, IsClearFor}
 use Rattle.pc_records.proofs.SetFlagLaws.{asked_sets, released_sets, written_open, written_closed, closed_sets, left_open, left_closed}
 use Rattle.pc_records.specs.RowSets.{HaveSameSets}
 use Rattle.pc_records.proofs.ReleaseLaws.{rise_written}

@@ -8,7 +8,8 @@ use Rattle.pc_model.specs.Database.{written}
 use Rattle.pc_model.specs.Points.{is_among}
 use Rattle.pc_types.specs.Phases.{same_phase}
 use Rattle.pc_records.specs.Rows.{Row, record_of, is_in_open_set, is_in_closed_set}
-use Rattle.pc_records.specs.Tables.{Table, Pending, pending_at}
+use Rattle.pc_slots.specs.Slots.{Pending}
+use Rattle.pc_records.specs.Tables.{Table, pending_at}
 use Rattle.pc_engine.specs.Sessions.{number_in}
 use Rattle.pc_engine.specs.Store.{Active}
 

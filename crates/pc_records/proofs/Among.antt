@@ -12,11 +12,12 @@ use Rattle.pc_dirty.specs.declared.dirty.Dirty.{Dirty}
 use Rattle.pc_dirty.specs.Sets.{other_side}
 use Rattle.pc_table.specs.Rows.{Row as TableRow, in_slot}
 use Rattle.pc_table.proofs.RowLaws.{no_row, same_some, slot_found, found_has}
-use Rattle.pc_records.specs.declared.slots.Cell.{Cell}
-use Rattle.pc_records.specs.Words.{is_marked}
+use Rattle.pc_slots.specs.declared.cells.Cell.{Cell}
+use Rattle.pc_slots.specs.Words.{is_marked}
 use Rattle.pc_records.specs.Rows.{Row, record_of, at_point, is_in_open_set, is_in_closed_set}
 use Rattle.pc_records.specs.Tables.{AreListed, first_pinned}
-use Rattle.pc_records.specs.Slots.{slots_in, rows_of, table_of, numbers_of, times, AreKept, pinned, slot_with}
+use Rattle.pc_slots.specs.Slots.{pinned, slot_with}
+use Rattle.pc_records.specs.Slots.{slots_in, rows_of, table_of, numbers_of, times, AreKept}
 use Rattle.pc_records.specs.SetLists.{marked_in, key_in, keys_at, is_listed, open_slots, closed_slots, IsListed, open_keys, closed_keys}
 use Rattle.pc_records.proofs.Lookups.{find_row, record_in, same_self}
 use Rattle.pc_records.proofs.TableSlots.{cell_of, find_slots, number_has, rows_rise}

@@ -12,11 +12,12 @@ use Rattle.pc_model.specs.Locks.{is_ungranted, request_in, outcome, queue_after}
 use Rattle.pc_model.specs.Queues.{IsLegalQueue}
 use Rattle.pc_types.specs.declared.Outcome.TheVariants.{Granted}
 use Rattle.pc_locks.specs.States.{Queues, queue_at}
-use Rattle.pc_records.specs.declared.versions.Writer.{Writer}
+use Rattle.pc_slots.specs.declared.versions.Writer.{Writer}
 use Rattle.pc_records.specs.Rows.{record_of, is_in_closed_set, requests_on}
 use Rattle.pc_records.specs.RowSteps.{rows_after}
-use Rattle.pc_records.specs.Tables.{Pending, pending_after}
-use Rattle.pc_records.specs.Slots.{no_queues, Slot, rows_of, pending_in, write_of, pending_of, table_of, has_exclusive, is_locked, AreSound, AreKept, IsSlotOf, IsFirstIn, keeps_copy, put_slot, granted_slot, new_slot, at_number, numbers_of, times, IsNewAt}
+use Rattle.pc_slots.specs.Slots.{Pending, Slot, pending_in, write_of, has_exclusive, is_locked, keeps_copy, put_slot, granted_slot, new_slot}
+use Rattle.pc_records.specs.Tables.{pending_after}
+use Rattle.pc_records.specs.Slots.{no_queues, rows_of, pending_of, table_of, AreSound, AreKept, IsSlotOf, IsFirstIn, at_number, numbers_of, times, IsNewAt}
 use Rattle.pc_records.proofs.Copies.{granted_alike}
 use Rattle.pc_records.proofs.SlotPlaces.{slot_found, length-rows, number_set}
 use Rattle.pc_records.proofs.Queued.{set_at, queue_same}

@@ -2,8 +2,8 @@
 use Rattle.std.proofs.Common.{◌≡◌, ℕ, List, Option, None, false, refl}
 use Rattle.pc_dirty.specs.declared.side.Side.{Side}
 use Rattle.pc_dirty.specs.declared.side.Side.TheVariants.{First, Second}
-use Rattle.pc_records.specs.declared.versions.Stable.TheVariants.{Empty}
-use Rattle.pc_records.specs.Slots.{Slot, slot_with, base_cell}
+use Rattle.pc_slots.specs.declared.versions.Stable.TheVariants.{Empty}
+use Rattle.pc_slots.specs.Slots.{Slot, slot_with, base_cell}
 
 -- the slot, which is in no set
 abbrev pub bare_slot : ℕ → List ℕ → Option (List ℕ) → Slot

@@ -9,9 +9,9 @@ use Rattle.pc_model.specs.Locks.{Queue, is_ungranted, request_in, outcome, queue
 use Rattle.pc_model.specs.Queues.{IsLegalQueue}
 use Rattle.pc_types.specs.declared.Outcome.TheVariants.{Granted}
 use Rattle.pc_locks.specs.States.{Queues, State, queue_at}
-use Rattle.pc_records.specs.declared.versions.Writer.{Writer}
-use Rattle.pc_records.specs.Tables.{Pending}
-use Rattle.pc_records.specs.Slots.{no_queues, Slot, rows_of, pending_in, write_of, pending_of, is_locked, IsSound, AreSound, AreKept}
+use Rattle.pc_slots.specs.declared.versions.Writer.{Writer}
+use Rattle.pc_slots.specs.Slots.{Pending, Slot, pending_in, write_of, is_locked, IsSound}
+use Rattle.pc_records.specs.Slots.{no_queues, rows_of, pending_of, AreSound, AreKept}
 use Rattle.pc_records.proofs.Queued.{set_at}
 use Rattle.pc_records.proofs.Exclusive.{alone, kept_answered}
 use Rattle.pc_records.proofs.Lookups.{slot_of, of_slot, find_entry}

@@ -15,9 +15,10 @@ use Rattle.pc_table.specs.Rows.{Row as TableRow, Contents, in_slot, AreInSlots}
 use Rattle.pc_table.specs.Passing.{rows_below}
 use Rattle.pc_table.proofs.RowLaws.{passing, find_filtered, found_has}
 use Rattle.pc_table.proofs.PassingLaws.{none_passed, row_passed, gap_passed}
-use Rattle.pc_records.specs.declared.slots.Cell.{Cell}
+use Rattle.pc_slots.specs.declared.cells.Cell.{Cell}
 use Rattle.pc_records.specs.Rows.{record_of, stored}
-use Rattle.pc_records.specs.Slots.{no_queues, Slot, slot_with, slots_in, rows_of, with_entry, committed, contents_of, content_in, committed_pairs}
+use Rattle.pc_slots.specs.Slots.{Slot, slot_with, committed}
+use Rattle.pc_records.specs.Slots.{no_queues, slots_in, rows_of, with_entry, contents_of, content_in, committed_pairs}
 use Rattle.pc_records.proofs.Lookups.{of_slot, record_in, slot_of, find_entry, find_row, sorted_entries}
 use Rattle.pc_records.proofs.SlotRising.{contents_rise}
 use Rattle.pc_records.proofs.TableSlots.{slots_rise, find_slots, cell_of}

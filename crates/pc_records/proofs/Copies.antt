@@ -4,10 +4,10 @@ use Rattle.pc_types.specs.declared.Class.{Class}
 use Rattle.pc_types.specs.declared.Class.TheVariants.{Before, During, After}
 use Rattle.pc_types.specs.declared.Outcome.{Outcome}
 use Rattle.pc_types.specs.declared.Outcome.TheVariants.{Granted, Queued, Died}
-use Rattle.pc_records.specs.declared.versions.Stable.{Stable}
-use Rattle.pc_records.specs.declared.versions.Stable.TheVariants.{Empty, Held}
-use Rattle.pc_records.specs.declared.versions.Writer.{Writer}
-use Rattle.pc_records.specs.Slots.{Slot, is_held, held_or, saved, saves_copy, keeps_copy, put_beside, put_slot, granted_slot}
+use Rattle.pc_slots.specs.declared.versions.Stable.{Stable}
+use Rattle.pc_slots.specs.declared.versions.Stable.TheVariants.{Empty, Held}
+use Rattle.pc_slots.specs.declared.versions.Writer.{Writer}
+use Rattle.pc_slots.specs.Slots.{Slot, is_held, held_or, saved, saves_copy, keeps_copy, put_beside, put_slot, granted_slot}
 
 saved_alike : (point : ℕ) (class : Class) (a b : Option (List ℕ)) (s : Slot) → (saves_copy class point s ≡ true → a ≡ b) → saved point class a s ≡ saved point class b s
 saved_alike point Before a b s same = refl

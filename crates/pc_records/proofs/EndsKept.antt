@@ -11,9 +11,10 @@ use Rattle.pc_locks.specs.Keepers.{AreEnds, DifferWhereNone}
 use Rattle.pc_locks.proofs.KeeperLaws.{other_ends, other_state, other_sound}
 use Rattle.pc_table.specs.Rows.{Row as TableRow, Contents, in_slot, slot_of as table_slot, with_record_in, with_row, without_slot, HasRow, IsNewSlot, AreInSlots}
 use Rattle.pc_table.proofs.RowLaws.{same_some}
-use Rattle.pc_records.specs.declared.slots.Cell.{Cell}
-use Rattle.pc_records.specs.Words.{chain_in, words_of, with_ends}
-use Rattle.pc_records.specs.Slots.{Slot, slot_with, slots_in, base_cell, cells_in, base_row, at_number, AreKept}
+use Rattle.pc_slots.specs.declared.cells.Cell.{Cell}
+use Rattle.pc_slots.specs.Words.{chain_in, words_of, with_ends}
+use Rattle.pc_slots.specs.Slots.{Slot, slot_with, base_cell}
+use Rattle.pc_records.specs.Slots.{slots_in, cells_in, base_row, at_number, AreKept}
 use Rattle.pc_records.specs.Ends.{ends_of, ends_in, queues_in, KeepSlots}
 use Rattle.pc_records.proofs.InSlots.{changed_in, in_changed, in_put, in_left, cell_there}
 use Rattle.pc_records.proofs.TableSlots.{no_find, no_number, changed_slots}

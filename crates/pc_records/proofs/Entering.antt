@@ -9,14 +9,15 @@ use Rattle.pc_model.proofs.RisingLaws.{Rise}
 use Rattle.pc_dirty.specs.declared.side.Side.{Side}
 use Rattle.pc_table.specs.Rows.{Row as TableRow, Contents, in_slot, slot_of as table_slot, AreInSlots}
 use Rattle.pc_table.proofs.RowLaws.{placed}
-use Rattle.pc_records.specs.declared.slots.Cell.{Cell}
-use Rattle.pc_records.specs.declared.versions.Writer.{Writer}
+use Rattle.pc_slots.specs.declared.cells.Cell.{Cell}
+use Rattle.pc_slots.specs.declared.versions.Writer.{Writer}
 use Rattle.pc_records.specs.Rows.{record_of, is_in_open_set}
 use Rattle.pc_model.specs.DistinctWrites.{AreDistinct}
 use Rattle.pc_records.specs.NewKeys.{with_new, new_keys}
 use Rattle.pc_records.specs.Tables.{value_of}
 use Rattle.pc_locks.specs.States.{Queues}
-use Rattle.pc_records.specs.Slots.{Slot, slots_in, rows_of, pending_in, pending_of, write_of, at_key, settled}
+use Rattle.pc_slots.specs.Slots.{Slot, pending_in, write_of, settled}
+use Rattle.pc_records.specs.Slots.{slots_in, rows_of, pending_of, at_key}
 use Rattle.pc_records.specs.SetLists.{entering, entering_key, entering_keys}
 use Rattle.pc_records.proofs.Lookups.{slot_of, of_slot, record_in, key_found, find_row, find_entry, slot_map, same_self, same_turned}
 use Rattle.pc_records.proofs.Moments.{settled_key}

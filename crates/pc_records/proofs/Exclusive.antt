@@ -12,7 +12,7 @@ use Rattle.pc_model.specs.Queues.{Conflicts, IsLegalQueue, IsSettled}
 use Rattle.pc_types.specs.declared.Outcome.TheVariants.{Granted, Queued, Died}
 use Rattle.pc_model.proofs.LegalQueueLaws.{sound_legal}
 use Rattle.pc_model.proofs.QueueLaws.{settled_sound}
-use Rattle.pc_records.specs.Slots.{has_exclusive}
+use Rattle.pc_slots.specs.Slots.{has_exclusive}
 
 -- no two granted requests of a settled queue conflict
 pub settled_legal : (queue : Queue) → IsSettled queue → IsLegalQueue queue

@@ -12,8 +12,9 @@ use Rattle.pc_model.proofs.RisingLaws.{both, and_of, Rise}
 use Rattle.pc_table.specs.Rows.{Row as TableRow, Contents, slot_of as table_slot, with_row, AreInSlots}
 use Rattle.pc_table.proofs.RowLaws.{no_row, same_rows}
 use Rattle.pc_locks.specs.States.{Queues, queue_at}
-use Rattle.pc_records.specs.declared.slots.Cell.{Cell}
-use Rattle.pc_records.specs.Slots.{slots_in, base_cell, cells_in, base_row, AreKept}
+use Rattle.pc_slots.specs.declared.cells.Cell.{Cell}
+use Rattle.pc_slots.specs.Slots.{base_cell}
+use Rattle.pc_records.specs.Slots.{slots_in, cells_in, base_row, AreKept}
 use Rattle.pc_records.proofs.Lookups.{same_turned}
 use Rattle.pc_records.proofs.TableSlots.{slots_rise, once_in}
 use Rattle.pc_dirty.specs.declared.side.Side.{Side}

@@ -15,11 +15,12 @@ use Rattle.pc_model.specs.Queues.{IsLegalQueue, stands_in}
 use Rattle.pc_locks.specs.States.{Queues, State, Lists, queue_at, slots_of, first_of, SetsAt, AreAlike, AreLinked}
 use Rattle.pc_table.specs.Rows.{Contents, slot_of as table_slot, in_slot, AreInSlots}
 use Rattle.pc_table.proofs.RowLaws.{placed, record_found}
-use Rattle.pc_records.specs.declared.slots.Cell.{Cell}
+use Rattle.pc_slots.specs.declared.cells.Cell.{Cell}
 use Rattle.pc_records.specs.Rows.{record_of, is_in_closed_set, requests_on}
 use Rattle.pc_records.specs.RowSteps.{rows_after, released_rows}
-use Rattle.pc_records.specs.Tables.{Pending, pending_after}
-use Rattle.pc_records.specs.Slots.{Slot, slot_with, slots_in, rows_of, pending_of, table_of, numbers_of, times, at_number, keeps_copy, granted_slot, tidied, AreSound, AreKept, IsSlotOf, IsNumbered}
+use Rattle.pc_slots.specs.Slots.{Pending, Slot, slot_with, keeps_copy, granted_slot}
+use Rattle.pc_records.specs.Tables.{pending_after}
+use Rattle.pc_records.specs.Slots.{slots_in, rows_of, pending_of, table_of, numbers_of, times, at_number, tidied, AreSound, AreKept, IsSlotOf, IsNumbered}
 use Rattle.pc_records.proofs.Queued.{set_at, set_is, alike_is}
 use Rattle.pc_records.proofs.SlotPlaces.{slot_of_key, number_place}
 use Rattle.pc_records.proofs.SlotReleasing.{stands_first, slot_there, kept_without, released_first}

@@ -8,10 +8,10 @@ use Rattle.pc_model.specs.Database.{KeysRise, key_cmp, same_bytes}
 use Rattle.pc_model.specs.Locks.{Queue, queue_without}
 use Rattle.pc_types.specs.Phases.{same_class}
 use Rattle.pc_locks.specs.States.{Queues, queue_at}
-use Rattle.pc_records.specs.declared.versions.Writer.{Writer}
+use Rattle.pc_slots.specs.declared.versions.Writer.{Writer}
 use Rattle.pc_records.specs.Rows.{is_kept}
-use Rattle.pc_records.specs.Tables.{Pending}
-use Rattle.pc_records.specs.Slots.{no_queues, Slot, committed, row_of, rows_of, pending_in, write_of, pending_of, is_locked, is_kept_slot, IsSound, AreSound, AreKept, taken_slot}
+use Rattle.pc_slots.specs.Slots.{Pending, Slot, committed, pending_in, write_of, is_locked, is_kept_slot, IsSound, taken_slot}
+use Rattle.pc_records.specs.Slots.{no_queues, row_of, rows_of, pending_of, AreSound, AreKept}
 use Rattle.pc_records.proofs.Queued.{set_at, queue_same, queue_other}
 use Rattle.pc_records.proofs.Exclusive.{kept_released}
 use Rattle.pc_records.proofs.Lookups.{slot_of, of_slot, find_entry, slot_at, all_found}

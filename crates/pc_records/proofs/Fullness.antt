@@ -7,7 +7,7 @@ use Rattle.pc_types.specs.declared.Refusal.TheVariants.{Full, OutOfMemory}
 use Rattle.pc_locks.specs.States.{Queues}
 use Rattle.pc_dirty.specs.declared.side.Side.{Side}
 use Rattle.pc_table.specs.Rows.{Row as TableRow, slot_of as table_slot}
-use Rattle.pc_records.specs.declared.slots.Cell.{Cell}
+use Rattle.pc_slots.specs.declared.cells.Cell.{Cell}
 use Rattle.pc_records.specs.RowSteps.{is_full_for}
 use Rattle.pc_records.specs.Slots.{slot_in, slots_in, row_of, rows_of}
 use Rattle.pc_records.proofs.TableSlots.{is_new_in}

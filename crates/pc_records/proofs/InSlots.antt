@@ -9,7 +9,7 @@ use Rattle.std.proofs.lemmas.Bool.{eqb-true, eq-eqb}
 use Rattle.pc_model.specs.Database.{key_cmp}
 use Rattle.pc_table.specs.Rows.{Row as TableRow, in_slot, with_record_in}
 use Rattle.pc_table.proofs.RowLaws.{no_row, same_some}
-use Rattle.pc_records.specs.declared.slots.Cell.{Cell}
+use Rattle.pc_slots.specs.declared.cells.Cell.{Cell}
 
 -- what the slot n has, in which the slot id has another record
 abbrev pub changed_in : ℕ → Cell → ℕ → Option (List ℕ × Cell) → Option (List ℕ × Cell)

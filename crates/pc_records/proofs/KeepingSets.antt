@@ -3,9 +3,9 @@ use Rattle.std.proofs.Common.{◌≡◌, ℕ, List, map, Option, Some, None, opt
 use Rattle.std.proofs.lemmas.Bool.{eqb-true}
 use Rattle.pc_table.specs.Rows.{Row as TableRow, Contents, in_slot, slot_of as table_slot, with_record_in, with_row, without_slot, IsNewSlot}
 use Rattle.pc_table.proofs.RowLaws.{same_some}
-use Rattle.pc_records.specs.declared.slots.Cell.{Cell}
-use Rattle.pc_records.specs.Words.{Word, words_of}
-use Rattle.pc_records.specs.Slots.{base_cell}
+use Rattle.pc_slots.specs.declared.cells.Cell.{Cell}
+use Rattle.pc_slots.specs.Words.{Word, words_of}
+use Rattle.pc_slots.specs.Slots.{base_cell}
 use Rattle.pc_records.specs.SetLists.{in_sets, KeepSets}
 use Rattle.pc_records.proofs.InSlots.{in_changed, in_put, in_left, cell_there}
 use Rattle.pc_records.proofs.TableSlots.{no_find}

@@ -1,7 +1,7 @@
 -- Tables of which all but the ends stays.
 use Rattle.std.proofs.Common.{ℕ, ◌∙◌}
 use Rattle.pc_table.specs.Rows.{Contents, HasRow}
-use Rattle.pc_records.specs.declared.slots.Cell.{Cell}
+use Rattle.pc_slots.specs.declared.cells.Cell.{Cell}
 use Rattle.pc_records.specs.Ends.{KeepSlots}
 
 -- a slot that has a row has it still

@@ -8,7 +8,7 @@ use Rattle.pc_dirty.specs.declared.dirty.Dirty.{Dirty}
 use Rattle.pc_dirty.specs.Sets.{other_side, AreSets, HasNoRepeats}
 use Rattle.pc_dirty.proofs.SetLaws.{closed_once, closed_have}
 use Rattle.pc_table.specs.Rows.{Row as TableRow, Contents, in_slot, slot_of as table_slot, HasRow, AreInSlots}
-use Rattle.pc_records.specs.declared.slots.Cell.{Cell}
+use Rattle.pc_slots.specs.declared.cells.Cell.{Cell}
 use Rattle.pc_records.specs.SetLists.{HasPlace, next_in, marked_in, key_in, keys_at, is_listed, AreLists, open_slots, closed_slots, IsListed, open_keys, closed_keys, KeepSets, IsUnmarked}
 use Rattle.pc_records.proofs.TableSlots.{row_in}
 use Rattle.pc_records.proofs.Listing.{named, open_keys_named, closed_keys_named, lists_keep, open_keys_keep, closed_keys_keep}

@@ -9,8 +9,8 @@ use Rattle.pc_dirty.specs.Sets.{other_side}
 use Rattle.pc_dirty.proofs.SetLaws.{sets_stay, opened_is, closed_is}
 use Rattle.pc_table.specs.Rows.{Row as TableRow, in_slot}
 use Rattle.pc_table.proofs.RowLaws.{no_row, same_some}
-use Rattle.pc_records.specs.declared.slots.Cell.{Cell}
-use Rattle.pc_records.specs.Words.{Word, link_at, words_of}
+use Rattle.pc_slots.specs.declared.cells.Cell.{Cell}
+use Rattle.pc_slots.specs.Words.{Word, link_at, words_of}
 use Rattle.pc_records.specs.SetLists.{HasPlace, link_in, next_in, marked_in, key_in, keys_at, is_listed, AreLists, open_slots, closed_slots, IsListed, open_keys, closed_keys, in_sets, KeepSets}
 
 -- what the sets have of two words, with the key

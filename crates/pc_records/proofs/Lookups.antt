@@ -12,10 +12,11 @@ use Rattle.pc_model.specs.Database.{KeysRise, key_cmp, key_order, same_bytes}
 use Rattle.pc_locks.specs.States.{Queues}
 use Rattle.pc_model.proofs.CountLaws.{and_both, below_apart}
 use Rattle.pc_model.proofs.JoinLaws.{one_key}
-use Rattle.pc_records.specs.declared.versions.Writer.{Writer}
+use Rattle.pc_slots.specs.declared.versions.Writer.{Writer}
 use Rattle.pc_records.specs.Rows.{Row, Record, record_of, stored}
 use Rattle.pc_records.specs.Tables.{read_of}
-use Rattle.pc_records.specs.Slots.{no_queues, Slot, committed_by, write_of, pending_in, pending_of, row_of, rows_of, with_entry, entries_of, at_key}
+use Rattle.pc_slots.specs.Slots.{Slot, committed_by, write_of, pending_in}
+use Rattle.pc_records.specs.Slots.{no_queues, pending_of, row_of, rows_of, with_entry, entries_of, at_key}
 use Rattle.pc_records.proofs.Tidying.{below_at}
 
 -- the slot of the key

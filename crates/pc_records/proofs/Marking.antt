@@ -9,9 +9,9 @@ use Rattle.pc_dirty.specs.Sets.{other_side, AreSets}
 use Rattle.pc_dirty.proofs.SetLaws.{sets_stay, opened_have, closed_have}
 use Rattle.pc_table.specs.Rows.{Row as TableRow, in_slot, with_record_in}
 use Rattle.pc_table.proofs.RowLaws.{same_some}
-use Rattle.pc_records.specs.declared.slots.Cell.{Cell}
-use Rattle.pc_records.specs.Words.{words_of, is_marked, with_mark, place_at, link_of, HaveLinks}
-use Rattle.pc_records.specs.Slots.{Slot, slot_with, is_held, is_kept_slot, taken_slot, aside_in}
+use Rattle.pc_slots.specs.declared.cells.Cell.{Cell}
+use Rattle.pc_slots.specs.Words.{words_of, is_marked, place_at, link_of, HaveLinks}
+use Rattle.pc_slots.specs.Slots.{Slot, slot_with, is_held, is_kept_slot, taken_slot, aside_in}
 use Rattle.pc_model.specs.Locks.{Queue}
 use Rattle.pc_records.specs.SetLists.{HasPlace, link_in, next_in, marked_in, key_in, KeepLinks, IsUnmarked}
 use Rattle.pc_records.proofs.InSlots.{changed_in, in_changed}
@@ -102,8 +102,3 @@ nothing_marked side queue id x e =
     by_side : (s : Side) → (is_marked s x || is_marked (other_side s) x) ≡ false → (x.first.is_in || x.second.is_in) ≡ false
     by_side First e = e
     by_side Second e = turned x.second.is_in x.first.is_in e
-
--- a slot that is marked on the side of the open set
-pub slot_marked : (side : Side) (number : ℕ) (key : List ℕ) (x : Cell) → slot_with side number key (with_mark side true x) ≡ record (slot_with side number key x) { is_in_open_set = true }
-slot_marked First number key x = refl
-slot_marked Second number key x = refl

@@ -7,12 +7,13 @@ use Rattle.pc_model.specs.Locks.{Queue}
 use Rattle.pc_model.specs.Replies.{is_empty}
 use Rattle.pc_types.specs.Phases.{same_class}
 use Rattle.pc_locks.specs.States.{Queues, queue_at}
-use Rattle.pc_records.specs.declared.versions.Stable.{Stable}
-use Rattle.pc_records.specs.declared.versions.Stable.TheVariants.{Empty, Held}
-use Rattle.pc_records.specs.declared.versions.Writer.{Writer}
+use Rattle.pc_slots.specs.declared.versions.Stable.{Stable}
+use Rattle.pc_slots.specs.declared.versions.Stable.TheVariants.{Empty, Held}
+use Rattle.pc_slots.specs.declared.versions.Writer.{Writer}
 use Rattle.pc_records.specs.Rows.{Row, is_kept}
 use Rattle.pc_records.specs.RowSteps.{closed_row}
-use Rattle.pc_records.specs.Slots.{Slot, committed, committed_by, version_or, pinned, pending_in, write_of, row_of, is_available, is_held, held_for, is_prepared, has_exclusive, is_locked, IsSound, is_kept_slot, new_slot, held_or, saved, first_put, put_beside, put_slot, settled_class, settled_from, settled, undone_from, undone, closed_slot, taken_slot}
+use Rattle.pc_slots.specs.Slots.{Slot, committed, committed_by, version_or, pinned, pending_in, write_of, is_available, is_held, held_for, is_prepared, has_exclusive, is_locked, IsSound, is_kept_slot, new_slot, held_or, saved, first_put, put_beside, put_slot, settled_class, settled_from, settled, undone_from, undone, closed_slot, taken_slot}
+use Rattle.pc_records.specs.Slots.{row_of}
 
 no : false ≡ true → ⊥
 no e = cc

@@ -13,10 +13,11 @@ use Rattle.pc_model.proofs.MapLaws.{find-without}
 use Rattle.pc_locks.specs.States.{Queues, queue_at, SetsAt}
 use Rattle.pc_table.specs.Rows.{Row as TableRow, Contents, slot_of as table_slot, with_row, without_slot, IsNewSlot, AreInSlots}
 use Rattle.pc_table.proofs.RowLaws.{same_rows, rise_put, rise_filtered, removed_key}
-use Rattle.pc_records.specs.declared.slots.Cell.{Cell}
+use Rattle.pc_slots.specs.declared.cells.Cell.{Cell}
 use Rattle.pc_records.specs.Rows.{record_of, requests_on}
 use Rattle.pc_records.specs.RowSteps.{rows_after}
-use Rattle.pc_records.specs.Slots.{Slot, slots_in, base_cell, new_slot, rows_of, pending_of, numbers_of, times, AreKept, AreSound, IsNewAt, IsFirstIn}
+use Rattle.pc_slots.specs.Slots.{Slot, base_cell, new_slot}
+use Rattle.pc_records.specs.Slots.{slots_in, rows_of, pending_of, numbers_of, times, AreKept, AreSound, IsNewAt, IsFirstIn}
 use Rattle.pc_records.proofs.Queued.{set_at, set_is}
 use Rattle.pc_records.proofs.BlankSlots.{blank_slot}
 use Rattle.pc_records.proofs.SlotPlaces.{place, gap_at}

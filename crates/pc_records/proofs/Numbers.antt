@@ -3,7 +3,8 @@ use Rattle.std.proofs.Common.{◌≡◌, ℕ, zero, suc, ◌+◌, ◌<◌, List,
 use Rattle.std.specs.Prelude.{insert}
 use Rattle.pc_locks.specs.States.{Queues}
 use Rattle.pc_records.specs.Rows.{Row}
-use Rattle.pc_records.specs.Slots.{Slot, row_of, rows_of, numbers_of, times}
+use Rattle.pc_slots.specs.Slots.{Slot}
+use Rattle.pc_records.specs.Slots.{row_of, rows_of, numbers_of, times}
 
 -- a slot that goes in
 pub rows-insert : (queues : Queues) (slots : List Slot) (i : ℕ) (x : Slot) → rows_of queues (insert slots i x) ≡ insert (rows_of queues slots) i (row_of queues x)

@@ -5,7 +5,8 @@ use Rattle.std.proofs.lemmas.Bool.{eqb-true, eqb-false, eq-eqb}
 use Rattle.pc_model.specs.Locks.{Queue}
 use Rattle.pc_locks.specs.States.{Queues, State, queue_at, SetsAt, AreAlike}
 use Rattle.pc_records.specs.Rows.{Row}
-use Rattle.pc_records.specs.Slots.{Slot, committed, pinned, row_of, rows_of, numbers_of, times}
+use Rattle.pc_slots.specs.Slots.{Slot, committed, pinned}
+use Rattle.pc_records.specs.Slots.{row_of, rows_of, numbers_of, times}
 
 -- the slot's row with this queue
 abbrev pub with_queue : Slot → Queue → Row

@@ -13,7 +13,8 @@ use Rattle.pc_model.proofs.PairMapLaws.{computes, tested}
 use Rattle.pc_locks.specs.States.{Queues, State, queue_at}
 use Rattle.pc_records.specs.Rows.{Row, record_of, requests_on}
 use Rattle.pc_records.specs.RowSteps.{with_requests, rows_after}
-use Rattle.pc_records.specs.Slots.{no_queues, Slot, new_slot, row_of, rows_of, numbers_of, times, AreKept, IsSlotOf, IsNewAt}
+use Rattle.pc_slots.specs.Slots.{Slot, new_slot}
+use Rattle.pc_records.specs.Slots.{no_queues, row_of, rows_of, numbers_of, times, AreKept, IsSlotOf, IsNewAt}
 use Rattle.pc_records.proofs.SlotRising.{rise_any}
 use Rattle.pc_records.proofs.SlotPlaces.{slot_found}
 use Rattle.pc_records.proofs.Numbers.{rows-insert}

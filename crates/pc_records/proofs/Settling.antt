@@ -12,11 +12,12 @@ use Rattle.pc_dirty.specs.declared.dirty.Dirty.{Dirty}
 use Rattle.pc_dirty.specs.Sets.{other_side, place_of, AreSets, HasNoRepeats}
 use Rattle.pc_dirty.proofs.SetLaws.{opened_once, opened_have}
 use Rattle.pc_table.specs.Rows.{Row as TableRow, Contents, in_slot, with_record_in, HasRow, AreInSlots}
-use Rattle.pc_records.specs.declared.slots.Cell.{Cell}
-use Rattle.pc_records.specs.declared.versions.Stable.TheVariants.{Empty}
-use Rattle.pc_records.specs.declared.versions.Writer.{Writer}
-use Rattle.pc_records.specs.Words.{is_marked, HaveLinks}
-use Rattle.pc_records.specs.Slots.{Slot, slot_with, slots_in, settled, settled_class, settled_from, writer_in}
+use Rattle.pc_slots.specs.declared.cells.Cell.{Cell}
+use Rattle.pc_slots.specs.declared.versions.Stable.TheVariants.{Empty}
+use Rattle.pc_slots.specs.declared.versions.Writer.{Writer}
+use Rattle.pc_slots.specs.Words.{is_marked, HaveLinks}
+use Rattle.pc_slots.specs.Slots.{Slot, slot_with, settled, settled_class, settled_from, writer_in}
+use Rattle.pc_records.specs.Slots.{slots_in}
 use Rattle.pc_records.specs.SetLists.{HasPlace, next_in, marked_in, key_in, keys_at, is_listed, AreLists, open_slots, closed_slots, IsListed, open_keys, closed_keys, entering, KeepSets, KeepRecords}
 use Rattle.pc_records.proofs.InSlots.{cell_there}
 use Rattle.pc_records.proofs.Unlinked.{slots_keep, marks_keep, key_keeps}

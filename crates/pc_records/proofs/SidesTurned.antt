@@ -9,10 +9,11 @@ use Rattle.pc_dirty.specs.declared.dirty.Dirty.{Dirty}
 use Rattle.pc_dirty.specs.Sets.{other_side, AreSets, AreEmpty}
 use Rattle.pc_dirty.proofs.SetLaws.{empty_sets}
 use Rattle.pc_table.specs.Rows.{Row as TableRow, in_slot}
-use Rattle.pc_records.specs.declared.slots.Cell.{Cell}
-use Rattle.pc_records.specs.Words.{is_marked}
+use Rattle.pc_slots.specs.declared.cells.Cell.{Cell}
+use Rattle.pc_slots.specs.Words.{is_marked}
 use Rattle.pc_records.specs.Rows.{record_of, is_in_closed_set}
-use Rattle.pc_records.specs.Slots.{Slot, slot_with, slots_in, slot_in, rows_of, closed_slot, AreKept, base_cell, base_row, cells_in, aside_in, writer_in}
+use Rattle.pc_slots.specs.Slots.{Slot, slot_with, closed_slot, base_cell, aside_in, writer_in}
+use Rattle.pc_records.specs.Slots.{slots_in, slot_in, rows_of, AreKept, base_row, cells_in}
 use Rattle.pc_records.specs.SetLists.{HasPlace, next_in, marked_in, keys_at, is_listed, AreLists, open_slots, closed_slots, IsListed, open_keys, closed_keys}
 use Rattle.pc_records.proofs.Lookups.{all_found, find_row, record_in}
 use Rattle.pc_records.proofs.Listing.{named, open_keys_named, closed_keys_named}

@@ -5,7 +5,8 @@ use Rattle.std.proofs.lemmas.Bool.Decides.{nat_tests}
 use Rattle.pc_model.specs.Database.{KeysRise}
 use Rattle.pc_model.specs.Locks.{Queue}
 use Rattle.pc_locks.specs.States.{Queues, queue_at}
-use Rattle.pc_records.specs.Slots.{no_queues, Slot, rows_of, numbers_of, times, AreKept}
+use Rattle.pc_slots.specs.Slots.{Slot}
+use Rattle.pc_records.specs.Slots.{no_queues, rows_of, numbers_of, times, AreKept}
 use Rattle.pc_records.proofs.SlotRising.{keys_of, rise_any, rise_same}
 use Rattle.pc_records.proofs.Numbers.{times-insert, times-removed}
 use Rattle.pc_records.proofs.Queued.{set_at, queue_other}

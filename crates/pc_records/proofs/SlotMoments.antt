@@ -11,13 +11,14 @@ use Rattle.pc_model.specs.Locks.{Queue}
 use Rattle.pc_types.specs.Phases.{same_class}
 use Rattle.pc_model.proofs.PlaceLaws.{rest_at}
 use Rattle.pc_locks.specs.States.{Queues, queue_at}
-use Rattle.pc_records.specs.declared.versions.Writer.{Writer}
+use Rattle.pc_slots.specs.declared.versions.Writer.{Writer}
 use Rattle.pc_table.specs.Rows.{Row as TableRow}
-use Rattle.pc_records.specs.declared.slots.Cell.{Cell}
+use Rattle.pc_slots.specs.declared.cells.Cell.{Cell}
 use Rattle.pc_records.specs.Rows.{Row, record_of, is_in_closed_set}
 use Rattle.pc_records.specs.RowSteps.{given, written_row, closed_row, committed_row}
-use Rattle.pc_records.specs.Tables.{Pending, value_of}
-use Rattle.pc_records.specs.Slots.{no_queues, Slot, row_of, rows_of, numbers_of, pending_in, write_of, pending_of, with_entry, entries_of, is_prepared, IsSound, AreSound, AreKept, at_key, at_writes, settled, undone, closed_slot, slot_with, slots_in, base_cell, cells_in, base_row, writer_in}
+use Rattle.pc_slots.specs.Slots.{Pending, Slot, pending_in, write_of, is_prepared, IsSound, settled, undone, closed_slot, slot_with, base_cell, writer_in}
+use Rattle.pc_records.specs.Tables.{value_of}
+use Rattle.pc_records.specs.Slots.{no_queues, row_of, rows_of, numbers_of, pending_of, with_entry, entries_of, AreSound, AreKept, at_key, at_writes, slots_in, cells_in, base_row}
 use Rattle.pc_records.proofs.BlankSlots.{blank_slot}
 use Rattle.pc_records.proofs.SlotRising.{keys_of, rise_same}
 use Rattle.pc_records.proofs.SlotKeeping.{kept_same}

@@ -13,7 +13,8 @@ use Rattle.pc_model.specs.Places.{IsBehind, IsGap}
 use Rattle.pc_model.proofs.PlaceLaws.{at_hit, behind_more}
 use Rattle.pc_model.proofs.JoinLaws.{one_key}
 use Rattle.pc_records.specs.Rows.{Row, record_of}
-use Rattle.pc_records.specs.Slots.{no_queues, Slot, row_of, rows_of, numbers_of, times, at_number, IsSlotOf, IsNewAt, IsNumbered}
+use Rattle.pc_slots.specs.Slots.{Slot}
+use Rattle.pc_records.specs.Slots.{no_queues, row_of, rows_of, numbers_of, times, at_number, IsSlotOf, IsNewAt, IsNumbered}
 use Rattle.pc_records.proofs.Queued.{times_at}
 
 pub length-rows : (queues : Queues) (slots : List Slot) → length (rows_of queues slots) ≡ length slots

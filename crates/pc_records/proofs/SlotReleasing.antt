@@ -8,7 +8,8 @@ use Rattle.pc_model.proofs.QueueLaws.{stands_granted}
 use Rattle.pc_locks.specs.States.{Queues, Lists, queue_at, slots_of, first_of, rest_of, is_listed, AreLinked}
 use Rattle.pc_records.specs.Rows.{Row, Record, is_kept}
 use Rattle.pc_records.specs.RowSteps.{if_kept, with_row, released, released_rows}
-use Rattle.pc_records.specs.Slots.{Slot, row_of, rows_of, numbers_of, times, AreKept, IsNumbered, tidied}
+use Rattle.pc_slots.specs.Slots.{Slot}
+use Rattle.pc_records.specs.Slots.{row_of, rows_of, numbers_of, times, AreKept, IsNumbered, tidied}
 use Rattle.pc_records.proofs.SlotPlaces.{length-rows}
 use Rattle.pc_records.proofs.Queued.{set_at, with_queue, rows-at, times_at}
 use Rattle.pc_records.proofs.Turning.{any_slot}

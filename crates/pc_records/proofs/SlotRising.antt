@@ -5,7 +5,8 @@ use Rattle.std.specs.FinMap.Entries.{below_all}
 use Rattle.std.specs.Ordering.{is_lt}
 use Rattle.pc_model.specs.Database.{key_cmp, KeysRise}
 use Rattle.pc_locks.specs.States.{Queues}
-use Rattle.pc_records.specs.Slots.{no_queues, Slot, rows_of, contents_of}
+use Rattle.pc_slots.specs.Slots.{Slot}
+use Rattle.pc_records.specs.Slots.{no_queues, rows_of, contents_of}
 
 -- the keys of the slots
 abbrev pub keys_of : List Slot → List (List ℕ)

@@ -7,7 +7,8 @@ use Rattle.pc_locks.specs.States as states
 use Rattle.pc_locks.specs.States.{Queues, Lists, queue_at, slots_of, AreLinked}
 use Rattle.pc_locks.proofs.StateLaws.{ready_at}
 use Rattle.pc_records.specs.RowSteps.{is_waiting}
-use Rattle.pc_records.specs.Slots.{Slot, rows_of, numbers_of, times, AreKept}
+use Rattle.pc_slots.specs.Slots.{Slot}
+use Rattle.pc_records.specs.Slots.{rows_of, numbers_of, times, AreKept}
 
 abbrev pub waits_in : ℕ → Queue → Bool
 waits_in t q = is_ungranted (request_in q t)

@@ -14,10 +14,11 @@ use Rattle.pc_model.proofs.JoinLaws.{one_key}
 use Rattle.pc_model.proofs.RisingLaws.{both, none_below, Rise}
 use Rattle.pc_table.specs.Rows.{Row as TableRow, Contents, slot_of as table_slot, in_slot, with_record_in, HasRow, AreInSlots}
 use Rattle.pc_table.proofs.RowLaws.{no_row, same_some, slot_found, one_place, placed, record_found}
-use Rattle.pc_records.specs.declared.slots.Cell.{Cell}
+use Rattle.pc_slots.specs.declared.cells.Cell.{Cell}
 use Rattle.pc_records.specs.Rows.{record_of, stored}
 use Rattle.pc_records.specs.Tables.{read_of}
-use Rattle.pc_records.specs.Slots.{no_queues, Slot, slot_with, slot_in, slots_in, pending_in, pending_of, rows_of, row_of, numbers_of, times, at_key, at_number, IsNumbered}
+use Rattle.pc_slots.specs.Slots.{Slot, slot_with, pending_in}
+use Rattle.pc_records.specs.Slots.{no_queues, slot_in, slots_in, pending_of, rows_of, row_of, numbers_of, times, at_key, at_number, IsNumbered}
 use Rattle.pc_records.proofs.Lookups.{slot_of, of_slot, same_self, find_row, find_entry, record_in, at_place}
 use Rattle.pc_records.proofs.Queued.{times_at}
 use Rattle.pc_records.proofs.SlotPlaces.{place, number_place, number_set}

@@ -7,10 +7,10 @@ use Rattle.pc_model.specs.Database.{key_cmp, same_bytes}
 use Rattle.pc_locks.specs.States.{Queues}
 use Rattle.pc_table.specs.Rows.{Contents, slot_of as table_slot, AreInSlots}
 use Rattle.pc_table.proofs.RowLaws.{placed}
-use Rattle.pc_records.specs.declared.slots.Cell.{Cell}
+use Rattle.pc_slots.specs.declared.cells.Cell.{Cell}
 use Rattle.pc_records.specs.RowSteps.{left_rows}
-use Rattle.pc_records.specs.Tables.{Pending}
-use Rattle.pc_records.specs.Slots.{Slot, slot_with, slots_in, rows_of, pending_of, at_number, taken_slot, tidied, AreKept, AreSound, IsNumbered}
+use Rattle.pc_slots.specs.Slots.{Pending, Slot, slot_with, taken_slot}
+use Rattle.pc_records.specs.Slots.{slots_in, rows_of, pending_of, at_number, tidied, AreKept, AreSound, IsNumbered}
 use Rattle.pc_records.proofs.SlotPlaces.{slot_of_key, number_set}
 use Rattle.pc_records.proofs.SlotMoments.{kept_map}
 use Rattle.pc_records.proofs.Tidying.{taken_there}

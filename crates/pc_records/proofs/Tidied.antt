@@ -8,9 +8,10 @@ use Rattle.pc_model.specs.Locks.{Queue}
 use Rattle.pc_locks.specs.States.{Queues, queue_at}
 use Rattle.pc_table.specs.Rows.{Row as TableRow, Contents, in_slot, without_slot, HasRow, AreInSlots}
 use Rattle.pc_table.proofs.RowLaws.{same_some}
-use Rattle.pc_records.specs.declared.slots.Cell.{Cell}
+use Rattle.pc_slots.specs.declared.cells.Cell.{Cell}
 use Rattle.pc_records.specs.Rows.{is_kept}
-use Rattle.pc_records.specs.Slots.{Slot, slot_with, slots_in, row_of, rows_of, pending_of, numbers_of, times, at_number, granted_slot, tidied, is_held, is_kept_slot, AreKept, AreSound, IsNumbered, aside_in}
+use Rattle.pc_slots.specs.Slots.{Slot, slot_with, granted_slot, is_held, is_kept_slot, aside_in}
+use Rattle.pc_records.specs.Slots.{slots_in, row_of, rows_of, pending_of, numbers_of, times, at_number, tidied, AreKept, AreSound, IsNumbered}
 use Rattle.pc_records.proofs.SlotPlaces.{number_place}
 use Rattle.pc_records.proofs.SlotMoments.{numbers_map, sound_removed}
 use Rattle.pc_records.proofs.Tidying.{slot_stays, slot_goes, keeps_without}
@@ -18,7 +19,7 @@ use Rattle.pc_records.proofs.Freeing.{kept_test, pending_freed}
 use Rattle.pc_records.proofs.TableSlots.{IsPlaced, numbered_at, row_in, number_has, has_number, once_in, slot_gone}
 use Rattle.pc_dirty.specs.declared.side.Side.{Side}
 use Rattle.pc_dirty.specs.Sets.{other_side}
-use Rattle.pc_records.specs.Words.{is_marked}
+use Rattle.pc_slots.specs.Words.{is_marked}
 
 -- what is behind none
 pub none_behind : {A B : Type 0} (f : A → B) (o : Option A) (s : Option B) → option_map f o ≡ s → is_some o ≡ false → s ≡ None

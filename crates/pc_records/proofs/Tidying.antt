@@ -18,7 +18,8 @@ use Rattle.pc_model.proofs.JoinLaws.{one_key}
 use Rattle.pc_locks.specs.States.{Queues, queue_at}
 use Rattle.pc_records.specs.Rows.{Row, Record, record_of, is_kept}
 use Rattle.pc_records.specs.RowSteps.{if_kept, with_row, left_of, with_left, left_rows}
-use Rattle.pc_records.specs.Slots.{no_queues, Slot, committed, row_of, rows_of, AreKept, IsSlotOf, tidied, taken_slot}
+use Rattle.pc_slots.specs.Slots.{Slot, committed, taken_slot}
+use Rattle.pc_records.specs.Slots.{no_queues, row_of, rows_of, AreKept, IsSlotOf, tidied}
 use Rattle.pc_records.proofs.SlotRising.{rise_any}
 use Rattle.pc_records.proofs.SlotPlaces.{length-rows}
 use Rattle.pc_records.proofs.SlotKeeping.{kept_removed}

@@ -6,11 +6,12 @@ use Rattle.pc_dirty.specs.declared.side.Side.{Side}
 use Rattle.pc_dirty.specs.declared.side.Side.TheVariants.{First, Second}
 use Rattle.pc_table.specs.Rows.{Row as TableRow, Contents, in_slot, with_record_in, AreInSlots}
 use Rattle.pc_table.proofs.RowLaws.{same_some}
-use Rattle.pc_records.specs.declared.slots.Cell.{Cell}
-use Rattle.pc_records.specs.Words.{link_of, with_link, unlinked}
+use Rattle.pc_slots.specs.declared.cells.Cell.{Cell}
+use Rattle.pc_slots.specs.Words.{link_of, with_link, unlinked}
 use Rattle.pc_records.specs.SetLists.{HasPlace, link_in, next_in, marked_in, key_in, unlinked_row, KeepRecords}
 use Rattle.pc_records.specs.Ends.{ends_of, ends_in}
-use Rattle.pc_records.specs.Slots.{Slot, slot_in, slots_in, numbers_of, times}
+use Rattle.pc_slots.specs.Slots.{Slot}
+use Rattle.pc_records.specs.Slots.{slot_in, slots_in, numbers_of, times}
 use Rattle.pc_records.proofs.InSlots.{changed_in, in_changed, cell_there}
 use Rattle.pc_records.proofs.TableSlots.{once_in}
 

@@ -10,9 +10,10 @@ use Rattle.pc_locks.specs.States.{Queues}
 use Rattle.pc_dirty.specs.declared.side.Side.{Side}
 use Rattle.pc_dirty.specs.declared.dirty.Dirty.{Dirty}
 use Rattle.pc_table.specs.Rows.{Contents}
-use Rattle.pc_records.specs.declared.slots.Cell.{Cell}
+use Rattle.pc_slots.specs.declared.cells.Cell.{Cell}
 use Rattle.pc_records.specs.Rows.{Row}
-use Rattle.pc_records.specs.Tables.{Pending, Table, pending_after}
+use Rattle.pc_slots.specs.Slots.{Pending}
+use Rattle.pc_records.specs.Tables.{Table, pending_after}
 use Rattle.pc_records.specs.Slots.{slots_in, rows_of, pending_of, table_of}
 use Rattle.pc_records.specs.SetLists.{IsListed, open_keys, closed_keys, KeepSets}
 use Rattle.pc_records.proofs.Listing.{kept_open, kept_closed}

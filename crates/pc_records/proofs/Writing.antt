@@ -9,10 +9,11 @@ use Rattle.pc_types.specs.declared.Outcome.{Outcome}
 use Rattle.pc_types.specs.declared.Outcome.TheVariants.{Granted, Queued, Died}
 use Rattle.pc_model.proofs.JoinLaws.{one_key}
 use Rattle.pc_locks.specs.States.{Queues, queue_at}
-use Rattle.pc_records.specs.declared.versions.Writer.{Writer}
+use Rattle.pc_slots.specs.declared.versions.Writer.{Writer}
 use Rattle.pc_records.specs.Rows.{Row}
 use Rattle.pc_records.specs.Tables.{pending_after}
-use Rattle.pc_records.specs.Slots.{no_queues, Slot, row_of, rows_of, numbers_of, pending_in, pending_of, table_of, has_exclusive, IsSound, AreSound, AreKept, put_slot, granted_slot, at_key}
+use Rattle.pc_slots.specs.Slots.{Slot, pending_in, has_exclusive, IsSound, put_slot, granted_slot}
+use Rattle.pc_records.specs.Slots.{no_queues, row_of, rows_of, numbers_of, pending_of, table_of, AreSound, AreKept, at_key}
 use Rattle.pc_records.proofs.SlotRising.{keys_of}
 use Rattle.pc_records.proofs.SlotKeeping.{kept_same}
 use Rattle.pc_records.proofs.Lookups.{slot_of, of_slot, find_entry, slot_map, slot_at, at_place, key_found}

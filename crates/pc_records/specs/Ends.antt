@@ -6,10 +6,10 @@ use Rattle.pc_locks.specs.States.{Queues}
 use Rattle.pc_locks.specs.Keepers as keepers
 use Rattle.pc_dirty.specs.declared.side.Side.{Side}
 use Rattle.pc_table.specs.Rows.{Row as TableRow, Contents, in_slot}
-use Rattle.pc_records.specs.declared.slots.Cell.{Cell}
+use Rattle.pc_slots.specs.declared.cells.Cell.{Cell}
 use Rattle.pc_records.specs.Slots.{slots_in}
 use Rattle.pc_records.specs.SetLists.{KeepSets}
-use Rattle.pc_records.specs.Words.{chain_in}
+use Rattle.pc_slots.specs.Words.{chain_in}
 
 -- the ends in a slot; those of an empty queue where it has no row
 abbrev pub ends_of : Option (List ℕ × Cell) → Chain ℕ

@@ -2,7 +2,6 @@ pub mod Rows
 pub mod Following
 pub mod NewKeys
 pub mod Tables
-pub mod Words
 pub mod Slots
 pub mod SetLists
 pub mod Ends

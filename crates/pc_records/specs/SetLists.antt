@@ -10,10 +10,11 @@ use Rattle.pc_dirty.specs.declared.dirty.Dirty.{Dirty}
 use Rattle.pc_dirty.specs.Sets.{other_side, AreSets, opened_of, closed_of}
 use Rattle.pc_locks.specs.States.{Queues}
 use Rattle.pc_table.specs.Rows.{Row as TableRow, Contents, in_slot, HasRow}
-use Rattle.pc_records.specs.declared.slots.Cell.{Cell}
+use Rattle.pc_slots.specs.declared.cells.Cell.{Cell}
 use Rattle.pc_records.specs.RowSteps.{left_rows}
-use Rattle.pc_records.specs.Slots.{slots_in, rows_of, writer_in}
-use Rattle.pc_records.specs.Words.{Word, words_of, is_marked, link_of, unlinked}
+use Rattle.pc_slots.specs.Slots.{writer_in}
+use Rattle.pc_records.specs.Slots.{slots_in, rows_of}
+use Rattle.pc_slots.specs.Words.{Word, words_of, is_marked, link_of, unlinked}
 
 -- the slot has a row, and so a link on each side
 abbrev pub HasPlace : List (TableRow Cell) → Place → Type 0

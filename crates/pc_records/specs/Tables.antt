@@ -3,19 +3,13 @@
 use Rattle.std.specs.Prelude.{◌≡◌, ℕ, List, [], ◌∷◌, Option, Some, None, is_some, option_copied, if◌then◌else◌, MatchOption}
 use Rattle.std.specs.FinMap.{find}
 use denote.Ref.{Bor}
-use Rattle.pc_types.specs.declared.Class.{Class}
 use Rattle.pc_types.specs.declared.Write.{Write}
 use Rattle.pc_model.specs.Database.{key_cmp, same_bytes, written}
 use Rattle.pc_types.specs.declared.Outcome.{Outcome}
 use Rattle.pc_types.specs.declared.Outcome.TheVariants.{Granted, Queued, Died}
 use Rattle.pc_model.specs.Points.{is_among}
+use Rattle.pc_slots.specs.Slots.{Pending}
 use Rattle.pc_records.specs.Rows.{Row, Kept, record_of, stored, is_in_open_set, is_in_closed_set, at_point}
-
--- what an open transaction has put in a key's place: its number and its class, and what it wrote last, a value or absence
-pub record Pending : Type 0 where
-  pub by : ℕ
-  pub class : Class
-  pub value : Option (List ℕ)
 
 -- the records: the rows, the writes of open transactions, rising by key, the point of the last closed set, and the keys of the
 -- open set and of the closed one, each in the order in which they came into it

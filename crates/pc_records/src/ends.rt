@@ -1,44 +1,10 @@
 //! The slots of a table as the keeper of the ends of their queues.
-ghost use Rattle.std.specs.Prelude.{◌≡◌, ◌≢◌, ℕ};
-ghost use Rattle.pc_chain.specs.declared.chain.Chain.{Chain};
-ghost use Rattle.pc_table.specs.Rows.{HasRow};
-ghost use Rattle.pc_records.specs.Ends.{ends_in, KeepSlots};
-ghost use Rattle.pc_records.specs.Words.{end_at, chain_in, with_ends};
 
-use crate::slots::Cell;
 use pc_chain::Chain;
 use pc_locks::QueueEnds;
+use pc_slots::{Cell, chain_in, put_ends};
 use pc_table::Table;
 use pc_types::SlotId;
-
-// The end, where there is one.
-fn end_at(has_end: bool, end: usize) -> Option<usize>
-    ensures { result ≡ end_at has_end end }
-{
-    if has_end { Some(end) } else { None }
-}
-
-// The ends of the cell's queue.
-fn chain_in(cell: &Cell) -> Chain<usize>
-    ensures { result ≡ chain_in cell.now }
-{
-    Chain::of_ends(
-        end_at(cell.has_first, cell.first_request),
-        end_at(cell.has_last, cell.last_request),
-    )
-}
-
-// Sets the ends of the cell's queue, and nothing else.
-fn put_ends(cell: &mut Cell, ends: Chain<usize>)
-    ensures chain { chain_in cell.new ≡ ends }
-    ensures rest { cell.new ≡ with_ends cell.new cell.old }
-{
-    let (first, last) = ends.ends();
-    cell.has_first = first.is_some();
-    cell.has_last = last.is_some();
-    cell.first_request = first.unwrap_or(0);
-    cell.last_request = last.unwrap_or(0);
-}
 
 /// Marks the ends in each slot.
 pub(crate) struct ByEnds;

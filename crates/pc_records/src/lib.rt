@@ -8,7 +8,5 @@ mod records;
 mod slots;
 #[cfg(test)]
 mod tests;
-mod versions;
-mod words;
 
 pub use records::{Answer, Reading, Records};

@@ -17,14 +17,15 @@ ghost use Rattle.pc_records.specs.NewKeys.{new_keys};
 ghost use Rattle.pc_records.specs.SetLists.{KeepSets, IsListed, IsTaken, open_keys, closed_keys};
 ghost use Rattle.pc_records.specs.Ends.{ends_in, queues_in};
 ghost use Rattle.pc_records.specs.RowSteps.{is_full_for, is_waiting, rows_after, released_rows, written_row, closed_row, left_rows, committed_row};
-ghost use Rattle.pc_records.specs.Tables.{Pending, kept_of, read_of, pending_at, value_of, latest, IsClearFor, pending_after, pending_without, AreListed, first_content, content_behind};
+ghost use Rattle.pc_slots.specs.Slots.{Pending};
+ghost use Rattle.pc_records.specs.Tables.{kept_of, read_of, pending_at, value_of, latest, IsClearFor, pending_after, pending_without, AreListed, first_content, content_behind};
 ghost use Rattle.pc_records.specs.Slots.{slots_in, rows_of, pending_of, table_of, AreKept, AreSound, IsFirstIn};
 ghost use Rattle.pc_table.specs.Rows.{slot_of, HasRow};
 
-use crate::slots::Cell;
-use crate::{slots, versions};
+use crate::slots;
 use pc_dirty::{Dirty, Side};
 use pc_locks::Locks;
+use pc_slots::Cell;
 use pc_table::Table;
 use pc_types::{
     Class, Key, MOST_KEYS, Mode, Outcome, Point, Refusal, SlotId, TxnNo, Value, Write, copy_content,
@@ -257,7 +258,7 @@ impl Records {
         match self.sets.first_closed(&self.table) {
             Some(id) => {
                 let side = self.sets.open_side();
-                let pinned = versions::pinned_of(self.table.get(id), side);
+                let pinned = pc_slots::pinned_of(self.table.get(id), side);
                 Some((self.table.key(id), pinned))
             }
             None => None,
@@ -358,8 +359,8 @@ fn write(
     let mode = Mode::Exclusive;
     match table.find(key) {
         Some(id) => {
-            let room = versions::room(alloc)?;
-            let copy = versions::copy_to_keep(alloc, table.get(id), side, point, class)?;
+            let room = pc_slots::room(alloc)?;
+            let copy = pc_slots::copy_to_keep(alloc, table.get(id), side, point, class)?;
             let outcome = locks.request(table, transaction, id, mode)?;
             slots::put_granted(
                 table,

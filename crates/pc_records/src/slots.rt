@@ -1,9 +1,8 @@
 //! Slots: what the table's rows have, each with its number and its key. The requests of a slot are those of the locks' queue
 //! at its number, whose ends the slot keeps.
-ghost use Rattle.std.specs.Prelude.{◌≡◌, ◌==◌, ◌≤◌, ◌++◌, not, [], false, map, length, IfOk, IfErr, OnOk, OnErr, None, Some, Ok, is_none, if◌then◌else◌, option_map, List, ℕ};
+ghost use Rattle.std.specs.Prelude.{◌≡◌, ◌==◌, ◌≤◌, ◌++◌, [], false, map, length, IfOk, IfErr, OnOk, OnErr, None, Some, Ok, is_none, if◌then◌else◌, List, ℕ};
 ghost use Rattle.pc_model.specs.Maps.{get};
 ghost use Rattle.pc_model.specs.Database.{KeysRise, database_of};
-ghost use Rattle.pc_model.specs.Locks.{Queue};
 ghost use Rattle.pc_locks.specs.States.{Queues};
 ghost use Rattle.pc_locks.specs.Keepers.{AreEnds};
 ghost use Rattle.pc_table.specs.Rows.{slot_of, in_slot, HasRow, IsNewSlot, AreInSlots, with_row, with_record};
@@ -13,95 +12,17 @@ ghost use Rattle.pc_records.specs.Rows.{record_of, stored};
 ghost use Rattle.pc_model.specs.DistinctWrites.{AreDistinct};
 ghost use Rattle.pc_records.specs.Ends.{ends_in, queues_in};
 ghost use Rattle.pc_records.specs.SetLists.{KeepSets, IsUnmarked, IsListed, open_keys, closed_keys, entering, entering_key, entering_keys};
-ghost use Rattle.pc_records.specs.Slots.{slot_with, nothing_aside, slots_in, with_entry, content_in, base_cell, cells_in, base_row, contents_of, rows_of, pending_of, AreKept, AreSound, is_kept_slot, IsNumbered, tidied, put_slot, granted_slot, settled, undone, at_key, at_number, at_writes, taken_slot};
+ghost use Rattle.pc_slots.specs.Slots.{nothing_aside, base_cell, put_slot, granted_slot, settled, undone, taken_slot};
+ghost use Rattle.pc_records.specs.Slots.{slots_in, with_entry, content_in, cells_in, base_row, contents_of, rows_of, pending_of, AreKept, AreSound, IsNumbered, tidied, at_key, at_number, at_writes};
 
-use crate::versions;
-use crate::versions::Aside;
-use crate::words::Mark;
 use pc_dirty::{Dirty, Side};
 use pc_locks::Locks;
 use pc_replay::first_of_each;
-use pc_table::{Blank, Table};
+use pc_slots::{Aside, Cell, cell_with};
+use pc_table::Table;
 use pc_types::{Class, Key, MOST_KEYS, Outcome, Point, Refusal, SlotId, TxnNo, Value, Write};
 use std::alloc::{AllocError, Global};
 use std::hash::RandomState;
-
-/// What is kept of a key, but its requests.
-#[derive(Drop)]
-pub(crate) struct Cell {
-    /// What stands in the key's place, a value or absence: what an open transaction has written last, or else what is
-    /// committed.
-    pub(crate) live: Option<Value>,
-    /// What an open transaction or a point needs beside that; none while nothing does.
-    pub(crate) aside: Option<Box<Aside>>,
-    /// The slots that the links of the two sides lead to, where they lead to one. From here on small fields stand side by side,
-    /// so that all of them and the ends of the queue take 32 bytes.
-    pub(crate) first_next: SlotId,
-    pub(crate) second_next: SlotId,
-    /// What else the slot has on each side.
-    pub(crate) first: Mark,
-    pub(crate) second: Mark,
-    /// Whether the queue of the slot's requests has a first and a last one, and which they are then.
-    pub(crate) has_first: bool,
-    pub(crate) has_last: bool,
-    pub(crate) first_request: usize,
-    pub(crate) last_request: usize,
-}
-
-impl Cell {
-    ghost use Rattle.std.specs.Prelude.{◌≡◌};
-    ghost use Rattle.pc_records.specs.Words.{is_marked, with_mark};
-
-    /// Whether the slot is in the set on the side: in the open set, where a commit since the last resolve token, or since the
-    /// start, wrote its key; in the closed set, where its key is of the point, and not taken yet.
-    pub(crate) fn is_in(&self, side: Side) -> bool
-        ensures { result ≡ is_marked side self.now }
-    {
-        match side {
-            Side::First => self.first.is_in,
-            Side::Second => self.second.is_in,
-        }
-    }
-
-    /// Marks whether the slot is in the set on the side.
-    pub(crate) fn put_mark(&mut self, side: Side, is_in: bool)
-        ensures { self.new ≡ with_mark side is_in self.old }
-    {
-        match side {
-            Side::First => self.first.is_in = is_in,
-            Side::Second => self.second.is_in = is_in,
-        }
-    }
-}
-
-impl Blank for Cell {
-    ghost use Rattle.std.specs.Prelude.{None};
-    ghost use Rattle.pc_records.specs.Slots.{base_cell};
-
-    ghost blank = { base_cell None };
-
-    fn blank() -> Cell {
-        cell_with(None)
-    }
-}
-
-// What is kept of a key that has this committed, a value or absence, and nothing else.
-fn cell_with(content: Option<Value>) -> Cell
-    ensures { result ≡ base_cell content }
-{
-    Cell {
-        live: content,
-        aside: None,
-        first_next: SlotId(0),
-        second_next: SlotId(0),
-        first: Mark::blank(),
-        second: Mark::blank(),
-        has_first: false,
-        has_last: false,
-        first_request: 0,
-        last_request: 0,
-    }
-}
 
 // A table with a slot for each pair.
 pub(crate) fn table_of(
@@ -222,7 +143,7 @@ fn push_content(
 {
     if let Some((key, cell)) = table.get_if_taken(id) {
         let key = key.copy(alloc)?;
-        let content = versions::committed_copy(alloc, cell)?;
+        let content = pc_slots::committed_copy(alloc, cell)?;
         contents.push((key, content))?;
     }
     Ok(())
@@ -238,7 +159,7 @@ pub(crate) fn mark_taken(table: &mut Table<Cell>, side: Side, id: SlotId)
     ensures capacity { table.new.capacity ≡ table.old.capacity }
     ensures ends { ends_in table.new.rows ≡ ends_in table.old.rows }
 {
-    versions::take(table.get_mut(id), side);
+    pc_slots::take(table.get_mut(id), side);
 }
 
 // Room for what a slot that is still to be made keeps aside; it is refused with `Full` where there is no free slot, and else
@@ -247,7 +168,7 @@ pub(crate) fn room_in(alloc: Global, table: &Table<Cell>) -> Result<Box<Aside>, 
     ensures room { IfOk result (λ room. room.value ≡ nothing_aside) }
     ensures refusal { IfErr result (λ e. e ≡ (if length table.now.rows == table.now.capacity then Refusal.Full else Refusal.OutOfMemory)) }
 {
-    match versions::room(alloc) {
+    match pc_slots::room(alloc) {
         Ok(room) => Ok(room),
         Err(_) => {
             if table.is_full() {
@@ -279,7 +200,7 @@ pub(crate) fn put_at(
     ensures ends { ends_in table.new.rows ≡ ends_in table.old.rows }
     ensures sets { KeepSets table.old.rows table.new.rows }
 {
-    versions::put(
+    pc_slots::put(
         table.get_mut(id),
         side,
         point,
@@ -340,7 +261,7 @@ fn settle_slot(table: &mut Table<Cell>, sets: &mut Dirty, id: SlotId, point: Poi
     ensures closed { closed_keys table.new.rows sets.new ≡ closed_keys table.old.rows sets.old }
 {
     let side = sets.open_side();
-    let is_new = versions::settle(table.get_mut(id), side, point);
+    let is_new = pc_slots::settle(table.get_mut(id), side, point);
     if is_new {
         sets.add(table, id);
     }
@@ -406,7 +327,7 @@ fn undo_slot(table: &mut Table<Cell>, side: Side, id: SlotId, point: Point)
     ensures ends { ends_in table.new.rows ≡ ends_in table.old.rows }
     ensures sets { KeepSets table.old.rows table.new.rows }
 {
-    versions::undo(table.get_mut(id), side, point);
+    pc_slots::undo(table.get_mut(id), side, point);
 }
 
 // The write that stands in the key's place is undone; the key is looked for near the slot first.
@@ -446,17 +367,6 @@ pub(crate) fn undo_all(
     }
 }
 
-// Whether something keeps the slot: a value, a version, a request, or one of the two sets.
-fn is_kept(slot: &Cell, side: Side, is_requested: bool) -> bool
-    ensures { (id : ℕ) (queue : Queue) → is_requested ≡ not (length queue == 0) → result ≡ is_kept_slot queue (slot_with side id [] slot.now) }
-{
-    slot.live.is_some()
-        || versions::has_version(slot)
-        || is_requested
-        || slot.is_in(side)
-        || slot.is_in(side.other())
-}
-
 // The slot is free where nothing keeps it.
 pub(crate) fn tidy(table: &mut Table<Cell>, locks: &Locks, side: Side, point: Point, id: SlotId)
     requires row { HasRow table.old.rows id }
@@ -473,7 +383,7 @@ pub(crate) fn tidy(table: &mut Table<Cell>, locks: &Locks, side: Side, point: Po
     ensures sets { KeepSets table.old.rows table.new.rows }
 {
     let is_requested = locks.has_request(table, id);
-    if !is_kept(table.get(id), side, is_requested) {
+    if !pc_slots::is_kept(table.get(id), side, is_requested) {
         drop(table.remove(id));
     }
 }

@@ -6,7 +6,8 @@ use Rattle.pc_types.specs.declared.Mode.TheVariants.{Shared}
 use Rattle.pc_locks.specs.Keepers.{state_of, lists_of}
 use Rattle.pc_locks.proofs.StateLaws.{ready_at}
 use Rattle.pc_records.specs.Ends.{ends_in, queues_in}
-use Rattle.pc_records.specs.Slots.{slots_in, slot_with, pending_of}
+use Rattle.pc_slots.specs.Slots.{slot_with}
+use Rattle.pc_records.specs.Slots.{slots_in, pending_of}
 use Rattle.pc_records.proofs.Found.{some_cell, asked_told, asked_rows, asked_kept, asked_sound, asked_clear}
 use Rattle.pc_records.proofs.Lookups.{latest_in}
 use Rattle.pc_records.proofs.TableSlots.{no_slot_in, slots_rise, cell_found, latest_of_none}

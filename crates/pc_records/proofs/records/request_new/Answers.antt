@@ -4,10 +4,11 @@ use Rattle.pc_chain.specs.declared.chain.Chain.{Chain}
 use Rattle.pc_locks.specs.States.{State, Queues, is_waiting}
 use Rattle.pc_locks.specs.Keepers.{state_of, queues_of, AreEnds}
 use Rattle.pc_table.specs.Rows.{Contents, slot_of as table_slot}
-use Rattle.pc_records.specs.declared.slots.Cell.{Cell}
+use Rattle.pc_slots.specs.declared.cells.Cell.{Cell}
 use Rattle.pc_records.specs.Ends.{ends_in, queues_in}
 use Rattle.pc_records.specs.SetLists.{KeepSets}
-use Rattle.pc_records.specs.Slots.{slots_in, rows_of, pending_of, base_cell, AreKept, AreSound}
+use Rattle.pc_slots.specs.Slots.{base_cell}
+use Rattle.pc_records.specs.Slots.{slots_in, rows_of, pending_of, AreKept, AreSound}
 use Rattle.pc_records.proofs.EndsKept.{ends_with, sound_with}
 use Rattle.pc_records.proofs.Fullness.{full_new, refused_new, ran_out}
 use Rattle.pc_records.proofs.KeepingSlots.{row_stays_in}

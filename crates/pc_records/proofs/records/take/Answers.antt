@@ -4,7 +4,8 @@ use Rattle.pc_chain.specs.declared.chain.Chain.{Chain}
 use Rattle.pc_locks.specs.States.{Queues}
 use Rattle.pc_locks.specs.Keepers.{queues_of, AreEnds}
 use Rattle.pc_records.specs.Ends.{queues_in}
-use Rattle.pc_records.specs.Slots.{slots_in, rows_of, pending_of, at_number, taken_slot, tidied, IsNumbered, AreKept, AreSound}
+use Rattle.pc_slots.specs.Slots.{taken_slot}
+use Rattle.pc_records.specs.Slots.{slots_in, rows_of, pending_of, at_number, tidied, IsNumbered, AreKept, AreSound}
 use Rattle.pc_records.specs.SetLists.{IsUnmarked, open_slots, closed_slots}
 use Rattle.pc_records.proofs.Taken.{marked_kept, marked_sound, marked_pending, marked_rows}
 use Rattle.pc_records.proofs.Leaving.{none_taken, first_row, first_slot, left_listed, left_open, left_closed}

@@ -1,5 +1,5 @@
 use Rattle.std.proofs.Common.{refl}
-use Rattle.pc_records.specs.Slots.{taken_slot}
+use Rattle.pc_slots.specs.Slots.{taken_slot}
 use Rattle.pc_records.proofs.TableSlots.{changed_slots}
 use Rattle.pc_records.proofs.Marking.{unmarked}
 use Rattle.pc_records.proofs.Tidied.{row_stays}

@@ -1,6 +1,7 @@
 use Rattle.std.proofs.Common.{◌≡◌, ◌++◌, map, ◌∙◌, subst}
 use Rattle.pc_dirty.specs.declared.side.Side.{Side}
-use Rattle.pc_records.specs.Slots.{slots_in, at_key, settled}
+use Rattle.pc_slots.specs.Slots.{settled}
+use Rattle.pc_records.specs.Slots.{slots_in, at_key}
 use Rattle.pc_records.specs.SetLists.{open_keys, entering_key, entering_keys}
 use Rattle.pc_records.proofs.Moments.{settled_key, settled_again}
 use Rattle.pc_records.proofs.SlotMoments.{writes_next, writes_done}

@@ -1,5 +1,6 @@
 use Rattle.std.proofs.Common.{◌≡◌, ◌++◌, map, drop}
-use Rattle.pc_records.specs.Slots.{slots_in, at_writes, settled}
+use Rattle.pc_slots.specs.Slots.{settled}
+use Rattle.pc_records.specs.Slots.{slots_in, at_writes}
 use Rattle.pc_records.specs.Ends.{ends_in}
 use Rattle.pc_records.specs.SetLists.{IsListed, open_keys, closed_keys, entering_keys}
 use Rattle.pc_records.proofs.slots.settle_all.Given as goal

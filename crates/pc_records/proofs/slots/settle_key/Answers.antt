@@ -1,5 +1,6 @@
 use Rattle.std.proofs.Common.{◌∙◌, ◌++◌, append-nil, sym, ap}
-use Rattle.pc_records.specs.Slots.{slots_in, settled}
+use Rattle.pc_slots.specs.Slots.{settled}
+use Rattle.pc_records.specs.Slots.{slots_in}
 use Rattle.pc_records.proofs.Lookups.{at_none}
 use Rattle.pc_records.proofs.TableSlots.{no_slot_in, number_key}
 use Rattle.pc_records.specs.SetLists.{open_keys}

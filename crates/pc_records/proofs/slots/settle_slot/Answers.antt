@@ -1,7 +1,7 @@
 use Rattle.std.proofs.Common.{◌≡◌, ℕ, List, is_some, not, ◌&&◌, sym, ◌∙◌, subst}
 use Rattle.pc_dirty.specs.declared.side.Side.{Side}
-use Rattle.pc_records.specs.Words.{is_marked}
-use Rattle.pc_records.specs.Slots.{slot_with, settled, writer_in}
+use Rattle.pc_slots.specs.Words.{is_marked}
+use Rattle.pc_slots.specs.Slots.{slot_with, settled, writer_in}
 use Rattle.pc_records.specs.SetLists.{open_slots, closed_slots}
 use Rattle.pc_records.proofs.TableSlots.{changed_slots}
 use Rattle.pc_records.proofs.Settling.{linked_after, avoids, fits, has_after, stays_listed, stays_open, stays_closed, goes_listed, goes_open, goes_closed, goes_slots}

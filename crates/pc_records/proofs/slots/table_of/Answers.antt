@@ -1,6 +1,6 @@
 use Rattle.std.proofs.Common.{ap, ◌∙◌}
 use Rattle.pc_table.specs.Rows.{Contents}
-use Rattle.pc_records.specs.declared.slots.Cell.{Cell}
+use Rattle.pc_slots.specs.declared.cells.Cell.{Cell}
 use Rattle.pc_records.proofs.FirstSlots.{pair_new, pairs_next}
 use Rattle.pc_records.proofs.slots.table_of.Goals as goal
 

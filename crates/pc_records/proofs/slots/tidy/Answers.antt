@@ -1,6 +1,7 @@
 use Rattle.std.proofs.Common.{◌≡◌, ◌∙◌, [], sym, ap, subst, false}
 use Rattle.pc_locks.specs.States.{Queues, queue_at}
-use Rattle.pc_records.specs.Slots.{slots_in, slot_with, rows_of, is_kept_slot, AreKept, AreSound}
+use Rattle.pc_slots.specs.Slots.{slot_with, is_kept_slot}
+use Rattle.pc_records.specs.Slots.{slots_in, rows_of, AreKept, AreSound}
 use Rattle.pc_records.specs.Ends.{queues_in}
 use Rattle.pc_records.proofs.Tidied.{stays, rows_gone, pending_gone, kept_gone, sound_gone, queue_gone}
 use Rattle.pc_records.proofs.EndsKept.{ends_left, queues_left}

@@ -1,5 +1,6 @@
 use Rattle.std.proofs.Common.{◌∙◌}
-use Rattle.pc_records.specs.Slots.{slots_in, undone}
+use Rattle.pc_slots.specs.Slots.{undone}
+use Rattle.pc_records.specs.Slots.{slots_in}
 use Rattle.pc_records.proofs.Moments.{undone_key, undone_again}
 use Rattle.pc_records.proofs.SlotMoments.{writes_next, writes_done}
 use Rattle.pc_records.proofs.KeepingSets.{sets_then}

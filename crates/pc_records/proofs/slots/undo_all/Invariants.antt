@@ -1,5 +1,6 @@
 use Rattle.std.proofs.Common.{◌≡◌, map, drop}
-use Rattle.pc_records.specs.Slots.{slots_in, at_writes, undone}
+use Rattle.pc_slots.specs.Slots.{undone}
+use Rattle.pc_records.specs.Slots.{slots_in, at_writes}
 use Rattle.pc_records.specs.Ends.{ends_in}
 use Rattle.pc_records.specs.SetLists.{KeepSets}
 use Rattle.pc_records.proofs.slots.undo_all.Given as goal

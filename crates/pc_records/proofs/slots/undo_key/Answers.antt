@@ -1,5 +1,6 @@
 use Rattle.std.proofs.Common.{◌∙◌, sym}
-use Rattle.pc_records.specs.Slots.{slots_in, undone}
+use Rattle.pc_slots.specs.Slots.{undone}
+use Rattle.pc_records.specs.Slots.{slots_in}
 use Rattle.pc_records.proofs.Lookups.{at_none}
 use Rattle.pc_records.proofs.TableSlots.{no_slot_in, number_key}
 use Rattle.pc_records.proofs.slots.undo_key.Goals as goal

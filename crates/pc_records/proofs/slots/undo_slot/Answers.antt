@@ -1,4 +1,4 @@
-use Rattle.pc_records.specs.Slots.{undone}
+use Rattle.pc_slots.specs.Slots.{undone}
 use Rattle.pc_records.proofs.TableSlots.{changed_slots}
 use Rattle.pc_records.proofs.KeepingSets.{changed_sets}
 use Rattle.pc_records.proofs.EndsKept.{ends_changed}

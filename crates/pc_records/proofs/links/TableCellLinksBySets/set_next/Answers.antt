@@ -1,7 +1,7 @@
 use Rattle.std.proofs.Common.{◌≡◌, ◌≢◌, map, sym, subst}
 use Rattle.pc_dirty.specs.declared.side.Place.{Place}
 use Rattle.pc_table.specs.Rows.{with_record_in, with_record}
-use Rattle.pc_records.specs.declared.slots.Cell.{Cell}
+use Rattle.pc_slots.specs.declared.cells.Cell.{Cell}
 use Rattle.pc_records.specs.SetLists.{next_in, HasPlace, KeepRecords}
 use Rattle.pc_records.proofs.Unlinked.{link_set, link_kept, place_stays, records_kept}
 use Rattle.pc_records.proofs.links.TableCellLinksBySets.set_next.Goals as goal

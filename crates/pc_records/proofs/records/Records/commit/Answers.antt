@@ -7,7 +7,8 @@ use Rattle.std.proofs.Common.{◌≡◌, ℕ, ◌++◌, map, ◌∙◌, sym, ap,
 use Rattle.pc_records.proofs.SlotMoments.{kept_settled, sound_settled, pending_settled, rows_settled}
 use Rattle.pc_dirty.specs.declared.side.Side.{Side}
 use Rattle.pc_records.specs.SetLists.{open_keys}
-use Rattle.pc_records.specs.Slots.{at_writes, settled}
+use Rattle.pc_slots.specs.Slots.{settled}
+use Rattle.pc_records.specs.Slots.{at_writes}
 use Rattle.pc_records.proofs.TableSlots.{rows_rise}
 use Rattle.pc_records.proofs.Entering.{keys_entered}
 use Rattle.pc_records.proofs.Among.{all_are_listed}

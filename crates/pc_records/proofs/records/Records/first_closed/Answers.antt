@@ -1,7 +1,8 @@
 use Rattle.std.proofs.Common.{ℕ, List, [], Option, Some, refl, ap, ◌∙◌}
 use Rattle.pc_dirty.specs.declared.side.Side.{Side}
 use Rattle.pc_records.specs.Ends.{queues_in}
-use Rattle.pc_records.specs.Slots.{slots_in, rows_of, slot_with, pinned}
+use Rattle.pc_slots.specs.Slots.{slot_with, pinned}
+use Rattle.pc_records.specs.Slots.{slots_in, rows_of}
 use Rattle.pc_records.specs.SetLists.{open_slots, closed_slots}
 use Rattle.pc_records.proofs.Leaving.{first_row}
 use Rattle.pc_records.proofs.Among.{all_are_listed, first_there, first_absent}

@@ -2,7 +2,7 @@ use Rattle.std.proofs.Common.{◌≡◌, ℕ, List, ◌==◌, Some, false, sym, 
 use Rattle.std.specs.FinMap.{find}
 use Rattle.pc_model.specs.Database.{key_cmp}
 use Rattle.pc_records.specs.Ends.{queues_in}
-use Rattle.pc_records.specs.Tables.{Pending}
+use Rattle.pc_slots.specs.Slots.{Pending}
 use Rattle.pc_dirty.specs.declared.side.Side.{Side}
 use Rattle.pc_records.specs.RowSteps.{released_rows}
 use Rattle.pc_records.specs.Slots.{slots_in, rows_of, pending_of, AreKept, AreSound}

@@ -6,7 +6,8 @@ use Rattle.pc_records.proofs.SlotRising.{rise_any}
 use Rattle.std.proofs.Common.{◌≡◌, ℕ, map, ◌∙◌, sym, ap, subst}
 use Rattle.pc_records.proofs.SlotMoments.{kept_undone, sound_undone, pending_undone, rows_undone}
 use Rattle.pc_dirty.specs.declared.side.Side.{Side}
-use Rattle.pc_records.specs.Slots.{at_writes, undone}
+use Rattle.pc_slots.specs.Slots.{undone}
+use Rattle.pc_records.specs.Slots.{at_writes}
 use Rattle.pc_records.proofs.Listing.{kept_listed, kept_open, kept_closed}
 use Rattle.pc_records.proofs.records.Records.undo.Goals as goal
 use Rattle.pc_records.proofs.records.Records.undo.Goals.{After-undo_all}

@@ -4,8 +4,8 @@ use Rattle.pc_chain.specs.declared.chain.Chain.{Chain}
 use Rattle.pc_dirty.specs.declared.side.Place.{Place}
 use Rattle.pc_dirty.specs.declared.side.Side.{Side}
 use Rattle.pc_dirty.specs.declared.side.Side.TheVariants.{First, Second}
-use Rattle.pc_records.specs.declared.slots.Cell.{Cell}
-use Rattle.pc_records.specs.declared.words.Mark.{Mark}
+use Rattle.pc_slots.specs.declared.cells.Cell.{Cell}
+use Rattle.pc_slots.specs.declared.words.Mark.{Mark}
 
 -- a slot's word on one side: the slot and the side that its link leads to, if it leads to one, and whether the slot is in the set
 pub record Word : Type 0 where

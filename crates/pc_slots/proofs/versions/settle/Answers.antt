@@ -1,11 +1,11 @@
 use Rattle.std.proofs.Common.{◌||◌, Bool, true, sym, ap, ◌∙◌}
 use Rattle.pc_dirty.specs.declared.side.Side.{Side}
-use Rattle.pc_records.specs.declared.slots.Cell.{Cell}
-use Rattle.pc_records.specs.declared.versions.Aside.{Aside}
-use Rattle.pc_records.specs.Words.{is_marked}
-use Rattle.pc_records.specs.Slots.{slot_with, with_aside, aside_in, settled}
-use Rattle.pc_records.proofs.Marking.{slot_marked}
-use Rattle.pc_records.proofs.versions.settle.Goals as goal
+use Rattle.pc_slots.specs.declared.cells.Cell.{Cell}
+use Rattle.pc_slots.specs.declared.versions.Aside.{Aside}
+use Rattle.pc_slots.specs.Words.{is_marked}
+use Rattle.pc_slots.specs.Slots.{slot_with, with_aside, aside_in, settled}
+use Rattle.pc_slots.proofs.Marks.{slot_marked}
+use Rattle.pc_slots.proofs.versions.settle.Goals as goal
 
 pub returns-clause-slot : goal.returns-clause-slot
 returns-clause-slot c number key =

@@ -1,9 +1,9 @@
 use Rattle.std.proofs.Common.{ℕ, List, Option, sym, ap, ◌∙◌}
 use Rattle.pc_dirty.specs.declared.side.Side.{Side}
-use Rattle.pc_records.specs.declared.versions.Aside.{Aside}
-use Rattle.pc_records.specs.Words.{is_marked}
-use Rattle.pc_records.specs.Slots.{slot_with, with_aside, aside_in, put_slot}
-use Rattle.pc_records.proofs.versions.put.Goals as goal
+use Rattle.pc_slots.specs.declared.versions.Aside.{Aside}
+use Rattle.pc_slots.specs.Words.{is_marked}
+use Rattle.pc_slots.specs.Slots.{slot_with, with_aside, aside_in, put_slot}
+use Rattle.pc_slots.proofs.versions.put.Goals as goal
 
 pub returns-clause-slot : goal.returns-clause-slot
 returns-clause-slot c number key =

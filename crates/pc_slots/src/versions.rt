@@ -1,13 +1,14 @@
 //! The moments of one slot: its key is written in its place, the write is committed or undone, and the key is taken. The side is
 //! that of the open set.
-ghost use Rattle.std.specs.Prelude.{◌≡◌, ◌&&◌, ◌||◌, not, ℕ, List, [], false, true, Option, None, Some, is_some, option_copied, IfOk};
+ghost use Rattle.std.specs.Prelude.{◌≡◌, ◌==◌, ◌&&◌, ◌||◌, not, ℕ, List, [], length, false, true, Option, None, Some, is_some, option_copied, IfOk};
 ghost use Rattle.pc_types.specs.declared.Class.TheVariants as class_of;
 ghost use Rattle.pc_types.specs.Phases.{same_class};
+ghost use Rattle.pc_model.specs.Locks.{Queue};
 ghost use Rattle.pc_dirty.specs.declared.side.Side.TheVariants.{First};
-ghost use Rattle.pc_records.specs.Words.{is_marked, words_of, chain_in, HaveLinks};
-ghost use Rattle.pc_records.specs.Slots.{Slot, slot_with, nothing_aside, is_blank, aside_in, writer_in, with_aside, committed, version_or, pinned, is_held, keeps_copy, saved, put_slot, settled, undone, taken_slot};
+ghost use Rattle.pc_slots.specs.Words.{is_marked, words_of, chain_in, HaveLinks};
+ghost use Rattle.pc_slots.specs.Slots.{Slot, slot_with, nothing_aside, is_blank, aside_in, writer_in, with_aside, committed, version_or, pinned, is_held, is_kept_slot, keeps_copy, saved, put_slot, settled, undone, taken_slot};
 
-use crate::slots::Cell;
+use crate::cells::Cell;
 use pc_dirty::Side;
 use pc_types::{Class, Point, TxnNo, Value, copy_content};
 use std::alloc::{AllocError, Global};
@@ -15,7 +16,7 @@ use std::mem;
 
 /// What a slot keeps beside what stands in its key's place, while an open transaction or a point needs it.
 #[derive(Drop)]
-pub(crate) struct Aside {
+pub struct Aside {
     /// The open transaction that has written the key.
     pub(crate) writer: Option<Writer>,
     /// What the key had before, where that is kept for a point.
@@ -42,8 +43,8 @@ pub(crate) struct Writer {
     pub(crate) before: Option<Value>,
 }
 
-// A box in which nothing is kept yet.
-pub(crate) fn room(alloc: Global) -> Result<Box<Aside>, AllocError>
+/// A box in which nothing is kept yet, for `put`; an error where memory ran out.
+pub fn room(alloc: Global) -> Result<Box<Aside>, AllocError>
     ensures { IfOk result (λ room. room.value ≡ nothing_aside) }
 {
     let aside = Aside {
@@ -100,8 +101,8 @@ pub(crate) fn committed_of(slot: &Cell) -> Option<&Value>
     }
 }
 
-// A copy of the committed value of the slot's key.
-pub(crate) fn committed_copy(alloc: Global, slot: &Cell) -> Result<Option<Value>, AllocError>
+/// A copy of the committed value of the slot's key, None where it has none; an error where memory ran out.
+pub fn committed_copy(alloc: Global, slot: &Cell) -> Result<Option<Value>, AllocError>
     ensures { IfOk result (λ copy. copy ≡ committed (slot_with First 0 [] slot.now)) }
 {
     match committed_of(slot) {
@@ -110,8 +111,8 @@ pub(crate) fn committed_copy(alloc: Global, slot: &Cell) -> Result<Option<Value>
     }
 }
 
-// What the slot's key has at the point, where it is in the closed set.
-pub(crate) fn pinned_of(slot: &Cell, side: Side) -> Option<&Value>
+/// What the slot's key has at the point, where it is in the closed set; None where it has nothing then, or isn't in the set.
+pub fn pinned_of(slot: &Cell, side: Side) -> Option<&Value>
     ensures { option_copied result ≡ pinned (slot_with side 0 [] slot.now) }
 {
     if !slot.is_in(side.other()) {
@@ -134,13 +135,24 @@ fn version_or<'a>(stable: &'a Stable, live: &'a Option<Value>) -> Option<&'a Val
 }
 
 // Whether the slot holds a version.
-pub(crate) fn has_version(slot: &Cell) -> bool
+fn has_version(slot: &Cell) -> bool
     ensures { result ≡ is_held (aside_in slot.now.aside).stable }
 {
     match &slot.aside {
         Some(aside) => is_held(&aside.stable),
         None => false,
     }
+}
+
+/// Whether something keeps the slot: a value, a version, a request, or one of the two sets.
+pub fn is_kept(slot: &Cell, side: Side, is_requested: bool) -> bool
+    ensures { (id : ℕ) (queue : Queue) → is_requested ≡ not (length queue == 0) → result ≡ is_kept_slot queue (slot_with side id [] slot.now) }
+{
+    slot.live.is_some()
+        || has_version(slot)
+        || is_requested
+        || slot.is_in(side)
+        || slot.is_in(side.other())
 }
 
 // The point that the version is known to be of.
@@ -173,8 +185,9 @@ fn is_during(class: Class) -> bool
     }
 }
 
-// A copy of what stands in the slot, where a write of a transaction of the class keeps one; else None.
-pub(crate) fn copy_to_keep(
+/// A copy of what stands in the slot, where a write of a transaction of the class keeps one; else None. An error where memory
+/// ran out.
+pub fn copy_to_keep(
     alloc: Global,
     slot: &Cell,
     side: Side,
@@ -250,9 +263,9 @@ fn note(
     }
 }
 
-// The transaction writes the key in its place; the copy is that of `copy_to_keep`. The slot keeps the room where it has none,
-// and it is dropped where it has one.
-pub(crate) fn put(
+/// The transaction writes the key in its place; the copy is that of `copy_to_keep`, and the room that of `room`. The slot keeps
+/// the room where it has none, and it is dropped where it has one. It takes no memory.
+pub fn put(
     slot: &mut Cell,
     side: Side,
     point: Point,
@@ -300,8 +313,9 @@ fn commit(aside: &mut Aside, is_closed: bool, point: Point) -> bool
     true
 }
 
-// The write that stands in the slot, if there is one, is committed. True where the slot was not in the open set, and is in it now.
-pub(crate) fn settle(slot: &mut Cell, side: Side, point: Point) -> bool
+/// The write that stands in the slot, if there is one, is committed. True where the slot was not in the open set, and is in it
+/// now. It takes no memory.
+pub fn settle(slot: &mut Cell, side: Side, point: Point) -> bool
     ensures slot { (number : ℕ) (key : List ℕ) → slot_with side number key slot.new ≡ settled point (slot_with side number key slot.old) }
     ensures links { HaveLinks slot.old slot.new }
     ensures ends { chain_in slot.new ≡ chain_in slot.old }
@@ -334,8 +348,8 @@ fn withdraw(aside: &mut Aside, live: &mut Option<Value>, is_closed: bool, point:
     }
 }
 
-// The write that stands in the slot, if there is one, is undone.
-pub(crate) fn undo(slot: &mut Cell, side: Side, point: Point)
+/// The write that stands in the slot, if there is one, is undone. It takes no memory.
+pub fn undo(slot: &mut Cell, side: Side, point: Point)
     ensures slot { (number : ℕ) (key : List ℕ) → slot_with side number key slot.new ≡ undone point (slot_with side number key slot.old) }
     ensures words { words_of slot.new ≡ words_of slot.old }
     ensures ends { chain_in slot.new ≡ chain_in slot.old }
@@ -347,8 +361,8 @@ pub(crate) fn undo(slot: &mut Cell, side: Side, point: Point)
     }
 }
 
-// The key of the slot is taken.
-pub(crate) fn take(slot: &mut Cell, side: Side)
+/// The key of the slot is taken: the slot is no more in the closed set, and what was kept for the point goes. It takes no memory.
+pub fn take(slot: &mut Cell, side: Side)
     ensures slot { (number : ℕ) (key : List ℕ) → slot_with side number key slot.new ≡ taken_slot (slot_with side number key slot.old) }
     ensures links { HaveLinks slot.old slot.new }
     ensures ends { chain_in slot.new ≡ chain_in slot.old }

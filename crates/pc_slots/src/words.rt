@@ -1,6 +1,6 @@
 //! What a slot has on each side of the two sets.
 ghost use Rattle.std.specs.Prelude.{◌≡◌, ◌≢◌, ℕ};
-ghost use Rattle.pc_records.specs.Words.{blank_mark};
+ghost use Rattle.pc_slots.specs.Words.{blank_mark};
 
 use pc_dirty::Side;
 
@@ -15,7 +15,7 @@ pub(crate) struct Mark {
 
 impl Mark {
     ghost use Rattle.std.specs.Prelude.{◌≡◌};
-    ghost use Rattle.pc_records.specs.Words.{blank_mark};
+    ghost use Rattle.pc_slots.specs.Words.{blank_mark};
 
     /// The mark of a slot that is in no set.
     pub(crate) fn blank() -> Mark

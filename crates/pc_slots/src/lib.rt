@@ -1,0 +1,17 @@
+//! What is kept of a key in its slot, and the moments of one slot: its key is written in its place, the write is committed or
+//! undone, and the key is taken. A table of such slots, their locks and the two sets stand above it.
+#![tactic(auto)]
+
+mod cells;
+mod ends;
+mod links;
+#[cfg(test)]
+mod tests;
+mod versions;
+mod words;
+
+pub use cells::{Cell, cell_with};
+pub use ends::{chain_in, put_ends};
+pub use versions::{
+    Aside, committed_copy, copy_to_keep, is_kept, pinned_of, put, room, settle, take, undo,
+};

@@ -1,0 +1,59 @@
+//! The links of a slot to others, one on either side of the two sets.
+ghost use Rattle.std.specs.Prelude.{◌≡◌};
+ghost use Rattle.pc_slots.specs.Words.{place_at, slot_of, side_of};
+
+use crate::cells::Cell;
+use pc_dirty::{Place, Side};
+use pc_types::SlotId;
+
+// The slot on the side that a link leads to.
+fn place_at(slot: SlotId, leads_to: Option<Side>) -> Option<Place>
+    ensures { result ≡ place_at slot leads_to }
+{
+    match leads_to {
+        Some(side) => Some(Place { slot, side }),
+        None => None,
+    }
+}
+
+// The slot that a link leads to, 0 where it leads to none, and the side.
+fn parts_of(link: Option<Place>) -> (SlotId, Option<Side>)
+    ensures { result ≡ (slot_of link, side_of link) }
+{
+    match link {
+        Some(place) => (place.slot, Some(place.side)),
+        None => (SlotId(0), None),
+    }
+}
+
+impl Cell {
+    ghost use Rattle.std.specs.Prelude.{◌≡◌};
+    ghost use Rattle.pc_slots.specs.Words.{link_of, with_link};
+
+    /// What the link of the side leads to, a slot on a side; None where it leads to none.
+    pub fn link(&self, side: Side) -> Option<Place>
+        ensures { result ≡ link_of side self.now }
+    {
+        match side {
+            Side::First => place_at(self.first_next, self.first.leads_to),
+            Side::Second => place_at(self.second_next, self.second.leads_to),
+        }
+    }
+
+    /// Sets the link of the side, and nothing else.
+    pub fn put_link(&mut self, side: Side, link: Option<Place>)
+        ensures { self.new ≡ with_link side link self.old }
+    {
+        let (slot, leads_to) = parts_of(link);
+        match side {
+            Side::First => {
+                self.first_next = slot;
+                self.first.leads_to = leads_to;
+            }
+            Side::Second => {
+                self.second_next = slot;
+                self.second.leads_to = leads_to;
+            }
+        }
+    }
+}
