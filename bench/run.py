@@ -24,8 +24,8 @@ import plain_files
 
 CLIENTS = (1, 2, 4)
 POINTS = (0, 8)
-# how often each is run: over 60,000 keys a run takes the better part of a minute, while the table fills up
-RUNS = {1000: 5, 60_000: 1}
+# how often each is run
+RUNS = {1000: 5, 60_000: 3}
 STEP = 0.01
 WIDTH, HEIGHT, EDGE = 800, 240, 40
 

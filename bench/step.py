@@ -1,22 +1,24 @@
-"""Measures `pcalc step` on scripts of N and 2 N lines: lines a second, peak memory, and how the times compare."""
+"""Measures `pcalc step` on scripts of N and 2 N lines over 1,000 keys, and of N lines over 200,000: lines a second, peak memory, and how the times
+compare."""
 
 import os
 import sys
 
 import child
 
-KEYS = 1000
+KEYS, MANY_KEYS = 1000, 200_000
 LINES_OF_A_TRANSACTION = 10
 MOST_TIMES_LONGER = 2.3
+MOST_TIMES_LONGER_OVER_MANY = 1.3
 TRIES = 3
 
 
-def write_script(path, lines):
+def write_script(path, lines, keys):
     """Transactions of ten lines: a begin, four puts and four gets in turn, a commit. The keys go round."""
     with open(path, "w", encoding="ascii") as script:
         for number in range(lines):
             place = number % LINES_OF_A_TRANSACTION
-            key = "key%03d" % ((number * 7 + number // LINES_OF_A_TRANSACTION) % KEYS)
+            key = "key%06d" % ((number * 7 + number // LINES_OF_A_TRANSACTION) % keys)
             if place == 0:
                 script.write("begin 1\n")
             elif place == LINES_OF_A_TRANSACTION - 1:
@@ -50,18 +52,19 @@ def main():
     program, lines, folder = sys.argv[1], int(sys.argv[2]), sys.argv[3]
     output = os.path.join(folder, "output")
     times = []
-    for count in (lines, 2 * lines):
+    for count, keys in ((lines, KEYS), (2 * lines, KEYS), (lines, MANY_KEYS)):
         script = os.path.join(folder, "script")
-        write_script(script, count)
+        write_script(script, count, keys)
         runs = [measure(program, script, output) for _ in range(TRIES)]
         check_output(output, count)
         seconds = min(run[0] for run in runs)
         memory = max(run[1] for run in runs)
         times.append(seconds)
-        print("%d lines: %.2f s, %d lines a second, peak %.0f MB" % (count, seconds, count / seconds, memory), flush=True)
-    ratio = times[1] / times[0]
+        print("%d lines over %d keys: %.2f s, %d lines a second, peak %.0f MB" % (count, keys, seconds, count / seconds, memory), flush=True)
+    ratio, over_many = times[1] / times[0], times[2] / times[0]
     print("twice the lines took %.2f times the time (at most %.1f is wanted)" % (ratio, MOST_TIMES_LONGER))
-    sys.exit(0 if ratio <= MOST_TIMES_LONGER else 1)
+    print("as many lines over %d keys took %.2f times the time (at most %.1f is wanted)" % (MANY_KEYS, over_many, MOST_TIMES_LONGER_OVER_MANY))
+    sys.exit(0 if ratio <= MOST_TIMES_LONGER and over_many <= MOST_TIMES_LONGER_OVER_MANY else 1)
 
 
 main()
