@@ -32,7 +32,7 @@ def write_script(path, lines, keys):
 def measure(program, script, output):
     """Seconds and peak memory in MB of one run, whose output goes to a file."""
     with open(output, "wb") as file:
-        seconds, peak = child.measure([program, "step", script], file)
+        seconds, peak = child.measure([program, "step", script, "--capacity", str(MANY_KEYS)], file)
     return seconds, peak / 1e6
 
 
