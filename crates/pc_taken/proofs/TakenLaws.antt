@@ -1,12 +1,14 @@
 -- Two lists of entries as one: what a put into either does.
-use Rattle.std.proofs.Common.{◌≡◌, ◌↔◌, ℕ, zero, suc, ◌-◌, ◌+◌, ◌<◌, ◌≤◌, List, [], ◌∷◌, ◌++◌, map, length, get_or, drop, Option, Some, None, Bool, true, false, cond, refl, sym, ap, subst, ◌∙◌, append_assoc, arith}
+use Rattle.std.proofs.Common.{◌≡◌, ◌↔◌, ℕ, zero, suc, ◌-◌, ◌+◌, ◌*◌, ◌<◌, ◌≤◌, List, [], ◌∷◌, ◌++◌, map, length, get_or, drop, Option, Some, None, Bool, true, false, cond, refl, sym, ap, subst, ◌∙◌, append_assoc, arith}
 use Rattle.std.specs.Prelude.{IsTrue}
 use Rattle.std.specs.List.{slice_get}
 use Rattle.std.specs.Ordering.{is_lt}
-use Rattle.std.specs.declared.cmp.Ordering.TheVariants.{Less, Greater}
+use Rattle.std.specs.declared.cmp.Ordering.{Ordering}
+use Rattle.std.specs.declared.cmp.Ordering.TheVariants.{Less, Equal, Greater}
 use Rattle.std.specs.FinMap.{find, put, is_sorted}
 use Rattle.std.specs.FinMap.Entries.{below_all, by_order, find-put, is_sorted-put, same_entries}
-use Rattle.std.proofs.lemmas.List.{append-nil}
+use Rattle.std.proofs.lemmas.List.{append-nil, length-map}
+use Rattle.itertools.specs.List.{by_ordering}
 use Rattle.pc_model.specs.Database.{key_cmp, key_order, same_bytes, KeysRise}
 use Rattle.pc_model.specs.Merges.{gathered, with_item}
 use Rattle.pc_model.proofs.JoinLaws.{one_key}
@@ -144,6 +146,38 @@ pub few_taken : (rising others : List Entry) (n m : ℕ) → n ≡ length rising
 few_taken rising others n m first second =
     let same : length (as_one rising others) ≡ length (items rising others) = ap length (sym (merged_items newest rising others)) ∙ one_each (items rising others) in
     omega (arith, first, second, same, items_len rising others)
+
+-- each list has no more than both of them as one
+abbrev BothWithin : List Entry → List Entry → Type 0
+BothWithin xs ys = (length xs ≤ length (items xs ys)) × (length ys ≤ length (items xs ys))
+
+within_at : (x : Entry) (xs : List Entry) → ((ys : List Entry) → BothWithin xs ys) → (ys : List Entry) → BothWithin (x ∷ xs) ys
+within_at x xs again [] = let same = length-map xs (λ (e : Entry). left_of e) in (omega (arith, same), omega arith)
+  where
+    left_of : Entry → EitherOrBoth Entry Entry
+    left_of e = Left e
+within_at x xs again (y ∷ ys) = by (key_cmp x.0 y.0) (again (y ∷ ys)) (again ys) (within_at x xs again ys)
+  where
+    by : (o : Ordering) → BothWithin xs (y ∷ ys) → BothWithin xs ys → BothWithin (x ∷ xs) ys
+        → (suc (length xs) ≤ length (by_ordering o (Left x ∷ items xs (y ∷ ys)) (Both x y ∷ items xs ys) (Right y ∷ items (x ∷ xs) ys)))
+        × (suc (length ys) ≤ length (by_ordering o (Left x ∷ items xs (y ∷ ys)) (Both x y ∷ items xs ys) (Right y ∷ items (x ∷ xs) ys)))
+    by Less first both second = (omega (arith, first.0), omega (arith, first.1))
+    by Equal first both second = (omega (arith, both.0), omega (arith, both.1))
+    by Greater first both second = (omega (arith, second.0), omega (arith, second.1))
+
+both_within : (xs ys : List Entry) → BothWithin xs ys
+both_within [] ys = let same = length-map ys (λ (e : Entry). right_of e) in (omega arith, omega (arith, same))
+  where
+    right_of : Entry → EitherOrBoth Entry Entry
+    right_of e = Right e
+both_within (x ∷ xs) ys = within_at x xs (both_within xs) ys
+
+-- both lists have no more than twice that
+pub twice_taken : (rising others : List Entry) (n m : ℕ) → n ≡ length rising → m ≡ length others → n + m ≤ 2 * length (as_one rising others)
+twice_taken rising others n m first second =
+    let same : length (as_one rising others) ≡ length (items rising others) = ap length (sym (merged_items newest rising others)) ∙ one_each (items rising others) in
+    let within = both_within rising others in
+    omega (arith, first, second, same, within.0, within.1)
 
 -- what is moved so far, before what the items to come make
 abbrev pub moves_from : List Entry → List Entry → ℕ → List Entry

@@ -1,5 +1,5 @@
 //! What was taken of a point, as one value.
-ghost use Rattle.std.specs.Prelude.{◌≡◌, ◌≤◌, [], length, map, vec_capacity, OnOk, OnErr};
+ghost use Rattle.std.specs.Prelude.{◌≡◌, ◌≤◌, ◌*◌, [], length, map, vec_capacity, OnOk, OnErr};
 ghost use Rattle.std.specs.FinMap.{put as put_entry};
 ghost use Rattle.pc_model.specs.Database.{KeysRise, key_cmp};
 ghost use Rattle.pc_taken.specs.Takings.{triple_at};
@@ -48,10 +48,11 @@ impl Taken {
         }
     }
 
-    /// How many entries there is to be room for where all of it is moved: no fewer than keys were taken, and as many unless a
-    /// key came twice.
+    /// How many entries there is to be room for where all of it is moved: no fewer than keys were taken, at most twice as many,
+    /// and as many unless a key came twice.
     pub fn room(&self) -> usize
-        ensures { length self.now ≤ result }
+        ensures enough { length self.now ≤ result }
+        ensures most { result ≤ 2 * length self.now }
     {
         self.rising.len() + self.others.len()
     }
