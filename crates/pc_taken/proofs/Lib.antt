@@ -1,1 +1,2 @@
+mod HeadedLaws
 mod TakenLaws

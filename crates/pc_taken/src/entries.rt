@@ -5,13 +5,14 @@ ghost use Rattle.pc_model.specs.Database.{KeysRise, key_cmp};
 ghost use Rattle.pc_model.specs.Merges.{with_item};
 ghost use Rattle.pc_taken.specs.Takings.{IsAbove, as_one, newest, triple_at};
 
+use crate::headed::Headed;
 use itertools::{EitherOrBoth, Itertools};
 use pc_types::{Key, Point, Triple, Value};
 use std::alloc::AllocError;
 use std::collections::BTreeMap;
 
 // Whether the key is above those of all entries, which rise by key.
-pub(crate) fn is_above(entries: &[(Key, Option<Value>)], key: &Key) -> bool
+pub(crate) fn is_above(entries: &[(Headed, Option<Value>)], key: &Headed) -> bool
     requires { KeysRise entries.now }
     ensures { IsTrue result ↔ IsAbove key.now entries.now }
 {
@@ -23,8 +24,8 @@ pub(crate) fn is_above(entries: &[(Key, Option<Value>)], key: &Key) -> bool
 
 // Puts the entry into the tree. Where memory ran out the tree stays.
 pub(crate) fn put_among(
-    others: &mut BTreeMap<Key, Option<Value>>,
-    key: Key,
+    others: &mut BTreeMap<Headed, Option<Value>>,
+    key: Headed,
     content: Option<Value>,
 ) -> Result<(), AllocError>
     ensures put { OnOk result (others.new.entries ≡ put_entry key_cmp key content others.old.entries) }
@@ -40,8 +41,8 @@ pub(crate) fn put_among(
 pub(crate) fn merged(
     room: Vec<Triple>,
     point: Point,
-    rising: Vec<(Key, Option<Value>)>,
-    others: BTreeMap<Key, Option<Value>>,
+    rising: Vec<(Headed, Option<Value>)>,
+    others: BTreeMap<Headed, Option<Value>>,
 ) -> Vec<Triple>
     requires room { length (as_one rising.items others.entries) ≤ vec_capacity room }
     requires empty { room.items ≡ [] }
@@ -63,12 +64,12 @@ pub(crate) fn merged(
 }
 
 // The entry of a key; of two of them the second.
-fn newer(item: EitherOrBoth<(Key, Option<Value>), (Key, Option<Value>)>) -> (Key, Option<Value>)
+fn newer(item: EitherOrBoth<(Headed, Option<Value>)>) -> (Key, Option<Value>)
     ensures { with_item newest item [] ≡ result ∷ [] }
 {
     match item {
-        EitherOrBoth::Left(one) => one,
-        EitherOrBoth::Right(other) => other,
-        EitherOrBoth::Both(one, other) => (one.0, other.1),
+        EitherOrBoth::Left(one) => (one.0.into_key(), one.1),
+        EitherOrBoth::Right(other) => (other.0.into_key(), other.1),
+        EitherOrBoth::Both(one, other) => (one.0.into_key(), other.1),
     }
 }

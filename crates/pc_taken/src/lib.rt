@@ -2,6 +2,7 @@
 #![tactic(auto)]
 
 mod entries;
+mod headed;
 mod taken;
 
 pub use taken::Taken;

@@ -5,6 +5,7 @@ ghost use Rattle.pc_model.specs.Database.{KeysRise, key_cmp};
 ghost use Rattle.pc_taken.specs.Takings.{triple_at};
 
 use crate::entries::{is_above, merged, put_among};
+use crate::headed::Headed;
 use pc_types::{Key, Point, Triple, Value};
 use std::alloc::{AllocError, Global};
 use std::collections::BTreeMap;
@@ -18,9 +19,9 @@ use std::mem;
 pub struct Taken {
     alloc: Global,
     // Each key that was above all others when it came.
-    rising: Vec<(Key, Option<Value>)>,
+    rising: Vec<(Headed, Option<Value>)>,
     // The keys that weren't. An entry here counts before one of the same key above.
-    others: BTreeMap<Key, Option<Value>>,
+    others: BTreeMap<Headed, Option<Value>>,
 }
 
 impl Model for Taken {
@@ -63,6 +64,7 @@ impl Taken {
         ensures put { OnOk result (self.new ≡ put_entry key_cmp key content self.old) }
         ensures kept { OnErr result (self.new ≡ self.old) }
     {
+        let key = Headed::of(key);
         if is_above(&self.rising, &key) {
             self.rising.push((key, content))?;
             return Ok(());

@@ -8,7 +8,7 @@ use Rattle.std.specs.Slice.Scan.{big_endian}
 use Rattle.pc_types.specs.FieldForms.{IsBytes}
 use Rattle.pc_types.proofs.FieldLaws.{IsBytes-drop, IsBytes-rest}
 
-then_assoc : (p q r : Ordering) → ordering_then p (ordering_then q r) ≡ ordering_then (ordering_then p q) r
+pub then_assoc : (p q r : Ordering) → ordering_then p (ordering_then q r) ≡ ordering_then (ordering_then p q) r
 then_assoc Less q r = refl
 then_assoc Equal q r = refl
 then_assoc Greater q r = refl
@@ -18,7 +18,7 @@ level : (x y : ℕ) → x ≡ y → nat_cmp x y ≡ Equal
 level x y e = sym (nat_cmp_is x y Equal e)
 
 -- numbers with one more digit of base 256 each
-digit : (n m x y : ℕ) → x < 256 → y < 256 → nat_cmp (n * 256 + x) (m * 256 + y) ≡ ordering_then (nat_cmp n m) (nat_cmp x y)
+pub digit : (n m x y : ℕ) → x < 256 → y < 256 → nat_cmp (n * 256 + x) (m * 256 + y) ≡ ordering_then (nat_cmp n m) (nat_cmp x y)
 digit n m x y p q = sym (nat_cmp_is _ _ _ (by (nat_cmp n m) (nat_cmp x y) (ranks n m) (ranks x y)))
   where
     by : (r s : Ordering) → MatchOrdering r (n < m) (n ≡ m) (m < n) → MatchOrdering s (x < y) (x ≡ y) (y < x)

@@ -5,3 +5,4 @@ pub mod Names
 pub mod Tallies
 pub mod Phases
 pub mod FieldForms
+pub mod Heads

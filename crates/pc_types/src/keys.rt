@@ -2,8 +2,11 @@
 ghost use Rattle.std.specs.Prelude.{◌≡◌, ◌≤◌, ◌↔◌, length, IsOk, IfErr, IfOk, OnOk};
 ghost use Rattle.std.specs.Ordering.{nat_cmp, eq_by_cmp};
 ghost use Rattle.std.specs.Cmp.Lexicographic.{slice_cmp};
+ghost use Rattle.pc_types.specs.FieldForms.{IsBytes};
+ghost use Rattle.pc_types.specs.Heads.{head};
 ghost use Rattle.pc_types.specs.Limits.{IsKey};
 
+use crate::heads::head_of;
 use crate::limits::MOST_KEY_BYTES;
 use crate::ordering::order;
 use crate::refusal::Refusal;
@@ -65,6 +68,15 @@ impl Key {
         ensures { result ≡ slice_cmp nat_cmp self.now other.now }
     {
         order(self.as_bytes(), other.as_bytes())
+    }
+
+    /// Its first eight bytes as one number, the highest first, with zeros behind a shorter key. Keys whose heads differ are
+    /// ordered as their heads are; of keys that have one head nothing is said.
+    pub fn head(&self) -> u64
+        ensures head { result ≡ head self.now }
+        ensures bytes { IsBytes self.now }
+    {
+        head_of(self.as_bytes())
     }
 
     /// Whether the keys are the same.

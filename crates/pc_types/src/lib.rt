@@ -5,6 +5,7 @@
 mod events;
 mod fields;
 mod gate;
+mod heads;
 mod keys;
 mod limits;
 mod lists;
