@@ -7,8 +7,8 @@ ghost use Rattle.pc_engine.specs.Steps.{StartsPoint, Seals, Moves, Takes, Shelve
 
 use crate::shelving::{Shelvable, joined};
 use crate::world::World;
-use pc_part::SharedPart;
 use pc_phase::{Change, Held, Phases};
+use pc_shelf::SharedPart;
 use pc_taken::Taken;
 use pc_types::{Entry, FileNo, Key, MOST_FILES, Phase, Refusal, Reply, Value};
 use std::alloc::{AllocError, Global};
@@ -81,10 +81,8 @@ impl World {
         let Some((first, at_point)) = self.records.first_closed() else {
             return Reply::NoneLeft;
         };
-        let Ok((key, content)) = copied(self.alloc, first, at_point) else {
-            return Reply::Refused(Refusal::OutOfMemory);
-        };
-        let Ok((kept_key, kept_content)) = copied(self.alloc, first, at_point) else {
+        let Ok((key, content, kept_key, kept_content)) = copied_twice(self.alloc, first, at_point)
+        else {
             return Reply::Refused(Refusal::OutOfMemory);
         };
         let Ok(()) = self.taken.put(kept_key, kept_content) else {
@@ -165,17 +163,17 @@ fn change_phase(phases: &mut Phases, change: Change, left: u32)
     }
 }
 
-// The key and its content, once more.
-fn copied(
+// The key with what it has, twice.
+fn copied_twice(
     alloc: Global,
     key: &Key,
     content: Option<&Value>,
-) -> Result<(Key, Option<Value>), AllocError>
-    ensures { IfOk result (λ copy. copy ≡ (key.now, option_copied content.entry)) }
+) -> Result<(Key, Option<Value>, Key, Option<Value>), AllocError>
+    ensures { IfOk result (λ copies. copies ≡ (key.now, option_copied content.entry, key.now, option_copied content.entry)) }
 {
-    let content = match content {
-        Some(value) => Some(value.copy(alloc)?),
-        None => None,
+    let (one, other) = match content {
+        Some(value) => (Some(value.copy(alloc)?), Some(value.copy(alloc)?)),
+        None => (None, None),
     };
-    Ok((key.copy(alloc)?, content))
+    Ok((key.copy(alloc)?, one, key.copy(alloc)?, other))
 }

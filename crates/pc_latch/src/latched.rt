@@ -82,33 +82,31 @@ impl<N: StoreName> Latched<N> {
         Latched { world, keeper }
     }
 
-    /// An event of the session, and its reply. Where the session has no room for the answer, the event is refused: with the
-    /// cause that stands before, or else with `OutOfMemory`. What the session has seen moves on by the step, where that counts.
+    /// The session asks the step's event, and the step has its reply then, in place of the one that it had. Where the session
+    /// has no room for the answer, the event is refused: with the cause that stands before, or else with `OutOfMemory`. What the
+    /// session has seen moves on by the step, where that counts.
     pub fn call(
         &mut self,
         tie: &Tie<N>,
         session: &mut SessionSeat<N>,
-        event: Event,
+        step: &mut Step,
         has_room: bool,
-    ) -> (Event, Reply)
-        requires own { session_of event ≡ session.old.number }
-        requires asks { has_room ≡ false → AsksOfOpen event }
-        requires no_join { IsNoJoin event }
-        ensures event { result.0 ≡ event }
-        ensures kind { IsReplyTo event result.1 }
-        ensures history { self.new ≡ step_of event result.1 ∷ self.old }
+    )
+        requires own { session_of step.old.event ≡ session.old.number }
+        requires asks { has_room ≡ false → AsksOfOpen step.old.event }
+        requires no_join { IsNoJoin step.old.event }
+        ensures event { step.new.event ≡ step.old.event }
+        ensures kind { IsReplyTo step.new.event step.new.reply }
+        ensures history { self.new ≡ step.new ∷ self.old }
         ensures number { session.new.number ≡ session.old.number }
-        ensures moves { MovesOn N.name.setting session.old.seen (step_of event result.1) session.new.seen }
-        ensures answered { IsAnswered N.name.setting session.old.number session.old.seen event result.1 }
-        ensures room { has_room ≡ false → counts result.1 ≡ false }
+        ensures moves { MovesOn N.name.setting session.old.seen step.new session.new.seen }
+        ensures answered { IsAnswered N.name.setting session.old.number session.old.seen step.new.event step.new.reply }
+        ensures room { has_room ≡ false → counts step.new.reply ≡ false }
     {
         let before = self.world.log().len() as u64;
-        let reply = ask(&mut self.world, &event, has_room);
+        step.reply = ask(&mut self.world, &step.event, has_room);
         let after = self.world.log().len() as u64;
-        let step = Step { event, reply };
-        self.keeper.note(tie, session, before, after, &step);
-        let Step { event, reply } = step;
-        (event, reply)
+        self.keeper.note(tie, session, before, after, step);
     }
 
     // An event of no session.

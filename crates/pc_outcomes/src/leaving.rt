@@ -11,7 +11,8 @@ ghost use Rattle.pc_outcomes.specs.Leaving.{is_commit, commits_in, summary_if_an
 use crate::outcome::{Collapsed, Left};
 use pc_collapse::{collapse_bag_owned, files_fold_well};
 use pc_engine::{are_files_right, files_of_their_points_are_right};
-use pc_part::{Base, Part, SharedPart, lay};
+use pc_part::{Base, Part, lay};
+use pc_shelf::SharedPart;
 use pc_types::{Entry, Gate, Refusal};
 use std::alloc::{AllocError, Global};
 use std::sync::Wait;

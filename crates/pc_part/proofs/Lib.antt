@@ -23,4 +23,4 @@ mod Refused
 mod RisingKeys
 mod RoundTrips
 mod Successes
-mod TakenTriples
+pub mod TakenTriples

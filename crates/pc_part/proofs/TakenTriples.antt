@@ -51,11 +51,6 @@ triples_same point (t ∷ taken) = ap (λ m. map_of.insert m t.0 (record { point
 pub taken_triples : (point : ℕ) (taken : Taken) (triples : List Triple) → triples ≡ map (triple_at point) taken → triples_of triples ≡ triples_taken point taken
 taken_triples point taken triples is = rw is (triples_same point taken)
 
--- a part without an entry is the part of what was taken, once the triples of that are in it
-pub moved_in : (run point : ℕ) (part new : File) (triples : List Triple) (taken : Taken) → part ≡ record { run = run; points = set.insert set.empty point; triples = map_of.empty } → new ≡ record part { triples = triples_of triples } → triples ≡ map (triple_at point) taken →
-    new ≡ record { run = run; points = set.insert set.empty point; triples = triples_taken point taken }
-moved_in run point part new triples taken first then is = rw (then, first, taken_triples point taken triples is) refl
-
 -- rising triples are the entries of their map
 pub entries_known : (inside given : List Triple) (triples : Triples) → KeysRise (entries_of inside) → triples_of inside ≡ triples → given ≡ inside → entries_of given ≡ triples.entries
 entries_known inside given triples rise is same = ap entries_of same ∙ sym (pairs.entries_of (entries_of inside) rise) ∙ ap (λ m. m.entries) is

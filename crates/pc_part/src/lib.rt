@@ -12,7 +12,6 @@ mod laws;
 mod laying;
 mod part;
 mod ranges;
-mod shared_part;
 mod uniting;
 
 pub use base::Base;
@@ -25,4 +24,3 @@ pub use laws::{
 pub use laying::lay;
 pub use part::Part;
 pub use ranges::Range;
-pub use shared_part::SharedPart;

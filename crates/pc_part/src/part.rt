@@ -63,7 +63,7 @@ impl Part {
     }
 
     /// The part of the point without an entry. It fails only where memory ran out.
-    pub(crate) fn empty(alloc: Global, run: u64, point: Point) -> Result<Part, AllocError>
+    pub fn empty(alloc: Global, run: u64, point: Point) -> Result<Part, AllocError>
         requires { 1 ≤ point }
         ensures { IfOk result (λ part. part ≡ record { run = run; points = set.insert set.empty point; triples = map_of.empty }) }
     {
@@ -72,8 +72,9 @@ impl Part {
         Ok(Part::from_lists(run, ranges, Vec::new(alloc)))
     }
 
-    /// Has these entries in place of its own.
-    pub(crate) fn set_entries(&mut self, entries: Vec<Triple>)
+    /// Has these entries in place of its own: they rise strictly by key, are each of one of its points, and no more than a file
+    /// may have, 4,294,967,295.
+    pub fn set_entries(&mut self, entries: Vec<Triple>)
         requires rise { KeysRise (entries_of entries.items) }
         requires covered { AreCovered self.old.points entries.items }
         requires limit { IsWithinLimit entries.items }

@@ -12,8 +12,8 @@ use crate::files::{NewFiles, flush, write_part};
 use pc_board::{Board, BoardPass};
 use pc_jobs::{Workload, deal};
 use pc_outcomes::{Left, Outcome, commits_in, left_by};
-use pc_part::SharedPart;
 use pc_shared::{Closed, Opened, PartTicket, Session, Shared};
+use pc_shelf::SharedPart;
 use pc_threads::{
     Fault, Logger, Rested, Room, Seating, Written, gather, hands_of, run_threads, seat_workers,
 };

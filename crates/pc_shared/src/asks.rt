@@ -10,7 +10,7 @@ use crate::session::Answer;
 use crate::store::Shared;
 use pc_receipts::Got;
 use pc_tie::{SessionSeat, StoreName};
-use pc_types::{Event, Key, Lsn, Refusal, Reply, TxnNo, Value};
+use pc_types::{Event, Key, Lsn, Refusal, Reply, Step, TxnNo, Value};
 use std::sync::Wait;
 
 // How a session is told of what a read was answered.
@@ -21,6 +21,16 @@ pub(crate) fn answer_of(got: &Got) -> Answer
         Got::Found(_) => Answer::Found,
         Got::Absent => Answer::Absent,
         Got::Died => Answer::Died,
+    }
+}
+
+// The event, which is still to be answered.
+fn asking(event: Event) -> Step
+    ensures { result.event ≡ event }
+{
+    Step {
+        event,
+        reply: Reply::Wait,
     }
 }
 
@@ -36,9 +46,9 @@ impl<N: StoreName> Shared<N> {
         ensures refused { IfErr result (λ why. IsAnswered N.name.setting seat.old.number seat.old.seen (Begin seat.old.number) (Refused why)) }
         ensures same { OnErr result (seat.new.seen ≡ seat.old.seen) }
     {
-        let event = Event::Begin(seat.number());
-        let (event, reply) = self.step_as(rt, seat, event, true);
-        drop(event);
+        let mut step = asking(Event::Begin(seat.number()));
+        self.step_as(rt, seat, &mut step, true);
+        let Step { event: _, reply } = step;
         match reply {
             Reply::Begun(t) => Ok(t),
             Reply::Refused(why) => Err(why),
@@ -61,8 +71,9 @@ impl<N: StoreName> Shared<N> {
         ensures refused { IfErr result (λ why. IsAnswered N.name.setting seat.old.number seat.old.seen (Get seat.old.number key) (Refused why)) }
         ensures same { OnErr result (seat.new.seen ≡ seat.old.seen) }
     {
-        let event = Event::Get(seat.number(), key);
-        let (event, reply) = self.step_as(rt, seat, event, has_room);
+        let mut step = asking(Event::Get(seat.number(), key));
+        self.step_as(rt, seat, &mut step, has_room);
+        let Step { event, reply } = step;
         let Event::Get(_, key) = event else {
             unreachable!()
         };
@@ -91,8 +102,9 @@ impl<N: StoreName> Shared<N> {
         ensures refused { IfErr result (λ why. IsAnswered N.name.setting seat.old.number seat.old.seen (Put seat.old.number key value) (Refused why)) }
         ensures same { OnErr result (seat.new.seen ≡ seat.old.seen) }
     {
-        let event = Event::Put(seat.number(), key, value);
-        let (event, reply) = self.step_as(rt, seat, event, has_room);
+        let mut step = asking(Event::Put(seat.number(), key, value));
+        self.step_as(rt, seat, &mut step, has_room);
+        let Step { event, reply } = step;
         let Event::Put(_, key, value) = event else {
             unreachable!()
         };
@@ -119,8 +131,9 @@ impl<N: StoreName> Shared<N> {
         ensures refused { IfErr result (λ why. IsAnswered N.name.setting seat.old.number seat.old.seen (Del seat.old.number key) (Refused why)) }
         ensures same { OnErr result (seat.new.seen ≡ seat.old.seen) }
     {
-        let event = Event::Del(seat.number(), key);
-        let (event, reply) = self.step_as(rt, seat, event, has_room);
+        let mut step = asking(Event::Del(seat.number(), key));
+        self.step_as(rt, seat, &mut step, has_room);
+        let Step { event, reply } = step;
         let Event::Del(_, key) = event else {
             unreachable!()
         };
@@ -145,9 +158,9 @@ impl<N: StoreName> Shared<N> {
         ensures refused { IfErr result (λ why. IsAnswered N.name.setting seat.old.number seat.old.seen (Commit seat.old.number) (Refused why)) }
         ensures same { OnErr result (seat.new.seen ≡ seat.old.seen) }
     {
-        let event = Event::Commit(seat.number());
-        let (event, reply) = self.step_as(rt, seat, event, has_room);
-        drop(event);
+        let mut step = asking(Event::Commit(seat.number()));
+        self.step_as(rt, seat, &mut step, has_room);
+        let Step { event: _, reply } = step;
         match reply {
             Reply::Committed(n) => Ok(n),
             Reply::Refused(why) => Err(why),
@@ -162,9 +175,9 @@ impl<N: StoreName> Shared<N> {
         ensures refused { IfErr result (λ why. IsAnswered N.name.setting seat.old.number seat.old.seen (Abort seat.old.number) (Refused why)) }
         ensures same { OnErr result (seat.new.seen ≡ seat.old.seen) }
     {
-        let event = Event::Abort(seat.number());
-        let (event, reply) = self.step_as(rt, seat, event, true);
-        drop(event);
+        let mut step = asking(Event::Abort(seat.number()));
+        self.step_as(rt, seat, &mut step, true);
+        let Step { event: _, reply } = step;
         match reply {
             Reply::Aborted => Ok(()),
             Reply::Refused(why) => Err(why),

@@ -3,7 +3,7 @@ ghost use Rattle.std.specs.Prelude.{◌≡◌, ◌≢◌, ◌≤◌, ◌<◌, �
 ghost use Rattle.pc_model.specs.FewWrites.{HasFewWrites};
 ghost use Rattle.pc_model.specs.Maps.{len};
 ghost use Rattle.pc_types.specs.declared.Reply.TheVariants.{Wait};
-ghost use Rattle.pc_model.specs.Calls.{step_of, session_of, counts, IsAnswered};
+ghost use Rattle.pc_model.specs.Calls.{session_of, counts, IsAnswered};
 ghost use Rattle.pc_model.specs.ReplyKinds.{IsReplyTo};
 ghost use Rattle.pc_model.specs.SessionLaws.{IsNoJoin};
 ghost use Rattle.pc_engine.specs.Asking.{AsksOfOpen};
@@ -25,12 +25,12 @@ use pc_latch::{Latched, LogPass, PartTicket};
 use pc_part::Base;
 use pc_receipts::Work;
 use pc_tie::{Keeper, SessionSeat, StoreName, Tie, Untied};
-use pc_types::{Entry, Event, FileNo, MOST_KEYS, MOST_SESSIONS, Refusal, Reply};
+use pc_types::{Entry, FileNo, MOST_KEYS, MOST_SESSIONS, Refusal, Reply, Step};
 use std::alloc::Global;
 use std::hash::RandomState;
-use std::hint;
 use std::marker::Model;
 use std::sync::{Condvar, Mutex, MutexGuard, Wait};
+use std::thread;
 
 /// A store that was opened, and has no name yet. Contracts see the name that it can be given.
 #[derive(Drop)]
@@ -158,30 +158,33 @@ impl<N: StoreName> Held<N> {
     }
 }
 
-// How often a thread looks for the latch before it sleeps until it has it. After each look it pauses twice as long as before, so
-// that whoever has the latch can make several calls while the store's data is near.
-const LOOKS: u32 = 7;
+// How often a thread looks for the latch before it sleeps until it has it: with the pauses between some milliseconds, longer than
+// most calls hold it.
+const LOOKS: u32 = 40;
 
-// How many moments a thread pauses after its first look: in some microseconds whoever has the latch ends a transaction or two.
-const FIRST_PAUSE: u32 = 128;
+// How often a thread lets others run after its first look, and at most after a later one. After each look it pauses twice as long
+// as before, so that whoever has the latch can make many calls while the store's data is near.
+const FIRST_PAUSE: u32 = 16;
 
-/// Lets so many moments go by; each is some tens of cycles of the processor.
-pub fn pause(moments: u32) {
-    for _ in 0..moments {
-        hint::spin_loop();
+const LONGEST_PAUSE: u32 = 256;
+
+/// Lets other threads run, so many times: each is a call of the system, and a moment also where no other thread is ready.
+pub fn pause(times: u32) {
+    for _ in 0..times {
+        thread::yield_now();
     }
 }
 
 impl<N: StoreName> Shared<N> {
     // Gets the latch.
     fn get_latch<R: Wait>(&self, rt: &R) -> MutexGuard<'_, Held<N>> {
-        let mut moments = FIRST_PAUSE;
+        let mut times = FIRST_PAUSE;
         for _ in 0..LOOKS {
             if let Some(held) = self.latch.try_lock() {
                 return held;
             }
-            pause(moments);
-            moments = moments.saturating_mul(2);
+            pause(times);
+            times = times.saturating_mul(2).min(LONGEST_PAUSE);
         }
         self.latch.lock(rt)
     }
@@ -199,39 +202,38 @@ impl<N: StoreName> Shared<N> {
         }
     }
 
-    // Asks until the answer is no wait. Nobody else is woken but where locks were let go and somebody waits for one.
+    // Asks the step's event until the reply is no wait; the step has the reply then. Nobody else is woken but where locks were
+    // let go and somebody waits for one.
     pub(crate) fn step_as<R: Wait>(
         &self,
         rt: &R,
         seat: &mut SessionSeat<N>,
-        event: Event,
+        step: &mut Step,
         has_room: bool,
-    ) -> (Event, Reply)
-        requires own { session_of event ≡ seat.old.number }
-        requires asks { has_room ≡ false → AsksOfOpen event }
-        requires no_join { IsNoJoin event }
-        ensures event { result.0 ≡ event }
-        ensures kind { IsReplyTo event result.1 }
+    )
+        requires own { session_of step.old.event ≡ seat.old.number }
+        requires asks { has_room ≡ false → AsksOfOpen step.old.event }
+        requires no_join { IsNoJoin step.old.event }
+        ensures event { step.new.event ≡ step.old.event }
+        ensures kind { IsReplyTo step.new.event step.new.reply }
         ensures number { seat.new.number ≡ seat.old.number }
-        ensures moves { MovesOn N.name.setting seat.old.seen (step_of event result.1) seat.new.seen }
-        ensures answered { IsAnswered N.name.setting seat.old.number seat.old.seen event result.1 }
-        ensures room { has_room ≡ false → counts result.1 ≡ false }
-        ensures no_wait { result.1 ≢ Wait }
+        ensures moves { MovesOn N.name.setting seat.old.seen step.new seat.new.seen }
+        ensures answered { IsAnswered N.name.setting seat.old.number seat.old.seen step.new.event step.new.reply }
+        ensures room { has_room ≡ false → counts step.new.reply ≡ false }
+        ensures no_wait { step.new.reply ≢ Wait }
     {
         let mut held = self.get_latch(rt);
-        let mut event = event;
         for _ in rt.forever() {
-            let (again, reply) = held.latched.call(&self.tie, seat, event, has_room);
-            event = again;
-            if let Reply::Wait = reply {
+            held.latched.call(&self.tie, seat, step, has_room);
+            if let Reply::Wait = step.reply {
                 held.waits.for_locks = held.waits.for_locks.saturating_add(1);
                 held = self.granted.wait(rt, held);
                 held.waits.for_locks = held.waits.for_locks.saturating_sub(1);
             } else {
-                let woken = held.waits.note(&reply);
+                let woken = held.waits.note(&step.reply);
                 drop(held);
                 self.wake(woken);
-                return (event, reply);
+                return;
             }
         }
         unreachable!()

@@ -4,7 +4,8 @@ ghost use Rattle.pc_model.specs.FewWrites.{HasFewWrites};
 
 use pc_engine::World;
 use pc_log::{encode_entry, encode_header};
-use pc_part::{Base, Part, SharedPart};
+use pc_part::{Base, Part};
+use pc_shelf::SharedPart;
 use pc_types::{Entry, Refusal, Tally};
 use std::alloc::Global;
 

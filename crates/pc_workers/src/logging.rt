@@ -16,8 +16,8 @@ use std::sync::Wait;
 /// The logger asks for at most so many entries at once.
 pub const MOST_BATCH: usize = 64;
 
-// How many moments the logger lets go by where it found fewer entries than it asked for: meanwhile more of them come, and it gets
-// the latch less often.
+// How often the logger lets others run where it found fewer entries than it asked for: meanwhile more of them come, and it gets the
+// latch less often.
 const PAUSE: u32 = 1024;
 
 // One entry after the other.

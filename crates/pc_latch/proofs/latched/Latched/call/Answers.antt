@@ -5,4 +5,4 @@ use Rattle.pc_latch.proofs.latched.Latched.call.Goals as goal
 pub returns-clause-kind : goal.returns-clause-kind
 returns-clause-kind g c =
     let hist = c.self.inside.keeper.history in
-    reply_kind (setting_of c.self.inside.world) hist c.args.event c.ask-reply.result (c.ask-reply.ensures.follows hist c.self.invariant.1).legal
+    reply_kind (setting_of c.self.inside.world) hist c.args.step.now.event c.ask.result (c.ask.ensures.follows hist c.self.invariant.1).legal

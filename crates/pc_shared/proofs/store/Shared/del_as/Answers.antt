@@ -1,10 +1,9 @@
-use Rattle.std.proofs.Common.{ℕ, subst}
+use Rattle.std.proofs.Common.{◌∙◌}
 use Rattle.pc_types.specs.declared.Event.TheVariants.{Del}
-use Rattle.pc_types.specs.declared.Reply.{Reply}
-use Rattle.pc_model.specs.Calls.{IsAnswered}
+use Rattle.pc_shared.proofs.Calling.{answered_as}
 use Rattle.pc_shared.proofs.store.Shared.del_as.Goals as goal
 
 pub returns-in-Refused-clause-refused : goal.returns-in-Refused-clause-refused
 returns-in-Refused-clause-refused g c =
     let s = c.args.seat.now in
-    subst (λ (y : ℕ × Reply). IsAnswered g.N.StoreName.name.setting s.number s.seen (Del y.0 c.args.key) y.1) (λ k. (c.number.ensures.number k, c.in-Refused.is k)) c.step_as-event.ensures.answered
+    answered_as g.N.StoreName.name.setting s.number s.seen _ _ _ _ (c.step_as.ensures.event ∙ c.asking-step.ensures ∙ (λ k. Del (c.number.ensures.number k) c.args.key)) c.in-Refused.is c.step_as.ensures.answered

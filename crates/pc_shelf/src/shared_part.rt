@@ -4,7 +4,7 @@ ghost use Rattle.pc_model.specs.Sets as set;
 ghost use Rattle.pc_model.specs.Files.{triples_taken};
 ghost use Rattle.pc_part.specs.Bases.{IsWithinLimit};
 
-use crate::part::Part;
+use pc_part::Part;
 use pc_taken::Taken;
 use pc_types::{Point, Refusal};
 use std::alloc::Global;

@@ -4,8 +4,9 @@ use Rattle.pc_model.specs.Maps as map_of
 use Rattle.pc_model.specs.Sets as set
 use Rattle.pc_part.specs.declared.ranges.Range.{Range}
 use Rattle.pc_part.specs.Parts.{AreCovered}
-use Rattle.pc_part.proofs.TakenTriples.{taken_rise, taken_covered, moved_in, one_point}
-use Rattle.pc_part.proofs.shared_part.SharedPart.of_taken.Goals as goal
+use Rattle.pc_part.proofs.TakenTriples.{taken_rise, taken_covered, one_point}
+use Rattle.pc_shelf.proofs.MovedEntries.{moved_in}
+use Rattle.pc_shelf.proofs.shared_part.SharedPart.of_taken.Goals as goal
 
 pub set_entries-requires-clause-rise : goal.set_entries-requires-clause-rise
 set_entries-requires-clause-rise c = taken_rise c.args.point c.args.taken.now c.move_into-entries.result.items c.move_into-entries.ensures.triples c.move_into-entries.ensures.rise
