@@ -1,6 +1,6 @@
 //! Receipts beside the log.
 use pc_replay::{Pairs, apply};
-use pc_shared::Session;
+use pc_shared::{Receipts, Session};
 use pc_tie::StoreName;
 use pc_types::{Entry, Key, Lsn, Receipt, Refusal, SessionNo, Value, Write};
 use std::alloc::Global;
@@ -19,8 +19,8 @@ pub fn are_exact<N: StoreName>(
         number = number.saturating_add(1);
         if let Entry::Commit(session, writes) = entry {
             commits = commits.saturating_add(1);
-            let receipt = receipt_of(sessions, *session, Lsn(number));
-            if !is_exact(&contents, receipt, writes.as_slice()) {
+            let receipt = receipt_of(alloc, sessions, *session, Lsn(number))?;
+            if !is_exact(&contents, receipt.as_ref(), writes.as_slice()) {
                 return Ok(false);
             }
             apply_all(alloc, &mut contents, writes.as_slice())?;
@@ -39,15 +39,25 @@ pub fn count_of<N: StoreName>(sessions: &[Session<N>]) -> usize {
 }
 
 fn receipt_of<N: StoreName>(
+    alloc: Global,
     sessions: &[Session<N>],
     number: SessionNo,
     entry: Lsn,
-) -> Option<&Receipt> {
-    let session = sessions.iter().find(|session| session.number() == number)?;
-    session
-        .receipts()
-        .iter()
-        .find(|receipt| receipt.number == entry)
+) -> Result<Option<Receipt>, Refusal> {
+    match sessions.iter().find(|session| session.number() == number) {
+        Some(session) => receipt_in(alloc, session.receipts(), entry),
+        None => Ok(None),
+    }
+}
+
+// The receipt of the entry of this number.
+fn receipt_in(alloc: Global, receipts: &Receipts, entry: Lsn) -> Result<Option<Receipt>, Refusal> {
+    for place in 0..receipts.len() {
+        if receipts.number(place) == Some(entry) {
+            return Ok(receipts.copy(alloc, place)?);
+        }
+    }
+    Ok(None)
 }
 
 fn is_exact(contents: &Pairs, receipt: Option<&Receipt>, writes: &[Write]) -> bool {

@@ -2,7 +2,9 @@
 #![tactic(auto)]
 
 mod got;
+mod receipts;
 mod work;
 
 pub use got::Got;
-pub use work::{Latest, Work, has_room, has_room_to_read, has_room_to_write};
+pub use receipts::{Head, Receipts};
+pub use work::{Latest, Work, has_room_for_receipt, has_room_to_read, has_room_to_write};

@@ -1,15 +1,16 @@
 //! What a session has written and read, its receipts, and what it found.
-ghost use Rattle.std.specs.Prelude.{◌≡◌, ◌<◌, ◌∷◌, ◌++◌, [], true, false, Some, option_copied, slice_get, vec_len, vec_capacity};
+ghost use Rattle.std.specs.Prelude.{◌≡◌, ◌<◌, ◌∷◌, ◌++◌, [], true, false, Some, length, option_copied, slice_get};
 ghost use Rattle.pc_model.specs.Database.{with_write};
 ghost use Rattle.pc_model.specs.Receipts.{own, receipt_of, with_read};
+ghost use Rattle.pc_receipts.specs.Filed.{HasRoomFor};
 ghost use Rattle.pc_receipts.specs.Notes.{reads_after, content_of, kept_in, value_of};
 ghost use Rattle.pc_receipts.specs.declared.work.Latest.TheVariants.{Nothing};
 
 use crate::got::Got;
+use crate::receipts::Receipts;
 use pc_txn::{ReadSet, WriteSet};
-use pc_types::{Key, Lsn, Receipt, SessionNo, Value, Write};
+use pc_types::{Key, Lsn, SessionNo, Value, Write};
 use std::alloc::Global;
-use std::mem;
 
 /// The value that the latest call found.
 #[derive(Drop)]
@@ -33,7 +34,7 @@ pub struct Work {
     /// What the open transaction has read: the first read of each key that it had not written.
     pub reads: ReadSet,
     /// A receipt for each commit, in their order.
-    pub receipts: Vec<Receipt>,
+    pub receipts: Receipts,
     /// What the latest call found.
     pub latest: Latest,
 }
@@ -47,7 +48,7 @@ impl Work {
             busy: false,
             writes: WriteSet::new(alloc),
             reads: ReadSet::new(alloc),
-            receipts: Vec::new(alloc),
+            receipts: Receipts::new(alloc),
             latest: Latest::Nothing,
         }
     }
@@ -108,31 +109,24 @@ impl Work {
         self.busy = false;
     }
 
-    /// The transaction was committed with this number: what it did becomes a receipt of the session, whose lists have no more
-    /// room than they take.
-    pub fn commit(&mut self, alloc: Global, session: SessionNo, number: Lsn)
-        requires { vec_len self.old.receipts < vec_capacity self.old.receipts }
+    /// The transaction was committed with this number: what it did becomes a receipt of the session.
+    pub fn commit(&mut self, session: SessionNo, number: Lsn)
+        requires { HasRoomFor self.old.receipts (length self.old.writes.items) (length self.old.reads.items) }
         ensures { (self.new.busy ≡ false) × (self.new.receipts.items ≡ self.old.receipts.items ++ receipt_of session number (own self.old.busy self.old.writes.items self.old.reads.items self.old.receipts.items) ∷ []) × (self.new.latest ≡ Nothing) }
     {
         self.latest = Latest::Nothing;
-        let writes = mem::replace(&mut self.writes, WriteSet::new(alloc));
-        let reads = mem::replace(&mut self.reads, ReadSet::new(alloc));
-        self.receipts.push_reserved(Receipt {
-            number,
-            session,
-            reads: reads.into_reads(),
-            writes: writes.into_writes(),
-        });
+        self.receipts
+            .push(session, number, &mut self.writes, &mut self.reads);
         self.busy = false;
     }
 }
 
-/// Makes room for one more, or answers false where memory ran out.
-pub fn has_room<T>(items: &mut Vec<T>) -> bool
-    ensures same { items.new.items ≡ items.old.items }
-    ensures room { result ≡ true → vec_len items.new < vec_capacity items.new }
+/// Makes room for one more receipt, of so many writes and reads, or answers false where memory ran out.
+pub fn has_room_for_receipt(receipts: &mut Receipts, writes: usize, reads: usize) -> bool
+    ensures same { receipts.new.items ≡ receipts.old.items }
+    ensures room { result ≡ true → HasRoomFor receipts.new writes reads }
 {
-    items.reserve(1).is_ok()
+    receipts.reserve(writes, reads).is_ok()
 }
 
 /// Makes room for one more write, or answers false where memory ran out.

@@ -11,9 +11,9 @@ ghost use Rattle.pc_shared.specs.Finds.{found_in};
 
 use crate::asks::answer_of;
 use crate::store::Shared;
-use pc_receipts::{Work, has_room, has_room_to_read, has_room_to_write};
+use pc_receipts::{Receipts, Work, has_room_for_receipt, has_room_to_read, has_room_to_write};
 use pc_tie::{SessionSeat, StoreName};
-use pc_types::{Key, Lsn, Receipt, Refusal, SessionNo, TxnNo, Value};
+use pc_types::{Key, Lsn, Refusal, SessionNo, TxnNo, Value};
 use std::marker::Model;
 use std::sync::Wait;
 
@@ -59,10 +59,10 @@ impl<N: StoreName> Session<N> {
     }
 
     /// Its receipts: one for each of its commits, in their order.
-    pub fn receipts(&self) -> &[Receipt]
-        ensures { result.now ≡ self.now.receipts }
+    pub fn receipts(&self) -> &Receipts
+        ensures { result.now.items ≡ self.now.receipts }
     {
-        self.work.receipts.as_slice()
+        &self.work.receipts
     }
 
     /// The value that its latest call found, where that was a `get` answered with Found; it is there until the session's next
@@ -206,13 +206,14 @@ impl<N: StoreName> Shared<N> {
         if !session.work.busy {
             return Err(told_idle(&session.seat));
         }
-        let has_room = has_room(&mut session.work.receipts);
+        let (writes, reads) = (session.work.writes.len(), session.work.reads.len());
+        let has_room = has_room_for_receipt(&mut session.work.receipts, writes, reads);
         let number = session.seat.number();
         let n = match self.commit_as(rt, &mut session.seat, has_room) {
             Ok(n) => n,
             Err(why) => return Err(why),
         };
-        session.work.commit(self.alloc, number, n);
+        session.work.commit(number, n);
         Ok(n)
     }
 

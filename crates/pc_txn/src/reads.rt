@@ -1,5 +1,5 @@
 //! A read set: the first read of each key that was not written.
-ghost use Rattle.std.specs.Prelude.{◌≡◌, ◌<◌, [], slice_get, IsOk, OnOk, IfOk, IfErr, Some};
+ghost use Rattle.std.specs.Prelude.{◌≡◌, ◌<◌, ◌≤◌, ◌+◌, ◌++◌, [], length, vec_len, vec_capacity, slice_get, IsOk, OnOk, IfOk, IfErr, Some};
 ghost use Rattle.pc_model.specs.Database.{key_cmp};
 ghost use Rattle.pc_model.specs.Places.{IsAt, IsGap};
 ghost use Rattle.pc_model.specs.Receipts.{is_read, with_read};
@@ -8,7 +8,7 @@ ghost use Rattle.pc_txn.specs.Sets.{Roomy, read_keys};
 
 use crate::order::{self, Places};
 use crate::writes::WriteSet;
-use pc_types::{Items, Key, Value};
+use pc_types::{Key, Value};
 use smallvec::SmallVec;
 use std::alloc::{AllocError, Global};
 use std::cmp::Ordering;
@@ -51,6 +51,13 @@ impl ReadSet {
         ensures { result.now ≡ self.now.items }
     {
         self.reads.as_slice()
+    }
+
+    /// How many reads there are.
+    pub fn len(&self) -> usize
+        ensures { result ≡ length self.now.items }
+    {
+        self.reads.len()
     }
 
     /// Whether the key is read.
@@ -106,13 +113,17 @@ impl ReadSet {
         self.order.clear();
     }
 
-    /// The reads, which are moved, in a list that has no more room than it takes. It takes no memory.
-    pub fn into_reads(self) -> Items<(Key, Option<Value>)>
-        ensures { result ≡ self.items }
+    /// Moves all reads behind the list's items, for which the list has room. What memory the set has it keeps for later reads,
+    /// and it takes none.
+    pub fn move_into(&mut self, list: &mut Vec<(Key, Option<Value>)>)
+        requires { vec_len list.old + length self.old.items ≤ vec_capacity list.old }
+        ensures list { list.new.items ≡ list.old.items ++ self.old.items }
+        ensures none_left { self.new.items ≡ [] }
     {
-        let ReadSet { mut reads, .. } = self;
-        reads.shrink_to_fit();
-        Items::from_vec(reads)
+        if list.append(&mut self.reads).is_err() {
+            unreachable!();
+        }
+        self.order.clear();
     }
 }
 

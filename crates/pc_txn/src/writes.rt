@@ -1,5 +1,5 @@
 //! A write set: the final write of each key.
-ghost use Rattle.std.specs.Prelude.{◌≡◌, ◌<◌, ◌≤◌, ◌+◌, ◌==◌, ◌&&◌, [], length, slice_set, is_none, is_some, IsOk, OnOk, IfOk, IfErr, vec_len, vec_capacity};
+ghost use Rattle.std.specs.Prelude.{◌≡◌, ◌<◌, ◌≤◌, ◌+◌, ◌==◌, ◌&&◌, ◌++◌, [], length, slice_set, is_none, is_some, IsOk, OnOk, IfOk, IfErr, vec_len, vec_capacity};
 ghost use Rattle.pc_model.specs.Database.{key_cmp, with_write, written};
 ghost use Rattle.pc_model.specs.DistinctWrites.{AreDistinct};
 ghost use Rattle.pc_model.specs.Places.{IsAt, IsGap};
@@ -106,6 +106,19 @@ impl WriteSet {
         ensures { self.new.items ≡ [] }
     {
         self.writes.clear();
+        self.order.clear();
+    }
+
+    /// Moves all writes behind the list's items, for which the list has room. What memory the set has it keeps for later writes,
+    /// and it takes none.
+    pub fn move_into(&mut self, list: &mut Vec<Write>)
+        requires { vec_len list.old + length self.old.items ≤ vec_capacity list.old }
+        ensures list { list.new.items ≡ list.old.items ++ self.old.items }
+        ensures none_left { self.new.items ≡ [] }
+    {
+        if list.append(&mut self.writes).is_err() {
+            unreachable!();
+        }
         self.order.clear();
     }
 

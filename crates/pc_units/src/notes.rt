@@ -86,6 +86,9 @@ fn notes_first_reads(rt: HostRuntime) -> Result<(), Fail> {
     assert_eq!(rt; read_at(alloc, &mut reads, &writes, 4)?, None);
     assert_eq!(rt; read_at(alloc, &mut reads, &writes, 2)?, Some(1));
     assert_eq!(rt; read_at(alloc, &mut reads, &writes, 9)?, None);
-    assert_eq!(rt; reads.into_reads().len(), 2);
+    let mut noted = Vec::new(alloc);
+    noted.reserve(reads.len())?;
+    reads.move_into(&mut noted);
+    assert_eq!(rt; (noted.len(), reads.len()), (2, 0));
     Ok(())
 }
