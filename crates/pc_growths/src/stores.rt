@@ -1,5 +1,4 @@
 //! Stores of one and of three sessions: points, waits, deaths and aborts.
-ghost use Rattle.std.specs.Prelude.{◌≤◌};
 
 use crate::asked::{Told, first_wrong, is_right};
 use crate::files::has_text;
@@ -22,13 +21,16 @@ const TWO: &[u8] = b"2 word of 20 letters";
 
 const THREE: &[u8] = b"3 word of 20 letters";
 
-// A store that starts from nothing, with room for two keys; where memory is wanting it is made again.
-fn empty_world(alloc: Global, seed: RandomState, sessions: u8) -> Result<World, Refusal>
-    requires { (1 ≤ sessions) × (sessions ≤ 64) }
-{
-    match World::new(alloc, Base::start(1, Vec::new(alloc)), sessions, 2, seed) {
-        Ok(world) => Ok(world),
-        Err(_) => World::new(alloc, Base::start(1, Vec::new(alloc)), sessions, 2, seed),
+// A store of three sessions, or of one, that starts from nothing, with room for two keys.
+fn empty_world(alloc: Global, seed: RandomState, has_three: bool) -> Result<World, Refusal> {
+    let sessions = if has_three { 3 } else { 1 };
+    World::new(alloc, Base::start(1, Vec::new(alloc)), sessions, 2, seed)
+}
+
+fn empty_world_again(alloc: Global, seed: RandomState, has_three: bool) -> Result<World, Refusal> {
+    match empty_world(alloc, seed, has_three) {
+        Err(_) => empty_world(alloc, seed, has_three),
+        world => world,
     }
 }
 
@@ -40,6 +42,9 @@ fn ended(alloc: Global, world: &mut World, rows: &[(Ask, Told)]) -> Result<Ended
     Ok((wrong, is_right(world)?))
 }
 
+// A file's number and its text.
+type File = (u32, &'static [u8]);
+
 // Whether the store's file of this number has this text.
 fn is_file(alloc: Global, world: &World, number: u32, text: &[u8]) -> Result<bool, Refusal> {
     match world.file(FileNo(number)) {
@@ -49,13 +54,24 @@ fn is_file(alloc: Global, world: &World, number: u32, text: &[u8]) -> Result<boo
 }
 
 // The first of the files that has another text, or 0.
-fn first_wrong_file(alloc: Global, world: &World, files: &[(u32, &[u8])]) -> Result<u32, Refusal> {
+fn first_wrong_file(alloc: Global, world: &World, files: &[File]) -> Result<u32, Refusal> {
     for file in files {
         if !is_file(alloc, world, file.0, file.1)? {
             return Ok(file.0);
         }
     }
     Ok(0)
+}
+
+// What comes of rows, and then of the store's files.
+fn ended_with_files(
+    alloc: Global,
+    world: &mut World,
+    rows: &[(Ask, Told)],
+    files: &[File],
+) -> Result<(Ended, u32), Refusal> {
+    let ended = ended(alloc, world, rows)?;
+    Ok((ended, first_wrong_file(alloc, world, files)?))
 }
 
 const RIGHT: Ended = (None, true);
@@ -105,12 +121,12 @@ const THREE_FILE: [u8; 136] = *b"PCALCP01\
     \x00\x14b word of 20 letters\x00\x00\x00\x03\x01\x00\x00\x00\x143 word of 20 letters\
     \x00\x00\x00\x00\x00\x02";
 
+const THREE_FILES: [File; 2] = [(5, &THREE_FILE), (7, &THREE_FILE)];
+
 // What comes of the three points, and of their files.
 fn three_points(alloc: Global, seed: RandomState) -> Result<(Ended, u32), Refusal> {
-    let mut world = empty_world(alloc, seed, 1)?;
-    let ended = ended(alloc, &mut world, &THREE_POINTS)?;
-    let files: [(u32, &[u8]); 2] = [(5, &THREE_FILE), (7, &THREE_FILE)];
-    Ok((ended, first_wrong_file(alloc, &world, &files)?))
+    let mut world = empty_world_again(alloc, seed, false)?;
+    ended_with_files(alloc, &mut world, &THREE_POINTS, &THREE_FILES)
 }
 
 // Whichever growth is refused, asked again the store answers as with ample memory, then and later, and its files are the
@@ -196,13 +212,20 @@ const BOTH_FILE: [u8; 112] = *b"PCALCP01\
     \x00\x14b word of 20 letters\x00\x00\x00\x02\x00\
     \x00\x00\x00\x00\x00\x02";
 
-// What comes of both points, and of their files.
-fn two_points(alloc: Global, seed: RandomState) -> Result<(Ended, Ended, u32), Refusal> {
-    let mut world = empty_world(alloc, seed, 3)?;
-    let first = ended(alloc, &mut world, &FIRST_POINT)?;
-    let second = ended(alloc, &mut world, &SECOND_POINT)?;
-    let files: [(u32, &[u8]); 3] = [(1, &FIRST_FILE), (3, &BOTH_FILE), (4, &BOTH_FILE)];
-    Ok((first, second, first_wrong_file(alloc, &world, &files)?))
+const BOTH_FILES: [File; 3] = [(1, &FIRST_FILE), (3, &BOTH_FILE), (4, &BOTH_FILE)];
+
+// What comes of the first point; then of the second, and of the files of both.
+type OfBoth = (Ended, (Ended, u32));
+
+fn ended_both(alloc: Global, world: &mut World) -> Result<OfBoth, Refusal> {
+    let first = ended(alloc, world, &FIRST_POINT)?;
+    let second = ended_with_files(alloc, world, &SECOND_POINT, &BOTH_FILES)?;
+    Ok((first, second))
+}
+
+fn two_points(alloc: Global, seed: RandomState) -> Result<OfBoth, Refusal> {
+    let mut world = empty_world_again(alloc, seed, true)?;
+    ended_both(alloc, &mut world)
 }
 
 // Whichever growth is refused, asked again the store answers as with ample memory, then and later, and its files are the
@@ -210,7 +233,7 @@ fn two_points(alloc: Global, seed: RandomState) -> Result<(Ended, Ended, u32), R
 #[test]
 fn points_are_the_same_at_each_refused_growth(rt: HostRuntime) -> Result<(), Fail> {
     let seed = RandomState::new(&rt)?;
-    assert_eq!(rt; two_points(rt.alloc(), seed)?, (RIGHT, RIGHT, 0));
+    assert_eq!(rt; two_points(rt.alloc(), seed)?, (RIGHT, (RIGHT, 0)));
     Ok(())
 }
 
@@ -270,8 +293,8 @@ fn world_of_pair(alloc: Global, seed: RandomState) -> Result<World, Refusal> {
 
 fn world_of_pair_again(alloc: Global, seed: RandomState) -> Result<World, Refusal> {
     match world_of_pair(alloc, seed) {
-        Ok(world) => Ok(world),
         Err(_) => world_of_pair(alloc, seed),
+        world => world,
     }
 }
 
