@@ -52,7 +52,10 @@ pub(crate) fn tell(reply: &Reply) -> Told {
 
 /// The first byte, or 0.
 pub(crate) fn first(bytes: &[u8]) -> u8 {
-    bytes.first().copied().unwrap_or(0)
+    match bytes.first() {
+        Some(byte) => *byte,
+        None => 0,
+    }
 }
 
 fn content_told(content: &Option<Value>) -> u8 {

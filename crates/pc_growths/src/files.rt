@@ -157,13 +157,22 @@ fn wrong_of_laying(alloc: Global) -> Result<&'static str, Refusal> {
     let base = base(alloc)?;
     let part = first(alloc)?;
     let laid = laid_again(alloc, &base, &part)?;
+    wrong_laid(alloc, &base, &part, &laid)
+}
+
+fn wrong_laid(
+    alloc: Global,
+    base: &Base,
+    part: &Part,
+    laid: &Base,
+) -> Result<&'static str, Refusal> {
     if laid.point() != Point(1) || !are_pairs(laid.pairs(), &LAID) {
         return Ok("what is laid");
     }
     if base.point() != Point(0) || !are_pairs(base.pairs(), &PAIRS) {
         return Ok("the base");
     }
-    let is_part = has_text(alloc, &part, &FIRST)?;
+    let is_part = has_text(alloc, part, &FIRST)?;
     Ok(if is_part { "nothing" } else { "the part" })
 }
 

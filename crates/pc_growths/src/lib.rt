@@ -19,3 +19,5 @@ mod recoveries;
 mod shown;
 #[cfg(test)]
 mod stores;
+#[cfg(test)]
+mod worlds;

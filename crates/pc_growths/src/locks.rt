@@ -117,21 +117,25 @@ fn is_right(
 // Locks; where memory is wanting they are made again.
 fn new_locks(alloc: Global) -> Result<Slots, AllocError> {
     match Slots::new(alloc) {
-        Ok(locks) => Ok(locks),
         Err(_) => Slots::new(alloc),
+        locks => locks,
     }
 }
 
 // The first of the rows at which the locks or their twin say something else, or look otherwise.
-fn first_wrong_row(alloc: Global) -> Result<Option<usize>, AllocError> {
-    let mut locks = new_locks(alloc)?;
-    let mut twin = new_locks(alloc)?;
+fn wrong_row(locks: &mut Slots, twin: &mut Slots) -> Result<Option<usize>, AllocError> {
     for (i, row) in ROWS.iter().enumerate() {
-        if !is_right(&mut locks, &mut twin, row.0, row.1)? {
+        if !is_right(locks, twin, row.0, row.1)? {
             return Ok(Some(i));
         }
     }
     Ok(None)
+}
+
+fn first_wrong_row(alloc: Global) -> Result<Option<usize>, AllocError> {
+    let mut locks = new_locks(alloc)?;
+    let mut twin = new_locks(alloc)?;
+    wrong_row(&mut locks, &mut twin)
 }
 
 // The nth of 64 transactions to come to slot 0, and what comes of it. The transactions 63, 61, .. 1 each come before the
@@ -219,20 +223,22 @@ fn is_long_list_right(alloc: Global) -> Result<bool, AllocError> {
     Ok(reads_all(&mut locks)? && releases_all(&mut locks))
 }
 
+// Whether the transaction 1 gives each of 16 slots back and is granted to read it once more, the first time.
+fn gives_back_and_reads(locks: &mut Slots) -> Result<bool, AllocError> {
+    for slot in 0..SLOTS {
+        if locks.release_one(TxnNo(1)) != Some(SlotId(slot)) || !reads_once(locks, slot)? {
+            return Ok(false);
+        }
+    }
+    Ok(true)
+}
+
 // Whether requests with room are granted the first time: a transaction reads each of 16 slots, asking again where memory
 // was wanting, and then gives each back and reads it once more. Its list never becomes empty, and the place that it gave
 // back has its links, so that no growth is asked for and none can be refused.
 fn reads_again_at_once(alloc: Global) -> Result<bool, AllocError> {
     let mut locks = new_locks(alloc)?;
-    if !reads_all(&mut locks)? {
-        return Ok(false);
-    }
-    for slot in 0..SLOTS {
-        if locks.release_one(TxnNo(1)) != Some(SlotId(slot)) || !reads_once(&mut locks, slot)? {
-            return Ok(false);
-        }
-    }
-    Ok(true)
+    Ok(reads_all(&mut locks)? && gives_back_and_reads(&mut locks)?)
 }
 
 // Whichever growth is refused, the locks are as before, and asked again they answer as with ample memory, then and later.

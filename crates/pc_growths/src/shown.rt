@@ -2,26 +2,30 @@
 
 use crate::asked::{Told, answer, first_wrong, tell};
 use crate::files::{Pair, are_pairs};
+use crate::worlds::new_world;
 use Phase::{Capture, Prepare, Resolve};
-use pc_asks::{Ask, event_of};
+use pc_asks::{Ask, events_of};
 use pc_engine::{World, run};
 use pc_part::Base;
-use pc_types::{FileNo, Key, Phase, Refusal, Value};
+use pc_types::{FileNo, Phase, Refusal, Reply};
 use std::alloc::Global;
 use std::hash::RandomState;
 use std::test::Fail;
 
+// How many replies there are, and what the second one tells.
+fn second_told(replies: &[Reply]) -> (usize, Told) {
+    match replies.get(1) {
+        Some(reply) => (replies.len(), tell(reply)),
+        None => (replies.len(), Told::Unasked),
+    }
+}
+
 // What two events are told, by a run over both.
 fn told_by_run(alloc: Global, seed: RandomState) -> Result<(usize, Told), Refusal> {
-    let begin = event_of(alloc, Ask::Begin(1))?;
-    let commit = event_of(alloc, Ask::Commit(1))?;
+    let events = events_of(alloc, &[Ask::Begin(1), Ask::Commit(1)])?;
     let base = Base::start(1, Vec::new(alloc));
-    let (_, replies) = run(alloc, base, 1, 1024, seed, &[begin, commit])?;
-    let told = match replies.get(1) {
-        Some(reply) => tell(reply),
-        None => Told::Unasked,
-    };
-    Ok((replies.len(), told))
+    let (_, replies) = run(alloc, base, 1, 1024, seed, &events)?;
+    Ok(second_told(&replies))
 }
 
 #[test]
@@ -31,19 +35,8 @@ fn runs_to_the_end(rt: HostRuntime) -> Result<(), Fail> {
     Ok(())
 }
 
-// A store of one session that starts from the pair b, 1, with room for so many keys.
-fn world_of_pair(alloc: Global, seed: RandomState, two_keys: bool) -> Result<World, Refusal> {
-    let key = Key::new(alloc, b"b")?;
-    let value = Value::new(alloc, b"1")?;
-    let pairs = vec![in alloc; (key, value)]?;
-    World::new(
-        alloc,
-        Base::start(7, pairs),
-        1,
-        if two_keys { 2 } else { 1 },
-        seed,
-    )
-}
+// The pair that a store of one session starts from.
+const PAIR: Option<Pair> = Some((b"b", b"1"));
 
 const ONE_PAIR: [Pair; 1] = [(b"b", b"1")];
 
@@ -106,7 +99,7 @@ fn first_not_shown(alloc: Global, world: &mut World) -> Result<Option<usize>, Re
 }
 
 fn wrong_of_pair(alloc: Global, seed: RandomState) -> Result<Option<usize>, Refusal> {
-    let mut world = world_of_pair(alloc, seed, true)?;
+    let mut world = new_world(alloc, seed, PAIR, 1, 2)?;
     first_not_shown(alloc, &mut world)
 }
 
@@ -120,7 +113,7 @@ fn shows_what_it_holds(rt: HostRuntime) -> Result<(), Fail> {
 
 // How many entries a file has that was handed out before its store went.
 fn entries_of_handed(alloc: Global, seed: RandomState) -> Result<usize, Refusal> {
-    let mut world = world_of_pair(alloc, seed, true)?;
+    let mut world = new_world(alloc, seed, PAIR, 1, 2)?;
     first_not_shown(alloc, &mut world)?;
     let shared = world.hand_out(FileNo(2))?;
     drop(world);
@@ -144,7 +137,7 @@ const GREATEST: [(Ask<'static>, Told); 5] = [
 ];
 
 fn wrong_of_greatest(alloc: Global, seed: RandomState) -> Result<Option<(usize, Told)>, Refusal> {
-    let mut world = world_of_pair(alloc, seed, false)?;
+    let mut world = new_world(alloc, seed, PAIR, 1, 1)?;
     Ok(first_wrong(alloc, &mut world, &GREATEST))
 }
 

@@ -1,11 +1,11 @@
 //! Stores of one and of three sessions: points, waits, deaths and aborts.
 
 use crate::asked::{Told, first_wrong, is_right};
-use crate::files::has_text;
+use crate::files::{Pair, has_text};
+use crate::worlds::world_again;
 use pc_asks::Ask;
 use pc_engine::World;
-use pc_part::Base;
-use pc_types::{FileNo, Key, Phase, Refusal, Value};
+use pc_types::{FileNo, Phase, Refusal};
 use std::alloc::Global;
 use std::hash::RandomState;
 use std::test::Fail;
@@ -20,27 +20,6 @@ const ONE: &[u8] = b"1 word of 20 letters";
 const TWO: &[u8] = b"2 word of 20 letters";
 
 const THREE: &[u8] = b"3 word of 20 letters";
-
-// A store of three sessions, or of one, that starts from nothing, with room for two keys.
-fn empty_world(alloc: Global, seed: RandomState, has_three: bool) -> Result<World, Refusal> {
-    let sessions = if has_three { 3 } else { 1 };
-    World::new(alloc, Base::start(1, Vec::new(alloc)), sessions, 2, seed)
-}
-
-fn empty_world_again(alloc: Global, seed: RandomState, has_three: bool) -> Result<World, Refusal> {
-    match empty_world(alloc, seed, has_three) {
-        Err(_) => empty_world(alloc, seed, has_three),
-        world => world,
-    }
-}
-
-// What comes of rows: the first wrong answer, and whether the store is right then.
-type Ended = (Option<(usize, Told)>, bool);
-
-fn ended(alloc: Global, world: &mut World, rows: &[(Ask, Told)]) -> Result<Ended, Refusal> {
-    let wrong = first_wrong(alloc, world, rows);
-    Ok((wrong, is_right(world)?))
-}
 
 // A file's number and its text.
 type File = (u32, &'static [u8]);
@@ -63,18 +42,21 @@ fn first_wrong_file(alloc: Global, world: &World, files: &[File]) -> Result<u32,
     Ok(0)
 }
 
-// What comes of rows, and then of the store's files.
-fn ended_with_files(
+// What comes of rows: the first wrong answer, whether the store is right then, and the first wrong file, or 0.
+type Ended = (Option<(usize, Told)>, bool, u32);
+
+const RIGHT: Ended = (None, true, 0);
+
+fn ended(
     alloc: Global,
     world: &mut World,
     rows: &[(Ask, Told)],
     files: &[File],
-) -> Result<(Ended, u32), Refusal> {
-    let ended = ended(alloc, world, rows)?;
-    Ok((ended, first_wrong_file(alloc, world, files)?))
+) -> Result<Ended, Refusal> {
+    let wrong = first_wrong(alloc, world, rows);
+    let is_right = is_right(world)?;
+    Ok((wrong, is_right, first_wrong_file(alloc, world, files)?))
 }
-
-const RIGHT: Ended = (None, true);
 
 // Three points, one commit before each, and joins of their files.
 const THREE_POINTS: [(Ask, Told); 33] = [
@@ -123,10 +105,9 @@ const THREE_FILE: [u8; 136] = *b"PCALCP01\
 
 const THREE_FILES: [File; 2] = [(5, &THREE_FILE), (7, &THREE_FILE)];
 
-// What comes of the three points, and of their files.
-fn three_points(alloc: Global, seed: RandomState) -> Result<(Ended, u32), Refusal> {
-    let mut world = empty_world_again(alloc, seed, false)?;
-    ended_with_files(alloc, &mut world, &THREE_POINTS, &THREE_FILES)
+fn three_points(alloc: Global, seed: RandomState) -> Result<Ended, Refusal> {
+    let mut world = world_again(alloc, seed, None, 1)?;
+    ended(alloc, &mut world, &THREE_POINTS, &THREE_FILES)
 }
 
 // Whichever growth is refused, asked again the store answers as with ample memory, then and later, and its files are the
@@ -134,7 +115,7 @@ fn three_points(alloc: Global, seed: RandomState) -> Result<(Ended, u32), Refusa
 #[test]
 fn a_store_answers_the_same_at_each_refused_growth(rt: HostRuntime) -> Result<(), Fail> {
     let seed = RandomState::new(&rt)?;
-    assert_eq!(rt; three_points(rt.alloc(), seed)?, (RIGHT, 0));
+    assert_eq!(rt; three_points(rt.alloc(), seed)?, RIGHT);
     Ok(())
 }
 
@@ -214,18 +195,18 @@ const BOTH_FILE: [u8; 112] = *b"PCALCP01\
 
 const BOTH_FILES: [File; 3] = [(1, &FIRST_FILE), (3, &BOTH_FILE), (4, &BOTH_FILE)];
 
-// What comes of the first point; then of the second, and of the files of both.
-type OfBoth = (Ended, (Ended, u32));
-
-fn ended_both(alloc: Global, world: &mut World) -> Result<OfBoth, Refusal> {
-    let first = ended(alloc, world, &FIRST_POINT)?;
-    let second = ended_with_files(alloc, world, &SECOND_POINT, &BOTH_FILES)?;
-    Ok((first, second))
+// What comes of the first point, where that is wrong, or else of the second.
+fn both_points(alloc: Global, world: &mut World) -> Result<Ended, Refusal> {
+    let first = ended(alloc, world, &FIRST_POINT, &[])?;
+    if first != RIGHT {
+        return Ok(first);
+    }
+    ended(alloc, world, &SECOND_POINT, &BOTH_FILES)
 }
 
-fn two_points(alloc: Global, seed: RandomState) -> Result<OfBoth, Refusal> {
-    let mut world = empty_world_again(alloc, seed, true)?;
-    ended_both(alloc, &mut world)
+fn two_points(alloc: Global, seed: RandomState) -> Result<Ended, Refusal> {
+    let mut world = world_again(alloc, seed, None, 3)?;
+    both_points(alloc, &mut world)
 }
 
 // Whichever growth is refused, asked again the store answers as with ample memory, then and later, and its files are the
@@ -233,7 +214,7 @@ fn two_points(alloc: Global, seed: RandomState) -> Result<OfBoth, Refusal> {
 #[test]
 fn points_are_the_same_at_each_refused_growth(rt: HostRuntime) -> Result<(), Fail> {
     let seed = RandomState::new(&rt)?;
-    assert_eq!(rt; two_points(rt.alloc(), seed)?, (RIGHT, (RIGHT, 0)));
+    assert_eq!(rt; two_points(rt.alloc(), seed)?, RIGHT);
     Ok(())
 }
 
@@ -283,24 +264,12 @@ const LONG_ROWS: [(Ask, Told); 31] = [
     (Ask::Seal, Told::Phase(Phase::Resolve, 1)),
 ];
 
-// A store of three sessions that starts from one pair, with room for two keys.
-fn world_of_pair(alloc: Global, seed: RandomState) -> Result<World, Refusal> {
-    let key = Key::new(alloc, LONG_K)?;
-    let value = Value::new(alloc, b"5")?;
-    let pairs = vec![in alloc; (key, value)]?;
-    World::new(alloc, Base::start(7, pairs), 3, 2, seed)
-}
-
-fn world_of_pair_again(alloc: Global, seed: RandomState) -> Result<World, Refusal> {
-    match world_of_pair(alloc, seed) {
-        Err(_) => world_of_pair(alloc, seed),
-        world => world,
-    }
-}
+// The pair that the store starts from.
+const LONG_PAIR: Option<Pair> = Some((LONG_K, b"5"));
 
 fn waits_and_deaths(alloc: Global, seed: RandomState) -> Result<Ended, Refusal> {
-    let mut world = world_of_pair_again(alloc, seed)?;
-    ended(alloc, &mut world, &LONG_ROWS)
+    let mut world = world_again(alloc, seed, LONG_PAIR, 3)?;
+    ended(alloc, &mut world, &LONG_ROWS, &[])
 }
 
 // Whichever growth is refused, asked again the store answers as with ample memory, then and later; an abort needs none and
