@@ -20,7 +20,7 @@ invariant_of-session-2 g c =
     let after = c.commit_as.new.seat.seen in
     let e = c.commit.ensures in
     let added : (n : ℕ) → (ks : List Receipt) → List Receipt = (λ n ks. ks ++ receipt_of n c.in-Ok.n (own w.busy w.writes.items w.reads.items ks) ∷ []) in
-    let receipts : v.receipts.items ≡ added f.number w.receipts.items = e.1 ∙ (ap (λ (n : ℕ). added n c.has_room_for_receipt-has_room.new.items.items) c.number-number.ensures.number ∙ ap (added f.number) c.has_room_for_receipt-has_room.ensures.same) in (
+    let receipts : v.receipts.items ≡ added f.number w.receipts.items = e.1 ∙ (ap (λ (n : ℕ). added n c.has_room_for_receipt-has_room.new.receipts.items) c.number-number.ensures.number ∙ ap (added f.number) c.has_room_for_receipt-has_room.ensures.same) in (
       subst (λ (m : ℕ). Keeps v.busy v.writes.items v.reads.items v.receipts.items m after) (sym c.commit_as.ensures.number)
           (commit_keeps g.N.StoreName.name.setting f.number f.seen after w.busy v.busy w.writes.items v.writes.items w.reads.items v.reads.items w.receipts.items v.receipts.items (c.session.invariant.0.while_busy c.if-not-session.false) c.in-Ok.n c.in-Ok.ensures.call e.0 receipts),
       ap (λ l. kept_in l v.reads.items) e.2 ∙ sym (step_found g.N.StoreName.name.setting f.seen after (step_of (asked.Commit f.number) (Committed c.in-Ok.n)) c.in-Ok.ensures.call),
@@ -41,6 +41,6 @@ returns-clause-receipt g c =
     let e = c.commit.ensures in
     let n = c.in-Ok.n in
     let added : (m : ℕ) → (ks : List Receipt) → List Receipt = (λ m ks. ks ++ receipt_of m n (own w.busy w.writes.items w.reads.items ks) ∷ []) in
-    let receipts : c.commit.new.self.receipts.items ≡ added f.number w.receipts.items = e.1 ∙ (ap (λ (m : ℕ). added m c.has_room_for_receipt-has_room.new.items.items) c.number-number.ensures.number ∙ ap (added f.number) c.has_room_for_receipt-has_room.ensures.same) in
+    let receipts : c.commit.new.self.receipts.items ≡ added f.number w.receipts.items = e.1 ∙ (ap (λ (m : ℕ). added m c.has_room_for_receipt-has_room.new.receipts.items) c.number-number.ensures.number ∙ ap (added f.number) c.has_room_for_receipt-has_room.ensures.same) in
     let is = c.session.invariant.0.while_busy c.if-not-session.false in
     receipts ∙ ((λ k. w.receipts.items ++ receipt_of f.number n (is k) ∷ []) ∙ (λ k. (c.session.view_is k).receipts ++ receipt_of (c.session.view_is k).number n (own_of (c.session.view_is k).number (c.session.view_is k).seen) ∷ []))
