@@ -2,7 +2,7 @@
 //! themselves.
 #![tactic(auto)]
 
-ghost use Rattle.std.specs.Prelude.{◌≡◌};
+ghost use Rattle.std.specs.Prelude.{◌≡◌, ◌≤◌};
 
 mod bare;
 mod calls;
@@ -18,7 +18,7 @@ use options::{Options, Work, options_of};
 use pc_part::Base;
 use pc_shared::Opened;
 use pc_tie::StoreName;
-use pc_types::Refusal;
+use pc_types::{MOST_KEYS, Refusal};
 use shared::commit_by_all;
 use std::alloc::Global;
 use std::hash::RandomState;
@@ -29,9 +29,6 @@ use std::sync::Wait;
 use std::thread::Threads;
 use std::time::{Duration, Instant};
 use std::{env, io};
-
-// The most keys that a store may have room for.
-const CAPACITY: u32 = 1_048_576;
 
 fn main(rt: HostRuntime) -> ExitCode {
     match run_command(&rt, &rt) {
@@ -120,10 +117,18 @@ fn measure_calls<H: Threads + Wait + Sync>(
     Ok(())
 }
 
-// A store with a session for each thread, and room for the keys of all.
+// How many keys all threads have together.
+fn capacity_of(options: &Options) -> u32
+    ensures { (1 ≤ result) × (result ≤ MOST_KEYS) }
+{
+    let keys = u32::from(options.threads).saturating_mul(options.keys);
+    keys.min(MOST_KEYS).max(1)
+}
+
+// A store with a session for each thread, and room for just the keys of all.
 fn open(alloc: Global, seed: RandomState, options: &Options) -> Result<Opened, Refusal> {
     let base = Base::start(1, Vec::new(alloc));
-    Opened::new(alloc, base, options.threads, CAPACITY, seed)
+    Opened::new(alloc, base, options.threads, capacity_of(options), seed)
 }
 
 // The store from its opening on, while its threads commit.
