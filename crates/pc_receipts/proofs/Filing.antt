@@ -2,8 +2,7 @@
 use Rattle.std.proofs.Common.{◌≡◌, ◌<◌, ◌≤◌, ◌+◌, ◌-◌, ℕ, zero, suc, List, [], ◌∷◌, ◌++◌, length, take, drop, refl, ap, sym, ◌∙◌, subst, arith}
 use Rattle.std.specs.Prelude.{Option, Some, None, slice_get, slice_range}
 use Rattle.std.proofs.Math.Seq.{drop-append_seam}
-use Rattle.std.proofs.lemmas.List.{take_all, take-append-le, drop-append-le, length-append, length-drop}
-use Rattle.pc_types.specs.declared.Receipt.{Receipt}
+use Rattle.std.proofs.lemmas.List.{take_all, take-append-le, drop-append-le, length-drop}
 use Rattle.pc_types.specs.declared.Write.{Write}
 use Rattle.pc_model.specs.Receipts.{Read}
 use Rattle.pc_receipts.specs.declared.receipts.Head.{Head}
@@ -105,3 +104,7 @@ lies w r (g ∷ hs) ws rs zero h e is = subst (λ (x : Head). Lies (w, r) x ws r
   later : (g.writes_end ≤ ws) × (g.reads_end ≤ rs)
   later = ends_rise g.writes_end g.reads_end hs ws rs e.2
 lies w r (g ∷ hs) ws rs (suc place) h e is = lies g.writes_end g.reads_end hs ws rs place h e.2 is
+
+-- what is told of a list that is lent is so of the list
+pub found_at : (heads lent : List Head) (place : ℕ) (told found : Option Head) → lent ≡ heads → told ≡ slice_get lent place → told ≡ found → slice_get heads place ≡ found
+found_at heads lent place told found same is so = ap (λ (hs : List Head). slice_get hs place) (sym same) ∙ (sym is ∙ so)

@@ -1,5 +1,5 @@
 -- Receipts in few bytes: the writes of all of them in one list, their reads in another, and of each where its own end.
-use Rattle.std.specs.Prelude.{◌≡◌, ◌<◌, ◌≤◌, ℕ, zero, suc, List, [], ◌∷◌, length, slice_range}
+use Rattle.std.specs.Prelude.{◌≡◌, ◌<◌, ◌≤◌, ℕ, zero, suc, List, [], ◌∷◌, slice_range}
 use Rattle.pc_types.specs.declared.Receipt.{Receipt}
 use Rattle.pc_types.specs.declared.Write.{Write}
 use Rattle.pc_model.specs.Receipts.{Read}

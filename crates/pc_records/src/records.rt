@@ -23,9 +23,9 @@ ghost use Rattle.pc_records.specs.Slots.{slots_in, rows_of, pending_of, table_of
 ghost use Rattle.pc_table.specs.Rows.{slot_of, HasRow};
 
 use crate::slots;
-use pc_dirty::{Dirty, Side};
+use pc_dirty::Dirty;
 use pc_locks::Locks;
-use pc_slots::Cell;
+use pc_slots::{Author, Cell, Stage, Writing};
 use pc_table::Table;
 use pc_types::{
     Class, Key, MOST_KEYS, Mode, Outcome, Point, Refusal, SlotId, TxnNo, Value, Write, copy_content,
@@ -134,12 +134,16 @@ impl Records {
         ensures room { IfOk result (λ answer. is_full_for (kept_of self.old) key.now ≡ false) }
         ensures refusal { IfErr result (λ e. e ≡ (if is_full_for (kept_of self.old) key.now then Refusal.Full else Refusal.OutOfMemory)) }
     {
+        let side = self.sets.open_side();
+        let stage = Stage {
+            side,
+            point: self.point,
+        };
         read(
             alloc,
             &mut self.table,
             &mut self.locks,
-            self.sets.open_side(),
-            self.point,
+            stage,
             transaction,
             key,
         )
@@ -170,14 +174,18 @@ impl Records {
         ensures room { IfOk result (λ answer. is_full_for (kept_of self.old) key.now ≡ false) }
         ensures refusal { IfErr result (λ e. e ≡ (if is_full_for (kept_of self.old) key.now then Refusal.Full else Refusal.OutOfMemory)) }
     {
+        let side = self.sets.open_side();
+        let stage = Stage {
+            side,
+            point: self.point,
+        };
+        let author = Author { transaction, class };
         write(
             alloc,
             &mut self.table,
             &mut self.locks,
-            self.sets.open_side(),
-            self.point,
-            transaction,
-            class,
+            stage,
+            author,
             key,
             value,
         )
@@ -189,13 +197,11 @@ impl Records {
         ensures { self.new ≡ record self.old { rows = released_rows transaction self.old.rows } }
     {
         let side = self.sets.open_side();
-        release(
-            &mut self.table,
-            &mut self.locks,
+        let stage = Stage {
             side,
-            self.point,
-            transaction,
-        );
+            point: self.point,
+        };
+        release(&mut self.table, &mut self.locks, stage, transaction);
     }
 
     /// The transaction of these writes, which stand in their places, is committed: they are the keys' values, and their
@@ -227,7 +233,11 @@ impl Records {
         ensures shut { self.new.shut ≡ self.old.shut }
     {
         let side = self.sets.open_side();
-        slots::undo_all(&mut self.table, side, writes, slots, self.point);
+        let stage = Stage {
+            side,
+            point: self.point,
+        };
+        slots::undo_all(&mut self.table, stage, writes, slots);
     }
 
     /// The open set is closed, as that of the point, and another one begins. No record is looked at.
@@ -282,25 +292,24 @@ fn read(
     alloc: Global,
     table: &mut Table<Cell>,
     locks: &mut Locks,
-    side: Side,
-    point: Point,
+    stage: Stage,
     transaction: TxnNo,
     key: &Key,
 ) -> Result<Reading, Refusal>
-    requires kept { AreKept (slots_in side table.old.rows) (queues_in table.old.rows locks.old) }
-    requires sound { AreSound point (queues_in table.old.rows locks.old) (slots_in side table.old.rows) }
+    requires kept { AreKept (slots_in stage.side table.old.rows) (queues_in table.old.rows locks.old) }
+    requires sound { AreSound stage.point (queues_in table.old.rows locks.old) (slots_in stage.side table.old.rows) }
     requires ends { AreEnds (ends_in table.old.rows) locks.old }
     requires ready { states.is_waiting (state_of (ends_in table.old.rows) locks.old) transaction ≡ false }
-    ensures told { IfOk result (λ answer. answer.outcome ≡ outcome (requests_on (record_of (rows_of (queues_in table.old.rows locks.old) (slots_in side table.old.rows)) key.now)) transaction Shared) }
-    ensures found { IfOk result (λ answer. answer.found ≡ read_of (find key_cmp key.now (pending_of (slots_in side table.old.rows))) (stored (record_of (rows_of (queues_in table.old.rows locks.old) (slots_in side table.old.rows)) key.now))) }
-    ensures rows { IfOk result (λ answer. rows_of (queues_in table.new.rows locks.new) (slots_in side table.new.rows) ≡ rows_after (rows_of (queues_in table.old.rows locks.old) (slots_in side table.old.rows)) key.now transaction Shared answer.outcome) }
-    ensures clear { IfOk result (λ answer. answer.outcome ≡ Granted → IsClearFor (table_of table.old.capacity (queues_in table.old.rows locks.old) (slots_in side table.old.rows) point [] []) key.now transaction) }
-    ensures err { OnErr result (rows_of (queues_in table.new.rows locks.new) (slots_in side table.new.rows) ≡ rows_of (queues_in table.old.rows locks.old) (slots_in side table.old.rows)) }
-    ensures room { IfOk result (λ answer. is_full_for (kept_of (table_of table.old.capacity (queues_in table.old.rows locks.old) (slots_in side table.old.rows) point [] [])) key.now ≡ false) }
-    ensures refusal { IfErr result (λ e. e ≡ (if is_full_for (kept_of (table_of table.old.capacity (queues_in table.old.rows locks.old) (slots_in side table.old.rows) point [] [])) key.now then Refusal.Full else Refusal.OutOfMemory)) }
-    ensures pending { pending_of (slots_in side table.new.rows) ≡ pending_of (slots_in side table.old.rows) }
-    ensures kept { AreKept (slots_in side table.new.rows) (queues_in table.new.rows locks.new) }
-    ensures sound { AreSound point (queues_in table.new.rows locks.new) (slots_in side table.new.rows) }
+    ensures told { IfOk result (λ answer. answer.outcome ≡ outcome (requests_on (record_of (rows_of (queues_in table.old.rows locks.old) (slots_in stage.side table.old.rows)) key.now)) transaction Shared) }
+    ensures found { IfOk result (λ answer. answer.found ≡ read_of (find key_cmp key.now (pending_of (slots_in stage.side table.old.rows))) (stored (record_of (rows_of (queues_in table.old.rows locks.old) (slots_in stage.side table.old.rows)) key.now))) }
+    ensures rows { IfOk result (λ answer. rows_of (queues_in table.new.rows locks.new) (slots_in stage.side table.new.rows) ≡ rows_after (rows_of (queues_in table.old.rows locks.old) (slots_in stage.side table.old.rows)) key.now transaction Shared answer.outcome) }
+    ensures clear { IfOk result (λ answer. answer.outcome ≡ Granted → IsClearFor (table_of table.old.capacity (queues_in table.old.rows locks.old) (slots_in stage.side table.old.rows) stage.point [] []) key.now transaction) }
+    ensures err { OnErr result (rows_of (queues_in table.new.rows locks.new) (slots_in stage.side table.new.rows) ≡ rows_of (queues_in table.old.rows locks.old) (slots_in stage.side table.old.rows)) }
+    ensures room { IfOk result (λ answer. is_full_for (kept_of (table_of table.old.capacity (queues_in table.old.rows locks.old) (slots_in stage.side table.old.rows) stage.point [] [])) key.now ≡ false) }
+    ensures refusal { IfErr result (λ e. e ≡ (if is_full_for (kept_of (table_of table.old.capacity (queues_in table.old.rows locks.old) (slots_in stage.side table.old.rows) stage.point [] [])) key.now then Refusal.Full else Refusal.OutOfMemory)) }
+    ensures pending { pending_of (slots_in stage.side table.new.rows) ≡ pending_of (slots_in stage.side table.old.rows) }
+    ensures kept { AreKept (slots_in stage.side table.new.rows) (queues_in table.new.rows locks.new) }
+    ensures sound { AreSound stage.point (queues_in table.new.rows locks.new) (slots_in stage.side table.new.rows) }
     ensures ends { AreEnds (ends_in table.new.rows) locks.new }
     ensures capacity { table.new.capacity ≡ table.old.capacity }
     ensures sets { KeepSets table.old.rows table.new.rows }
@@ -313,7 +322,7 @@ fn read(
             Ok(Reading { outcome, found })
         }
         None => {
-            request_new(alloc, table, locks, side, point, transaction, key, mode)?;
+            request_new(alloc, table, locks, stage, transaction, key, mode)?;
             Ok(Reading {
                 outcome: Outcome::Granted,
                 found: None,
@@ -329,67 +338,66 @@ fn write(
     alloc: Global,
     table: &mut Table<Cell>,
     locks: &mut Locks,
-    side: Side,
-    point: Point,
-    transaction: TxnNo,
-    class: Class,
+    stage: Stage,
+    author: Author,
     key: &Key,
     value: Option<Value>,
 ) -> Result<Answer, Refusal>
-    requires kept { AreKept (slots_in side table.old.rows) (queues_in table.old.rows locks.old) }
-    requires sound { AreSound point (queues_in table.old.rows locks.old) (slots_in side table.old.rows) }
+    requires kept { AreKept (slots_in stage.side table.old.rows) (queues_in table.old.rows locks.old) }
+    requires sound { AreSound stage.point (queues_in table.old.rows locks.old) (slots_in stage.side table.old.rows) }
     requires ends { AreEnds (ends_in table.old.rows) locks.old }
-    requires ready { states.is_waiting (state_of (ends_in table.old.rows) locks.old) transaction ≡ false }
-    requires outside { class ≡ Before → is_in_closed_set (record_of (rows_of (queues_in table.old.rows locks.old) (slots_in side table.old.rows)) key.now) ≡ false }
-    requires again { (p : Pending) → find key_cmp key.now (pending_of (slots_in side table.old.rows)) ≡ Some p → p.by ≡ transaction → p.class ≡ class }
-    ensures told { IfOk result (λ answer. answer.outcome ≡ outcome (requests_on (record_of (rows_of (queues_in table.old.rows locks.old) (slots_in side table.old.rows)) key.now)) transaction Exclusive) }
-    ensures rows { IfOk result (λ answer. rows_of (queues_in table.new.rows locks.new) (slots_in side table.new.rows) ≡ rows_after (rows_of (queues_in table.old.rows locks.old) (slots_in side table.old.rows)) key.now transaction Exclusive answer.outcome) }
-    ensures clear { IfOk result (λ answer. answer.outcome ≡ Granted → IsClearFor (table_of table.old.capacity (queues_in table.old.rows locks.old) (slots_in side table.old.rows) point [] []) key.now transaction) }
-    ensures err { OnErr result (rows_of (queues_in table.new.rows locks.new) (slots_in side table.new.rows) ≡ rows_of (queues_in table.old.rows locks.old) (slots_in side table.old.rows)) }
-    ensures room { IfOk result (λ answer. is_full_for (kept_of (table_of table.old.capacity (queues_in table.old.rows locks.old) (slots_in side table.old.rows) point [] [])) key.now ≡ false) }
-    ensures refusal { IfErr result (λ e. e ≡ (if is_full_for (kept_of (table_of table.old.capacity (queues_in table.old.rows locks.old) (slots_in side table.old.rows) point [] [])) key.now then Refusal.Full else Refusal.OutOfMemory)) }
-    ensures pending { IfOk result (λ answer. (q : List ℕ) → find key_cmp q (pending_of (slots_in side table.new.rows)) ≡ pending_after answer.outcome (table_of table.old.capacity (queues_in table.old.rows locks.old) (slots_in side table.old.rows) point [] []) key.now (record { by = transaction; class = class; value = value }) q) }
-    ensures still { OnErr result (pending_of (slots_in side table.new.rows) ≡ pending_of (slots_in side table.old.rows)) }
-    ensures kept { AreKept (slots_in side table.new.rows) (queues_in table.new.rows locks.new) }
-    ensures sound { AreSound point (queues_in table.new.rows locks.new) (slots_in side table.new.rows) }
+    requires ready { states.is_waiting (state_of (ends_in table.old.rows) locks.old) author.transaction ≡ false }
+    requires outside { author.class ≡ Before → is_in_closed_set (record_of (rows_of (queues_in table.old.rows locks.old) (slots_in stage.side table.old.rows)) key.now) ≡ false }
+    requires again { (p : Pending) → find key_cmp key.now (pending_of (slots_in stage.side table.old.rows)) ≡ Some p → p.by ≡ author.transaction → p.class ≡ author.class }
+    ensures told { IfOk result (λ answer. answer.outcome ≡ outcome (requests_on (record_of (rows_of (queues_in table.old.rows locks.old) (slots_in stage.side table.old.rows)) key.now)) author.transaction Exclusive) }
+    ensures rows { IfOk result (λ answer. rows_of (queues_in table.new.rows locks.new) (slots_in stage.side table.new.rows) ≡ rows_after (rows_of (queues_in table.old.rows locks.old) (slots_in stage.side table.old.rows)) key.now author.transaction Exclusive answer.outcome) }
+    ensures clear { IfOk result (λ answer. answer.outcome ≡ Granted → IsClearFor (table_of table.old.capacity (queues_in table.old.rows locks.old) (slots_in stage.side table.old.rows) stage.point [] []) key.now author.transaction) }
+    ensures err { OnErr result (rows_of (queues_in table.new.rows locks.new) (slots_in stage.side table.new.rows) ≡ rows_of (queues_in table.old.rows locks.old) (slots_in stage.side table.old.rows)) }
+    ensures room { IfOk result (λ answer. is_full_for (kept_of (table_of table.old.capacity (queues_in table.old.rows locks.old) (slots_in stage.side table.old.rows) stage.point [] [])) key.now ≡ false) }
+    ensures refusal { IfErr result (λ e. e ≡ (if is_full_for (kept_of (table_of table.old.capacity (queues_in table.old.rows locks.old) (slots_in stage.side table.old.rows) stage.point [] [])) key.now then Refusal.Full else Refusal.OutOfMemory)) }
+    ensures pending { IfOk result (λ answer. (q : List ℕ) → find key_cmp q (pending_of (slots_in stage.side table.new.rows)) ≡ pending_after answer.outcome (table_of table.old.capacity (queues_in table.old.rows locks.old) (slots_in stage.side table.old.rows) stage.point [] []) key.now (record { by = author.transaction; class = author.class; value = value }) q) }
+    ensures still { OnErr result (pending_of (slots_in stage.side table.new.rows) ≡ pending_of (slots_in stage.side table.old.rows)) }
+    ensures kept { AreKept (slots_in stage.side table.new.rows) (queues_in table.new.rows locks.new) }
+    ensures sound { AreSound stage.point (queues_in table.new.rows locks.new) (slots_in stage.side table.new.rows) }
     ensures ends { AreEnds (ends_in table.new.rows) locks.new }
     ensures capacity { table.new.capacity ≡ table.old.capacity }
     ensures sets { KeepSets table.old.rows table.new.rows }
 {
     let mode = Mode::Exclusive;
+    let Author { transaction, class } = author;
+    let Stage { side, point } = stage;
     match table.find(key) {
         Some(id) => {
             let room = pc_slots::room(alloc)?;
-            let copy = pc_slots::copy_to_keep(alloc, table.get(id), side, point, class)?;
+            let copy = pc_slots::copy_to_keep(alloc, table.get(id), Stage { side, point }, class)?;
             let outcome = locks.request(table, transaction, id, mode)?;
-            slots::put_granted(
-                table,
-                side,
-                id,
-                point,
-                transaction,
-                class,
+            let write = Writing {
+                author: Author { transaction, class },
                 room,
                 copy,
                 value,
-                outcome,
-            );
+            };
+            slots::put_granted(table, Stage { side, point }, id, write, outcome);
             Ok(Answer { outcome, slot: id })
         }
         None => {
             let room = slots::room_in(alloc, table)?;
-            let id = request_new(alloc, table, locks, side, point, transaction, key, mode)?;
-            slots::put_at(
+            let id = request_new(
+                alloc,
                 table,
-                side,
-                id,
-                point,
+                locks,
+                Stage { side, point },
                 transaction,
-                class,
+                key,
+                mode,
+            )?;
+            let write = Writing {
+                author: Author { transaction, class },
                 room,
-                None,
+                copy: None,
                 value,
-            );
+            };
+            slots::put_at(table, Stage { side, point }, id, write);
             Ok(Answer {
                 outcome: Outcome::Granted,
                 slot: id,
@@ -404,27 +412,26 @@ fn request_new(
     alloc: Global,
     table: &mut Table<Cell>,
     locks: &mut Locks,
-    side: Side,
-    point: Point,
+    stage: Stage,
     transaction: TxnNo,
     key: &Key,
     mode: Mode,
 ) -> Result<SlotId, Refusal>
-    requires kept { AreKept (slots_in side table.old.rows) (queues_in table.old.rows locks.old) }
-    requires sound { AreSound point (queues_in table.old.rows locks.old) (slots_in side table.old.rows) }
+    requires kept { AreKept (slots_in stage.side table.old.rows) (queues_in table.old.rows locks.old) }
+    requires sound { AreSound stage.point (queues_in table.old.rows locks.old) (slots_in stage.side table.old.rows) }
     requires ends { AreEnds (ends_in table.old.rows) locks.old }
     requires ready { states.is_waiting (state_of (ends_in table.old.rows) locks.old) transaction ≡ false }
     requires new { slot_of table.old.rows key.now ≡ None }
-    ensures told { IfOk result (λ id. outcome (requests_on (record_of (rows_of (queues_in table.old.rows locks.old) (slots_in side table.old.rows)) key.now)) transaction mode ≡ Granted) }
-    ensures rows { IfOk result (λ id. rows_of (queues_in table.new.rows locks.new) (slots_in side table.new.rows) ≡ rows_after (rows_of (queues_in table.old.rows locks.old) (slots_in side table.old.rows)) key.now transaction mode Granted) }
-    ensures slot { IfOk result (IsFirstIn (slots_in side table.old.rows) (slots_in side table.new.rows) (queues_in table.new.rows locks.new) key.now transaction mode) }
+    ensures told { IfOk result (λ id. outcome (requests_on (record_of (rows_of (queues_in table.old.rows locks.old) (slots_in stage.side table.old.rows)) key.now)) transaction mode ≡ Granted) }
+    ensures rows { IfOk result (λ id. rows_of (queues_in table.new.rows locks.new) (slots_in stage.side table.new.rows) ≡ rows_after (rows_of (queues_in table.old.rows locks.old) (slots_in stage.side table.old.rows)) key.now transaction mode Granted) }
+    ensures slot { IfOk result (IsFirstIn (slots_in stage.side table.old.rows) (slots_in stage.side table.new.rows) (queues_in table.new.rows locks.new) key.now transaction mode) }
     ensures row { IfOk result (HasRow table.new.rows) }
-    ensures err { OnErr result (rows_of (queues_in table.new.rows locks.new) (slots_in side table.new.rows) ≡ rows_of (queues_in table.old.rows locks.old) (slots_in side table.old.rows)) }
-    ensures room { IfOk result (λ id. is_full_for (kept_of (table_of table.old.capacity (queues_in table.old.rows locks.old) (slots_in side table.old.rows) point [] [])) key.now ≡ false) }
-    ensures refusal { IfErr result (λ e. e ≡ (if is_full_for (kept_of (table_of table.old.capacity (queues_in table.old.rows locks.old) (slots_in side table.old.rows) point [] [])) key.now then Refusal.Full else Refusal.OutOfMemory)) }
-    ensures pending { pending_of (slots_in side table.new.rows) ≡ pending_of (slots_in side table.old.rows) }
-    ensures kept { AreKept (slots_in side table.new.rows) (queues_in table.new.rows locks.new) }
-    ensures sound { AreSound point (queues_in table.new.rows locks.new) (slots_in side table.new.rows) }
+    ensures err { OnErr result (rows_of (queues_in table.new.rows locks.new) (slots_in stage.side table.new.rows) ≡ rows_of (queues_in table.old.rows locks.old) (slots_in stage.side table.old.rows)) }
+    ensures room { IfOk result (λ id. is_full_for (kept_of (table_of table.old.capacity (queues_in table.old.rows locks.old) (slots_in stage.side table.old.rows) stage.point [] [])) key.now ≡ false) }
+    ensures refusal { IfErr result (λ e. e ≡ (if is_full_for (kept_of (table_of table.old.capacity (queues_in table.old.rows locks.old) (slots_in stage.side table.old.rows) stage.point [] [])) key.now then Refusal.Full else Refusal.OutOfMemory)) }
+    ensures pending { pending_of (slots_in stage.side table.new.rows) ≡ pending_of (slots_in stage.side table.old.rows) }
+    ensures kept { AreKept (slots_in stage.side table.new.rows) (queues_in table.new.rows locks.new) }
+    ensures sound { AreSound stage.point (queues_in table.new.rows locks.new) (slots_in stage.side table.new.rows) }
     ensures ends { AreEnds (ends_in table.new.rows) locks.new }
     ensures capacity { table.new.capacity ≡ table.old.capacity }
     ensures sets { KeepSets table.old.rows table.new.rows }
@@ -444,27 +451,26 @@ fn request_new(
 fn release_next(
     table: &mut Table<Cell>,
     locks: &mut Locks,
-    side: Side,
-    point: Point,
+    stage: Stage,
     transaction: TxnNo,
 ) -> bool
-    requires kept { AreKept (slots_in side table.old.rows) (queues_in table.old.rows locks.old) }
-    requires sound { AreSound point (queues_in table.old.rows locks.old) (slots_in side table.old.rows) }
+    requires kept { AreKept (slots_in stage.side table.old.rows) (queues_in table.old.rows locks.old) }
+    requires sound { AreSound stage.point (queues_in table.old.rows locks.old) (slots_in stage.side table.old.rows) }
     requires ends { AreEnds (ends_in table.old.rows) locks.old }
-    requires over { (q : List ℕ) (p : Pending) → find key_cmp q (pending_of (slots_in side table.old.rows)) ≡ Some p → (p.by == transaction) ≡ false }
-    ensures kept { AreKept (slots_in side table.new.rows) (queues_in table.new.rows locks.new) }
-    ensures sound { AreSound point (queues_in table.new.rows locks.new) (slots_in side table.new.rows) }
+    requires over { (q : List ℕ) (p : Pending) → find key_cmp q (pending_of (slots_in stage.side table.old.rows)) ≡ Some p → (p.by == transaction) ≡ false }
+    ensures kept { AreKept (slots_in stage.side table.new.rows) (queues_in table.new.rows locks.new) }
+    ensures sound { AreSound stage.point (queues_in table.new.rows locks.new) (slots_in stage.side table.new.rows) }
     ensures ends { AreEnds (ends_in table.new.rows) locks.new }
     ensures capacity { table.new.capacity ≡ table.old.capacity }
-    ensures pending { pending_of (slots_in side table.new.rows) ≡ pending_of (slots_in side table.old.rows) }
-    ensures rows { released_rows transaction (rows_of (queues_in table.new.rows locks.new) (slots_in side table.new.rows)) ≡ released_rows transaction (rows_of (queues_in table.old.rows locks.old) (slots_in side table.old.rows)) }
+    ensures pending { pending_of (slots_in stage.side table.new.rows) ≡ pending_of (slots_in stage.side table.old.rows) }
+    ensures rows { released_rows transaction (rows_of (queues_in table.new.rows locks.new) (slots_in stage.side table.new.rows)) ≡ released_rows transaction (rows_of (queues_in table.old.rows locks.old) (slots_in stage.side table.old.rows)) }
     ensures shrinks { result ≡ true → length (slots_of (lists_of locks.new) transaction) < length (slots_of (lists_of locks.old) transaction) }
-    ensures done { result ≡ false → rows_of (queues_in table.new.rows locks.new) (slots_in side table.new.rows) ≡ released_rows transaction (rows_of (queues_in table.old.rows locks.old) (slots_in side table.old.rows)) }
+    ensures done { result ≡ false → rows_of (queues_in table.new.rows locks.new) (slots_in stage.side table.new.rows) ≡ released_rows transaction (rows_of (queues_in table.old.rows locks.old) (slots_in stage.side table.old.rows)) }
     ensures sets { KeepSets table.old.rows table.new.rows }
 {
     match locks.release_one(table, transaction) {
         Some(id) => {
-            slots::tidy(table, locks, side, point, id);
+            slots::tidy(table, locks, stage, id);
             true
         }
         None => false,
@@ -472,20 +478,21 @@ fn release_next(
 }
 
 // Removes all requests of the transaction, one after the other.
-fn release(table: &mut Table<Cell>, locks: &mut Locks, side: Side, point: Point, transaction: TxnNo)
-    requires kept { AreKept (slots_in side table.old.rows) (queues_in table.old.rows locks.old) }
-    requires sound { AreSound point (queues_in table.old.rows locks.old) (slots_in side table.old.rows) }
+fn release(table: &mut Table<Cell>, locks: &mut Locks, stage: Stage, transaction: TxnNo)
+    requires kept { AreKept (slots_in stage.side table.old.rows) (queues_in table.old.rows locks.old) }
+    requires sound { AreSound stage.point (queues_in table.old.rows locks.old) (slots_in stage.side table.old.rows) }
     requires ends { AreEnds (ends_in table.old.rows) locks.old }
-    requires over { (q : List ℕ) (p : Pending) → find key_cmp q (pending_of (slots_in side table.old.rows)) ≡ Some p → (p.by == transaction) ≡ false }
-    ensures kept { AreKept (slots_in side table.new.rows) (queues_in table.new.rows locks.new) }
-    ensures sound { AreSound point (queues_in table.new.rows locks.new) (slots_in side table.new.rows) }
+    requires over { (q : List ℕ) (p : Pending) → find key_cmp q (pending_of (slots_in stage.side table.old.rows)) ≡ Some p → (p.by == transaction) ≡ false }
+    ensures kept { AreKept (slots_in stage.side table.new.rows) (queues_in table.new.rows locks.new) }
+    ensures sound { AreSound stage.point (queues_in table.new.rows locks.new) (slots_in stage.side table.new.rows) }
     ensures ends { AreEnds (ends_in table.new.rows) locks.new }
     ensures capacity { table.new.capacity ≡ table.old.capacity }
-    ensures pending { pending_of (slots_in side table.new.rows) ≡ pending_of (slots_in side table.old.rows) }
-    ensures rows { rows_of (queues_in table.new.rows locks.new) (slots_in side table.new.rows) ≡ released_rows transaction (rows_of (queues_in table.old.rows locks.old) (slots_in side table.old.rows)) }
+    ensures pending { pending_of (slots_in stage.side table.new.rows) ≡ pending_of (slots_in stage.side table.old.rows) }
+    ensures rows { rows_of (queues_in table.new.rows locks.new) (slots_in stage.side table.new.rows) ≡ released_rows transaction (rows_of (queues_in table.old.rows locks.old) (slots_in stage.side table.old.rows)) }
     ensures sets { KeepSets table.old.rows table.new.rows }
 {
-    while release_next(table, locks, side, point, transaction) {}
+    let Stage { side, point } = stage;
+    while release_next(table, locks, Stage { side, point }, transaction) {}
 }
 
 // The first key of the closed set, in which there is one, is taken, and its slot is free where nothing keeps it.
@@ -508,6 +515,6 @@ fn take(table: &mut Table<Cell>, locks: &Locks, sets: &mut Dirty, point: Point)
     let side = sets.open_side();
     if let Some(id) = sets.pop_closed(table) {
         slots::mark_taken(table, side, id);
-        slots::tidy(table, locks, side, point, id);
+        slots::tidy(table, locks, Stage { side, point }, id);
     }
 }

@@ -18,7 +18,7 @@ ghost use Rattle.pc_records.specs.Slots.{slots_in, with_entry, content_in, cells
 use pc_dirty::{Dirty, Side};
 use pc_locks::Locks;
 use pc_replay::first_of_each;
-use pc_slots::{Aside, Cell, cell_with};
+use pc_slots::{Aside, Cell, Stage, Writing, cell_with};
 use pc_table::Table;
 use pc_types::{Class, Key, MOST_KEYS, Outcome, Point, Refusal, SlotId, TxnNo, Value, Write};
 use std::alloc::{AllocError, Global};
@@ -180,71 +180,35 @@ pub(crate) fn room_in(alloc: Global, table: &Table<Cell>) -> Result<Box<Aside>, 
     }
 }
 
-// The transaction writes the slot's key in its place; the copy is one of what stands there, where one is kept, and the room is
-// for what the slot keeps aside where it has none.
-pub(crate) fn put_at(
-    table: &mut Table<Cell>,
-    side: Side,
-    id: SlotId,
-    point: Point,
-    transaction: TxnNo,
-    class: Class,
-    room: Box<Aside>,
-    copy: Option<Value>,
-    value: Option<Value>,
-)
+// The write stands in the slot.
+pub(crate) fn put_at(table: &mut Table<Cell>, stage: Stage, id: SlotId, write: Writing)
     requires row { HasRow table.old.rows id }
-    requires room { room.value ≡ nothing_aside }
-    ensures slots { slots_in side table.new.rows ≡ map (at_number (put_slot point transaction class copy value) id) (slots_in side table.old.rows) }
+    requires room { write.room.value ≡ nothing_aside }
+    ensures slots { slots_in stage.side table.new.rows ≡ map (at_number (put_slot stage.point write.author.transaction write.author.class write.copy write.value) id) (slots_in stage.side table.old.rows) }
     ensures capacity { table.new.capacity ≡ table.old.capacity }
     ensures ends { ends_in table.new.rows ≡ ends_in table.old.rows }
     ensures sets { KeepSets table.old.rows table.new.rows }
 {
-    pc_slots::put(
-        table.get_mut(id),
-        side,
-        point,
-        transaction,
-        class,
-        room,
-        copy,
-        value,
-    );
+    pc_slots::put(table.get_mut(id), stage, write);
 }
 
-// The transaction writes the slot's key in its place where its request was granted; the copy and the room are those of
-// `put_at`.
+// The write stands in the slot where its request was granted.
 pub(crate) fn put_granted(
     table: &mut Table<Cell>,
-    side: Side,
+    stage: Stage,
     id: SlotId,
-    point: Point,
-    transaction: TxnNo,
-    class: Class,
-    room: Box<Aside>,
-    copy: Option<Value>,
-    value: Option<Value>,
+    write: Writing,
     answer: Outcome,
 )
     requires row { HasRow table.old.rows id }
-    requires room { room.value ≡ nothing_aside }
-    ensures slots { slots_in side table.new.rows ≡ map (at_number (granted_slot answer point transaction class copy value) id) (slots_in side table.old.rows) }
+    requires room { write.room.value ≡ nothing_aside }
+    ensures slots { slots_in stage.side table.new.rows ≡ map (at_number (granted_slot answer stage.point write.author.transaction write.author.class write.copy write.value) id) (slots_in stage.side table.old.rows) }
     ensures capacity { table.new.capacity ≡ table.old.capacity }
     ensures ends { ends_in table.new.rows ≡ ends_in table.old.rows }
     ensures sets { KeepSets table.old.rows table.new.rows }
 {
     if let Outcome::Granted = answer {
-        put_at(
-            table,
-            side,
-            id,
-            point,
-            transaction,
-            class,
-            room,
-            copy,
-            value,
-        );
+        put_at(table, stage, id, write);
     }
 }
 
@@ -261,7 +225,8 @@ fn settle_slot(table: &mut Table<Cell>, sets: &mut Dirty, id: SlotId, point: Poi
     ensures closed { closed_keys table.new.rows sets.new ≡ closed_keys table.old.rows sets.old }
 {
     let side = sets.open_side();
-    let is_new = pc_slots::settle(table.get_mut(id), side, point);
+    let stage = Stage { side, point };
+    let is_new = pc_slots::settle(table.get_mut(id), stage);
     if is_new {
         sets.add(table, id);
     }
@@ -320,70 +285,64 @@ pub(crate) fn settle_all(
 }
 
 // The write that stands in the slot is undone.
-fn undo_slot(table: &mut Table<Cell>, side: Side, id: SlotId, point: Point)
+fn undo_slot(table: &mut Table<Cell>, stage: Stage, id: SlotId)
     requires { HasRow table.old.rows id }
-    ensures slots { slots_in side table.new.rows ≡ map (at_number (undone point) id) (slots_in side table.old.rows) }
+    ensures slots { slots_in stage.side table.new.rows ≡ map (at_number (undone stage.point) id) (slots_in stage.side table.old.rows) }
     ensures capacity { table.new.capacity ≡ table.old.capacity }
     ensures ends { ends_in table.new.rows ≡ ends_in table.old.rows }
     ensures sets { KeepSets table.old.rows table.new.rows }
 {
-    pc_slots::undo(table.get_mut(id), side, point);
+    pc_slots::undo(table.get_mut(id), stage);
 }
 
 // The write that stands in the key's place is undone; the key is looked for near the slot first.
-fn undo_key(table: &mut Table<Cell>, side: Side, key: &Key, near: Option<SlotId>, point: Point)
-    ensures slots { slots_in side table.new.rows ≡ map (at_key (undone point) key.now) (slots_in side table.old.rows) }
+fn undo_key(table: &mut Table<Cell>, stage: Stage, key: &Key, near: Option<SlotId>)
+    ensures slots { slots_in stage.side table.new.rows ≡ map (at_key (undone stage.point) key.now) (slots_in stage.side table.old.rows) }
     ensures capacity { table.new.capacity ≡ table.old.capacity }
     ensures ends { ends_in table.new.rows ≡ ends_in table.old.rows }
     ensures sets { KeepSets table.old.rows table.new.rows }
 {
     if let Some(id) = table.find_near(key, near) {
-        undo_slot(table, side, id, point);
+        undo_slot(table, stage, id);
     }
 }
 
 // These writes are undone. The slots are where their keys were found, as far as that is known.
-pub(crate) fn undo_all(
-    table: &mut Table<Cell>,
-    side: Side,
-    writes: &[Write],
-    slots: &[u32],
-    point: Point,
-)
-    ensures slots { slots_in side table.new.rows ≡ map (at_writes (undone point) writes.now) (slots_in side table.old.rows) }
+pub(crate) fn undo_all(table: &mut Table<Cell>, stage: Stage, writes: &[Write], slots: &[u32])
+    ensures slots { slots_in stage.side table.new.rows ≡ map (at_writes (undone stage.point) writes.now) (slots_in stage.side table.old.rows) }
     ensures capacity { table.new.capacity ≡ table.old.capacity }
     ensures ends { ends_in table.new.rows ≡ ends_in table.old.rows }
     ensures sets { KeepSets table.old.rows table.new.rows }
 {
+    let Stage { side, point } = stage;
     let mut found = slots.iter();
     for write in writes {
         undo_key(
             table,
-            side,
+            Stage { side, point },
             &write.key,
             found.next().map(|number| SlotId(*number)),
-            point,
         );
     }
 }
 
 // The slot is free where nothing keeps it.
-pub(crate) fn tidy(table: &mut Table<Cell>, locks: &Locks, side: Side, point: Point, id: SlotId)
+pub(crate) fn tidy(table: &mut Table<Cell>, locks: &Locks, stage: Stage, id: SlotId)
     requires row { HasRow table.old.rows id }
-    requires kept { AreKept (slots_in side table.old.rows) (queues_in table.old.rows locks.now) }
-    requires sound { AreSound point (queues_in table.old.rows locks.now) (slots_in side table.old.rows) }
+    requires kept { AreKept (slots_in stage.side table.old.rows) (queues_in table.old.rows locks.now) }
+    requires sound { AreSound stage.point (queues_in table.old.rows locks.now) (slots_in stage.side table.old.rows) }
     requires ends { AreEnds (ends_in table.old.rows) locks.now }
-    ensures rows { (i : ℕ) → IsNumbered (slots_in side table.old.rows) id i → rows_of (queues_in table.new.rows locks.now) (slots_in side table.new.rows) ≡ tidied (rows_of (queues_in table.old.rows locks.now) (slots_in side table.old.rows)) i }
-    ensures pending { pending_of (slots_in side table.new.rows) ≡ pending_of (slots_in side table.old.rows) }
-    ensures kept { AreKept (slots_in side table.new.rows) (queues_in table.new.rows locks.now) }
-    ensures sound { AreSound point (queues_in table.new.rows locks.now) (slots_in side table.new.rows) }
+    ensures rows { (i : ℕ) → IsNumbered (slots_in stage.side table.old.rows) id i → rows_of (queues_in table.new.rows locks.now) (slots_in stage.side table.new.rows) ≡ tidied (rows_of (queues_in table.old.rows locks.now) (slots_in stage.side table.old.rows)) i }
+    ensures pending { pending_of (slots_in stage.side table.new.rows) ≡ pending_of (slots_in stage.side table.old.rows) }
+    ensures kept { AreKept (slots_in stage.side table.new.rows) (queues_in table.new.rows locks.now) }
+    ensures sound { AreSound stage.point (queues_in table.new.rows locks.now) (slots_in stage.side table.new.rows) }
     ensures ends { AreEnds (ends_in table.new.rows) locks.now }
     ensures queues { queues_in table.new.rows locks.now ≡ queues_in table.old.rows locks.now }
     ensures capacity { table.new.capacity ≡ table.old.capacity }
     ensures sets { KeepSets table.old.rows table.new.rows }
 {
     let is_requested = locks.has_request(table, id);
-    if !pc_slots::is_kept(table.get(id), side, is_requested) {
+    if !pc_slots::is_kept(table.get(id), stage.side, is_requested) {
         drop(table.remove(id));
     }
 }

@@ -13,5 +13,6 @@ mod words;
 pub use cells::{Cell, cell_with};
 pub use ends::{chain_in, put_ends};
 pub use versions::{
-    Aside, committed_copy, copy_to_keep, is_kept, pinned_of, put, room, settle, take, undo,
+    Aside, Author, Stage, Writing, committed_copy, copy_to_keep, is_kept, pinned_of, put, room,
+    settle, take, undo,
 };

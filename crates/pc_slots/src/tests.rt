@@ -1,7 +1,7 @@
 //! Tests of the moments of a slot.
 
 use crate::cells::Cell;
-use crate::versions;
+use crate::versions::{self, Author, Stage, Writing};
 use pc_dirty::Side;
 use pc_table::Blank;
 use pc_types::{Class, Point, Refusal, TxnNo, Value};
@@ -61,17 +61,31 @@ fn look_at(slot: &Cell, side: Side) -> Seen {
 // Does it.
 fn happen(alloc: Global, seen: &mut Followed, moment: Moment) -> Result<(), Refusal> {
     let Followed { slot, side, point } = seen;
+    let stage = Stage {
+        side: *side,
+        point: *point,
+    };
     match moment {
         Write(class, content) => {
-            let copy = versions::copy_to_keep(alloc, slot, *side, *point, class)?;
+            let copy = versions::copy_to_keep(alloc, slot, stage, class)?;
             let value = value_of(alloc, content)?;
             let room = versions::room(alloc)?;
-            versions::put(slot, *side, *point, TxnNo(1), class, room, copy, value);
+            let author = Author {
+                transaction: TxnNo(1),
+                class,
+            };
+            let write = Writing {
+                author,
+                room,
+                copy,
+                value,
+            };
+            versions::put(slot, stage, write);
         }
         Commit => {
-            versions::settle(slot, *side, *point);
+            versions::settle(slot, stage);
         }
-        Undo => versions::undo(slot, *side, *point),
+        Undo => versions::undo(slot, stage),
         Close => {
             *side = side.other();
             *point = Point(if point.0 < 9 { point.0 + 1 } else { 9 });

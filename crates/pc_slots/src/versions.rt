@@ -43,6 +43,32 @@ pub(crate) struct Writer {
     pub(crate) before: Option<Value>,
 }
 
+/// How far the points have come: the side of the open set, and the point of the last closed one.
+#[derive(Clone, Copy)]
+pub struct Stage {
+    pub side: Side,
+    pub point: Point,
+}
+
+/// Who writes: an open transaction, and its class.
+#[derive(Clone, Copy)]
+pub struct Author {
+    pub transaction: TxnNo,
+    pub class: Class,
+}
+
+/// A write that is to stand in a slot, with what is made for it beforehand, so that it takes no memory itself.
+#[derive(Drop)]
+pub struct Writing {
+    pub author: Author,
+    /// A box for what the slot keeps aside, in which nothing is kept yet (`room`).
+    pub room: Box<Aside>,
+    /// A copy of what stands in the slot, where one is kept (`copy_to_keep`).
+    pub copy: Option<Value>,
+    /// What is written, a value or absence.
+    pub value: Option<Value>,
+}
+
 /// A box in which nothing is kept yet, for `put`; an error where memory ran out.
 pub fn room(alloc: Global) -> Result<Box<Aside>, AllocError>
     ensures { IfOk result (λ room. room.value ≡ nothing_aside) }
@@ -190,14 +216,13 @@ fn is_during(class: Class) -> bool
 pub fn copy_to_keep(
     alloc: Global,
     slot: &Cell,
-    side: Side,
-    point: Point,
+    stage: Stage,
     class: Class,
 ) -> Result<Option<Value>, AllocError>
-    ensures kept { IfOk result (λ copy. (number : ℕ) (key : List ℕ) → keeps_copy point class (slot_with side number key slot.now) ≡ true → copy ≡ slot.now.live) }
-    ensures none { IfOk result (λ copy. keeps_copy point class (slot_with side 0 [] slot.now) ≡ false → copy ≡ None) }
+    ensures kept { IfOk result (λ copy. (number : ℕ) (key : List ℕ) → keeps_copy stage.point class (slot_with stage.side number key slot.now) ≡ true → copy ≡ slot.now.live) }
+    ensures none { IfOk result (λ copy. keeps_copy stage.point class (slot_with stage.side 0 [] slot.now) ≡ false → copy ≡ None) }
 {
-    if keeps_copy(slot, side, point, class) {
+    if keeps_copy(slot, stage, class) {
         copy_content(alloc, &slot.live)
     } else {
         Ok(None)
@@ -206,8 +231,8 @@ pub fn copy_to_keep(
 
 // Whether a write of a transaction of the class keeps a copy of what stands in the slot: it is the first of its transaction,
 // and `save` keeps the copy.
-fn keeps_copy(slot: &Cell, side: Side, point: Point, class: Class) -> bool
-    ensures { (number : ℕ) (key : List ℕ) → result ≡ keeps_copy point class (slot_with side number key slot.now) }
+fn keeps_copy(slot: &Cell, stage: Stage, class: Class) -> bool
+    ensures { (number : ℕ) (key : List ℕ) → result ≡ keeps_copy stage.point class (slot_with stage.side number key slot.now) }
 {
     if writer_of(slot).is_some() {
         return false;
@@ -215,7 +240,7 @@ fn keeps_copy(slot: &Cell, side: Side, point: Point, class: Class) -> bool
     match class {
         Class::Before => false,
         Class::During => !has_version(slot),
-        Class::After => slot.is_in(side.other()) && mark_of(slot).0 != point.0,
+        Class::After => slot.is_in(stage.side.other()) && mark_of(slot).0 != stage.point.0,
     }
 }
 
@@ -246,14 +271,14 @@ fn note(
     aside: &mut Aside,
     is_closed: bool,
     point: Point,
-    transaction: TxnNo,
-    class: Class,
+    author: Author,
     copy: Option<Value>,
     before: Option<Value>,
 )
-    ensures { (slot : Slot) (value : Option (List ℕ)) → slot.is_in_closed_set ≡ is_closed → before ≡ slot.live → record (with_aside aside.new slot) { live = value } ≡ put_slot point transaction class copy value (with_aside aside.old slot) }
+    ensures { (slot : Slot) (value : Option (List ℕ)) → slot.is_in_closed_set ≡ is_closed → before ≡ slot.live → record (with_aside aside.new slot) { live = value } ≡ put_slot point author.transaction author.class copy value (with_aside aside.old slot) }
 {
     if aside.writer.is_none() {
+        let Author { transaction, class } = author;
         save(aside, is_closed, point, class, copy);
         aside.writer = Some(Writer {
             transaction,
@@ -263,35 +288,24 @@ fn note(
     }
 }
 
-/// The transaction writes the key in its place; the copy is that of `copy_to_keep`, and the room that of `room`. The slot keeps
-/// the room where it has none, and it is dropped where it has one. It takes no memory.
-pub fn put(
-    slot: &mut Cell,
-    side: Side,
-    point: Point,
-    transaction: TxnNo,
-    class: Class,
-    room: Box<Aside>,
-    copy: Option<Value>,
-    value: Option<Value>,
-)
-    requires { room.value ≡ nothing_aside }
-    ensures slot { (number : ℕ) (key : List ℕ) → slot_with side number key slot.new ≡ put_slot point transaction class copy value (slot_with side number key slot.old) }
+/// The write stands in the slot. The slot keeps the room where it has none, and it is dropped where it has one. It takes no
+/// memory.
+pub fn put(slot: &mut Cell, stage: Stage, write: Writing)
+    requires { write.room.value ≡ nothing_aside }
+    ensures slot { (number : ℕ) (key : List ℕ) → slot_with stage.side number key slot.new ≡ put_slot stage.point write.author.transaction write.author.class write.copy write.value (slot_with stage.side number key slot.old) }
     ensures words { words_of slot.new ≡ words_of slot.old }
     ensures ends { chain_in slot.new ≡ chain_in slot.old }
 {
-    let is_closed = slot.is_in(side.other());
+    let Writing {
+        author,
+        room,
+        copy,
+        value,
+    } = write;
+    let is_closed = slot.is_in(stage.side.other());
     let before = mem::replace(&mut slot.live, value);
     let mut aside = or_room(slot.aside.take(), room);
-    note(
-        &mut aside,
-        is_closed,
-        point,
-        transaction,
-        class,
-        copy,
-        before,
-    );
+    note(&mut aside, is_closed, stage.point, author, copy, before);
     slot.aside = Some(aside);
 }
 
@@ -315,23 +329,23 @@ fn commit(aside: &mut Aside, is_closed: bool, point: Point) -> bool
 
 /// The write that stands in the slot, if there is one, is committed. True where the slot was not in the open set, and is in it
 /// now. It takes no memory.
-pub fn settle(slot: &mut Cell, side: Side, point: Point) -> bool
-    ensures slot { (number : ℕ) (key : List ℕ) → slot_with side number key slot.new ≡ settled point (slot_with side number key slot.old) }
+pub fn settle(slot: &mut Cell, stage: Stage) -> bool
+    ensures slot { (number : ℕ) (key : List ℕ) → slot_with stage.side number key slot.new ≡ settled stage.point (slot_with stage.side number key slot.old) }
     ensures links { HaveLinks slot.old slot.new }
     ensures ends { chain_in slot.new ≡ chain_in slot.old }
-    ensures fresh { result ≡ (is_some (writer_in slot.old) && not (is_marked side slot.old)) }
+    ensures fresh { result ≡ (is_some (writer_in slot.old) && not (is_marked stage.side slot.old)) }
 {
     let Some(mut aside) = slot.aside.take() else {
         return false;
     };
-    let is_closed = slot.is_in(side.other());
-    let is_written = commit(&mut aside, is_closed, point);
+    let is_closed = slot.is_in(stage.side.other());
+    let is_written = commit(&mut aside, is_closed, stage.point);
     slot.aside = trimmed(aside);
     if !is_written {
         return false;
     }
-    let is_new = !slot.is_in(side);
-    slot.put_mark(side, true);
+    let is_new = !slot.is_in(stage.side);
+    slot.put_mark(stage.side, true);
     is_new
 }
 
@@ -349,14 +363,14 @@ fn withdraw(aside: &mut Aside, live: &mut Option<Value>, is_closed: bool, point:
 }
 
 /// The write that stands in the slot, if there is one, is undone. It takes no memory.
-pub fn undo(slot: &mut Cell, side: Side, point: Point)
-    ensures slot { (number : ℕ) (key : List ℕ) → slot_with side number key slot.new ≡ undone point (slot_with side number key slot.old) }
+pub fn undo(slot: &mut Cell, stage: Stage)
+    ensures slot { (number : ℕ) (key : List ℕ) → slot_with stage.side number key slot.new ≡ undone stage.point (slot_with stage.side number key slot.old) }
     ensures words { words_of slot.new ≡ words_of slot.old }
     ensures ends { chain_in slot.new ≡ chain_in slot.old }
 {
-    let is_closed = slot.is_in(side.other());
+    let is_closed = slot.is_in(stage.side.other());
     if let Some(mut aside) = slot.aside.take() {
-        withdraw(&mut aside, &mut slot.live, is_closed, point);
+        withdraw(&mut aside, &mut slot.live, is_closed, stage.point);
         slot.aside = trimmed(aside);
     }
 }

@@ -1,4 +1,4 @@
-use Rattle.std.proofs.Common.{◌≡◌, ◌-◌, ℕ, suc, sym, ap, ◌∙◌, arith}
+use Rattle.std.proofs.Common.{◌≡◌, ◌-◌, suc, sym, ap, ◌∙◌, arith}
 use Rattle.pc_receipts.specs.Filed.{begin_at}
 use Rattle.pc_receipts.proofs.Filing.{there_is, begin_first, begin_behind}
 use Rattle.pc_receipts.proofs.receipts.begin_of.Goals as goal

@@ -8,8 +8,8 @@ use Rattle.pc_records.specs.SetLists.{KeepSets}
 use Rattle.pc_records.proofs.records.release.Given as goal
 
 -- what is released in the end is what was to be released
-abbrev pub invariant-loop-side : goal.invariant-loop-side
-invariant-loop-side l = record {
+abbrev pub invariant-loop-transaction : goal.invariant-loop-transaction
+invariant-loop-transaction l = record {
   sets : KeepSets l.initial.table.rows l.table.rows;
   kept : AreKept (slots_in l.side l.table.rows) (queues_in l.table.rows l.locks);
   sound : AreSound l.point (queues_in l.table.rows l.locks) (slots_in l.side l.table.rows);
@@ -20,5 +20,5 @@ invariant-loop-side l = record {
 }
 
 -- the transaction's list gets shorter
-abbrev pub decreases-loop-side : goal.decreases-loop-side
-decreases-loop-side l = length (slots_of (lists_of l.locks) l.transaction)
+abbrev pub decreases-loop-transaction : goal.decreases-loop-transaction
+decreases-loop-transaction l = length (slots_of (lists_of l.locks) l.transaction)

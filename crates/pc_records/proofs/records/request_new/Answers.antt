@@ -19,41 +19,41 @@ use Rattle.pc_records.proofs.records.request_new.Goals as goal
 use Rattle.pc_records.proofs.records.request_new.Goals.{After-drop}
 
 pub request-requires-clause-sound : goal.request-requires-clause-sound
-request-requires-clause-sound c = sound_with c.args.side c.args.table.now c.make.new.table c.args.key.now c.in_ok-id.id None c.args.locks.now c.requires.new c.in_ok-id.ensures.fresh c.in_ok-id.ensures.made c.requires.kept c.requires.ends
+request-requires-clause-sound c = sound_with c.args.stage.side c.args.table.now c.make.new.table c.args.key.now c.in_ok-id.id None c.args.locks.now c.requires.new c.in_ok-id.ensures.fresh c.in_ok-id.ensures.made c.requires.kept c.requires.ends
 
 pub request-requires-clause-ready : goal.request-requires-clause-ready
 request-requires-clause-ready c = ap (λ (ends : ℕ → Chain ℕ). is_waiting (state_of ends c.args.locks.now) c.args.transaction) (ends_with c.args.table.now c.make.new.table c.args.key.now c.in_ok-id.id None c.requires.new c.in_ok-id.ensures.fresh c.in_ok-id.ensures.made) ∙ c.requires.ready
 
 pub returns-in-Ok-clause-told : goal.returns-in-Ok-clause-told
-returns-in-Ok-clause-told c = told_first c.args.side c.args.table.now.rows c.args.key.now (queues_in c.args.table.now.rows c.args.locks.now) c.args.transaction c.args.mode c.requires.new
+returns-in-Ok-clause-told c = told_first c.args.stage.side c.args.table.now.rows c.args.key.now (queues_in c.args.table.now.rows c.args.locks.now) c.args.transaction c.args.mode c.requires.new
 
 pub returns-in-Ok-clause-row : goal.returns-in-Ok-clause-row
 returns-in-Ok-clause-row c = row_stays_in c.make.new.table c.request.new.keeper c.in_ok-id.id c.request.ensures.beside c.in_ok-id.ensures.row
 
 pub returns-in-Ok-clause-pending : goal.returns-in-Ok-clause-pending
-returns-in-Ok-clause-pending c = ap pending_of (c.request.ensures.beside.slots c.args.side) ∙ pending_in c.args.side c.args.table.now c.make.new.table c.args.key.now c.in_ok-id.id c.requires.new c.in_ok-id.ensures.made
+returns-in-Ok-clause-pending c = ap pending_of (c.request.ensures.beside.slots c.args.stage.side) ∙ pending_in c.args.stage.side c.args.table.now c.make.new.table c.args.key.now c.in_ok-id.id c.requires.new c.in_ok-id.ensures.made
 
 pub returns-in-Ok-clause-sets : goal.returns-in-Ok-clause-sets
 returns-in-Ok-clause-sets c = sets_then c.args.table.now.rows c.make.new.table.rows c.request.new.keeper.rows (sets_with c.args.table.now c.make.new.table c.args.key.now c.in_ok-id.id None c.requires.new c.in_ok-id.ensures.fresh c.in_ok-id.ensures.made) c.request.ensures.beside.sets
 
 pub returns-in-Ok-clause-rows : goal.returns-in-Ok-clause-rows
 returns-in-Ok-clause-rows c =
-    rows_in c.args.side c.args.table.now c.make.new.table c.args.key.now c.in_ok-id.id c.requires.new c.in_ok-id.ensures.made c.args.point c.args.transaction (slots_in c.args.side c.request.new.keeper.rows) (c.request.ensures.beside.slots c.args.side) (queues_in c.args.table.now.rows c.args.locks.now) (queues_in c.make.new.table.rows c.args.locks.now) (queues_in c.request.new.keeper.rows c.request.new.self)
+    rows_in c.args.stage.side c.args.table.now c.make.new.table c.args.key.now c.in_ok-id.id c.requires.new c.in_ok-id.ensures.made c.args.stage.point c.args.transaction (slots_in c.args.stage.side c.request.new.keeper.rows) (c.request.ensures.beside.slots c.args.stage.side) (queues_in c.args.table.now.rows c.args.locks.now) (queues_in c.make.new.table.rows c.args.locks.now) (queues_in c.request.new.keeper.rows c.request.new.self)
     (ap (λ (ends : ℕ → Chain ℕ). queues_of ends c.args.locks.now) (ends_with c.args.table.now c.make.new.table c.args.key.now c.in_ok-id.id None c.requires.new c.in_ok-id.ensures.fresh c.in_ok-id.ensures.made)) c.args.mode c.in-Ok.field-0 c.requires.kept c.requires.sound c.in_ok-id.ensures.fresh c.in-Ok.ensures.told c.in-Ok.ensures.queues
 
 pub returns-in-Ok-clause-slot : goal.returns-in-Ok-clause-slot
 returns-in-Ok-clause-slot c =
-    slot_first c.args.side c.args.table.now c.make.new.table c.args.key.now c.in_ok-id.id c.requires.new c.in_ok-id.ensures.made c.args.point c.args.transaction (slots_in c.args.side c.request.new.keeper.rows) (c.request.ensures.beside.slots c.args.side) (queues_in c.args.table.now.rows c.args.locks.now) (queues_in c.make.new.table.rows c.args.locks.now) (queues_in c.request.new.keeper.rows c.request.new.self)
+    slot_first c.args.stage.side c.args.table.now c.make.new.table c.args.key.now c.in_ok-id.id c.requires.new c.in_ok-id.ensures.made c.args.stage.point c.args.transaction (slots_in c.args.stage.side c.request.new.keeper.rows) (c.request.ensures.beside.slots c.args.stage.side) (queues_in c.args.table.now.rows c.args.locks.now) (queues_in c.make.new.table.rows c.args.locks.now) (queues_in c.request.new.keeper.rows c.request.new.self)
     (ap (λ (ends : ℕ → Chain ℕ). queues_of ends c.args.locks.now) (ends_with c.args.table.now c.make.new.table c.args.key.now c.in_ok-id.id None c.requires.new c.in_ok-id.ensures.fresh c.in_ok-id.ensures.made)) c.args.mode c.in-Ok.field-0 c.requires.kept c.requires.sound c.in_ok-id.ensures.fresh c.in-Ok.ensures.told c.in-Ok.ensures.queues
 
 pub returns-in-Ok-clause-kept : goal.returns-in-Ok-clause-kept
 returns-in-Ok-clause-kept c =
-    kept_in c.args.side c.args.table.now c.make.new.table c.args.key.now c.in_ok-id.id c.requires.new c.in_ok-id.ensures.made c.args.point c.args.transaction (slots_in c.args.side c.request.new.keeper.rows) (c.request.ensures.beside.slots c.args.side) (queues_in c.args.table.now.rows c.args.locks.now) (queues_in c.make.new.table.rows c.args.locks.now) (queues_in c.request.new.keeper.rows c.request.new.self)
+    kept_in c.args.stage.side c.args.table.now c.make.new.table c.args.key.now c.in_ok-id.id c.requires.new c.in_ok-id.ensures.made c.args.stage.point c.args.transaction (slots_in c.args.stage.side c.request.new.keeper.rows) (c.request.ensures.beside.slots c.args.stage.side) (queues_in c.args.table.now.rows c.args.locks.now) (queues_in c.make.new.table.rows c.args.locks.now) (queues_in c.request.new.keeper.rows c.request.new.self)
     (ap (λ (ends : ℕ → Chain ℕ). queues_of ends c.args.locks.now) (ends_with c.args.table.now c.make.new.table c.args.key.now c.in_ok-id.id None c.requires.new c.in_ok-id.ensures.fresh c.in_ok-id.ensures.made)) c.args.mode c.in-Ok.field-0 c.requires.kept c.requires.sound c.in_ok-id.ensures.fresh c.in-Ok.ensures.told c.in-Ok.ensures.queues
 
 pub returns-in-Ok-clause-sound : goal.returns-in-Ok-clause-sound
 returns-in-Ok-clause-sound c =
-    sound_now c.args.side c.args.table.now c.make.new.table c.args.key.now c.in_ok-id.id c.requires.new c.in_ok-id.ensures.made c.args.point c.args.transaction (slots_in c.args.side c.request.new.keeper.rows) (c.request.ensures.beside.slots c.args.side) (queues_in c.args.table.now.rows c.args.locks.now) (queues_in c.make.new.table.rows c.args.locks.now) (queues_in c.request.new.keeper.rows c.request.new.self)
+    sound_now c.args.stage.side c.args.table.now c.make.new.table c.args.key.now c.in_ok-id.id c.requires.new c.in_ok-id.ensures.made c.args.stage.point c.args.transaction (slots_in c.args.stage.side c.request.new.keeper.rows) (c.request.ensures.beside.slots c.args.stage.side) (queues_in c.args.table.now.rows c.args.locks.now) (queues_in c.make.new.table.rows c.args.locks.now) (queues_in c.request.new.keeper.rows c.request.new.self)
     (ap (λ (ends : ℕ → Chain ℕ). queues_of ends c.args.locks.now) (ends_with c.args.table.now c.make.new.table c.args.key.now c.in_ok-id.id None c.requires.new c.in_ok-id.ensures.fresh c.in_ok-id.ensures.made)) c.args.mode c.in-Ok.field-0 c.requires.kept c.requires.sound c.in_ok-id.ensures.fresh c.in-Ok.ensures.told c.in-Ok.ensures.queues
 
 pub remove-requires : goal.remove-requires
@@ -75,18 +75,18 @@ queues_back c =
     ∙ ap (λ (ends : ℕ → Chain ℕ). queues_of ends c.args.locks.now) (ends_with c.args.table.now c.make.new.table c.args.key.now c.in_ok-id.id None c.requires.new c.in_ok-id.ensures.fresh c.in_ok-id.ensures.made)
 
 pub returns-in-Err-clause-err : goal.returns-in-Err-clause-err
-returns-in-Err-clause-err c = λ i. rows_of (queues_back c i) (slots_in c.args.side (back c i).rows)
+returns-in-Err-clause-err c = λ i. rows_of (queues_back c i) (slots_in c.args.stage.side (back c i).rows)
 
 pub returns-in-Err-clause-pending : goal.returns-in-Err-clause-pending
-returns-in-Err-clause-pending c = ap (λ (t : Contents Cell). pending_of (slots_in c.args.side t.rows)) (back c)
+returns-in-Err-clause-pending c = ap (λ (t : Contents Cell). pending_of (slots_in c.args.stage.side t.rows)) (back c)
 
 pub returns-in-Err-clause-kept : goal.returns-in-Err-clause-kept
 returns-in-Err-clause-kept c =
-    subst (λ (t : Contents Cell). AreKept (slots_in c.args.side t.rows) (queues_in c.remove.new.self.rows c.request.new.self)) (sym (back c)) (subst (AreKept (slots_in c.args.side c.args.table.now.rows)) (sym (queues_back c)) c.requires.kept)
+    subst (λ (t : Contents Cell). AreKept (slots_in c.args.stage.side t.rows) (queues_in c.remove.new.self.rows c.request.new.self)) (sym (back c)) (subst (AreKept (slots_in c.args.stage.side c.args.table.now.rows)) (sym (queues_back c)) c.requires.kept)
 
 pub returns-in-Err-clause-sound : goal.returns-in-Err-clause-sound
 returns-in-Err-clause-sound c =
-    subst (λ (t : Contents Cell). AreSound c.args.point (queues_in c.remove.new.self.rows c.request.new.self) (slots_in c.args.side t.rows)) (sym (back c)) (subst (λ (qs : Queues). AreSound c.args.point qs (slots_in c.args.side c.args.table.now.rows)) (sym (queues_back c)) c.requires.sound)
+    subst (λ (t : Contents Cell). AreSound c.args.stage.point (queues_in c.remove.new.self.rows c.request.new.self) (slots_in c.args.stage.side t.rows)) (sym (back c)) (subst (λ (qs : Queues). AreSound c.args.stage.point qs (slots_in c.args.stage.side c.args.table.now.rows)) (sym (queues_back c)) c.requires.sound)
 
 pub returns-in-Err-clause-ends : goal.returns-in-Err-clause-ends
 returns-in-Err-clause-ends c = subst (λ (ends : ℕ → Chain ℕ). AreEnds ends c.request.new.self) (sym (ap (λ (t : Contents Cell). ends_in t.rows) (back c) ∙ ends_asked c)) c.request.ensures.sound.ends_are
@@ -95,10 +95,10 @@ pub returns-in-Err-clause-sets : goal.returns-in-Err-clause-sets
 returns-in-Err-clause-sets c = subst (λ (t : Contents Cell). KeepSets c.args.table.now.rows t.rows) (sym (back c)) (sets_same c.args.table.now.rows)
 
 pub returns-in_err-id-clause-refusal : goal.returns-in_err-id-clause-refusal
-returns-in_err-id-clause-refusal c = refused_new c.args.side c.args.table.now.rows c.args.table.now.capacity (queues_in c.args.table.now.rows c.args.locks.now) c.args.key.now c.from_residual.result c.in_err-id.field-0.0 c.from_residual.ensures c.requires.new c.in_err-id.ensures.refusal
+returns-in_err-id-clause-refusal c = refused_new c.args.stage.side c.args.table.now.rows c.args.table.now.capacity (queues_in c.args.table.now.rows c.args.locks.now) c.args.key.now c.from_residual.result c.in_err-id.field-0.0 c.from_residual.ensures c.requires.new c.in_err-id.ensures.refusal
 
 pub returns-in-Ok-clause-room : goal.returns-in-Ok-clause-room
-returns-in-Ok-clause-room c = full_new c.args.side c.args.table.now.rows c.args.table.now.capacity (queues_in c.args.table.now.rows c.args.locks.now) c.args.key.now c.requires.new ∙ c.in_ok-id.ensures.room
+returns-in-Ok-clause-room c = full_new c.args.stage.side c.args.table.now.rows c.args.table.now.capacity (queues_in c.args.table.now.rows c.args.locks.now) c.args.key.now c.requires.new ∙ c.in_ok-id.ensures.room
 
 pub returns-in-Err-clause-refusal : goal.returns-in-Err-clause-refusal
-returns-in-Err-clause-refusal c = ran_out c.args.side c.args.table.now.rows c.args.table.now.capacity (queues_in c.args.table.now.rows c.args.locks.now) c.args.key.now (full_new c.args.side c.args.table.now.rows c.args.table.now.capacity (queues_in c.args.table.now.rows c.args.locks.now) c.args.key.now c.requires.new ∙ c.in_ok-id.ensures.room)
+returns-in-Err-clause-refusal c = ran_out c.args.stage.side c.args.table.now.rows c.args.table.now.capacity (queues_in c.args.table.now.rows c.args.locks.now) c.args.key.now (full_new c.args.stage.side c.args.table.now.rows c.args.table.now.capacity (queues_in c.args.table.now.rows c.args.locks.now) c.args.key.now c.requires.new ∙ c.in_ok-id.ensures.room)

@@ -5,7 +5,7 @@ use Rattle.pc_records.proofs.EndsKept.{ends_changed}
 use Rattle.pc_records.proofs.slots.put_at.Goals as goal
 
 pub returns-clause-slots : goal.returns-clause-slots
-returns-clause-slots c = changed_slots c.args.side c.args.table.now c.args.id c.get_mut.result.now c.put.new.slot (put_slot c.args.point c.args.transaction c.args.class c.args.copy c.args.value) c.get_mut.ensures.slots c.get_mut.ensures.record_of c.put.ensures.slot
+returns-clause-slots c = changed_slots c.args.stage.side c.args.table.now c.args.id c.get_mut.result.now c.put.new.slot (put_slot c.args.stage.point c.args.write.author.transaction c.args.write.author.class c.args.write.copy c.args.write.value) c.get_mut.ensures.slots c.get_mut.ensures.record_of c.put.ensures.slot
 
 pub returns-clause-sets : goal.returns-clause-sets
 returns-clause-sets c = changed_sets c.args.table.now.rows c.args.id c.get_mut.result.now c.put.new.slot c.get_mut.ensures.record_of c.put.ensures.words

@@ -6,7 +6,7 @@ use Rattle.pc_records.proofs.slots.put_granted.Goals as goal
 
 pub returns-in_default : goal.returns-in_default
 returns-in_default c = record {
-  slots = sym (not_granted c.args.answer c.args.point c.args.transaction c.args.class c.args.copy c.args.value c.args.id (slots_in c.args.side c.args.table.now.rows) c.in_default.not-Granted);
+  slots = sym (not_granted c.args.answer c.args.stage.point c.args.write.author.transaction c.args.write.author.class c.args.write.copy c.args.write.value c.args.id (slots_in c.args.stage.side c.args.table.now.rows) c.in_default.not-Granted);
   capacity = refl;
   ends = refl;
   sets = sets_same c.args.table.now.rows;

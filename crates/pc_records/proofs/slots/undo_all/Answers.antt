@@ -11,8 +11,8 @@ loop-write-preserved c = record {
   sets = sets_then c.args.table.now.rows c.loop-write.table.rows c.undo_key.new.table.rows c.loop-write.invariant.sets c.undo_key.ensures.sets;
   capacity = c.undo_key.ensures.capacity ∙ c.loop-write.invariant.capacity;
   ends = c.undo_key.ensures.ends ∙ c.loop-write.invariant.ends;
-  rest = writes_next (undone c.args.point) (undone_key c.args.point) (undone_again c.args.point) c.args.writes.now c.loop-write.write-index c.write-item.result (slots_in c.args.side c.args.table.now.rows) (slots_in c.args.side c.loop-write.table.rows) (slots_in c.args.side c.undo_key.new.table.rows) c.loop-write-test.true c.write-item.is c.undo_key.ensures.slots c.loop-write.invariant.rest;
+  rest = writes_next (undone c.args.stage.point) (undone_key c.args.stage.point) (undone_again c.args.stage.point) c.args.writes.now c.loop-write.write-index c.write-item.result (slots_in c.args.stage.side c.args.table.now.rows) (slots_in c.args.stage.side c.loop-write.table.rows) (slots_in c.args.stage.side c.undo_key.new.table.rows) c.loop-write-test.true c.write-item.is c.undo_key.ensures.slots c.loop-write.invariant.rest;
 }
 
 pub returns-clause-slots : goal.returns-clause-slots
-returns-clause-slots c = writes_done (undone c.args.point) (undone_key c.args.point) (undone_again c.args.point) c.args.writes.now c.loop-write.write-index (slots_in c.args.side c.args.table.now.rows) (slots_in c.args.side c.loop-write.table.rows) c.loop-write-test.false c.loop-write.invariant.rest
+returns-clause-slots c = writes_done (undone c.args.stage.point) (undone_key c.args.stage.point) (undone_again c.args.stage.point) c.args.writes.now c.loop-write.write-index (slots_in c.args.stage.side c.args.table.now.rows) (slots_in c.args.stage.side c.loop-write.table.rows) c.loop-write-test.false c.loop-write.invariant.rest

@@ -5,7 +5,7 @@ use Rattle.pc_records.proofs.EndsKept.{ends_changed}
 use Rattle.pc_records.proofs.slots.undo_slot.Goals as goal
 
 pub returns-clause-slots : goal.returns-clause-slots
-returns-clause-slots c = changed_slots c.args.side c.args.table.now c.args.id c.get_mut.result.now c.undo.new.slot (undone c.args.point) c.get_mut.ensures.slots c.get_mut.ensures.record_of c.undo.ensures.slot
+returns-clause-slots c = changed_slots c.args.stage.side c.args.table.now c.args.id c.get_mut.result.now c.undo.new.slot (undone c.args.stage.point) c.get_mut.ensures.slots c.get_mut.ensures.record_of c.undo.ensures.slot
 
 pub returns-clause-sets : goal.returns-clause-sets
 returns-clause-sets c = changed_sets c.args.table.now.rows c.args.id c.get_mut.result.now c.undo.new.slot c.get_mut.ensures.record_of c.undo.ensures.words

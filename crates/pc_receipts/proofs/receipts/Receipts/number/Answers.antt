@@ -1,5 +1,5 @@
-use Rattle.std.proofs.Common.{◌≡◌, sym, ap, ◌∙◌}
-use Rattle.std.specs.Prelude.{Option, Some, None, option_map, slice_get}
+use Rattle.std.proofs.Common.{sym, ap, ◌∙◌}
+use Rattle.std.specs.Prelude.{option_map, slice_get}
 use Rattle.pc_types.specs.declared.Receipt.{Receipt}
 use Rattle.pc_receipts.specs.Filed.{Filed}
 use Rattle.pc_receipts.proofs.Filing.{filed_at, none_at}

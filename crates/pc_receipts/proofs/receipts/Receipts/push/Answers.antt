@@ -1,8 +1,5 @@
 use Rattle.std.proofs.Common.{◌≡◌, ◌++◌, ◌∷◌, [], ◌≤◌, ◌+◌, ℕ, length, List, sym, ap, ◌∙◌, subst, arith}
 use Rattle.std.proofs.lemmas.List.{length-append}
-use Rattle.pc_types.specs.declared.Receipt.{Receipt}
-use Rattle.pc_types.specs.declared.Write.{Write}
-use Rattle.pc_model.specs.Receipts.{Read}
 use Rattle.pc_receipts.specs.declared.receipts.Head.{Head}
 use Rattle.pc_receipts.specs.Filed.{Filed, receipts_from, EndAt}
 use Rattle.pc_receipts.proofs.Filing.{filed_with, ends_with}
