@@ -3,8 +3,6 @@
 
 mod arena;
 mod cells;
-#[cfg(test)]
-mod tests;
 
 pub use arena::Arena;
 pub use cells::ByLink;

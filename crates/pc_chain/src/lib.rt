@@ -4,8 +4,6 @@
 mod chain;
 mod links;
 mod stack;
-#[cfg(test)]
-mod tests;
 
 pub use chain::Chain;
 pub use links::Links;

@@ -4,8 +4,6 @@
 mod hashing;
 mod index;
 mod keyed;
-#[cfg(test)]
-mod tests;
 
 pub use index::Index;
 pub use keyed::Keyed;

@@ -6,7 +6,5 @@ mod ends;
 mod links;
 mod records;
 mod slots;
-#[cfg(test)]
-mod tests;
 
 pub use records::{Answer, Reading, Records};

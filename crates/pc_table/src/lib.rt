@@ -4,8 +4,6 @@
 mod blank;
 mod entry;
 mod table;
-#[cfg(test)]
-mod tests;
 
 pub use blank::Blank;
 pub use table::Table;

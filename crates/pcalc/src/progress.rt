@@ -9,7 +9,8 @@ const FIRST: u64 = 1_000;
 
 const PAUSE: u64 = 100;
 
-/// Counts what the loops of a run pass, and shows it on standard error where that is a terminal.
+/// Counts what the loops of a run pass, and shows it on standard error where that is a terminal; elsewhere nothing is counted, so
+/// that the threads have no count in common.
 #[derive(Drop)]
 pub struct Progress<'a> {
     rt: &'a HostRuntime,
@@ -41,10 +42,7 @@ impl<'a> Progress<'a> {
     }
 
     // Shows how far the run is, where that is due.
-    fn show(&self) {
-        let Some(begun) = self.begun else {
-            return;
-        };
+    fn show(&self, begun: Instant) {
         let Ok(elapsed) = begun.elapsed(self.rt) else {
             return;
         };
@@ -83,6 +81,9 @@ impl<'a> Progress<'a> {
 
 impl<'a> Gate for Progress<'a> {
     fn pass(&self, place: Place) {
+        let Some(begun) = self.begun else {
+            return;
+        };
         let count = match place {
             Place::Committed(_) => &self.commits,
             Place::Entered(Phase::Complete) => &self.points,
@@ -90,6 +91,6 @@ impl<'a> Gate for Progress<'a> {
             _ => return,
         };
         count.fetch_add(1, Ordering::SeqCst);
-        self.show();
+        self.show(begun);
     }
 }

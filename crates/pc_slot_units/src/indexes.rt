@@ -2,8 +2,8 @@
 ghost use Rattle.pc_arena.specs.Slots.{IsTaken};
 ghost use Rattle.pc_index.specs.Indexes.{IsIndex};
 
-use crate::{Index, Keyed};
 use pc_arena::Arena;
+use pc_index::{Index, Keyed};
 use pc_types::{Key, Refusal, SlotId};
 use std::alloc::{AllocError, Global};
 use std::hash::RandomState;

@@ -2,7 +2,7 @@
 ghost use Rattle.std.specs.Prelude.{◌≡◌, ℕ, IfOk, OnErr};
 ghost use Rattle.pc_table.specs.Rows.{with_row};
 
-use crate::{Blank, Table};
+use pc_table::{Blank, Table};
 use pc_types::{Key, Refusal, SlotId};
 use std::alloc::Global;
 use std::hash::RandomState;

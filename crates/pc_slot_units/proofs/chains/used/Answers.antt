@@ -1,6 +1,6 @@
 use Rattle.std.proofs.Common.{◌≢◌, ℕ, [], ◌∷◌, refl, arith}
 use Rattle.pc_chain.proofs.ChainLaws.{empty_chain}
-use Rattle.pc_chain.proofs.tests.used.Goals as goal
+use Rattle.pc_slot_units.proofs.chains.used.Goals as goal
 
 zero_one : ◌≢◌ {A = ℕ} 0 1
 zero_one = omega arith

@@ -1,6 +1,6 @@
 use Rattle.std.proofs.Common.{◌≢◌, ◌<◌, ◌^◌, ℕ, [], ◌∷◌, length, arith, lit<}
 use Rattle.pc_chain.proofs.StackLaws.{empty_stack}
-use Rattle.pc_chain.proofs.tests.stacked.Goals as goal
+use Rattle.pc_slot_units.proofs.chains.stacked.Goals as goal
 
 zero_one : ◌≢◌ {A = ℕ} 0 1
 zero_one = omega arith

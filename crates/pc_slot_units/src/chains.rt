@@ -1,7 +1,7 @@
 //! Chains over a vector of links.
 ghost use Rattle.std.specs.Prelude.{◌≡◌, ◌≢◌, ◌<◌, ◌≤◌, ℕ, None, IfOk, slice_index_or, vec_len};
 
-use crate::{Chain, Links, Stack};
+use pc_chain::{Chain, Links, Stack};
 use std::alloc::{AllocError, Global};
 use std::test::Fail;
 

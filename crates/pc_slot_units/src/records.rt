@@ -1,7 +1,7 @@
 //! Tests of requests, releases and what keeps a slot.
 ghost use Rattle.std.specs.Prelude.{◌≡◌, ◌≤◌, [], IfOk, IsErr};
 
-use crate::{Reading, Records};
+use pc_records::{Reading, Records};
 use pc_types::{Class, Key, Outcome, Refusal, TxnNo, Value};
 use std::alloc::Global;
 use std::hash::RandomState;

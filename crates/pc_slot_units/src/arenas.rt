@@ -1,5 +1,5 @@
 //! Slots that are taken, changed and freed.
-use crate::Arena;
+use pc_arena::Arena;
 use pc_types::{Refusal, SlotId};
 use std::test::Fail;
 
