@@ -8,6 +8,8 @@
 The clients share the keys out among themselves and fill their own again and again. A run's time is that of the whole program, from its start to
 its end, with a store of 64 sessions and all that it prints; where there are several runs the best and the worst are told. One thread that steps a store, and
 a mutex that is locked three times a transaction and holds nothing, are measured by `pc_bench` and `pc_shared_bench`, as `bench/shared.py` does.
+Beside the clients stands what they could reach at most: threads that make the same fills in a store under a bare mutex, which they take twice a
+transaction and which keeps nothing for them (`pc_shared_bench floor`, at most 15,000 keys a thread).
 """
 
 import os
@@ -23,6 +25,7 @@ sys.path.insert(0, os.path.join(os.path.dirname(os.path.abspath(__file__)), ".."
 import plain_files
 
 CLIENTS = (1, 2, 4)
+MOST_OWN_KEYS = 15_000
 POINTS = (0, 8)
 # how often each is run
 RUNS = {1000: 5, 60_000: 3}
@@ -70,6 +73,10 @@ def tell(folder, commits):
             shared.tell(f"{keys} keys, {clients} clients", without, stepped)
             shared.tell(f"{keys} keys, {clients} clients, {POINTS[1]} points", beside, stepped)
             print(f"with points to without: {beside[0] / without[0]:.2f}", flush=True)
+            own = keys // clients
+            if own <= MOST_OWN_KEYS:
+                floor = shared.rates("pc_shared_bench", commits // clients * clients, "us", "floor", clients, commits // clients, own)
+                shared.tell(f"{keys} keys, {clients} threads that fill under a bare mutex", floor, stepped)
     shared.RUNS = max(RUNS.values())
     for clients in CLIENTS:
         shared.tell(f"{clients} threads, a bare mutex", shared.rates("pc_shared_bench", commits * clients, "us", "mutex", clients, commits, 1000))

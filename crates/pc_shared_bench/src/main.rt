@@ -7,6 +7,7 @@ ghost use Rattle.std.specs.Prelude.{◌≡◌, ◌≤◌};
 mod bare;
 mod calls;
 mod failure;
+mod floor;
 mod options;
 mod shared;
 
@@ -14,7 +15,9 @@ use bare::lock_by_all;
 use calls::{Calls, Timed, time_calls};
 use clap::error::ErrorKind;
 use failure::Failure;
+use floor::fill_bare;
 use options::{Options, Work, options_of};
+use pc_engine::World;
 use pc_part::Base;
 use pc_shared::Opened;
 use pc_tie::StoreName;
@@ -67,6 +70,7 @@ fn run_work<H: Threads + Wait + Sync>(
     let done = match options.work {
         Work::Mutex => measure_mutex(rt, threads, options),
         Work::Shared => measure_shared(rt, threads, options),
+        Work::Floor => measure_floor(rt, threads, options),
         Work::Calls => measure_calls(rt, threads, options),
     };
     match done {
@@ -100,6 +104,28 @@ fn measure_shared<H: Threads + Wait + Sync>(
     let opened = open(rt.alloc(), RandomState::new(rt)?, options)?;
     let start = Instant::now(rt)?;
     let commits = share::<Brand, _>(threads, rt.alloc(), opened, options)?;
+    let time = start.elapsed(rt)?;
+    println!(rt; "committed {commits}")?;
+    tell_time(rt, options, time)?;
+    Ok(())
+}
+
+fn measure_floor<H: Threads + Wait + Sync>(
+    rt: &HostRuntime,
+    threads: &H,
+    options: &Options,
+) -> Result<(), Failure> {
+    let base = Base::start(1, Vec::new(rt.alloc()));
+    let seed = RandomState::new(rt)?;
+    let world = World::new(
+        rt.alloc(),
+        base,
+        options.threads,
+        capacity_of(options),
+        seed,
+    )?;
+    let start = Instant::now(rt)?;
+    let commits = fill_bare(threads, rt.alloc(), world, options);
     let time = start.elapsed(rt)?;
     println!(rt; "committed {commits}")?;
     tell_time(rt, options, time)?;

@@ -13,6 +13,8 @@ pub enum Work {
     Shared,
     /// A bare mutex, locked and unlocked three times where a transaction would be.
     Mutex,
+    /// Fills, as the clients of a run make them, of a store under a bare mutex that keeps nothing for them.
+    Floor,
     /// The calls of a store that one thread uses, each by itself.
     Calls,
 }
@@ -23,17 +25,17 @@ pub struct Options {
     pub work: Work,
     /// How many transactions each thread commits.
     pub commits: u32,
-    /// How many keys it goes round, 1 to 10,000.
+    /// How many keys it goes round, 1 to 15,000.
     pub keys: u32,
     /// How many threads there are, 1 to 64.
     pub threads: u8,
     /// Whether times are told, which differ from run to run.
     pub is_timed: bool,
-    ghost in_range: { (1 ≤ threads) × (threads ≤ MOST_SESSIONS) × (1 ≤ keys) × (keys ≤ 10000) },
+    ghost in_range: { (1 ≤ threads) × (threads ≤ MOST_SESSIONS) × (1 ≤ keys) × (keys ≤ 15000) },
 }
 
 // The greatest number of keys of a thread: 64 threads then have fewer than a store may.
-const MOST_OWN_KEYS: u32 = 10_000;
+const MOST_OWN_KEYS: u32 = 15_000;
 
 /// What the words ask for, or what is to be told: a fault, or the help that was asked for.
 pub fn options_of<'a>(alloc: Global, words: &'a [&'a str]) -> Result<Option<Options>, Error> {
@@ -54,7 +56,7 @@ fn command<'a>(alloc: Global) -> Result<Command<'a>, Error> {
         .help("Tells times too")
         .action(ArgAction::SetTrue);
     let work = Arg::new(alloc, "WORK")
-        .help("What is measured: shared, mutex or calls")
+        .help("What is measured: shared, floor, mutex or calls")
         .required(true);
     let mut command = Command::new(alloc, "pc_shared_bench")
         .about("Measures a store that threads share")
@@ -77,6 +79,7 @@ fn number_arg<'a>(alloc: Global, number: (&'a str, &'a str, u32)) -> Arg<'a> {
 fn work_of(name: &str) -> Option<Work> {
     match name {
         "shared" => Some(Work::Shared),
+        "floor" => Some(Work::Floor),
         "mutex" => Some(Work::Mutex),
         "calls" => Some(Work::Calls),
         _ => None,
