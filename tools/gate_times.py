@@ -1,14 +1,17 @@
 #!/usr/bin/env python3
-"""Tells what the merge gate spends, in processor seconds by crate and part, and holds it to the budget in docs/BENCHMARKS.md.
+"""Follows the merge gate, tells what it spends, in processor seconds by crate and part, and holds it to the budget in docs/BENCHMARKS.md.
 
-    gate_times.py run TIMES.json            runs .ci/run, looks twice a second at what its checks have used, and writes TIMES.json
+    gate_times.py follow LOG COMMAND..      what .ci/run does with `rt ci`: runs the command, writes all that it says into LOG, prints what it is at,
+                                            and at its end the minutes by part; where it is stopped, how far it came
+    gate_times.py run TIMES.json            runs .ci/run, and writes TIMES.json
     gate_times.py tell TIMES.json           prints the table, and what is over the budget; the status is 1 where something is
-    gate_times.py lanes TIMES.json N GB     how long the gate would take with N processors and GB of memory
+    gate_times.py lanes TIMES.json N        how long the gate would take with N processors
 
-A crate's parts are its proof (with the programs that are built of it), its tests (proved and built), and its wrong bodies. The lanes are those of
-`rt ci`: a proof waits for the proofs below it, tests too, wrong bodies for the proof and the tests of their crate; what has most lines behind it
-comes first; a task begins where a processor is free and its memory fits. A task with several processors is taken to be faster by half of each further
-one. Processes of less than half a second are missed; the sum of all is exact.
+A crate's parts are its proof (with the programs that are built of it), its tests (proved and built), and its wrong bodies with the check from nothing
+that they begin with. Twice a second is looked at what each check has used; those of less than half a second are missed, and the sum of all is exact.
+The gate gives each check one processor (RT_JOBS), since one with several uses up to twice the processor time, and runs as many side by side as there are
+processors, and memory for each. The lanes are those of `rt ci` then: a proof waits for the proofs below it, tests too, wrong bodies for the proof and the
+tests of their crate; what has most lines behind it comes first, and wrong bodies fill what proofs leave free.
 """
 
 import glob
@@ -16,15 +19,18 @@ import json
 import os
 import re
 import resource
+import signal
 import subprocess
 import sys
-import tempfile
+import threading
 import time
 
 ROOT = os.path.join(os.path.dirname(os.path.abspath(__file__)), "..")
 PARTS = ("proof", "tests", "edits")
 TICKS = os.sysconf("SC_CLK_TCK")
-GAIN = 0.5
+TOLD = re.compile(r"^rt: (\w+( is kept|:? (its tests are )?(NOT )?proved|: trying its must-fail edits \(\d+\)|.* FAILED))")
+# What one check takes of memory at most, in bytes.
+MEMORY = 5e9
 
 
 # Measuring.
@@ -35,7 +41,7 @@ def part_of(words):
     if not words or not words[0].endswith("rattle") or "--crate-name" not in words:
         return None
     crate = words[words.index("--crate-name") + 1]
-    return crate, "edits" if "--incremental" in words else "tests" if "--test" in words else "proof"
+    return crate, "edits" if "--incremental" in words or words[1:2] == ["check"] and "-o" not in words else "tests" if "--test" in words else "proof"
 
 
 def stat_of(pid):
@@ -52,37 +58,90 @@ def is_below(pid, top):
 
 
 def look(top, seen):
-    """Notes what each check below the top process has used so far, with its ended children, by its number and its part."""
+    """Notes what each check below the top process has used so far, with its ended children, by its number and its part; gives what is at work."""
+    working = set()
     for pid in filter(str.isdigit, os.listdir("/proc")):
         try:
             with open(f"/proc/{pid}/cmdline", "rb") as it:
                 part = part_of(it.read().decode(errors="replace").split("\0"))
             if part and is_below(int(pid), top):
+                working.add(part)
                 seconds = sum(map(int, stat_of(pid)[11:15])) / TICKS
                 seen[pid, *part] = max(seen.get((pid, *part), 0), seconds)
         except OSError:
             pass
+    return working
 
 
-def measure(file):
-    seen, began = {}, time.time()
-    with tempfile.TemporaryFile("w+", errors="replace") as out:
-        ran = subprocess.Popen(["bash", ".ci/run"], cwd=ROOT, stdin=subprocess.DEVNULL, stdout=out, stderr=subprocess.STDOUT)
-        while ran.poll() is None:
-            look(ran.pid, seen)
-            time.sleep(0.5)
-        out.seek(0)
-        said = out.read()
+def times_of(seen, began):
+    """What was seen, as TIMES.json has it."""
     used = resource.getrusage(resource.RUSAGE_CHILDREN)
     crates = {it: {**described(it), **dict.fromkeys(PARTS, 0.0)} for it in crates_of()}
     for (_, crate, part), seconds in seen.items():
         if crate in crates:
             crates[crate][part] = round(crates[crate][part] + seconds, 1)
-    found = {"minutes": round((time.time() - began) / 60, 1), "all": round(used.ru_utime + used.ru_stime), "slow": 1.0, "gain": GAIN, "crates": crates}
-    with open(file, "w", encoding="utf-8") as it:
-        json.dump(found, it, indent=1)
-    print(said, end="")
-    return ran.returncode
+    return {"minutes": round((time.time() - began) / 60, 1), "all": round(used.ru_utime + used.ru_stime), "crates": crates}
+
+
+def lanes_here():
+    """As many checks side by side as there are processors that may be used, and memory for each."""
+    with open("/proc/meminfo", encoding="ascii") as it:
+        free = int(re.search(r"MemAvailable:\s+(\d+)", it.read())[1]) * 1024
+    return max(1, min(len(os.sched_getaffinity(0)), int(free / MEMORY)))
+
+
+class Follower:
+    """A run of the gate's checks: what it has said and used so far."""
+
+    def __init__(self):
+        self.began, self.seen, self.told, self.working, self.ran = time.time(), {}, [], set(), None
+
+    def say(self, text):
+        print(f"[{(time.time() - self.began) / 60:5.1f} min] {text}", flush=True)
+
+    def read(self, log):
+        """Writes each line of the run into the log, and says those that tell how far it is."""
+        with open(log, "w", encoding="utf-8") as out:
+            for line in self.ran.stdout:
+                out.write(line)
+                found = TOLD.match(line)
+                if found:
+                    self.told.append(found[1])
+                    self.say(found[1])
+
+    def stop(self, number, _frame):
+        """Ends the run, and says how far it came."""
+        proved = sum(it.endswith(" proved") and "NOT" not in it for it in self.told)
+        tried = sum("must-fail" in it for it in self.told)
+        self.say(f"stopped by signal {number}: {proved} proofs of crates and tests done, wrong bodies of {tried} crates begun; at work: "
+                 + (", ".join(f"{crate} {part}" for crate, part in sorted(self.working)) or "nothing"))
+        os.killpg(self.ran.pid, signal.SIGTERM)
+        os._exit(128 + number)
+
+    def follow(self, log, command):
+        lanes = os.environ.get("RT_JOBS") or str(lanes_here())
+        self.say(f"{' '.join(command)}, {lanes} checks side by side")
+        self.ran = subprocess.Popen(command, stdin=subprocess.DEVNULL, stdout=subprocess.PIPE, stderr=subprocess.STDOUT, text=True, errors="replace",
+                                    env={**os.environ, "RT_JOBS": lanes}, start_new_session=True)
+        for it in (signal.SIGTERM, signal.SIGINT, signal.SIGHUP):
+            signal.signal(it, self.stop)
+        reader = threading.Thread(target=self.read, args=(log,))
+        reader.start()
+        while self.ran.poll() is None:
+            self.working = look(self.ran.pid, self.seen)
+            time.sleep(0.5)
+        reader.join()
+        found = times_of(self.seen, self.began)
+        self.say("processor minutes: " + sums_of(found))
+        if os.environ.get("GATE_TIMES"):
+            with open(os.environ["GATE_TIMES"], "w", encoding="utf-8") as it:
+                json.dump(found, it, indent=1)
+        return self.ran.returncode
+
+
+def sums_of(found):
+    parts = {part: sum(it[part] for it in found["crates"].values()) / 60 for part in PARTS}
+    return ", ".join(f"{part} {parts[part]:.0f}" for part in PARTS) + f"; all {found['all'] / 60:.0f}, in {found['minutes']} minutes"
 
 
 # What a crate is.
@@ -121,17 +180,15 @@ def without_tests(file, text):
 
 
 def described(name):
-    """A crate's lines and functions, those of its tests, how many wrong bodies the gate has of it, and the memory that a check of it is given."""
+    """A crate's lines and functions, those of its tests, and how many wrong bodies the gate has of it."""
     code = [without_tests(*it) for it in texts(name, "src/**/*.rt")]
     lines, all_lines = (sum(it.count("\n") for it in found) for found in (code, [text for _, text in texts(name, "src/**/*.rt")]))
-    proofs = sum(text.count("\n") for _, text in texts(name, "specs/**/*.antt", "proofs/**/*.antt"))
     return {
         "below": crates_of()[name],
         "lines": all_lines,
         "code": lines,
         "functions": sum(len(re.findall(r"(?m)^\s*(?:pub(?:\([a-z]+\))? )?(?:const )?fn \w", it)) for it in code),
         "bodies": sum(1 for _ in texts(name, "must-fail/*.edit")),
-        "need": 1e9 + 1e6 * all_lines + 2e5 * proofs + 0.4e9,
     }
 
 
@@ -157,14 +214,17 @@ def measured(crate):
     }
 
 
-def tell(file):
+def read_times(file):
     with open(file, encoding="utf-8") as it:
-        found = json.load(it)
+        return json.load(it)
+
+
+def tell(file):
+    found = read_times(file)
     print(f"{'crate':16} {'code':>5} {'fns':>4} {'bodies':>6} {'proof':>7} {'tests':>7} {'edits':>7}")
     for name, crate in found["crates"].items():
         print(f"{name:16} {crate['code']:5} {crate['functions']:4} {crate['bodies']:6} " + " ".join(f"{crate[part]:7.0f}" for part in PARTS))
-    minutes = {part: sum(it[part] for it in found["crates"].values()) / 60 for part in PARTS}
-    print(", ".join(f"{part} {minutes[part]:.0f}" for part in PARTS), f"; all {found['all'] / 60:.0f} processor minutes, {found['minutes']} minutes")
+    print("processor minutes: " + sums_of(found))
     most, over = budget()
     if not most:
         print("docs/BENCHMARKS.md states no budget")
@@ -180,12 +240,16 @@ def tell(file):
 
 
 def tasks_of(crates):
+    """What each task waits for, the lines that it is ranked by, and its seconds; the check that a crate's wrong bodies begin with counts to the first one."""
     tasks = {}
     for name, crate in crates.items():
         waits = [(below, "proof") for below in crate["below"]]
-        tasks[name, "proof"] = waits, crate["lines"], crate["need"], crate["proof"]
-        tasks[name, "tests"] = waits, crate["lines"] if crate["tests"] else 0, crate["need"], crate["tests"]
-        tasks[name, "edits"] = [(name, "proof"), (name, "tests")], crate["lines"] if crate["edits"] else 0, crate["need"], crate["edits"]
+        tasks[name, "proof"] = waits, crate["lines"], crate["proof"]
+        tasks[name, "tests"] = waits, crate["lines"] if crate["tests"] else 0, crate["tests"]
+        seed = min(crate["edits"], crate["proof"])
+        tasks[name, "seed"] = waits, 0, seed
+        for number in range(crate["bodies"]):
+            tasks[name, number] = [(name, "proof"), (name, "tests"), (name, "seed")], crate["lines"], (crate["edits"] - seed) / crate["bodies"]
     return tasks
 
 
@@ -197,37 +261,37 @@ def behind_of(tasks):
     return behind
 
 
-def lanes(file, count, memory):
-    with open(file, encoding="utf-8") as it:
-        tasks = tasks_of(json.load(it)["crates"])
-    room, behind = 0.85 * memory * 1e9, behind_of(tasks)
-    left, running, ended, now = sorted(tasks, key=lambda it: -behind[it]), {}, set(), 0.0
+def lanes(file, count):
+    tasks = tasks_of(read_times(file)["crates"])
+    behind = behind_of(tasks)
+    left = sorted(tasks, key=lambda it: (it[1] not in ("proof", "tests"), -behind[it]))
+    running, ended, now = {}, set(), 0.0
     while left or running:
-        ready = [it for it in left if all(below in ended for below in tasks[it][0])]
-        for at, key in enumerate(ready):
-            idle = count - sum(jobs for _, _, jobs in running.values())
-            free = room - sum(needs for _, needs, _ in running.values())
-            needs = tasks[key][2]
-            if idle > 0 and (not running or needs <= free):
-                left.remove(key)
-                jobs = 1 if key[1] == "edits" else max(1, min(4, idle // (len(ready) - at), 1 + int((free / needs - 1) / 0.6)))
-                running[key] = now + tasks[key][3] / (1 + GAIN * (jobs - 1)), needs * (1 + 0.6 * (jobs - 1)), jobs
-        now = min(end for end, _, _ in running.values())
-        for key in [it for it, (end, _, _) in running.items() if end <= now]:
+        for key in [it for it in left if all(below in ended for below in tasks[it][0])][: count - len(running)]:
+            left.remove(key)
+            running[key] = now + tasks[key][2]
+        now = min(running.values())
+        for key in [it for it, end in running.items() if end <= now]:
             ended.add(key)
             del running[key]
-    print(f"{now / 60:.0f} minutes with {count} processors and {memory:g} GB")
+    print(f"{now / 60:.0f} minutes with {count} processors")
     return 0
+
+
+def run(file):
+    return subprocess.run(["bash", ".ci/run"], cwd=ROOT, env={**os.environ, "GATE_TIMES": os.path.abspath(file)}).returncode
 
 
 def main(words):
     match words:
+        case ["follow", log, *command] if command:
+            return Follower().follow(log, command)
         case ["run", file]:
-            return measure(file)
+            return run(file)
         case ["tell", file]:
             return tell(file)
-        case ["lanes", file, count, memory]:
-            return lanes(file, int(count), float(memory))
+        case ["lanes", file, count]:
+            return lanes(file, int(count))
     print(__doc__, file=sys.stderr)
     return 2
 

@@ -3,18 +3,21 @@
 
     try_bodies.py                   tries all of them
     try_bodies.py NAME..            those of these crates
-    try_bodies.py --since COMMIT    those of the crates whose code, or that of a crate below, has changed since the commit
-    try_bodies.py --list            tells of each crate whether its code is what they were last tried on
+    try_bodies.py NAME/BODY..       these alone
+    try_bodies.py --since           those that weren't tried on the text of their crate, and of those below it, as it is now
+    try_bodies.py --list            tells of each crate how many were tried on this text
 
 They are tried on a copy of the repository, by `rt must-fail`, as many crates side by side as --lanes N says (one where it isn't given),
-once the libraries below them are built. What was
-tried is noted in tools/tried: the crate, how many were refused, the date, and the commit. A body stands here, and not in must-fail/, where
-another one in the gate is refused by the same clause, or where it is neither named by a promise nor the one of a public function.
+once the libraries below them are built. What was refused is noted in tools/tried: the crate, the checksum of the text that it was tried on, the
+date, and the bodies' names. That text is the code, the definitions and the proofs of the crate and of all below it, tests apart, which no wrong
+body sees, and each body's own. A body stands here, and not in must-fail/, where another one in the gate is refused by the same clause, where it is
+neither named by a promise nor the one of a public function, or where the check that it needs is dear (docs/BENCHMARKS.md, the gate's budget).
 """
 
 import argparse
 import datetime
 import glob
+import hashlib
 import os
 import re
 import shutil
@@ -30,12 +33,12 @@ RECORD = os.path.join(ROOT, "tools", "tried")
 CODE = ("src", "specs", "proofs")
 
 
-def git(*words):
-    return subprocess.run(["git", *words], cwd=ROOT, capture_output=True, text=True, check=True).stdout
+def path_of(name, body):
+    return os.path.join(ROOT, "crates", name, "tried", f"{body}.edit")
 
 
 def bodies_of(name):
-    return sorted(glob.glob(os.path.join(ROOT, "crates", name, "tried", "*.edit")))
+    return sorted(os.path.basename(it).removesuffix(".edit") for it in glob.glob(path_of(name, "*")))
 
 
 def crates():
@@ -43,37 +46,62 @@ def crates():
     return {name: [name, *below] for name, below in crates_of().items() if bodies_of(name)}
 
 
-def has_changed(names, commit):
-    """Whether the code of one of these crates differs from the commit's: tests apart, which no wrong body sees."""
-    paths = [f"crates/{name}/{part}" for name in names for part in CODE]
-    changed = git("diff", "--name-only", commit, "--", *paths).split()
-    return any("test" not in it for it in changed)
+def text_sum(names):
+    """The checksum of the text of these crates, tests apart."""
+    found = hashlib.sha256()
+    for name in sorted(names):
+        for part in CODE:
+            for file in sorted(glob.glob(os.path.join(ROOT, "crates", name, part, "**", "*.*"), recursive=True)):
+                if "test" not in os.path.relpath(file, ROOT):
+                    with open(file, "rb") as it:
+                        found.update(repr((os.path.relpath(file, ROOT), it.read())).encode())
+    return found.hexdigest()[:12]
 
 
-def record():
-    """What is noted of each crate: how many bodies were refused, the date and the commit."""
-    if not os.path.exists(RECORD):
-        return {}
-    with open(RECORD, encoding="utf-8") as it:
-        return {m[1]: (int(m[2]), m[3], m[4]) for m in re.finditer(r"(?m)^(\w+): (\d+) refused on (\S+) at (\w+)$", it.read())}
+def body_sum(name, body):
+    with open(path_of(name, body), "rb") as it:
+        return hashlib.sha256(it.read()).hexdigest()[:6]
 
 
-def note(name, count):
-    noted = record()
-    noted[name] = count, str(datetime.date.today()), git("rev-parse", "--short=12", "HEAD").strip()
-    with open(RECORD, "w", encoding="utf-8") as it:
-        it.write("# Which wrong bodies of crates/*/tried were last tried when, and on which commit: written by tools/try_bodies.py.\n")
-        it.writelines(f"{name}: {count} refused on {date} at {commit}\n" for name, (count, date, commit) in sorted(noted.items()))
+class Record:
+    """What tools/tried says: of each crate and text, when which bodies were refused on it, each with the checksum of its own text."""
+
+    LINE = re.compile(r"(?m)^(\w+) (\w+) (\d{4}-\d\d-\d\d): (.+)$")
+
+    def __init__(self):
+        text = ""
+        if os.path.exists(RECORD):
+            with open(RECORD, encoding="utf-8") as it:
+                text = it.read()
+        self.refused = {(m[1], *word.split(":")): (m[2], m[3]) for m in self.LINE.finditer(text) for word in m[4].split()}
+
+    def is_tried(self, name, body, text):
+        """Whether this body was refused on this text."""
+        return self.refused.get((name, body, body_sum(name, body)), ("", ""))[0] == text
+
+    def note(self, name, body, text):
+        self.refused = {key: told for key, told in self.refused.items() if key[:2] != (name, body)}
+        self.refused[name, body, body_sum(name, body)] = text, str(datetime.date.today())
+
+    def write(self):
+        """Writes a line for each crate, text and date; bodies that are no more are left out."""
+        lines = {}
+        for (name, body, own), (text, date) in sorted(self.refused.items()):
+            if os.path.exists(path_of(name, body)):
+                lines.setdefault((name, text, date), []).append(f"{body}:{own}")
+        with open(RECORD, "w", encoding="utf-8") as it:
+            it.write("# CRATE TEXT DATE: the bodies of crates/CRATE/tried that were refused on the text of this checksum. Written by tools/try_bodies.py.\n")
+            it.writelines(f"{name} {text} {date}: {' '.join(bodies)}\n" for (name, text, date), bodies in lines.items())
 
 
 def try_crate(copy, name):
-    """Whether all were refused; what `rt must-fail` says of those that weren't is printed."""
+    """The bodies that were refused; what `rt must-fail` says of those that weren't is printed."""
     ran = subprocess.run(["rt", "must-fail", name], cwd=copy, capture_output=True, text=True)
-    told = [line for line in ran.stdout.splitlines() if f"must-fail {name}/" in line]
-    refused = sum(": refused, as it must be" in line for line in told)
-    whole = ran.returncode == 0 and refused == len(bodies_of(name))
-    print(f"{name}: {refused} of {len(bodies_of(name))} refused", *([] if whole else [ran.stdout[-2000:], ran.stderr[-600:]]), sep="\n", flush=True)
-    return whole
+    wanted = [os.path.basename(it).removesuffix(".edit") for it in glob.glob(f"{copy}/crates/{name}/must-fail/*.edit")]
+    refused = [it for it in wanted if re.search(rf"must-fail {name}/{it}\.edit: refused, as it must be", ran.stdout)]
+    others = [line[:400] for line in ran.stdout.splitlines() if f"must-fail {name}/" in line and ": refused, as it must be" not in line]
+    print(f"{name}: {len(refused)} of {len(wanted)} refused", *others, *([] if refused else [ran.stdout[-2000:], ran.stderr[-600:]]), sep="\n", flush=True)
+    return refused if len(refused) == len(wanted) else [None, *refused]
 
 
 def needed_by(names):
@@ -82,48 +110,68 @@ def needed_by(names):
     return [it for it in crates_of() if it in below]
 
 
-def try_all(names, lanes):
-    if git("status", "--porcelain", "--", "crates").strip():
-        sys.exit("what is not committed can't be named as what was tried: commit it first")
+def copy_with(copy, chosen):
+    """A copy of the repository in which the chosen bodies are those of the gate."""
+    shutil.copytree(ROOT, copy, ignore=shutil.ignore_patterns(".git"))
+    for name in crates():
+        shutil.rmtree(f"{copy}/crates/{name}/must-fail", ignore_errors=True)
+        os.makedirs(f"{copy}/crates/{name}/must-fail")
+    for name, bodies in chosen.items():
+        for body in bodies:
+            shutil.copy(path_of(name, body), f"{copy}/crates/{name}/must-fail/")
+
+
+def try_all(chosen, lanes):
+    """Tries the chosen bodies, by crate. The status is 1 where one was not refused."""
+    texts = {name: text_sum(crates()[name]) for name in chosen}
     with tempfile.TemporaryDirectory(prefix="tried-") as room:
         copy = os.path.join(room, "copy")
-        shutil.copytree(ROOT, copy, ignore=shutil.ignore_patterns(".git"))
-        for name in crates():
-            shutil.rmtree(f"{copy}/crates/{name}/must-fail", ignore_errors=True)
-            os.rename(f"{copy}/crates/{name}/tried", f"{copy}/crates/{name}/must-fail")
-        for name in needed_by(names):
+        copy_with(copy, chosen)
+        for name in needed_by(chosen):
             subprocess.run(["rt", "lib"], cwd=f"{copy}/crates/{name}", check=True, capture_output=True)
         with ThreadPoolExecutor(lanes) as pool:
-            done = dict(zip(names, pool.map(lambda name: try_crate(copy, name), names)))
-    for name in names:
-        if done[name]:
-            note(name, len(bodies_of(name)))
-    return 0 if all(done.values()) else 1
+            done = dict(zip(chosen, pool.map(lambda name: try_crate(copy, name), chosen)))
+    record = Record()
+    for name, refused in done.items():
+        for body in filter(None, refused):
+            record.note(name, body, texts[name])
+    record.write()
+    return 1 if any(None in it for it in done.values()) else 0
 
 
 def tell():
-    noted = record()
+    record = Record()
     for name, below in crates().items():
-        count, date, commit = noted.get(name, (0, "never", None))
-        state = "never tried" if not commit else f"its code has changed since {date}" if has_changed(below, commit) else f"tried on {date}, the same code"
-        print(f"{name}: {len(bodies_of(name))} bodies, {count} refused: {state}")
+        text = text_sum(below)
+        tried = [body for body in bodies_of(name) if record.is_tried(name, body, text)]
+        print(f"{name}: {len(tried)} of {len(bodies_of(name))} bodies were refused on this text")
     return 0
+
+
+def chosen_of(words, is_since):
+    """The bodies that are to be tried, by crate."""
+    known, record = crates(), Record()
+    chosen = {}
+    for word in words or known:
+        name, _, body = word.partition("/")
+        if body not in ["", *bodies_of(name)]:
+            sys.exit(f"no such body in tried/: {word}")
+        chosen.setdefault(name, []).extend([body] if body else bodies_of(name))
+    if is_since:
+        chosen = {name: [it for it in bodies if not record.is_tried(name, it, text_sum(known[name]))] for name, bodies in chosen.items()}
+    return {name: bodies for name, bodies in chosen.items() if bodies}
 
 
 def main():
     reader = argparse.ArgumentParser(description=__doc__, formatter_class=argparse.RawDescriptionHelpFormatter)
     reader.add_argument("names", nargs="*")
-    reader.add_argument("--since")
+    reader.add_argument("--since", action="store_true")
     reader.add_argument("--list", action="store_true")
     reader.add_argument("--lanes", type=int, default=1)
     given = reader.parse_args()
     if given.list:
         return tell()
-    known = crates()
-    if not {*given.names} <= {*known}:
-        sys.exit(f"no such crate with bodies in tried/: {', '.join(sorted({*given.names} - {*known}))}")
-    names = given.names or [name for name, below in known.items() if not given.since or has_changed(below, given.since)]
-    return try_all(names, given.lanes)
+    return try_all(chosen_of(given.names, given.since), given.lanes)
 
 
 if __name__ == "__main__":

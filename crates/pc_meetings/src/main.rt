@@ -1,15 +1,19 @@
-//! Clients, a checkpointer, a logger and a collapser on threads of their own over one store, some of which stand at gates until
-//! others have come to theirs. It prints what each such meeting leaves, which is the same in every run.
+//! Sessions on threads of their own over one store, beside a checkpointer, a collapser and a logger: first an example of the library, and then
+//! meetings, in which some stand at gates until others have come to theirs. It prints what each of them leaves, which is the same in every run.
 #![tactic(auto)]
 
 mod audits;
+mod example;
 mod gate;
 mod jobs;
+mod logged;
 mod meeting;
 mod plans;
 mod receipts;
 mod signs;
+mod writers;
 
+use example::{Example, use_store};
 use meeting::{Left, Plan, meet};
 use pc_part::Base;
 use pc_shared::Opened;
@@ -26,6 +30,9 @@ use std::thread::Threads;
 // How many keys a store has room for.
 const CAPACITY: u32 = 8192;
 
+// How many sessions the example has.
+const EXAMPLE_SESSIONS: u8 = 2;
+
 // The status is 1 where memory, the output or the draw of a seed failed, or threads missed one another, after which no more
 // meetings are run.
 fn main(rt: HostRuntime) -> ExitCode {
@@ -37,6 +44,28 @@ fn main(rt: HostRuntime) -> ExitCode {
 
 fn run<H: Threads + Wait + Sync>(rt: &HostRuntime, threads: &H) -> io::Result<()> {
     let seed = RandomState::new(rt)?;
+    match run_example(threads, rt.alloc(), seed) {
+        Ok(left) => tell_example(rt, &left)?,
+        Err(why) => tell_refusal(rt, "example", why)?,
+    }
+    run_meetings(rt, threads, seed)
+}
+
+fn run_example<H: Threads + Wait + Sync>(
+    threads: &H,
+    alloc: Global,
+    seed: RandomState,
+) -> Result<Example, Refusal> {
+    let base = Base::start(1, Vec::new(alloc));
+    let opened = Opened::new(alloc, base, EXAMPLE_SESSIONS, CAPACITY, seed)?;
+    use_store::<Brand, _>(threads, alloc, opened)
+}
+
+fn run_meetings<H: Threads + Wait + Sync>(
+    rt: &HostRuntime,
+    threads: &H,
+    seed: RandomState,
+) -> io::Result<()> {
     for (name, plan) in PLANS {
         match meet_by(threads, rt.alloc(), seed, &plan) {
             Ok(left) => {
@@ -64,6 +93,20 @@ fn meet_by<H: Threads + Wait + Sync>(
     let base = Base::start(1, Vec::new(alloc));
     let opened = Opened::new(alloc, base, plan.sessions, CAPACITY, seed)?;
     meet::<Brand, _>(threads, alloc, opened, plan)
+}
+
+fn tell_example(rt: &HostRuntime, left: &Example) -> io::Result<()> {
+    let text = format!(in rt.alloc();
+        "example: commits {}, receipts {}, entries {}, parts {}, complete to {}, all {}, logged {}\n",
+        left.commits,
+        left.receipts,
+        left.entries,
+        left.parts,
+        left.complete_to,
+        left.all,
+        left.is_logged
+    )?;
+    io::writer(rt).write_all(text.as_bytes())
 }
 
 // What depends on the threads' order isn't printed: in a crowd that is how many jobs were given up.

@@ -1,4 +1,4 @@
-use Rattle.pc_sessions.proofs.run.Given as goal
+use Rattle.pc_meetings.proofs.run_example.Given as goal
 
 -- the name of the store that was just opened
 abbrev pub ghosts-use_store : goal.ghosts-use_store

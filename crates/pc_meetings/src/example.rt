@@ -1,9 +1,10 @@
-//! The store from its opening to its close.
+//! An example of the library: two sessions on threads of their own, a checkpointer and a collapser beside them, and a logger behind
+//! them, over one store from its opening to its close.
 ghost use Rattle.std.specs.Prelude.{◌≡◌, []};
 ghost use Rattle.pc_board.specs.Passes.{IsOfBoard};
 
-use crate::clients::{collapse_points, commit_often, commit_one, run_jobs, take_points};
-use crate::log::{TextOfLog, is_text_of};
+use crate::logged::{TextOfLog, is_text_of};
+use crate::writers::{collapse_points, commit_often, commit_one, run_jobs, take_points};
 use pc_board::{Board, BoardPass};
 use pc_shared::{Closed, LogPass, Opened, PartTicket, Session, Shared};
 use pc_tie::StoreName;
@@ -17,7 +18,7 @@ const POINTS: u32 = 3;
 
 /// What the threads leave.
 #[derive(Drop)]
-pub struct Left {
+pub struct Example {
     /// How many transactions were committed.
     pub commits: u64,
     /// How many receipts the sessions have.
@@ -40,7 +41,7 @@ pub fn use_store<N: StoreName + Send + Sync, R: Threads + Wait + Sync>(
     rt: &R,
     alloc: Global,
     opened: Opened,
-) -> Result<Left, Refusal>
+) -> Result<Example, Refusal>
     requires { opened ≡ N.name }
 {
     let (shared, mut sessions, mut pass) = opened.named::<N>()?;
@@ -180,8 +181,8 @@ fn commit_both<N: StoreName + Send + Sync, R: Threads + Wait + Sync>(
     Ok(ours.saturating_add(theirs))
 }
 
-fn left_by<N: StoreName>(commits: u64, closed: &Closed<N>, is_logged: bool) -> Left {
-    Left {
+fn left_by<N: StoreName>(commits: u64, closed: &Closed<N>, is_logged: bool) -> Example {
+    Example {
         commits,
         receipts: receipts_of(&closed.receipts),
         entries: closed.log().len(),
