@@ -117,8 +117,8 @@ fn is_right(
 // Locks; where memory is wanting they are made again.
 fn new_locks(alloc: Global) -> Result<Slots, AllocError> {
     match Slots::new(alloc) {
+        Ok(locks) => Ok(locks),
         Err(_) => Slots::new(alloc),
-        locks => locks,
     }
 }
 

@@ -245,8 +245,9 @@ const ROWS: [Row; 16] = [
 
 fn recover_again(alloc: Global, parts: &[&[u8]], log: &[u8]) -> Result<Recovered, Refusal> {
     match recover(alloc, &EMPTY_BASE, parts, log) {
+        Ok(recovered) => Ok(recovered),
         Err(Refusal::OutOfMemory) => recover(alloc, &EMPTY_BASE, parts, log),
-        recovered => recovered,
+        Err(why) => Err(why),
     }
 }
 

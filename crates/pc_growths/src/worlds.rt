@@ -12,9 +12,10 @@ use std::hash::RandomState;
 fn base_of_pair(alloc: Global, pair: Pair) -> Result<Base, Refusal>
     ensures { IfOk result (λ base. base.point ≡ 0) }
 {
+    let mut pairs = Vec::with_capacity(alloc, 1)?;
     let key = Key::new(alloc, pair.0)?;
     let value = Value::new(alloc, pair.1)?;
-    let pairs = vec![in alloc; (key, value)]?;
+    pairs.push_reserved((key, value));
     Ok(Base::start(7, pairs))
 }
 
@@ -53,7 +54,7 @@ pub(crate) fn world_again(
     requires { (1 ≤ sessions) × (sessions ≤ MOST_SESSIONS) }
 {
     match new_world(alloc, seed, pair, sessions, 2) {
+        Ok(world) => Ok(world),
         Err(_) => new_world(alloc, seed, pair, sessions, 2),
-        world => world,
     }
 }

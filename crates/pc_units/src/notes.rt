@@ -1,14 +1,16 @@
 //! Tests: the order of writes, 256 keys in falling order, and which reads are noted.
+ghost use Rattle.std.specs.Prelude.{◌<◌};
+
 use pc_txn::{ReadSet, WriteSet};
 use pc_types::{Key, Refusal, Value, Write};
 use std::alloc::Global;
 use std::test::Fail;
 
-// The key of a number: 20 bytes, which lie in memory.
+// The key of a number: 20 bytes, which lie in memory. Keys rise with their numbers.
 fn key_of(alloc: Global, number: u16) -> Result<Key, Refusal> {
-    let [high, low] = number.to_be_bytes();
-    let mut bytes = [low; 20];
-    bytes[0] = high;
+    let mut bytes = Vec::new(alloc);
+    bytes.extend_from_slice(b"a key in memory..:")?;
+    bytes.extend_from_slice(&number.to_be_bytes())?;
     Key::new(alloc, &bytes)
 }
 
@@ -70,9 +72,19 @@ fn read_at(
     writes: &WriteSet,
     number: u16,
 ) -> Result<Option<usize>, Refusal> {
-    let key = key_of(alloc, number)?;
     reads.reserve()?;
-    Ok(reads.note(writes, key, None).ok())
+    let key = key_of(alloc, number)?;
+    Ok(noted(reads, writes, key))
+}
+
+// The place at which the read of the key is noted, if it is.
+fn noted(reads: &mut ReadSet, writes: &WriteSet, key: Key) -> Option<usize>
+    requires { 0 < reads.old.room }
+{
+    match reads.note(writes, key, None) {
+        Ok(place) => Some(place),
+        Err(_) => None,
+    }
 }
 
 // A read is noted where its key was neither written nor read.
