@@ -35,8 +35,8 @@ fn log_once(alloc: Global) -> Result<Vec<Entry>, Refusal> {
 
 fn log_again(alloc: Global) -> Result<Vec<Entry>, Refusal> {
     match log_once(alloc) {
+        Ok(log) => Ok(log),
         Err(_) => log_once(alloc),
-        log => log,
     }
 }
 
@@ -69,15 +69,15 @@ fn file_once(alloc: Global, value: &[u8]) -> Result<Vec<CompleteFile>, Refusal> 
 
 fn file_again(alloc: Global, value: &[u8]) -> Result<Vec<CompleteFile>, Refusal> {
     match file_once(alloc, value) {
+        Ok(file) => Ok(file),
         Err(_) => file_once(alloc, value),
-        file => file,
     }
 }
 
 fn says_again(alloc: Global, log: &[Entry], files: &[CompleteFile]) -> Result<bool, AllocError> {
     match audit(alloc, &[], log, files) {
+        Ok(right) => Ok(right),
         Err(_) => audit(alloc, &[], log, files),
-        right => right,
     }
 }
 

@@ -37,26 +37,27 @@ const LAID: [Pair; 3] = [(b"b", b"0"), (b"c", b"0"), (LONG, LONG)];
 fn part_once(alloc: Global, point: u16, key: &[u8], value: Option<&[u8]>) -> Result<Part, Refusal>
     requires { 1 ≤ point }
 {
+    let mut entries = Vec::with_capacity(alloc, 1)?;
     let content = match value {
         Some(bytes) => Some(Value::new(alloc, bytes)?),
         None => None,
     };
     let key = Key::new(alloc, key)?;
-    let entries = vec![in alloc; (key, content)]?;
+    entries.push_reserved((key, content));
     Part::of_point(alloc, 1, Point(point), entries)
 }
 
 fn first(alloc: Global) -> Result<Part, Refusal> {
     match part_once(alloc, 1, LONG, Some(LONG)) {
+        Ok(part) => Ok(part),
         Err(_) => part_once(alloc, 1, LONG, Some(LONG)),
-        part => part,
     }
 }
 
 fn third(alloc: Global) -> Result<Part, Refusal> {
     match part_once(alloc, 3, b"b", None) {
+        Ok(part) => Ok(part),
         Err(_) => part_once(alloc, 3, b"b", None),
-        part => part,
     }
 }
 
@@ -77,8 +78,9 @@ pub(crate) fn has_text(alloc: Global, part: &Part, text: &[u8]) -> Result<bool, 
 
 fn joined_again(alloc: Global, one: &Part, other: &Part) -> Result<Part, Refusal> {
     match join(alloc, one, other) {
+        Ok(joined) => Ok(joined),
         Err(Refusal::OutOfMemory) => join(alloc, one, other),
-        joined => joined,
+        Err(why) => Err(why),
     }
 }
 
@@ -117,23 +119,28 @@ fn joins_leave_both_parts_at_each_refused_growth(rt: HostRuntime) -> Result<(), 
 
 // The base of run 1 with these pairs.
 fn base_once(alloc: Global) -> Result<Base, Refusal> {
-    let mut pairs = Vec::new(alloc);
-    pairs.push((Key::new(alloc, b"b")?, Value::new(alloc, b"0")?))?;
-    pairs.push((Key::new(alloc, b"c")?, Value::new(alloc, b"0")?))?;
+    let mut pairs = Vec::with_capacity(alloc, 2)?;
+    let key = Key::new(alloc, b"b")?;
+    let value = Value::new(alloc, b"0")?;
+    pairs.push_reserved((key, value));
+    let key = Key::new(alloc, b"c")?;
+    let value = Value::new(alloc, b"0")?;
+    pairs.push_reserved((key, value));
     Ok(Base::start(1, pairs))
 }
 
 fn base(alloc: Global) -> Result<Base, Refusal> {
     match base_once(alloc) {
+        Ok(base) => Ok(base),
         Err(_) => base_once(alloc),
-        base => base,
     }
 }
 
 fn laid_again(alloc: Global, base: &Base, part: &Part) -> Result<Base, Refusal> {
     match lay(alloc, base, part) {
+        Ok(laid) => Ok(laid),
         Err(Refusal::OutOfMemory) => lay(alloc, base, part),
-        laid => laid,
+        Err(why) => Err(why),
     }
 }
 

@@ -102,10 +102,10 @@ fn moved(walk: &Walk, reply: &Reply) -> Walk {
 fn base_of(alloc: Global) -> Result<Base, Refusal>
     ensures { IfOk result (λ base. base.point ≡ 0) }
 {
-    let mut pairs = Vec::new(alloc);
+    let mut pairs = Vec::with_capacity(alloc, 1)?;
     let key = Key::new(alloc, b"b")?;
     let value = Value::new(alloc, b"0")?;
-    pairs.push((key, value))?;
+    pairs.push_reserved((key, value));
     Ok(Base::start(9, pairs))
 }
 
