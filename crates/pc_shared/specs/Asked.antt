@@ -2,12 +2,20 @@
 use Rattle.std.specs.Prelude.{ℕ, Bool, true, false, List, Option, Some, None}
 use Rattle.pc_types.specs.declared.Event.{Event}
 use Rattle.pc_types.specs.declared.Event.TheVariants as asked
+use Rattle.pc_types.specs.declared.Refusal.TheVariants as why
+use Rattle.pc_types.specs.declared.Reply.{Reply}
 use Rattle.pc_types.specs.declared.Reply.TheVariants as told
 use Rattle.pc_model.specs.History.{History}
 use Rattle.pc_model.specs.Replies.{Setting}
 use Rattle.pc_model.specs.Calls.{step_of, Extends}
 use Rattle.pc_receipts.specs.declared.got.Got.{Got}
 use Rattle.pc_receipts.specs.declared.got.Got.TheVariants as got
+
+-- the reply says that the session's request waits
+abbrev pub is_wait : Reply → Bool
+is_wait told.Wait = true
+is_wait (told.Refused why.StillWaiting) = true
+is_wait other = false
 
 -- a read was so answered, and the session has then seen the second history
 abbrev pub IsGot : Setting → History → ℕ → List ℕ → Got → History → Type 0

@@ -1,5 +1,5 @@
 //! What a session's seat asks of the store, event by event.
-ghost use Rattle.std.specs.Prelude.{◌≡◌, true, IfOk, IfErr, OnErr};
+ghost use Rattle.std.specs.Prelude.{◌≡◌, ◌≢◌, true, IfOk, IfErr, OnErr};
 ghost use Rattle.pc_types.specs.declared.Event.TheVariants.{Begin, Get, Put, Del, Commit, Abort};
 ghost use Rattle.pc_types.specs.declared.Reply.TheVariants.{Begun, Committed, Aborted, Refused};
 ghost use Rattle.pc_model.specs.Calls.{step_of, Extends, IsAnswered};
@@ -44,6 +44,7 @@ impl<N: StoreName> Shared<N> {
         ensures number { seat.new.number ≡ seat.old.number }
         ensures call { IfOk result (λ t. Extends N.name.setting seat.old.seen (step_of (Begin seat.old.number) (Begun t)) seat.new.seen) }
         ensures refused { IfErr result (λ why. IsAnswered N.name.setting seat.old.number seat.old.seen (Begin seat.old.number) (Refused why)) }
+        ensures no_wait { IfErr result (λ why. why ≢ Refusal.StillWaiting) }
         ensures same { OnErr result (seat.new.seen ≡ seat.old.seen) }
     {
         let mut step = asking(Event::Begin(seat.number()));
@@ -69,6 +70,7 @@ impl<N: StoreName> Shared<N> {
         ensures room { IfOk result (λ _. has_room ≡ true) }
         ensures call { IfOk result (λ r. IsGot N.name.setting seat.old.seen seat.old.number key r.1 seat.new.seen) }
         ensures refused { IfErr result (λ why. IsAnswered N.name.setting seat.old.number seat.old.seen (Get seat.old.number key) (Refused why)) }
+        ensures no_wait { IfErr result (λ why. why ≢ Refusal.StillWaiting) }
         ensures same { OnErr result (seat.new.seen ≡ seat.old.seen) }
     {
         let mut step = asking(Event::Get(seat.number(), key));
@@ -100,6 +102,7 @@ impl<N: StoreName> Shared<N> {
         ensures room { IfOk result (λ _. has_room ≡ true) }
         ensures call { IfOk result (λ r. IsMade N.name.setting seat.old.seen (Put seat.old.number key value) r.2 seat.new.seen) }
         ensures refused { IfErr result (λ why. IsAnswered N.name.setting seat.old.number seat.old.seen (Put seat.old.number key value) (Refused why)) }
+        ensures no_wait { IfErr result (λ why. why ≢ Refusal.StillWaiting) }
         ensures same { OnErr result (seat.new.seen ≡ seat.old.seen) }
     {
         let mut step = asking(Event::Put(seat.number(), key, value));
@@ -129,6 +132,7 @@ impl<N: StoreName> Shared<N> {
         ensures room { IfOk result (λ _. has_room ≡ true) }
         ensures call { IfOk result (λ r. IsMade N.name.setting seat.old.seen (Del seat.old.number key) r.1 seat.new.seen) }
         ensures refused { IfErr result (λ why. IsAnswered N.name.setting seat.old.number seat.old.seen (Del seat.old.number key) (Refused why)) }
+        ensures no_wait { IfErr result (λ why. why ≢ Refusal.StillWaiting) }
         ensures same { OnErr result (seat.new.seen ≡ seat.old.seen) }
     {
         let mut step = asking(Event::Del(seat.number(), key));
@@ -156,6 +160,7 @@ impl<N: StoreName> Shared<N> {
         ensures room { IfOk result (λ _. has_room ≡ true) }
         ensures call { IfOk result (λ n. Extends N.name.setting seat.old.seen (step_of (Commit seat.old.number) (Committed n)) seat.new.seen) }
         ensures refused { IfErr result (λ why. IsAnswered N.name.setting seat.old.number seat.old.seen (Commit seat.old.number) (Refused why)) }
+        ensures no_wait { IfErr result (λ why. why ≢ Refusal.StillWaiting) }
         ensures same { OnErr result (seat.new.seen ≡ seat.old.seen) }
     {
         let mut step = asking(Event::Commit(seat.number()));
@@ -173,6 +178,7 @@ impl<N: StoreName> Shared<N> {
         ensures number { seat.new.number ≡ seat.old.number }
         ensures call { IfOk result (λ _. Extends N.name.setting seat.old.seen (step_of (Abort seat.old.number) Aborted) seat.new.seen) }
         ensures refused { IfErr result (λ why. IsAnswered N.name.setting seat.old.number seat.old.seen (Abort seat.old.number) (Refused why)) }
+        ensures no_wait { IfErr result (λ why. why ≢ Refusal.StillWaiting) }
         ensures same { OnErr result (seat.new.seen ≡ seat.old.seen) }
     {
         let mut step = asking(Event::Abort(seat.number()));

@@ -11,5 +11,5 @@ pub use closing::Closed;
 pub use pc_latch::{LogPass, PartTicket};
 pub use pc_receipts::Receipts;
 pub use session::{Answer, Session};
-pub use store::{Held, Opened, Shared, pause};
+pub use store::{Held, Opened, Shared, Turn, pause};
 pub use waits::{Waits, Woken};

@@ -1,5 +1,5 @@
 //! Sessions, and their calls.
-ghost use Rattle.std.specs.Prelude.{◌≡◌, ◌∷◌, ◌++◌, [], true, false, Some, None, IfOk, IfErr, OnErr, option_copied};
+ghost use Rattle.std.specs.Prelude.{◌≡◌, ◌≢◌, ◌∷◌, ◌++◌, [], true, false, Some, None, IfOk, IfErr, OnErr, option_copied};
 ghost use Rattle.pc_types.specs.declared.Event.{Event};
 ghost use Rattle.pc_types.specs.declared.Event.TheVariants.{Begin, Get, Put, Del, Commit, Abort};
 ghost use Rattle.pc_types.specs.declared.Reply.TheVariants.{Begun, Committed, Aborted, Refused};
@@ -78,6 +78,7 @@ impl<N: StoreName> Session<N> {
 fn told_idle<N: StoreName>(seat: &SessionSeat<N>) -> Refusal
     requires { is_open seat.now.number seat.now.seen ≡ false }
     ensures told { result ≡ Refusal.NoTransaction }
+    ensures no_wait { result ≢ Refusal.StillWaiting }
     ensures answered { (event : Event) → AsksOpen seat.now.number event → IsAnswered N.name.setting seat.now.number seat.now.seen event (Refused Refusal.NoTransaction) }
 {
     let _ = seat.number();
@@ -93,6 +94,7 @@ impl<N: StoreName> Shared<N> {
         ensures receipts { session.new.receipts ≡ session.old.receipts }
         ensures call { IfOk result (λ t. Extends N.name.setting session.old.seen (step_of (Begin session.old.number) (Begun t)) session.new.seen) }
         ensures refused { IfErr result (λ why. IsAnswered N.name.setting session.old.number session.old.seen (Begin session.old.number) (Refused why)) }
+        ensures no_wait { IfErr result (λ why. why ≢ Refusal.StillWaiting) }
         ensures same { OnErr result (session.new ≡ session.old) }
     {
         let t = match self.begin_as(rt, &mut session.seat) {
@@ -103,9 +105,10 @@ impl<N: StoreName> Shared<N> {
         Ok(t)
     }
 
-    /// The session's transaction reads the key, once its lock is granted: it is found or absent, or the request died. A refusal
-    /// is one that the store may answer after some legal history with all that the session has seen and no other call of it,
-    /// and changes nothing: the first of `NoTransaction`, `MustAbort` and `Full` that stands, else `OutOfMemory`.
+    /// The session's transaction reads the key, once its lock is granted: it is found or absent, or the request died. While the
+    /// request waits so does the call, which is never refused for it. A refusal is one that the store may answer after some legal
+    /// history with all that the session has seen and no other call of it, and changes nothing: the first of `NoTransaction`,
+    /// `MustAbort` and `Full` that stands, else `OutOfMemory`.
     pub fn get<R: Wait>(
         &self,
         rt: &R,
@@ -116,6 +119,7 @@ impl<N: StoreName> Shared<N> {
         ensures receipts { session.new.receipts ≡ session.old.receipts }
         ensures call { IfOk result (λ answer. IsRead N.name.setting session.old.seen session.old.number key answer session.new.seen) }
         ensures refused { IfErr result (λ why. IsAnswered N.name.setting session.old.number session.old.seen (Get session.old.number key) (Refused why)) }
+        ensures no_wait { IfErr result (λ why. why ≢ Refusal.StillWaiting) }
         ensures same { OnErr result (session.new ≡ session.old) }
     {
         if !session.work.busy {
@@ -131,9 +135,10 @@ impl<N: StoreName> Shared<N> {
         Ok(answer)
     }
 
-    /// The session's transaction sets the key to the value, once its lock is granted, or the request died. A refusal is one
-    /// that the store may answer after some legal history with all that the session has seen and no other call of it, and
-    /// changes nothing: the first of `NoTransaction`, `MustAbort`, `TooManyWrites` and `Full` that stands, else `OutOfMemory`.
+    /// The session's transaction sets the key to the value, once its lock is granted, or the request died. While the request
+    /// waits so does the call, which is never refused for it. A refusal is one that the store may answer after some legal history
+    /// with all that the session has seen and no other call of it, and changes nothing: the first of `NoTransaction`,
+    /// `MustAbort`, `TooManyWrites` and `Full` that stands, else `OutOfMemory`.
     pub fn put<R: Wait>(
         &self,
         rt: &R,
@@ -145,6 +150,7 @@ impl<N: StoreName> Shared<N> {
         ensures receipts { session.new.receipts ≡ session.old.receipts }
         ensures call { IfOk result (λ answer. IsWritten N.name.setting session.old.seen (Put session.old.number key value) answer session.new.seen) }
         ensures refused { IfErr result (λ why. IsAnswered N.name.setting session.old.number session.old.seen (Put session.old.number key value) (Refused why)) }
+        ensures no_wait { IfErr result (λ why. why ≢ Refusal.StillWaiting) }
         ensures same { OnErr result (session.new ≡ session.old) }
     {
         if !session.work.busy {
@@ -163,7 +169,8 @@ impl<N: StoreName> Shared<N> {
         Ok(Answer::Ok)
     }
 
-    /// The session's transaction removes the key, once its lock is granted, or the request died. Refusals are those of `put`.
+    /// The session's transaction removes the key, once its lock is granted, or the request died. It waits as `put` does, and
+    /// refusals are those of `put`.
     pub fn del<R: Wait>(
         &self,
         rt: &R,
@@ -174,6 +181,7 @@ impl<N: StoreName> Shared<N> {
         ensures receipts { session.new.receipts ≡ session.old.receipts }
         ensures call { IfOk result (λ answer. IsWritten N.name.setting session.old.seen (Del session.old.number key) answer session.new.seen) }
         ensures refused { IfErr result (λ why. IsAnswered N.name.setting session.old.number session.old.seen (Del session.old.number key) (Refused why)) }
+        ensures no_wait { IfErr result (λ why. why ≢ Refusal.StillWaiting) }
         ensures same { OnErr result (session.new ≡ session.old) }
     {
         if !session.work.busy {
@@ -201,6 +209,7 @@ impl<N: StoreName> Shared<N> {
         ensures call { IfOk result (λ n. Extends N.name.setting session.old.seen (step_of (Commit session.old.number) (Committed n)) session.new.seen) }
         ensures receipt { IfOk result (λ n. session.new.receipts ≡ session.old.receipts ++ receipt_of session.old.number n (own_of session.old.number session.old.seen) ∷ []) }
         ensures refused { IfErr result (λ why. IsAnswered N.name.setting session.old.number session.old.seen (Commit session.old.number) (Refused why)) }
+        ensures no_wait { IfErr result (λ why. why ≢ Refusal.StillWaiting) }
         ensures same { OnErr result (session.new ≡ session.old) }
     {
         if !session.work.busy {
@@ -223,6 +232,7 @@ impl<N: StoreName> Shared<N> {
         ensures receipts { session.new.receipts ≡ session.old.receipts }
         ensures call { IfOk result (λ _. Extends N.name.setting session.old.seen (step_of (Abort session.old.number) Aborted) session.new.seen) }
         ensures refused { IfErr result (λ why. IsAnswered N.name.setting session.old.number session.old.seen (Abort session.old.number) (Refused why)) }
+        ensures no_wait { IfErr result (λ why. why ≢ Refusal.StillWaiting) }
         ensures same { OnErr result (session.new ≡ session.old) }
     {
         if !session.work.busy {

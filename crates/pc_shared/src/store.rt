@@ -2,7 +2,6 @@
 ghost use Rattle.std.specs.Prelude.{◌≡◌, ◌≢◌, ◌≤◌, ◌<◌, ◌⊎◌, ◌++◌, [], false, length, IfOk, IfErr, OnErr, All, MatchBool};
 ghost use Rattle.pc_model.specs.FewWrites.{HasFewWrites};
 ghost use Rattle.pc_model.specs.Maps.{len};
-ghost use Rattle.pc_types.specs.declared.Reply.TheVariants.{Wait};
 ghost use Rattle.pc_model.specs.Calls.{session_of, counts, IsAnswered};
 ghost use Rattle.pc_model.specs.ReplyKinds.{IsReplyTo};
 ghost use Rattle.pc_model.specs.SessionLaws.{IsNoJoin};
@@ -15,11 +14,12 @@ ghost use Rattle.pc_latch.specs.Cycles.{IsAdvance, IsTaken};
 ghost use Rattle.pc_model.specs.History.{History};
 ghost use Rattle.pc_model.specs.Sets as set;
 ghost use Rattle.pc_latch.specs.Tickets.{IsNoTicket};
+ghost use Rattle.pc_shared.specs.Asked.{is_wait};
 ghost use Rattle.pc_shared.specs.Sitters.{new_sitters, IsLeft, AreApart, HasAll, LacksOne};
 
 use crate::closing::{Closed, close};
 use crate::session::Session;
-use crate::waits::{News, Waits, Woken};
+use crate::waits::{News, Waits, Woken, is_wait};
 use pc_engine::World;
 use pc_latch::{Latched, LogPass, PartTicket};
 use pc_part::Base;
@@ -118,6 +118,7 @@ impl Opened {
             granted: Condvar::new(),
             changed: Condvar::new(),
             turned: Condvar::new(),
+            repeating: Mutex::new(Turn),
             count,
         };
         Ok((shared, sessions, pass))
@@ -134,9 +135,14 @@ pub struct Shared<N: StoreName> {
     pub(crate) granted: Condvar,
     pub(crate) changed: Condvar,
     pub(crate) turned: Condvar,
+    repeating: Mutex<Turn>,
     pub(crate) count: u8,
     ghost count_is: { N.name.setting.sessions ≡ count },
 }
+
+/// The turn of one thread to begin again what has died.
+#[derive(Drop)]
+pub struct Turn;
 
 /// What lies under the latch: the world with its history, and who waits.
 #[derive(Drop)]
@@ -202,8 +208,9 @@ impl<N: StoreName> Shared<N> {
         }
     }
 
-    // Asks the step's event until the reply is no wait; the step has the reply then. Nobody else is woken but where locks were
-    // let go and somebody waits for one.
+    // Asks the step's event until it is answered; the step has the reply then. While its request waits, which no other session
+    // can answer it, it sleeps, and asks again after each end of a transaction: then the request may have been granted. Nobody
+    // else is woken but where locks were let go and somebody waits for one.
     pub(crate) fn step_as<R: Wait>(
         &self,
         rt: &R,
@@ -220,12 +227,12 @@ impl<N: StoreName> Shared<N> {
         ensures moves { MovesOn N.name.setting seat.old.seen step.new seat.new.seen }
         ensures answered { IsAnswered N.name.setting seat.old.number seat.old.seen step.new.event step.new.reply }
         ensures room { has_room ≡ false → counts step.new.reply ≡ false }
-        ensures no_wait { step.new.reply ≢ Wait }
+        ensures no_wait { is_wait step.new.reply ≡ false }
     {
         let mut held = self.get_latch(rt);
         for _ in rt.forever() {
             held.latched.call(&self.tie, seat, step, has_room);
-            if let Reply::Wait = step.reply {
+            if is_wait(&step.reply) {
                 held.waits.for_locks = held.waits.for_locks.saturating_add(1);
                 held = self.granted.wait(rt, held);
                 held.waits.for_locks = held.waits.for_locks.saturating_sub(1);
@@ -305,6 +312,7 @@ impl<N: StoreName> Shared<N> {
             granted: _,
             changed: _,
             turned: _,
+            repeating: _,
             count,
         } = self;
         let Held { latched, waits: _ } = latch.into_inner();
@@ -354,6 +362,12 @@ impl<N: StoreName> Shared<N> {
             held.waits.end_waiting(news);
         }
         unreachable!()
+    }
+
+    /// Waits for the turn to begin again what has died, and has it until it is dropped; no two threads have it at once. A thread
+    /// that asks for it is to have no transaction open: then nobody waits for a lock of one that waits here.
+    pub fn turn_to_repeat<R: Wait>(&self, rt: &R) -> MutexGuard<'_, Turn> {
+        self.repeating.lock(rt)
     }
 
     /// Marks the end, for loops that ask whether it is marked. It is a change, of the phase too, and ends nothing by itself.

@@ -1,5 +1,8 @@
 //! Who waits at a store's latch, and how often the store has changed.
-use pc_types::Reply;
+ghost use Rattle.std.specs.Prelude.{◌≡◌};
+ghost use Rattle.pc_shared.specs.Asked.{is_wait};
+
+use pc_types::{Refusal, Reply};
 
 /// What a thread may wait for, beside locks.
 #[derive(Clone, Copy, Debug, PartialEq, Eq)]
@@ -49,6 +52,13 @@ pub struct Woken {
     pub(crate) for_locks: bool,
     pub(crate) for_change: bool,
     pub(crate) for_phase: bool,
+}
+
+// Whether the reply says that the session's request waits: it was put into its queue now, or stands there ungranted.
+pub(crate) fn is_wait(reply: &Reply) -> bool
+    ensures { result ≡ is_wait reply.now }
+{
+    matches!(reply, Reply::Wait | Reply::Refused(Refusal::StillWaiting))
 }
 
 // Whether the reply says that the store has changed: it is no wait and no refusal, and doesn't say that nothing could be done.

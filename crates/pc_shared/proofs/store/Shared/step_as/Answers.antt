@@ -1,11 +1,11 @@
-use Rattle.std.proofs.Common.{ap, ◌∙◌, subst}
+use Rattle.std.proofs.Common.{ap, sym, ◌∙◌, subst}
 use Rattle.pc_model.specs.Calls.{IsAnswered}
 use Rattle.pc_tie.specs.declared.sight.Sitting.{Sitting}
 use Rattle.pc_tie.specs.Seats.{MovesOn}
 use Rattle.pc_shared.proofs.store.Shared.step_as.Goals as goal
 
-pub returns-in_default : goal.returns-in_default
-returns-in_default g c =
+pub returns-else-is_wait : goal.returns-else-is_wait
+returns-else-is_wait g c =
     let st = g.N.StoreName.name.setting in
     let i = c.loop.invariant in
     let e = c.call.ensures in
@@ -18,5 +18,5 @@ returns-in_default g c =
       moves = subst (λ (s : Sitting). MovesOn st s.seen asked after) i.0 e.moves;
       answered = subst (λ (s : Sitting). IsAnswered st s.number s.seen asked.event asked.reply) i.0 e.answered;
       room = e.room;
-      no_wait = c.in_default.not-Wait;
+      no_wait = sym c.is_wait.ensures ∙ c.if-is_wait.false;
     }
