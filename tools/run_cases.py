@@ -15,6 +15,7 @@ FOUR = b"points 8\n" + b"".join(b"client %d\nfill %s 1000 x\n" % (number + 1, na
 FOUR_TOLD = b"commits 4000\ngave up 0\npoints 8\ncollapsed 1-8 entries 4000\nstate pairs 4000\ncheck ok\n"
 NOTHING_TOLD = b"commits 0\ngave up 0\npoints 0\ncollapsed none\ncheck ok\n"
 CUTS = 50
+CONTENDED = 3_200
 
 # What a workload has, and the number of its first bad line.
 BAD_LINES = [
@@ -81,6 +82,46 @@ def workload_cases(folder):
         yield Case(f"a bad line {line}", ("run", f"bad{number}.pcw", "--dir", "none"), 3, b"bad line %d\n" % line, files={"none": None})
 
 
+def put_hot(number):
+    """A put of the one key that all want."""
+    return b"put hot %d\n" % number
+
+
+def put_hot_and_other(number):
+    """The same, and a put of one of eight others."""
+    return put_hot(number) + b"put other%d v\n" % (number * 5 % 8)
+
+
+def transfer(keys):
+    """Reads and writes two of so many keys, in an order that goes round."""
+    def ops(number):
+        one = number * 7 % keys
+        two = (one + 1 + number * 3 % (keys - 1)) % keys
+        return b"get a%d\nget a%d\nput a%d v\nput a%d v\n" % (one, two, one, two)
+    return ops
+
+
+def contended(clients, count, ops):
+    """A workload of so many transactions, dealt to the clients in turn."""
+    lines = []
+    for client in range(clients):
+        lines.append(b"client %d\n" % (client + 1))
+        lines += [b"txn\n" + ops(number) + b"end\n" for number in range(client, count, clients)]
+    return b"".join(lines)
+
+
+def contention_cases(folder):
+    """Clients that want the same keys, each on a thread of its own: none of their transactions is given up."""
+    wants = [("one key", put_hot, (4, 64)), ("one key and eight", put_hot_and_other, (4, 16, 64))]
+    wants += [(f"two of {keys} keys", transfer(keys), (4, 16, 64)) for keys in (10, 100)]
+    told = b"commits %d\ngave up 0\npoints 0\ncollapsed none\ncheck ok\n" % CONTENDED
+    for number, (what, ops, sizes) in enumerate(wants):
+        for clients in sizes:
+            name = f"contended{number}_{clients}.pcw"
+            written(folder, name, contended(clients, CONTENDED, ops))
+            yield Case(f"{clients} clients want {what}", ("run", name, "--workers", str(clients)), 0, told)
+
+
 def fault_cases(folder):
     """Runs that fail: which fault is told."""
     written(folder, "one.pcw", b"points 1\nclient 1\nfill a 3 x\n")
@@ -140,5 +181,5 @@ def folder_cases(folder):
 
 def cases(folder):
     """Each case, whose files are written into the folder right before it."""
-    for some in (usage_cases, workload_cases, fault_cases, folder_cases):
+    for some in (usage_cases, workload_cases, contention_cases, fault_cases, folder_cases):
         yield from some(folder)

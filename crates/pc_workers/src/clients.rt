@@ -3,7 +3,7 @@ ghost use Rattle.std.specs.Prelude.{◌≡◌, ◌≢◌, ◌<◌, ◌-◌, ◌^
 ghost use Rattle.pc_workers.specs.Clients.{HasCommitted, HasRun, done_by, written_by, wrote, wrote_all, writes_of};
 
 use pc_jobs::{Job, Op};
-use pc_shared::{Answer, Session, Shared};
+use pc_shared::{Answer, Session, Shared, pause};
 use pc_tie::StoreName;
 use pc_types::{Gate, Place, Refusal};
 use std::alloc::Global;
@@ -30,8 +30,12 @@ impl Count {
     }
 }
 
-/// A job is begun at most so many times.
-pub const MOST_TRIES: u32 = 10_000;
+/// A job is begun again at most so many times.
+pub const MOST_REPEATS: u32 = 10_000;
+
+// How often a client lets others run, at most, before it begins a job again: once after the first death, and after each further
+// one twice as often as after the one before.
+const LONGEST_PAUSE: u32 = 512;
 
 // How a transaction ended.
 #[derive(Clone, Copy)]
@@ -145,7 +149,32 @@ fn attempt<N: StoreName, R: Wait, G: Gate>(
     }
 }
 
-// Runs the job, again after each time that it died, and answers how it ended the last time.
+// Runs the job again, until it doesn't die, and answers how it ended the last time. Before each time it lets others run, so that
+// the one that it lost to may end.
+fn repeat<N: StoreName, R: Wait, G: Gate>(
+    rt: &R,
+    alloc: Global,
+    shared: &Shared<N>,
+    session: &mut Session<N>,
+    ops: &[Op],
+    gate: &G,
+) -> Ended
+    ensures { HasCommitted (done_by result (wrote_all [] ops.now)) session.old session.new }
+{
+    let mut times = 1u32;
+    for _ in 0..MOST_REPEATS {
+        pause(times);
+        match attempt(rt, alloc, shared, session, ops, gate) {
+            Ended::Died => {}
+            ended => return ended,
+        }
+        times = times.saturating_mul(2).min(LONGEST_PAUSE);
+    }
+    Ended::Died
+}
+
+// Runs the job, and again where it died, and answers how it ended the last time. Of the clients whose job has died one at a time
+// begins again, and the others sleep: so they don't die of one another over and over.
 fn run<N: StoreName, R: Wait, G: Gate>(
     rt: &R,
     alloc: Global,
@@ -156,19 +185,21 @@ fn run<N: StoreName, R: Wait, G: Gate>(
 ) -> Ended
     ensures { HasCommitted (done_by result (writes_of job.now)) session.old session.new }
 {
-    for _ in 0..MOST_TRIES {
-        match attempt(rt, alloc, shared, session, job.ops.as_slice(), gate) {
-            Ended::Died => {}
-            ended => return ended,
+    let ops = job.ops.as_slice();
+    match attempt(rt, alloc, shared, session, ops, gate) {
+        Ended::Died => {
+            let _turn = shared.turn_to_repeat(rt);
+            repeat(rt, alloc, shared, session, ops, gate)
         }
+        ended => ended,
     }
-    Ended::Died
 }
 
 /// The session runs the jobs in order, each as a transaction. Where a request died the transaction is aborted and the job is
-/// begun again, at most 10,000 times in all; after that, and after any refusal, its open transaction is aborted and the job is
-/// given up. Want of memory for the copy of a key or a value counts as a refusal. Answers how many jobs were committed, each of
-/// which has added a receipt with what the job writes, in their order, and how many were given up.
+/// begun again, at most 10,000 times, by one client of the store at a time; after that, and after any refusal, its open
+/// transaction is aborted and the job is given up. Want of memory for the copy of a key or a value counts as a refusal. Answers
+/// how many jobs were committed, each of which has added a receipt with what the job writes, in their order, and how many were
+/// given up.
 pub fn client_loop<N: StoreName, R: Wait, G: Gate>(
     rt: &R,
     alloc: Global,

@@ -8,7 +8,7 @@ mod covering;
 mod logging;
 
 pub use checkpointing::checkpoint_loop;
-pub use clients::{Count, MOST_TRIES, client_loop};
+pub use clients::{Count, MOST_REPEATS, client_loop};
 pub use collapsing::collapse_loop;
 pub use covering::with_missing_points;
 pub use logging::{MOST_BATCH, log_loop, log_rest};
