@@ -109,12 +109,12 @@ fn tell_example(rt: &HostRuntime, left: &Example) -> io::Result<()> {
     io::writer(rt).write_all(text.as_bytes())
 }
 
-// What depends on the threads' order isn't printed: in a crowd that is how many jobs were given up.
 fn tell(rt: &HostRuntime, name: &str, left: &Left) -> io::Result<()> {
-    let jobs = left.commits.saturating_add(left.given_up);
     let text = format!(in rt.alloc();
-        "{name}: met {}, jobs {jobs}, each commit kept {}, tokens {}, all {}, written {}, exact {}, right files {:?}\n",
+        "{name}: met {}, commits {}, given up {}, each kept {}, tokens {}, all {}, written {}, exact {}, right files {:?}\n",
         left.have_met,
+        left.commits,
+        left.given_up,
         left.is_each_kept(),
         left.tokens,
         left.all,

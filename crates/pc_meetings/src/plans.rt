@@ -1,6 +1,6 @@
 //! The meetings.
 use crate::gate::{Stop, Visit};
-use crate::jobs::{Ask, Made, Work};
+use crate::jobs::{Ask, Asks, Made, Work};
 use crate::meeting::Plan;
 use crate::signs::Sign;
 
@@ -74,6 +74,28 @@ const YOUNGER_DIES: Plan = Plan {
     ],
 };
 
+// What session 3 puts beside a session that waits, each in a transaction of its own.
+const SIXTY: [Asks; 60] = [&[Ask::Put(b'c', 3)]; 60];
+
+// Session 1 is the older one. It asks for what session 2 has locked and waits, while session 3 commits sixty times; session 2
+// commits only then, and session 1 goes on once it has.
+const OLDER_WAITS: Plan = Plan {
+    sessions: 3,
+    points: 0,
+    collapses: false,
+    work: Work::Listed(&[
+        &[&[Ask::Put(b'a', 1), Ask::Put(b'k', 1)]],
+        &[&[Ask::Put(b'k', 2)]],
+        &SIXTY,
+    ]),
+    stops: &[
+        Stop(Visit(Sign::SecondStarts, 1), Visit(Sign::FirstSteps, 1)),
+        Stop(Visit(Sign::FirstSteps, 1), Visit(Sign::SecondSteps, 1)),
+        Stop(Visit(Sign::ThirdStarts, 1), Visit(Sign::SecondSteps, 1)),
+        Stop(Visit(Sign::SecondSteps, 1), Visit(Sign::ThirdCommits, 60)),
+    ],
+};
+
 // Four sessions put keys of their own, a thousand each.
 const APART: Plan = Plan {
     sessions: 4,
@@ -93,12 +115,13 @@ const CROWD: Plan = Plan {
 };
 
 /// All of them, with their names.
-pub const PLANS: [(&str, Plan); 7] = [
+pub const PLANS: [(&str, Plan); 8] = [
     ("beside a point", BESIDE_A_POINT),
     ("collapse beside", COLLAPSE_BESIDE),
     ("read back", READ_BACK),
     ("sessions meet", SESSIONS_MEET),
     ("the younger one dies", YOUNGER_DIES),
+    ("the older one waits", OLDER_WAITS),
     ("four apart", APART),
     ("a crowd over ten keys", CROWD),
 ];

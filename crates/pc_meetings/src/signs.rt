@@ -2,16 +2,19 @@
 use pc_types::{Phase, Place, SessionNo};
 use std::sync::atomic::{AtomicU64, Ordering};
 
-/// A place that is counted: of sessions 1 and 2 the beginnings of transactions, their first operations and their commits; of the
-/// checkpointer some of its phases, and its keys; and how often the first collapser holds two files.
+/// A place that is counted: of sessions 1 and 2 the beginnings of transactions, their first operations and their commits; of
+/// session 3 the beginnings and the commits; of the checkpointer some of its phases, and its keys; and how often the first
+/// collapser holds two files.
 #[derive(Clone, Copy, Debug, PartialEq, Eq)]
 pub enum Sign {
     FirstStarts,
     SecondStarts,
+    ThirdStarts,
     FirstSteps,
     SecondSteps,
     FirstCommits,
     SecondCommits,
+    ThirdCommits,
     PrepareIsDue,
     EntersResolve,
     EntersComplete,
@@ -24,10 +27,12 @@ pub fn sign_of(place: Place) -> Option<Sign> {
     match place {
         Place::Start(SessionNo(1)) => Some(Sign::FirstStarts),
         Place::Start(SessionNo(2)) => Some(Sign::SecondStarts),
+        Place::Start(SessionNo(3)) => Some(Sign::ThirdStarts),
         Place::Step(SessionNo(1), 1) => Some(Sign::FirstSteps),
         Place::Step(SessionNo(2), 1) => Some(Sign::SecondSteps),
         Place::Committed(SessionNo(1)) => Some(Sign::FirstCommits),
         Place::Committed(SessionNo(2)) => Some(Sign::SecondCommits),
+        Place::Committed(SessionNo(3)) => Some(Sign::ThirdCommits),
         Place::Due(Phase::Prepare) => Some(Sign::PrepareIsDue),
         Place::Entered(Phase::Resolve) => Some(Sign::EntersResolve),
         Place::Entered(Phase::Complete) => Some(Sign::EntersComplete),
@@ -40,7 +45,7 @@ pub fn sign_of(place: Place) -> Option<Sign> {
 /// How often each was passed.
 #[derive(Drop)]
 pub struct Counts {
-    counts: [AtomicU64; 11],
+    counts: [AtomicU64; 13],
 }
 
 impl Counts {
@@ -48,6 +53,8 @@ impl Counts {
     pub fn new() -> Counts {
         Counts {
             counts: [
+                AtomicU64::new(0),
+                AtomicU64::new(0),
                 AtomicU64::new(0),
                 AtomicU64::new(0),
                 AtomicU64::new(0),
