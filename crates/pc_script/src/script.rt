@@ -95,10 +95,17 @@ pub fn answer_script<W: Write>(
 fn status_after(status: Status, line: &Line) -> Status
     ensures { result ≡ (if is_malformed line.now then BadLines else status) }
 {
-    match line {
-        Line::Malformed => Status::BadLines,
-        _ => status,
+    if is_malformed(line) {
+        Status::BadLines
+    } else {
+        status
     }
+}
+
+fn is_malformed(line: &Line) -> bool
+    ensures { result ≡ is_malformed line.now }
+{
+    matches!(line, Line::Malformed)
 }
 
 // Answers a line, and writes the answer.
