@@ -24,6 +24,7 @@ use std::alloc::{AllocError, Global};
 use std::io::Write;
 use std::mem;
 use std::sync::Wait;
+use std::sync::atomic::AtomicBool;
 use std::thread::Threads;
 
 // What the threads leave of a store: its sessions, and tickets of its files.
@@ -144,11 +145,13 @@ pub fn run_store<
     let (board, passes) = Board::new(alloc, crew.collapsers + 1)?;
     let dealt = deal(alloc, crew.workers, clients)?;
     let seating = seat_workers(alloc, dealt, sessions)?;
+    let lost = AtomicBool::new(false);
     let room = Room {
         alloc,
         shared: &shared,
         gate: crew.gate,
         points,
+        lost: &lost,
     };
     let logger = Logger { pass, out: log };
     let (ended, written) = use_store(rt, &room, seating, &board, passes, logger)?;

@@ -115,7 +115,7 @@ fn add(count: &mut Count, more: Count) {
     count.given_up = count.given_up.saturating_add(more.given_up);
 }
 
-// The works, in order.
+// The works, in order, as long as the log's file isn't lost.
 fn run_works<N: StoreName, R: Wait, G: Gate>(
     rt: &R,
     room: &Room<'_, N, G>,
@@ -126,6 +126,9 @@ fn run_works<N: StoreName, R: Wait, G: Gate>(
 {
     let mut count = NOTHING;
     for work in works {
+        if room.is_lost() {
+            break;
+        }
         let more = match work {
             Work::Once(job) => run_jobs(rt, room, session, slice::from_ref(job)),
             Work::Fill(fill) => run_fill(rt, room, session, fill),
@@ -136,7 +139,7 @@ fn run_works<N: StoreName, R: Wait, G: Gate>(
 }
 
 impl<N: StoreName> Seated<N> {
-    // The transactions of the client, in order.
+    // The transactions of the client, in order, as long as the log's file isn't lost.
     fn run<R: Wait, G: Gate>(&mut self, rt: &R, room: &Room<'_, N, G>) -> Count
         ensures { self.new.client ≡ self.old.client }
     {
@@ -145,7 +148,7 @@ impl<N: StoreName> Seated<N> {
 }
 
 impl<N: StoreName> Worker<N> {
-    /// Runs its clients, one after the other.
+    /// Runs its clients, one after the other, as long as the log's file isn't lost.
     pub fn run<R: Wait, G: Gate>(self, rt: &R, room: &Room<'_, N, G>) -> Worker<N> {
         let Worker {
             mut seats,
@@ -170,7 +173,8 @@ fn run_jobs<N: StoreName, R: Wait, G: Gate>(
     client_loop(rt, room.alloc, room.shared, session, jobs, room.gate)
 }
 
-// The transactions of a fill, each made when it is its turn; one for which memory ran out is given up.
+// The transactions of a fill, each made when it is its turn, as long as the log's file isn't lost; one for which memory ran out is
+// given up.
 fn run_fill<N: StoreName, R: Wait, G: Gate>(
     rt: &R,
     room: &Room<'_, N, G>,
@@ -181,6 +185,9 @@ fn run_fill<N: StoreName, R: Wait, G: Gate>(
 {
     let mut count = NOTHING;
     for number in 0..fill.count {
+        if room.is_lost() {
+            break;
+        }
         let more = match fill.job(room.alloc, number) {
             Ok(job) => run_jobs(rt, room, session, &[job]),
             Err(_) => GIVEN_UP,

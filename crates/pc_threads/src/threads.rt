@@ -41,8 +41,8 @@ pub struct Written<N: StoreName, F: Write> {
 }
 
 impl<N: StoreName, F: Write> Logger<N, F> {
-    // Writes the log until the end is marked.
-    fn run<R: Wait>(self, rt: &R, shared: &Shared<N>) -> Written<N, F> {
+    // Writes the log until the end is marked, or its file is lost, which the others are told.
+    fn run<R: Wait, G: Gate>(self, rt: &R, room: &Room<'_, N, G>) -> Written<N, F> {
         let Logger { mut pass, out } = self;
         let Some(mut out) = out else {
             return Written {
@@ -51,9 +51,12 @@ impl<N: StoreName, F: Write> Logger<N, F> {
                 ended: Ok(()),
             };
         };
-        let ended = match log_loop(rt, shared, &mut pass, &mut out) {
+        let ended = match log_loop(rt, room.shared, &mut pass, &mut out) {
             Ok(_) => Ok(()),
-            Err(why) => Err(why),
+            Err(why) => {
+                room.lose();
+                Err(why)
+            }
         };
         Written {
             pass,
@@ -184,7 +187,12 @@ fn run_hands<'x, N: StoreName + Send + Sync, G: Gate + Sync, R: Threads + Wait +
                         requires { IsOfBoard pass board.now }
                     { collapse(rt, alloc, shared, board, pass, number, points, gate) },
                 ) {
-                    Ok(handle) => handles.push(handle)?,
+                    Ok(handle) => {
+                        let Ok(()) = handles.push(handle) else {
+                            room.shared.mark_end(rt);
+                            return Err(Fault::Refused(Refusal::OutOfMemory));
+                        };
+                    }
                     Err(_) => {
                         room.shared.mark_end(rt);
                         return Err(Fault::NoThread);
@@ -200,8 +208,8 @@ fn run_hands<'x, N: StoreName + Send + Sync, G: Gate + Sync, R: Threads + Wait +
     )
 }
 
-/// Runs them all, and marks the end once the workers have ended and the points are taken, or a thread can't be started or a
-/// point can't be taken. It returns once all threads have ended.
+/// Runs them all, and marks the end once the workers have ended and the points are taken, or whatever else keeps them from it: a
+/// thread can't be started, a point can't be taken, or memory ran out. It returns once all threads have ended.
 pub fn run_threads<
     'x,
     N: StoreName + Send + Sync,
@@ -218,7 +226,7 @@ pub fn run_threads<
 {
     if logger.out.is_none() {
         let rested = run_hands(rt, room, hands)?;
-        return Ok((rested, logger.run(rt, room.shared)));
+        return Ok((rested, logger.run(rt, room)));
     }
     thread::scope(
         thread::scope_env(),
@@ -226,11 +234,11 @@ pub fn run_threads<
         |scope| -> Result<(Rested<N>, Written<N, F>), Fault>
             ensures { IfOk result (λ r. HaveOnlyTo room.entry.now.points r.0.held.items) }
         {
-            let shared = room.shared;
-            let Ok(logging) = scope.spawn(move || logger.run(rt, shared)) else {
+            let Ok(logging) = scope.spawn(move || logger.run(rt, room)) else {
                 return Err(Fault::NoThread);
             };
             let ended = run_hands(rt, room, hands);
+            room.shared.mark_end(rt);
             let written = logging.join(rt);
             match ended {
                 Ok(rested) => Ok((rested, written)),

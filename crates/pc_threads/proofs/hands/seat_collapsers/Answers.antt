@@ -1,4 +1,4 @@
-use Rattle.std.proofs.Common.{◌+◌, All, length, ap, subst, arith}
+use Rattle.std.proofs.Common.{All, length, ap, subst, arith}
 use Rattle.std.proofs.lemmas.List.Elements.{All-tail}
 use Rattle.pc_board.specs.Passes.{Pass, IsOfBoard}
 use Rattle.pc_threads.proofs.hands.seat_collapsers.Goals as goal

@@ -1,5 +1,5 @@
 use Rattle.std.proofs.Common.{◌≡◌, ◌+◌, All, length}
-use Rattle.pc_board.specs.Passes.{Pass, IsOfBoard}
+use Rattle.pc_board.specs.Passes.{IsOfBoard}
 use Rattle.pc_threads.proofs.hands.seat_collapsers.Given as goal
 
 abbrev pub invariant-loop-pass : goal.invariant-loop-pass

@@ -10,6 +10,6 @@ loop-collapser-preserved g c =
     let more = All-cons (λ handle. handle.promise.0 ≡ points) first [] its (All-nil (λ handle. handle.promise.0 ≡ points)) in (
       tt,
       tt,
-      subst (All (λ handle. handle.promise.0 ≡ points)) (sym c.in_ok-push-in-Ok.ensures.items)
+      subst (All (λ handle. handle.promise.0 ≡ points)) (sym c.in-Ok-push.ensures.items)
           (All-append (λ handle. handle.promise.0 ≡ points) c.loop-collapser.handles.items (first ∷ []) c.loop-collapser.invariant.2 more),
     )
