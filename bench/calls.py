@@ -1,7 +1,6 @@
 #!/usr/bin/env python3
 """Measures library calls by the program `pc_bench`: several runs, the least and the greatest time, and the peak of memory.
 
-    bench/calls.py join 1000000           the join of two parts of so many entries each, and its text
     bench/calls.py points 100 1000        so many points over so many keys: the time for a key that is taken
     bench/calls.py commits 500000 1000    so many transactions of one write each, over so many keys, without checkpoints and with
                                           checkpoints back to back: committed transactions a second, and the ratio
@@ -32,19 +31,6 @@ def spread(text, numbers):
     return "%s %.1f to %.1f" % (text, min(numbers), max(numbers))
 
 
-def measure_join(words):
-    """The join's times and its memory, of several runs."""
-    runs = [run(["join", *words]) for _ in range(RUNS)]
-    told = [dict(line.split() for line in lines) for lines, _ in runs]
-    entries, size = int(told[0]["entries"]), int(told[0]["bytes"])
-    peak = max(memory for _, memory in runs)
-    print("%d entries, %d bytes, %d runs" % (entries, size, RUNS))
-    print(spread("join, ms:", [int(t["join_us"]) / 1e3 for t in told]))
-    print(spread("encode, ms:", [int(t["encode_us"]) / 1e3 for t in told]))
-    print(spread("encode, MB a second:", [size / int(t["encode_us"]) for t in told]))
-    print("peak %.0f MB, %.0f bytes for an entry of the join" % (peak / 1e6, peak / entries))
-
-
 def measure_points(words):
     """The time for a key that is taken, by how many points were taken before; of each point the least of several runs."""
     runs = [[line.split() for line in run(["points", *words])[0]] for _ in range(RUNS)]
@@ -71,7 +57,7 @@ def measure_commits(words):
 
 
 def main():
-    measures = {"join": measure_join, "points": measure_points, "commits": measure_commits}
+    measures = {"points": measure_points, "commits": measure_commits}
     if len(sys.argv) < 3 or sys.argv[1] not in measures:
         sys.exit(__doc__)
     if not os.access(PROGRAM, os.X_OK):

@@ -7,9 +7,9 @@
 
 The clients share the keys out among themselves and fill their own again and again. A run's time is that of the whole program, from its start to
 its end, with a store of 64 sessions and all that it prints; where there are several runs the best and the worst are told. One thread that steps a store, and
-a mutex that is locked three times a transaction and holds nothing, are measured by `pc_bench` and `pc_shared_bench`, as `bench/shared.py` does.
+a mutex that is locked three times a transaction and holds nothing, are measured by `pc_bench`, as `bench/shared.py` does.
 Beside the clients stands what they could reach at most: threads that make the same fills in a store under a bare mutex, which they take twice a
-transaction and which keeps nothing for them (`pc_shared_bench floor`, at most 15,000 keys a thread).
+transaction and which keeps nothing for them (`pc_bench floor`, at most 15,000 keys a thread).
 """
 
 import os
@@ -75,11 +75,11 @@ def tell(folder, commits):
             print(f"with points to without: {beside[0] / without[0]:.2f}", flush=True)
             own = keys // clients
             if own <= MOST_OWN_KEYS:
-                floor = shared.rates("pc_shared_bench", commits // clients * clients, "us", "floor", clients, commits // clients, own)
+                floor = shared.rates("pc_bench", commits // clients * clients, "us", "floor", clients, commits // clients, own)
                 shared.tell(f"{keys} keys, {clients} threads that fill under a bare mutex", floor, stepped)
     shared.RUNS = max(RUNS.values())
     for clients in CLIENTS:
-        shared.tell(f"{clients} threads, a bare mutex", shared.rates("pc_shared_bench", commits * clients, "us", "mutex", clients, commits, 1000))
+        shared.tell(f"{clients} threads, a bare mutex", shared.rates("pc_bench", commits * clients, "us", "mutex", clients, commits, 1000))
 
 
 def sampled(folder, commits):

@@ -1,9 +1,8 @@
 #!/bin/sh
-# Measures `pcalc run`, as bench/run.py says. Build the programs first: `.ci/run` does, or `rt run` in the folders crates/pcalc, crates/pc_bench and
-# crates/pc_shared_bench.
+# Measures `pcalc run`, as bench/run.py says. Build the programs first: `.ci/run` does, or `rt run` in the folders crates/pcalc and crates/pc_bench.
 set -u
 cd "$(dirname "$0")/.." || exit 1
-for name in pcalc pc_bench pc_shared_bench; do
+for name in pcalc pc_bench; do
     if [ ! -x "crates/$name/out/$name" ]; then
         echo "crates/$name/out/$name is not there: build it first" >&2
         exit 1

@@ -1,3 +1,1 @@
 pub mod Commits
-pub mod Joins
-pub mod Restarts

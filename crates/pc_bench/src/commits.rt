@@ -4,22 +4,18 @@ ghost use Rattle.pc_bench.specs.Commits.{events_of};
 
 use crate::failure::Failure;
 use crate::options::Rounds;
-use crate::points::ask;
+use crate::pairs::scattered;
+use crate::stepped::{SESSION, ask, put};
 use pc_engine::World;
 use pc_part::Base;
-use pc_types::{Event, Key, Refusal, Reply, SessionNo, Value};
+use pc_types::{Event, Refusal, Reply};
 use std::alloc::Global;
 use std::hash::RandomState;
 use std::rt::Clock;
 use std::time::{Duration, Instant};
 
-const SESSION: SessionNo = SessionNo(1);
-
-// An odd number, so that no two numbers of 32 bits have one product in 32 bits.
-const SCATTER: u32 = 2_654_435_761;
-
 /// What a checkpointer asks next.
-#[derive(Clone, Copy, Debug)]
+#[derive(Clone, Copy)]
 pub enum Stage {
     /// That a cycle begins.
     Point,
@@ -36,7 +32,7 @@ pub enum Stage {
 }
 
 /// What came of the events that a checkpointer asked.
-#[derive(Clone, Copy, Debug)]
+#[derive(Clone, Copy)]
 pub struct Asked {
     pub next: Stage,
     /// How many cycles came to rest.
@@ -112,11 +108,8 @@ fn none_asked() -> Asked
 
 // One transaction, which writes the key of this number.
 fn commit_one(alloc: Global, world: &mut World, number: u32) -> Result<(), Refusal> {
-    let bytes = number.wrapping_mul(SCATTER).to_be_bytes();
-    let key = Key::new(alloc, &bytes)?;
-    let value = Value::new(alloc, &bytes)?;
     ask(world, &Event::Begin(SESSION))?;
-    ask(world, &Event::Put(SESSION, key, value))?;
+    put(alloc, world, scattered(number))?;
     match ask(world, &Event::Commit(SESSION))? {
         Reply::Committed(_) => Ok(()),
         _ => Err(Refusal::MustAbort),

@@ -1,28 +1,30 @@
 //! The command line.
-ghost use Rattle.std.specs.Prelude.{◌≤◌, ◌<◌};
-ghost use Rattle.pc_types.specs.declared.limits.TheConstants.{MOST_KEYS};
+ghost use Rattle.std.specs.Prelude.{◌≤◌};
+ghost use Rattle.pc_types.specs.declared.limits.TheConstants.{MOST_KEYS, MOST_SESSIONS};
 
 use clap::{Arg, ArgAction, ArgMatches, Command, Error};
-use pc_types::{MOST_KEYS, MOST_POINTS};
+use pc_types::{MOST_KEYS, MOST_POINTS, MOST_SESSIONS};
 use std::alloc::Global;
 
 /// What is measured.
-#[derive(Clone, Copy, Debug)]
+#[derive(Clone, Copy)]
 pub enum Work {
-    /// The join of two parts of so many entries each, and the join's text.
-    Join { entries: u32 },
     /// Cycles in each of which all keys are written and taken.
     Points(Cycles),
     /// Commits of one write each, with or without checkpoints beside them.
     Commits(Rounds),
-    /// Recovery from a base, parts and a log.
-    Recover(Restart),
-    /// A part of so many entries, written and read again.
-    Files { entries: u32 },
+    /// Transactions of one put each, by threads that share a store.
+    Shared(Crowd),
+    /// A bare mutex, locked and unlocked three times where a transaction would be.
+    Mutex(Crowd),
+    /// Fills, as the clients of a run make them, of a store under a bare mutex that keeps nothing for them.
+    Floor(Crowd),
+    /// The calls of a store that one thread uses, each by itself.
+    Calls(Crowd),
 }
 
 /// How many cycles a store goes through, and how many keys it has, 1 to 1,048,576.
-#[derive(Clone, Copy, Debug)]
+#[derive(Clone, Copy)]
 pub struct Cycles {
     pub points: u16,
     pub keys: u32,
@@ -31,7 +33,7 @@ pub struct Cycles {
 
 /// How many transactions commit, each with one write, how many keys they go round, 1 to 1,048,576, and whether
 /// checkpoints are taken beside them.
-#[derive(Clone, Copy, Debug)]
+#[derive(Clone, Copy)]
 pub struct Rounds {
     pub commits: u32,
     pub keys: u32,
@@ -39,18 +41,23 @@ pub struct Rounds {
     ghost in_range: { (1 ≤ keys) × (keys ≤ MOST_KEYS) },
 }
 
-/// What is recovered: how many pairs the base has, 1 to 10,000,000, how many commits of one write the log has, at most
-/// 10,000,000, and how many parts there are, fewer than commits and at most 1,000.
-#[derive(Clone, Copy, Debug)]
-pub struct Restart {
-    pub pairs: u32,
+/// How many threads there are, 1 to 64, how many transactions each of them commits, and how many keys it goes round,
+/// 1 to 15,000.
+#[derive(Clone, Copy)]
+pub struct Crowd {
+    pub threads: u8,
     pub commits: u32,
-    pub parts: u16,
-    ghost in_range: { (1 ≤ pairs) × (pairs ≤ 10000000) × (commits ≤ 10000000) × (parts ≤ 1000) × (parts < commits) },
+    pub keys: u32,
+    ghost in_range: { (1 ≤ threads) × (threads ≤ MOST_SESSIONS) × (1 ≤ keys) × (keys ≤ 15000) },
 }
 
+// The greatest number of keys of a thread: 64 threads then have fewer than a store may.
+const MOST_OWN_KEYS: u32 = 15_000;
+
+const MOST_COMMITS: u32 = 10_000_000;
+
 /// What the program is asked to do.
-#[derive(Clone, Copy, Debug)]
+#[derive(Clone, Copy)]
 pub struct Options {
     pub work: Work,
     /// Whether times are told, which differ from run to run.
@@ -63,8 +70,8 @@ pub fn options_of<'a>(alloc: Global, words: &'a [&'a str]) -> Result<Option<Opti
     Ok(asked(&matches))
 }
 
-// A number that a command asks for: its name, what it says, and its limits.
-type Number = (&'static str, &'static str, u32, u32);
+// A number that a command asks for: its name, what it says, and the greatest one; the least is 1.
+type Number = (&'static str, &'static str, u32);
 
 // A command: its name, what it does, the numbers that it asks for, and whether points may be asked for too.
 #[derive(Clone, Copy)]
@@ -75,23 +82,24 @@ struct CommandShape {
     has_points: bool,
 }
 
-const COMMANDS: [CommandShape; 5] = [
-    CommandShape {
-        name: "join",
-        about: "Joins two parts and encodes the join",
-        numbers: [
-            Some(("ENTRIES", "Entries of each part", 1, 100_000_000)),
-            None,
-            None,
-        ],
-        has_points: false,
-    },
+// The numbers of a command over threads.
+const CROWD: [Option<Number>; 3] = [
+    Some((
+        "THREADS",
+        "How many threads there are",
+        MOST_SESSIONS as u32,
+    )),
+    Some(("COMMITS", "Transactions of each thread", MOST_COMMITS)),
+    Some(("KEYS", "Keys that each thread goes round", MOST_OWN_KEYS)),
+];
+
+const COMMANDS: [CommandShape; 6] = [
     CommandShape {
         name: "points",
         about: "Takes points over keys that are all written before each",
         numbers: [
-            Some(("POINTS", "Points that are taken", 1, MOST_POINTS as u32)),
-            Some(("KEYS", "Keys written and taken at each", 1, MOST_KEYS)),
+            Some(("POINTS", "Points that are taken", MOST_POINTS as u32)),
+            Some(("KEYS", "Keys written and taken at each", MOST_KEYS)),
             None,
         ],
         has_points: false,
@@ -100,30 +108,34 @@ const COMMANDS: [CommandShape; 5] = [
         name: "commits",
         about: "Commits transactions of one write each, with or without checkpoints beside them",
         numbers: [
-            Some(("COUNT", "Transactions of one write", 1, 10_000_000)),
-            Some(("KEYS", "Keys that they go round", 1, MOST_KEYS)),
+            Some(("COUNT", "Transactions of one write", MOST_COMMITS)),
+            Some(("KEYS", "Keys that they go round", MOST_KEYS)),
             None,
         ],
         has_points: true,
     },
     CommandShape {
-        name: "recover",
-        about: "Recovers the state of a base, parts and a log",
-        numbers: [
-            Some(("PAIRS", "Pairs of the base", 1, 10_000_000)),
-            Some(("COMMITS", "Commits of one write in the log", 1, 10_000_000)),
-            Some(("PARTS", "Parts, fewer than commits", 0, 1000)),
-        ],
+        name: "shared",
+        about: "Commits transactions of one put each, by threads that share a store",
+        numbers: CROWD,
         has_points: false,
     },
     CommandShape {
-        name: "files",
-        about: "Writes a part to memory and reads it again",
-        numbers: [
-            Some(("ENTRIES", "Entries of the part", 1, 10_000_000)),
-            None,
-            None,
-        ],
+        name: "mutex",
+        about: "Locks a bare mutex by threads, three times for each transaction",
+        numbers: CROWD,
+        has_points: false,
+    },
+    CommandShape {
+        name: "floor",
+        about: "Fills a store under a bare mutex by threads",
+        numbers: CROWD,
+        has_points: false,
+    },
+    CommandShape {
+        name: "calls",
+        about: "Makes the calls of a shared store by one thread, each by itself",
+        numbers: CROWD,
         has_points: false,
     },
 ];
@@ -162,72 +174,68 @@ fn flag<'a>(alloc: Global, name: &'a str, help: &'a str) -> Arg<'a> {
 }
 
 fn number_arg<'a>(alloc: Global, number: Number) -> Arg<'a> {
-    let (name, help, least, most) = number;
-    Arg::new(alloc, name).help(help).required(true).value_parser(clap::value_parser!(u32).range(
-        i64::from(least)..=i64::from(most),
-    ))
+    let (name, help, most) = number;
+    Arg::new(alloc, name)
+        .help(help)
+        .required(true)
+        .value_parser(clap::value_parser!(u32).range(1..=i64::from(most)))
 }
 
 fn asked(matches: &ArgMatches) -> Option<Options> {
     let is_timed = matches.get_flag("times");
     let (name, matches) = matches.subcommand()?;
     let work = match name {
-        "join" => join_of(matches)?,
-        "points" => points_of(matches)?,
-        "commits" => commits_of(matches)?,
-        "recover" => recover_of(matches)?,
-        "files" => files_of(matches)?,
-        _ => return None,
+        "points" => Work::Points(cycles_of(matches)?),
+        "commits" => Work::Commits(rounds_of(matches)?),
+        _ => work_of(name, crowd_of(matches)?)?,
     };
     Some(Options { work, is_timed })
 }
 
-fn join_of(matches: &ArgMatches) -> Option<Work> {
-    let entries = matches.get_one::<u32>("ENTRIES")?;
-    Some(Work::Join { entries })
-}
-
-fn points_of(matches: &ArgMatches) -> Option<Work> {
+fn cycles_of(matches: &ArgMatches) -> Option<Cycles> {
     let points = u16::try_from(matches.get_one::<u32>("POINTS")?).ok()?;
     let keys = matches.get_one::<u32>("KEYS")?;
     if keys < 1 || MOST_KEYS < keys {
         return None;
     }
-    Some(Work::Points(Cycles { points, keys }))
+    Some(Cycles { points, keys })
 }
 
-fn commits_of(matches: &ArgMatches) -> Option<Work> {
+fn rounds_of(matches: &ArgMatches) -> Option<Rounds> {
     let commits = matches.get_one::<u32>("COUNT")?;
     let keys = matches.get_one::<u32>("KEYS")?;
     if keys == 0 || keys > MOST_KEYS {
         return None;
     }
     let has_points = matches.get_flag("points");
-    Some(Work::Commits(Rounds {
+    Some(Rounds {
         commits,
         keys,
         has_points,
-    }))
+    })
 }
 
-fn recover_of(matches: &ArgMatches) -> Option<Work> {
-    let pairs = matches.get_one::<u32>("PAIRS")?;
+fn crowd_of(matches: &ArgMatches) -> Option<Crowd> {
+    let threads = u8::try_from(matches.get_one::<u32>("THREADS")?).ok()?;
     let commits = matches.get_one::<u32>("COMMITS")?;
-    let parts = u16::try_from(matches.get_one::<u32>("PARTS")?).ok()?;
-    if pairs < 1 || 10_000_000 < pairs || 10_000_000 < commits || 1000 < parts {
+    let keys = matches.get_one::<u32>("KEYS")?;
+    if threads < 1 || MOST_SESSIONS < threads || keys < 1 || MOST_OWN_KEYS < keys {
         return None;
     }
-    if commits <= u32::from(parts) {
-        return None;
-    }
-    Some(Work::Recover(Restart {
-        pairs,
+    Some(Crowd {
+        threads,
         commits,
-        parts,
-    }))
+        keys,
+    })
 }
 
-fn files_of(matches: &ArgMatches) -> Option<Work> {
-    let entries = matches.get_one::<u32>("ENTRIES")?;
-    Some(Work::Files { entries })
+// The work of this name, over threads.
+fn work_of(name: &str, crowd: Crowd) -> Option<Work> {
+    match name {
+        "shared" => Some(Work::Shared(crowd)),
+        "mutex" => Some(Work::Mutex(crowd)),
+        "floor" => Some(Work::Floor(crowd)),
+        "calls" => Some(Work::Calls(crowd)),
+        _ => None,
+    }
 }

@@ -3,21 +3,20 @@ ghost use Rattle.std.specs.Prelude.{◌≡◌, ◌≤◌, length, All, IfOk};
 
 use crate::failure::Failure;
 use crate::options::Cycles;
+use crate::stepped::{SESSION, ask, put};
 use pc_engine::World;
 use pc_part::Base;
-use pc_types::{Event, Key, Refusal, Reply, SessionNo, Value};
+use pc_types::{Event, Refusal, Reply};
 use std::alloc::Global;
 use std::hash::RandomState;
 use std::rt::Clock;
 use std::time::{Duration, Instant};
 
 // How many keys a transaction writes.
-const WRITES: usize = 250;
-
-const SESSION: SessionNo = SessionNo(1);
+const WRITES: u32 = 250;
 
 /// What came of a cycle.
-#[derive(Clone, Copy, Debug)]
+#[derive(Clone, Copy)]
 pub struct Cycle {
     /// How many keys were taken.
     pub taken: u32,
@@ -48,23 +47,17 @@ pub fn measure_points(
     Ok(done)
 }
 
-// Writes the keys of the numbers below this one.
+// Writes the keys of the numbers below this one, in transactions of so many writes.
 fn write_all(alloc: Global, world: &mut World, keys: u32) -> Result<(), Refusal> {
-    for first in (0..keys).step_by(WRITES) {
-        write_some(alloc, world, first, keys)?;
+    for number in 0..keys {
+        if number % WRITES == 0 {
+            ask(world, &Event::Begin(SESSION))?;
+        }
+        put(alloc, world, number)?;
+        if number % WRITES == WRITES - 1 || number == keys - 1 {
+            ask(world, &Event::Commit(SESSION))?;
+        }
     }
-    Ok(())
-}
-
-// One transaction, which writes keys from the first on, as many as it may.
-fn write_some(alloc: Global, world: &mut World, first: u32, keys: u32) -> Result<(), Refusal> {
-    ask(world, &Event::Begin(SESSION))?;
-    for number in (first..keys).take(WRITES) {
-        let key = Key::new(alloc, &number.to_be_bytes())?;
-        let value = Value::new(alloc, &number.to_be_bytes())?;
-        ask(world, &Event::Put(SESSION, key, value))?;
-    }
-    ask(world, &Event::Commit(SESSION))?;
     Ok(())
 }
 
@@ -106,12 +99,4 @@ fn take_all(world: &mut World, keys: u32) -> Result<u32, Refusal>
         }
     }
     Ok(keys)
-}
-
-// The store's answer to the event, where it isn't refused.
-pub(crate) fn ask(world: &mut World, event: &Event) -> Result<Reply, Refusal> {
-    match world.step(event) {
-        Reply::Refused(why) => Err(why),
-        reply => Ok(reply),
-    }
 }

@@ -1,4 +1,4 @@
-use Rattle.pc_shared_bench.proofs.measure_shared.Given as goal
+use Rattle.pc_bench.proofs.runs.run_shared.Given as goal
 
 -- the name of the store that was just opened
 abbrev pub ghosts-share : goal.ghosts-share

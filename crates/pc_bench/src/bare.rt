@@ -1,5 +1,5 @@
 //! A bare mutex that threads share.
-use crate::options::Options;
+use crate::options::Crowd;
 use std::sync::{Mutex, Wait};
 use std::thread::{self, Threads};
 
@@ -17,15 +17,15 @@ fn count_up<R: Wait>(rt: &R, mutex: &Mutex<u64>, turns: u32) {
 }
 
 /// As many turns of each thread as it would commit transactions; how often the mutex was locked.
-pub fn lock_by_all<R: Threads + Wait + Sync>(rt: &R, options: &Options) -> u64 {
+pub fn lock_by_all<R: Threads + Wait + Sync>(rt: &R, crowd: &Crowd) -> u64 {
     let mutex = Mutex::new(0u64);
     let mut threads = [(); 64];
-    let count = usize::from(options.threads);
+    let count = usize::from(crowd.threads);
     thread::for_each_mut(
         rt,
         &mut threads[..count],
         count,
-        &|_, _| { count_up(rt, &mutex, options.commits) },
+        &|_, _| { count_up(rt, &mutex, crowd.commits) },
     );
     mutex.into_inner()
 }

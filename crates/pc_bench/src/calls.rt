@@ -1,0 +1,248 @@
+//! The calls of a store that one thread uses, each by itself.
+ghost use Rattle.std.specs.Prelude.{◌≡◌};
+
+use crate::failure::Failure;
+use crate::options::Crowd;
+use crate::pairs::{pair_of, scattered};
+use pc_shared::{LogPass, Opened, Session, Shared};
+use pc_tie::StoreName;
+use pc_types::{FileNo, Refusal, Reply};
+use std::alloc::Global;
+use std::sync::Wait;
+use std::time::Instant;
+
+/// How often a call was made, how long all of them took, and the longest one.
+#[derive(Clone, Copy)]
+pub struct Timed {
+    pub count: u64,
+    /// In nanoseconds, as is the longest.
+    pub whole: u128,
+    pub longest: u128,
+}
+
+/// The calls by their names.
+#[derive(Clone, Copy)]
+pub struct Calls {
+    pub begin: Timed,
+    pub put: Timed,
+    pub commit: Timed,
+    pub advance: Timed,
+    pub take: Timed,
+    pub take_part: Timed,
+    pub log_next: Timed,
+}
+
+// As many entries as a logger asks for at once.
+const BATCH: usize = 64;
+
+const NONE: Timed = Timed {
+    count: 0,
+    whole: 0,
+    longest: 0,
+};
+
+impl Calls {
+    /// None was made.
+    pub fn new() -> Calls {
+        Calls {
+            begin: NONE,
+            put: NONE,
+            commit: NONE,
+            advance: NONE,
+            take: NONE,
+            take_part: NONE,
+            log_next: NONE,
+        }
+    }
+}
+
+impl Timed {
+    // Counts a call that began then.
+    fn note(&mut self, host: &HostRuntime, start: Instant) -> Result<(), Failure> {
+        let took = start.elapsed(host)?.as_nanos();
+        self.count = self.count.saturating_add(1);
+        self.whole = self.whole.saturating_add(took);
+        self.longest = self.longest.max(took);
+        Ok(())
+    }
+}
+
+fn time_begin<N: StoreName, R: Wait>(
+    rt: &R,
+    host: &HostRuntime,
+    shared: &Shared<N>,
+    session: &mut Session<N>,
+    timed: &mut Timed,
+) -> Result<(), Failure> {
+    let start = Instant::now(host)?;
+    shared.begin(rt, session)?;
+    timed.note(host, start)
+}
+
+fn time_put<N: StoreName, R: Wait>(
+    rt: &R,
+    host: &HostRuntime,
+    shared: &Shared<N>,
+    session: &mut Session<N>,
+    number: u32,
+    timed: &mut Timed,
+) -> Result<(), Failure> {
+    let (key, value) = pair_of(host.alloc(), scattered(number))?;
+    let start = Instant::now(host)?;
+    shared.put(rt, session, key, value)?;
+    timed.note(host, start)
+}
+
+fn time_commit<N: StoreName, R: Wait>(
+    rt: &R,
+    host: &HostRuntime,
+    shared: &Shared<N>,
+    session: &mut Session<N>,
+    timed: &mut Timed,
+) -> Result<(), Failure> {
+    let start = Instant::now(host)?;
+    shared.commit(rt, session)?;
+    timed.note(host, start)
+}
+
+// A transaction, call by call.
+fn time_transaction<N: StoreName, R: Wait>(
+    rt: &R,
+    host: &HostRuntime,
+    shared: &Shared<N>,
+    session: &mut Session<N>,
+    number: u32,
+    calls: &mut Calls,
+) -> Result<(), Failure> {
+    time_begin(rt, host, shared, session, &mut calls.begin)?;
+    time_put(rt, host, shared, session, number, &mut calls.put)?;
+    time_commit(rt, host, shared, session, &mut calls.commit)
+}
+
+// A change of the phase, to which nobody is in the way.
+fn time_advance<N: StoreName, R: Wait>(
+    rt: &R,
+    host: &HostRuntime,
+    shared: &Shared<N>,
+    timed: &mut Timed,
+) -> Result<(), Failure> {
+    let start = Instant::now(host)?;
+    let reply = shared.advance(rt);
+    timed.note(host, start)?;
+    if let Reply::Refused(why) = reply {
+        return Err(Failure::Refused(why));
+    }
+    Ok(())
+}
+
+// All takes of a point.
+fn time_takes<N: StoreName, R: Wait>(
+    rt: &R,
+    host: &HostRuntime,
+    shared: &Shared<N>,
+    timed: &mut Timed,
+) -> Result<(), Failure> {
+    for _ in rt.forever() {
+        let start = Instant::now(host)?;
+        let reply = shared.take(rt);
+        timed.note(host, start)?;
+        match reply {
+            Reply::NoneLeft => return Ok(()),
+            Reply::Refused(why) => return Err(Failure::Refused(why)),
+            _ => {}
+        }
+    }
+    unreachable!()
+}
+
+// A ticket of a point's file, which is dropped at once.
+fn time_ticket<N: StoreName, R: Wait>(
+    rt: &R,
+    host: &HostRuntime,
+    shared: &Shared<N>,
+    number: u32,
+    timed: &mut Timed,
+) -> Result<(), Failure> {
+    let start = Instant::now(host)?;
+    let ticket = shared.take_part(rt, FileNo(number))?;
+    timed.note(host, start)?;
+    drop(ticket);
+    Ok(())
+}
+
+// A whole point, and a ticket of its file.
+fn time_point<N: StoreName, R: Wait>(
+    rt: &R,
+    host: &HostRuntime,
+    shared: &Shared<N>,
+    number: u32,
+    calls: &mut Calls,
+) -> Result<(), Failure> {
+    for _ in 0..3 {
+        time_advance(rt, host, shared, &mut calls.advance)?;
+    }
+    time_takes(rt, host, shared, &mut calls.take)?;
+    for _ in 0..2 {
+        time_advance(rt, host, shared, &mut calls.advance)?;
+    }
+    time_ticket(rt, host, shared, number, &mut calls.take_part)
+}
+
+// What was logged since, in the batches of a logger.
+fn time_logging<N: StoreName, R: Wait>(
+    rt: &R,
+    host: &HostRuntime,
+    shared: &Shared<N>,
+    pass: &mut LogPass<N>,
+    timed: &mut Timed,
+) -> Result<(), Failure> {
+    for _ in rt.forever() {
+        let start = Instant::now(host)?;
+        let entries = shared.log_next(rt, pass, BATCH)?;
+        timed.note(host, start)?;
+        if entries.is_empty() {
+            return Ok(());
+        }
+    }
+    unreachable!()
+}
+
+// So many transactions over so many keys, and a point each time that all keys have had one.
+fn time_calls<N: StoreName, R: Wait>(
+    rt: &R,
+    host: &HostRuntime,
+    shared: &Shared<N>,
+    session: &mut Session<N>,
+    pass: &mut LogPass<N>,
+    crowd: &Crowd,
+) -> Result<Calls, Failure> {
+    let mut calls = Calls::new();
+    let mut points = 0u32;
+    for count in 0..crowd.commits {
+        let number = count % crowd.keys;
+        time_transaction(rt, host, shared, session, number, &mut calls)?;
+        if number == crowd.keys - 1 {
+            points = points.saturating_add(1);
+            time_point(rt, host, shared, points, &mut calls)?;
+            time_logging(rt, host, shared, pass, &mut calls.log_next)?;
+        }
+    }
+    Ok(calls)
+}
+
+/// The calls of the store from its opening on, by one thread: so many transactions over so many keys, and a point each time that
+/// all keys have had one.
+pub fn call_by_one<N: StoreName, R: Wait>(
+    rt: &R,
+    host: &HostRuntime,
+    opened: Opened,
+    crowd: &Crowd,
+) -> Result<Calls, Failure>
+    requires { opened ≡ N.name }
+{
+    let (shared, mut sessions, mut pass) = opened.named::<N>()?;
+    let Some(session) = sessions.first_mut() else {
+        return Err(Failure::Refused(Refusal::NoSession));
+    };
+    time_calls(rt, host, &shared, session, &mut pass, crowd)
+}
