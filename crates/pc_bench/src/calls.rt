@@ -128,11 +128,18 @@ fn time_advance<N: StoreName, R: Wait>(
 ) -> Result<(), Failure> {
     let start = Instant::now(host)?;
     let reply = shared.advance(rt);
-    timed.note(host, start)?;
-    if let Reply::Refused(why) = reply {
-        return Err(Failure::Refused(why));
+    let noted = timed.note(host, start);
+    has_more(&reply)?;
+    noted
+}
+
+// Whether more is left to take, where the call wasn't refused.
+fn has_more(reply: &Reply) -> Result<bool, Failure> {
+    match reply {
+        Reply::NoneLeft => Ok(false),
+        Reply::Refused(why) => Err(Failure::Refused(*why)),
+        _ => Ok(true),
     }
-    Ok(())
 }
 
 // All takes of a point.
@@ -145,11 +152,12 @@ fn time_takes<N: StoreName, R: Wait>(
     for _ in rt.forever() {
         let start = Instant::now(host)?;
         let reply = shared.take(rt);
-        timed.note(host, start)?;
-        match reply {
-            Reply::NoneLeft => return Ok(()),
-            Reply::Refused(why) => return Err(Failure::Refused(why)),
-            _ => {}
+        let noted = timed.note(host, start);
+        let has_more = has_more(&reply)?;
+        drop(reply);
+        noted?;
+        if !has_more {
+            return Ok(());
         }
     }
     unreachable!()
@@ -165,9 +173,9 @@ fn time_ticket<N: StoreName, R: Wait>(
 ) -> Result<(), Failure> {
     let start = Instant::now(host)?;
     let ticket = shared.take_part(rt, FileNo(number))?;
-    timed.note(host, start)?;
+    let noted = timed.note(host, start);
     drop(ticket);
-    Ok(())
+    noted
 }
 
 // A whole point, and a ticket of its file.
@@ -199,10 +207,12 @@ fn time_logging<N: StoreName, R: Wait>(
     for _ in rt.forever() {
         let start = Instant::now(host)?;
         let entries = shared.log_next(rt, pass, BATCH)?;
-        timed.note(host, start)?;
+        let noted = timed.note(host, start);
         if entries.is_empty() {
-            return Ok(());
+            return noted;
         }
+        drop(entries);
+        noted?;
     }
     unreachable!()
 }

@@ -5,7 +5,7 @@ ghost use Rattle.pc_bench.specs.Commits.{events_of};
 use crate::failure::Failure;
 use crate::options::Rounds;
 use crate::pairs::scattered;
-use crate::stepped::{SESSION, ask, put};
+use crate::stepped::{SESSION, ask, put, step};
 use pc_engine::World;
 use pc_part::Base;
 use pc_types::{Event, Refusal, Reply};
@@ -44,7 +44,7 @@ pub struct Asked {
 }
 
 /// What came of commits.
-#[derive(Drop)]
+#[derive(Clone, Copy)]
 pub struct Committed {
     /// How many transactions were committed.
     pub committed: u32,
@@ -68,8 +68,22 @@ pub fn measure_commits(
     ensures none { rounds.has_points ≡ false → IfOk result (λ done. events_of done.asked ≡ 0) }
 {
     let mut world = World::new(alloc, Base::start(1, Vec::new(alloc)), 1, rounds.keys, seed)?;
+    commit_timed(alloc, clock, &mut world, rounds)
+}
+
+// The same in a store that is there.
+fn commit_timed(
+    alloc: Global,
+    clock: &impl Clock,
+    world: &mut World,
+    rounds: Rounds,
+) -> Result<Committed, Failure>
+    ensures committed { IfOk result (λ done. done.committed ≡ rounds.commits) }
+    ensures points { rounds.has_points ≡ true → IfOk result (λ done. events_of done.asked ≡ rounds.commits) }
+    ensures none { rounds.has_points ≡ false → IfOk result (λ done. events_of done.asked ≡ 0) }
+{
     let start = Instant::now(clock)?;
-    let (committed, asked) = commit_all(alloc, &mut world, rounds)?;
+    let (committed, asked) = commit_all(alloc, world, rounds)?;
     let time = start.elapsed(clock)?;
     Ok(Committed {
         committed,
@@ -108,7 +122,7 @@ fn none_asked() -> Asked
 
 // One transaction, which writes the key of this number.
 fn commit_one(alloc: Global, world: &mut World, number: u32) -> Result<(), Refusal> {
-    ask(world, &Event::Begin(SESSION))?;
+    step(world, &Event::Begin(SESSION))?;
     put(alloc, world, scattered(number))?;
     match ask(world, &Event::Commit(SESSION))? {
         Reply::Committed(_) => Ok(()),

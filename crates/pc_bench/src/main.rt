@@ -13,10 +13,8 @@ mod runs;
 mod shared;
 mod stepped;
 
-use clap::Error;
-use clap::error::ErrorKind;
 use failure::Failure;
-use options::{Options, Work, options_of};
+use options::{Options, USAGE, Work, options_of};
 use runs::{run_calls, run_commits, run_floor, run_mutex, run_points, run_shared};
 use std::env;
 use std::process::ExitCode;
@@ -36,12 +34,12 @@ fn run_command<H: Threads + Wait + Sync>(rt: &HostRuntime, threads: &H) -> Resul
     for text in &texts {
         words.push(text.as_str())?;
     }
-    match options_of(rt.alloc(), &words) {
-        Ok(asked) => match asked {
-            Some(options) => run_work(rt, threads, &options),
-            None => Ok(2),
-        },
-        Err(e) => tell_fault(rt, &e),
+    match options_of(&words) {
+        Some(options) => run_work(rt, threads, &options),
+        None => {
+            eprintln!(rt; "{USAGE}")?;
+            Ok(2)
+        }
     }
 }
 
@@ -51,15 +49,6 @@ fn arguments(rt: &HostRuntime) -> Result<Vec<String>, Failure> {
         texts.push(text)?;
     }
     Ok(texts)
-}
-
-// Tells what is wrong with the words, or the help that they ask for.
-fn tell_fault(rt: &HostRuntime, fault: &Error) -> Result<u8, Failure> {
-    if fault.kind() == ErrorKind::OutOfMemory {
-        return Ok(1);
-    }
-    fault.print(rt)?;
-    Ok(if fault.use_stderr() { 2 } else { 0 })
 }
 
 // Does the work and tells of it. The status is 1 where a call was refused.

@@ -1,10 +1,8 @@
 //! The command line.
-ghost use Rattle.std.specs.Prelude.{◌≤◌};
+ghost use Rattle.std.specs.Prelude.{◌≤◌, IfSome};
 ghost use Rattle.pc_types.specs.declared.limits.TheConstants.{MOST_KEYS, MOST_SESSIONS};
 
-use clap::{Arg, ArgAction, ArgMatches, Command, Error};
 use pc_types::{MOST_KEYS, MOST_POINTS, MOST_SESSIONS};
-use std::alloc::Global;
 
 /// What is measured.
 #[derive(Clone, Copy)]
@@ -64,150 +62,84 @@ pub struct Options {
     pub is_timed: bool,
 }
 
-/// What the words ask for, or what is to be told: a fault, or the help that was asked for.
-pub fn options_of<'a>(alloc: Global, words: &'a [&'a str]) -> Result<Option<Options>, Error> {
-    let matches = command(alloc)?.try_get_matches_from(words)?;
-    Ok(asked(&matches))
-}
+/// What words the program takes; each number is 1 or more.
+pub const USAGE: &str = "usage: pc_bench [--times] points POINTS KEYS
+       pc_bench [--times] commits [--points] COUNT KEYS
+       pc_bench [--times] shared THREADS COMMITS KEYS
+       pc_bench [--times] mutex THREADS COMMITS KEYS
+       pc_bench [--times] floor THREADS COMMITS KEYS
+       pc_bench [--times] calls THREADS COMMITS KEYS
 
-// A number that a command asks for: its name, what it says, and the greatest one; the least is 1.
-type Number = (&'static str, &'static str, u32);
+points   takes so many points over keys that are all written before each
+commits  commits so many transactions of one write each, with --points checkpoints beside them
+shared   commits so many transactions of one put on each of the threads, which share a store
+mutex    locks a bare mutex three times in the place of each transaction
+floor    fills a store under a bare mutex
+calls    makes the calls of a shared store by one thread, each by itself
+--times  tells times too";
 
-// A command: its name, what it does, the numbers that it asks for, and whether points may be asked for too.
-#[derive(Clone, Copy)]
-struct CommandShape {
-    name: &'static str,
-    about: &'static str,
-    numbers: [Option<Number>; 3],
-    has_points: bool,
-}
-
-// The numbers of a command over threads.
-const CROWD: [Option<Number>; 3] = [
-    Some((
-        "THREADS",
-        "How many threads there are",
-        MOST_SESSIONS as u32,
-    )),
-    Some(("COMMITS", "Transactions of each thread", MOST_COMMITS)),
-    Some(("KEYS", "Keys that each thread goes round", MOST_OWN_KEYS)),
-];
-
-const COMMANDS: [CommandShape; 6] = [
-    CommandShape {
-        name: "points",
-        about: "Takes points over keys that are all written before each",
-        numbers: [
-            Some(("POINTS", "Points that are taken", MOST_POINTS as u32)),
-            Some(("KEYS", "Keys written and taken at each", MOST_KEYS)),
-            None,
-        ],
-        has_points: false,
-    },
-    CommandShape {
-        name: "commits",
-        about: "Commits transactions of one write each, with or without checkpoints beside them",
-        numbers: [
-            Some(("COUNT", "Transactions of one write", MOST_COMMITS)),
-            Some(("KEYS", "Keys that they go round", MOST_KEYS)),
-            None,
-        ],
-        has_points: true,
-    },
-    CommandShape {
-        name: "shared",
-        about: "Commits transactions of one put each, by threads that share a store",
-        numbers: CROWD,
-        has_points: false,
-    },
-    CommandShape {
-        name: "mutex",
-        about: "Locks a bare mutex by threads, three times for each transaction",
-        numbers: CROWD,
-        has_points: false,
-    },
-    CommandShape {
-        name: "floor",
-        about: "Fills a store under a bare mutex by threads",
-        numbers: CROWD,
-        has_points: false,
-    },
-    CommandShape {
-        name: "calls",
-        about: "Makes the calls of a shared store by one thread, each by itself",
-        numbers: CROWD,
-        has_points: false,
-    },
-];
-
-const POINTS_HELP: &str = "Takes checkpoints back to back, an event after each commit";
-
-fn command<'a>(alloc: Global) -> Result<Command<'a>, Error> {
-    let mut command = Command::new(alloc, "pc_bench")
-        .about("Measures calls of the libraries")
-        .subcommand_required(true)
-        .arg(flag(alloc, "times", "Tells times too"))?;
-    for shape in COMMANDS {
-        command = command.subcommand(subcommand(alloc, shape)?)?;
+/// What the program's name and the words behind it ask for. None where they aren't those of its usage, or a number is out of
+/// range.
+pub fn options_of(words: &[&str]) -> Option<Options> {
+    let words = words.get(1..)?;
+    match behind("--times", words) {
+        Some(others) => asked(others, true),
+        None => asked(words, false),
     }
-    Ok(command)
 }
 
-fn subcommand<'a>(alloc: Global, shape: CommandShape) -> Result<Command<'a>, Error> {
-    let mut command = Command::new(alloc, shape.name).about(shape.about);
-    for number in shape.numbers {
-        if let Some(number) = number {
-            command = command.arg(number_arg(alloc, number))?;
-        }
+// The words behind the flag, where they begin with it.
+fn behind<'a>(flag: &str, words: &'a [&'a str]) -> Option<&'a [&'a str]> {
+    match words.split_first() {
+        Some((first, others)) if *first == flag => Some(others),
+        _ => None,
     }
-    if shape.has_points {
-        command = command.arg(flag(alloc, "points", POINTS_HELP))?;
-    }
-    Ok(command)
 }
 
-fn flag<'a>(alloc: Global, name: &'a str, help: &'a str) -> Arg<'a> {
-    Arg::new(alloc, name)
-        .long(name)
-        .help(help)
-        .action(ArgAction::SetTrue)
-}
-
-fn number_arg<'a>(alloc: Global, number: Number) -> Arg<'a> {
-    let (name, help, most) = number;
-    Arg::new(alloc, name)
-        .help(help)
-        .required(true)
-        .value_parser(clap::value_parser!(u32).range(1..=i64::from(most)))
-}
-
-fn asked(matches: &ArgMatches) -> Option<Options> {
-    let is_timed = matches.get_flag("times");
-    let (name, matches) = matches.subcommand()?;
-    let work = match name {
-        "points" => Work::Points(cycles_of(matches)?),
-        "commits" => Work::Commits(rounds_of(matches)?),
-        _ => work_of(name, crowd_of(matches)?)?,
-    };
+fn asked(words: &[&str], is_timed: bool) -> Option<Options> {
+    let (name, others) = words.split_first()?;
+    let work = work_of(name, others)?;
     Some(Options { work, is_timed })
 }
 
-fn cycles_of(matches: &ArgMatches) -> Option<Cycles> {
-    let points = u16::try_from(matches.get_one::<u32>("POINTS")?).ok()?;
-    let keys = matches.get_one::<u32>("KEYS")?;
-    if keys < 1 || MOST_KEYS < keys {
-        return None;
+// The work of this name with these words behind it.
+fn work_of(name: &str, words: &[&str]) -> Option<Work> {
+    match name {
+        "points" => Some(Work::Points(cycles_of(words)?)),
+        "commits" => Some(Work::Commits(commits_of(words)?)),
+        "shared" => Some(Work::Shared(crowd_of(words)?)),
+        "mutex" => Some(Work::Mutex(crowd_of(words)?)),
+        "floor" => Some(Work::Floor(crowd_of(words)?)),
+        "calls" => Some(Work::Calls(crowd_of(words)?)),
+        _ => None,
     }
-    Some(Cycles { points, keys })
 }
 
-fn rounds_of(matches: &ArgMatches) -> Option<Rounds> {
-    let commits = matches.get_one::<u32>("COUNT")?;
-    let keys = matches.get_one::<u32>("KEYS")?;
-    if keys == 0 || keys > MOST_KEYS {
+fn cycles_of(words: &[&str]) -> Option<Cycles> {
+    if words.len() != 2 {
         return None;
     }
-    let has_points = matches.get_flag("points");
+    let points = number_of(words[0], u32::from(MOST_POINTS))?;
+    let keys = number_of(words[1], MOST_KEYS)?;
+    Some(Cycles {
+        points: points as u16,
+        keys,
+    })
+}
+
+fn commits_of(words: &[&str]) -> Option<Rounds> {
+    match behind("--points", words) {
+        Some(others) => rounds_of(others, true),
+        None => rounds_of(words, false),
+    }
+}
+
+fn rounds_of(words: &[&str], has_points: bool) -> Option<Rounds> {
+    if words.len() != 2 {
+        return None;
+    }
+    let commits = number_of(words[0], MOST_COMMITS)?;
+    let keys = number_of(words[1], MOST_KEYS)?;
     Some(Rounds {
         commits,
         keys,
@@ -215,27 +147,27 @@ fn rounds_of(matches: &ArgMatches) -> Option<Rounds> {
     })
 }
 
-fn crowd_of(matches: &ArgMatches) -> Option<Crowd> {
-    let threads = u8::try_from(matches.get_one::<u32>("THREADS")?).ok()?;
-    let commits = matches.get_one::<u32>("COMMITS")?;
-    let keys = matches.get_one::<u32>("KEYS")?;
-    if threads < 1 || MOST_SESSIONS < threads || keys < 1 || MOST_OWN_KEYS < keys {
+fn crowd_of(words: &[&str]) -> Option<Crowd> {
+    if words.len() != 3 {
         return None;
     }
+    let threads = number_of(words[0], u32::from(MOST_SESSIONS))?;
+    let commits = number_of(words[1], MOST_COMMITS)?;
+    let keys = number_of(words[2], MOST_OWN_KEYS)?;
     Some(Crowd {
-        threads,
+        threads: threads as u8,
         commits,
         keys,
     })
 }
 
-// The work of this name, over threads.
-fn work_of(name: &str, crowd: Crowd) -> Option<Work> {
-    match name {
-        "shared" => Some(Work::Shared(crowd)),
-        "mutex" => Some(Work::Mutex(crowd)),
-        "floor" => Some(Work::Floor(crowd)),
-        "calls" => Some(Work::Calls(crowd)),
-        _ => None,
+// The number that the word says, if it is from 1 to the greatest one.
+fn number_of(word: &str, most: u32) -> Option<u32>
+    ensures { IfSome result (λ number. (1 ≤ number) × (number ≤ most)) }
+{
+    let number = word.parse::<u32>().ok()?;
+    if number < 1 || most < number {
+        return None;
     }
+    Some(number)
 }

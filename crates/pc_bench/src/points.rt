@@ -3,7 +3,7 @@ ghost use Rattle.std.specs.Prelude.{◌≡◌, ◌≤◌, length, All, IfOk};
 
 use crate::failure::Failure;
 use crate::options::Cycles;
-use crate::stepped::{SESSION, ask, put};
+use crate::stepped::{SESSION, ask, put, step};
 use pc_engine::World;
 use pc_part::Base;
 use pc_types::{Event, Refusal, Reply};
@@ -39,10 +39,23 @@ pub fn measure_points(
     ensures taken { IfOk result (λ done. All (λ cycle. cycle.taken ≤ cycles.keys) done.items) }
 {
     let mut world = World::new(alloc, Base::start(1, Vec::new(alloc)), 1, cycles.keys, seed)?;
+    take_points(alloc, clock, &mut world, cycles)
+}
+
+// The same in a store that is there.
+fn take_points(
+    alloc: Global,
+    clock: &impl Clock,
+    world: &mut World,
+    cycles: Cycles,
+) -> Result<Vec<Cycle>, Failure>
+    ensures cycles { IfOk result (λ done. length done.items ≡ cycles.points) }
+    ensures taken { IfOk result (λ done. All (λ cycle. cycle.taken ≤ cycles.keys) done.items) }
+{
     let mut done = Vec::new(alloc);
     for _ in 0..cycles.points {
-        write_all(alloc, &mut world, cycles.keys)?;
-        done.push(take_point(clock, &mut world, cycles.keys)?)?;
+        write_all(alloc, world, cycles.keys)?;
+        done.push(take_point(clock, world, cycles.keys)?)?;
     }
     Ok(done)
 }
@@ -51,11 +64,11 @@ pub fn measure_points(
 fn write_all(alloc: Global, world: &mut World, keys: u32) -> Result<(), Refusal> {
     for number in 0..keys {
         if number % WRITES == 0 {
-            ask(world, &Event::Begin(SESSION))?;
+            step(world, &Event::Begin(SESSION))?;
         }
         put(alloc, world, number)?;
         if number % WRITES == WRITES - 1 || number == keys - 1 {
-            ask(world, &Event::Commit(SESSION))?;
+            step(world, &Event::Commit(SESSION))?;
         }
     }
     Ok(())
@@ -65,14 +78,14 @@ fn write_all(alloc: Global, world: &mut World, keys: u32) -> Result<(), Refusal>
 fn take_point(clock: &impl Clock, world: &mut World, keys: u32) -> Result<Cycle, Failure>
     ensures { IfOk result (λ cycle. cycle.taken ≤ keys) }
 {
-    ask(world, &Event::StartPoint)?;
+    step(world, &Event::StartPoint)?;
     let sealing = time_of(clock, world, &Event::Seal)?;
-    ask(world, &Event::OpenCapture)?;
+    step(world, &Event::OpenCapture)?;
     let start = Instant::now(clock)?;
     let taken = take_all(world, keys)?;
     let taking = start.elapsed(clock)?;
     let finishing = time_of(clock, world, &Event::Done)?;
-    ask(world, &Event::Rest)?;
+    step(world, &Event::Rest)?;
     Ok(Cycle {
         taken,
         sealing,
@@ -84,7 +97,7 @@ fn take_point(clock: &impl Clock, world: &mut World, keys: u32) -> Result<Cycle,
 // How long the store takes to answer the event, which isn't refused.
 fn time_of(clock: &impl Clock, world: &mut World, event: &Event) -> Result<Duration, Failure> {
     let start = Instant::now(clock)?;
-    ask(world, event)?;
+    step(world, event)?;
     Ok(start.elapsed(clock)?)
 }
 

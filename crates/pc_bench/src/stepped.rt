@@ -7,17 +7,30 @@ use std::alloc::Global;
 /// The session of the store.
 pub const SESSION: SessionNo = SessionNo(1);
 
-/// Puts the pair of this number.
-pub fn put(alloc: Global, world: &mut World, number: u32) -> Result<(), Refusal> {
-    let (key, value) = pair_of(alloc, number)?;
-    ask(world, &Event::Put(SESSION, key, value))?;
-    Ok(())
-}
-
 /// The store's answer to the event, where it isn't refused.
 pub fn ask(world: &mut World, event: &Event) -> Result<Reply, Refusal> {
     match world.step(event) {
         Reply::Refused(why) => Err(why),
         reply => Ok(reply),
     }
+}
+
+/// Asks the event, whose answer is of no use, where it isn't refused.
+pub fn step(world: &mut World, event: &Event) -> Result<(), Refusal> {
+    let reply = world.step(event);
+    match &reply {
+        Reply::Refused(why) => Err(*why),
+        _ => Ok(()),
+    }
+}
+
+/// Puts the pair of this number.
+pub fn put(alloc: Global, world: &mut World, number: u32) -> Result<(), Refusal> {
+    let put = put_of(alloc, number)?;
+    step(world, &put)
+}
+
+fn put_of(alloc: Global, number: u32) -> Result<Event, Refusal> {
+    let (key, value) = pair_of(alloc, number)?;
+    Ok(Event::Put(SESSION, key, value))
 }

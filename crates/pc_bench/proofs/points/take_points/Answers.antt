@@ -2,7 +2,7 @@ use Rattle.std.proofs.Common.{◌≤◌, ◌+◌, [], ◌∷◌, All, length, ap
 use Rattle.std.proofs.lemmas.List.{length-append}
 use Rattle.std.proofs.lemmas.List.Elements.{All-push}
 use Rattle.pc_bench.specs.declared.points.Cycle.{Cycle}
-use Rattle.pc_bench.proofs.points.measure_points.Goals as goal
+use Rattle.pc_bench.proofs.points.take_points.Goals as goal
 
 pub loop-preserved : goal.loop-preserved
 loop-preserved g c =
