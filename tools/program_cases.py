@@ -1,10 +1,13 @@
 """What the built program is run on beside the stored examples, for `try_programs.py`: options, scripts and folders that can't be had, files that are
-longer than a read, an output that is full, and little memory.
+longer than a read, pipes, an output that is full, streams that are closed, and little memory.
 
 What is to be printed was worked out by hand from docs/FORMATS.md, or comes from `plain_files.py` and `plain_store.py`, which know nothing of the program.
 """
 
+import contextlib
 import os
+import threading
+import time
 import typing
 
 import plain_files
@@ -14,6 +17,8 @@ LITTLE = 64 << 20
 MANY = 256 << 20
 FULL = "/dev/full"
 MOST = b"\xff\xff\xff\xff"
+STREAMS = ("standard input", "standard output", "standard error")
+PATIENCE = 20
 
 
 class Case(typing.NamedTuple):
@@ -35,6 +40,8 @@ class Case(typing.NamedTuple):
     memory: typing.Optional[int] = None
     # where the output goes, if not to the caller
     output: typing.Optional[str] = None
+    # which of the descriptors 0, 1 and 2 are closed
+    closed: tuple = ()
     # files of the folder, and what each is to have afterwards; None where it is not to be there
     files: dict = {}
 
@@ -53,10 +60,51 @@ def sparse(folder, name, size):
         file.truncate(size)
 
 
+def piped(folder, name):
+    """Makes a named pipe."""
+    path = os.path.join(folder, name)
+    os.mkfifo(path)
+    return path
+
+
+def opened_by_reader(path):
+    """The named pipe, once it was opened for reading, or None where it isn't for long."""
+    end = time.monotonic() + PATIENCE
+    while time.monotonic() < end:
+        with contextlib.suppress(OSError):
+            return os.open(path, os.O_WRONLY | os.O_NONBLOCK)
+        time.sleep(0.001)
+    return None
+
+
+def feed(path, content, before=None):
+    """Writes to a named pipe once it was opened for reading, after what is to be done before."""
+    pipe = opened_by_reader(path)
+    if pipe is None:
+        return
+    if before is not None:
+        before()
+    os.set_blocking(pipe, True)
+    with contextlib.suppress(BrokenPipeError), os.fdopen(pipe, "wb") as it:
+        it.write(content)
+
+
+@contextlib.contextmanager
+def beside(work):
+    """What is done on another thread while a case is run."""
+    thread = threading.Thread(target=work, daemon=True)
+    thread.start()
+    yield
+    thread.join()
+
+
 BASE = plain_files.Base(1, 0, {b"a": b"0"}).text()
 PART = plain_files.Part(1, [(1, 1)], {b"a": (1, b"1")}).text()
 NO_LOG = b"point 0\nentries 0\npairs 1\na 0\n"
 WITH_PART = b"point 1\nentries 0\npairs 1\na 1\n"
+
+
+FAULTS = b"What each fault means: docs/FORMATS.md\n"
 
 
 def usage_cases(folder):
@@ -77,12 +125,15 @@ def usage_cases(folder):
     yield Case("two scripts", ("step", "empty.pcs", "empty.pcs"), 2, err=[b"error: unexpected argument 'empty.pcs' found\n"])
     yield Case("no folder", ("recover",), 2, err=[b"error: the following required arguments were not provided:\n  <DIR>\n"])
     yield Case("an option twice", ("step", "empty.pcs", "--run", "1", "--run", "2"), 2, err=[b"error: the argument '--run <N>' cannot be used multiple times\n"])
+    yield Case("an empty word for a folder", ("recover", ""), 2, err=[b"error: a value is required for '<DIR>' but none was supplied\n"])
+    for words in (("\udcff",), ("step", "\udcff.pcs"), ("recover", "a\udcff"), ("run", "empty.pcs", "--dir", "\udcff")):
+        yield Case("a word that is no UTF-8", words, 2, err=[b"error: a word is no UTF-8\n", b"Usage: pcalc"])
     yield Case("--version", ("--version",), 0, b"pcalc 0.1.0\n")
     yield Case("--help", ("--help",), 0, parts=[b"Usage: pcalc", b"\n  step ", b"\n  run ", b"\n  collapse ", b"\n  recover "])
-    options = [b"<SCRIPT>", b"--sessions <N>", b"[default: 8]", b"--capacity <N>", b"[default: 1024]", b"--run <N>", b"[default: 1]"]
+    options = [b"<SCRIPT>", b"--sessions <N>", b"[default: 8]", b"--capacity <N>", b"[default: 1024]", b"--run <N>", b"[default: 1]", FAULTS]
     yield Case("step --help", ("step", "--help"), 0, parts=options)
     yield Case("step -h", ("step", "-h"), 0, parts=options)
-    yield Case("recover --help", ("recover", "--help"), 0, parts=[b"<DIR>"])
+    yield Case("recover --help", ("recover", "--help"), 0, parts=[b"<DIR>", FAULTS])
     yield Case("--help to a full output", ("--help",), 1, output=FULL)
 
 
@@ -178,6 +229,24 @@ def listed_cases(folder):
     written(folder, "others/c.pcp/part.pcp", b"")
     yield Case("files of other names, and a folder of a part's name", ("recover", "others"), 0, WITH_PART)
     yield Case("a folder's name with a slash", ("recover", "others/"), 0, WITH_PART)
+    for name, text in (("base.pcb", BASE), ("a.pcp", PART), ("\udcff.txt", b""), ("\udcff.pcp.old", b"")):
+        written(folder, "strange/" + name, text)
+    yield Case("other files whose names are no UTF-8", ("recover", "strange"), 0, WITH_PART)
+    for name in ("b\udcff.pcp", "\udc80.pcp"):
+        written(folder, "strange/" + name, PART)
+    told = b"pcalc: b\xff.pcp: Device\npcalc: \x80.pcp: Device\n"
+    yield Case("parts whose names are no UTF-8", ("recover", "strange"), 0, WITH_PART, err=told)
+    written(folder, "ordered/base.pcb", BASE)
+    for name in ("\U0001f600.pcp", "\uffff.pcp", "b.pcp", "B.pcp", ".pcp"):
+        written(folder, "ordered/" + name, b"")
+    names = [b".pcp", b"B.pcp", b"b.pcp", "\uffff.pcp".encode(), "\U0001f600.pcp".encode()]
+    told = b"point 0\nentries 0\n" + b"".join(b"skipped %s Short\n" % name for name in names) + b"pairs 1\na 0\n"
+    yield Case("names in the order of their bytes", ("recover", "ordered"), 0, told)
+    written(folder, "crowded/base.pcb", BASE)
+    for number in range(1000):
+        written(folder, f"crowded/{number:05d}{'x' * 200}.pcp", PART)
+        written(folder, f"crowded/{number:05d}.txt", b"")
+    yield Case("a folder of 2,000 files", ("recover", "crowded"), 0, WITH_PART)
 
 
 def long_folder_cases(folder):
@@ -222,7 +291,8 @@ def collapse_usage_cases(folder):
     yield Case("no file to write", ("collapse",), 2, err=[b"  <OUT>\n  <IN>..."])
     told = b"pcalc: in.pcp: an input has this name\n"
     yield Case("a file to write that is an input", ("collapse", "in.pcp", "none.pcp", "in.pcp"), 2, err=told, files={"in.pcp": PART})
-    yield Case("collapse --help", ("collapse", "--help"), 0, parts=[b"<OUT>", b"<IN>...", b"--collapsers <N>", b"[default: 2]"])
+    options = [b"<OUT>", b"<IN>...", b"--collapsers <N>", b"How many threads join the points' files, 1 to 64 [default: 2]", FAULTS]
+    yield Case("collapse --help", ("collapse", "--help"), 0, parts=options)
 
 
 POINTS = {
@@ -257,6 +327,67 @@ def collapse_cases(folder):
         joined = part if joined is None else plain_files.join(joined, part)
     told = b"points 1-64 entries %d\n" % len(joined.entries)
     yield Case("64 files of 1,000 entries", ("collapse", "many.pcp", *names), 0, told, files={"many.pcp": joined.text()})
+
+
+def pipe_cases(folder):
+    """Inputs that are pipes, each of which can be opened once."""
+    one, two = POINTS["one.pcp"].text(), POINTS["two.pcp"].text()
+    three = POINTS["three.pcp"].text()
+    told = b"points 1-3 entries 2\n"
+    for name, part in POINTS.items():
+        written(folder, name, part.text())
+    for number in range(5):
+        pipe = piped(folder, f"pipe{number}.pcp")
+        with beside(lambda: feed(pipe, two)):
+            yield Case("an input that is a pipe", ("collapse", "piped.pcp", "one.pcp", f"pipe{number}.pcp", "three.pcp"), 0, told, files={"piped.pcp": ALL})
+    wide = plain_files.Part(1, [(4, 4)], {b"k": (4, b"v" * 65_535), b"l": (4, b"w" * 65_535)})
+    first, second = piped(folder, "first.pcp"), piped(folder, "second.pcp")
+
+    def feed_both():
+        feed(first, wide.text())
+        feed(second, one)
+
+    with beside(feed_both):
+        joined = plain_files.join(POINTS["one.pcp"], wide).text()
+        yield Case("two pipes, of which the first is longer than it holds", ("collapse", "piped.pcp", "first.pcp", "second.pcp"), 0, b"points 1,4 entries 4\n", files={"piped.pcp": joined})
+    pipe = piped(folder, "cut_pipe.pcp")
+    with beside(lambda: feed(pipe, three[:-1])):
+        yield Case("a pipe that is cut off", ("collapse", "lost.pcp", "cut_pipe.pcp"), 1, err=b"pcalc: lost.pcp: Short\n", files={"lost.pcp": None})
+    script = piped(folder, "pipe.pcs")
+    with beside(lambda: feed(script, b"begin 1\n")):
+        yield Case("a script that is a pipe", ("step", "pipe.pcs"), 0, b"begun 1\n")
+
+
+def closed_cases(folder):
+    """Standard streams that are closed: nothing that goes to them goes into a file, and the rest is as it is else."""
+    for name, part in POINTS.items():
+        written(folder, name, part.text())
+    written(folder, "one.pcs", b"begin 1\n")
+    written(folder, "one.pcw", b"points 1\nclient 1\nfill a 3 x\n")
+    written(folder, "bad.pcw", b"frob\n")
+    written(folder, "no_log/base.pcb", BASE)
+    empty = plain_files.Base(1, 0, {}).text()
+    ran = b"commits 3\ngave up 0\npoints 1\ncollapsed 1 entries 3\nstate pairs 3\ncheck ok\n"
+    for closed in ((0,), (1,), (2,), (0, 1), (0, 2), (1, 2), (0, 1, 2)):
+        name = ", ".join(STREAMS[number] for number in closed) + " closed"
+        is_heard, is_told = 1 not in closed, 2 not in closed
+
+        def case(words, status, out=b"", err=b"", files=None):
+            """A case that ends so where the output stands, and else with the status 1."""
+            return Case(name, words, status if is_heard or status == 2 else 1, out if is_heard else b"", err if is_told else b"", closed=closed, files=files or {})
+
+        yield case(("step", "one.pcs"), 0, b"begun 1\n", files={"one.pcs": b"begin 1\n"})
+        folder_name = "ran" + "".join(map(str, closed))
+        os.makedirs(os.path.join(folder, folder_name))
+        yield case(("run", "one.pcw", "--dir", folder_name), 0, ran, files={folder_name + "/base.pcb": empty})
+        yield case(("run", "bad.pcw"), 3, b"bad line 1\n", files={"bad.pcw": b"frob\n"})
+        yield case(("collapse", "closed_out.pcp", "one.pcp", "two.pcp", "three.pcp"), 0, b"points 1-3 entries 2\n", files={"closed_out.pcp": ALL})
+        os.remove(os.path.join(folder, "closed_out.pcp"))
+        yield case(("recover", "no_log"), 0, NO_LOG, files={"no_log/base.pcb": BASE})
+        for words in (("step", "none.pcs"), ("run", "none.pcw")):
+            yield case(words, 1, err=b"pcalc: %s: NoFile\n" % words[1].encode())
+        yield case(("collapse", "none.pcp/out.pcp", "one.pcp"), 1, err=b"pcalc: none.pcp/out.pcp: Device\n", files={"one.pcp": POINTS["one.pcp"].text()})
+        yield case(("recover", "nowhere"), 1, err=b"pcalc: base.pcb: NoFile\n")
 
 
 def collapse_fault_cases(folder):
@@ -294,5 +425,5 @@ def collapse_fault_cases(folder):
 def cases(folder):
     """Each case, whose files are written into the folder right before it."""
     together = (usage_cases, option_cases, script_cases, folder_cases, listed_cases, long_folder_cases, memory_cases)
-    for some in (*together, collapse_usage_cases, collapse_cases, collapse_fault_cases):
+    for some in (*together, collapse_usage_cases, collapse_cases, pipe_cases, closed_cases, collapse_fault_cases):
         yield from some(folder)

@@ -8,14 +8,18 @@ threads mix can't be told beforehand; what is compared is the same for every ord
 import os
 
 import plain_files
-from program_cases import FULL, LITTLE, MANY, Case, sparse, written
+from program_cases import FAULTS, FULL, LITTLE, MANY, Case, beside, feed, piped, sparse, written
 
 EMPTY = plain_files.Base(1, 0, {}).text()
 FOUR = b"points 8\n" + b"".join(b"client %d\nfill %s 1000 x\n" % (number + 1, name) for number, name in enumerate((b"a", b"b", b"c", b"d")))
 FOUR_TOLD = b"commits 4000\ngave up 0\npoints 8\ncollapsed 1-8 entries 4000\nstate pairs 4000\ncheck ok\n"
+ONE = b"points 1\nclient 1\nfill a 3 x\n"
+ONE_TOLD = b"commits 3\ngave up 0\npoints 1\ncollapsed 1 entries 3\nstate pairs 3\ncheck ok\n"
 NOTHING_TOLD = b"commits 0\ngave up 0\npoints 0\ncollapsed none\ncheck ok\n"
 CUTS = 50
 CONTENDED = 3_200
+# Most of its 640,000,000 transactions have no room for their keys, so that its log is short.
+LONG = b"".join(b"client %d\n" % client + b"".join(b"fill c%df%d 1000000 x\n" % (client, place) for place in range(10)) for client in range(1, 65))
 
 # What a workload has, and the number of its first bad line.
 BAD_LINES = [
@@ -58,7 +62,11 @@ def usage_cases(folder):
             told = b"error: invalid value '%d' for '--%s <N>': %d is not in 1..=64\n" % (wrong, option, wrong)
             yield Case(f"--{option.decode()} {wrong}", ("run", "empty.pcw", f"--{option.decode()}", str(wrong)), 2, err=[told])
     yield Case("no workload", ("run",), 2, err=[b"error: the following required arguments were not provided:\n  <WORKLOAD>\n"])
-    options = [b"<WORKLOAD>", b"--workers <N>", b"[default: 4]", b"--collapsers <N>", b"[default: 2]", b"--dir <DIR>", b"--quiet"]
+    told = [b"error: a value is required for '--dir <DIR>' but none was supplied\n"]
+    yield Case("an empty word for a folder", ("run", "empty.pcw", "--dir", ""), 2, err=told)
+    yield Case("the same, behind its sign", ("run", "empty.pcw", "--dir="), 2, err=told)
+    joins = b"How many threads join the points' files, 1 to 64 [default: 2]"
+    options = [b"<WORKLOAD>", b"--workers <N>", b"[default: 4]", b"--collapsers <N>", joins, b"--dir <DIR>", b"--quiet", FAULTS]
     yield Case("run --help", ("run", "--help"), 0, parts=options)
 
 
@@ -124,7 +132,7 @@ def contention_cases(folder):
 
 def fault_cases(folder):
     """Runs that fail: which fault is told."""
-    written(folder, "one.pcw", b"points 1\nclient 1\nfill a 3 x\n")
+    written(folder, "one.pcw", ONE)
     yield Case("a workload that isn't there", ("run", "none.pcw"), 1, err=b"pcalc: none.pcw: NoFile\n")
     os.makedirs(os.path.join(folder, "folder.pcw"))
     yield Case("a workload that is a folder", ("run", "folder.pcw"), 1, err=b"pcalc: folder.pcw: Device\n")
@@ -134,15 +142,67 @@ def fault_cases(folder):
     yield Case("a workload that memory has no room for", ("run", "large.pcw"), 1, err=b"pcalc: large.pcw: OutOfMemory\n", memory=LITTLE)
     for name in ("one.pcw", "bad0.pcw", "four.pcw"):
         yield Case("a run whose output is full", ("run", name), 1, output=FULL)
-    yield Case("no folder to write to", ("run", "one.pcw", "--dir", "nowhere"), 1, err=b"pcalc: base.pcb: Device\n")
-    for name, told in (("base.pcb", b"base.pcb"), ("log.pcl", b"log.pcl"), ("part-00001.pcp", b"part-00001.pcp")):
-        os.makedirs(os.path.join(folder, "taken_" + name, name))
-        yield Case(f"a folder in the place of {name}", ("run", "one.pcw", "--dir", "taken_" + name), 1, err=b"pcalc: %s: Device\n" % told)
-        if os.path.exists(FULL):
-            os.makedirs(os.path.join(folder, "full_" + name))
-            os.symlink(FULL, os.path.join(folder, "full_" + name, name))
-            yield Case(f"{name} on a full device", ("run", "one.pcw", "--dir", "full_" + name), 1, err=b"pcalc: one.pcw: Device\n")
+    yield Case("no folder to write to", ("run", "one.pcw", "--dir", "nowhere"), 1, err=b"pcalc: nowhere: NoFile\n")
+    yield Case("a folder that is a file", ("run", "one.pcw", "--dir", "one.pcw"), 1, err=b"pcalc: one.pcw: Device\n", files={"one.pcw": ONE})
+    os.makedirs(os.path.join(folder, "unlisted_run"))
+    os.chmod(os.path.join(folder, "unlisted_run"), 0o333)
+    yield Case("a folder that can't be listed", ("run", "one.pcw", "--dir", "unlisted_run"), 1, err=b"pcalc: unlisted_run: Device\n", is_other_user=True, files={"unlisted_run/base.pcb": None})
+    os.makedirs(os.path.join(folder, "unwritable"))
+    yield Case("a folder that can't be written to", ("run", "one.pcw", "--dir", "unwritable"), 1, err=b"pcalc: base.pcb: Device\n", is_other_user=True)
+    yield from late_fault_cases(folder)
     yield Case("no threads to be had", ("run", "one.pcw"), 1, err=b"pcalc: one.pcw: NoThread\n", is_other_user=True, has_no_threads=True)
+
+
+def late_fault_cases(folder):
+    """Files of a run that can't be made or written. What stands in their place comes into the folder once it was looked at: the workload, which is
+    read behind that, is a pipe, and has nothing before."""
+    for name in ("base.pcb", "log.pcl", "part-00001.pcp"):
+        for what, told in (("folder", name), ("device", None)):
+            dir_name = f"{what}_{name}"
+            place = os.path.join(folder, dir_name, name)
+            os.makedirs(os.path.dirname(place))
+            pipe = piped(folder, dir_name + ".pcw")
+            work = (lambda: os.mkdir(place)) if what == "folder" else (lambda: os.symlink(FULL, place))
+            if what == "device" and not os.path.exists(FULL):
+                continue
+            with beside(lambda: feed(pipe, ONE, work)):
+                err = f"pcalc: {told or dir_name + '.pcw'}: Device\n".encode()
+                yield Case(f"a {what} in the place of {name}", ("run", dir_name + ".pcw", "--dir", dir_name), 1, err=err)
+    if os.path.exists(FULL):
+        os.makedirs(os.path.join(folder, "long_run"))
+        pipe = piped(folder, "long.pcw")
+        with beside(lambda: feed(pipe, LONG, lambda: os.symlink(FULL, os.path.join(folder, "long_run", "log.pcl")))):
+            yield Case("a log that can't be written, of a run that would take minutes", ("run", "long.pcw", "--dir", "long_run"), 1, err=b"pcalc: long.pcw: Device\n")
+
+
+def used_cases(folder):
+    """Folders that have files of a run already, which are left as they are, and folders that have none."""
+    written(folder, "one.pcw", ONE)
+    written(folder, "bad.pcw", b"frob\n")
+    made = ("base.pcb", "log.pcl", "part-00001.pcp")
+    for number, name in enumerate((*made, "other.pcp", ".pcp", "\udcff.pcp")):
+        used = f"used{number}"
+        written(folder, f"{used}/{name}", b"as it was")
+        kept = {f"{used}/{other}": b"as it was" if other == name else None for other in (*made, name)}
+        told = f"pcalc: {used}: NotEmpty\n".encode()
+        yield Case(f"a folder that has {ascii(name)}", ("run", "one.pcw", "--dir", used), 1, err=told, files=kept)
+        assert os.listdir(os.path.join(folder, used)) == [name]
+        yield Case("the same for a workload with a bad line", ("run", "bad.pcw", "--dir", used), 3, b"bad line 1\n", files=kept)
+        yield Case("the same for a workload that isn't there", ("run", "none.pcw", "--dir", used), 1, err=b"pcalc: none.pcw: NoFile\n", files=kept)
+    os.makedirs(os.path.join(folder, "used_by_folder", "x.pcp"))
+    yield Case("a folder that has one of a part's name", ("run", "one.pcw", "--dir", "used_by_folder"), 1, err=b"pcalc: used_by_folder: NotEmpty\n", files={"used_by_folder/base.pcb": None})
+    os.makedirs(os.path.join(folder, "used_by_link"))
+    os.symlink("nowhere", os.path.join(folder, "used_by_link", "log.pcl"))
+    yield Case("a folder with a link that leads nowhere", ("run", "one.pcw", "--dir", "used_by_link"), 1, err=b"pcalc: used_by_link: NotEmpty\n", files={"used_by_link/base.pcb": None})
+    os.makedirs(os.path.join(folder, "fresh"))
+    for name in ("notes", "base.pcb.old", "log.pcl2", "xbase.pcb", "pcp", "a.PCP", "\udcff"):
+        written(folder, "with_others/" + name, b"as it was")
+    for fresh in ("fresh", "with_others", "with_others/../fresh2/"):
+        os.makedirs(os.path.join(folder, fresh), exist_ok=True)
+        yield Case("a folder without files of a run", ("run", "one.pcw", "--dir", fresh), 0, ONE_TOLD, files={os.path.join(fresh, "base.pcb"): EMPTY})
+    yield Case("its other files", ("recover", "with_others"), 0, b"point 1\nentries 8\npairs 3\na000000 x\na000001 x\na000002 x\n", files={"with_others/notes": b"as it was", "with_others/base.pcb.old": b"as it was"})
+    log = content_of(folder, "fresh/log.pcl")
+    yield Case("a second run into the folder of the first", ("run", "one.pcw", "--dir", "fresh"), 1, err=b"pcalc: fresh: NotEmpty\n", files={"fresh/log.pcl": log, "fresh/base.pcb": EMPTY})
 
 
 def content_of(folder, name):
@@ -181,5 +241,5 @@ def folder_cases(folder):
 
 def cases(folder):
     """Each case, whose files are written into the folder right before it."""
-    for some in (usage_cases, workload_cases, contention_cases, fault_cases, folder_cases):
+    for some in (usage_cases, workload_cases, contention_cases, fault_cases, used_cases, folder_cases):
         yield from some(folder)

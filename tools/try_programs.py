@@ -82,12 +82,14 @@ def stored():
 
 
 def settings_of(case, folder):
-    """How a case is run: where, with how much memory, by whom, and where its output goes."""
+    """How a case is run: where, with how much memory, by whom, and with which streams closed."""
     settings = {"cwd": folder}
     if case.memory is not None:
         settings["preexec_fn"] = lambda: resource.setrlimit(resource.RLIMIT_AS, (case.memory, case.memory))
     if case.has_no_threads:
         settings["preexec_fn"] = lambda: resource.setrlimit(resource.RLIMIT_NPROC, (1, 1))
+    if case.closed:
+        settings["preexec_fn"] = lambda: [os.close(number) for number in case.closed]
     if case.is_other_user and os.geteuid() == 0:
         settings.update(user=NOBODY, group=NOBODY, extra_groups=[])
     return settings

@@ -1,5 +1,5 @@
 -- A run of a workload: what its text is read as, what is printed, why it may fail, and what is told of that.
-use Rattle.std.specs.Prelude.{◌≡◌, ◌++◌, ℕ, List, Option, Result, [], IsOk, IfOk, IfSome, MatchResult, codes, ⊤}
+use Rattle.std.specs.Prelude.{◌≡◌, ◌++◌, ℕ, List, Option, Result, Err, [], IsOk, IfOk, IfSome, MatchOption, MatchResult, codes, ⊤}
 use Rattle.std.specs.Io.KnownBytes.{Appends}
 use Rattle.pc_types.specs.Counted.{HasRisen, AppendsBeginning}
 use Rattle.pc_types.specs.Tallies.{Puts, inner_of, failures_of}
@@ -14,10 +14,11 @@ use Rattle.pc_jobs.specs.declared.works.Workload.{Workload}
 use Rattle.pc_jobs.specs.declared.workloads.Reading.{Reading}
 use Rattle.pc_jobs.specs.declared.workloads.Reading.TheVariants as reading
 use Rattle.pc_script.specs.Recoveries.{TellsOf}
-use Rattle.pc_threads.specs.declared.fault.Fault.{Fault}
 use Rattle.pc_threads.specs.declared.fault.Fault.TheVariants as fault
 use Rattle.pc_runs.specs.declared.failure.Failure.{Failure}
 use Rattle.pc_runs.specs.declared.failure.Failure.TheVariants as failure
+use Rattle.pc_runs.specs.declared.files.RunFolder.{RunFolder}
+use Rattle.pc_runs.specs.declared.files.Unusable.TheVariants as unusable
 use Rattle.pc_outcomes.specs.declared.outcome.Outcome.{Outcome}
 use Rattle.pc_outcomes.specs.declared.outcome.Printed.{Printed}
 use Rattle.pc_outcomes.specs.declared.outcome.Printed.TheVariants as printed
@@ -47,31 +48,54 @@ IsRun st outcome = (files : List File) × HaveJustTo outcome.points files × IsO
 abbrev pub IsReadAs : {R : Type 0} → (R → Option (List ℕ)) → Result R Refusal → Reading → Type 0
 IsReadAs remaining opened worth = IfOk opened (λ reader. IfSome (remaining reader) (λ text. reading_of text ≡ worth))
 
--- it is printed of the workload that the file holds
-abbrev pub IsAnswer : {R : Type 0} → (R → Option (List ℕ)) → Result R Refusal → Printed → Type 0
-IsAnswer remaining opened (printed.BadLine line) = IsReadAs remaining opened (reading.BadLine line)
-IsAnswer remaining opened (printed.Whole outcome) = (workload : Workload) × IsReadAs remaining opened (reading.Runs workload) × (outcome.points ≡ workload.points) × IsRun run_setting outcome
+-- where there is a folder, something makes files there
+abbrev pub IsUsable : {D : Type 0} → Option (RunFolder D) → Type 0
+IsUsable folder = IfSome folder (λ f. IsOk f.files)
+
+-- there is a folder of this name, and this keeps files from being made there
+abbrev pub IsUnusable : {D : Type 0} → Option (RunFolder D) → Failure → Type 0
+IsUnusable folder (failure.Folder name why) = MatchOption folder ⊥ (λ f. (name ≡ f.name) × (f.files ≡ Err why))
+IsUnusable folder other = ⊥
+
+-- it is printed of the workload that the file holds, and was run only where the folder is usable
+abbrev pub IsAnswer : {R D : Type 0} → (R → Option (List ℕ)) → Result R Refusal → Option (RunFolder D) → Printed → Type 0
+IsAnswer remaining opened folder (printed.BadLine line) = IsReadAs remaining opened (reading.BadLine line)
+IsAnswer remaining opened folder (printed.Whole outcome) = IsUsable folder
+    × ((workload : Workload) × IsReadAs remaining opened (reading.Runs workload) × (outcome.points ≡ workload.points) × IsRun run_setting outcome)
 
 -- what is printed of the workload that the file holds went out, all of it, and this is its status
-abbrev pub GoesOut : {R T : Type 0} → (R → Option (List ℕ)) → (T → Option (List ℕ)) → Result R Refusal → Tally T → Tally T → ℕ → Type 0
-GoesOut remaining contents opened old new status = (some : Printed) × IsAnswer remaining opened some × (status ≡ status_of some)
+abbrev pub GoesOut : {R D T : Type 0} → (R → Option (List ℕ)) → (T → Option (List ℕ)) → Result R Refusal → Option (RunFolder D) → Tally T → Tally T → ℕ → Type 0
+GoesOut remaining contents opened folder old new status = (some : Printed) × IsAnswer remaining opened folder some × (status ≡ status_of some)
     × Appends (contents (inner_of old)) (contents (inner_of new)) (printed_text some) × (failures_of new ≡ failures_of old)
 
--- Why a run failed, before anything is printed: where the file wasn't opened, the reason for that, and else one of the run.
-abbrev pub IsUnanswered : {R : Type 0} → Result R Refusal → Fault → Type 0
-IsUnanswered opened (fault.Refused why) = MatchResult opened (λ reader. ⊤) (λ absent. why ≡ absent)
-IsUnanswered opened other = IsOk opened
+-- Why nothing is printed: where the file wasn't opened, the reason for that; where its workload can be run, and the folder can't
+-- be used, the reason for this; and else one of the run, by files or threads only where the folder is usable.
+abbrev pub IsUnanswered : {R D : Type 0} → (R → Option (List ℕ)) → Result R Refusal → Option (RunFolder D) → Failure → Type 0
+IsUnanswered remaining opened folder (failure.Run (fault.Refused why)) = MatchResult opened (λ reader. ⊤) (λ absent. why ≡ absent)
+IsUnanswered remaining opened folder (failure.Run other) = IsOk opened × IsUsable folder
+IsUnanswered remaining opened folder (failure.Folder name why) = IsOk opened × ((workload : Workload) × IsReadAs remaining opened (reading.Runs workload)) × IsUnusable folder (failure.Folder name why)
+IsUnanswered remaining opened folder failure.Output = ⊥
 
--- Why not all was printed: the output failed, which was counted, and a beginning of what is printed went out; or the run did,
--- of which nothing is printed.
-abbrev pub IsCause : {R T : Type 0} → (R → Option (List ℕ)) → (T → Option (List ℕ)) → Result R Refusal → Tally T → Tally T → Failure → Type 0
-IsCause remaining contents opened old new failure.Output = HasRisen (failures_of old) (failures_of new)
-    × ((some : Printed) × IsAnswer remaining opened some × AppendsBeginning (contents (inner_of old)) (contents (inner_of new)) (printed_text some))
-IsCause remaining contents opened old new (failure.Run fault) = (new ≡ old) × IsUnanswered opened fault
+-- Why not all was printed: the output failed, which was counted, and a beginning of what is printed went out; or there is nothing
+-- to print.
+abbrev pub IsCause : {R D T : Type 0} → (R → Option (List ℕ)) → (T → Option (List ℕ)) → Result R Refusal → Option (RunFolder D) → Tally T → Tally T → Failure → Type 0
+IsCause remaining contents opened folder old new failure.Output = HasRisen (failures_of old) (failures_of new)
+    × ((some : Printed) × IsAnswer remaining opened folder some × AppendsBeginning (contents (inner_of old)) (contents (inner_of new)) (printed_text some))
+IsCause remaining contents opened folder old new other = (new ≡ old) × IsUnanswered remaining opened folder other
+
+-- the line that tells of a reason by a name
+abbrev pub reason_text : List ℕ → List ℕ → List ℕ
+reason_text name reason = codes "pcalc: " ++ (name ++ (codes ": " ++ (reason ++ codes "\n")))
+
+-- it is told, as far as the writer takes it
+abbrev pub TellsReason : {T : Type 0} → (T → Option (List ℕ)) → Tally T → Tally T → List ℕ → List ℕ → Type 0
+TellsReason contents old new name reason = (told : Result (Unit {0}) Refusal) × Puts contents old new told (reason_text name reason)
 
 -- what is told of a failure, where the workload has this name; of an output that failed nothing
 abbrev pub IsTold : {T : Type 0} → (T → Option (List ℕ)) → Tally T → Tally T → List ℕ → Failure → Type 0
 IsTold contents old new name (failure.Run (fault.Refused why)) = TellsOf contents old new name why
 IsTold contents old new name (failure.Run (fault.Unmade file why)) = TellsOf contents old new (name_of file) why
-IsTold contents old new name (failure.Run fault.NoThread) = (told : Result (Unit {0}) Refusal) × Puts contents old new told (codes "pcalc: " ++ (name ++ codes ": NoThread\n"))
+IsTold contents old new name (failure.Run fault.NoThread) = TellsReason contents old new name (codes "NoThread")
+IsTold contents old new name (failure.Folder folder unusable.NotEmpty) = TellsReason contents old new folder.items (codes "NotEmpty")
+IsTold contents old new name (failure.Folder folder (unusable.Unlisted why)) = TellsOf contents old new folder.items why
 IsTold contents old new name failure.Output = new ≡ old

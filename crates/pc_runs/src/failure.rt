@@ -2,11 +2,11 @@
 ghost use Rattle.std.specs.Prelude.{◌≡◌, IfErr, OnOk};
 ghost use Rattle.std.specs.Io.KnownBytes.{Appends};
 ghost use Rattle.pc_types.specs.Counted.{HasRisen, AppendsBeginning};
-ghost use Rattle.pc_types.specs.Tallies.{inner_of, failures_of};
+ghost use Rattle.pc_types.specs.Tallies.{Puts, inner_of, failures_of};
 ghost use Rattle.pc_outcomes.specs.Outcomes.{printed_text};
-ghost use Rattle.pc_runs.specs.Runs.{IsTold};
+ghost use Rattle.pc_runs.specs.Runs.{IsTold, IsUsable, IsUnusable, reason_text};
 
-use crate::files::report_unmade;
+use crate::files::{RunFolder, Unusable, report_unmade};
 use pc_outcomes::Printed;
 use pc_script::report;
 use pc_threads::Fault;
@@ -14,10 +14,12 @@ use pc_types::{Refusal, Tally};
 use std::io::Write;
 
 /// Why nothing, or not all, is printed of a workload.
-#[derive(Clone, Copy, Debug, PartialEq, Eq)]
+#[derive(Drop)]
 pub enum Failure {
     /// Its run failed.
     Run(Fault),
+    /// It was not run: the folder of this name can't be used for its files.
+    Folder(Vec<u8>, Unusable),
     /// The output failed.
     Output,
 }
@@ -29,6 +31,31 @@ impl From<Fault> for Failure {
 
     fn from(fault: Fault) -> Failure {
         Failure::Run(fault)
+    }
+}
+
+impl From<Refusal> for Failure {
+    ghost use Rattle.pc_threads.specs.declared.fault.Fault.TheVariants.{Refused};
+    ghost use Rattle.pc_runs.specs.declared.failure.Failure.TheVariants.{Run};
+
+    ghost from_gives = { λ why failure. failure ≡ Run (Refused why) };
+
+    fn from(why: Refusal) -> Failure {
+        Failure::Run(Fault::Refused(why))
+    }
+}
+
+/// What makes the files of the folder, where there is one.
+pub fn usable<D: Drop>(folder: Option<RunFolder<D>>) -> Result<Option<D>, Failure>
+    ensures usable { OnOk result (IsUsable folder) }
+    ensures unusable { IfErr result (IsUnusable folder) }
+{
+    let Some(RunFolder { name, files }) = folder else {
+        return Ok(None);
+    };
+    match files {
+        Ok(files) => Ok(Some(files)),
+        Err(why) => Err(Failure::Folder(name, why)),
     }
 }
 
@@ -47,17 +74,28 @@ pub fn print<W: Write>(printed: &Printed, out: &mut Tally<W>) -> Result<(), Fail
 }
 
 impl Failure {
-    /// Writes the line that tells why, by the name of the workload or of a file; of an output that failed nothing.
+    /// Writes the line that tells why, by the name of the workload, of a file or of the folder; of an output that failed nothing.
     pub fn report<E: Write>(self, workload: &[u8], errors: &mut Tally<E>)
         ensures { IsTold E.contents errors.old errors.new workload.now self }
     {
-        let Failure::Run(fault) = self else {
-            return;
-        };
-        let _ = match fault {
-            Fault::Refused(why) => report(workload, why, errors),
-            Fault::Unmade(file, why) => report_unmade(file, why, errors),
-            Fault::NoThread => errors.put_all(&[b"pcalc: ", workload, b": NoThread\n"]),
+        let _ = match self {
+            Failure::Run(fault) => match fault {
+                Fault::Refused(why) => report(workload, why, errors),
+                Fault::Unmade(file, why) => report_unmade(file, why, errors),
+                Fault::NoThread => put_reason(workload, b"NoThread", errors),
+            },
+            Failure::Folder(folder, unusable) => match unusable {
+                Unusable::NotEmpty => put_reason(&folder, b"NotEmpty", errors),
+                Unusable::Unlisted(why) => report(&folder, why, errors),
+            },
+            Failure::Output => Ok(()),
         };
     }
+}
+
+// Writes the line that tells of a reason that is no refusal, by a name.
+fn put_reason<E: Write>(name: &[u8], reason: &[u8], errors: &mut Tally<E>) -> Result<(), Refusal>
+    ensures { Puts E.contents errors.old errors.new result (reason_text name.now reason.now) }
+{
+    errors.put_all(&[b"pcalc: ", name, b": ", reason, b"\n"])
 }

@@ -14,6 +14,22 @@ use pc_threads::Fault;
 use pc_types::{Point, Refusal, Tally};
 use std::io::Write;
 
+/// Why the files of a run aren't made in a folder.
+#[derive(Clone, Copy, Debug, PartialEq, Eq)]
+pub enum Unusable {
+    /// It has files of a run.
+    NotEmpty,
+    /// It can't be listed.
+    Unlisted(Refusal),
+}
+
+/// A folder for the files of a run: its name, and what makes them there, or why none are made.
+#[derive(Drop)]
+pub struct RunFolder<D> {
+    pub name: Vec<u8>,
+    pub files: Result<D, Unusable>,
+}
+
 /// What makes the files of a folder.
 pub trait NewFiles<F: Write> {
     /// Makes the file, without bytes; what a file of this name had is lost. Refuses for whatever keeps it from being made.

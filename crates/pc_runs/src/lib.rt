@@ -8,5 +8,5 @@ mod run;
 mod store;
 
 pub use crew::{Crew, MOST_WORKERS};
-pub use files::NewFiles;
+pub use files::{NewFiles, RunFolder, Unusable};
 pub use run::run_workload;

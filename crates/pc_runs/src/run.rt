@@ -4,8 +4,8 @@ ghost use Rattle.pc_runs.specs.Runs.{GoesOut, IsAnswer, IsCause, IsRun, IsTold, 
 ghost use Rattle.pc_runs.specs.declared.failure.Failure.{Failure};
 
 use crate::crew::Crew;
-use crate::failure::{Failure, print};
-use crate::files::{NewFiles, begin_files};
+use crate::failure::{Failure, print, usable};
+use crate::files::{NewFiles, RunFolder, begin_files};
 use crate::store::run_store;
 use pc_jobs::{Reading, Workload, read_workload};
 use pc_outcomes::{Outcome, Printed};
@@ -40,8 +40,8 @@ const BAD_LINE: u8 = 3;
 /// - 0 where all of that was done;
 /// - 3 where the workload has a bad line, whose number is printed: nothing is run;
 /// - else 1, and a line on the error writer tells why: the workload isn't there, can't be read or is too large for memory, a
-///   file of the folder can't be made or written, a thread can't be started, or a call was refused. Of an output that fails
-///   nothing is told.
+///   file of the folder can't be made or written, a thread can't be started, or a call was refused; or, by the folder's name, the
+///   folder can't be used: then nothing is run, and no file is made. Of an output that fails nothing is told.
 ///
 /// Where there is a folder, the base, the log and the file of each point are written to it; the log as it grows.
 ///
@@ -61,14 +61,14 @@ pub fn run_workload<
     seed: RandomState,
     workload: NamedFile<R>,
     crew: &Crew<'_, G>,
-    folder: Option<D>,
+    folder: Option<RunFolder<D>>,
     out: &mut Tally<W>,
     errors: &mut Tally<E>,
 ) -> u8
     ensures status { (result ≡ 0) ⊎ (result ≡ 1) ⊎ (result ≡ 3) }
     ensures opened { ¬ (result ≡ 1) → IsOk workload.opened }
-    ensures printed { ¬ (result ≡ 1) → GoesOut R.remaining W.contents workload.opened out.old out.new result × (errors.new ≡ errors.old) }
-    ensures cause { result ≡ 1 → (failure : Failure) × IsCause R.remaining W.contents workload.opened out.old out.new failure
+    ensures printed { ¬ (result ≡ 1) → GoesOut R.remaining W.contents workload.opened folder out.old out.new result × (errors.new ≡ errors.old) }
+    ensures cause { result ≡ 1 → (failure : Failure) × IsCause R.remaining W.contents workload.opened folder out.old out.new failure
         × IsTold E.contents errors.old errors.new workload.name.items failure }
 {
     let NamedFile { name, opened } = workload;
@@ -95,12 +95,12 @@ fn run_opened<
     seed: RandomState,
     opened: Result<R, Refusal>,
     crew: &Crew<'_, G>,
-    folder: Option<D>,
+    folder: Option<RunFolder<D>>,
     out: &mut Tally<W>,
 ) -> Result<u8, Failure>
     ensures opened { OnOk result (IsOk opened) }
-    ensures printed { IfOk result (λ status. GoesOut R.remaining W.contents opened out.old out.new status) }
-    ensures cause { IfErr result (IsCause R.remaining W.contents opened out.old out.new) }
+    ensures printed { IfOk result (λ status. GoesOut R.remaining W.contents opened folder out.old out.new status) }
+    ensures cause { IfErr result (IsCause R.remaining W.contents opened folder out.old out.new) }
 {
     let printed = answer(rt, alloc, seed, opened, crew, folder)?;
     print(&printed, out)?;
@@ -120,16 +120,17 @@ fn answer<
     seed: RandomState,
     opened: Result<R, Refusal>,
     crew: &Crew<'_, G>,
-    folder: Option<D>,
-) -> Result<Printed, Fault>
+    folder: Option<RunFolder<D>>,
+) -> Result<Printed, Failure>
     ensures opened { OnOk result (IsOk opened) }
-    ensures answer { IfOk result (IsAnswer R.remaining opened) }
-    ensures cause { IfErr result (IsUnanswered opened) }
+    ensures answer { IfOk result (IsAnswer R.remaining opened folder) }
+    ensures cause { IfErr result (IsUnanswered R.remaining opened folder) }
 {
     let text = read_opened(alloc, opened)?;
     match read_workload(alloc, &text)? {
         Reading::BadLine(line) => Ok(Printed::BadLine(line)),
         Reading::Runs(workload) => {
+            let folder = usable(folder)?;
             let outcome = run_read(rt, alloc, seed, workload, crew, folder)?;
             Ok(Printed::Whole(outcome))
         }

@@ -1,25 +1,42 @@
 //! The files of a folder: those that recovery reads, and those that a run makes.
 use crate::late::LateFile;
-use pc_runs::NewFiles;
+use pc_runs::{NewFiles, RunFolder, Unusable};
 use pc_script::{Folder, NamedFile};
 use pc_texts::{FileName, part_name};
-use pc_types::Refusal;
+use pc_types::{Refusal, Tally, read_all};
 use std::alloc::{AllocError, Global};
-use std::fs::File;
+use std::fs::{File, Files};
 use std::io::BufWriter;
 use std::string::String;
 use std::{fs, io};
 
-/// The folder's base, its parts in the byte order of their names, and its log. It is an error only where memory ran out.
-pub fn open_folder<'a>(rt: &'a HostRuntime, dir: &str) -> io::Result<Folder<LateFile<'a>>> {
+const BASE: &str = "base.pcb";
+
+const LOG: &str = "log.pcl";
+
+const PART_END: &[u8] = b".pcp";
+
+/// What recovery finds in a folder.
+#[derive(Drop)]
+pub struct Found<'a> {
+    /// The base, the parts in the byte order of their names, and the log.
+    pub folder: Folder<LateFile<'a>>,
+    /// The names of part files that are no UTF-8, in their byte order: such a file can't be opened.
+    pub unopened: Vec<Vec<u8>>,
+}
+
+/// What the folder has for recovery. It is an error only where memory ran out.
+pub fn open_folder<'a>(rt: &'a HostRuntime, dir: &str) -> Result<Found<'a>, AllocError> {
     let alloc = rt.alloc();
-    let base = open_named(rt, path_of(alloc, dir, "base.pcb")?);
+    let mut unopened = Vec::new(alloc);
+    let base = open_named(rt, path_of(alloc, dir, BASE)?);
     let parts = match list_parts(rt, dir) {
-        Ok(names) => Ok(late_files(rt, dir, &names)?),
-        Err(e) => Err(why_not(&e)),
+        Ok(names) => Ok(late_files(rt, dir, names, &mut unopened)?),
+        Err(why) => Err(why),
     };
-    let log = open_named(rt, path_of(alloc, dir, "log.pcl")?);
-    Ok(Folder { base, parts, log })
+    let log = open_named(rt, path_of(alloc, dir, LOG)?);
+    let folder = Folder { base, parts, log };
+    Ok(Found { folder, unopened })
 }
 
 // The path of a file of the folder.
@@ -49,38 +66,89 @@ pub fn why_not(e: &io::Error) -> Refusal {
     Refusal::Device
 }
 
-// The names of the folder's part files, in their byte order. A folder of such a name is passed by.
-fn list_parts(rt: &HostRuntime, dir: &str) -> io::Result<Vec<String>> {
+// The names of what the folder has, each ended by a NUL. They are bytes, since a name need not be UTF-8.
+fn names_in(rt: &HostRuntime, dir: &str) -> Result<Vec<u8>, Refusal> {
     let alloc = rt.alloc();
-    let mut names = Vec::new(alloc);
-    for entry in fs::read_dir(rt, dir)? {
-        let entry = entry?;
-        if entry.file_name().ends_with(".pcp") && !entry.file_type()?.is_dir() {
-            names.push(String::from_str(alloc, entry.file_name())?)?;
-        }
+    let path = path_of(alloc, dir, "")?;
+    match rt.open_dir(path.as_str()) {
+        Ok(names) => read_all(alloc, &mut Tally::new(names)),
+        Err(e) => Err(why_not(&e)),
     }
-    names.sort_unstable();
-    Ok(names)
 }
 
-// The files of these names, none of them opened.
+// The names of the folder's part files, in their byte order.
+fn list_parts(rt: &HostRuntime, dir: &str) -> Result<Vec<Vec<u8>>, Refusal> {
+    let alloc = rt.alloc();
+    let mut parts = Vec::new(alloc);
+    for name in names_in(rt, dir)?.split(|byte| *byte == 0) {
+        if name.ends_with(PART_END) {
+            parts.push(Vec::from_slice(alloc, name)?)?;
+        }
+    }
+    parts.sort_unstable();
+    Ok(parts)
+}
+
+// The files of these names, none of them opened; those whose names are no UTF-8 are set apart. A folder of such a name is passed
+// by.
 fn late_files<'a>(
     rt: &'a HostRuntime,
     dir: &str,
-    names: &[String],
+    names: Vec<Vec<u8>>,
+    unopened: &mut Vec<Vec<u8>>,
 ) -> Result<Vec<NamedFile<LateFile<'a>>>, AllocError> {
-    let alloc = rt.alloc();
-    let mut files = Vec::new(alloc);
+    let mut files = Vec::new(rt.alloc());
     for name in names {
-        let path = path_of(alloc, dir, name.as_str())?;
-        let name = Vec::from_slice(alloc, name.as_bytes())?;
-        let opened = Ok(LateFile::new(rt, path));
-        files.push(NamedFile { name, opened })?;
+        let Ok(text) = str::from_utf8(&name) else {
+            unopened.push(name)?;
+            continue;
+        };
+        let path = path_of(rt.alloc(), dir, text)?;
+        if !is_folder(rt, path.as_str()) {
+            let opened = Ok(LateFile::new(rt, path));
+            files.push(NamedFile { name, opened })?;
+        }
     }
     Ok(files)
 }
 
-/// A folder in which a run makes its files, by its path. What a file had that stood there before is lost.
+fn is_folder(rt: &HostRuntime, path: &str) -> bool {
+    match fs::symlink_metadata(rt, path) {
+        Ok(found) => found.is_dir(),
+        Err(_) => false,
+    }
+}
+
+/// The folder of this path for the files of a run, which is not to have any yet. It is an error only where memory ran out.
+pub fn run_folder<'a>(
+    rt: &'a HostRuntime,
+    path: &'a str,
+) -> Result<RunFolder<NewFolder<'a>>, AllocError> {
+    let name = Vec::from_slice(rt.alloc(), path.as_bytes())?;
+    let files = match names_in(rt, path) {
+        Ok(names) => {
+            if has_run_files(&names) {
+                Err(Unusable::NotEmpty)
+            } else {
+                Ok(NewFolder { rt, path })
+            }
+        }
+        Err(why) => Err(Unusable::Unlisted(why)),
+    };
+    Ok(RunFolder { name, files })
+}
+
+// Whether one of the names, each ended by a NUL, is that of a run's file.
+fn has_run_files(names: &[u8]) -> bool {
+    names.split(|byte| *byte == 0).any(is_run_file)
+}
+
+// Whether recovery reads a file of this name.
+fn is_run_file(name: &[u8]) -> bool {
+    name == BASE.as_bytes() || name == LOG.as_bytes() || name.ends_with(PART_END)
+}
+
+/// A folder in which a run makes its files, by its path.
 #[derive(Drop)]
 pub struct NewFolder<'a> {
     pub rt: &'a HostRuntime,
@@ -91,8 +159,8 @@ impl<'a> NewFiles<BufWriter<File>> for NewFolder<'a> {
     fn make(&self, name: &FileName) -> Result<BufWriter<File>, Refusal> {
         let alloc = self.rt.alloc();
         let path = match name {
-            FileName::Base => path_of(alloc, self.path, "base.pcb")?,
-            FileName::Log => path_of(alloc, self.path, "log.pcl")?,
+            FileName::Base => path_of(alloc, self.path, BASE)?,
+            FileName::Log => path_of(alloc, self.path, LOG)?,
             FileName::Part(point) => {
                 let bytes = part_name(*point);
                 let Ok(name) = str::from_utf8(&bytes) else {

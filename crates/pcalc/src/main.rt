@@ -7,16 +7,19 @@ mod late;
 mod options;
 mod parts;
 mod progress;
+mod standard;
 
+use clap::Error;
 use clap::error::ErrorKind;
-use folder::{NewFolder, open_folder, why_not};
-use options::{CollapseOptions, RunOptions, StepOptions, Task, task_of};
+use folder::{Found, open_folder, run_folder, why_not};
+use options::{CollapseOptions, RunOptions, StepOptions, Task, task_of, unreadable};
 use parts::{NewFile, open_parts};
 use pc_collapse_files::{Inputs, run_collapse};
 use pc_runs::{Crew, run_workload};
-use pc_script::{NamedFile, run_recover, run_script};
+use pc_script::{NamedFile, report, run_recover, run_script};
 use pc_types::{Refusal, Tally};
 use progress::Progress;
+use standard::fill_places;
 use std::fs::File;
 use std::hash::RandomState;
 use std::io::BufWriter;
@@ -34,9 +37,16 @@ fn main(rt: HostRuntime) -> ExitCode {
 
 fn run_command<H: Threads + Wait + Sync>(rt: &HostRuntime, threads: &H) -> io::Result<u8> {
     let alloc = rt.alloc();
+    let _places = fill_places(rt)?;
     let mut texts = Vec::new(alloc);
-    for text in env::args(rt)? {
-        texts.push(text)?;
+    match env::args(rt) {
+        Ok(args) => {
+            for text in args {
+                texts.push(text)?;
+            }
+        }
+        Err(e) if e.kind() == io::ErrorKind::InvalidData => return tell(rt, unreadable(alloc)),
+        Err(e) => return Err(e),
     }
     let mut words: Vec<&str> = Vec::new(alloc);
     for text in &texts {
@@ -45,12 +55,21 @@ fn run_command<H: Threads + Wait + Sync>(rt: &HostRuntime, threads: &H) -> io::R
     match task_of(alloc, &words) {
         Ok(Some(task)) => run_task(rt, threads, task),
         Ok(None) => Ok(2),
-        Err(e) if e.kind() == ErrorKind::OutOfMemory => Ok(1),
-        Err(e) => {
-            e.print(rt)?;
-            Ok(if e.use_stderr() { 2 } else { 0 })
-        }
+        Err(e) => tell(rt, Err(e)),
     }
+}
+
+// Prints the fault of usage, or the help or the version that was asked for; the status.
+fn tell(rt: &HostRuntime, told: Result<Error, Error>) -> io::Result<u8> {
+    let e = match told {
+        Ok(e) => e,
+        Err(e) => e,
+    };
+    if e.kind() == ErrorKind::OutOfMemory {
+        return Ok(1);
+    }
+    e.print(rt)?;
+    Ok(if e.use_stderr() { 2 } else { 0 })
 }
 
 // The seed of the hashes of a script's or a workload's store is drawn before anything is opened; where the system gives none,
@@ -76,6 +95,10 @@ fn run_task<H: Threads + Wait + Sync>(rt: &HostRuntime, threads: &H, task: Task)
                 is_quiet,
             } = options;
             let seed = RandomState::new(rt)?;
+            let folder = match folder {
+                Some(path) => Some(run_folder(rt, path)?),
+                None => None,
+            };
             let name = Vec::from_slice(alloc, workload.as_bytes())?;
             let opened = open_named(rt, workload);
             let file = NamedFile { name, opened };
@@ -85,7 +108,6 @@ fn run_task<H: Threads + Wait + Sync>(rt: &HostRuntime, threads: &H, task: Task)
                 collapsers,
                 gate: &progress,
             };
-            let folder = folder.map(|path| NewFolder { rt, path });
             let status = run_workload(
                 threads,
                 alloc,
@@ -112,7 +134,10 @@ fn run_task<H: Threads + Wait + Sync>(rt: &HostRuntime, threads: &H, task: Task)
             Ok(ended.status)
         }
         Task::Recover(dir) => {
-            let folder = open_folder(rt, dir)?;
+            let Found { folder, unopened } = open_folder(rt, dir)?;
+            for name in &unopened {
+                let _ = report(name, Refusal::Device, &mut errors);
+            }
             Ok(run_recover(alloc, dir, folder, &mut out, &mut errors))
         }
     }

@@ -3,12 +3,17 @@ ghost use Rattle.std.specs.Prelude.{◌≤◌};
 ghost use Rattle.pc_collapse.specs.declared.limits.TheConstants.{MOST_COLLAPSERS};
 ghost use Rattle.pc_runs.specs.declared.crew.TheConstants.{MOST_WORKERS};
 
+use clap::builder::ValueParser;
+use clap::error::ErrorKind;
 use clap::{Arg, ArgAction, ArgMatches, Command, Error};
 use pc_collapse::MOST_COLLAPSERS;
 use pc_runs::MOST_WORKERS;
 use pc_script::Setup;
 use pc_types::{MOST_KEYS, MOST_SESSIONS};
 use std::alloc::{AllocError, Global};
+
+/// Where the help of each command points to.
+const FAULTS: &str = "What each fault means: docs/FORMATS.md";
 
 /// What `pcalc --version` prints behind the program's name.
 const VERSION: &str = "0.1.0";
@@ -81,6 +86,12 @@ pub fn task_of<'a>(alloc: Global, words: &'a [&'a str]) -> Result<Option<Task<'a
     }
 }
 
+/// What is told of a command line of which a word is no UTF-8.
+pub fn unreadable(alloc: Global) -> Result<Error, Error> {
+    let mut command = command(alloc)?;
+    Ok(command.error(ErrorKind::InvalidValue, "a word is no UTF-8")?)
+}
+
 fn command<'a>(alloc: Global) -> Result<Command<'a>, Error> {
     Ok(
         Command::new(alloc, "pcalc")
@@ -98,6 +109,7 @@ fn step_command<'a>(alloc: Global) -> Result<Command<'a>, Error> {
     Ok(
         Command::new(alloc, "step")
             .about("Answers the lines of a script")
+            .after_help(FAULTS)
             .arg(script_arg(alloc))?
             .arg(sessions_arg(alloc))?
             .arg(capacity_arg(alloc))?
@@ -147,7 +159,10 @@ fn run_command<'a>(alloc: Global) -> Result<Command<'a>, Error> {
     let folder = Arg::new(alloc, "dir")
         .long("dir")
         .value_name("DIR")
-        .help("A folder to which base.pcb, the points' part files and log.pcl are written")
+        .help(
+            "A folder without such files, to which base.pcb, the points' part files and log.pcl are written",
+        )
+        .value_parser(ValueParser::NonEmptyString)
         .action(ArgAction::Set);
     let quiet = Arg::new(alloc, "quiet")
         .long("quiet")
@@ -156,6 +171,7 @@ fn run_command<'a>(alloc: Global) -> Result<Command<'a>, Error> {
     Ok(
         Command::new(alloc, "run")
             .about("Runs clients on threads beside a checkpointer and collapsers")
+            .after_help(FAULTS)
             .arg(workload)?
             .arg(workers_arg(alloc))?
             .arg(collapsers_arg(alloc))?
@@ -177,6 +193,7 @@ fn collapse_command<'a>(alloc: Global) -> Result<Command<'a>, Error> {
     Ok(
         Command::new(alloc, "collapse")
             .about("Joins part files into one")
+            .after_help(FAULTS)
             .arg(target_arg(alloc))?
             .arg(inputs_arg(alloc))?
             .arg(collapsers_arg(alloc))?,
@@ -202,7 +219,7 @@ fn collapsers_arg<'a>(alloc: Global) -> Arg<'a> {
     Arg::new(alloc, "collapsers")
         .long("collapsers")
         .value_name("N")
-        .help("How many threads join them, 1 to 64")
+        .help("How many threads join the points' files, 1 to 64")
         .value_parser(clap::value_parser!(u8).range(1..=i64::from(MOST_COLLAPSERS)))
         .default_value("2")
 }
@@ -210,11 +227,13 @@ fn collapsers_arg<'a>(alloc: Global) -> Arg<'a> {
 fn recover_command<'a>(alloc: Global) -> Result<Command<'a>, Error> {
     let dir = Arg::new(alloc, "DIR")
         .help("The folder of base.pcb, the .pcp files and log.pcl")
+        .value_parser(ValueParser::NonEmptyString)
         .required(true)
         .action(ArgAction::Set);
     Ok(
         Command::new(alloc, "recover")
             .about("Prints the state that a folder's files are worth")
+            .after_help(FAULTS)
             .arg(dir)?,
     )
 }

@@ -9,8 +9,8 @@ use std::fs::File;
 use std::string::String;
 use std::{fs, io};
 
-/// The part files of these paths. Each is tried now and opened once more when it is read, so that of many one is open at a
-/// time. It is an error only where memory ran out.
+/// The part files of these paths. Each is opened when it is read, so that of many one is open at a time. It is an error only where
+/// memory ran out.
 pub fn open_parts<'a>(
     rt: &'a HostRuntime,
     paths: &[&str],
@@ -25,16 +25,19 @@ pub fn open_parts<'a>(
     Ok(files)
 }
 
-// The file, which is there and can be opened, or why it can't be.
+// The file, or why it can't be opened. Of a plain file that is tried before it is read, which changes nothing of it; what isn't one,
+// as a pipe, which is gone once it was opened and closed, is opened when it is read alone.
 fn open_late<'a>(
     rt: &'a HostRuntime,
     path: &str,
 ) -> Result<Result<LateFile<'a>, Refusal>, AllocError> {
-    match fs::open(rt, path) {
-        Ok(_) => {
-            let path = String::from_str(rt.alloc(), path)?;
-            Ok(Ok(LateFile::new(rt, path)))
-        }
+    let file = LateFile::new(rt, String::from_str(rt.alloc(), path)?);
+    let tried = match fs::metadata(rt, path) {
+        Ok(found) if found.is_file() => fs::open(rt, path).map(|_| ()),
+        found => found.map(|_| ()),
+    };
+    match tried {
+        Ok(()) => Ok(Ok(file)),
         Err(e) => Ok(Err(why_not(&e))),
     }
 }
