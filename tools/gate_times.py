@@ -30,7 +30,7 @@ PARTS = ("proof", "tests", "edits")
 TICKS = os.sysconf("SC_CLK_TCK")
 TOLD = re.compile(r"^rt: (\w+( is kept|:? (its tests are )?(NOT )?proved|: trying its must-fail edits \(\d+\)|.* FAILED))")
 # What one check takes of memory at most, in bytes.
-MEMORY = 5e9
+MEMORY = 4e9
 
 
 # Measuring.
