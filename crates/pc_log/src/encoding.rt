@@ -130,6 +130,17 @@ fn put_token<W: io::Write>(out: &mut Tally<W>, phase: Phase, point: Point) -> Re
     out.put_all(&[&[0, 0, 0, 6, TOKEN, phases::number(phase)], &point_bytes])
 }
 
+/// How many bytes the text of the entry takes, which has at most 256 writes.
+pub fn entry_size(entry: &Entry) -> u32
+    requires { HasFewWrites entry.now }
+    ensures { result ≡ length (entry_text entry.now) }
+{
+    match entry {
+        Entry::Commit(_, writes) => 8 + writes_size(writes.as_slice()),
+        Entry::Token(_, _) => 10,
+    }
+}
+
 // How many bytes the writes take, at most 65,797 each.
 fn writes_size(writes: &[Write]) -> u32
     requires { length writes.now ≤ MOST_WRITES }

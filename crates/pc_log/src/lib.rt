@@ -10,7 +10,7 @@ mod order;
 mod phases;
 mod reading;
 
-pub use encoding::{encode_entry, encode_header, encode_log};
+pub use encoding::{encode_entry, encode_header, encode_log, entry_size};
 pub use laws::{
     cut_logs_are_read, log_texts_are_read, logs_of_runs_have_texts, whole_entries_are_longest,
 };

@@ -10,6 +10,16 @@ pub enum Place {
     Step(SessionNo, u32),
     /// The session's transaction has committed.
     Committed(SessionNo),
+    /// One of the requests of the session's transaction has died, and it was aborted.
+    Died(SessionNo),
+    /// The session's job was given up.
+    GaveUp(SessionNo),
+    /// Before the session's client waits until more of the log is written.
+    Behind(SessionNo),
+    /// Before entries of the log are written, so many of which were before.
+    Writing(u32),
+    /// So many entries of the log are written.
+    Written(u32),
     /// Before the change into this phase is asked for.
     Due(Phase),
     /// This phase was entered.
