@@ -32,8 +32,8 @@ pub struct Calls {
     pub log_next: Timed,
 }
 
-// As many entries as a logger asks for at once.
-const BATCH: usize = 64;
+// Room for the text of the entries that are asked for at once, in bytes.
+const ROOM: u32 = 262_144;
 
 const NONE: Timed = Timed {
     count: 0,
@@ -206,7 +206,7 @@ fn time_logging<N: StoreName, R: Wait>(
 ) -> Result<(), Failure> {
     for _ in rt.forever() {
         let start = Instant::now(host)?;
-        let entries = shared.log_next(rt, pass, BATCH)?;
+        let entries = shared.log_next(rt, pass, ROOM)?;
         let noted = timed.note(host, start);
         if entries.is_empty() {
             return noted;

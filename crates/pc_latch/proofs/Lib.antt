@@ -1,3 +1,4 @@
+mod Batching
 mod Growing
 mod Passing
 mod Worths

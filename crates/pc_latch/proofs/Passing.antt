@@ -1,5 +1,5 @@
 -- What a pass has handed out.
-use Rattle.std.proofs.Common.{◌≡◌, ℕ, zero, suc, ◌+◌, ◌≤◌, List, [], ◌∷◌, ◌++◌, length, length-append, take, drop, refl, ap, sym, ◌∙◌, arith}
+use Rattle.std.proofs.Common.{◌≡◌, ℕ, zero, suc, ◌+◌, ◌≤◌, List, [], ◌∷◌, ◌++◌, length, length-append, take, drop, ap, sym, ◌∙◌, arith}
 use Rattle.std.proofs.Math.Seq.{take-add}
 use Rattle.std.proofs.lemmas.List.{take-append-le, length-drop, length-take-le}
 use Rattle.pc_types.specs.declared.Entry.{Entry}
@@ -7,20 +7,10 @@ use Rattle.pc_model.specs.History.{History, log_of}
 use Rattle.pc_model.specs.Calls.{IsBeginning}
 use Rattle.pc_model.proofs.BeginningLaws.{logs_grow}
 
-taken_again : {X : Type 0} (n : ℕ) (xs : List X) → take (length (take n xs)) xs ≡ take n xs
-taken_again zero xs = refl
-taken_again (suc n) [] = refl
-taken_again (suc n) (x ∷ xs) = ap (λ l. x ∷ l) (taken_again n xs)
-
 taken_within : {X : Type 0} (n : ℕ) (xs : List X) → length (take n xs) ≤ length xs
 taken_within zero xs = omega arith
 taken_within (suc n) [] = omega arith
 taken_within (suc n) (x ∷ xs) = let t = taken_within n xs in omega (arith, t)
-
-pub taken_most : {X : Type 0} (n : ℕ) (xs : List X) → length (take n xs) ≤ n
-taken_most zero xs = omega arith
-taken_most (suc n) [] = omega arith
-taken_most (suc n) (x ∷ xs) = let t = taken_most n xs in omega (arith, t)
 
 -- the log has grown
 pub still_within : (n : ℕ) (seen hist : History) → IsBeginning seen hist → n ≤ length (log_of seen) → n ≤ length (log_of hist)
@@ -34,30 +24,23 @@ pub first_length : (n : ℕ) (log given : List Entry) → n ≤ length log → t
 first_length n log given lt is = ap length (sym is) ∙ length-take-le n log lt
 
 -- A pass had handed out n entries of what its witness had seen, which now sees the latch's history; the next entries of the log,
--- at most so many, are handed out.
-module _ (n most size : ℕ) (seen hist now : History) (log next : List Entry) (told : IsBeginning seen hist) (sees : now ≡ hist)
-    (lt : n ≤ length (log_of seen)) (log_is : log ≡ log_of hist) (is : next ≡ take most (drop n log)) (len : size ≡ length next) where
-  next_is : next ≡ take most (drop n (log_of hist))
-  next_is = is ∙ ap (λ (l : List Entry). take most (drop n l)) log_is
+-- so many, are handed out.
+module _ (n size : ℕ) (seen hist now : History) (log next : List Entry) (told : IsBeginning seen hist) (sees : now ≡ hist)
+    (lt : n ≤ length (log_of seen)) (log_is : log ≡ log_of hist) (is : next ≡ take (length next) (drop n log)) (len : size ≡ length next) where
+  next_is : next ≡ take (length next) (drop n (log_of hist))
+  next_is = is ∙ ap (λ (l : List Entry). take (length next) (drop n l)) log_is
 
   log_now : log_of now ≡ log_of hist
   log_now = ap log_of sees
 
   more_first : take (n + size) (log_of hist) ≡ take n (log_of hist) ++ next
   more_first =
-      ap (λ k. take (n + k) (log_of hist)) len ∙ (take-add n (length next) (log_of hist)
-      ∙ ap (λ l. take n (log_of hist) ++ l) (ap (λ l. take (length l) (drop n (log_of hist))) next_is ∙ (taken_again most (drop n (log_of hist)) ∙ sym next_is)))
-
-  all_first : take (n + most) (log_of hist) ≡ take n (log_of hist) ++ next
-  all_first = take-add n most (log_of hist) ∙ ap (λ l. take n (log_of hist) ++ l) (sym next_is)
+      ap (λ k. take (n + k) (log_of hist)) len ∙ (take-add n (length next) (log_of hist) ∙ ap (λ l. take n (log_of hist) ++ l) (sym next_is))
 
   pub more_within : n + size ≤ length log
   more_within =
-      let t = taken_within most (drop n (log_of hist)) in
+      let t = taken_within (length next) (drop n (log_of hist)) in
       omega (arith, t, still_within n seen hist told lt, ap length next_is, length-drop n (log_of hist), len, ap length log_is)
 
   pub more_listed : take (n + size) (log_of now) ≡ take n (log_of seen) ++ next
   more_listed = ap (take (n + size)) log_now ∙ (more_first ∙ ap (λ (l : List Entry). l ++ next) (still_first n seen hist told lt))
-
-  pub more_next : take (n + size) (log_of now) ≡ take (n + most) (log_of hist)
-  more_next = ap (take (n + size)) log_now ∙ (more_first ∙ sym all_first)

@@ -1,5 +1,5 @@
 //! What lies under the latch: the world, and the keeper of its history.
-ghost use Rattle.std.specs.Prelude.{◌≡◌, ◌≤◌, ◌+◌, ◌∷◌, ◌++◌, [], false, IfOk, IfErr, OnOk, OnErr, All, length, take};
+ghost use Rattle.std.specs.Prelude.{◌≡◌, ◌∷◌, ◌++◌, [], false, IfOk, IfErr, OnErr, All, length, drop};
 ghost use Rattle.pc_types.specs.declared.Event.TheVariants.{Take};
 ghost use Rattle.pc_model.specs.FewWrites.{HasFewWrites};
 ghost use Rattle.pc_model.specs.History.{History, log_of, phase_of};
@@ -12,6 +12,7 @@ ghost use Rattle.pc_engine.specs.Asking.{AsksOfOpen};
 ghost use Rattle.pc_engine.specs.Store.{setting_of};
 ghost use Rattle.pc_engine.specs.Stands.{Stands, Follows};
 ghost use Rattle.pc_tie.specs.Seats.{MovesOn};
+ghost use Rattle.pc_latch.specs.Batches.{batch};
 ghost use Rattle.pc_latch.specs.Cycles.{next_event};
 ghost use Rattle.pc_model.specs.Sets as set;
 ghost use Rattle.pc_latch.specs.Tickets.{IsNoTicket};
@@ -146,30 +147,37 @@ impl<N: StoreName> Latched<N> {
         self.call_own(tie, Event::Take)
     }
 
-    /// The next entries of the log, at most so many, after those that the pass has handed out; the pass then has them too.
-    /// Refuses with `OutOfMemory` alone, and the pass stays.
+    /// The next entries of the log after those that the pass has handed out, as long as there is room for so many bytes of text,
+    /// which the last one may go beyond; the pass then has them too. Refuses with `OutOfMemory` alone, and the pass stays.
     pub fn log_next(
         &mut self,
         alloc: Global,
         tie: &Tie<N>,
         pass: &mut LogPass<N>,
-        most: usize,
+        room: u32,
     ) -> Result<Vec<Entry>, Refusal>
         ensures held { self.new ≡ self.old }
         ensures list { IfOk result (λ entries. pass.new ≡ pass.old ++ entries.items) }
-        ensures next { OnOk result (pass.new ≡ take (length pass.old + most) (log_of self.old)) }
-        ensures most { IfOk result (λ entries. length entries.items ≤ most) }
+        ensures next { IfOk result (λ entries. entries.items ≡ batch room (drop (length pass.old) (log_of self.old))) }
+        ensures room { IfOk result (λ entries. batch room entries.items ≡ entries.items) }
         ensures few { IfOk result (λ entries. All HasFewWrites entries.items) }
         ensures same { OnErr result (pass.new ≡ pass.old) }
         ensures memory { IfErr result (λ e. e ≡ Refusal.OutOfMemory) }
     {
         self.keeper.renew(tie, &mut pass.witness);
-        let entries = match next_of(alloc, self.world.log(), pass.count, most) {
+        let entries = match next_of(alloc, self.world.log(), pass.count, room) {
             Ok(entries) => entries,
             Err(why) => return Err(why),
         };
         pass.count += entries.len();
         Ok(entries)
+    }
+
+    /// How many entries the log has, at most 16,777,216.
+    pub fn log_len(&self) -> u32
+        ensures { result ≡ length (log_of self.now) }
+    {
+        self.world.log().len() as u32
     }
 
     /// The world, which stands after the history, and the keeper of the history.

@@ -2,7 +2,9 @@
 ghost use Rattle.std.specs.Prelude.{◌≡◌, ◌≤◌, [], IfOk, IfErr, All, length, take, drop};
 ghost use Rattle.pc_model.specs.FewWrites.{HasFewWrites};
 ghost use Rattle.pc_model.specs.History.{log_of};
+ghost use Rattle.pc_latch.specs.Batches.{batch};
 
+use pc_log::entry_size;
 use pc_tie::{Keeper, StoreName, Tie, Witness};
 use pc_types::{Entry, MOST_LOG_ENTRIES, Refusal};
 use std::alloc::Global;
@@ -86,24 +88,39 @@ fn copied(alloc: Global, entries: &[Entry]) -> Result<Vec<Entry>, Refusal>
     Ok(copies)
 }
 
-// The next entries, at most so many, after the first ones.
+// How many of the entries are handed out, where there is room for so many bytes of text.
+fn batch_len(entries: &[Entry], room: u32) -> usize
+    requires { All HasFewWrites entries.now }
+    ensures within { result ≤ length entries.now }
+    ensures batch { take result entries.now ≡ batch room entries.now }
+{
+    let mut left = room;
+    let mut count = 0;
+    for entry in entries {
+        if left == 0 {
+            return count;
+        }
+        left = left.saturating_sub(entry_size(entry));
+        count += 1;
+    }
+    count
+}
+
+// The next entries after the first ones, as long as there is room for so many bytes of text.
 pub(crate) fn next_of(
     alloc: Global,
     log: &[Entry],
     first: usize,
-    most: usize,
+    room: u32,
 ) -> Result<Vec<Entry>, Refusal>
     requires first { first ≤ length log.now }
     requires few { All HasFewWrites log.now }
-    ensures entries { IfOk result (λ entries. entries.items ≡ take most (drop first log.now)) }
+    ensures entries { IfOk result (λ entries. entries.items ≡ batch room (drop first log.now)) }
+    ensures next { IfOk result (λ entries. entries.items ≡ take (length entries.items) (drop first log.now)) }
     ensures few { IfOk result (λ entries. All HasFewWrites entries.items) }
     ensures memory { IfErr result (λ e. e ≡ Refusal.OutOfMemory) }
 {
     let rest = &log[first..];
-    let next = if rest.len() < most {
-        rest
-    } else {
-        &rest[..most]
-    };
+    let next = &rest[..batch_len(rest, room)];
     copied(alloc, next)
 }

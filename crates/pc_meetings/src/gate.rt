@@ -12,28 +12,36 @@ pub struct Visit(pub Sign, pub u64);
 #[derive(Clone, Copy)]
 pub struct Stop(pub Visit, pub Visit);
 
-/// A gate with stops. At each place it lets other threads go first, so that their ways mix.
+/// A gate with stops, and visits that are made only while nobody stands at it. At each place it lets other threads go first, so
+/// that their ways mix.
 #[derive(Drop)]
 pub struct Meeting {
     stops: &'static [Stop],
+    alone: &'static [Visit],
     counts: Counts,
+    standing: AtomicU64,
     missed: AtomicU64,
 }
 
 // How often who stands looks for the others.
 const TURNS: u32 = 10_000_000;
 
+// How often who has stood lets others run before it goes on.
+const MORE_TURNS: u32 = 1000;
+
 impl Meeting {
     /// Nobody has come yet.
-    pub fn new(stops: &'static [Stop]) -> Meeting {
+    pub fn new(stops: &'static [Stop], alone: &'static [Visit]) -> Meeting {
         Meeting {
             stops,
+            alone,
             counts: Counts::new(),
+            standing: AtomicU64::new(0),
             missed: AtomicU64::new(0),
         }
     }
 
-    /// Whether all came where one stood for them.
+    /// Whether all came where one stood for them, and none while one stood where nobody was to.
     pub fn have_met(&self) -> bool {
         self.missed.load(Ordering::SeqCst) == 0
     }
@@ -46,15 +54,35 @@ impl Meeting {
         }
     }
 
-    // Stands until the visit was made; where it isn't it goes on, and the meeting has failed.
+    // Stands until the visit was made, and some turns more; where it isn't made it goes on, and the meeting has failed.
     fn stand(&self, theirs: Visit) {
+        self.standing.fetch_add(1, Ordering::SeqCst);
+        if !self.is_made(theirs) {
+            self.missed.store(1, Ordering::SeqCst);
+        }
+        for _ in 0..MORE_TURNS {
+            thread::yield_now();
+        }
+        self.standing.fetch_sub(1, Ordering::SeqCst);
+    }
+
+    // Whether the visit was made after some turns.
+    fn is_made(&self, visit: Visit) -> bool {
         for _ in 0..TURNS {
-            if self.counts.get(theirs.0) >= theirs.1 {
-                return;
+            if self.counts.get(visit.0) >= visit.1 {
+                return true;
             }
             thread::yield_now();
         }
-        self.missed.store(1, Ordering::SeqCst);
+        false
+    }
+
+    // Where this is a visit that is made while nobody stands, and somebody does, the meeting has failed.
+    fn be_alone(&self, visit: &Visit, sign: Sign, time: u64) {
+        let Visit(at, which) = *visit;
+        if at == sign && which == time && self.standing.load(Ordering::SeqCst) > 0 {
+            self.missed.store(1, Ordering::SeqCst);
+        }
     }
 }
 
@@ -65,6 +93,9 @@ impl Gate for Meeting {
             return;
         };
         let time = self.counts.note(sign);
+        for visit in self.alone {
+            self.be_alone(visit, sign, time);
+        }
         for stop in self.stops {
             self.stop(stop, sign, time);
         }

@@ -4,7 +4,7 @@ ghost use Rattle.std.specs.Prelude.{◌≡◌, ◌≤◌, [], length};
 use pc_log::encode_log;
 use pc_shared::{Closed, LogPass, Shared};
 use pc_tie::StoreName;
-use pc_types::{Lsn, Refusal, Tally};
+use pc_types::{Lsn, OpenGate, Refusal, Tally};
 use pc_workers::{log_loop, log_rest};
 use std::alloc::Global;
 use std::sync::Wait;
@@ -32,7 +32,7 @@ impl TextOfLog {
     ) -> Result<Lsn, Refusal>
         requires { pass.old ≡ [] }
     {
-        log_loop(rt, shared, pass, &mut self.out)
+        log_loop(rt, shared, pass, &mut self.out, &OpenGate)
     }
 
     /// Writes the rest of a closed log.

@@ -3,7 +3,7 @@ ghost use Rattle.std.specs.Prelude.{◌≡◌, []};
 ghost use Rattle.pc_board.specs.Passes.{IsOfBoard};
 
 use crate::audits::{right_files, take_parts};
-use crate::gate::{Meeting, Stop};
+use crate::gate::{Meeting, Stop, Visit};
 use crate::jobs::Work;
 use crate::receipts::{are_exact, count_of};
 use pc_board::{Board, BoardPass};
@@ -26,7 +26,11 @@ pub struct Plan {
     /// Whether a collapser joins the points' files beside all others.
     pub collapses: bool,
     pub work: Work,
+    /// How many entries a client may leave unwritten behind its commit; where none is given it never waits for the log.
+    pub lag: Option<u32>,
     pub stops: &'static [Stop],
+    /// The visits that are made while nobody stands.
+    pub alone: &'static [Visit],
 }
 
 /// What the threads leave.
@@ -107,6 +111,7 @@ fn run_client<N: StoreName, R: Wait>(
         room.shared,
         session,
         jobs.as_slice(),
+        room.plan.lag,
         room.gate,
     );
     room.done.note(count);
@@ -192,7 +197,7 @@ fn log_beside_collapser<N: StoreName + Send + Sync, R: Threads + Wait + Sync>(
         rt,
         || -> Result<Lsn, Refusal>
             requires { pass.now ≡ [] }
-        { log_loop(rt, room.shared, pass, text) },
+        { log_loop(rt, room.shared, pass, text, room.gate) },
         || -> Result<Vec<PartTicket<N>>, Refusal>
             requires { IsOfBoard theirs.now board.now }
         { collapse(rt, room, board, theirs) },
@@ -268,7 +273,7 @@ pub fn meet<N: StoreName + Send + Sync, R: Threads + Wait + Sync>(
     requires { opened ≡ N.name }
 {
     let jobs = plan.work.jobs(alloc)?;
-    let gate = Meeting::new(plan.stops);
+    let gate = Meeting::new(plan.stops, plan.alone);
     let done = Done::new();
     let mut text = Tally::new(Vec::new(alloc));
     let (shared, mut sessions, mut pass) = opened.named::<N>()?;

@@ -14,6 +14,7 @@ const BESIDE_A_POINT: Plan = Plan {
         &[&[Ask::Put(b'a', 1)]],
         &[&[Ask::Put(b'c', 1)], &[Ask::Put(b'b', 1)]],
     ]),
+    lag: None,
     stops: &[
         Stop(Visit(Sign::PrepareIsDue, 1), Visit(Sign::SecondCommits, 1)),
         Stop(Visit(Sign::FirstStarts, 1), Visit(Sign::EntersResolve, 1)),
@@ -21,6 +22,7 @@ const BESIDE_A_POINT: Plan = Plan {
         Stop(Visit(Sign::FirstSteps, 1), Visit(Sign::SecondCommits, 2)),
         Stop(Visit(Sign::FirstSteps, 1), Visit(Sign::Takes, 1)),
     ],
+    alone: &[],
 };
 
 // Session 1 begins in the third point's phase resolve, and stands with a locked until the collapser holds two of the files. The end
@@ -30,10 +32,12 @@ const COLLAPSE_BESIDE: Plan = Plan {
     points: 3,
     collapses: true,
     work: Work::Listed(&[&[&[Ask::Put(b'a', 1)]]]),
+    lag: None,
     stops: &[
         Stop(Visit(Sign::FirstStarts, 1), Visit(Sign::EntersResolve, 3)),
         Stop(Visit(Sign::FirstSteps, 1), Visit(Sign::Pairs, 1)),
     ],
+    alone: &[],
 };
 
 // Session 1 begins once session 2 has committed, and reads what that has written.
@@ -42,7 +46,9 @@ const READ_BACK: Plan = Plan {
     points: 0,
     collapses: false,
     work: Work::Listed(&[&[&[Ask::Get(b'k')]], &[&[Ask::Put(b'k', 1)]]]),
+    lag: None,
     stops: &[Stop(Visit(Sign::FirstStarts, 1), Visit(Sign::SecondCommits, 1))],
+    alone: &[],
 };
 
 // Each session stands with a key of its own locked until the other one does.
@@ -51,10 +57,12 @@ const SESSIONS_MEET: Plan = Plan {
     points: 0,
     collapses: false,
     work: Work::Listed(&[&[&[Ask::Put(b'a', 1)]], &[&[Ask::Put(b'b', 1)]]]),
+    lag: None,
     stops: &[
         Stop(Visit(Sign::FirstSteps, 1), Visit(Sign::SecondSteps, 1)),
         Stop(Visit(Sign::SecondSteps, 1), Visit(Sign::FirstSteps, 1)),
     ],
+    alone: &[],
 };
 
 // Session 2 is the younger one. It asks for what session 1 has locked, dies, and begins again; session 1 commits only then, and
@@ -67,11 +75,13 @@ const YOUNGER_DIES: Plan = Plan {
         &[&[Ask::Put(b'a', 1)]],
         &[&[Ask::Put(b'b', 2), Ask::Put(b'a', 2)]],
     ]),
+    lag: None,
     stops: &[
         Stop(Visit(Sign::SecondStarts, 1), Visit(Sign::FirstSteps, 1)),
         Stop(Visit(Sign::FirstSteps, 1), Visit(Sign::SecondStarts, 2)),
         Stop(Visit(Sign::SecondStarts, 2), Visit(Sign::FirstCommits, 1)),
     ],
+    alone: &[],
 };
 
 // What session 3 puts beside a session that waits, each in a transaction of its own.
@@ -88,12 +98,14 @@ const OLDER_WAITS: Plan = Plan {
         &[&[Ask::Put(b'k', 2)]],
         &SIXTY,
     ]),
+    lag: None,
     stops: &[
         Stop(Visit(Sign::SecondStarts, 1), Visit(Sign::FirstSteps, 1)),
         Stop(Visit(Sign::FirstSteps, 1), Visit(Sign::SecondSteps, 1)),
         Stop(Visit(Sign::ThirdStarts, 1), Visit(Sign::SecondSteps, 1)),
         Stop(Visit(Sign::SecondSteps, 1), Visit(Sign::ThirdCommits, 60)),
     ],
+    alone: &[],
 };
 
 // Four sessions put keys of their own, a thousand each.
@@ -102,7 +114,9 @@ const APART: Plan = Plan {
     points: 0,
     collapses: false,
     work: Work::Made(4, 1000, Made::Apart),
+    lag: None,
     stops: &[],
+    alone: &[],
 };
 
 // As many sessions as there may be, over ten keys, beside points.
@@ -111,17 +125,39 @@ const CROWD: Plan = Plan {
     points: 8,
     collapses: false,
     work: Work::Made(64, 2, Made::Crowded),
+    lag: None,
     stops: &[],
+    alone: &[],
+};
+
+// Session 1 commits three times and may leave one entry unwritten. The logger stands before it writes until session 1 waits for it;
+// session 1 commits for the second time only once the logger has gone on.
+const LOG_HOLDS: Plan = Plan {
+    sessions: 1,
+    points: 0,
+    collapses: false,
+    work: Work::Listed(&[&[
+        &[Ask::Put(b'a', 1)],
+        &[Ask::Put(b'a', 2)],
+        &[Ask::Put(b'a', 3)],
+    ]]),
+    lag: Some(1),
+    stops: &[Stop(
+        Visit(Sign::LoggerIsToWrite, 1),
+        Visit(Sign::FirstIsBehind, 1),
+    )],
+    alone: &[Visit(Sign::FirstCommits, 2)],
 };
 
 /// All of them, with their names.
-pub const PLANS: [(&str, Plan); 8] = [
+pub const PLANS: [(&str, Plan); 9] = [
     ("beside a point", BESIDE_A_POINT),
     ("collapse beside", COLLAPSE_BESIDE),
     ("read back", READ_BACK),
     ("sessions meet", SESSIONS_MEET),
     ("the younger one dies", YOUNGER_DIES),
     ("the older one waits", OLDER_WAITS),
+    ("the log holds a client", LOG_HOLDS),
     ("four apart", APART),
     ("a crowd over ten keys", CROWD),
 ];

@@ -3,8 +3,8 @@ use pc_types::{Phase, Place, SessionNo};
 use std::sync::atomic::{AtomicU64, Ordering};
 
 /// A place that is counted: of sessions 1 and 2 the beginnings of transactions, their first operations and their commits; of
-/// session 3 the beginnings and the commits; of the checkpointer some of its phases, and its keys; and how often the first
-/// collapser holds two files.
+/// session 3 the beginnings and the commits; that session 1 waits for the log, and that the logger is to write; of the checkpointer
+/// some of its phases, and its keys; and how often the first collapser holds two files.
 #[derive(Clone, Copy, Debug, PartialEq, Eq)]
 pub enum Sign {
     FirstStarts,
@@ -15,6 +15,8 @@ pub enum Sign {
     FirstCommits,
     SecondCommits,
     ThirdCommits,
+    FirstIsBehind,
+    LoggerIsToWrite,
     PrepareIsDue,
     EntersResolve,
     EntersComplete,
@@ -33,6 +35,8 @@ pub fn sign_of(place: Place) -> Option<Sign> {
         Place::Committed(SessionNo(1)) => Some(Sign::FirstCommits),
         Place::Committed(SessionNo(2)) => Some(Sign::SecondCommits),
         Place::Committed(SessionNo(3)) => Some(Sign::ThirdCommits),
+        Place::Behind(SessionNo(1)) => Some(Sign::FirstIsBehind),
+        Place::Writing(_) => Some(Sign::LoggerIsToWrite),
         Place::Due(Phase::Prepare) => Some(Sign::PrepareIsDue),
         Place::Entered(Phase::Resolve) => Some(Sign::EntersResolve),
         Place::Entered(Phase::Complete) => Some(Sign::EntersComplete),
@@ -45,7 +49,7 @@ pub fn sign_of(place: Place) -> Option<Sign> {
 /// How often each was passed.
 #[derive(Drop)]
 pub struct Counts {
-    counts: [AtomicU64; 13],
+    counts: [AtomicU64; 15],
 }
 
 impl Counts {
@@ -53,6 +57,8 @@ impl Counts {
     pub fn new() -> Counts {
         Counts {
             counts: [
+                AtomicU64::new(0),
+                AtomicU64::new(0),
                 AtomicU64::new(0),
                 AtomicU64::new(0),
                 AtomicU64::new(0),

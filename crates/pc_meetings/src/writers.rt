@@ -76,7 +76,7 @@ pub fn run_jobs<N: StoreName, R: Wait>(
     let Count {
         commits,
         given_up: _,
-    } = client_loop(rt, alloc, shared, session, &jobs, &OpenGate);
+    } = client_loop(rt, alloc, shared, session, &jobs, None, &OpenGate);
     Ok(commits)
 }
 

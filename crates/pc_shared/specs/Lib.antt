@@ -2,3 +2,4 @@ pub mod Asked
 pub mod Answers
 pub mod Finds
 pub mod Sitters
+pub mod Written

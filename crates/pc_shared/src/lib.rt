@@ -3,6 +3,7 @@
 
 mod asks;
 mod closing;
+mod logged;
 mod session;
 mod store;
 mod waits;

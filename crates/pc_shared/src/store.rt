@@ -1,5 +1,5 @@
 //! The store that threads share.
-ghost use Rattle.std.specs.Prelude.{◌≡◌, ◌≢◌, ◌≤◌, ◌<◌, ◌⊎◌, ◌++◌, [], false, length, IfOk, IfErr, OnErr, All, MatchBool};
+ghost use Rattle.std.specs.Prelude.{◌≡◌, ◌≢◌, ◌≤◌, ◌<◌, ◌⊎◌, ◌++◌, [], false, length, IfOk, IfErr, IfSome, OnErr, All, MatchBool};
 ghost use Rattle.pc_model.specs.FewWrites.{HasFewWrites};
 ghost use Rattle.pc_model.specs.Maps.{len};
 ghost use Rattle.pc_model.specs.Calls.{session_of, counts, IsAnswered};
@@ -10,6 +10,7 @@ ghost use Rattle.pc_engine.specs.Runs.{starting};
 ghost use Rattle.pc_engine.specs.Stands.{Stands};
 ghost use Rattle.pc_engine.specs.Store.{setting_of};
 ghost use Rattle.pc_tie.specs.Seats.{MovesOn};
+ghost use Rattle.pc_latch.specs.Batches.{batch};
 ghost use Rattle.pc_latch.specs.Cycles.{IsAdvance, IsTaken};
 ghost use Rattle.pc_model.specs.History.{History};
 ghost use Rattle.pc_model.specs.Sets as set;
@@ -18,6 +19,7 @@ ghost use Rattle.pc_shared.specs.Asked.{is_wait};
 ghost use Rattle.pc_shared.specs.Sitters.{new_sitters, IsLeft, AreApart, HasAll, LacksOne};
 
 use crate::closing::{Closed, close};
+use crate::logged::Logged;
 use crate::session::Session;
 use crate::waits::{News, Waits, Woken, is_wait};
 use pc_engine::World;
@@ -25,10 +27,11 @@ use pc_latch::{Latched, LogPass, PartTicket};
 use pc_part::Base;
 use pc_receipts::Work;
 use pc_tie::{Keeper, SessionSeat, StoreName, Tie, Untied};
-use pc_types::{Entry, FileNo, MOST_KEYS, MOST_SESSIONS, Refusal, Reply, Step};
+use pc_types::{Entry, FileNo, Lsn, MOST_KEYS, MOST_SESSIONS, Refusal, Reply, Step};
 use std::alloc::Global;
 use std::hash::RandomState;
 use std::marker::Model;
+use std::sync::atomic::{AtomicU64, Ordering};
 use std::sync::{Condvar, Mutex, MutexGuard, Wait};
 use std::thread;
 
@@ -118,7 +121,10 @@ impl Opened {
             granted: Condvar::new(),
             changed: Condvar::new(),
             turned: Condvar::new(),
+            committed: Condvar::new(),
             repeating: Mutex::new(Turn),
+            found_taken: AtomicU64::new(0),
+            logged: Logged::new(),
             count,
         };
         Ok((shared, sessions, pass))
@@ -135,7 +141,11 @@ pub struct Shared<N: StoreName> {
     pub(crate) granted: Condvar,
     pub(crate) changed: Condvar,
     pub(crate) turned: Condvar,
+    committed: Condvar,
     repeating: Mutex<Turn>,
+    // How often somebody has found the latch taken.
+    found_taken: AtomicU64,
+    pub(crate) logged: Logged,
     pub(crate) count: u8,
     ghost count_is: { N.name.setting.sessions ≡ count },
 }
@@ -174,6 +184,9 @@ const FIRST_PAUSE: u32 = 16;
 
 const LONGEST_PAUSE: u32 = 256;
 
+// How often who gives way lets others run: about twice as long as the checkpointer takes keys before it does.
+const WAY: u32 = 64;
+
 /// Lets other threads run, so many times: each is a call of the system, and a moment also where no other thread is ready.
 pub fn pause(times: u32) {
     for _ in 0..times {
@@ -184,12 +197,16 @@ pub fn pause(times: u32) {
 impl<N: StoreName> Shared<N> {
     // Gets the latch.
     fn get_latch<R: Wait>(&self, rt: &R) -> MutexGuard<'_, Held<N>> {
+        if let Some(held) = self.latch.try_lock() {
+            return held;
+        }
+        self.found_taken.fetch_add(1, Ordering::SeqCst);
         let mut times = FIRST_PAUSE;
         for _ in 0..LOOKS {
+            pause(times);
             if let Some(held) = self.latch.try_lock() {
                 return held;
             }
-            pause(times);
             times = times.saturating_mul(2).min(LONGEST_PAUSE);
         }
         self.latch.lock(rt)
@@ -206,6 +223,19 @@ impl<N: StoreName> Shared<N> {
         if woken.for_phase {
             self.turned.notify_all();
         }
+        if woken.for_commit {
+            self.committed.notify_all();
+        }
+    }
+
+    /// Lets others run for a while, where somebody has found the latch taken since that had come so many times; how often it now
+    /// has. Who makes many calls one after the other is to do so now and then, since others hardly get the latch meanwhile.
+    pub fn give_way(&self, seen: u64) -> u64 {
+        let now = self.found_taken.load(Ordering::SeqCst);
+        if now != seen {
+            pause(WAY);
+        }
+        now
     }
 
     // Asks the step's event until it is answered; the step has the reply then. While its request waits, which no other session
@@ -271,22 +301,22 @@ impl<N: StoreName> Shared<N> {
         reply
     }
 
-    /// The next entries of the log, at most so many, after those that the pass has handed out; the pass then has them too.
-    /// Refuses with `OutOfMemory` alone, and the pass stays.
+    /// The next entries of the log after those that the pass has handed out, as long as there is room for so many bytes of text,
+    /// which the last one may go beyond; the pass then has them too. Refuses with `OutOfMemory` alone, and the pass stays.
     pub fn log_next<R: Wait>(
         &self,
         rt: &R,
         pass: &mut LogPass<N>,
-        most: usize,
+        room: u32,
     ) -> Result<Vec<Entry>, Refusal>
         ensures list { IfOk result (λ entries. pass.new ≡ pass.old ++ entries.items) }
-        ensures most { IfOk result (λ entries. length entries.items ≤ most) }
+        ensures room { IfOk result (λ entries. batch room entries.items ≡ entries.items) }
         ensures few { IfOk result (λ entries. All HasFewWrites entries.items) }
         ensures same { OnErr result (pass.new ≡ pass.old) }
         ensures memory { IfErr result (λ e. e ≡ Refusal.OutOfMemory) }
     {
         let mut held = self.get_latch(rt);
-        held.latched.log_next(self.alloc, &self.tie, pass, most)
+        held.latched.log_next(self.alloc, &self.tie, pass, room)
     }
 
     /// Ends the store, and tells by one legal history what it leaves: the base that it started from and the log of that history,
@@ -312,7 +342,10 @@ impl<N: StoreName> Shared<N> {
             granted: _,
             changed: _,
             turned: _,
+            committed: _,
             repeating: _,
+            found_taken: _,
+            logged: _,
             count,
         } = self;
         let Held { latched, waits: _ } = latch.into_inner();
@@ -362,6 +395,37 @@ impl<N: StoreName> Shared<N> {
             held.waits.end_waiting(news);
         }
         unreachable!()
+    }
+
+    /// The number of the log's last entry, 0 where it has none.
+    pub fn last_entry<R: Wait>(&self, rt: &R) -> Lsn {
+        Lsn(self.get_latch(rt).latched.log_len())
+    }
+
+    /// Waits until the log has the entry of this number, and gives the number of its last one; nothing where it hasn't, and the
+    /// last commit or the end was marked.
+    pub fn until_committed<R: Wait>(&self, rt: &R, number: Lsn) -> Option<Lsn>
+        ensures { IfSome result (λ last. number ≤ last) }
+    {
+        let mut held = self.get_latch(rt);
+        for _ in rt.forever() {
+            let last = held.latched.log_len();
+            if number.0 <= last {
+                return Some(Lsn(last));
+            }
+            if held.waits.is_last() {
+                return None;
+            }
+            held.waits.await_commit(number.0);
+            held = self.committed.wait(rt, held);
+        }
+        unreachable!()
+    }
+
+    /// Marks that no client commits any more, for who waits for a commit.
+    pub fn mark_last_commit<R: Wait>(&self, rt: &R) {
+        self.get_latch(rt).waits.mark_last();
+        self.committed.notify_all();
     }
 
     /// Waits for the turn to begin again what has died, and has it until it is dropped; no two threads have it at once. A thread

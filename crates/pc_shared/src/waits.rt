@@ -36,15 +36,20 @@ impl Awaited {
     }
 }
 
-/// How many calls wait for a lock, how often the store and its phase have changed and how many calls wait for that, and whether
-/// the end was marked.
+/// How many calls wait for a lock, how often the store and its phase have changed and how many calls wait for that, which entry of
+/// the log is waited for first, and whether the last commit and the end were marked.
 #[derive(Drop)]
 pub struct Waits {
     pub(crate) for_locks: u64,
     changes: Awaited,
     phases: Awaited,
+    due: u32,
+    has_last: bool,
     pub(crate) has_ended: bool,
 }
+
+// No entry is waited for: none has this number.
+const NONE_DUE: u32 = u32::MAX;
 
 /// Who is to be woken.
 #[derive(Drop)]
@@ -52,6 +57,7 @@ pub struct Woken {
     pub(crate) for_locks: bool,
     pub(crate) for_change: bool,
     pub(crate) for_phase: bool,
+    pub(crate) for_commit: bool,
 }
 
 // Whether the reply says that the session's request waits: it was put into its queue now, or stands there ungranted.
@@ -86,6 +92,8 @@ impl Waits {
             for_locks: 0,
             changes: Awaited::new(),
             phases: Awaited::new(),
+            due: NONE_DUE,
+            has_last: false,
             has_ended: false,
         }
     }
@@ -124,6 +132,7 @@ impl Waits {
             for_locks: ends_transaction(reply) && self.for_locks > 0,
             for_change: is_change(reply) && self.changes.come(),
             for_phase: is_phase(reply) && self.phases.come(),
+            for_commit: self.is_due(reply),
         }
     }
 
@@ -134,6 +143,34 @@ impl Waits {
             for_locks: false,
             for_change: self.changes.come(),
             for_phase: self.phases.come(),
+            for_commit: true,
         }
+    }
+
+    // Marks the last commit.
+    pub(crate) fn mark_last(&mut self) {
+        self.has_last = true;
+    }
+
+    // Whether no further commit is waited for.
+    pub(crate) fn is_last(&self) -> bool {
+        self.has_last || self.has_ended
+    }
+
+    // The entry of this number is waited for too.
+    pub(crate) fn await_commit(&mut self, number: u32) {
+        self.due = self.due.min(number);
+    }
+
+    // Whether the reply tells of a commit for which somebody waits; then nobody waits any more, until it is said again.
+    fn is_due(&mut self, reply: &Reply) -> bool {
+        let Reply::Committed(number) = reply else {
+            return false;
+        };
+        if number.0 < self.due {
+            return false;
+        }
+        self.due = NONE_DUE;
+        true
     }
 }

@@ -1,5 +1,6 @@
 -- What a logger writes, piece after piece; and that its text and the rest's are together the text of the whole log.
-use Rattle.std.proofs.Common.{◌≡◌, ◌⊎◌, ℕ, List, ◌++◌, take, drop, Option, Ok, Err, sym, ap, subst, ◌∙◌, inl, inr, append_assoc}
+use Rattle.std.proofs.Common.{◌≡◌, ◌⊎◌, ℕ, List, ◌++◌, take, drop, Option, Some, None, Ok, Err, sym, ap, subst, ◌∙◌, inl, inr, append_assoc, arith}
+use Rattle.std.specs.Io.KnownBytes.{Appends, Keeps}
 use Rattle.std.specs.List.{flat_map}
 use Rattle.std.proofs.lemmas.List.{take-append-drop}
 use Rattle.std.proofs.lemmas.List.Concat.{flat_map-append}
@@ -8,9 +9,11 @@ use Rattle.pc_types.specs.declared.Entry.{Entry}
 use Rattle.pc_types.specs.declared.refusal.Refusal.{Refusal}
 use Rattle.pc_types.specs.declared.refusal.Refusal.TheVariants.{OutOfMemory}
 use Rattle.pc_types.specs.declared.tally.Tally.{Tally}
+use Rattle.pc_types.proofs.KnownBytesLaws.{appends_then}
 use Rattle.pc_types.proofs.PutsLaws.{puts_then}
 use Rattle.pc_log.specs.Texts.{header_text, entry_text, log_text}
-use Rattle.pc_workers.specs.Logging.{rest_text}
+use Rattle.pc_shared.specs.Written.{HasGoneOut}
+use Rattle.pc_workers.specs.Logging.{FailsBehind, Flushes, rest_text}
 
 -- the text of a log is that of its beginning, and behind it that of the others
 more_text : (run : ℕ) (before more after : List Entry) → after ≡ before ++ more → log_text run before ++ flat_map entry_text more ≡ log_text run after
@@ -18,7 +21,26 @@ more_text run before more after is =
     append_assoc (header_text run) (flat_map entry_text before) (flat_map entry_text more)
     ∙ ap (λ (t : List ℕ). header_text run ++ t) (sym (flat_map-append entry_text before more)) ∙ ap (log_text run) (sym is)
 
+-- known bytes that have grown and then stay
+grown_stays : (a b c : Option (List ℕ)) (x : List ℕ) → Appends a b x → Keeps b c → Appends a c x
+grown_stays None b c x p q = tt
+grown_stays (Some a) None c x p q = absurd p
+grown_stays (Some a) (Some b) None x p q = absurd q
+grown_stays (Some a) (Some b) (Some c) x p q = q ∙ p
+
 module _ {T : Type 0} (contents : T → Option (List ℕ)) where
+  -- a text that went out, and then a flush
+  pub flushed : (a b c : Tally T) (x : List ℕ) → Puts contents a b (Ok tt) x → Flushes contents b c (Ok tt) → Puts contents a c (Ok tt) x
+  flushed a b c x p q = (grown_stays (contents a.inner) (contents b.inner) (contents c.inner) x p.0 q.0, q.1 ∙ p.1)
+
+  -- or one that failed
+  pub flush_failed : (a b c : Tally T) (e : Refusal) (x : List ℕ) → Puts contents a b (Ok tt) x → Flushes contents b c (Err e) → FailsBehind contents a c e x
+  flush_failed a b c e x p q = (q.0, omega (arith, q.1, p.1), grown_stays (contents a.inner) (contents b.inner) (contents c.inner) x p.0 q.2)
+
+  -- a flush that failed behind another text
+  fails_then : (a b c : Tally T) (e : Refusal) (x y : List ℕ) → Puts contents a b (Ok tt) x → FailsBehind contents b c e y → FailsBehind contents a c e (x ++ y)
+  fails_then a b c e x y p q = (q.0, omega (arith, q.1, p.1), appends_then (contents a.inner) (contents b.inner) (contents c.inner) x y p.0 q.2)
+
   -- more entries, behind those whose text has gone out
   pub logs_on : (a b c : Tally T) (run : ℕ) (before more after : List Entry) → after ≡ before ++ more → Puts contents a b (Ok tt) (log_text run before)
       → Puts contents b c (Ok tt) (flat_map entry_text more) → Puts contents a c (Ok tt) (log_text run after)
@@ -26,15 +48,25 @@ module _ {T : Type 0} (contents : T → Option (List ℕ)) where
       subst (λ (t : List ℕ). Puts contents a c (Ok tt) t) (more_text run before more after is)
       (puts_then contents a b c (Ok tt) (log_text run before) (flat_map entry_text more) p q)
 
+  -- memory ran out behind the text, or the device failed in it or behind it
+  abbrev Stops : Tally T → Tally T → Refusal → List ℕ → Type 0
+  Stops old new e text = ((e ≡ OutOfMemory) × Puts contents old new (Ok tt) text) ⊎ (Puts contents old new (Err e) text ⊎ FailsBehind contents old new e text)
+
   -- the last entries, where memory ran out or the device failed
   pub logs_stop : (a b c : Tally T) (e : Refusal) (run : ℕ) (before more after : List Entry) → after ≡ before ++ more → Puts contents a b (Ok tt) (log_text run before)
-      → ((e ≡ OutOfMemory) × Puts contents b c (Ok tt) (flat_map entry_text more)) ⊎ Puts contents b c (Err e) (flat_map entry_text more)
-      → ((e ≡ OutOfMemory) × Puts contents a c (Ok tt) (log_text run after)) ⊎ Puts contents a c (Err e) (log_text run after)
+      → Stops b c e (flat_map entry_text more) → Stops a c e (log_text run after)
   logs_stop a b c e run before more after is p (inl h) = inl (h.0, logs_on a b c run before more after is p h.1)
-  logs_stop a b c e run before more after is p (inr h) =
-      inr
+  logs_stop a b c e run before more after is p (inr (inl h)) =
+      inr (inl
       (subst (λ (t : List ℕ). Puts contents a c (Err e) t) (more_text run before more after is)
-      (puts_then contents a b c (Err e) (log_text run before) (flat_map entry_text more) p h))
+      (puts_then contents a b c (Err e) (log_text run before) (flat_map entry_text more) p h)))
+  logs_stop a b c e run before more after is p (inr (inr h)) =
+      inr (inr (subst (λ (t : List ℕ). FailsBehind contents a c e t) (more_text run before more after is) (fails_then a b c e (log_text run before) (flat_map entry_text more) p h)))
+
+  -- what has gone out, and more entries behind it
+  pub gone_out : (b c : Tally T) (run : ℕ) (before more after : List Entry) → after ≡ before ++ more → HasGoneOut contents b (log_text run before)
+      → Puts contents b c (Ok tt) (flat_map entry_text more) → HasGoneOut contents c (log_text run after)
+  gone_out b c run before more after is out q = (out.0, logs_on out.0 b c run before more after is out.1 q)
 
   -- Where the logger has written the entries that were handed out, which are the first of the log, so many, and then the rest
   -- has gone out, the text of the whole log has.

@@ -1,18 +1,29 @@
 -- What a logger writes.
 use Rattle.std.specs.Prelude.{◌≡◌, ◌⊎◌, ◌++◌, ℕ, List, Option, Result, Ok, Err, drop}
 use Rattle.std.specs.List.{flat_map}
+use Rattle.std.specs.Io.KnownBytes.{Appends, Keeps}
+use Rattle.pc_types.specs.Counted.{HasRisen}
 use Rattle.pc_types.specs.Tallies.{Puts}
 use Rattle.pc_types.specs.declared.Entry.{Entry}
 use Rattle.pc_types.specs.declared.refusal.Refusal.{Refusal}
-use Rattle.pc_types.specs.declared.refusal.Refusal.TheVariants.{OutOfMemory}
+use Rattle.pc_types.specs.declared.refusal.Refusal.TheVariants.{OutOfMemory, Device}
 use Rattle.pc_types.specs.declared.tally.Tally.{Tally}
 use Rattle.pc_log.specs.Texts.{entry_text}
 
+-- What was written before goes out of whatever keeps it; or the device failed.
+abbrev pub Flushes : {T : Type 0} → (T → Option (List ℕ)) → Tally T → Tally T → Result (Unit {0}) Refusal → Type 0
+Flushes contents old new (Ok u) = Keeps (contents old.inner) (contents new.inner) × (new.failures ≡ old.failures)
+Flushes contents old new (Err e) = (e ≡ Device) × HasRisen old.failures new.failures × Keeps (contents old.inner) (contents new.inner)
+
+-- all of the text went out, and then a flush failed
+abbrev pub FailsBehind : {T : Type 0} → (T → Option (List ℕ)) → Tally T → Tally T → Refusal → List ℕ → Type 0
+FailsBehind contents old new e text = (e ≡ Device) × HasRisen old.failures new.failures × Appends (contents old.inner) (contents new.inner) text
+
 -- All of the text went out, on Ok and where memory ran out; or the device failed, and then a beginning of the text went out,
--- but not all of it.
+-- but not all of it, or all of it, and a flush failed.
 abbrev pub Logged : {T X : Type 0} → (T → Option (List ℕ)) → Tally T → Tally T → Result X Refusal → List ℕ → Type 0
 Logged contents old new (Ok x) text = Puts contents old new (Ok tt) text
-Logged contents old new (Err e) text = ((e ≡ OutOfMemory) × Puts contents old new (Ok tt) text) ⊎ Puts contents old new (Err e) text
+Logged contents old new (Err e) text = ((e ≡ OutOfMemory) × Puts contents old new (Ok tt) text) ⊎ (Puts contents old new (Err e) text ⊎ FailsBehind contents old new e text)
 
 -- more entries were handed out, and so was their text written
 abbrev pub LogsMore : {T X : Type 0} → (T → Option (List ℕ)) → Tally T → Tally T → Result X Refusal → List Entry → List Entry → Type 0

@@ -43,7 +43,10 @@ fn enter<N: StoreName, R: Wait, G: Gate>(
     Ok(())
 }
 
-// Takes the keys of the point, until none is left.
+// The checkpointer gives way after so many takes.
+const TAKES: u32 = 32;
+
+// Takes the keys of the point, until none is left, and gives way to others between them.
 fn take_keys<N: StoreName, R: Wait, G: Gate>(
     rt: &R,
     shared: &Shared<N>,
@@ -51,11 +54,17 @@ fn take_keys<N: StoreName, R: Wait, G: Gate>(
 ) -> Result<(), Refusal>
     ensures { IfErr result (λ why. IsTaken N.name.setting (Refused why)) }
 {
+    let mut takes = 0u32;
+    let mut seen = 0;
     for _ in rt.forever() {
         match shared.take(rt) {
             Reply::NoneLeft => return Ok(()),
             Reply::Refused(why) => return Err(why),
             _ => gate.pass(Place::Took),
+        }
+        takes = takes.wrapping_add(1);
+        if takes.is_multiple_of(TAKES) {
+            seen = shared.give_way(seen);
         }
     }
     unreachable!()

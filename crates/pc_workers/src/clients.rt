@@ -5,7 +5,7 @@ ghost use Rattle.pc_workers.specs.Clients.{HasCommitted, HasRun, done_by, writte
 use pc_jobs::{Job, Op};
 use pc_shared::{Answer, Session, Shared, pause};
 use pc_tie::StoreName;
-use pc_types::{Gate, Place, Refusal};
+use pc_types::{Gate, Lsn, Place, Refusal};
 use std::alloc::Global;
 use std::sync::Wait;
 
@@ -101,6 +101,25 @@ fn make_all<N: StoreName, R: Wait, G: Gate>(
     Ok(true)
 }
 
+// The session has committed this entry: it waits until no more than so many up to it aren't written, as long as more will be.
+fn hold<N: StoreName, R: Wait, G: Gate>(
+    rt: &R,
+    shared: &Shared<N>,
+    session: &Session<N>,
+    entry: Lsn,
+    lag: Option<u32>,
+    gate: &G,
+) {
+    let Some(lag) = lag else {
+        return;
+    };
+    let due = Lsn(entry.0.saturating_sub(lag));
+    if !shared.is_logged(due) {
+        gate.pass(Place::Behind(session.number()));
+        let _ = shared.until_logged(rt, due);
+    }
+}
+
 // Begins, makes the operations and commits; where it doesn't commit, the transaction stays open, if it was begun.
 fn transact<N: StoreName, R: Wait, G: Gate>(
     rt: &R,
@@ -108,6 +127,7 @@ fn transact<N: StoreName, R: Wait, G: Gate>(
     shared: &Shared<N>,
     session: &mut Session<N>,
     ops: &[Op],
+    lag: Option<u32>,
     gate: &G,
 ) -> Ended
     ensures { HasCommitted (done_by result (wrote_all [] ops.now)) session.old session.new }
@@ -122,9 +142,10 @@ fn transact<N: StoreName, R: Wait, G: Gate>(
         Ok(false) => return Ended::Died,
         Err(_) => return Ended::Refused,
     }
-    if shared.commit(rt, session).is_err() {
+    let Ok(entry) = shared.commit(rt, session) else {
         return Ended::Refused;
-    }
+    };
+    hold(rt, shared, session, entry, lag, gate);
     gate.pass(Place::Committed(number));
     Ended::Committed
 }
@@ -136,17 +157,23 @@ fn attempt<N: StoreName, R: Wait, G: Gate>(
     shared: &Shared<N>,
     session: &mut Session<N>,
     ops: &[Op],
+    lag: Option<u32>,
     gate: &G,
 ) -> Ended
     ensures { HasCommitted (done_by result (wrote_all [] ops.now)) session.old session.new }
 {
-    match transact(rt, alloc, shared, session, ops, gate) {
-        Ended::Committed => Ended::Committed,
-        ended => {
+    let ended = transact(rt, alloc, shared, session, ops, lag, gate);
+    match ended {
+        Ended::Committed => {}
+        Ended::Died => {
             let _ = shared.abort(rt, session);
-            ended
+            gate.pass(Place::Died(session.number()));
+        }
+        Ended::Refused => {
+            let _ = shared.abort(rt, session);
         }
     }
+    ended
 }
 
 // Runs the job again, until it doesn't die, and answers how it ended the last time. Before each time it lets others run, so that
@@ -157,6 +184,7 @@ fn repeat<N: StoreName, R: Wait, G: Gate>(
     shared: &Shared<N>,
     session: &mut Session<N>,
     ops: &[Op],
+    lag: Option<u32>,
     gate: &G,
 ) -> Ended
     ensures { HasCommitted (done_by result (wrote_all [] ops.now)) session.old session.new }
@@ -164,7 +192,7 @@ fn repeat<N: StoreName, R: Wait, G: Gate>(
     let mut times = 1u32;
     for _ in 0..MOST_REPEATS {
         pause(times);
-        match attempt(rt, alloc, shared, session, ops, gate) {
+        match attempt(rt, alloc, shared, session, ops, lag, gate) {
             Ended::Died => {}
             ended => return ended,
         }
@@ -181,23 +209,30 @@ fn run<N: StoreName, R: Wait, G: Gate>(
     shared: &Shared<N>,
     session: &mut Session<N>,
     job: &Job,
+    lag: Option<u32>,
     gate: &G,
 ) -> Ended
     ensures { HasCommitted (done_by result (writes_of job.now)) session.old session.new }
 {
     let ops = job.ops.as_slice();
-    match attempt(rt, alloc, shared, session, ops, gate) {
+    let ended = match attempt(rt, alloc, shared, session, ops, lag, gate) {
         Ended::Died => {
             let _turn = shared.turn_to_repeat(rt);
-            repeat(rt, alloc, shared, session, ops, gate)
+            repeat(rt, alloc, shared, session, ops, lag, gate)
         }
         ended => ended,
+    };
+    if !matches!(ended, Ended::Committed) {
+        gate.pass(Place::GaveUp(session.number()));
     }
+    ended
 }
 
 /// The session runs the jobs in order, each as a transaction. Where a request died the transaction is aborted and the job is
 /// begun again, at most 10,000 times, by one client of the store at a time; after that, and after any refusal, its open
-/// transaction is aborted and the job is given up. Want of memory for the copy of a key or a value counts as a refusal. Answers
+/// transaction is aborted and the job is given up. Want of memory for the copy of a key or a value counts as a refusal. Where there
+/// is a lag, the client goes on from a commit once no more than so many entries, up to that of the commit, aren't marked as
+/// written, or no more will be: with 0 once its own is. It passes the gate at each of the places that `Place` has of a client. Answers
 /// how many jobs were committed, each of which has added a receipt with what the job writes, in their order, and how many were
 /// given up.
 pub fn client_loop<N: StoreName, R: Wait, G: Gate>(
@@ -206,6 +241,7 @@ pub fn client_loop<N: StoreName, R: Wait, G: Gate>(
     shared: &Shared<N>,
     session: &mut Session<N>,
     jobs: &[Job],
+    lag: Option<u32>,
     gate: &G,
 ) -> Count
     ensures run { HasRun jobs.now result.commits session.old session.new }
@@ -217,7 +253,7 @@ pub fn client_loop<N: StoreName, R: Wait, G: Gate>(
         given_up: 0,
     };
     for job in jobs {
-        let ended = run(rt, alloc, shared, session, job, gate);
+        let ended = run(rt, alloc, shared, session, job, lag, gate);
         count.note(ended);
     }
     count

@@ -1,23 +1,26 @@
 //! The logger's loop: the text of the log goes out while the store is used.
-ghost use Rattle.std.specs.Prelude.{◌≡◌, ◌≤◌, [], length, All, IfOk};
+ghost use Rattle.std.specs.Prelude.{◌≡◌, ◌≤◌, ◌++◌, [], List, length, All, IfOk};
 ghost use Rattle.std.specs.List.{flat_map};
 ghost use Rattle.pc_types.specs.Tallies.{Puts};
 ghost use Rattle.pc_model.specs.FewWrites.{HasFewWrites};
+ghost use Rattle.pc_types.specs.declared.Entry.{Entry};
 ghost use Rattle.pc_log.specs.Texts.{entry_text, log_text};
-ghost use Rattle.pc_workers.specs.Logging.{Logged, LogsMore, rest_text};
+ghost use Rattle.pc_shared.specs.Written.{HasGoneOut};
+ghost use Rattle.pc_workers.specs.Logging.{Flushes, Logged, LogsMore, rest_text};
 
 use pc_log::{encode_entry, encode_header};
 use pc_shared::{Closed, LogPass, Shared, pause};
 use pc_tie::StoreName;
-use pc_types::{Entry, Lsn, Refusal, Tally};
+use pc_types::{Entry, Gate, Lsn, Place, Refusal, Tally};
 use std::io;
+use std::io::Write;
 use std::sync::Wait;
 
-/// The logger asks for at most so many entries at once.
-pub const MOST_BATCH: usize = 64;
+/// The logger asks at once for entries whose texts have some so many bytes.
+pub const MOST_BATCH: u32 = 262_144;
 
-// How often the logger lets others run where it found fewer entries than it asked for: meanwhile more of them come, and it gets the
-// latch less often.
+// How often the logger lets others run at most behind a batch, as long as nobody waits for an entry: meanwhile more of them come,
+// and it gets the latch less often.
 const PAUSE: u32 = 1024;
 
 // One entry after the other.
@@ -31,40 +34,83 @@ fn put_entries<W: io::Write>(out: &mut Tally<W>, entries: &[Entry]) -> Result<()
     Ok(())
 }
 
-// The next entries go out, and where they are fewer than were asked for the logger pauses. False where there are none.
-fn log_batch<N: StoreName, R: Wait, W: io::Write>(
+// What was written goes out of whatever keeps it.
+fn flush<W: io::Write>(out: &mut Tally<W>) -> Result<(), Refusal>
+    ensures { Flushes W.contents out.old out.new result }
+{
+    match out.flush() {
+        Ok(()) => Ok(()),
+        Err(_) => Err(Refusal::Device),
+    }
+}
+
+// The entries go out, and are then marked as written; the pass has handed them out.
+fn write_batch<N: StoreName, R: Wait, W: io::Write, G: Gate>(
+    rt: &R,
+    shared: &Shared<N>,
+    pass: &LogPass<N>,
+    entries: &[Entry],
+    out: &mut Tally<W>,
+    gate: &G,
+) -> Result<(), Refusal>
+    requires few { All HasFewWrites entries.now }
+    requires earlier { (before : List Entry) × (pass.now ≡ before ++ entries.now) × HasGoneOut W.contents out.old (log_text N.name.setting.run before) }
+    ensures { Logged W.contents out.old out.new result (flat_map entry_text entries.now) }
+{
+    gate.pass(Place::Writing((pass.len() - entries.len()) as u32));
+    put_entries(out, entries)?;
+    flush(out)?;
+    shared.mark_logged(rt, pass, out);
+    gate.pass(Place::Written(pass.len() as u32));
+    Ok(())
+}
+
+// The next entries go out, and are marked as written. False where there are none.
+fn log_batch<N: StoreName, R: Wait, W: io::Write, G: Gate>(
     rt: &R,
     shared: &Shared<N>,
     pass: &mut LogPass<N>,
     out: &mut Tally<W>,
+    gate: &G,
 ) -> Result<bool, Refusal>
+    requires { HasGoneOut W.contents out.old (log_text N.name.setting.run pass.old) }
     ensures { LogsMore W.contents out.old out.new result pass.old pass.new }
 {
     let entries = shared.log_next(rt, pass, MOST_BATCH)?;
-    put_entries(out, entries.as_slice())?;
     if entries.is_empty() {
         return Ok(false);
     }
-    if entries.len() < MOST_BATCH {
-        pause(PAUSE);
-    }
+    write_batch(rt, shared, pass, entries.as_slice(), out, gate)?;
     Ok(true)
 }
 
-// A turn of the logger: the next entries go out. Where there are none, it says whether the end had been marked before it looked
-// for them, and if it hadn't, waits until the count of changes is another than the one from before.
-fn turn<N: StoreName, R: Wait, W: io::Write>(
+// Lets others run for a while, until somebody waits for an entry.
+fn rest<N: StoreName>(shared: &Shared<N>) {
+    for _ in 0..PAUSE {
+        if shared.is_log_awaited() {
+            return;
+        }
+        pause(1);
+    }
+}
+
+// A turn of the logger: the next entries go out, and it rests. Where there are none, it says whether the end had been marked before
+// it looked for them, and if it hadn't, waits until the count of changes is another than the one from before.
+fn turn<N: StoreName, R: Wait, W: io::Write, G: Gate>(
     rt: &R,
     shared: &Shared<N>,
     pass: &mut LogPass<N>,
     out: &mut Tally<W>,
     seen: &mut u64,
+    gate: &G,
 ) -> Result<bool, Refusal>
+    requires { HasGoneOut W.contents out.old (log_text N.name.setting.run pass.old) }
     ensures { LogsMore W.contents out.old out.new result pass.old pass.new }
 {
     let has_ended = shared.ended(rt);
-    let has_more = log_batch(rt, shared, pass, out)?;
+    let has_more = log_batch(rt, shared, pass, out, gate)?;
     if has_more {
+        rest(shared);
         return Ok(false);
     }
     if !has_ended {
@@ -73,15 +119,18 @@ fn turn<N: StoreName, R: Wait, W: io::Write>(
     Ok(has_ended)
 }
 
-/// Writes the log as the store grows it: the header of the run, and each entry, until the end is marked and no entry is left.
-/// Answers the number of the last entry that the pass has then handed out, which is how many they are. Whatever it answers, the pass has what was handed out: on Ok and where
-/// memory ran out its whole text went out; `Device` is answered exactly where the device failed, and then a beginning of the text
-/// went out, and not all of it.
-pub fn log_loop<N: StoreName, R: Wait, W: io::Write>(
+/// Writes the log as the store grows it: the header of the run, and each entry, until the end is marked and no entry is left. It
+/// takes all entries that are there, up to some 262,144 bytes of text at once, flushes the writer behind them, and then marks them
+/// as written; it passes the gate before and after that. Answers the number of the last entry that the pass has then handed out,
+/// which is how many they are. Whatever it answers, the pass has what was handed out: on Ok and where memory ran out its whole
+/// text went out; `Device` is answered exactly where the device failed, and then a beginning of the text went out, and not all of
+/// it, or all of it, and a flush failed.
+pub fn log_loop<N: StoreName, R: Wait, W: io::Write, G: Gate>(
     rt: &R,
     shared: &Shared<N>,
     pass: &mut LogPass<N>,
     out: &mut Tally<W>,
+    gate: &G,
 ) -> Result<Lsn, Refusal>
     requires { pass.old ≡ [] }
     ensures text { Logged W.contents out.old out.new result (log_text N.name.setting.run pass.new) }
@@ -90,7 +139,7 @@ pub fn log_loop<N: StoreName, R: Wait, W: io::Write>(
     encode_header(out, pass.run())?;
     let mut seen = 0;
     for _ in rt.forever() {
-        if turn(rt, shared, pass, out, &mut seen)? {
+        if turn(rt, shared, pass, out, &mut seen, gate)? {
             return Ok(Lsn(pass.len() as u32));
         }
     }

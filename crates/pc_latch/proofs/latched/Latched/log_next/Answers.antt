@@ -1,6 +1,8 @@
 use Rattle.std.proofs.Common.{◌+◌, ◌≤◌, ◌++◌, length, take, sym, ap, ◌∙◌, subst, arith}
 use Rattle.pc_model.specs.History.{History, log_of}
-use Rattle.pc_latch.proofs.Passing.{still_within, still_first, more_within, more_listed, more_next, first_length}
+use Rattle.pc_latch.proofs.Passing.{still_within, still_first, more_within, more_listed, first_length}
+use Rattle.pc_latch.specs.Batches.{batch}
+use Rattle.pc_latch.proofs.Batching.{batch_again, batch_behind}
 use Rattle.pc_latch.proofs.latched.Latched.log_next.Goals as goal
 
 pub next_of-requires : goal.next_of-requires
@@ -26,7 +28,7 @@ invariant_of-pass-2 g c =
     let p = c.pass.inside in
     let w = c.renew.ensures in
     let log = c.log.ensures in
-    let within = more_within p.count c.args.most c.len.result p.witness c.self.inside.keeper.history c.renew.new.witness c.log.result.now c.in-Ok.entries.items w.had_seen w.sees c.pass.invariant.0 (log.log ∙ c.self.invariant.1.parts.log) c.in-Ok.ensures.entries (omega (arith, c.len.ensures)) in
+    let within = more_within p.count c.len.result p.witness c.self.inside.keeper.history c.renew.new.witness c.log.result.now c.in-Ok.entries.items w.had_seen w.sees c.pass.invariant.0 (log.log ∙ c.self.invariant.1.parts.log) c.in-Ok.ensures.next (omega (arith, c.len.ensures)) in
     let grown = ap length (log.log ∙ c.self.invariant.1.parts.log) in
     (subst (λ (h : History). p.count + c.len.result ≤ length (log_of h)) (sym w.sees) (omega (arith, within, grown)), omega (arith, within, log.limit), c.pass.invariant.2)
 
@@ -34,13 +36,16 @@ pub returns-clause-list : goal.returns-clause-list
 returns-clause-list g c =
     let p = c.pass.inside in
     let w = c.renew.ensures in
-    more_listed p.count c.args.most c.len.result p.witness c.self.inside.keeper.history c.renew.new.witness c.log.result.now c.in-Ok.entries.items w.had_seen w.sees c.pass.invariant.0 (c.log.ensures.log ∙ c.self.invariant.1.parts.log) c.in-Ok.ensures.entries (omega (arith, c.len.ensures))
+    more_listed p.count c.len.result p.witness c.self.inside.keeper.history c.renew.new.witness c.log.result.now c.in-Ok.entries.items w.had_seen w.sees c.pass.invariant.0 (c.log.ensures.log ∙ c.self.invariant.1.parts.log) c.in-Ok.ensures.next (omega (arith, c.len.ensures))
     ∙ ap (λ l. l ++ c.in-Ok.entries.items) c.pass.view_is
 
 pub returns-clause-next : goal.returns-clause-next
 returns-clause-next g c =
     let p = c.pass.inside in
-    let w = c.renew.ensures in
-    more_next p.count c.args.most c.len.result p.witness c.self.inside.keeper.history c.renew.new.witness c.log.result.now c.in-Ok.entries.items w.had_seen w.sees c.pass.invariant.0 (c.log.ensures.log ∙ c.self.invariant.1.parts.log) c.in-Ok.ensures.entries (omega (arith, c.len.ensures))
-    ∙ (ap (λ (h : History). take (p.count + c.args.most) (log_of h)) c.self.view_is
-    ∙ ap (λ n. take (n + c.args.most) (log_of c.args.self.now)) (sym (first_length p.count (log_of p.witness) c.args.pass.now c.pass.invariant.0 c.pass.view_is)))
+    batch_behind c.args.room p.count c.log.result.now c.in-Ok.entries.items c.self.inside.keeper.history c.args.self.now c.args.pass.now c.in-Ok.ensures.entries
+    (c.log.ensures.log ∙ c.self.invariant.1.parts.log) c.self.view_is (first_length p.count (log_of p.witness) c.args.pass.now c.pass.invariant.0 c.pass.view_is)
+
+pub returns-clause-room : goal.returns-clause-room
+returns-clause-room g c =
+    let is = c.in-Ok.ensures.entries in
+    ap (batch c.args.room) is ∙ (batch_again c.args.room _ ∙ sym is)

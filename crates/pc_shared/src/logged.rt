@@ -1,0 +1,156 @@
+//! How far a store's log is written, and who waits for that.
+ghost use Rattle.std.specs.Prelude.{◌≤◌, IfSome};
+ghost use Rattle.pc_log.specs.Texts.{log_text};
+ghost use Rattle.pc_shared.specs.Written.{HasGoneOut};
+
+use crate::store::{Shared, pause};
+use pc_latch::LogPass;
+use pc_tie::StoreName;
+use pc_types::{Lsn, Tally};
+use std::io;
+use std::sync::atomic::{AtomicBool, AtomicU64, Ordering};
+use std::sync::{Condvar, Mutex, Wait};
+
+// How often who waits for an entry looks for it before it sleeps, and how often it lets others run after each look.
+const LOOKS: u32 = 32;
+
+const PAUSE: u32 = 8;
+
+/// How many entries of the log are written, whether that stays, and who waits for more.
+#[derive(Drop)]
+pub(crate) struct Logged {
+    entries: AtomicU64,
+    has_ended: AtomicBool,
+    waiting: AtomicU64,
+    asleep: Mutex<Asleep>,
+    told: Condvar,
+}
+
+// What is held by who goes to sleep, or changes what is waited for.
+#[derive(Drop)]
+struct Asleep;
+
+impl Logged {
+    /// Nothing is written, and nobody waits.
+    pub(crate) fn new() -> Logged {
+        Logged {
+            entries: AtomicU64::new(0),
+            has_ended: AtomicBool::new(false),
+            waiting: AtomicU64::new(0),
+            asleep: Mutex::new(Asleep),
+            told: Condvar::new(),
+        }
+    }
+
+    fn entries(&self) -> u64 {
+        self.entries.load(Ordering::SeqCst)
+    }
+
+    fn has_ended(&self) -> bool {
+        self.has_ended.load(Ordering::SeqCst)
+    }
+
+    fn is_awaited(&self) -> bool {
+        self.waiting.load(Ordering::SeqCst) > 0
+    }
+
+    // So many are written.
+    fn mark<R: Wait>(&self, rt: &R, entries: u64) {
+        let asleep = self.asleep.lock(rt);
+        self.entries.store(entries, Ordering::SeqCst);
+        drop(asleep);
+        self.wake();
+    }
+
+    // No more will be written.
+    fn end<R: Wait>(&self, rt: &R) {
+        let asleep = self.asleep.lock(rt);
+        self.has_ended.store(true, Ordering::SeqCst);
+        drop(asleep);
+        self.wake();
+    }
+
+    fn wake(&self) {
+        if self.is_awaited() {
+            self.told.notify_all();
+        }
+    }
+
+    // Waits until so many are written, and gives how many are.
+    fn until<R: Wait>(&self, rt: &R, entries: u64) -> Option<u64>
+        ensures { IfSome result (λ written. entries ≤ written) }
+    {
+        self.waiting.fetch_add(1, Ordering::SeqCst);
+        self.look(entries);
+        let written = self.sleep(rt, entries);
+        self.waiting.fetch_sub(1, Ordering::SeqCst);
+        written
+    }
+
+    // Looks for so many, a few times.
+    fn look(&self, entries: u64) {
+        for _ in 0..LOOKS {
+            if entries <= self.entries() || self.has_ended() {
+                return;
+            }
+            pause(PAUSE);
+        }
+    }
+
+    // Sleeps until so many are written.
+    fn sleep<R: Wait>(&self, rt: &R, entries: u64) -> Option<u64>
+        ensures { IfSome result (λ written. entries ≤ written) }
+    {
+        let mut asleep = self.asleep.lock(rt);
+        for _ in rt.forever() {
+            let written = self.entries();
+            if entries <= written {
+                return Some(written);
+            }
+            if self.has_ended() {
+                return None;
+            }
+            asleep = self.told.wait(rt, asleep);
+        }
+        unreachable!()
+    }
+}
+
+impl<N: StoreName> Shared<N> {
+    /// Marks as written the entries that the pass has handed out: since some earlier state of the writer the text of the log that
+    /// they make has gone out to it. Who waits for one of them goes on.
+    pub fn mark_logged<R: Wait, W: io::Write>(&self, rt: &R, pass: &LogPass<N>, out: &Tally<W>)
+        requires { HasGoneOut W.contents out.now (log_text N.name.setting.run pass.now) }
+    {
+        let _ = out.failures();
+        self.logged.mark(rt, pass.len() as u64);
+    }
+
+    /// Marks that no more entries will be written. Who waits for one goes on.
+    pub fn mark_log_end<R: Wait>(&self, rt: &R) {
+        self.logged.end(rt);
+    }
+
+    /// Whether that was marked.
+    pub fn has_log_ended(&self) -> bool {
+        self.logged.has_ended()
+    }
+
+    /// Whether the entry of this number was marked as written.
+    pub fn is_logged(&self, number: Lsn) -> bool {
+        u64::from(number.0) <= self.logged.entries()
+    }
+
+    /// Whether somebody waits for an entry to be written.
+    pub fn is_log_awaited(&self) -> bool {
+        self.logged.is_awaited()
+    }
+
+    /// Waits until the entry of this number was marked as written, and gives how many then are; nothing where it wasn't, and no
+    /// more will be.
+    pub fn until_logged<R: Wait>(&self, rt: &R, number: Lsn) -> Option<u64>
+        ensures { IfSome result (λ written. number ≤ written) }
+    {
+        self.logged.until(rt, u64::from(number.0))
+    }
+}
