@@ -3,7 +3,7 @@
 
     bench/run.sh                 400,000 transactions of one put
     bench/run.sh COMMITS         so many
-    bench/run.sh COMMITS SVG     and draws one run, commits by hundredths of a second with its points, into the file SVG
+    bench/run.sh COMMITS SVG     and draws one run, commits by hundredths of a second with its points, into the file SVG (bench/plot.py)
 
 The clients share the keys out among themselves and fill their own again and again. A run's time is that of the whole program, from its start to
 its end, with a store of 64 sessions and all that it prints; where there are several runs the best and the worst are told. One thread that steps a store, and
@@ -20,17 +20,11 @@ import time
 
 import shared
 
-sys.path.insert(0, os.path.join(os.path.dirname(os.path.abspath(__file__)), "..", "tools"))
-
-import plain_files
-
 CLIENTS = (1, 2, 4)
 MOST_OWN_KEYS = 15_000
 POINTS = (0, 8)
 # how often each is run
 RUNS = {1000: 5, 60_000: 3}
-STEP = 0.01
-WIDTH, HEIGHT, EDGE = 800, 240, 40
 
 
 def workload(folder, commits, clients, keys, points):
@@ -82,54 +76,12 @@ def tell(folder, commits):
         shared.tell(f"{clients} threads, a bare mutex", shared.rates("pc_bench", commits * clients, "us", "mutex", clients, commits, 1000))
 
 
-def sampled(folder, commits):
-    """How long the log was at each step of one run with points, and what it has in the end."""
+def draw(folder, commits, picture):
+    """Draws one run with points."""
     path, _ = workload(folder, commits, CLIENTS[-1], min(RUNS), POINTS[1])
-    log = os.path.join(folder, "log.pcl")
-    sizes = []
-    with subprocess.Popen([shared.program("pcalc"), "run", path, "--dir", folder, "--quiet"], stdout=subprocess.DEVNULL) as ran:
-        began = time.monotonic()
-        while ran.poll() is None:
-            sizes.append(os.path.getsize(log) if os.path.exists(log) else 0)
-            time.sleep(max(0, began + STEP * len(sizes) - time.monotonic()))
-    with open(log, "rb") as it:
-        return sizes, plain_files.read_log(it.read())
-
-
-def counted(sizes, log):
-    """The commits that came into the log's file in each step, and the steps in which a point's token of resolve did."""
-    commits, points, at = [], [], 0
-    for step, size in enumerate(sizes):
-        came = 0
-        while at < len(log.entries) and log.ends[at] <= size:
-            came += log.entries[at][0] != "token"
-            if log.entries[at][:2] == ("token", "resolve"):
-                points.append(step)
-            at += 1
-        commits.append(came)
-    return commits, points
-
-
-def drawn(commits, points):
-    most = max(commits) or 1
-    across = (WIDTH - 2 * EDGE) / max(1, len(commits))
-    up = HEIGHT - 2 * EDGE
-    bars = "".join(
-        f'<rect x="{EDGE + step * across:.1f}" y="{HEIGHT - EDGE - came * up / most:.1f}" width="{max(across - 0.5, 0.5):.1f}" height="{came * up / most:.1f}"/>\n'
-        for step, came in enumerate(commits)
-    )
-    marks = "".join(f'<line x1="{EDGE + step * across:.1f}" x2="{EDGE + step * across:.1f}" y1="{EDGE}" y2="{HEIGHT - EDGE}"/>\n' for step in points)
-    return f"""<svg xmlns="http://www.w3.org/2000/svg" viewBox="0 0 {WIDTH} {HEIGHT}" font-family="sans-serif" font-size="12">
-<rect width="{WIDTH}" height="{HEIGHT}" fill="white"/>
-<g fill="#4477aa">
-{bars}</g>
-<g stroke="#cc3311" stroke-dasharray="4 3">
-{marks}</g>
-<text x="{EDGE}" y="{EDGE - 12}">commits that came into the log's file, by hundredths of a second (at most {most}); a dashed line is a point of consistency</text>
-<text x="{EDGE}" y="{HEIGHT - EDGE + 16}">0 s</text>
-<text x="{WIDTH - EDGE}" y="{HEIGHT - EDGE + 16}" text-anchor="end">{len(commits) * STEP:.2f} s</text>
-</svg>
-"""
+    times = os.path.join(folder, "run.times")
+    subprocess.run([shared.program("pcalc"), "run", path, "--dir", folder, "--times", times, "--quiet"], check=True, stdout=subprocess.DEVNULL)
+    subprocess.run([sys.executable, os.path.join(os.path.dirname(os.path.abspath(__file__)), "plot.py"), times, picture], check=True)
 
 
 def main():
@@ -137,8 +89,7 @@ def main():
     with tempfile.TemporaryDirectory() as folder:
         tell(folder, commits)
         if len(sys.argv) > 2:
-            with open(sys.argv[2], "w", encoding="utf-8") as out:
-                out.write(drawn(*counted(*sampled(folder, commits))))
+            draw(folder, commits, sys.argv[2])
 
 
 if __name__ == "__main__":

@@ -34,8 +34,8 @@ class Case(typing.NamedTuple):
     parts: typing.Optional[list] = None
     # a user without rights of its own runs it
     is_other_user: bool = False
-    # it may start no further thread
-    has_no_threads: bool = False
+    # how many further threads it may start
+    threads: typing.Optional[int] = None
     # how many bytes of memory it may have
     memory: typing.Optional[int] = None
     # where the output goes, if not to the caller
@@ -44,6 +44,8 @@ class Case(typing.NamedTuple):
     closed: tuple = ()
     # files of the folder, and what each is to have afterwards; None where it is not to be there
     files: dict = {}
+    # such files, and what tells of what each has then whether it is right
+    checks: dict = {}
 
 
 def written(folder, name, content):

@@ -21,6 +21,15 @@ CONTENDED = 3_200
 # Most of its 640,000,000 transactions have no room for their keys, so that its log is short.
 LONG = b"".join(b"client %d\n" % client + b"".join(b"fill c%df%d 1000000 x\n" % (client, place) for place in range(10)) for client in range(1, 65))
 
+# The options of a run that take a number, what stands for it in the help, and between what it is.
+RANGES = [("lag", "N", 0, 16_777_216), ("every", "COMMITS", 1, 1_000_000_000), ("run", "N", 1, 2_147_483_647), ("capacity", "N", 1, 1_048_576)]
+
+NOTHING_REPORTED = b"commits a second 0\ndeaths 0\nlongest wait 0 ms\nlongest pause 0 ms\n"
+HEADING = b"# hundredths of a second from the begin of the run; commits in this one; the phase at its end"
+PHASES = {phase.encode() for phase in plain_files.PHASES}
+# The options of a run that take a number, what stands for it in the help, and between what it is.
+RANGES = [("lag", "N", 0, 16_777_216), ("every", "COMMITS", 1, 1_000_000_000), ("run", "N", 1, 2_147_483_647), ("capacity", "N", 1, 1_048_576)]
+
 # What a workload has, and the number of its first bad line.
 BAD_LINES = [
     (b"frob\n", 1),
@@ -66,8 +75,81 @@ def usage_cases(folder):
     yield Case("an empty word for a folder", ("run", "empty.pcw", "--dir", ""), 2, err=told)
     yield Case("the same, behind its sign", ("run", "empty.pcw", "--dir="), 2, err=told)
     joins = b"How many threads join the points' files, 1 to 64 [default: 2]"
-    options = [b"<WORKLOAD>", b"--workers <N>", b"[default: 4]", b"--collapsers <N>", joins, b"--dir <DIR>", b"--quiet", FAULTS]
+    options = [b"<WORKLOAD>", b"--workers <N>", b"[default: 4]", b"--collapsers <N>", joins, b"--every <COMMITS>", b"--capacity <N>", b"[default: 65536]"]
+    options += [b"--run <N>", b"[default: 1]", b"--from <OLD>", b"--dir <DIR>", b"--lag <N>", b"--sync", b"--quiet", b"--report", b"--times <FILE>", FAULTS]
     yield Case("run --help", ("run", "--help"), 0, parts=options)
+    for option, name, low, high in RANGES:
+        for wrong in (low - 1, high + 1):
+            words = ("run", "empty.pcw", "--dir", "none", f"--{option}={wrong}")
+            told = b"error: invalid value '%d' for '--%s <%s>': %d is not in %d..=%d\n" % (wrong, option.encode(), name.encode(), wrong, low, high)
+            yield Case(f"--{option} {wrong}", words, 2, err=[told], files={"none": None})
+        for right in (low, high):
+            yield Case(f"--{option} {right}", ("run", "empty.pcw", "--dir", new_folder(folder, f"{option}{right}"), f"--{option}={right}"), 0, NOTHING_TOLD)
+        told = b"error: the argument '--%s <%s>' cannot be used multiple times\n" % (option.encode(), name.encode())
+        yield Case(f"--{option} twice", ("run", "empty.pcw", *[f"--{option}={low}"] * 2, "--dir", "none"), 2, err=[told])
+    for words in (("--lag", "5"), ("--sync",)):
+        told = [b"error: the following required arguments were not provided:\n  --dir <DIR>\n"]
+        yield Case(f"{words[0]} without a folder", ("run", "empty.pcw", *words), 2, err=told)
+    told = [b"error: the argument '--", b"' cannot be used with '--"]
+    yield Case("a run that goes on, and a number for it", ("run", "empty.pcw", "--from", "old", "--run", "2"), 2, err=told)
+    for option, name in (("from", b"OLD"), ("times", b"FILE")):
+        told = [b"error: a value is required for '--%s <%s>' but none was supplied\n" % (option.encode(), name)]
+        yield Case(f"an empty word for --{option}", ("run", "empty.pcw", f"--{option}", ""), 2, err=told)
+    told = b"pcalc: empty.pcw: the workload has this name\n"
+    yield Case("times in the place of the workload", ("run", "empty.pcw", "--times", "empty.pcw"), 2, err=told, files={"empty.pcw": b""})
+
+
+def new_folder(folder, name):
+    """Makes a folder without files; its name."""
+    os.makedirs(os.path.join(folder, name))
+    return name
+
+
+def has_times_of(commits):
+    """Whether a text tells of each hundredth of a second of a run, from the first on, and of so many commits in all."""
+    def is_right(text):
+        heading, *lines = (text or b"").split(b"\n")
+        words = [line.split(b" ") for line in lines[:-1]]
+        numbers = [int(number) for number, _, _ in words]
+        phases = {phase for _, _, phase in words}
+        is_counted = sum(int(count) for _, count, _ in words) == commits
+        return heading == HEADING and lines[-1:] == [b""] and numbers == list(range(len(words))) and phases <= PHASES and is_counted
+    return is_right
+
+
+def telling_cases(folder):
+    """What runs tell of their speed: the shape of it, since no two runs are alike."""
+    written(folder, "one.pcw", ONE)
+    written(folder, "bad.pcw", b"frob\n")
+    report = [ONE_TOLD + b"commits a second ", b"\ndeaths 0\nlongest wait ", b" ms\nlongest pause ", b" ms\n"]
+    yield Case("a report", ("run", "one.pcw", "--report"), 0, parts=report)
+    for number, more in enumerate(((), ("--quiet",), ("--dir", new_folder(folder, "with_times")), ("--report",))):
+        out = {"parts": report} if more == ("--report",) else {"out": ONE_TOLD}
+        name = f"{number}.times"
+        yield Case("times", ("run", "one.pcw", "--times", name, *more), 0, checks={name: has_times_of(3)}, **out)
+    yield Case("a report and times of nothing", ("run", "empty.pcw", "--report", "--times", "none.times"), 0, NOTHING_TOLD + NOTHING_REPORTED, checks={"none.times": has_times_of(0)})
+    yield Case("times of a workload with a bad line", ("run", "bad.pcw", "--times", "bad.times", "--report"), 3, b"bad line 1\n", files={"bad.times": b""})
+    words = ("run", "one.pcw", "--dir", new_folder(folder, "without_times"), "--times", "nowhere/run.times")
+    yield Case("times that can't be made", words, 1, err=b"pcalc: nowhere/run.times: Device\n", files={"without_times/base.pcb": None, "without_times/base.pcb.new": None})
+    if os.path.exists(FULL):
+        yield Case("times on a full device", ("run", "one.pcw", "--times", FULL), 1, ONE_TOLD, err=f"pcalc: {FULL}: Device\n".encode())
+    yield Case("a report to a full output", ("run", "one.pcw", "--report"), 1, output=FULL)
+
+
+def pace_cases(folder):
+    """What is said of the files and the points of a run changes nothing of what it prints."""
+    written(folder, "four.pcw", FOUR)
+    written(folder, "one.pcw", ONE)
+    for number, more in enumerate((("--lag", "0"), ("--lag", "1"), ("--sync",), ("--every", "1"), ("--every", "1000000000"), ("--capacity", "4000"))):
+        words = ("run", "four.pcw", "--dir", new_folder(folder, f"paced{number}"), *more)
+        yield Case("four clients", words, 0, FOUR_TOLD, files={f"paced{number}/base.pcb": EMPTY, f"paced{number}/base.pcb.new": None, f"paced{number}/part-00008.pcp.new": None})
+        yield recovery(f"paced{number}", "what they leave", plain_files.recover(*files_of(os.path.join(folder, f"paced{number}"))))
+    words = ("run", "one.pcw", "--lag", "0", "--sync", "--dir", new_folder(folder, "synced"))
+    yield Case("one client whose commits are on the disk", words, 0, ONE_TOLD, files={"synced/base.pcb": EMPTY})
+    told = b"commits 3999\ngave up 1\npoints 8\ncollapsed 1-8 entries 3999\nstate pairs 3999\ncheck ok\n"
+    yield Case("a key more than there is room for", ("run", "four.pcw", "--capacity", "3999"), 0, told)
+    base = plain_files.Base(258, 0, {}).text()
+    yield Case("a run of another number", ("run", "one.pcw", "--run", "258", "--dir", new_folder(folder, "numbered")), 0, ONE_TOLD, files={"numbered/base.pcb": base})
 
 
 def workload_cases(folder):
@@ -150,24 +232,37 @@ def fault_cases(folder):
     os.makedirs(os.path.join(folder, "unwritable"))
     yield Case("a folder that can't be written to", ("run", "one.pcw", "--dir", "unwritable"), 1, err=b"pcalc: base.pcb: Device\n", is_other_user=True)
     yield from late_fault_cases(folder)
-    yield Case("no threads to be had", ("run", "one.pcw"), 1, err=b"pcalc: one.pcw: NoThread\n", is_other_user=True, has_no_threads=True)
+    yield Case("no threads to be had", ("run", "one.pcw"), 1, err=b"pcalc: one.pcw: NoThread\n", is_other_user=True, threads=0)
+    yield from thread_cases(folder)
+
+
+def thread_cases(folder):
+    """A run of a logger, two collapsers and three workers that may start fewer threads: whichever it lacks it ends, and tells that."""
+    for threads in range(6):
+        os.chmod(os.path.join(folder, new_folder(folder, f"threads{threads}")), 0o777)
+        words = ("run", "one.pcw", "--workers", "3", "--lag", "0", "--dir", f"threads{threads}")
+        yield Case(f"{threads} threads of six", words, 1, err=b"pcalc: one.pcw: NoThread\n", is_other_user=True, threads=threads)
+
+
+# The files of a run, what may stand in the place of each, and whether that file is told. All but the log get their names once they are whole.
+MISPLACED = [("base.pcb", "folder", "base.pcb"), ("base.pcb.new", "folder", "base.pcb"), ("base.pcb.new", "device", None), ("log.pcl", "folder", "log.pcl"), ("log.pcl", "device", None)]
+MISPLACED += [("part-00001.pcp", "folder", "part-00001.pcp"), ("part-00001.pcp.new", "folder", "part-00001.pcp"), ("part-00001.pcp.new", "device", None)]
 
 
 def late_fault_cases(folder):
     """Files of a run that can't be made or written. What stands in their place comes into the folder once it was looked at: the workload, which is
     read behind that, is a pipe, and has nothing before."""
-    for name in ("base.pcb", "log.pcl", "part-00001.pcp"):
-        for what, told in (("folder", name), ("device", None)):
-            dir_name = f"{what}_{name}"
-            place = os.path.join(folder, dir_name, name)
-            os.makedirs(os.path.dirname(place))
-            pipe = piped(folder, dir_name + ".pcw")
-            work = (lambda: os.mkdir(place)) if what == "folder" else (lambda: os.symlink(FULL, place))
-            if what == "device" and not os.path.exists(FULL):
-                continue
-            with beside(lambda: feed(pipe, ONE, work)):
-                err = f"pcalc: {told or dir_name + '.pcw'}: Device\n".encode()
-                yield Case(f"a {what} in the place of {name}", ("run", dir_name + ".pcw", "--dir", dir_name), 1, err=err)
+    for name, what, told in MISPLACED:
+        dir_name = f"{what}_{name}"
+        place = os.path.join(folder, dir_name, name)
+        os.makedirs(os.path.dirname(place))
+        pipe = piped(folder, dir_name + ".pcw")
+        work = (lambda: os.mkdir(place)) if what == "folder" else (lambda: os.symlink(FULL, place))
+        if what == "device" and not os.path.exists(FULL):
+            continue
+        with beside(lambda: feed(pipe, ONE, work)):
+            err = f"pcalc: {told or dir_name + '.pcw'}: Device\n".encode()
+            yield Case(f"a {what} in the place of {name}", ("run", dir_name + ".pcw", "--dir", dir_name), 1, err=err)
     if os.path.exists(FULL):
         os.makedirs(os.path.join(folder, "long_run"))
         pipe = piped(folder, "long.pcw")
@@ -195,12 +290,12 @@ def used_cases(folder):
     os.symlink("nowhere", os.path.join(folder, "used_by_link", "log.pcl"))
     yield Case("a folder with a link that leads nowhere", ("run", "one.pcw", "--dir", "used_by_link"), 1, err=b"pcalc: used_by_link: NotEmpty\n", files={"used_by_link/base.pcb": None})
     os.makedirs(os.path.join(folder, "fresh"))
-    for name in ("notes", "base.pcb.old", "log.pcl2", "xbase.pcb", "pcp", "a.PCP", "\udcff"):
+    for name in ("notes", "base.pcb.old", "log.pcl2", "xbase.pcb", "pcp", "a.PCP", "part-00009.pcp.new", "\udcff"):
         written(folder, "with_others/" + name, b"as it was")
     for fresh in ("fresh", "with_others", "with_others/../fresh2/"):
         os.makedirs(os.path.join(folder, fresh), exist_ok=True)
-        yield Case("a folder without files of a run", ("run", "one.pcw", "--dir", fresh), 0, ONE_TOLD, files={os.path.join(fresh, "base.pcb"): EMPTY})
-    yield Case("its other files", ("recover", "with_others"), 0, b"point 1\nentries 8\npairs 3\na000000 x\na000001 x\na000002 x\n", files={"with_others/notes": b"as it was", "with_others/base.pcb.old": b"as it was"})
+        yield Case("a folder without files of a run", ("run", "one.pcw", "--dir", fresh), 0, ONE_TOLD, files={os.path.join(fresh, "base.pcb"): EMPTY, os.path.join(fresh, "base.pcb.new"): None, os.path.join(fresh, "part-00001.pcp.new"): None})
+    yield Case("its other files", ("recover", "with_others"), 0, b"point 1\nentries 8\npairs 3\na000000 x\na000001 x\na000002 x\n", files={f"with_others/{name}": b"as it was" for name in ("notes", "base.pcb.old", "part-00009.pcp.new")})
     log = content_of(folder, "fresh/log.pcl")
     yield Case("a second run into the folder of the first", ("run", "one.pcw", "--dir", "fresh"), 1, err=b"pcalc: fresh: NotEmpty\n", files={"fresh/log.pcl": log, "fresh/base.pcb": EMPTY})
 
@@ -210,8 +305,59 @@ def content_of(folder, name):
         return it.read()
 
 
+def files_of(folder):
+    """The base, the parts and the log of a folder, as `plain_files.recover` takes them."""
+    parts = [(os.fsencode(name), content_of(folder, name)) for name in sorted(os.listdir(folder)) if name.endswith(".pcp")]
+    return content_of(folder, "base.pcb"), parts, content_of(folder, "log.pcl")
+
+
 def recovery(folder, name, told):
     return Case(name, ("recover", folder), 0, told.text())
+
+
+def from_cases(folder):
+    """Runs that start from what the folder of another one is worth."""
+    written(folder, "bad.pcw", b"frob\n")
+    written(folder, "first.pcw", b"points 2\nclient 1\nfill a 40 x\ntxn\ndel a000003\nend\n")
+    written(folder, "next.pcw", b"points 1\nclient 2\nfill b 20 y\ntxn\ndel a000005\nput a000007 z\nget a000009\nend\n")
+    told = b"commits 41\ngave up 0\npoints 2\ncollapsed 1-2 entries 40\nstate pairs 39\ncheck ok\n"
+    yield Case("a run that another starts from", ("run", "first.pcw", "--run", "7", "--dir", new_folder(folder, "first")), 0, told)
+    first = plain_files.recover(*files_of(os.path.join(folder, "first")))
+    told = b"commits 21\ngave up 0\npoints 1\ncollapsed 1 entries 22\nstate pairs 58\ncheck ok\n"
+    yield Case("a run that starts from it", ("run", "next.pcw", "--from", "first", "--dir", new_folder(folder, "next")), 0, told, files={"next/base.pcb": plain_files.Base(8, 0, first.pairs).text()})
+    second = plain_files.recover(*files_of(os.path.join(folder, "next")))
+    assert len(second.pairs) == 58 and second.pairs[b"a000007"] == b"z" and b"a000005" not in second.pairs
+    yield recovery("next", "what it leaves", second)
+    yield Case("the same without a folder of its own", ("run", "next.pcw", "--from", "first"), 0, told)
+    yield Case("the same from a folder's name with a slash", ("run", "next.pcw", "--from", "first/"), 0, told)
+    yield Case("room for as many keys as there are", ("run", "next.pcw", "--from", "first", "--capacity", "59"), 0, told)
+    words = ("run", "next.pcw", "--from", "first", "--capacity", "38", "--dir", new_folder(folder, "small"))
+    yield Case("more pairs than there is room for", words, 1, err=b"pcalc: next.pcw: Full\n", files={"small/base.pcb": None, "small/base.pcb.new": None})
+    yield Case("its own folder", ("run", "next.pcw", "--from", "first", "--dir", "first"), 1, err=b"pcalc: first: NotEmpty\n")
+    yield from damage_cases(folder)
+
+
+def damage_cases(folder):
+    """The same from folders that are damaged: what a recovery tells of them is told before the run."""
+    for name in ("base.pcb", "log.pcl", "part-00001.pcp", "part-00002.pcp"):
+        written(folder, f"hurt/{name}", content_of(folder, f"first/{name}"))
+    with open(os.path.join(folder, "hurt", "part-00002.pcp"), "ab") as it:
+        it.write(b"\0")
+    with open(os.path.join(folder, "hurt", "log.pcl"), "ab") as it:
+        it.write(b"\0\0\0\1\3")
+    told = b"commits 21\ngave up 0\npoints 1\ncollapsed 1 entries 22\nstate pairs 58\ncheck ok\n"
+    yield Case("a part and a log that are damaged", ("run", "next.pcw", "--from", "hurt"), 0, told, err=b"log BadKind\nskipped part-00002.pcp Trailing\n")
+    written(folder, "hurt/\udcff.pcp", b"")
+    err = b"pcalc: \xff.pcp: Device\nlog BadKind\nskipped part-00002.pcp Trailing\n"
+    yield Case("beside it a part whose name is no UTF-8", ("run", "next.pcw", "--from", "hurt"), 0, told, err=err)
+    nothing = {"made/base.pcb": None, "made/base.pcb.new": None, "made/log.pcl": None}
+    into = ("--dir", new_folder(folder, "made"))
+    yield Case("a folder that isn't there", ("run", "next.pcw", "--from", "nowhere", *into), 1, err=b"pcalc: base.pcb: NoFile\n", files=nothing)
+    written(folder, "other_log/base.pcb", EMPTY)
+    written(folder, "other_log/log.pcl", plain_files.Log(2).text())
+    yield Case("files that can't be recovered", ("run", "next.pcw", "--from", "other_log", *into), 1, err=b"pcalc: other_log: OtherRun\n", files=nothing)
+    yield Case("the same for a workload with a bad line", ("run", "bad.pcw", "--from", "other_log", *into), 3, b"bad line 1\n", files=nothing)
+    yield Case("the same for a workload that isn't there", ("run", "none.pcw", "--from", "nowhere", *into), 1, err=b"pcalc: none.pcw: NoFile\n", files=nothing)
 
 
 def folder_cases(folder):
@@ -239,7 +385,20 @@ def folder_cases(folder):
         written(folder, "cut/" + name.decode(), text)
 
 
+def number_cases(folder):
+    """Runs of numbers up to the last one."""
+    written(folder, "one.pcw", ONE)
+    none = {"last_new/base.pcb": None, "last_new/log.pcl": None}
+    written(folder, "last/base.pcb", plain_files.Base(2**64 - 1, 0, {}).text())
+    yield Case("a run behind the last one", ("run", "one.pcw", "--from", "last", "--dir", new_folder(folder, "last_new")), 1, err=b"pcalc: last: Full\n", files=none)
+    written(folder, "last_but_one/base.pcb", plain_files.Base(2**64 - 2, 0, {}).text())
+    base = {"last_new/base.pcb": plain_files.Base(2**64 - 1, 0, {}).text()}
+    yield Case("the last run", ("run", "one.pcw", "--from", "last_but_one", "--dir", "last_new"), 0, ONE_TOLD, files=base)
+    base = {"numbered_new/base.pcb": plain_files.Base(2_147_483_647, 0, {}).text()}
+    yield Case("a run of a number", ("run", "one.pcw", "--run", "2147483647", "--dir", new_folder(folder, "numbered_new")), 0, ONE_TOLD, files=base)
+
+
 def cases(folder):
     """Each case, whose files are written into the folder right before it."""
-    for some in (usage_cases, workload_cases, contention_cases, fault_cases, used_cases, folder_cases):
+    for some in (usage_cases, workload_cases, telling_cases, pace_cases, contention_cases, fault_cases, used_cases, from_cases, number_cases, folder_cases):
         yield from some(folder)

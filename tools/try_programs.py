@@ -7,6 +7,7 @@
     bench/counts.txt      a line `$ WORDS` is a command of pc_bench, and the lines up to the next one what it prints
     program_cases.py      options, files that can't be had, long files, a full output, little memory
     run_cases.py          workloads that are run on threads, and the folders that they leave
+    crash_cases.py        runs that are killed, and what is recovered of their folders
 
 What differs is shown, and the last line is 'N passed, M failed'; the status is 1 where one failed.
 """
@@ -21,6 +22,7 @@ import subprocess
 import sys
 import tempfile
 
+import crash_cases
 import program_cases
 import run_cases
 
@@ -86,8 +88,8 @@ def settings_of(case, folder):
     settings = {"cwd": folder}
     if case.memory is not None:
         settings["preexec_fn"] = lambda: resource.setrlimit(resource.RLIMIT_AS, (case.memory, case.memory))
-    if case.has_no_threads:
-        settings["preexec_fn"] = lambda: resource.setrlimit(resource.RLIMIT_NPROC, (1, 1))
+    if case.threads is not None:
+        settings["preexec_fn"] = lambda: resource.setrlimit(resource.RLIMIT_NPROC, (1 + case.threads, 1 + case.threads))
     if case.closed:
         settings["preexec_fn"] = lambda: [os.close(number) for number in case.closed]
     if case.is_other_user and os.geteuid() == 0:
@@ -114,7 +116,15 @@ def cases():
             wanted = case.parts if case.parts is not None else case.out
             lines = differences(told, case.status, wanted, case.err)
             lines += [f"{name} is not as wanted" for name, content in case.files.items() if content_of(folder, name) != content]
+            lines += [f"{name} has not the form that is wanted" for name, is_right in case.checks.items() if not is_right(content_of(folder, name))]
             yield f"pcalc {' '.join(case.words)}: {case.name}", lines
+
+
+def crashes():
+    """What each killed run differs in, by its name."""
+    if os.path.exists(program_of("pcalc")):
+        with tempfile.TemporaryDirectory() as folder:
+            yield from crash_cases.crashes(os.path.abspath(program_of("pcalc")), folder)
 
 
 def content_of(folder, name):
@@ -145,7 +155,7 @@ def differences(told, status, out, err):
 
 def main():
     passed = failed = 0
-    for some in (stored, cases):
+    for some in (stored, cases, crashes):
         for name, lines in some():
             if lines:
                 failed += 1

@@ -2,7 +2,7 @@
 use crate::sink::{Sink, went_out};
 use crate::tape::{Tape, TornOnce};
 use pc_asks::{EMPTY_BASE, ONE_KEY, SIX_ENTRIES, THIRD_POINT, TWO_KEYS};
-use pc_script::{Folder, NamedFile, run_recover};
+use pc_script::{Folder, Lost, NamedFile, recover_base, run_recover};
 use pc_types::{Refusal, Tally};
 use std::alloc::{AllocError, Global};
 use std::io::{ErrorKind, Read};
@@ -147,13 +147,18 @@ fn push_two_keys_and_third(alloc: Global, parts: &mut Parts<'static>) -> Result<
     push_part(alloc, parts, "part-00003.pcp", &THIRD_POINT, false)
 }
 
-// Whether what is recovered goes out as far as a writer with this much room takes it, and the status alone tells the rest.
-fn is_printed(alloc: Global, parts: Parts<'static>, room: usize) -> bool {
-    let folder = Folder {
+// The folder with the parts, and a damaged log.
+fn damaged(parts: Parts<'static>) -> Folder<Tape<'static>> {
+    Folder {
         base: Ok(Tape::new(&EMPTY_BASE, false)),
         parts: Ok(parts),
         log: Ok(Tape::new(&PHASE_FIVE, false)),
-    };
+    }
+}
+
+// Whether what is recovered goes out as far as a writer with this much room takes it, and the status alone tells the rest.
+fn is_printed(alloc: Global, parts: Parts<'static>, room: usize) -> bool {
+    let folder = damaged(parts);
     let mut out = Tally::new(Sink::new(&RECOVERED, room));
     let mut errors = Tally::new(Sink::new(b"", 0));
     let status = run_recover(alloc, "d", folder, &mut out, &mut errors);
@@ -217,4 +222,71 @@ fn recover_with_failing_flush(alloc: Global) -> (u8, u64, bool) {
 #[test]
 fn tells_nothing_of_a_flush_that_fails(rt: HostRuntime) {
     assert_eq!(rt; recover_with_failing_flush(rt.alloc()), (1, 1, true));
+}
+
+// The base of the run behind the one of the parts of two keys, with what they are worth.
+const NEXT_BASE: [u8; 40] = *b"PCALCB01\
+    \x00\x00\x00\x00\x00\x00\x00\x02\
+    \x00\x00\x00\x00\x00\x00\x00\x02\
+    \x00\x01a\x00\x00\x00\x011\
+    \x00\x01b\x00\x00\x00\x011";
+
+// Whether the base is made of the damaged folder, and its damage goes out as far as a writer with this much room takes it.
+fn is_made(alloc: Global, parts: Parts<'static>, room: usize) -> bool {
+    let mut errors = Tally::new(Sink::new(&RECOVERED[18..59], room));
+    let Ok(base) = recover_base(alloc, damaged(parts), &mut errors) else {
+        return false;
+    };
+    let refused = if room < 41 {
+        Some(Refusal::Device)
+    } else {
+        None
+    };
+    let mut out = Tally::new(Sink::new(&NEXT_BASE, 40));
+    let encoded = base.encode(&mut out).err();
+    went_out(errors, refused, 41, room) && went_out(out, encoded, 40, 40)
+}
+
+// A writer that takes less of the damage than there is keeps no base from being made.
+#[test]
+fn makes_a_base_of_a_damaged_folder(rt: HostRuntime) -> Result<(), Fail> {
+    for room in 0..43usize {
+        let mut parts = Vec::new(rt.alloc());
+        push_two_keys_and_third(rt.alloc(), &mut parts)?;
+        assert!(rt; is_made(rt.alloc(), parts, room), "{room}");
+    }
+    Ok(())
+}
+
+// An empty base of the last run that there may be.
+const LAST_RUN: [u8; 24] = *b"PCALCB01\
+    \xff\xff\xff\xff\xff\xff\xff\xff\
+    \x00\x00\x00\x00\x00\x00\x00\x00";
+
+// Why no base is made of the folder of a base alone, where that is a fault of the folder, and whether nothing is told.
+fn why_unmade(alloc: Global, base: &'static [u8]) -> (Option<Refusal>, bool) {
+    let folder = Folder {
+        base: Ok(Tape::new(base, false)),
+        parts: Ok(Vec::new(alloc)),
+        log: Err(Refusal::NoFile),
+    };
+    let mut errors = Tally::new(Sink::new(b"", 0));
+    let made = recover_base(alloc, folder, &mut errors);
+    let why = match &made {
+        Err(Lost::Folder(why)) => Some(*why),
+        _ => None,
+    };
+    (why, went_out(errors, None, 0, 0))
+}
+
+#[test]
+fn makes_no_base_behind_the_last_run(rt: HostRuntime) {
+    assert_eq!(rt;
+        why_unmade(rt.alloc(), &LAST_RUN),
+        (Some(Refusal::Full), true)
+    );
+    assert_eq!(rt;
+        why_unmade(rt.alloc(), &LAST_RUN[..23]),
+        (Some(Refusal::Short), true)
+    );
 }

@@ -1,5 +1,5 @@
 -- Recovery: what a base, part files and a log are worth after a crash, by its rules, whatever bytes they are.
-use Rattle.std.specs.Prelude.{ℕ, zero, suc, ◌+◌, ◌==◌, not, nat_lt, nat_le, Bool, List, [], ◌∷◌, length, map, filter, find, drop, Option, Some, None, Result, Ok, Err, if◌then◌else◌}
+use Rattle.std.specs.Prelude.{◌≡◌, ℕ, zero, suc, ◌+◌, ◌==◌, not, nat_lt, nat_le, Bool, List, [], ◌∷◌, length, map, filter, find, drop, Option, Some, None, Result, Ok, Err, if◌then◌else◌}
 use Rattle.std.specs.List.{list_any, list_all}
 use Rattle.pc_types.specs.declared.refusal.Refusal.{Refusal}
 use Rattle.pc_types.specs.declared.refusal.Refusal.TheVariants.{OtherRun, Gap}
@@ -141,6 +141,10 @@ recovery base_bytes parts log_bytes = do
   base ← base_at base_bytes
   recovery_on base (files_of base.run parts) log_bytes
 
--- what a call has recovered, without where it lies in memory
+-- the bytes are the text of a base of this run
+abbrev pub IsOfRun : List ℕ → ℕ → Type 0
+IsOfRun base_bytes run = (base : BaseFile) × (base_at base_bytes ≡ Ok base) × (run ≡ base.run)
+
+-- what a call has recovered, without its run and where it lies in memory
 abbrev pub recovery_of : Recovered → Recovery
 recovery_of r = record { pairs = database_of r.pairs.items; point = r.point; entries = r.entries; skipped = r.skipped.items; fault = r.fault }

@@ -14,6 +14,8 @@ pub struct Skipped {
 /// What a base, part files and a log are worth.
 #[derive(Drop)]
 pub struct Recovered {
+    /// The number of the base's run, of which all that was used is.
+    pub run: u64,
     /// The pairs of the database, rising strictly by key.
     pub pairs: Vec<(Key, Value)>,
     /// The point up to which part files are in it: the base's, or the greatest that they reach.

@@ -2,7 +2,7 @@
 ghost use Rattle.std.specs.Prelude.{map, IfOk};
 ghost use Rattle.pc_types.specs.Fields.{Gives};
 ghost use Rattle.pc_model.specs.Database.{KeysRise};
-ghost use Rattle.pc_recover.specs.Recovery.{recovery, recovery_of};
+ghost use Rattle.pc_recover.specs.Recovery.{IsOfRun, recovery, recovery_of};
 
 use crate::candidates::candidates;
 use crate::reach::reach_from;
@@ -40,6 +40,7 @@ pub fn recover(
 ) -> Result<Recovered, Refusal>
     ensures rules { Gives recovery_of result (recovery base.now (map (λ part. part.now) parts.now) log.now) }
     ensures rise { IfOk result (λ recovered. KeysRise recovered.pairs.items) }
+    ensures run { IfOk result (λ recovered. IsOfRun base.now recovered.run) }
 {
     let base = Base::decode(alloc, base)?;
     let run = base.run();
@@ -54,6 +55,7 @@ pub fn recover(
         fault,
     } = replay_log(alloc, run, reach.point, database, log)?;
     Ok(Recovered {
+        run,
         pairs: database.into_pairs(alloc)?,
         point: reach.point,
         entries,

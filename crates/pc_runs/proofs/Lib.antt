@@ -1,3 +1,4 @@
+mod BeginLaws
 mod HistoryLaws
 pub mod NewPasses
 mod SingleLaws

@@ -1,24 +1,30 @@
--- A run of a workload: what its text is read as, what is printed, why it may fail, and what is told of that.
-use Rattle.std.specs.Prelude.{◌≡◌, ◌++◌, ℕ, List, Option, Result, Err, [], IsOk, IfOk, IfSome, MatchOption, MatchResult, codes, ⊤}
+-- A run of a workload: what its store starts from, what its text is read as, what is printed, why it may fail, and what is told of
+-- that.
+use Rattle.std.specs.Prelude.{◌≡◌, ◌⊎◌, ◌++◌, ℕ, List, Option, Result, Err, [], IsOk, IfOk, IfSome, MatchOption, MatchResult, codes}
 use Rattle.std.specs.Io.KnownBytes.{Appends}
 use Rattle.pc_types.specs.Counted.{HasRisen, AppendsBeginning}
 use Rattle.pc_types.specs.Tallies.{Puts, inner_of, failures_of}
 use Rattle.pc_types.specs.declared.refusal.Refusal.{Refusal}
 use Rattle.pc_types.specs.declared.tally.Tally.{Tally}
 use Rattle.pc_model.specs.Database.{database_of}
-use Rattle.pc_model.specs.Files.{File}
+use Rattle.pc_model.specs.Files.{BaseFile, File}
 use Rattle.pc_model.specs.History.{History, log_of}
 use Rattle.pc_model.specs.Replies.{Setting, IsLegalHistory}
 use Rattle.pc_jobs.specs.Workloads.{reading_of}
 use Rattle.pc_jobs.specs.declared.works.Workload.{Workload}
 use Rattle.pc_jobs.specs.declared.workloads.Reading.{Reading}
 use Rattle.pc_jobs.specs.declared.workloads.Reading.TheVariants as reading
+use Rattle.pc_script.specs.Bases.{IsMade, IsUnmade}
 use Rattle.pc_script.specs.Recoveries.{TellsOf}
+use Rattle.pc_script.specs.Recoveries as recoveries
 use Rattle.pc_threads.specs.declared.fault.Fault.TheVariants as fault
 use Rattle.pc_runs.specs.declared.failure.Failure.{Failure}
 use Rattle.pc_runs.specs.declared.failure.Failure.TheVariants as failure
 use Rattle.pc_runs.specs.declared.files.RunFolder.{RunFolder}
 use Rattle.pc_runs.specs.declared.files.Unusable.TheVariants as unusable
+use Rattle.pc_runs.specs.declared.origin.Origin.{Origin}
+use Rattle.pc_runs.specs.declared.origin.Start.{Start}
+use Rattle.pc_runs.specs.declared.origin.Start.TheVariants as start
 use Rattle.pc_outcomes.specs.declared.outcome.Outcome.{Outcome}
 use Rattle.pc_outcomes.specs.declared.outcome.Printed.{Printed}
 use Rattle.pc_outcomes.specs.declared.outcome.Printed.TheVariants as printed
@@ -28,9 +34,32 @@ use Rattle.pc_outcomes.specs.declared.outcome.Left.{Left}
 use Rattle.pc_workers.specs.Covering.{HaveJustTo}
 use Rattle.pc_texts.specs.FileNames.{name_of}
 
--- the store of a run: 64 sessions and room for 65,536 keys, of run 1, which starts without pairs
-abbrev pub run_setting : Setting
-run_setting = record { run = 1; base = database_of []; sessions = 64; capacity = 65536 }
+-- the store of a run over this base: 64 sessions, and room for so many keys
+abbrev pub run_setting : BaseFile → ℕ → Setting
+run_setting base capacity = record { run = base.run; base = base.pairs; sessions = 64; capacity = capacity }
+
+-- It is the base that a run starts from. Of no folder it has no pairs and the run's number, and nothing is told; else it is made of
+-- the folder, and what is damaged there was told.
+abbrev pub IsStart : {S T : Type 0} → (S → Option (List ℕ)) → (T → Option (List ℕ)) → Start S → Tally T → Tally T → BaseFile → Type 0
+IsStart remaining contents (start.Empty run) old new base = (base ≡ record { run = run; point = 0; pairs = database_of [] }) × (new ≡ old)
+IsStart remaining contents (start.Folder old_run) old new base = IsMade remaining contents old_run.folder old new base
+
+-- a run was to start from the folder of this name, and there is no base of it for this reason
+abbrev pub IsUnstarted : {S : Type 0} → (S → Option (List ℕ)) → Start S → Failure → Type 0
+IsUnstarted remaining (start.Folder old_run) (failure.Start name lost) = (name ≡ old_run.name) × IsUnmade remaining old_run.folder lost
+IsUnstarted remaining other why = ⊥
+
+-- how far a run has come: nothing was begun; it has nothing to start from, for this reason; or its store was to be opened so
+pub data Beginning : Type 0 where
+  NotBegun : Beginning
+  Unstarted : (why : Failure) → Beginning
+  Begun : (st : Setting) → Beginning
+
+-- A run has come so far, and this was told till then: what is damaged of the folder that it starts from, once it has begun.
+abbrev pub Begins : {S T : Type 0} → (S → Option (List ℕ)) → (T → Option (List ℕ)) → Origin S → Tally T → Tally T → Beginning → Type 0
+Begins remaining contents origin old new NotBegun = new ≡ old
+Begins remaining contents origin old new (Unstarted why) = IsUnstarted remaining origin.start why × (new ≡ old)
+Begins remaining contents origin old new (Begun st) = (base : BaseFile) × IsStart remaining contents origin.start old new base × (st ≡ run_setting base origin.capacity)
 
 -- By one legal history of the store: so many transactions were committed, and of these files, which its log gives their points,
 -- this is left.
@@ -57,31 +86,43 @@ abbrev pub IsUnusable : {D : Type 0} → Option (RunFolder D) → Failure → Ty
 IsUnusable folder (failure.Folder name why) = MatchOption folder ⊥ (λ f. (name ≡ f.name) × (f.files ≡ Err why))
 IsUnusable folder other = ⊥
 
--- it is printed of the workload that the file holds, and was run only where the folder is usable
-abbrev pub IsAnswer : {R D : Type 0} → (R → Option (List ℕ)) → Result R Refusal → Option (RunFolder D) → Printed → Type 0
-IsAnswer remaining opened folder (printed.BadLine line) = IsReadAs remaining opened (reading.BadLine line)
-IsAnswer remaining opened folder (printed.Whole outcome) = IsUsable folder
-    × ((workload : Workload) × IsReadAs remaining opened (reading.Runs workload) × (outcome.points ≡ workload.points) × IsRun run_setting outcome)
+-- the file holds a workload that can be run
+abbrev pub CanRun : {R : Type 0} → (R → Option (List ℕ)) → Result R Refusal → Type 0
+CanRun remaining opened = IsOk opened × ((workload : Workload) × IsReadAs remaining opened (reading.Runs workload))
+
+-- The workload can be run, the folder is usable, and the run has begun.
+abbrev pub HasBegun : {R D : Type 0} → (R → Option (List ℕ)) → Result R Refusal → Option (RunFolder D) → (Beginning → Type 0) → Type 0
+HasBegun remaining opened folder begins = CanRun remaining opened × IsUsable folder × ((st : Setting) × begins (Begun st))
+
+-- It is printed of the workload that the file holds: of a bad line, before anything is begun; else the workload was run, of a
+-- setting with which it has begun, and only where the folder is usable.
+abbrev pub IsAnswer : {R D : Type 0} → (R → Option (List ℕ)) → Result R Refusal → Option (RunFolder D) → (Beginning → Type 0) → Printed → Type 0
+IsAnswer remaining opened folder begins (printed.BadLine line) = IsReadAs remaining opened (reading.BadLine line) × begins NotBegun
+IsAnswer remaining opened folder begins (printed.Whole outcome) = IsUsable folder
+    × ((workload : Workload) × IsReadAs remaining opened (reading.Runs workload) × (outcome.points ≡ workload.points))
+    × ((st : Setting) × begins (Begun st) × IsRun st outcome)
 
 -- what is printed of the workload that the file holds went out, all of it, and this is its status
-abbrev pub GoesOut : {R D T : Type 0} → (R → Option (List ℕ)) → (T → Option (List ℕ)) → Result R Refusal → Option (RunFolder D) → Tally T → Tally T → ℕ → Type 0
-GoesOut remaining contents opened folder old new status = (some : Printed) × IsAnswer remaining opened folder some × (status ≡ status_of some)
+abbrev pub GoesOut : {R D T : Type 0} → (R → Option (List ℕ)) → (T → Option (List ℕ)) → Result R Refusal → Option (RunFolder D) → (Beginning → Type 0) → Tally T → Tally T → ℕ → Type 0
+GoesOut remaining contents opened folder begins old new status = (some : Printed) × IsAnswer remaining opened folder begins some × (status ≡ status_of some)
     × Appends (contents (inner_of old)) (contents (inner_of new)) (printed_text some) × (failures_of new ≡ failures_of old)
 
 -- Why nothing is printed: where the file wasn't opened, the reason for that; where its workload can be run, and the folder can't
--- be used, the reason for this; and else one of the run, by files or threads only where the folder is usable.
-abbrev pub IsUnanswered : {R D : Type 0} → (R → Option (List ℕ)) → Result R Refusal → Option (RunFolder D) → Failure → Type 0
-IsUnanswered remaining opened folder (failure.Run (fault.Refused why)) = MatchResult opened (λ reader. ⊤) (λ absent. why ≡ absent)
-IsUnanswered remaining opened folder (failure.Run other) = IsOk opened × IsUsable folder
-IsUnanswered remaining opened folder (failure.Folder name why) = IsOk opened × ((workload : Workload) × IsReadAs remaining opened (reading.Runs workload)) × IsUnusable folder (failure.Folder name why)
-IsUnanswered remaining opened folder failure.Output = ⊥
+-- be used, the reason for this; where it can be used, and there is nothing to start from, that; and else one of the run, by files
+-- or threads only where it has begun.
+abbrev pub IsUnanswered : {R D : Type 0} → (R → Option (List ℕ)) → Result R Refusal → Option (RunFolder D) → (Beginning → Type 0) → Failure → Type 0
+IsUnanswered remaining opened folder begins (failure.Run (fault.Refused why)) = MatchResult opened (λ reader. begins NotBegun ⊎ HasBegun remaining opened folder begins) (λ absent. (why ≡ absent) × begins NotBegun)
+IsUnanswered remaining opened folder begins (failure.Run other) = HasBegun remaining opened folder begins
+IsUnanswered remaining opened folder begins (failure.Folder name why) = CanRun remaining opened × IsUnusable folder (failure.Folder name why) × begins NotBegun
+IsUnanswered remaining opened folder begins (failure.Start name why) = CanRun remaining opened × IsUsable folder × begins (Unstarted (failure.Start name why))
+IsUnanswered remaining opened folder begins failure.Output = ⊥
 
 -- Why not all was printed: the output failed, which was counted, and a beginning of what is printed went out; or there is nothing
 -- to print.
-abbrev pub IsCause : {R D T : Type 0} → (R → Option (List ℕ)) → (T → Option (List ℕ)) → Result R Refusal → Option (RunFolder D) → Tally T → Tally T → Failure → Type 0
-IsCause remaining contents opened folder old new failure.Output = HasRisen (failures_of old) (failures_of new)
-    × ((some : Printed) × IsAnswer remaining opened folder some × AppendsBeginning (contents (inner_of old)) (contents (inner_of new)) (printed_text some))
-IsCause remaining contents opened folder old new other = (new ≡ old) × IsUnanswered remaining opened folder other
+abbrev pub IsCause : {R D T : Type 0} → (R → Option (List ℕ)) → (T → Option (List ℕ)) → Result R Refusal → Option (RunFolder D) → (Beginning → Type 0) → Tally T → Tally T → Failure → Type 0
+IsCause remaining contents opened folder begins old new failure.Output = HasRisen (failures_of old) (failures_of new)
+    × ((some : Printed) × IsAnswer remaining opened folder begins some × AppendsBeginning (contents (inner_of old)) (contents (inner_of new)) (printed_text some))
+IsCause remaining contents opened folder begins old new other = (new ≡ old) × IsUnanswered remaining opened folder begins other
 
 -- the line that tells of a reason by a name
 abbrev pub reason_text : List ℕ → List ℕ → List ℕ
@@ -98,4 +139,9 @@ IsTold contents old new name (failure.Run (fault.Unmade file why)) = TellsOf con
 IsTold contents old new name (failure.Run fault.NoThread) = TellsReason contents old new name (codes "NoThread")
 IsTold contents old new name (failure.Folder folder unusable.NotEmpty) = TellsReason contents old new folder.items (codes "NotEmpty")
 IsTold contents old new name (failure.Folder folder (unusable.Unlisted why)) = TellsOf contents old new folder.items why
+IsTold contents old new name (failure.Start folder lost) = recoveries.IsTold contents old new folder.items lost
 IsTold contents old new name failure.Output = new ≡ old
+
+-- there is a cause by what was told till then, and it was told behind that
+abbrev pub IsFailed : {T : Type 0} → (T → Option (List ℕ)) → List ℕ → Tally T → (Tally T → Failure → Type 0) → Type 0
+IsFailed {T} contents name new cause = (why : Failure) × (between : Tally T) × cause between why × IsTold contents between new name why

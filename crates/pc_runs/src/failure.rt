@@ -8,7 +8,7 @@ ghost use Rattle.pc_runs.specs.Runs.{IsTold, IsUsable, IsUnusable, reason_text};
 
 use crate::files::{RunFolder, Unusable, report_unmade};
 use pc_outcomes::Printed;
-use pc_script::report;
+use pc_script::{Lost, report, tell_lost};
 use pc_threads::Fault;
 use pc_types::{Refusal, Tally};
 use std::io::Write;
@@ -20,6 +20,8 @@ pub enum Failure {
     Run(Fault),
     /// It was not run: the folder of this name can't be used for its files.
     Folder(Vec<u8>, Unusable),
+    /// It was not run: nothing can be recovered of the folder of this name, which it was to start from.
+    Start(Vec<u8>, Lost),
     /// The output failed.
     Output,
 }
@@ -74,7 +76,7 @@ pub fn print<W: Write>(printed: &Printed, out: &mut Tally<W>) -> Result<(), Fail
 }
 
 impl Failure {
-    /// Writes the line that tells why, by the name of the workload, of a file or of the folder; of an output that failed nothing.
+    /// Writes the line that tells why, by the name of the workload, of a file or of a folder; of an output that failed nothing.
     pub fn report<E: Write>(self, workload: &[u8], errors: &mut Tally<E>)
         ensures { IsTold E.contents errors.old errors.new workload.now self }
     {
@@ -88,6 +90,10 @@ impl Failure {
                 Unusable::NotEmpty => put_reason(&folder, b"NotEmpty", errors),
                 Unusable::Unlisted(why) => report(&folder, why, errors),
             },
+            Failure::Start(old, lost) => {
+                tell_lost(&old, &lost, errors);
+                Ok(())
+            }
             Failure::Output => Ok(()),
         };
     }

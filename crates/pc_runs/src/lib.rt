@@ -4,9 +4,14 @@
 mod crew;
 mod failure;
 mod files;
+mod origin;
+mod pace;
 mod run;
+mod starting;
 mod store;
 
 pub use crew::{Crew, MOST_WORKERS};
-pub use files::{NewFiles, RunFolder, Unusable};
+pub use files::{RunFolder, Unusable};
+pub use origin::{NamedFolder, Origin, Start};
+pub use pc_threads::NewFiles;
 pub use run::run_workload;

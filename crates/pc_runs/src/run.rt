@@ -1,18 +1,20 @@
 //! A run of a workload, from its reader to the status.
-ghost use Rattle.std.specs.Prelude.{◌≡◌, ◌⊎◌, IsOk, IfOk, IfErr, OnOk};
-ghost use Rattle.pc_runs.specs.Runs.{GoesOut, IsAnswer, IsCause, IsRun, IsTold, IsUnanswered, run_setting};
-ghost use Rattle.pc_runs.specs.declared.failure.Failure.{Failure};
+ghost use Rattle.std.specs.Prelude.{◌≡◌, ◌⊎◌, ◌≤◌, IsOk, IfOk, IfErr, OnOk};
+ghost use Rattle.pc_types.specs.declared.limits.TheConstants.{MOST_KEYS};
+ghost use Rattle.pc_runs.specs.Runs.{Begins, GoesOut, IsAnswer, IsCause, IsFailed, IsRun, IsUnanswered, run_setting};
 
 use crate::crew::Crew;
 use crate::failure::{Failure, print, usable};
-use crate::files::{NewFiles, RunFolder, begin_files};
+use crate::files::{RunFolder, begin_files};
+use crate::origin::Origin;
+use crate::starting::base_of;
 use crate::store::run_store;
 use pc_jobs::{Reading, Workload, read_workload};
 use pc_outcomes::{Outcome, Printed};
 use pc_part::Base;
 use pc_script::{NamedFile, read_opened};
 use pc_shared::Opened;
-use pc_threads::Fault;
+use pc_threads::{Fault, NewFiles};
 use pc_types::{Gate, Refusal, Tally};
 use std::alloc::Global;
 use std::hash::RandomState;
@@ -21,34 +23,33 @@ use std::marker::Brand;
 use std::sync::Wait;
 use std::thread::Threads;
 
-// What the store of a run is opened with.
+// How many sessions the store of a run has.
 const SESSIONS: u8 = 64;
-
-const CAPACITY: u32 = 65_536;
-
-const RUN: u64 = 1;
 
 // The status of a run that didn't fail.
 const DONE: u8 = 0;
 
 const BAD_LINE: u8 = 3;
 
-/// Reads a workload, runs its clients on threads beside a checkpointer and collapsers, and prints what they leave: how many
-/// transactions were committed and given up, how many points were taken, the file of all points, and whether the files are
+/// Reads a workload, runs its clients on threads beside a checkpointer and collapsers, over a store without pairs or with those that
+/// a folder's files are worth, and prints what they leave: how many transactions were committed and given up, how many points were taken, the file of all points, and whether the files are
 /// right by the log. It gives the status
 ///
 /// - 0 where all of that was done;
 /// - 3 where the workload has a bad line, whose number is printed: nothing is run;
 /// - else 1, and a line on the error writer tells why: the workload isn't there, can't be read or is too large for memory, a
 ///   file of the folder can't be made or written, a thread can't be started, or a call was refused; or, by the folder's name, the
-///   folder can't be used: then nothing is run, and no file is made. Of an output that fails nothing is told.
+///   folder can't be used, or by the names that a recovery tells, nothing can be recovered of the one that the store was to start
+///   from: then nothing is run, and no file is made. Of an output that fails nothing is told.
 ///
-/// Where there is a folder, the base, the log and the file of each point are written to it; the log as it grows.
+/// What is damaged or lacks of the files that the store starts from is told on the error writer before the run begins. Where there
+/// is a folder for files, the base, the log and the file of each point are written to it; the log as it grows.
 ///
 /// The seed is that of the hashes of the store's keys: two words given by chance (`RandomState::new`), so that no workload can
 /// pick keys that all share a chain.
 pub fn run_workload<
     R: Read + Drop,
+    S: Read + Drop,
     F: Write + Drop + Send,
     D: NewFiles<F> + Drop,
     W: Write,
@@ -60,6 +61,7 @@ pub fn run_workload<
     alloc: Global,
     seed: RandomState,
     workload: NamedFile<R>,
+    origin: Origin<S>,
     crew: &Crew<'_, G>,
     folder: Option<RunFolder<D>>,
     out: &mut Tally<W>,
@@ -67,12 +69,12 @@ pub fn run_workload<
 ) -> u8
     ensures status { (result ≡ 0) ⊎ (result ≡ 1) ⊎ (result ≡ 3) }
     ensures opened { ¬ (result ≡ 1) → IsOk workload.opened }
-    ensures printed { ¬ (result ≡ 1) → GoesOut R.remaining W.contents workload.opened folder out.old out.new result × (errors.new ≡ errors.old) }
-    ensures cause { result ≡ 1 → (failure : Failure) × IsCause R.remaining W.contents workload.opened folder out.old out.new failure
-        × IsTold E.contents errors.old errors.new workload.name.items failure }
+    ensures printed { ¬ (result ≡ 1) → GoesOut R.remaining W.contents workload.opened folder (Begins S.remaining E.contents origin errors.old errors.new) out.old out.new result }
+    ensures cause { result ≡ 1 → IsFailed E.contents workload.name.items errors.new
+        (λ between. IsCause R.remaining W.contents workload.opened folder (Begins S.remaining E.contents origin errors.old between) out.old out.new) }
 {
     let NamedFile { name, opened } = workload;
-    match run_opened(rt, alloc, seed, opened, crew, folder, out) {
+    match run_opened(rt, alloc, seed, opened, origin, crew, folder, out, errors) {
         Ok(status) => status,
         Err(failure) => {
             failure.report(&name, errors);
@@ -84,9 +86,11 @@ pub fn run_workload<
 // What is printed of the workload goes out; the status.
 fn run_opened<
     R: Read + Drop,
+    S: Read + Drop,
     F: Write + Drop + Send,
     D: NewFiles<F> + Drop,
     W: Write,
+    E: Write,
     G: Gate + Sync,
     H: Threads + Wait + Sync,
 >(
@@ -94,15 +98,17 @@ fn run_opened<
     alloc: Global,
     seed: RandomState,
     opened: Result<R, Refusal>,
+    origin: Origin<S>,
     crew: &Crew<'_, G>,
     folder: Option<RunFolder<D>>,
     out: &mut Tally<W>,
+    errors: &mut Tally<E>,
 ) -> Result<u8, Failure>
     ensures opened { OnOk result (IsOk opened) }
-    ensures printed { IfOk result (λ status. GoesOut R.remaining W.contents opened folder out.old out.new status) }
-    ensures cause { IfErr result (IsCause R.remaining W.contents opened folder out.old out.new) }
+    ensures printed { IfOk result (λ status. GoesOut R.remaining W.contents opened folder (Begins S.remaining E.contents origin errors.old errors.new) out.old out.new status) }
+    ensures cause { IfErr result (IsCause R.remaining W.contents opened folder (Begins S.remaining E.contents origin errors.old errors.new) out.old out.new) }
 {
-    let printed = answer(rt, alloc, seed, opened, crew, folder)?;
+    let printed = answer(rt, alloc, seed, opened, origin, crew, folder, errors)?;
     print(&printed, out)?;
     Ok(printed.status())
 }
@@ -110,8 +116,10 @@ fn run_opened<
 // What is to be printed of the workload: the first bad line, or what its run left.
 fn answer<
     R: Read + Drop,
+    S: Read + Drop,
     F: Write + Drop + Send,
     D: NewFiles<F> + Drop,
+    E: Write,
     G: Gate + Sync,
     H: Threads + Wait + Sync,
 >(
@@ -119,25 +127,30 @@ fn answer<
     alloc: Global,
     seed: RandomState,
     opened: Result<R, Refusal>,
+    origin: Origin<S>,
     crew: &Crew<'_, G>,
     folder: Option<RunFolder<D>>,
+    errors: &mut Tally<E>,
 ) -> Result<Printed, Failure>
     ensures opened { OnOk result (IsOk opened) }
-    ensures answer { IfOk result (IsAnswer R.remaining opened folder) }
-    ensures cause { IfErr result (IsUnanswered R.remaining opened folder) }
+    ensures answer { IfOk result (IsAnswer R.remaining opened folder (Begins S.remaining E.contents origin errors.old errors.new)) }
+    ensures cause { IfErr result (IsUnanswered R.remaining opened folder (Begins S.remaining E.contents origin errors.old errors.new)) }
 {
     let text = read_opened(alloc, opened)?;
     match read_workload(alloc, &text)? {
         Reading::BadLine(line) => Ok(Printed::BadLine(line)),
         Reading::Runs(workload) => {
             let folder = usable(folder)?;
-            let outcome = run_read(rt, alloc, seed, workload, crew, folder)?;
+            let Origin { start, capacity } = origin;
+            let base = base_of(alloc, start, errors)?;
+            let outcome = run_read(rt, alloc, seed, workload, base, capacity, crew, folder)?;
             Ok(Printed::Whole(outcome))
         }
     }
 }
 
-// Runs the workload over a new store.
+// Runs the workload over a new store, which starts from the base and has room for so many keys. Where the base has more of them no
+// file is made.
 fn run_read<
     F: Write + Drop + Send,
     D: NewFiles<F> + Drop,
@@ -148,17 +161,23 @@ fn run_read<
     alloc: Global,
     seed: RandomState,
     workload: Workload,
+    base: Base,
+    capacity: u32,
     crew: &Crew<'_, G>,
     folder: Option<D>,
 ) -> Result<Outcome, Fault>
+    requires start { base.point ≡ 0 }
+    requires capacity { (1 ≤ capacity) × (capacity ≤ MOST_KEYS) }
     ensures points { IfOk result (λ outcome. outcome.points ≡ workload.points) }
-    ensures run { IfOk result (IsRun run_setting) }
+    ensures run { IfOk result (IsRun (run_setting base capacity)) }
 {
-    let base = Base::start(RUN, Vec::new(alloc));
+    if base.pairs().len() > capacity as usize {
+        return Err(Fault::Refused(Refusal::Full));
+    }
     let log = match &folder {
         Some(folder) => Some(begin_files(folder, &base)?),
         None => None,
     };
-    let opened = Opened::new(alloc, base, SESSIONS, CAPACITY, seed)?;
+    let opened = Opened::new(alloc, base, SESSIONS, capacity, seed)?;
     run_store::<Brand, F, D, G, H>(rt, alloc, opened, workload, crew, &folder, log)
 }

@@ -8,23 +8,24 @@ ghost use Rattle.pc_runs.specs.Runs.{IsOfHistory, IsRun};
 ghost use Rattle.pc_runs.specs.Singles.{AreSingles};
 
 use crate::crew::Crew;
-use crate::files::{NewFiles, flush, write_part};
+use crate::pace::every_of;
 use pc_board::{Board, BoardPass};
 use pc_jobs::{Workload, deal};
 use pc_outcomes::{Left, Outcome, commits_in, left_by};
 use pc_shared::{Closed, Opened, PartTicket, Session, Shared};
 use pc_shelf::SharedPart;
 use pc_threads::{
-    Fault, Logger, Rested, Room, Seating, Written, gather, hands_of, run_threads, seat_workers,
+    Fault, Logger, NewFiles, Rested, Room, Seating, Written, flush_file, gather, hands_of,
+    run_threads, seat_workers,
 };
 use pc_tie::StoreName;
-use pc_types::{FileNo, Gate, Point, Refusal, Tally};
+use pc_types::{FileNo, Gate, Refusal, Tally};
 use pc_workers::{log_rest, with_missing_points};
 use std::alloc::{AllocError, Global};
 use std::io::Write;
 use std::mem;
 use std::sync::Wait;
-use std::sync::atomic::AtomicBool;
+use std::sync::atomic::AtomicU64;
 use std::thread::Threads;
 
 // What the threads leave of a store: its sessions, and tickets of its files.
@@ -32,9 +33,9 @@ use std::thread::Threads;
 struct Ended<N: StoreName> {
     sessions: Vec<Session<N>>,
     given_up: u64,
-    // A ticket of each point, where its file is to be written, and behind them tickets that are to be joined.
+    // A ticket of each point, where its file was written, and behind them tickets that are to be joined.
     tickets: Vec<PartTicket<N>>,
-    // How many of the tickets are of a point whose file is to be written.
+    // How many of the tickets are of a point whose file was written.
     singles: usize,
     ghost within: { singles ≤ length tickets.items },
     ghost named: { AreSingles (take singles tickets.items) },
@@ -57,7 +58,7 @@ fn take_singles<N: StoreName, R: Wait>(
 }
 
 // Takes back what the threads had: the sessions of all clients, and the tickets of the collapsers with those of the points that
-// they left, behind one of each point where its file is to be written.
+// they left, behind one of each point where its file was written.
 fn take_back<N: StoreName, R: Wait>(
     rt: &R,
     alloc: Global,
@@ -89,6 +90,7 @@ fn take_back<N: StoreName, R: Wait>(
 fn use_store<
     N: StoreName + Send + Sync,
     F: Write + Drop + Send,
+    D: NewFiles<F>,
     G: Gate + Sync,
     R: Threads + Wait + Sync,
 >(
@@ -97,6 +99,8 @@ fn use_store<
     seating: Seating<N>,
     board: &Board,
     passes: Vec<BoardPass>,
+    folder: &Option<D>,
+    every: u32,
     logger: Logger<N, F>,
 ) -> Result<(Ended<N>, Written<N, F>), Fault>
     requires some { 0 < length passes.items }
@@ -105,7 +109,7 @@ fn use_store<
 {
     let Seating { workers, idle } = seating;
     let singles = if logger.out.is_some() { room.points } else { 0 };
-    let hands = hands_of(room.alloc, board, passes, workers)?;
+    let hands = hands_of(room.alloc, board, passes, workers, folder.as_ref(), every)?;
     let (rested, written) = run_threads(rt, room, hands, logger)?;
     let ended = take_back(
         rt,
@@ -120,7 +124,7 @@ fn use_store<
 }
 
 /// Runs the workload over the store, to its close, and tells what it leaves. Where there is a folder, the log is written to it
-/// beside the threads, its rest once the store is closed, and the file of each point.
+/// beside the threads, and its rest once the store is closed; and so is the file of each point, once the point was taken.
 pub fn run_store<
     N: StoreName + Send + Sync,
     F: Write + Drop + Send,
@@ -143,18 +147,20 @@ pub fn run_store<
     let Workload { points, clients } = workload;
     let (shared, sessions, pass) = opened.named::<N>()?;
     let (board, passes) = Board::new(alloc, crew.collapsers + 1)?;
+    let every = every_of(crew.every, points, &clients);
     let dealt = deal(alloc, crew.workers, clients)?;
     let seating = seat_workers(alloc, dealt, sessions)?;
-    let lost = AtomicBool::new(false);
+    let working = AtomicU64::new(u64::from(crew.workers));
     let room = Room {
         alloc,
         shared: &shared,
         gate: crew.gate,
         points,
-        lost: &lost,
+        lag: log.as_ref().map(|_| crew.lag),
+        working: &working,
     };
     let logger = Logger { pass, out: log };
-    let (ended, written) = use_store(rt, &room, seating, &board, passes, logger)?;
+    let (ended, written) = use_store(rt, &room, seating, &board, passes, folder, every, logger)?;
     let Ended {
         sessions,
         given_up,
@@ -164,7 +170,7 @@ pub fn run_store<
     let Written { pass, out, ended } = written;
     let closed = shared.close(sessions, tickets, pass);
     ended?;
-    let left = leave(rt, alloc, closed, singles, crew, folder, out)?;
+    let left = leave(rt, alloc, closed, singles, crew, out)?;
     Ok(Outcome {
         commits: left.commits,
         given_up,
@@ -180,27 +186,23 @@ struct Legacy {
     files: Left,
 }
 
-// Writes what is left to write, and tells what the closed store leaves. So many of the tickets are of a point whose file is to
-// be written.
-fn leave<N: StoreName, F: Write + Drop, D: NewFiles<F>, G: Gate + Sync, R: Threads + Wait + Sync>(
+// Writes the rest of the log, and tells what the closed store leaves. So many of the tickets are of a point whose file was written.
+fn leave<N: StoreName, F: Write + Drop, G: Gate + Sync, R: Threads + Wait + Sync>(
     rt: &R,
     alloc: Global,
     closed: Closed<N>,
     singles: usize,
     crew: &Crew<'_, G>,
-    folder: &Option<D>,
     log: Option<Tally<F>>,
 ) -> Result<Legacy, Fault>
     requires logged { closed.logged ≤ length closed.world.log }
     requires singles { singles ≤ length closed.parts.items }
-    requires named { AreSingles (take singles closed.parts.items) }
     requires after { (history : History) × AreLeftAfter N.name.setting history closed.world.base closed.world.log closed.parts.items }
     ensures history { IfOk result (λ legacy. IsOfHistory N.name.setting legacy.commits (drop singles closed.parts.items) legacy.files) }
 {
     finish_log(&closed, log)?;
     let mut closed = closed;
     let files = files_of(alloc, &mut closed)?;
-    write_parts(folder, &files[..singles])?;
     let (base, log) = (closed.base(), closed.log());
     let files = left_by(
         rt,
@@ -233,25 +235,6 @@ fn files_of<N: StoreName>(
     Ok(files)
 }
 
-// The file of each point, where there is a folder.
-fn write_parts<F: Write + Drop, D: NewFiles<F>>(
-    folder: &Option<D>,
-    files: &[SharedPart],
-) -> Result<(), Fault>
-    requires { AreSingles files.now }
-{
-    let Some(folder) = folder else {
-        return Ok(());
-    };
-    for place in 0..files.len() {
-        let Ok(point) = u16::try_from(place + 1) else {
-            return Err(Fault::Refused(Refusal::Full));
-        };
-        write_part(folder, Point(point), files[place].part())?;
-    }
-    Ok(())
-}
-
 // The rest of the log, where there is a file for it.
 fn finish_log<N: StoreName, F: Write + Drop>(
     closed: &Closed<N>,
@@ -263,5 +246,5 @@ fn finish_log<N: StoreName, F: Write + Drop>(
         return Ok(());
     };
     log_rest(closed, &mut log)?;
-    flush(&mut log)
+    flush_file(&mut log)
 }

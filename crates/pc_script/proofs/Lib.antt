@@ -1,5 +1,6 @@
 mod BaseLemmas
 mod Begun
+mod FolderBases
 mod FolderParts
 mod FolderRecovery
 mod RunLemmas

@@ -40,13 +40,13 @@ counts_text point entries = count_line (codes "point ") point ++ count_line (cod
 abbrev pub pairs_text : List (List ℕ × List ℕ) → ℕ → List ℕ
 pairs_text pairs count = count_line (codes "pairs ") count ++ flat_map pair_text pairs
 
--- the parts that were skipped, by their names, and the pairs
-abbrev pub parts_and_pairs_text : List (List ℕ) → Recovery → List ℕ
-parts_and_pairs_text names found = flat_map (skipped_line names) found.skipped ++ pairs_text found.pairs.entries (len found.pairs)
+-- what is damaged or was skipped: the line of the log's fault, and those of the parts that were skipped, by their names
+abbrev pub damage_text : List (List ℕ) → Recovery → List ℕ
+damage_text names found = log_line found.fault ++ flat_map (skipped_line names) found.skipped
 
 -- what stands behind the counts
 abbrev pub details_text : List (List ℕ) → Recovery → List ℕ
-details_text names found = log_line found.fault ++ parts_and_pairs_text names found
+details_text names found = damage_text names found ++ pairs_text found.pairs.entries (len found.pairs)
 
 -- all that is printed of what was recovered, where the parts have these names
 abbrev pub recovery_text : List (List ℕ) → Recovery → List ℕ

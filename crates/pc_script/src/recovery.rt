@@ -6,7 +6,7 @@ ghost use Rattle.pc_types.specs.declared.refusal.Refusal.{Refusal};
 ghost use Rattle.pc_types.specs.Tallies.{inner_of, failures_of, Puts};
 ghost use Rattle.pc_types.specs.Fields.{Gives};
 ghost use Rattle.pc_model.specs.Database.{KeysRise};
-ghost use Rattle.pc_recover.specs.Recovery.{Recovery, recovery, recovery_of};
+ghost use Rattle.pc_recover.specs.Recovery.{IsOfRun, Recovery, recovery, recovery_of};
 ghost use Rattle.pc_script.specs.declared.recovery.Lost.{Lost};
 ghost use Rattle.pc_script.specs.Runs.{IsScriptFault};
 ghost use Rattle.pc_script.specs.Reports.{recovery_text};
@@ -87,7 +87,7 @@ pub fn run_recover<R: Read + Drop, W: Write, E: Write>(
     match recover_folder(alloc, folder, out) {
         Ok(()) => 0,
         Err(lost) => {
-            tell(dir, &lost, errors);
+            tell_lost(dir.as_bytes(), &lost, errors);
             1
         }
     }
@@ -104,12 +104,8 @@ fn recover_folder<R: Read + Drop, W: Write>(
     ensures cause { IfErr result (IsLost R.remaining folder) }
     ensures goes_out { IfErr result (GoesOut R.remaining W.contents folder out.old out.new) }
 {
-    let files = read_folder(alloc, folder)?;
-    let recovered = match recover_files(alloc, &files) {
-        Ok(recovered) => recovered,
-        Err(why) => return Err(Lost::Folder(why)),
-    };
-    let put = put_recovered(out, &files.parts, &recovered);
+    let Worth { parts, recovered } = recover_read(alloc, folder)?;
+    let put = put_recovered(out, &parts, &recovered);
     let flushed = out.flush();
     match put {
         Ok(()) if flushed.is_ok() => Ok(()),
@@ -117,15 +113,44 @@ fn recover_folder<R: Read + Drop, W: Write>(
     }
 }
 
-// Tells why nothing is recovered.
-fn tell<E: Write>(dir: &str, lost: &Lost, errors: &mut Tally<E>)
+/// The part files of a folder that were read, and what all of its files are worth.
+#[derive(Drop)]
+pub(crate) struct Worth {
+    pub(crate) parts: Vec<PartBytes>,
+    pub(crate) recovered: Recovered,
+}
+
+/// Reads all files of the folder, and recovers what they are worth.
+pub(crate) fn recover_read<R: Read + Drop>(alloc: Global, folder: Folder<R>) -> Result<Worth, Lost>
+    ensures worth { (base : List ℕ) (names parts : List (List ℕ)) (log : List ℕ) → HoldsAll R.remaining folder base names parts log → IfOk result (λ worth.
+        (names_of worth.parts.items ≡ names) × (recovery base parts log ≡ Ok (recovery_of worth.recovered)) × IsOfRun base worth.recovered.run) }
+    ensures rise { IfOk result (λ worth. KeysRise worth.recovered.pairs.items) }
+    ensures opened { OnOk result (AreAllOpened folder) }
+    ensures cause { IfErr result (λ lost. IsLost R.remaining folder lost × (lost ≢ Lost.Output)) }
+{
+    let files = read_folder(alloc, folder)?;
+    let recovered = match recover_files(alloc, &files) {
+        Ok(recovered) => recovered,
+        Err(why) => return Err(Lost::Folder(why)),
+    };
+    let FolderBytes {
+        base: _,
+        parts,
+        log: _,
+    } = files;
+    Ok(Worth { parts, recovered })
+}
+
+/// Writes the line that tells why nothing is recovered of the folder of this name: by the name of the file or the folder. Of a
+/// fault of the output it tells nothing.
+pub fn tell_lost<E: Write>(dir: &[u8], lost: &Lost, errors: &mut Tally<E>)
     ensures { IsTold E.contents errors.old errors.new dir.now lost.now }
 {
     let _ = match lost {
         Lost::Base(why) => report(b"base.pcb", *why, errors),
         Lost::Part(name, why) => report(name, *why, errors),
         Lost::Log(why) => report(b"log.pcl", *why, errors),
-        Lost::Folder(why) => report(dir.as_bytes(), *why, errors),
+        Lost::Folder(why) => report(dir, *why, errors),
         Lost::Output => Ok(()),
     };
 }
@@ -133,6 +158,7 @@ fn tell<E: Write>(dir: &str, lost: &Lost, errors: &mut Tally<E>)
 fn recover_files(alloc: Global, files: &FolderBytes) -> Result<Recovered, Refusal>
     ensures rules { Gives recovery_of result (recovery files.now.base.items (bytes_of files.now.parts.items) files.now.log.items) }
     ensures rise { IfOk result (λ recovered. KeysRise recovered.pairs.items) }
+    ensures run { IfOk result (λ recovered. IsOfRun files.now.base.items recovered.run) }
 {
     let parts = slices_of(alloc, &files.parts)?;
     recover(alloc, &files.base, &parts, &files.log)

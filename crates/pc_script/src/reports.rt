@@ -5,7 +5,7 @@ ghost use Rattle.pc_types.specs.Tallies.{Puts};
 ghost use Rattle.pc_model.specs.Database.{KeysRise};
 ghost use Rattle.pc_recover.specs.Recovery.{recovery_of};
 ghost use Rattle.pc_texts.specs.Texts.{refusal_text};
-ghost use Rattle.pc_script.specs.Reports.{count_line, counts_text, details_text, is_cut, log_line, name_at, pairs_text, parts_and_pairs_text, recovery_text, skipped_line};
+ghost use Rattle.pc_script.specs.Reports.{count_line, counts_text, damage_text, details_text, is_cut, log_line, name_at, pairs_text, recovery_text, skipped_line};
 ghost use Rattle.pc_script.specs.Recoveries.{names_of};
 
 use crate::recovery::PartBytes;
@@ -28,7 +28,7 @@ pub(crate) fn put_recovered<W: Write>(
     put_details(out, parts, recovered)
 }
 
-// What stands behind the counts: the log's fault, the parts that were skipped, and the pairs.
+// What stands behind the counts: what is damaged or was skipped, and the pairs.
 fn put_details<W: Write>(
     out: &mut Tally<W>,
     parts: &[PartBytes],
@@ -37,20 +37,21 @@ fn put_details<W: Write>(
     requires rise { KeysRise recovered.now.pairs.items }
     ensures { Puts W.contents out.old out.new result (details_text (names_of parts.now) (recovery_of recovered.now)) }
 {
-    put_log(out, recovered.fault)?;
-    put_parts_and_pairs(out, parts, recovered)
+    put_damage(out, parts, recovered)?;
+    put_all_pairs(out, &recovered.pairs)
 }
 
-fn put_parts_and_pairs<W: Write>(
+/// Writes what was damaged or skipped of parts with these names and of the log: the line of the log's fault, where it has one
+/// and was not only cut off, and one of each part that was skipped.
+pub(crate) fn put_damage<W: Write>(
     out: &mut Tally<W>,
     parts: &[PartBytes],
     recovered: &Recovered,
 ) -> Result<(), Refusal>
-    requires rise { KeysRise recovered.now.pairs.items }
-    ensures { Puts W.contents out.old out.new result (parts_and_pairs_text (names_of parts.now) (recovery_of recovered.now)) }
+    ensures { Puts W.contents out.old out.new result (damage_text (names_of parts.now) (recovery_of recovered.now)) }
 {
-    put_all_skipped(out, parts, &recovered.skipped)?;
-    put_all_pairs(out, &recovered.pairs)
+    put_log(out, recovered.fault)?;
+    put_all_skipped(out, parts, &recovered.skipped)
 }
 
 fn put_counts<W: Write>(out: &mut Tally<W>, point: Point, entries: usize) -> Result<(), Refusal>

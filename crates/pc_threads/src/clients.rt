@@ -126,7 +126,7 @@ fn run_works<N: StoreName, R: Wait, G: Gate>(
 {
     let mut count = NOTHING;
     for work in works {
-        if room.is_lost() {
+        if room.shared.has_log_ended() {
             break;
         }
         let more = match work {
@@ -148,7 +148,7 @@ impl<N: StoreName> Seated<N> {
 }
 
 impl<N: StoreName> Worker<N> {
-    /// Runs its clients, one after the other, as long as the log's file isn't lost.
+    /// Runs its clients, one after the other, as long as the log's file isn't lost, and leaves the room.
     pub fn run<R: Wait, G: Gate>(self, rt: &R, room: &Room<'_, N, G>) -> Worker<N> {
         let Worker {
             mut seats,
@@ -158,6 +158,7 @@ impl<N: StoreName> Worker<N> {
             let more = seated.run(rt, room);
             add(&mut count, more);
         }
+        room.leave(rt);
         Worker { seats, count }
     }
 }
@@ -170,7 +171,15 @@ fn run_jobs<N: StoreName, R: Wait, G: Gate>(
 ) -> Count
     ensures { session.new.number ≡ session.old.number }
 {
-    client_loop(rt, room.alloc, room.shared, session, jobs, room.gate)
+    client_loop(
+        rt,
+        room.alloc,
+        room.shared,
+        session,
+        jobs,
+        room.lag,
+        room.gate,
+    )
 }
 
 // The transactions of a fill, each made when it is its turn, as long as the log's file isn't lost; one for which memory ran out is
@@ -185,7 +194,7 @@ fn run_fill<N: StoreName, R: Wait, G: Gate>(
 {
     let mut count = NOTHING;
     for number in 0..fill.count {
-        if room.is_lost() {
+        if room.shared.has_log_ended() {
             break;
         }
         let more = match fill.job(room.alloc, number) {

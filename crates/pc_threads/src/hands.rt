@@ -3,8 +3,10 @@ ghost use Rattle.std.specs.Prelude.{◌≡◌, ◌+◌, ◌<◌, All, length, If
 ghost use Rattle.pc_board.specs.Passes.{IsOfBoard};
 
 use crate::clients::Worker;
+use crate::points::Checkpointer;
 use pc_board::{Board, BoardPass};
 use pc_tie::StoreName;
+use pc_types::Lsn;
 use std::alloc::{AllocError, Global};
 
 /// A board, and a pass of it.
@@ -22,10 +24,10 @@ pub struct Collapser<'a> {
     pub seat: Seat<'a>,
 }
 
-/// Who runs a workload: the checkpointer at its seat, workers with their clients, and collapsers.
+/// Who runs a workload: the checkpointer, workers with their clients, and collapsers.
 #[derive(Drop)]
-pub struct Hands<'a, N: StoreName> {
-    pub checkpointer: Seat<'a>,
+pub struct Hands<'a, N: StoreName, D> {
+    pub checkpointer: Checkpointer<'a, D>,
     pub workers: Vec<Worker<N>>,
     pub collapsers: Vec<Collapser<'a>>,
 }
@@ -49,13 +51,17 @@ fn seat_collapsers<'a>(
     Ok(collapsers)
 }
 
-/// The workers, a collapser for each pass but the last one, and that one for the checkpointer. It fails only where memory ran out.
-pub fn hands_of<'a, N: StoreName>(
+/// The workers, a collapser for each pass but the last one, and that one for the checkpointer, which takes a point once so many
+/// transactions have committed since the last one, and writes the points' files to the folder, if there is one. It fails only where
+/// memory ran out.
+pub fn hands_of<'a, N: StoreName, D>(
     alloc: Global,
     board: &'a Board,
     passes: Vec<BoardPass>,
     workers: Vec<Worker<N>>,
-) -> Result<Hands<'a, N>, AllocError>
+    folder: Option<&'a D>,
+    every: u32,
+) -> Result<Hands<'a, N, D>, AllocError>
     requires some { 0 < length passes.items }
     requires ours { All (λ pass. IsOfBoard pass board.now) passes.items }
     ensures workers { IfOk result (λ hands. hands.workers.items ≡ workers.items) }
@@ -65,7 +71,12 @@ pub fn hands_of<'a, N: StoreName>(
     let Some(pass) = passes.pop() else {
         unreachable!();
     };
-    let checkpointer = Seat { board, pass };
+    let checkpointer = Checkpointer {
+        seat: Seat { board, pass },
+        folder,
+        every,
+        counted_from: Lsn(0),
+    };
     let collapsers = seat_collapsers(alloc, board, passes)?;
     Ok(Hands {
         checkpointer,

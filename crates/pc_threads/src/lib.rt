@@ -3,12 +3,16 @@
 
 mod clients;
 mod fault;
+mod files;
 mod hands;
+mod points;
 mod room;
 mod threads;
 
 pub use clients::{Seated, Seating, Worker, gather, seat_workers};
 pub use fault::Fault;
+pub use files::{NewFiles, finish_file, flush_file, make_file, write_part};
 pub use hands::{Collapser, Hands, Seat, hands_of};
+pub use points::Checkpointer;
 pub use room::Room;
 pub use threads::{Logger, Rested, Written, run_threads};

@@ -5,13 +5,15 @@ ghost use Rattle.pc_workers.specs.Covering.{HaveOnlyTo};
 
 use crate::clients::Worker;
 use crate::fault::Fault;
+use crate::files::NewFiles;
 use crate::hands::{Collapser, Hands, Seat};
+use crate::points::{Checkpointer, take_points};
 use crate::room::Room;
 use pc_board::{Board, BoardPass};
 use pc_shared::{LogPass, PartTicket, Shared};
 use pc_tie::StoreName;
 use pc_types::{Gate, Refusal, Tally};
-use pc_workers::{checkpoint_loop, collapse_loop, log_loop};
+use pc_workers::{collapse_loop, log_loop};
 use std::alloc::Global;
 use std::io::Write;
 use std::sync::Wait;
@@ -41,7 +43,7 @@ pub struct Written<N: StoreName, F: Write> {
 }
 
 impl<N: StoreName, F: Write> Logger<N, F> {
-    // Writes the log until the end is marked, or its file is lost, which the others are told.
+    // Writes the log until the end is marked, or its file is lost, and tells the others that no more is written.
     fn run<R: Wait, G: Gate>(self, rt: &R, room: &Room<'_, N, G>) -> Written<N, F> {
         let Logger { mut pass, out } = self;
         let Some(mut out) = out else {
@@ -51,13 +53,8 @@ impl<N: StoreName, F: Write> Logger<N, F> {
                 ended: Ok(()),
             };
         };
-        let ended = match log_loop(rt, room.shared, &mut pass, &mut out) {
-            Ok(_) => Ok(()),
-            Err(why) => {
-                room.lose();
-                Err(why)
-            }
-        };
+        let ended = log_loop(rt, room.shared, &mut pass, &mut out, room.gate).map(|_| ());
+        room.shared.mark_log_end(rt);
         Written {
             pass,
             out: Some(out),
@@ -111,25 +108,18 @@ fn join_collapsers<N: StoreName, R: Threads>(
     Ok(held)
 }
 
-// Takes so many points.
-fn take_points<'a, N: StoreName, G: Gate, R: Wait>(
-    rt: &R,
-    room: &Room<'_, N, G>,
-    seat: Seat<'a>,
-    points: u32,
-) -> Result<Seat<'a>, Fault> {
-    let Seat { board, mut pass } = seat;
-    match checkpoint_loop(rt, room.shared, board, &mut pass, points, room.gate) {
-        Ok(_) => Ok(Seat { board, pass }),
-        Err(why) => Err(Fault::Refused(why)),
-    }
-}
-
 // The workers, with all points but the last one beside them, and the last one once they have ended.
-fn run_workers<'x, N: StoreName + Send + Sync, G: Gate + Sync, R: Threads + Wait + Sync>(
+fn run_workers<
+    'x,
+    N: StoreName + Send + Sync,
+    F: Write + Drop,
+    D: NewFiles<F>,
+    G: Gate + Sync,
+    R: Threads + Wait + Sync,
+>(
     rt: &'x R,
     room: &'x Room<'x, N, G>,
-    seat: Seat<'x>,
+    checkpointer: Checkpointer<'x, D>,
     workers: Vec<Worker<N>>,
 ) -> Result<Vec<Worker<N>>, Fault> {
     let handles = Vec::with_capacity(room.alloc, workers.len())?;
@@ -145,22 +135,26 @@ fn run_workers<'x, N: StoreName + Send + Sync, G: Gate + Sync, R: Threads + Wait
                     Err(_) => return Err(Fault::NoThread),
                 }
             }
-            let seat = take_points(rt, room, seat, room.points.saturating_sub(1))?;
+            let beside = room.points.saturating_sub(1);
+            let checkpointer = take_points(rt, room, checkpointer, 0, beside)?;
             for handle in handles {
                 rested.push(handle.join(rt))?;
             }
-            take_points(rt, room, seat, room.points.min(1))?;
+            take_points(rt, room, checkpointer, beside, room.points)?;
             Ok(rested)
         },
     )
 }
 
 // The workers and the points, beside the collapsers, for whom the end is marked then.
-fn run_hands<'x, N: StoreName + Send + Sync, G: Gate + Sync, R: Threads + Wait + Sync>(
-    rt: &'x R,
-    room: &'x Room<'x, N, G>,
-    hands: Hands<'x, N>,
-) -> Result<Rested<N>, Fault>
+fn run_hands<
+    'x,
+    N: StoreName + Send + Sync,
+    F: Write + Drop,
+    D: NewFiles<F>,
+    G: Gate + Sync,
+    R: Threads + Wait + Sync,
+>(rt: &'x R, room: &'x Room<'x, N, G>, hands: Hands<'x, N, D>) -> Result<Rested<N>, Fault>
     ensures { IfOk result (λ rested. HaveOnlyTo room.now.points rested.held.items) }
 {
     let Hands {
@@ -214,12 +208,13 @@ pub fn run_threads<
     'x,
     N: StoreName + Send + Sync,
     F: Write + Drop + Send,
+    D: NewFiles<F>,
     G: Gate + Sync,
     R: Threads + Wait + Sync,
 >(
     rt: &'x R,
     room: &'x Room<'x, N, G>,
-    hands: Hands<'x, N>,
+    hands: Hands<'x, N, D>,
     logger: Logger<N, F>,
 ) -> Result<(Rested<N>, Written<N, F>), Fault>
     ensures { IfOk result (λ r. HaveOnlyTo room.now.points r.0.held.items) }

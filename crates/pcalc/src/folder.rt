@@ -1,12 +1,12 @@
 //! The files of a folder: those that recovery reads, and those that a run makes.
 use crate::late::LateFile;
 use pc_runs::{NewFiles, RunFolder, Unusable};
-use pc_script::{Folder, NamedFile};
+use pc_script::{Folder, NamedFile, report};
 use pc_texts::{FileName, part_name};
 use pc_types::{Refusal, Tally, read_all};
 use std::alloc::{AllocError, Global};
 use std::fs::{File, Files};
-use std::io::BufWriter;
+use std::io::{BufWriter, Write};
 use std::string::String;
 use std::{fs, io};
 
@@ -15,6 +15,12 @@ const BASE: &str = "base.pcb";
 const LOG: &str = "log.pcl";
 
 const PART_END: &[u8] = b".pcp";
+
+// Behind the name of a file that is not whole yet; recovery reads none of such a name.
+const NEW_END: &str = ".new";
+
+// How many bytes of a run's file are kept before they go out.
+const ROOM: usize = 65_536;
 
 /// What recovery finds in a folder.
 #[derive(Drop)]
@@ -37,6 +43,13 @@ pub fn open_folder<'a>(rt: &'a HostRuntime, dir: &str) -> Result<Found<'a>, Allo
     let log = open_named(rt, path_of(alloc, dir, LOG)?);
     let folder = Folder { base, parts, log };
     Ok(Found { folder, unopened })
+}
+
+/// Tells of the part files that can't be opened, by their names.
+pub fn tell_unopened<E: Write>(unopened: &[Vec<u8>], errors: &mut Tally<E>) {
+    for name in unopened {
+        let _ = report(name, Refusal::Device, errors);
+    }
 }
 
 // The path of a file of the folder.
@@ -119,10 +132,12 @@ fn is_folder(rt: &HostRuntime, path: &str) -> bool {
     }
 }
 
-/// The folder of this path for the files of a run, which is not to have any yet. It is an error only where memory ran out.
+/// The folder of this path for the files of a run, which is not to have any yet; where it is synced, they reach its device. It is an
+/// error only where memory ran out.
 pub fn run_folder<'a>(
     rt: &'a HostRuntime,
     path: &'a str,
+    is_synced: bool,
 ) -> Result<RunFolder<NewFolder<'a>>, AllocError> {
     let name = Vec::from_slice(rt.alloc(), path.as_bytes())?;
     let files = match names_in(rt, path) {
@@ -130,7 +145,11 @@ pub fn run_folder<'a>(
             if has_run_files(&names) {
                 Err(Unusable::NotEmpty)
             } else {
-                Ok(NewFolder { rt, path })
+                Ok(NewFolder {
+                    rt,
+                    path,
+                    is_synced,
+                })
             }
         }
         Err(why) => Err(Unusable::Unlisted(why)),
@@ -151,12 +170,15 @@ fn is_run_file(name: &[u8]) -> bool {
 /// A folder in which a run makes its files, by its path.
 #[derive(Drop)]
 pub struct NewFolder<'a> {
-    pub rt: &'a HostRuntime,
-    pub path: &'a str,
+    rt: &'a HostRuntime,
+    path: &'a str,
+    // Whether what is written to its files, and the names that they get, is to reach its device.
+    is_synced: bool,
 }
 
-impl<'a> NewFiles<BufWriter<File>> for NewFolder<'a> {
-    fn make(&self, name: &FileName) -> Result<BufWriter<File>, Refusal> {
+impl<'a> NewFolder<'a> {
+    // The path of the file once it is whole.
+    fn path_of(&self, name: &FileName) -> Result<String, Refusal> {
         let alloc = self.rt.alloc();
         let path = match name {
             FileName::Base => path_of(alloc, self.path, BASE)?,
@@ -169,14 +191,87 @@ impl<'a> NewFiles<BufWriter<File>> for NewFolder<'a> {
                 path_of(alloc, self.path, name)?
             }
         };
-        let file = match fs::create(self.rt, path.as_str()) {
-            Ok(file) => file,
-            Err(e) if e.kind() == io::ErrorKind::OutOfMemory => return Err(Refusal::OutOfMemory),
-            Err(_) => return Err(Refusal::Device),
-        };
-        match BufWriter::new(alloc, file) {
-            Ok(file) => Ok(file),
-            Err(_) => Err(Refusal::OutOfMemory),
+        Ok(path)
+    }
+
+    // The path under which the file is made: a log grows under its own name, and the others get theirs once they are whole.
+    fn new_path_of(&self, name: &FileName) -> Result<String, Refusal> {
+        let mut path = self.path_of(name)?;
+        if !is_log(name) {
+            path.push_str(NEW_END)?;
+        }
+        Ok(path)
+    }
+
+    // The names that the folder has reach its device, where that is asked.
+    fn sync(&self) -> io::Result<()> {
+        if self.is_synced {
+            fs::open(self.rt, self.path)?.sync_all()
+        } else {
+            Ok(())
+        }
+    }
+
+    fn made(&self, name: &FileName, path: &str) -> io::Result<RunFile> {
+        let file = fs::create(self.rt, path)?;
+        if is_log(name) {
+            self.sync()?;
+        }
+        let kept = BufWriter::with_capacity(self.rt.alloc(), ROOM, file)?;
+        let is_synced = self.is_synced;
+        Ok(RunFile { kept, is_synced })
+    }
+}
+
+fn is_log(name: &FileName) -> bool {
+    matches!(name, FileName::Log)
+}
+
+// Why a file can't be made or get its name.
+fn why_unmade(e: &io::Error) -> Refusal {
+    if e.kind() == io::ErrorKind::OutOfMemory {
+        return Refusal::OutOfMemory;
+    }
+    Refusal::Device
+}
+
+impl<'a> NewFiles<RunFile> for NewFolder<'a> {
+    fn make(&self, name: &FileName) -> Result<RunFile, Refusal> {
+        let path = self.new_path_of(name)?;
+        self.made(name, path.as_str()).map_err(|e| why_unmade(&e))
+    }
+
+    fn finish(&self, name: &FileName) -> Result<(), Refusal> {
+        if is_log(name) {
+            return Ok(());
+        }
+        let (from, to) = (self.new_path_of(name)?, self.path_of(name)?);
+        match fs::rename(self.rt, from.as_str(), to.as_str()) {
+            Ok(()) => self.sync().map_err(|e| why_unmade(&e)),
+            Err(e) => Err(why_unmade(&e)),
+        }
+    }
+}
+
+/// A file of a run.
+#[derive(Drop)]
+pub struct RunFile {
+    kept: BufWriter<File>,
+    // Whether what was written reaches the device where it is flushed.
+    is_synced: bool,
+}
+
+impl Write for RunFile {
+    fn write(&mut self, buf: &[u8]) -> io::Result<usize> {
+        self.kept.write(buf)
+    }
+
+    fn flush(&mut self) -> io::Result<()> {
+        self.kept.flush()?;
+        if self.is_synced {
+            self.kept.get_ref().sync_data()
+        } else {
+            Ok(())
         }
     }
 }

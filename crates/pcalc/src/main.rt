@@ -2,31 +2,32 @@
 //! are worth.
 #![tactic(auto)]
 
+mod counts;
 mod folder;
 mod late;
 mod options;
 mod parts;
 mod progress;
+mod running;
 mod standard;
+mod times;
 
 use clap::Error;
 use clap::error::ErrorKind;
-use folder::{Found, open_folder, run_folder, why_not};
-use options::{CollapseOptions, RunOptions, StepOptions, Task, task_of, unreadable};
-use parts::{NewFile, open_parts};
+use folder::{Found, open_folder, tell_unopened};
+use options::{CollapseOptions, StepOptions, Task, task_of, unreadable};
+use parts::{NewFile, open_named, open_parts};
 use pc_collapse_files::{Inputs, run_collapse};
-use pc_runs::{Crew, run_workload};
-use pc_script::{NamedFile, report, run_recover, run_script};
-use pc_types::{Refusal, Tally};
-use progress::Progress;
+use pc_script::{run_recover, run_script};
+use pc_types::Tally;
+use running::run_clients;
 use standard::fill_places;
-use std::fs::File;
 use std::hash::RandomState;
 use std::io::BufWriter;
 use std::process::ExitCode;
 use std::sync::Wait;
 use std::thread::Threads;
-use std::{env, fs, io};
+use std::{env, io};
 
 fn main(rt: HostRuntime) -> ExitCode {
     match run_command(&rt, &rt) {
@@ -72,8 +73,8 @@ fn tell(rt: &HostRuntime, told: Result<Error, Error>) -> io::Result<u8> {
     Ok(if e.use_stderr() { 2 } else { 0 })
 }
 
-// The seed of the hashes of a script's or a workload's store is drawn before anything is opened; where the system gives none,
-// the status is 1 and nothing is told.
+// The seed of the hashes of a script's store is drawn before anything is opened; where the system gives none, the status is 1 and
+// nothing is told.
 fn run_task<H: Threads + Wait + Sync>(rt: &HostRuntime, threads: &H, task: Task) -> io::Result<u8> {
     let alloc = rt.alloc();
     let mut out = Tally::new(BufWriter::new(alloc, io::writer(rt))?);
@@ -86,41 +87,7 @@ fn run_task<H: Threads + Wait + Sync>(rt: &HostRuntime, threads: &H, task: Task)
             let opened = open_named(rt, script);
             Ok(run_script(alloc, setup, seed, script, opened, &mut out, &mut errors))
         }
-        Task::Run(options) => {
-            let RunOptions {
-                workload,
-                workers,
-                collapsers,
-                folder,
-                is_quiet,
-            } = options;
-            let seed = RandomState::new(rt)?;
-            let folder = match folder {
-                Some(path) => Some(run_folder(rt, path)?),
-                None => None,
-            };
-            let name = Vec::from_slice(alloc, workload.as_bytes())?;
-            let opened = open_named(rt, workload);
-            let file = NamedFile { name, opened };
-            let progress = Progress::new(rt, is_quiet);
-            let crew = Crew {
-                workers,
-                collapsers,
-                gate: &progress,
-            };
-            let status = run_workload(
-                threads,
-                alloc,
-                seed,
-                file,
-                &crew,
-                folder,
-                &mut out,
-                &mut errors,
-            );
-            progress.end();
-            Ok(status)
-        }
+        Task::Run(options) => run_clients(rt, threads, &options),
         Task::Collapse(options) => {
             let CollapseOptions {
                 target,
@@ -135,18 +102,8 @@ fn run_task<H: Threads + Wait + Sync>(rt: &HostRuntime, threads: &H, task: Task)
         }
         Task::Recover(dir) => {
             let Found { folder, unopened } = open_folder(rt, dir)?;
-            for name in &unopened {
-                let _ = report(name, Refusal::Device, &mut errors);
-            }
+            tell_unopened(&unopened, &mut errors);
             Ok(run_recover(alloc, dir, folder, &mut out, &mut errors))
         }
-    }
-}
-
-// The file of this path, or why it can't be opened.
-fn open_named(rt: &HostRuntime, path: &str) -> Result<File, Refusal> {
-    match fs::open(rt, path) {
-        Ok(file) => Ok(file),
-        Err(e) => Err(why_not(&e)),
     }
 }

@@ -1,5 +1,6 @@
 //! The command line.
 ghost use Rattle.std.specs.Prelude.{◌≤◌};
+ghost use Rattle.pc_types.specs.declared.limits.TheConstants.{MOST_KEYS};
 ghost use Rattle.pc_collapse.specs.declared.limits.TheConstants.{MOST_COLLAPSERS};
 ghost use Rattle.pc_runs.specs.declared.crew.TheConstants.{MOST_WORKERS};
 
@@ -50,9 +51,26 @@ pub struct RunOptions<'a> {
     pub collapsers: u8,
     /// The folder to which the files are written, if any.
     pub folder: Option<&'a str>,
+    /// How many entries of the log may wait to be written, at most 16,777,216.
+    pub lag: u32,
+    /// Whether what is written to the files is to reach their device.
+    pub is_synced: bool,
+    /// After how many commits a further point begins, 1 to 1,000,000,000, if that is said.
+    pub every: Option<u32>,
+    /// The folder from whose state it starts, if any.
+    pub from: Option<&'a str>,
+    /// The run's number, 1 to 2,147,483,647, where it starts from nothing.
+    pub run: u32,
+    /// How many keys the store has room for, 1 to 1,048,576.
+    pub capacity: u32,
     /// Whether nothing is to be shown while it runs.
     pub is_quiet: bool,
+    /// Whether a report is to be printed in the end.
+    pub is_reported: bool,
+    /// The file to which the times of commits are written, if any.
+    pub times: Option<&'a str>,
     ghost in_range: { (1 ≤ workers) × (workers ≤ MOST_WORKERS) × (1 ≤ collapsers) × (collapsers ≤ MOST_COLLAPSERS) },
+    ghost has_room: { (1 ≤ capacity) × (capacity ≤ MOST_KEYS) },
 }
 
 /// What the program is asked to do.
@@ -112,7 +130,7 @@ fn step_command<'a>(alloc: Global) -> Result<Command<'a>, Error> {
             .after_help(FAULTS)
             .arg(script_arg(alloc))?
             .arg(sessions_arg(alloc))?
-            .arg(capacity_arg(alloc))?
+            .arg(capacity_arg(alloc, "1024"))?
             .arg(run_arg(alloc))?,
     )
 }
@@ -133,13 +151,13 @@ fn sessions_arg<'a>(alloc: Global) -> Arg<'a> {
         .default_value("8")
 }
 
-fn capacity_arg<'a>(alloc: Global) -> Arg<'a> {
+fn capacity_arg<'a>(alloc: Global, default: &'a str) -> Arg<'a> {
     Arg::new(alloc, "capacity")
         .long("capacity")
         .value_name("N")
         .help("How many keys the store has room for, 1 to 1048576")
         .value_parser(clap::value_parser!(u32).range(1..=i64::from(MOST_KEYS)))
-        .default_value("1024")
+        .default_value(default)
 }
 
 fn run_arg<'a>(alloc: Global) -> Arg<'a> {
@@ -156,6 +174,21 @@ fn run_command<'a>(alloc: Global) -> Result<Command<'a>, Error> {
         .help("The workload's file")
         .required(true)
         .action(ArgAction::Set);
+    let command = Command::new(alloc, "run")
+        .about("Runs clients on threads beside a checkpointer and collapsers")
+        .after_help(FAULTS)
+        .arg(workload)?
+        .arg(workers_arg(alloc))?
+        .arg(collapsers_arg(alloc))?
+        .arg(every_arg(alloc))?
+        .arg(capacity_arg(alloc, "65536"))?
+        .arg(run_arg(alloc))?
+        .arg(from_arg(alloc)?)?;
+    Ok(telling_args(alloc, file_args(alloc, command)?)?)
+}
+
+// What is said of the files that a run leaves.
+fn file_args<'a>(alloc: Global, command: Command<'a>) -> Result<Command<'a>, Error> {
     let folder = Arg::new(alloc, "dir")
         .long("dir")
         .value_name("DIR")
@@ -164,20 +197,65 @@ fn run_command<'a>(alloc: Global) -> Result<Command<'a>, Error> {
         )
         .value_parser(ValueParser::NonEmptyString)
         .action(ArgAction::Set);
+    let lag = Arg::new(alloc, "lag")
+        .long("lag")
+        .value_name("N")
+        .help(
+            "How many entries of the log may wait to be written before the clients wait, 0 to 16777216",
+        )
+        .value_parser(clap::value_parser!(u32).range(0..=16_777_216))
+        .default_value("65536")
+        .requires_arg("dir")?;
+    let sync = Arg::new(alloc, "sync")
+        .long("sync")
+        .help("Counts what was written to a file only once it is on the disk")
+        .action(ArgAction::SetTrue)
+        .requires_arg("dir")?;
+    Ok(command.arg(folder)?.arg(lag)?.arg(sync)?)
+}
+
+// What is said of what a run shows and tells.
+fn telling_args<'a>(alloc: Global, command: Command<'a>) -> Result<Command<'a>, Error> {
     let quiet = Arg::new(alloc, "quiet")
         .long("quiet")
         .help("Shows nothing on a terminal while it runs")
         .action(ArgAction::SetTrue);
-    Ok(
-        Command::new(alloc, "run")
-            .about("Runs clients on threads beside a checkpointer and collapsers")
-            .after_help(FAULTS)
-            .arg(workload)?
-            .arg(workers_arg(alloc))?
-            .arg(collapsers_arg(alloc))?
-            .arg(folder)?
-            .arg(quiet)?,
-    )
+    let report = Arg::new(alloc, "report")
+        .long("report")
+        .help(
+            "Prints also how fast it was, how many transactions died, and the longest wait and pause",
+        )
+        .action(ArgAction::SetTrue);
+    let times = Arg::new(alloc, "times")
+        .long("times")
+        .value_name("FILE")
+        .help("A file to which the commits in each hundredth of a second are written")
+        .value_parser(ValueParser::NonEmptyString)
+        .action(ArgAction::Set);
+    Ok(command.arg(quiet)?.arg(report)?.arg(times)?)
+}
+
+fn every_arg<'a>(alloc: Global) -> Arg<'a> {
+    Arg::new(alloc, "every")
+        .long("every")
+        .value_name("COMMITS")
+        .help(
+            "After how many commits a further point begins, 1 to 1000000000; else the points are spread over the run",
+        )
+        .value_parser(clap::value_parser!(u32).range(1..=1_000_000_000))
+        .action(ArgAction::Set)
+}
+
+fn from_arg<'a>(alloc: Global) -> Result<Arg<'a>, AllocError> {
+    Arg::new(alloc, "from")
+        .long("from")
+        .value_name("OLD")
+        .help(
+            "A folder of an earlier run: the store starts from its state, as the run of the next number",
+        )
+        .value_parser(ValueParser::NonEmptyString)
+        .action(ArgAction::Set)
+        .conflicts_with("run")
 }
 
 fn workers_arg<'a>(alloc: Global) -> Arg<'a> {
@@ -258,17 +336,27 @@ fn run_options_of<'a>(matches: &ArgMatches<'a>) -> Option<RunOptions<'a>> {
     let workload = matches.get_str("WORKLOAD")?;
     let workers = matches.get_one::<u8>("workers")?;
     let collapsers = matches.get_one::<u8>("collapsers")?;
+    let capacity = matches.get_one::<u32>("capacity")?;
     if workers < 1 || MOST_WORKERS < workers || collapsers < 1 || MOST_COLLAPSERS < collapsers {
         return None;
     }
-    let folder = matches.get_str("dir");
-    let is_quiet = matches.get_flag("quiet");
+    if capacity < 1 || MOST_KEYS < capacity {
+        return None;
+    }
     Some(RunOptions {
         workload,
         workers,
         collapsers,
-        folder,
-        is_quiet,
+        folder: matches.get_str("dir"),
+        lag: matches.get_one::<u32>("lag")?,
+        is_synced: matches.get_flag("sync"),
+        every: matches.get_one::<u32>("every"),
+        from: matches.get_str("from"),
+        run: matches.get_one::<u32>("run")?,
+        capacity,
+        is_quiet: matches.get_flag("quiet"),
+        is_reported: matches.get_flag("report"),
+        times: matches.get_str("times"),
     })
 }
 

@@ -1,4 +1,4 @@
-//! The part files that a collapse reads, and the file that it writes.
+//! Files by their paths: the part files that a collapse reads, and those that are made.
 use crate::folder::why_not;
 use crate::late::LateFile;
 use pc_collapse_files::Maker;
@@ -39,6 +39,14 @@ fn open_late<'a>(
     match tried {
         Ok(()) => Ok(Ok(file)),
         Err(e) => Ok(Err(why_not(&e))),
+    }
+}
+
+/// The file of this path, open, or why it can't be opened.
+pub fn open_named(rt: &HostRuntime, path: &str) -> Result<File, Refusal> {
+    match fs::open(rt, path) {
+        Ok(file) => Ok(file),
+        Err(e) => Err(why_not(&e)),
     }
 }
 

@@ -1,56 +1,169 @@
-//! How far a run is, shown on a terminal.
-use pc_types::{Gate, Phase, Place};
-use std::io::IsTerminal;
+//! How far a run is, shown on a terminal, and what is told of it in the end.
+use crate::counts::Counts;
+use crate::times::Times;
+use pc_types::{Gate, Place};
+use std::io;
+use std::io::{IsTerminal, Write};
 use std::sync::atomic::{AtomicU64, Ordering};
 use std::time::Instant;
 
-// Nothing is shown of a run's first second, and then at most once in so many milliseconds.
-const FIRST: u64 = 1_000;
+// Nothing is shown of a run's first milliseconds, so many, and then at most once in as many.
+const PAUSE: u64 = 10;
 
-const PAUSE: u64 = 100;
+/// What is asked to be counted of a run.
+#[derive(Clone, Copy)]
+pub struct Asked {
+    /// Whether nothing is to be shown on a terminal while it runs.
+    pub is_quiet: bool,
+    /// Whether it writes a log.
+    pub has_log: bool,
+    /// Whether a report is to be printed in the end.
+    pub is_reported: bool,
+    /// Whether the commits are counted by hundredths of a second.
+    pub is_timed: bool,
+}
 
-/// Counts what the loops of a run pass, and shows it on standard error where that is a terminal; elsewhere nothing is counted, so
-/// that the threads have no count in common.
+/// Counts what the loops of a run pass, where that is asked for or is shown on a terminal; else nothing is counted, so that the
+/// threads have no count in common.
 #[derive(Drop)]
 pub struct Progress<'a> {
     rt: &'a HostRuntime,
-    // When the run began; none where nothing is to be shown.
-    begun: Option<Instant>,
-    commits: AtomicU64,
-    points: AtomicU64,
-    joins: AtomicU64,
-    // When it was last shown, in milliseconds of the run; 0 before.
+    counting: Option<Counting>,
+}
+
+#[derive(Drop)]
+struct Counting {
+    // A moment before the run.
+    clock: Instant,
+    counts: Counts,
+    times: Option<Times>,
+    line: Option<Line>,
+}
+
+// The line on a terminal.
+#[derive(Drop)]
+struct Line {
+    has_log: bool,
+    // When it was last shown, in milliseconds; 0 before, and once it was ended.
     shown: AtomicU64,
 }
 
 impl<'a> Progress<'a> {
-    /// Nothing has been done. It is quiet where that is asked, and where standard error is no terminal.
-    pub fn new(rt: &'a HostRuntime, is_quiet: bool) -> Progress<'a> {
-        let begun = if is_quiet || !rt.stderr().is_terminal() {
-            None
+    /// Nothing has been done. It is an error where memory ran out, or the system has no clock.
+    pub fn new(rt: &'a HostRuntime, asked: Asked) -> io::Result<Progress<'a>> {
+        let is_shown = !asked.is_quiet && rt.stderr().is_terminal();
+        if !is_shown && !asked.is_reported && !asked.is_timed {
+            let counting = None;
+            return Ok(Progress { rt, counting });
+        }
+        let alloc = rt.alloc();
+        let times = if asked.is_timed {
+            Some(Times::new(alloc)?)
         } else {
-            Instant::now(rt).ok()
+            None
         };
-        Progress {
-            rt,
-            begun,
-            commits: AtomicU64::new(0),
-            points: AtomicU64::new(0),
-            joins: AtomicU64::new(0),
-            shown: AtomicU64::new(0),
+        let line = if is_shown {
+            Some(Line {
+                has_log: asked.has_log,
+                shown: AtomicU64::new(0),
+            })
+        } else {
+            None
+        };
+        let counting = Some(Counting {
+            clock: Instant::now(rt)?,
+            counts: Counts::new(alloc)?,
+            times,
+            line,
+        });
+        Ok(Progress { rt, counting })
+    }
+
+    /// Ends the line on the terminal, where one is shown.
+    pub fn end(&self) {
+        let Some(counting) = &self.counting else {
+            return;
+        };
+        if let Some(line) = &counting.line {
+            if line.shown.swap(0, Ordering::SeqCst) > 0 {
+                line.print(self.rt, &counting.counts);
+                let _ = eprintln!(self.rt; "");
+            }
         }
     }
 
-    // Shows how far the run is, where that is due.
-    fn show(&self, begun: Instant) {
-        let Ok(elapsed) = begun.elapsed(self.rt) else {
+    /// Writes the lines of the report.
+    pub fn put_report<W: Write>(&self, out: &mut W) -> io::Result<()> {
+        let Some(counting) = &self.counting else {
+            return Ok(());
+        };
+        let counts = &counting.counts;
+        let length = counts.length().unwrap_or(0);
+        let rate = counts
+            .commits()
+            .saturating_mul(1_000_000)
+            .checked_div(length)
+            .unwrap_or(0);
+        writeln!(out, "commits a second {rate}")?;
+        writeln!(out, "deaths {}", counts.deaths())?;
+        writeln!(
+            out,
+            "longest wait {} ms",
+            milliseconds(counts.longest_wait())
+        )?;
+        writeln!(
+            out,
+            "longest pause {} ms",
+            milliseconds(counts.longest_pause())
+        )
+    }
+
+    /// Writes the lines of the hundredths of a second.
+    pub fn put_times<W: Write>(&self, out: &mut W) -> io::Result<()> {
+        if let Some(counting) = &self.counting {
+            if let Some(times) = &counting.times {
+                return times.put(counting.counts.length(), out);
+            }
+        }
+        Ok(())
+    }
+}
+
+impl<'a> Gate for Progress<'a> {
+    fn pass(&self, place: Place) {
+        let Some(counting) = &self.counting else {
             return;
         };
-        let Ok(now) = u64::try_from(elapsed.as_millis()) else {
+        if let Place::Took | Place::Due(_) | Place::Writing(_) = place {
+            return;
+        }
+        let Some(now) = counting.now(self.rt) else {
             return;
         };
+        let since = counting.counts.since_begin(now);
+        counting.counts.note(&place, now);
+        if let Some(times) = &counting.times {
+            times.note(&place, since);
+        }
+        if let Some(line) = &counting.line {
+            line.show(self.rt, &counting.counts, since / 1_000);
+        }
+    }
+}
+
+impl Counting {
+    // The time in microseconds, from a moment before the run.
+    fn now(&self, rt: &HostRuntime) -> Option<u64> {
+        let elapsed = self.clock.elapsed(rt).ok()?;
+        Some(u64::try_from(elapsed.as_micros()).ok()?.saturating_add(1))
+    }
+}
+
+impl Line {
+    // Shows how far the run is, where that is due after so many milliseconds.
+    fn show(&self, rt: &HostRuntime, counts: &Counts, now: u64) {
         let last = self.shown.load(Ordering::SeqCst);
-        if now < FIRST || now < last.saturating_add(PAUSE) {
+        if now < last.saturating_add(PAUSE) {
             return;
         }
         if self
@@ -58,39 +171,53 @@ impl<'a> Progress<'a> {
             .compare_exchange(last, now, Ordering::SeqCst, Ordering::SeqCst)
             .is_ok()
         {
-            self.print("\r");
+            self.print(rt, counts);
         }
     }
 
-    // The counts, behind this text.
-    fn print(&self, before: &str) {
-        let commits = self.commits.load(Ordering::SeqCst);
-        let points = self.points.load(Ordering::SeqCst);
-        let joins = self.joins.load(Ordering::SeqCst);
-        let _ = eprint!(self.rt; "{before}{commits} commits, point {points}, {joins} joins");
-    }
-
-    /// Ends the line, where one was shown.
-    pub fn end(&self) {
-        if self.shown.load(Ordering::SeqCst) > 0 {
-            self.print("\r");
-            let _ = eprintln!(self.rt; "");
-        }
+    // The counts, in the place of what the line had.
+    fn print(&self, rt: &HostRuntime, counts: &Counts) {
+        let (commits, points, joins) = (counts.commits(), counts.points(), counts.joins());
+        let given_up = counts.given_up();
+        let _ = if self.has_log {
+            let lag = counts.lag();
+            eprint!(rt;
+                "\r{commits} commits, point {points}, {joins} joins, lag {lag}, given up {given_up}\x1b[K"
+            )
+        } else {
+            eprint!(rt;
+                "\r{commits} commits, point {points}, {joins} joins, given up {given_up}\x1b[K"
+            )
+        };
     }
 }
 
-impl<'a> Gate for Progress<'a> {
-    fn pass(&self, place: Place) {
-        let Some(begun) = self.begun else {
-            return;
-        };
-        let count = match place {
-            Place::Committed(_) => &self.commits,
-            Place::Entered(Phase::Complete) => &self.points,
-            Place::Pair(_) => &self.joins,
-            _ => return,
-        };
-        count.fetch_add(1, Ordering::SeqCst);
-        self.show(begun);
+// So many microseconds, in milliseconds of which a begun one counts.
+fn milliseconds(micros: u64) -> u64 {
+    micros.saturating_add(999) / 1_000
+}
+
+/// A writer before whose first bytes the line on the terminal is ended.
+#[derive(Drop)]
+pub struct Behind<'a, W> {
+    progress: &'a Progress<'a>,
+    inner: W,
+}
+
+impl<'a, W> Behind<'a, W> {
+    /// What is written goes on to the writer.
+    pub fn new(progress: &'a Progress<'a>, inner: W) -> Behind<'a, W> {
+        Behind { progress, inner }
+    }
+}
+
+impl<'a, W: Write> Write for Behind<'a, W> {
+    fn write(&mut self, buf: &[u8]) -> io::Result<usize> {
+        self.progress.end();
+        self.inner.write(buf)
+    }
+
+    fn flush(&mut self) -> io::Result<()> {
+        self.inner.flush()
     }
 }

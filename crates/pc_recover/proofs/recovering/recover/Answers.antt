@@ -31,3 +31,6 @@ returns-clause-rules c =
     all_recovered c.args.base.now (map (λ part. part.now) c.args.parts.now) c.args.log.now c.in_ok-base.base c.in_ok-base.ensures.exact c.run-run.result c.run-run.ensures c.in_ok-files.files.items c.in_ok-files.ensures.files c.point.result c.point.ensures c.deref.result.now c.deref.ensures.value c.in_ok-reach.reach c.in_ok-reach.ensures c.in_ok-state.state c.in_ok-state.ensures
     c.in_ok-database.database (c.in_ok-database.ensures ∙ c.into_pairs.ensures.pairs) (replay_by c.in_ok-database-2.field-0) c.in_ok-database-2.ensures c.in_ok-skipped.skipped.items (c.in_ok-skipped.ensures ∙ ap (unused_from 0 c.in_ok-reach.reach.point c.in_ok-reach.reach.missing) c.deref-2.ensures.value)
     (database_of c.in_ok-into_pairs.field-0.items) c.in_ok-into_pairs.ensures.pairs
+
+pub returns-clause-run : goal.returns-clause-run
+returns-clause-run c = (c.in_ok-base.base, c.in_ok-base.ensures.exact, c.run-run.ensures)

@@ -1,8 +1,7 @@
-use Rattle.std.proofs.Common.{◌<◌, ◌+◌, List, length, take, drop, sym, subst, arith}
+use Rattle.std.proofs.Common.{◌<◌, ◌+◌, List, length, drop, sym, subst, arith}
 use Rattle.pc_model.specs.Files.{File}
 use Rattle.pc_board.specs.Passes.{Pass}
 use Rattle.pc_workers.specs.Covering.{HaveJustTo}
-use Rattle.pc_runs.specs.Singles.{AreSingles}
 use Rattle.pc_runs.proofs.HistoryLaws.{left_after}
 use Rattle.pc_runs.proofs.NewPasses.{some_passes}
 use Rattle.pc_runs.proofs.store.run_store.Goals as goal
@@ -10,10 +9,6 @@ use Rattle.pc_runs.proofs.store.run_store.Goals as goal
 pub use_store-requires-clause-some : goal.use_store-requires-clause-some
 use_store-requires-clause-some g c κs bounds =
     subst (λ (passes : List Pass). 0 < length passes) (sym c.in_ok-board.ensures.passes) (some_passes c.in_ok-board.board (c.args.crew.now.collapsers + 1) (omega arith))
-
-pub leave-requires-clause-named : goal.leave-requires-clause-named
-leave-requires-clause-named g c κs within =
-    subst (λ (files : List File). AreSingles (take c.in_ok-ended.ended.singles files)) (sym c.close-closed.ensures.parts) c.in_ok-ended.ended.named
 
 pub leave-requires-clause-after : goal.leave-requires-clause-after
 leave-requires-clause-after g c κs bounds =

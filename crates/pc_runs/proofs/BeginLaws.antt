@@ -1,0 +1,49 @@
+-- A workload that can be run, and why nothing is printed of it.
+use Rattle.std.proofs.Common.{◌≡◌, ℕ, List, Option, Some, None, Result, Ok, Err, sym, ◌∙◌, inr}
+use Rattle.std.proofs.lemmas.Bool.{false≢true}
+use Rattle.std.specs.Prelude.{IfOk, IfSome}
+use Rattle.pc_types.specs.declared.refusal.Refusal.{Refusal}
+use Rattle.pc_model.specs.Replies.{Setting}
+use Rattle.pc_jobs.specs.Workloads.{reading_of}
+use Rattle.pc_jobs.specs.declared.workloads.Reading.{Reading}
+use Rattle.pc_threads.specs.declared.fault.Fault.{Fault}
+use Rattle.pc_threads.specs.declared.fault.Fault.TheVariants as fault
+use Rattle.pc_runs.specs.declared.failure.Failure.{Failure}
+use Rattle.pc_runs.specs.declared.failure.Failure.TheVariants as failure
+use Rattle.pc_runs.specs.declared.files.RunFolder.{RunFolder}
+use Rattle.pc_runs.specs.declared.origin.Start.{Start}
+use Rattle.pc_runs.specs.declared.origin.Start.TheVariants as start
+use Rattle.pc_runs.specs.Runs.{Beginning, Begun, Unstarted, CanRun, IsReadAs, IsUnanswered, IsUnstarted, IsUsable}
+
+if_some : {X : Type 0} (o : Option X) (P Q : X → Type 0) → ((x : X) → P x → Q x) → IfSome o P → IfSome o Q
+if_some None P Q on has = tt
+if_some (Some x) P Q on has = on x has
+
+-- what was read of the file is worth what its text is read as
+pub read_as : {R : Type 0} (remaining : R → Option (List ℕ)) (opened : Result R Refusal) (bytes text : List ℕ) (some worth : Reading)
+    → IfOk opened (λ reader. IfSome (remaining reader) (λ script. bytes ≡ script)) → text ≡ bytes → some ≡ reading_of text → some ≡ worth → IsReadAs remaining opened worth
+read_as remaining (Err why) bytes text some worth script same reads is = tt
+read_as remaining (Ok reader) bytes text some worth script same reads is =
+    if_some (remaining reader) (λ (held : List ℕ). bytes ≡ held) (λ (held : List ℕ). reading_of held ≡ worth)
+    (λ held has. (λ k. reading_of (sym (same ∙ has) k)) ∙ (sym reads ∙ is)) script
+
+module _ {R D : Type 0} (remaining : R → Option (List ℕ)) (folder : Option (RunFolder D)) (begins : Beginning → Type 0) where
+  -- the run has begun, and failed
+  pub run_failed : (opened : Result R Refusal) (why : Fault) (st : Setting) → CanRun remaining opened → IsUsable folder → begins (Begun st)
+      → IsUnanswered remaining opened folder begins (failure.Run why)
+  run_failed (Ok reader) (fault.Refused why) st can usable begun = inr (can, usable, (st, begun))
+  run_failed (Err absent) (fault.Refused why) st can usable begun = absurd (false≢true can.0)
+  run_failed opened (fault.Unmade name why) st can usable begun = (can, usable, (st, begun))
+  run_failed opened fault.NoThread st can usable begun = (can, usable, (st, begun))
+
+  -- it has nothing to start from
+  pub not_started : {S : Type 0} (theirs : S → Option (List ℕ)) (opened : Result R Refusal) (first : Start S) (why : Failure) → CanRun remaining opened → IsUsable folder
+      → IsUnstarted theirs first why → begins (Unstarted why) → IsUnanswered remaining opened folder begins why
+  not_started theirs opened (start.Folder old) (failure.Start name lost) can usable is begun = (can, usable, begun)
+  not_started theirs opened (start.Folder old) (failure.Run why) can usable is begun = absurd is
+  not_started theirs opened (start.Folder old) (failure.Folder name why) can usable is begun = absurd is
+  not_started theirs opened (start.Folder old) failure.Output can usable is begun = absurd is
+  not_started theirs opened (start.Empty run) (failure.Start name lost) can usable is begun = absurd is
+  not_started theirs opened (start.Empty run) (failure.Run why) can usable is begun = absurd is
+  not_started theirs opened (start.Empty run) (failure.Folder name why) can usable is begun = absurd is
+  not_started theirs opened (start.Empty run) failure.Output can usable is begun = absurd is
