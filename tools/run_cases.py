@@ -237,11 +237,11 @@ def fault_cases(folder):
 
 
 def thread_cases(folder):
-    """A run of a logger, two collapsers and three workers that may start fewer threads: whichever it lacks it ends, and tells that."""
-    for threads in range(6):
+    """A run of a logger, two collapsers and a worker that may start fewer threads: whichever it lacks it ends, and tells that."""
+    for threads in range(4):
         os.chmod(os.path.join(folder, new_folder(folder, f"threads{threads}")), 0o777)
-        words = ("run", "one.pcw", "--workers", "3", "--lag", "0", "--dir", f"threads{threads}")
-        yield Case(f"{threads} threads of six", words, 1, err=b"pcalc: one.pcw: NoThread\n", is_other_user=True, threads=threads)
+        words = ("run", "one.pcw", "--workers", "1", "--lag", "0", "--dir", f"threads{threads}")
+        yield Case(f"{threads} threads of four", words, 1, err=b"pcalc: one.pcw: NoThread\n", is_other_user=True, threads=threads)
 
 
 # The files of a run, what may stand in the place of each, and whether that file is told. All but the log get their names once they are whole.
