@@ -1,32 +1,114 @@
 #!/usr/bin/env python3
-"""Runs each test of pc_growths that is named for it, and a run of a workload into a folder, once for each growth that it asks for,
-with that growth refused.
+"""Runs a workload into a folder, and each test of pc_growths that is named for it, once for each growth of memory that they ask for, with that growth
+refused. `try_programs.py` does so in the gate; by hand this prints what it saw.
 
-Such a test's name ends in `at_each_refused_growth`. It asks again where memory was wanting, and wants in the end what it
-would have got with ample memory, so it passes whichever growth is refused. Run `rt test` in the folder of pc_growths
-first; it leaves the tests in out/.
+The run, `pcalc run --dir`, is to end whichever growth is refused: with the status 1, nothing printed and at most one fault told, or with the status 0,
+and then with all of its transactions, or with one given up and all others. A test's name ends in `at_each_refused_growth`: it asks again where memory
+was wanting, and wants in the end what it would have got with ample memory, so it passes whichever growth is refused. How many growths a run asks for
+goes up and down with its threads.
 
-The run, `pcalc run --dir`, is to end whichever growth is refused: with the status 1 and nothing printed, or with the status 0
-and `check ok` as its last line. Run `rt run` in the folder of pcalc first.
-
-A C compiler is needed, as `cc`.
+Both are programs of the gate, in out/ (`rt run` in the folder of pcalc, and `rt test` in that of pc_growths, make them). What refuses is built by the
+compiler of the kit, and needs no header and no library.
 """
 
 import os
+import re
+import shutil
 import subprocess
 import sys
 import tempfile
-import time
+from concurrent.futures import ThreadPoolExecutor
 
 HERE = os.path.dirname(os.path.abspath(__file__))
-CRATE = "pc_growths"
-PROGRAM = "pcalc"
-WORKLOAD = b"points 2\n" + b"".join(b"client %d\nfill %s 20 x\n" % (number + 1, name) for number, name in enumerate((b"a", b"b", b"c")))
+CRATES = os.path.join(HERE, "..", "crates")
+PROGRAM = os.path.join(CRATES, "pcalc", "out", "pcalc")
+TESTS = os.path.join(CRATES, "pc_growths", "out", "pc_growths_tests")
+SOURCE = os.path.join(HERE, "refused_growths", "refuse.c")
+FLAGS = ("-shared", "-fPIC", "-O1", "-fno-builtin", "-nostdlib", "-Wall", "-Wextra", "-Werror")
+NAMES = (b"a", b"b", b"c")
+# of each client
+COUNT = 20
+WORKLOAD = b"points 2\n" + b"".join(b"client %d\nfill %s %d x\n" % (number + 1, name, COUNT) for number, name in enumerate(NAMES))
+ALL = len(NAMES) * COUNT
 CREW = ("--workers", "3", "--collapsers", "3")
 MARK = "at_each_refused_growth"
-TOLD = b"a growth was refused"
+REFUSED = b"a growth was refused\n"
+FAULT = re.compile(rb"(pcalc: [\w.-]+: (OutOfMemory|NoThread)\n)?")
 MOST_GROWTHS = 10_000
+LANES = os.cpu_count() or 1
 SECONDS = 60
+
+
+def printed_with(given_up):
+    """What a run prints of whose transactions so many were given up."""
+    left = ALL - given_up
+    return b"commits %d\ngave up %d\npoints 2\ncollapsed 1-2 entries %d\nstate pairs %d\ncheck ok\n" % (left, given_up, left, left)
+
+
+def built(folder):
+    """The library that refuses a growth, built by the kit's compiler; the errors of what can't be had are the caller's."""
+    command = shutil.which("rt")
+    if command is None:
+        raise OSError("the command rt, beside which the kit's compiler stands, is not there")
+    tools = os.path.join(os.path.dirname(os.path.dirname(os.path.realpath(command))), "toolchain", "bin")
+    library = os.path.join(folder, "refuse.so")
+    words = (os.path.join(tools, "clang"), *FLAGS, "--ld-path=" + os.path.join(tools, "ld.lld"), "-o", library, SOURCE)
+    ran = subprocess.run(words, stdin=subprocess.DEVNULL, stderr=subprocess.PIPE)
+    if ran.returncode != 0:
+        raise OSError(ran.stderr.decode(errors="replace"))
+    return library
+
+
+def refused(library, number, words, folder):
+    """The status of a call in which the growth of this number is refused, what it printed and told, and whether it asked for the growth."""
+    env = {**os.environ, "LD_PRELOAD": library, "REFUSED_GROWTH": str(number)}
+    try:
+        ran = subprocess.run(words, env=env, cwd=folder, stdin=subprocess.DEVNULL, capture_output=True, timeout=SECONDS)
+    except subprocess.TimeoutExpired:
+        return None, b"", b"no end in %d s" % SECONDS, True
+    return ran.returncode, ran.stdout, ran.stderr.replace(REFUSED, b""), REFUSED in ran.stderr
+
+
+def refused_each(call):
+    """What calls give, of the first growth, the second and so on, as far as there are growths and calls end; some run side by side."""
+    with ThreadPoolExecutor(LANES) as pool:
+        for first in range(1, MOST_GROWTHS, LANES):
+            some = [(number, told) for number, told in enumerate(pool.map(call, range(first, first + LANES)), first) if told[3]]
+            yield from some
+            if len(some) < LANES or any(told[0] is None for _, told in some):
+                return
+    yield MOST_GROWTHS, (None, b"", b"no end of growths", True)
+
+
+def run_with(library, program, room, number):
+    """A run of the workload into a folder of its own."""
+    folder = os.path.join(room, str(number))
+    os.makedirs(os.path.join(folder, "left"))
+    with open(os.path.join(folder, "growths.pcw"), "wb") as it:
+        it.write(WORKLOAD)
+    told = refused(library, number, (program, "run", "growths.pcw", "--dir", "left", *CREW), folder)
+    shutil.rmtree(folder)
+    return told
+
+
+def is_right(status, printed, told):
+    """Whether a run has ended as it is to."""
+    if status == 0:
+        return printed in (printed_with(0), printed_with(1)) and not told
+    return status == 1 and not printed and FAULT.fullmatch(told) is not None
+
+
+def runs(library, program, room):
+    """What is wrong with the runs, a line each; what was seen is printed."""
+    ends, lines = {0: 0, 1: 0}, []
+    for number, (status, printed, told, _) in refused_each(lambda number: run_with(library, program, room, number)):
+        ends[status] = ends.get(status, 0) + 1
+        if not is_right(status, printed, told):
+            lines.append("growth %d: status %s, printed %r, told %r" % (number, status, printed, told))
+    print("a run into a folder: %d growths, refused in turn; status 1 at %d, status 0 at %d" % (sum(ends.values()), ends[1], ends[0]), flush=True)
+    if not all(ends[status] for status in (0, 1)):
+        lines.append("no run ended with the one status or the other")
+    return lines
 
 
 def tests_of(program):
@@ -36,85 +118,34 @@ def tests_of(program):
     return [name for name in names if name.endswith(MARK)]
 
 
-def refuse(library, program, test, number):
-    """Whether a growth of this number was asked for and refused, and whether the test passed."""
-    env = {**os.environ, "LD_PRELOAD": library, "REFUSED_GROWTH": str(number)}
-    run = subprocess.run([program, test], env=env, capture_output=True, timeout=SECONDS)
-    return TOLD in run.stderr, run.returncode == 0
+def test(library, program, room, name):
+    """What is wrong with a test, a line for each growth at which it failed; what was seen is printed."""
+    seen = [(number, status) for number, (status, *_) in refused_each(lambda number: refused(library, number, (program, name), room))]
+    print("%s: %d growths, refused in turn" % (name, len(seen)), flush=True)
+    return ["growth %d: status %s" % (number, status) for number, status in seen if status != 0] if seen else ["it asked for no growth"]
 
 
-def refuse_each(library, program, test):
-    """How many growths there are, and the numbers of those at which the test failed."""
-    failed = []
-    for number in range(1, MOST_GROWTHS):
-        is_refused, has_passed = refuse(library, program, test, number)
-        if not has_passed:
-            failed.append(number)
-        if not is_refused:
-            return number - 1, failed
-    sys.exit("%s: there is no end of growths" % test)
-
-
-def refuse_in_run(library, program, number):
-    """Whether a growth of this number was asked for and refused in a run of the workload, and what is wrong with how it ended."""
-    env = {**os.environ, "LD_PRELOAD": library, "REFUSED_GROWTH": str(number)}
-    with tempfile.TemporaryDirectory() as folder:
-        workload = os.path.join(folder, "growths.pcw")
-        with open(workload, "wb") as it:
-            it.write(WORKLOAD)
-        left = os.path.join(folder, "left")
-        os.mkdir(left)
+def growths(program=PROGRAM, tests=TESTS):
+    """What is wrong, by the name of a case; what was seen is printed."""
+    with tempfile.TemporaryDirectory() as room:
         try:
-            run = subprocess.run([program, "run", workload, "--dir", left, *CREW], env=env, capture_output=True, timeout=SECONDS)
-        except subprocess.TimeoutExpired:
-            return True, "no end in %d s" % SECONDS
-    is_right = run.stdout.endswith(b"\ncheck ok\n") if run.returncode == 0 else run.returncode == 1 and not run.stdout
-    return TOLD in run.stderr, None if is_right else "status %d, printed %r" % (run.returncode, run.stdout)
-
-
-def check_run(library):
-    """Whether the run ends at each growth."""
-    program = os.path.join(HERE, "..", "crates", PROGRAM, "out", PROGRAM)
-    if not os.path.exists(program):
-        sys.exit("%s isn't built: run `rt run` in its folder first" % PROGRAM)
-    start = time.monotonic()
-    faults = []
-    for number in range(1, MOST_GROWTHS):
-        is_refused, fault = refuse_in_run(library, program, number)
-        if fault is not None:
-            faults.append("%d: %s" % (number, fault))
-        if not is_refused:
-            seconds = time.monotonic() - start
-            print("a run into a folder: %d growths in %.1f s, failed at %s" % (number - 1, seconds, "; ".join(faults) or "none"), flush=True)
-            return number > 1 and not faults
-    sys.exit("a run into a folder: there is no end of growths")
-
-
-def check(library):
-    """Whether each of the tests passes at each growth."""
-    program = os.path.join(HERE, "..", "crates", CRATE, "out", CRATE + "_tests")
-    if not os.path.exists(program):
-        sys.exit("%s has no built tests: run `rt test` in its folder first" % CRATE)
-    tests = tests_of(program)
-    if not tests:
-        sys.exit("%s has no test whose name ends in %s" % (CRATE, MARK))
-    is_right = True
-    for test in tests:
-        start = time.monotonic()
-        growths, failed = refuse_each(library, program, test)
-        is_right = is_right and growths > 0 and not failed
-        seconds = time.monotonic() - start
-        print("%s: %d growths in %.1f s, failed at %s" % (test, growths, seconds, failed or "none"), flush=True)
-    return is_right
+            library, names = built(room), tests_of(tests)
+            os.stat(program)
+        except (OSError, subprocess.CalledProcessError) as error:
+            yield "growths that are refused", [str(error)]
+            return
+        yield "pcalc run, each growth refused", runs(library, program, room)
+        yield "pc_growths has tests of growths", [] if names else ["none has a name that ends in %s" % MARK]
+        for name in names:
+            yield name, test(library, tests, room, name)
 
 
 def main():
-    with tempfile.TemporaryDirectory() as folder:
-        library = os.path.join(folder, "refuse.so")
-        source = os.path.join(HERE, "refused_growths", "refuse.c")
-        subprocess.run(["cc", "-shared", "-fPIC", "-O1", "-fno-builtin", "-o", library, source], check=True)
-        is_right = check_run(library)
-        sys.exit(0 if check(library) and is_right else 1)
+    failed = [(name, lines) for name, lines in growths() if lines]
+    for name, lines in failed:
+        print(f"{name}:", *lines, sep="\n")
+    return 1 if failed else 0
 
 
-main()
+if __name__ == "__main__":
+    sys.exit(main())

@@ -8,8 +8,9 @@
     program_cases.py      options, files that can't be had, long files, a full output, little memory
     run_cases.py          workloads that are run on threads, and the folders that they leave
     crash_cases.py        runs that are killed, and what is recovered of their folders
+    refused_growths.py    a run and the tests of pc_growths, each growth of memory that they ask for refused in turn
 
-What differs is shown, and the last line is 'N passed, M failed'; the status is 1 where one failed.
+What differs is shown, and what was seen of growths; the last line is 'N passed, M failed'; the status is 1 where one failed.
 """
 
 import difflib
@@ -24,6 +25,7 @@ import tempfile
 
 import crash_cases
 import program_cases
+import refused_growths
 import run_cases
 
 ROOT = os.path.join(os.path.dirname(os.path.abspath(__file__)), "..")
@@ -155,7 +157,7 @@ def differences(told, status, out, err):
 
 def main():
     passed = failed = 0
-    for some in (stored, cases, crashes):
+    for some in (stored, cases, crashes, refused_growths.growths):
         for name, lines in some():
             if lines:
                 failed += 1

@@ -1,7 +1,12 @@
 // Refuses one growth: the call of malloc or realloc whose number, from 1, is the value of REFUSED_GROWTH. It says so on
-// standard error.
-#include <stdlib.h>
-#include <unistd.h>
+// standard error. Threads count together. What it takes of the C library is declared here, so that it needs no header.
+typedef __SIZE_TYPE__ size_t;
+typedef __PTRDIFF_TYPE__ ssize_t;
+#define NULL ((void *)0)
+
+char *getenv(const char *name);
+long atol(const char *number);
+ssize_t write(int file, const void *bytes, size_t length);
 
 void *__libc_malloc(size_t size);
 void *__libc_realloc(void *block, size_t size);
@@ -10,8 +15,8 @@ static long calls = 0;
 
 static int is_refused(void) {
     const char *number = getenv("REFUSED_GROWTH");
-    calls++;
-    if (number == NULL || calls != atol(number)) {
+    long call = __atomic_add_fetch(&calls, 1, __ATOMIC_SEQ_CST);
+    if (number == NULL || call != atol(number)) {
         return 0;
     }
     static const char told[] = "a growth was refused\n";
