@@ -8,22 +8,31 @@ change something, and docs/PROMISES.md must say where it is.
 An edit is a file of lines `file: PATH`, `old: TEXT` and `new: TEXT`. Each text is one line: what stands on further lines is
 not read, so an edit that is spread over several lines may change nothing, and is then proved. Told are a line of another
 form, an old text that doesn't stand exactly once in its file, a new text that is the old one, and one that calls a function
-which no source of its crate names: that is no body at all, and the gate takes no such refusal. In the column of edits in
-docs/PROMISES.md the name of one that the gate tries is bold, and that of another one plain. Told are a name set otherwise, one
-that no edit has, and an edit that no row of its crate names. The status is 1 where anything is told.
+which no source of its crate names, or a method of a name that no function has in the crate, in those that it stands on, or in
+the kit's library: that is no body at all, and the gate takes no such refusal. (A method is looked for by its name alone, since
+no types are known here.) In the column of edits in docs/PROMISES.md the name of one that the gate tries is bold, and that of
+another one plain. Told are a name set otherwise, one that no edit has, and an edit that no row of its crate names. The status
+is 1 where anything is told.
 """
 
 import functools
 import glob
 import os
 import re
+import shutil
 import sys
+
+from gate_times import crates_of
 
 ROOT = os.path.join(os.path.dirname(os.path.abspath(__file__)), "..")
 CRATES = os.path.join(ROOT, "crates")
 PROMISES = os.path.join(ROOT, "docs", "PROMISES.md")
 COLUMN = 2
 CALL = re.compile(r"(?<![\w.:])([a-z_]\w*)\(")
+METHOD = re.compile(r"\.([a-z_]\w*)(?:::<[^()]*>)?\(")
+FUNCTION = re.compile(r"\bfn ([a-z_]\w*)")
+# The parts of the kit's library. Some of their functions are written by macros: their names are known by calls within it.
+LIBRARY = ("core", "io", "libc", "os", "std", "std_alloc", "std_collections", "std_heap", "std_io")
 PRELUDE = {"drop", "if", "match", "while", "in", "return"}
 
 
@@ -54,6 +63,7 @@ def faults_of(edit):
                 yield "the new text is the old one: %s" % old
             if source:
                 yield from ("no source of the crate names %s" % it for it in unknown_calls(rest, source + text_of(edit)))
+                yield from ("no source has a method %s" % it for it in unknown_methods(rest, os.path.basename(folder), text_of(edit)))
             text, old = text.replace(old, rest), None
         else:
             yield "a line of another form: %s" % line
@@ -65,6 +75,39 @@ def unknown_calls(text, sources):
     """The functions that the text calls, and that these sources don't make, import or have as a closure."""
     known = r"\b(?:fn|let|mut) %s\b|\buse [^;]*\b%s\b|[(,] *%s:"
     return [it for it in dict.fromkeys(CALL.findall(text)) if it not in PRELUDE and not re.search(known % (it, it, it), sources)]
+
+
+def unknown_methods(text, crate, edit):
+    """The methods that the text calls, and whose names no function has in the edit, in the crate, or in what it stands on."""
+    known = {*functions_near(crate), *FUNCTION.findall(edit)}
+    return [it for it in dict.fromkeys(METHOD.findall(text)) if it not in known]
+
+
+@functools.cache
+def functions_near(crate):
+    """The names of the functions of a crate, of those that it stands on, and of the kit's library."""
+    command = shutil.which("rt")
+    if command is None:
+        sys.exit("the command rt, beside which the sources of the kit's library stand, is not there")
+    kit = os.path.join(os.path.dirname(os.path.dirname(os.path.realpath(command))), "rattle")
+    named = dict(line.partition(":")[::2] for line in text_of(os.path.join(ROOT, "crates.txt")).splitlines())
+    own = [crate, *below()[crate]]
+    libraries = {it for name in own for it in named[name].split() if it not in named}
+    folders = [os.path.join(CRATES, name) for name in own] + [os.path.join(kit, name) for name in (*LIBRARY, *libraries)]
+    return set().union(*map(names_in, folders))
+
+
+@functools.cache
+def below():
+    return crates_of()
+
+
+@functools.cache
+def names_in(folder):
+    """The names of a crate's functions; of one of the kit's also those of the methods that it calls."""
+    text = sources_of(folder)
+    calls = [] if folder.startswith(CRATES) else METHOD.findall(text)
+    return {*FUNCTION.findall(text), *calls}
 
 
 @functools.cache
