@@ -3,3 +3,4 @@ mod BoardCalls
 mod ClientJobs
 mod Holding
 pub mod CoverLaws
+pub mod RunLaws

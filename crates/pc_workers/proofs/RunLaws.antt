@@ -1,0 +1,32 @@
+-- Runs of jobs one after the other are one run of all of them.
+use Rattle.std.proofs.Common.{◌≡◌, ℕ, ◌+◌, ◌++◌, Bool, true, false, List, [], ◌∷◌, length, append-nil, length-append, refl, sym, ap, subst, ◌∙◌, arith}
+use Rattle.pc_types.specs.declared.Write.{Write}
+use Rattle.pc_jobs.specs.declared.works.Job.{Job}
+use Rattle.pc_shared.specs.Sitters.{Sitter}
+use Rattle.pc_workers.specs.Clients.{HasCommitted, HasRun, marked, writes_of}
+use Rattle.pc_workers.proofs.ClientJobs.{same_committed, then_committed}
+
+pub marked_join : (marks more : List Bool) (jobs next : List Job) → length marks ≡ length jobs → marked (marks ++ more) (jobs ++ next) ≡ marked marks jobs ++ marked more next
+marked_join [] more [] next same = refl
+marked_join [] more (j ∷ jobs) next same = absurd (omega (arith, same))
+marked_join (m ∷ marks) more [] next same = absurd (omega (arith, same))
+marked_join (true ∷ marks) more (j ∷ jobs) next same = ap (λ ws. writes_of j ∷ ws) (marked_join marks more jobs next (omega (arith, same)))
+marked_join (false ∷ marks) more (j ∷ jobs) next same = marked_join marks more jobs next (omega (arith, same))
+
+-- where there is nothing to do nothing was done
+pub no_jobs_run : (s : Sitter) → HasRun [] 0 s s
+no_jobs_run s = record { marks = []; one_each = refl; committed = same_committed s s refl refl; count = refl }
+
+-- a job was given up, and the session stays
+pub job_is_left : (job : Job) (s : Sitter) → HasRun (job ∷ []) 0 s s
+job_is_left job s = record { marks = false ∷ []; one_each = refl; committed = same_committed s s refl refl; count = refl }
+
+pub runs_chain : (jobs next : List Job) (commits more : ℕ) (first between last : Sitter) → HasRun jobs commits first between → HasRun next more between last → HasRun (jobs ++ next) (commits + more) first last
+runs_chain jobs next commits more first between last a b =
+    let is = marked_join a.marks b.marks jobs next a.one_each in
+    record {
+      marks = a.marks ++ b.marks;
+      one_each = length-append a.marks b.marks ∙ ap (λ n. n + length b.marks) a.one_each ∙ ap (λ n. length jobs + n) b.one_each ∙ sym (length-append jobs next);
+      committed = subst (λ (d : List (List Write)). HasCommitted d first last) (sym is) (then_committed (marked a.marks jobs) (marked b.marks next) first between last a.committed b.committed);
+      count = ap length is ∙ length-append (marked a.marks jobs) (marked b.marks next) ∙ ap (λ n. n + length (marked b.marks next)) a.count ∙ ap (λ n. commits + n) b.count;
+    }
