@@ -9,7 +9,7 @@ use Rattle.pc_types.specs.declared.Refusal.{Refusal}
 use Rattle.pc_types.specs.declared.Reply.TheVariants as told
 use Rattle.pc_types.specs.declared.Write.{Write}
 use Rattle.pc_model.specs.Database.{with_write}
-use Rattle.pc_model.specs.History.{History}
+use Rattle.pc_model.specs.History.{History, is_open}
 use Rattle.pc_model.specs.Replies.{Setting}
 use Rattle.pc_model.specs.Calls.{step_of, Extends}
 use Rattle.pc_model.specs.Receipts.{Own, own_of}
@@ -21,9 +21,12 @@ use Rattle.pc_shared.specs.declared.session.Answer.{Answer}
 use Rattle.pc_shared.specs.declared.session.Answer.TheVariants as answer
 use Rattle.pc_shared.specs.Answers.{IsRead, IsWritten}
 use Rattle.pc_shared.specs.Sitters.{Sitter}
-use Rattle.pc_workers.specs.Clients.{wrote, wrote_all, writes_of, written_by, done_by, HasCommitted, HasRun, marked}
+use Rattle.pc_workers.specs.Attempts.{IsTried, AreTried}
+use Rattle.pc_workers.specs.Clients.{wrote, wrote_all, writes_of, written_by, done_by, HasCommitted, HasRun, HasTried, marked}
+use Rattle.pc_workers.specs.Courses.{mark_of}
 use Rattle.pc_workers.specs.declared.clients.Ended.{Ended}
 use Rattle.pc_workers.specs.declared.clients.Ended.TheVariants.{Committed, Died, Refused}
+use Rattle.pc_workers.proofs.AttemptLaws.{tried_closes, tried_join, tried_one}
 
 itself : (s : ℕ) → (s == s) ≡ true
 itself s = grind (arith, nat_tests)
@@ -136,9 +139,30 @@ module _ (jobs : List Job) (job : Job) (commits : ℕ) (first old new : Sitter) 
   run_one Died more done count = run_given_up more done count
   run_one Refused more done count = run_given_up more done count
 
+-- ---- and tried
+
+module _ (st : Setting) (jobs : List Job) (job : Job) (commits : ℕ) (first old new : Sitter) (before : HasTried st jobs commits first old) where
+  -- the jobs so far, and then this one
+  then_tried : (mark : Bool) → (is_open old.number old.seen ≡ false → IsTried st old.number job mark old.seen new.seen) → is_open first.number first.seen ≡ false
+      → AreTried st first.number (before.run.marks ++ mark ∷ []) (jobs ++ job ∷ []) first.seen new.seen
+  then_tried mark one idle =
+      let s : ℕ = first.number in
+      let earlier : AreTried st s before.run.marks jobs first.seen old.seen = before.tried idle in
+      let closed : is_open s old.seen ≡ false = tried_closes st s before.run.marks jobs first.seen old.seen earlier idle in
+      let here : IsTried st s job mark old.seen new.seen = subst (λ (n : ℕ). is_open n old.seen ≡ false → IsTried st n job mark old.seen new.seen) before.run.committed.number one closed in
+      tried_join st s before.run.marks (mark ∷ []) jobs (job ∷ []) first.seen old.seen new.seen earlier (tried_one st s mark job old.seen new.seen here)
+
+  one_more : (ended : Ended) (more : ℕ) → HasCommitted (done_by ended (writes_of job)) old new → more ≡ commits + length (done_by ended [])
+      → (is_open old.number old.seen ≡ false → IsTried st old.number job (mark_of ended) old.seen new.seen) → HasTried st (jobs ++ job ∷ []) more first new
+  unfolding run_committed run_given_up
+  one_more Committed more done count one = record { run = run_committed jobs job commits first old new before.run more done count; tried = then_tried true one }
+  one_more Died more done count one = record { run = run_given_up jobs job commits first old new before.run more done count; tried = then_tried false one }
+  one_more Refused more done count one = record { run = run_given_up jobs job commits first old new before.run more done count; tried = then_tried false one }
+
 -- the same of the next of some jobs
-pub run_next : (jobs : List Job) (i : ℕ) (job : Job) (commits : ℕ) (first old new : Sitter) → i < length jobs → job ≡ get_or jobs i job → HasRun (take i jobs) commits first old
-    → (ended : Ended) (more : ℕ) → HasCommitted (done_by ended (writes_of job)) old new → more ≡ commits + length (done_by ended []) → HasRun (take (i + 1) jobs) more first new
-run_next jobs i job commits first old new low is before ended more done count =
-    subst (λ (js : List Job). HasRun js more first new) (sym (take_more jobs i job low ∙ ap (λ (j : Job). take i jobs ++ j ∷ []) (sym is)))
-    (run_one (take i jobs) job commits first old new before ended more done count)
+pub tried_next : (st : Setting) (jobs : List Job) (i : ℕ) (job : Job) (commits : ℕ) (first old new : Sitter) → i < length jobs → job ≡ get_or jobs i job → HasTried st (take i jobs) commits first old
+    → (ended : Ended) (more : ℕ) → HasCommitted (done_by ended (writes_of job)) old new → more ≡ commits + length (done_by ended [])
+    → (is_open old.number old.seen ≡ false → IsTried st old.number job (mark_of ended) old.seen new.seen) → HasTried st (take (i + 1) jobs) more first new
+tried_next st jobs i job commits first old new low is before ended more done count one =
+    subst (λ (js : List Job). HasTried st js more first new) (sym (take_more jobs i job low ∙ ap (λ (j : Job). take i jobs ++ j ∷ []) (sym is)))
+    (one_more st (take i jobs) job commits first old new before ended more done count one)

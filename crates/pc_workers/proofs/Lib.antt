@@ -3,4 +3,7 @@ mod BoardCalls
 mod ClientJobs
 mod Holding
 pub mod CoverLaws
+mod OpenLaws
+mod AskedLaws
+mod AttemptLaws
 pub mod RunLaws

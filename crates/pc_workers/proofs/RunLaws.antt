@@ -1,9 +1,13 @@
 -- Runs of jobs one after the other are one run of all of them.
-use Rattle.std.proofs.Common.{◌≡◌, ℕ, ◌+◌, ◌++◌, Bool, true, false, List, [], ◌∷◌, length, append-nil, length-append, refl, sym, ap, subst, ◌∙◌, arith}
+use Rattle.std.proofs.Common.{◌≡◌, ℕ, ◌+◌, ◌++◌, Bool, true, false, List, [], ◌∷◌, length, length-append, refl, sym, ap, subst, ◌∙◌, arith}
 use Rattle.pc_types.specs.declared.Write.{Write}
+use Rattle.pc_model.specs.History.{is_open}
+use Rattle.pc_model.specs.Replies.{Setting}
 use Rattle.pc_jobs.specs.declared.works.Job.{Job}
 use Rattle.pc_shared.specs.Sitters.{Sitter}
-use Rattle.pc_workers.specs.Clients.{HasCommitted, HasRun, marked, writes_of}
+use Rattle.pc_workers.specs.Attempts.{AreTried}
+use Rattle.pc_workers.specs.Clients.{HasCommitted, HasRun, HasTried, marked, writes_of}
+use Rattle.pc_workers.proofs.AttemptLaws.{tried_closes, tried_join}
 use Rattle.pc_workers.proofs.ClientJobs.{same_committed, then_committed}
 
 pub marked_join : (marks more : List Bool) (jobs next : List Job) → length marks ≡ length jobs → marked (marks ++ more) (jobs ++ next) ≡ marked marks jobs ++ marked more next
@@ -29,4 +33,24 @@ runs_chain jobs next commits more first between last a b =
       one_each = length-append a.marks b.marks ∙ ap (λ n. n + length b.marks) a.one_each ∙ ap (λ n. length jobs + n) b.one_each ∙ sym (length-append jobs next);
       committed = subst (λ (d : List (List Write)). HasCommitted d first last) (sym is) (then_committed (marked a.marks jobs) (marked b.marks next) first between last a.committed b.committed);
       count = ap length is ∙ length-append (marked a.marks jobs) (marked b.marks next) ∙ ap (λ n. n + length (marked b.marks next)) a.count ∙ ap (λ n. commits + n) b.count;
+    }
+
+-- ---- the same of jobs that were tried
+
+pub no_jobs_tried : (st : Setting) (s : Sitter) → HasTried st [] 0 s s
+unfolding no_jobs_run
+no_jobs_tried st s = record { run = no_jobs_run s; tried = λ _. refl }
+
+pub tries_chain : (st : Setting) (jobs next : List Job) (commits more : ℕ) (first between last : Sitter) → HasTried st jobs commits first between → HasTried st next more between last → HasTried st (jobs ++ next) (commits + more) first last
+unfolding runs_chain
+tries_chain st jobs next commits more first between last a b =
+    record {
+      run = runs_chain jobs next commits more first between last a.run b.run;
+      tried = λ idle.
+          let s : ℕ = first.number in
+          let earlier : AreTried st s a.run.marks jobs first.seen between.seen = a.tried idle in
+          let closed : is_open s between.seen ≡ false = tried_closes st s a.run.marks jobs first.seen between.seen earlier idle in
+          let later : AreTried st s b.run.marks next between.seen last.seen =
+          subst (λ (n : ℕ). is_open n between.seen ≡ false → AreTried st n b.run.marks next between.seen last.seen) a.run.committed.number b.tried closed in
+          tried_join st s a.run.marks b.run.marks jobs next first.seen between.seen last.seen earlier later;
     }

@@ -3,11 +3,14 @@ use Rattle.std.specs.Prelude.{◌≡◌, ◌++◌, ℕ, Bool, true, false, List,
 use Rattle.pc_types.specs.declared.Receipt.{Receipt}
 use Rattle.pc_types.specs.declared.Write.{Write}
 use Rattle.pc_model.specs.Database.{with_write}
+use Rattle.pc_model.specs.History.{is_open}
 use Rattle.pc_model.specs.Receipts.{own_of}
+use Rattle.pc_model.specs.Replies.{Setting}
 use Rattle.pc_jobs.specs.declared.works.Job.{Job}
 use Rattle.pc_jobs.specs.declared.works.Op.{Op}
 use Rattle.pc_jobs.specs.declared.works.Op.TheVariants.{Get, Put, Del}
 use Rattle.pc_shared.specs.Sitters.{Sitter}
+use Rattle.pc_workers.specs.Attempts.{AreTried}
 use Rattle.pc_workers.specs.declared.clients.Ended.{Ended}
 use Rattle.pc_workers.specs.declared.clients.Ended.TheVariants.{Committed, Died, Refused}
 
@@ -56,3 +59,8 @@ pub record HasRun (jobs : List Job) (commits : ℕ) (old new : Sitter) : Type 0 
   pub one_each : length marks ≡ length jobs
   pub committed : HasCommitted (marked marks jobs) old new
   pub count : length (marked marks jobs) ≡ commits
+
+-- Beside that each of the jobs was tried, if the session had no transaction open, and was committed just where it is marked.
+pub record HasTried (st : Setting) (jobs : List Job) (commits : ℕ) (old new : Sitter) : Type 0 where
+  pub run : HasRun jobs commits old new
+  pub tried : is_open old.number old.seen ≡ false → AreTried st old.number run.marks jobs old.seen new.seen

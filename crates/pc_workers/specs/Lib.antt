@@ -4,3 +4,5 @@ pub mod Clients
 pub mod Boards
 pub mod Collapsing
 pub mod Covering
+pub mod Attempts
+pub mod Courses

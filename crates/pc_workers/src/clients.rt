@@ -1,6 +1,9 @@
 //! A client's loop: a session runs jobs, each as a transaction.
-ghost use Rattle.std.specs.Prelude.{◌≡◌, ◌≢◌, ◌<◌, ◌-◌, ◌^◌, ◌+◌, true, [], length, IfOk};
-ghost use Rattle.pc_workers.specs.Clients.{HasCommitted, HasRun, done_by, written_by, wrote, wrote_all, writes_of};
+ghost use Rattle.std.specs.Prelude.{◌≡◌, ◌≢◌, ◌<◌, ◌-◌, ◌^◌, ◌+◌, true, false, [], length, IfOk, IfErr, OnErr, MatchBool};
+ghost use Rattle.pc_model.specs.History.{is_open};
+ghost use Rattle.pc_workers.specs.Attempts.{Aborts, AreMade, OneDies, IsRefusedOp, IsStuck, IsAttempt, IsTried};
+ghost use Rattle.pc_workers.specs.Clients.{HasCommitted, HasRun, HasTried, done_by, written_by, wrote, wrote_all, writes_of};
+ghost use Rattle.pc_workers.specs.Courses.{IsAsked, IsCourse, IsRepeated, mark_of};
 
 use pc_jobs::{Job, Op};
 use pc_shared::{Answer, Session, Shared, pause};
@@ -58,6 +61,9 @@ fn make<N: StoreName, R: Wait>(
 ) -> Result<Answer, Refusal>
     ensures receipts { HasCommitted [] session.old session.new }
     ensures wrote { IfOk result (λ answer. answer ≢ Answer.Died → written_by session.new ≡ wrote (written_by session.old) op.now) }
+    ensures asked { IfOk result (λ answer. IsAsked N.name.setting session.old.number op.now answer session.old.seen session.new.seen) }
+    ensures refused { IfErr result (λ cause. IsRefusedOp N.name.setting session.old.number op.now cause session.old.seen) }
+    ensures same { OnErr result (session.new ≡ session.old) }
 {
     match op {
         Op::Get(key) => {
@@ -87,6 +93,8 @@ fn make_all<N: StoreName, R: Wait, G: Gate>(
 ) -> Result<bool, Refusal>
     ensures receipts { HasCommitted [] session.old session.new }
     ensures wrote { IfOk result (λ all. all ≡ true → written_by session.new ≡ wrote_all (written_by session.old) ops.now) }
+    ensures made { IfOk result (λ all. MatchBool all (AreMade N.name.setting session.old.number ops.now session.old.seen session.new.seen) (OneDies N.name.setting session.old.number ops.now session.old.seen session.new.seen)) }
+    ensures stuck { OnErr result (IsStuck N.name.setting session.old.number ops.now session.old.seen session.new.seen) }
 {
     let number = session.number();
     let mut step = 0u32;
@@ -130,7 +138,8 @@ fn transact<N: StoreName, R: Wait, G: Gate>(
     lag: Option<u32>,
     gate: &G,
 ) -> Ended
-    ensures { HasCommitted (done_by result (wrote_all [] ops.now)) session.old session.new }
+    ensures receipts { HasCommitted (done_by result (wrote_all [] ops.now)) session.old session.new }
+    ensures course { IsCourse N.name.setting session.old.number ops.now result session.old.seen session.new.seen }
 {
     let number = session.number();
     gate.pass(Place::Start(number));
@@ -150,6 +159,15 @@ fn transact<N: StoreName, R: Wait, G: Gate>(
     Ended::Committed
 }
 
+// Aborts the session's transaction, if one is open.
+fn abort_open<N: StoreName, R: Wait>(rt: &R, shared: &Shared<N>, session: &mut Session<N>)
+    ensures receipts { HasCommitted [] session.old session.new }
+    ensures open { is_open session.old.number session.old.seen ≡ true → Aborts N.name.setting session.old.number session.old.seen session.new.seen }
+    ensures idle { is_open session.old.number session.old.seen ≡ false → session.new.seen ≡ session.old.seen }
+{
+    let _ = shared.abort(rt, session);
+}
+
 // A transaction that is over when it returns: it commits, or is aborted.
 fn attempt<N: StoreName, R: Wait, G: Gate>(
     rt: &R,
@@ -160,18 +178,17 @@ fn attempt<N: StoreName, R: Wait, G: Gate>(
     lag: Option<u32>,
     gate: &G,
 ) -> Ended
-    ensures { HasCommitted (done_by result (wrote_all [] ops.now)) session.old session.new }
+    ensures receipts { HasCommitted (done_by result (wrote_all [] ops.now)) session.old session.new }
+    ensures attempt { is_open session.old.number session.old.seen ≡ false → IsAttempt N.name.setting session.old.number ops.now result session.old.seen session.new.seen }
 {
     let ended = transact(rt, alloc, shared, session, ops, lag, gate);
     match ended {
         Ended::Committed => {}
         Ended::Died => {
-            let _ = shared.abort(rt, session);
+            abort_open(rt, shared, session);
             gate.pass(Place::Died(session.number()));
         }
-        Ended::Refused => {
-            let _ = shared.abort(rt, session);
-        }
+        Ended::Refused => abort_open(rt, shared, session),
     }
     ended
 }
@@ -187,7 +204,8 @@ fn repeat<N: StoreName, R: Wait, G: Gate>(
     lag: Option<u32>,
     gate: &G,
 ) -> Ended
-    ensures { HasCommitted (done_by result (wrote_all [] ops.now)) session.old session.new }
+    ensures receipts { HasCommitted (done_by result (wrote_all [] ops.now)) session.old session.new }
+    ensures repeated { is_open session.old.number session.old.seen ≡ false → IsRepeated N.name.setting session.old.number ops.now result session.old.seen session.new.seen }
 {
     let mut times = 1u32;
     for _ in 0..MOST_REPEATS {
@@ -201,8 +219,31 @@ fn repeat<N: StoreName, R: Wait, G: Gate>(
     Ended::Died
 }
 
-// Runs the job, and again where it died, and answers how it ended the last time. Of the clients whose job has died one at a time
+// Tries the job, and again where it died, and answers how it ended the last time. Of the clients whose job has died one at a time
 // begins again, and the others sleep: so they don't die of one another over and over.
+fn try_job<N: StoreName, R: Wait, G: Gate>(
+    rt: &R,
+    alloc: Global,
+    shared: &Shared<N>,
+    session: &mut Session<N>,
+    job: &Job,
+    lag: Option<u32>,
+    gate: &G,
+) -> Ended
+    ensures receipts { HasCommitted (done_by result (writes_of job.now)) session.old session.new }
+    ensures tried { is_open session.old.number session.old.seen ≡ false → IsTried N.name.setting session.old.number job.now (mark_of result) session.old.seen session.new.seen }
+{
+    let ops = job.ops.as_slice();
+    match attempt(rt, alloc, shared, session, ops, lag, gate) {
+        Ended::Died => {
+            let _turn = shared.turn_to_repeat(rt);
+            repeat(rt, alloc, shared, session, ops, lag, gate)
+        }
+        ended => ended,
+    }
+}
+
+// Runs the job, and tells the gate where it is given up.
 fn run<N: StoreName, R: Wait, G: Gate>(
     rt: &R,
     alloc: Global,
@@ -212,16 +253,10 @@ fn run<N: StoreName, R: Wait, G: Gate>(
     lag: Option<u32>,
     gate: &G,
 ) -> Ended
-    ensures { HasCommitted (done_by result (writes_of job.now)) session.old session.new }
+    ensures receipts { HasCommitted (done_by result (writes_of job.now)) session.old session.new }
+    ensures tried { is_open session.old.number session.old.seen ≡ false → IsTried N.name.setting session.old.number job.now (mark_of result) session.old.seen session.new.seen }
 {
-    let ops = job.ops.as_slice();
-    let ended = match attempt(rt, alloc, shared, session, ops, lag, gate) {
-        Ended::Died => {
-            let _turn = shared.turn_to_repeat(rt);
-            repeat(rt, alloc, shared, session, ops, lag, gate)
-        }
-        ended => ended,
-    };
+    let ended = try_job(rt, alloc, shared, session, job, lag, gate);
     if !matches!(ended, Ended::Committed) {
         gate.pass(Place::GaveUp(session.number()));
     }
@@ -234,7 +269,9 @@ fn run<N: StoreName, R: Wait, G: Gate>(
 /// is a lag, the client goes on from a commit once no more than so many entries, up to that of the commit, aren't marked as
 /// written, or no more will be: with 0 once its own is. It passes the gate at each of the places that `Place` has of a client. Answers
 /// how many jobs were committed, each of which has added a receipt with what the job writes, in their order, and how many were
-/// given up.
+/// given up. If the session had no transaction open, each job was tried by just these calls, and none is open behind it: each
+/// attempt but the last one died, and a job that is given up has died so 10,001 times, or was refused as the store may after some
+/// legal history with all that the session had seen, or named a key or a value of more than 16 bytes, whose copy takes memory.
 pub fn client_loop<N: StoreName, R: Wait, G: Gate>(
     rt: &R,
     alloc: Global,
@@ -245,6 +282,7 @@ pub fn client_loop<N: StoreName, R: Wait, G: Gate>(
     gate: &G,
 ) -> Count
     ensures run { HasRun jobs.now result.commits session.old session.new }
+    ensures tried { HasTried N.name.setting jobs.now result.commits session.old session.new }
     ensures receipts { length session.new.receipts ≡ length session.old.receipts + result.commits }
     ensures all { result.commits + result.given_up ≡ length jobs.now }
 {

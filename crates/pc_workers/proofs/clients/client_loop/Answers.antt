@@ -1,12 +1,24 @@
-use Rattle.std.proofs.Common.{rules}
-use Rattle.pc_workers.proofs.ClientJobs.{run_next}
+use Rattle.std.proofs.Common.{◌≡◌, List, take, refl, subst, arith, rules}
+use Rattle.std.proofs.lemmas.List.{take_all}
+use Rattle.pc_jobs.specs.declared.works.Job.{Job}
+use Rattle.pc_workers.specs.Clients.{HasTried}
+use Rattle.pc_workers.proofs.ClientJobs.{tried_next}
+use Rattle.pc_workers.proofs.RunLaws.{no_jobs_tried}
 use Rattle.pc_workers.proofs.clients.client_loop.Goals as goal
 
 pub loop-job-preserved : goal.loop-job-preserved
 loop-job-preserved g c =
     record {
-      run =
-          run_next c.args.jobs.now c.loop-job.job-index c.job-item.result c.loop-job.count.commits c.args.session.now c.loop-job.session c.run-ended.new.session c.loop-job-test.true c.job-item.is
-          c.loop-job.invariant.run c.run-ended.result c.note.new.self.commits c.run-ended.ensures c.note.ensures.commits;
+      tried =
+          tried_next g.N.StoreName.name.setting c.args.jobs.now c.loop-job.job-index c.job-item.result c.loop-job.count.commits c.args.session.now c.loop-job.session c.run-ended.new.session c.loop-job-test.true c.job-item.is
+          c.loop-job.invariant.tried c.run-ended.result c.note.new.self.commits c.run-ended.ensures.receipts c.note.ensures.commits c.run-ended.ensures.tried;
       all = search rules;
     }
+
+pub loop-job-init : goal.loop-job-init
+loop-job-init g c = record { tried = no_jobs_tried g.N.StoreName.name.setting c.args.session.now; all = refl }
+
+pub returns-clause-tried : goal.returns-clause-tried
+returns-clause-tried g c =
+    let whole : take c.loop-job.job-index c.args.jobs.now ≡ c.args.jobs.now = take_all c.loop-job.job-index c.args.jobs.now (omega (arith, c.loop-job-test.false)) in
+    subst (λ (js : List Job). HasTried g.N.StoreName.name.setting js c.loop-job.count.commits c.args.session.now c.loop-job.session) whole c.loop-job.invariant.tried

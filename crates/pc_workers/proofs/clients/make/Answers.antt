@@ -1,3 +1,4 @@
+use Rattle.pc_workers.proofs.AskedLaws.{get_call, put_call, del_call}
 use Rattle.pc_workers.proofs.ClientJobs.{get_wrote, put_wrote, del_wrote}
 use Rattle.pc_workers.proofs.clients.make.Goals as goal
 
@@ -14,3 +15,18 @@ pub returns-in_ok-key-in-Del-clause-wrote : goal.returns-in_ok-key-in-Del-clause
 returns-in_ok-key-in-Del-clause-wrote g c =
     rw (c.in-Del.is, ← c.in_ok-key-in-Del.ensures.copy)
     (del_wrote g.N.StoreName.name.setting c.args.session.now c.del.new.session c.del.ensures.number c.in_ok-key-in-Del.key c.del.result c.del.ensures.call)
+
+pub returns-in_ok-key-in-Get-clause-asked : goal.returns-in_ok-key-in-Get-clause-asked
+returns-in_ok-key-in-Get-clause-asked g c =
+    rw (c.in-Get.is, ← c.in_ok-key-in-Get.ensures.copy)
+    (get_call g.N.StoreName.name.setting c.args.session.now.number c.args.session.now.seen c.get.new.session.seen c.in_ok-key-in-Get.key c.get.result c.get.ensures.call)
+
+pub returns-in_ok-value-in-Put-clause-asked : goal.returns-in_ok-value-in-Put-clause-asked
+returns-in_ok-value-in-Put-clause-asked g c =
+    rw (c.in-Put.is, ← c.in_ok-key-in-Put.ensures.copy, ← c.in_ok-value-in-Put.ensures.copy)
+    (put_call g.N.StoreName.name.setting c.args.session.now.number c.args.session.now.seen c.put.new.session.seen c.in_ok-key-in-Put.key c.in_ok-value-in-Put.value c.put.result c.put.ensures.call)
+
+pub returns-in_ok-key-in-Del-clause-asked : goal.returns-in_ok-key-in-Del-clause-asked
+returns-in_ok-key-in-Del-clause-asked g c =
+    rw (c.in-Del.is, ← c.in_ok-key-in-Del.ensures.copy)
+    (del_call g.N.StoreName.name.setting c.args.session.now.number c.args.session.now.seen c.del.new.session.seen c.in_ok-key-in-Del.key c.del.result c.del.ensures.call)

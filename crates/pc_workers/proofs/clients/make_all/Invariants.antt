@@ -1,10 +1,12 @@
 use Rattle.std.proofs.Common.{◌≡◌, [], take}
+use Rattle.pc_workers.specs.Attempts.{AreMade}
 use Rattle.pc_workers.specs.Clients.{HasCommitted, written_by, wrote_all}
 use Rattle.pc_workers.proofs.clients.make_all.Given as goal
 
--- nothing was committed, and the transaction has written what the operations so far write
+-- nothing was committed, the operations so far were made, and the transaction has written what they write
 abbrev pub invariant-loop-op : goal.invariant-loop-op
 invariant-loop-op g l = record {
   committed : HasCommitted [] l.fn.session l.session;
+  made : AreMade g.N.StoreName.name.setting l.fn.session.number (take l.op-index l.ops) l.fn.session.seen l.session.seen;
   wrote : written_by l.session ≡ wrote_all (written_by l.fn.session) (take l.op-index l.ops);
 }

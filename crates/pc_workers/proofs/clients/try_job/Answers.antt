@@ -1,0 +1,32 @@
+use Rattle.std.proofs.Common.{List, [], subst}
+use Rattle.pc_jobs.specs.declared.works.Op.{Op}
+use Rattle.pc_workers.specs.Attempts.{IsAttempt}
+use Rattle.pc_workers.specs.Clients.{HasCommitted, done_by, wrote_all}
+use Rattle.pc_workers.specs.Courses.{IsRepeated}
+use Rattle.pc_workers.specs.declared.clients.Ended.TheVariants.{Died}
+use Rattle.pc_model.specs.History.{is_open}
+use Rattle.std.specs.Prelude.{◌≡◌, false}
+use Rattle.pc_workers.proofs.AttemptLaws.{tried_once, tried_again}
+use Rattle.pc_workers.proofs.clients.try_job.Goals as goal
+
+pub returns-in-Died-clause-tried : goal.returns-in-Died-clause-tried
+returns-in-Died-clause-tried g c = λ idle.
+    let st = g.N.StoreName.name.setting in
+    let s = c.args.session.now.number in
+    let old = c.args.session.now.seen in
+    let between = c.attempt.new.session in
+    let new = c.repeat.new.session.seen in
+    tried_again st s c.args.job.now c.repeat.result old between.seen new between.number c.attempt.ensures.receipts.number idle
+    (subst (λ (ops : List Op). IsAttempt st s ops Died old between.seen) c.as_slice-ops.ensures (c.in-Died.ensures.attempt idle))
+    (subst (λ (ops : List Op). is_open between.number between.seen ≡ false → IsRepeated st between.number ops c.repeat.result between.seen new) c.as_slice-ops.ensures c.repeat.ensures.repeated)
+
+pub returns-in_default : goal.returns-in_default
+returns-in_default g c =
+    let st = g.N.StoreName.name.setting in
+    let s = c.args.session.now.number in
+    let old = c.args.session.now in
+    let new = c.attempt.new.session in
+    record {
+      receipts = subst (λ (ops : List Op). HasCommitted (done_by c.attempt.result (wrote_all [] ops)) old new) c.as_slice-ops.ensures c.attempt.ensures.receipts;
+      tried = λ idle. tried_once st s c.args.job.now c.attempt.result old.seen new.seen idle (subst (λ (ops : List Op). IsAttempt st s ops c.attempt.result old.seen new.seen) c.as_slice-ops.ensures (c.attempt.ensures.attempt idle)) c.in_default.not-Died;
+    }

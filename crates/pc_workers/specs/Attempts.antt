@@ -1,0 +1,128 @@
+-- What a client asks for its session: of each job its attempts, and of each attempt its calls, one after the other. Each stands
+-- between two histories, of which the session had seen the first before and has seen the second now; it asked for nothing else.
+use Rattle.std.specs.Prelude.{◌≡◌, ◌⊎◌, ◌<◌, ◌≤◌, ◌++◌, ℕ, zero, suc, Bool, true, false, List, [], ◌∷◌, length}
+use Rattle.pc_types.specs.declared.Event.{Event}
+use Rattle.pc_types.specs.declared.Event.TheVariants as asked
+use Rattle.pc_types.specs.declared.Refusal.{Refusal}
+use Rattle.pc_types.specs.declared.Refusal.TheVariants as why
+use Rattle.pc_types.specs.declared.Reply.{Reply}
+use Rattle.pc_types.specs.declared.Reply.TheVariants as told
+use Rattle.pc_model.specs.History.{History, is_open}
+use Rattle.pc_model.specs.Replies.{Setting}
+use Rattle.pc_model.specs.Calls.{step_of, Extends, IsAnswered}
+use Rattle.pc_jobs.specs.declared.works.Job.{Job}
+use Rattle.pc_jobs.specs.declared.works.Op.{Op}
+use Rattle.pc_jobs.specs.declared.works.Op.TheVariants.{Get, Put, Del}
+use Rattle.pc_workers.specs.declared.clients.Ended.{Ended}
+use Rattle.pc_workers.specs.declared.clients.Ended.TheVariants.{Committed, Died, Refused}
+use Rattle.pc_workers.specs.declared.clients.TheConstants.{MOST_REPEATS}
+
+-- how the session asks for the operation
+abbrev pub event_of : ℕ → Op → Event
+event_of s (Get key) = asked.Get s key
+event_of s (Put key value) = asked.Put s key value
+event_of s (Del key) = asked.Del s key
+
+-- the reply says that the operation was made
+abbrev pub is_made : Reply → Bool
+is_made (told.Found value) = true
+is_made told.Absent = true
+is_made told.Ok = true
+is_made other = false
+
+-- the operation was asked for, and made
+abbrev pub IsMade : Setting → ℕ → Op → History → History → Type 0
+IsMade st s op early late = (reply : Reply) × (is_made reply ≡ true) × Extends st early (step_of (event_of s op) reply) late
+
+-- it was asked for, and died
+abbrev pub Dies : Setting → ℕ → Op → History → History → Type 0
+Dies st s op early late = Extends st early (step_of (event_of s op) told.Died) late
+
+-- a transaction was begun
+abbrev pub Begins : Setting → ℕ → History → History → Type 0
+Begins st s early late = (number : ℕ) × Extends st early (step_of (asked.Begin s) (told.Begun number)) late
+
+-- it was committed
+abbrev pub Commits : Setting → ℕ → History → History → Type 0
+Commits st s early late = (number : ℕ) × Extends st early (step_of (asked.Commit s) (told.Committed number)) late
+
+-- it was aborted
+abbrev pub Aborts : Setting → ℕ → History → History → Type 0
+Aborts st s early late = Extends st early (step_of (asked.Abort s) told.Aborted) late
+
+-- the operations were made, one after the other
+abbrev pub AreMade : Setting → ℕ → List Op → History → History → Type 0
+AreMade st s [] early late = late ≡ early
+AreMade st s (op ∷ ops) early late = (between : History) × IsMade st s op early between × AreMade st s ops between late
+
+-- the first of the operations were made, and the next one died
+pub record OneDies (st : Setting) (s : ℕ) (ops : List Op) (early late : History) : Type 0 where
+  pub made : List Op
+  pub next : Op
+  pub left : List Op
+  pub between : History
+  pub parts : ops ≡ made ++ next ∷ left
+  pub first : AreMade st s made early between
+  pub dies : Dies st s next between late
+
+-- the operation names a key or a value of more than 16 bytes, a copy of which takes memory
+abbrev pub TakesMemory : Op → Type 0
+TakesMemory (Get key) = 16 < length key
+TakesMemory (Put key value) = (16 < length key) ⊎ (16 < length value)
+TakesMemory (Del key) = 16 < length key
+
+-- the session, which has seen so much, was refused the operation; or memory was wanting for a copy of what it names
+abbrev pub IsRefusedOp : Setting → ℕ → Op → Refusal → History → Type 0
+IsRefusedOp st s op cause seen = ((cause ≡ why.OutOfMemory) × TakesMemory op) ⊎ IsAnswered st s seen (event_of s op) (told.Refused cause)
+
+-- it was refused what comes next: the first of these operations, or the commit where none is left
+abbrev pub IsRefusedNext : Setting → ℕ → List Op → History → Type 0
+IsRefusedNext st s [] seen = (cause : Refusal) × IsAnswered st s seen (asked.Commit s) (told.Refused cause)
+IsRefusedNext st s (op ∷ ops) seen = (cause : Refusal) × IsRefusedOp st s op cause seen
+
+-- the first of the operations were made, and what came next was refused
+pub record IsStuck (st : Setting) (s : ℕ) (ops : List Op) (early late : History) : Type 0 where
+  pub made : List Op
+  pub left : List Op
+  pub parts : ops ≡ made ++ left
+  pub first : AreMade st s made early late
+  pub refused : IsRefusedNext st s left late
+
+-- to begin was refused, and nothing was asked
+abbrev pub IsNotBegun : Setting → ℕ → History → History → Type 0
+IsNotBegun st s early late = (late ≡ early) × (cause : Refusal) × IsAnswered st s early (asked.Begin s) (told.Refused cause)
+
+-- An attempt at the operations, which ended so: begun, made and committed; or begun, and made up to one that died, and aborted; or
+-- refused to begin, or begun, and made up to what was refused, and aborted.
+abbrev pub IsAttempt : Setting → ℕ → List Op → Ended → History → History → Type 0
+IsAttempt st s ops Committed early late = (begun made : History) × Begins st s early begun × AreMade st s ops begun made × Commits st s made late
+IsAttempt st s ops Died early late = (begun dead : History) × Begins st s early begun × OneDies st s ops begun dead × Aborts st s dead late
+IsAttempt st s ops Refused early late = IsNotBegun st s early late ⊎ ((begun stuck : History) × Begins st s early begun × IsStuck st s ops begun stuck × Aborts st s stuck late)
+
+-- so many attempts, one after the other, each of which died
+abbrev pub AreDeaths : Setting → ℕ → List Op → ℕ → History → History → Type 0
+AreDeaths st s ops zero early late = late ≡ early
+AreDeaths st s ops (suc deaths) early late = (between : History) × AreDeaths st s ops deaths early between × IsAttempt st s ops Died between late
+
+-- how the last attempt at a job ended, which is marked or not, after so many deaths: a job that isn't marked was refused, or has died as often as it may
+abbrev pub IsLast : Bool → ℕ → Ended → Type 0
+IsLast true deaths ended = ended ≡ Committed
+IsLast false deaths ended = (ended ≡ Refused) ⊎ ((ended ≡ Died) × (deaths ≡ MOST_REPEATS))
+
+-- A job was tried: begun again after each death, at most 10,000 times, until it was committed, which is what the mark says, or
+-- refused; and no transaction is open then.
+pub record IsTried (st : Setting) (s : ℕ) (job : Job) (mark : Bool) (early late : History) : Type 0 where
+  pub deaths : ℕ
+  pub few : deaths ≤ MOST_REPEATS
+  pub between : History
+  pub before : AreDeaths st s job.ops deaths early between
+  pub ended : Ended
+  pub last : IsAttempt st s job.ops ended between late
+  pub is_last : IsLast mark deaths ended
+  pub closed : is_open s late ≡ false
+
+-- the jobs were tried, one after the other
+abbrev pub AreTried : Setting → ℕ → List Bool → List Job → History → History → Type 0
+AreTried st s [] [] early late = late ≡ early
+AreTried st s (mark ∷ marks) (job ∷ jobs) early late = (between : History) × IsTried st s job mark early between × AreTried st s marks jobs between late
+AreTried st s marks jobs early late = ⊥
