@@ -1,12 +1,11 @@
 -- What the steps at the keeper's seat ask and tell, by what the seat knows.
-use Rattle.std.proofs.Common.{All, suc, zero, length, get_or, ◌≡◌, ◌==◌, ℕ, ◌+◌, ◌<◌, Bool, true, false, cond, List, [], ◌∷◌, ◌++◌, refl, ap, sym, ◌∙◌, subst, arith}
+use Rattle.std.proofs.Common.{All, suc, zero, length, get_or, ◌≡◌, ◌==◌, ℕ, ◌<◌, Bool, true, false, cond, List, [], ◌∷◌, refl, ap, sym, ◌∙◌, subst, arith}
 use Rattle.std.specs.Prelude.{◌≤◌, MatchBool}
 use Rattle.std.proofs.lemmas.List.Elements.{All-cons}
 use mathlib.Core.Option.{some, none}
 use lib.ListN.{get_elem?}
 use prog.Atomic.{either}
 use Rattle.atomic_table.specs.Table.{Me, step, Allows, Splits, Joins}
-use Rattle.atomic_table.specs.declared.badge.Badge.{Badge}
 use Rattle.pc_types.specs.declared.Step.{Step}
 use Rattle.pc_model.specs.History.{History, log_of}
 use Rattle.pc_model.specs.Replies.{Setting, IsLegalHistory}
@@ -15,8 +14,8 @@ use Rattle.pc_model.proofs.BeginningLaws.{extends}
 use Rattle.pc_tie.specs.declared.sight.Sitting.{Sitting}
 use Rattle.pc_tie.specs.declared.sight.Sight.{Sight}
 use Rattle.pc_tie.specs.declared.sight.Sight.TheVariants.{Whole, Front, Gone}
-use Rattle.pc_tie.specs.Rules.{sitting, hist_of, dealt_of, guests_of, HasOneHistory, sight_after, guests_after, said_step, KnewFirst, Applied, entered, parted, emptied, left_out, shown_out, after_dealing, new_front, Asked, Compared, AreTold}
-use Rattle.pc_tie.specs.Seats.{sitting_in, IsSeatAt, IsSession, MovesOn, NoTwoAlike, IsFrontOf, Meeting, meeting}
+use Rattle.pc_tie.specs.Rules.{Speaks, hist_of, dealt_of, guests_of, HasOneHistory, sight_after, KnewFirst, Applied, entered, parted, emptied, left_out, shown_out, after_dealing, new_front, Asked, Compared, AreTold}
+use Rattle.pc_tie.specs.Seats.{IsSession, MovesOn, NoTwoAlike, IsFrontOf, Meeting, meeting}
 use Rattle.pc_tie.proofs.Steps.{enters, applies, leaves, deals, shows, compares}
 
 -- what a seat is seen as
@@ -54,17 +53,17 @@ pub leaves_at : {S : Type 0} (st : Setting) (id : ℕ) (hist : History) (dealt :
 leaves_at {S} st id hist dealt guest others guests v is first =
     subst (λ (u : Sight). Splits (HasOneHistory {S = S} st) id u (parted u) (left_out u)) (sym (is ∙ ap (Whole hist dealt) first)) (leaves st id hist dealt guest others)
 
-pub deals_at : {S : Type 0} (st : Setting) (id : ℕ) (hist : History) (dealt : ℕ) (guests : List Sitting) (v : Sight) → v ≡ Whole hist dealt guests → hist ≡ [] → guests ≡ [] → Splits (HasOneHistory {S = S} st) id v (after_dealing v) (new_front v)
-deals_at {S} st id hist dealt guests v is empty alone =
-    subst (λ (u : Sight). Splits (HasOneHistory {S = S} st) id u (after_dealing u) (new_front u)) (sym (is ∙ (λ k. Whole (empty k) dealt (alone k)))) (deals st id dealt)
+pub deals_at : {S : Type 0} (st : Setting) (id : ℕ) (hist : History) (dealt : ℕ) (guests : List Sitting) (v : Sight) → v ≡ Whole hist dealt guests → Speaks dealt → hist ≡ [] → guests ≡ [] → Splits (HasOneHistory {S = S} st) id v (after_dealing v) (new_front v)
+deals_at {S} st id hist dealt guests v is speaks empty alone =
+    subst (λ (u : Sight). Splits (HasOneHistory {S = S} st) id u (after_dealing u) (new_front u)) (sym (is ∙ (λ k. Whole (empty k) dealt (alone k)))) (deals st id dealt speaks)
 
--- what is told of the first seat is told of the session that it is
-pub knew_as : (hist : History) (s mine : Sitting) (others : List Sitting) → s ≡ mine → 0 < mine.number → KnewFirst hist (s ∷ others) → HasCallsOf hist mine.number mine.seen
-knew_as hist s mine others is pos knew =
-    let k = subst (λ (x : Sitting). IsBeginning x.seen hist × (0 < x.number → calls_of x.number hist ≡ calls_of x.number x.seen)) is knew in
-    (k.0, k.1 pos)
+-- what is told of the first seat is told of the one that it is
+pub knew_as : (hist : History) (s mine : Sitting) (others : List Sitting) → s ≡ mine → Speaks mine.number → KnewFirst hist (s ∷ others) → HasCallsOf hist mine.number mine.seen
+knew_as hist s mine others is speaks knew =
+    let k = subst (λ (x : Sitting). IsBeginning x.seen hist × (Speaks x.number → calls_of x.number hist ≡ calls_of x.number x.seen)) is knew in
+    (k.0, k.1 speaks)
 
--- the session has seen what the step makes of what it had seen
+-- the seat has seen what the step makes of what it had seen
 pub moves_on : (st : Setting) (hist : History) (n : ℕ) (seen after : History) (c : Step) → after ≡ sight_after c hist seen → session_of c.event ≡ n → IsLegalHistory st (c ∷ hist) → HasCallsOf hist n seen → MovesOn st seen c after
 moves_on st hist n seen after c is own legal has = by_case (counts c.reply) is
   where
@@ -72,24 +71,29 @@ moves_on st hist n seen after c is own legal has = by_case (counts c.reply) is
     by_case true at = subst (Extends st seen c) (sym at) (extends st hist seen c legal has.0 (subst (λ (m : ℕ). calls_of m hist ≡ calls_of m seen) (sym own) has.1))
     by_case false at = at
 
--- and is a session still
+-- what it has seen is legal still
+pub still_legal : (st : Setting) (old new : History) (c : Step) → MovesOn st old c new → IsLegalHistory st old → IsLegalHistory st new
+still_legal st old new c moves legal = by_case (counts c.reply) moves
+  where
+    by_case : (b : Bool) → MatchBool b (Extends st old c new) (new ≡ old) → IsLegalHistory st new
+    by_case true x = x.0
+    by_case false e = subst (IsLegalHistory st) (sym e) legal
+
+-- and a session is one still
 pub still_session : (st : Setting) (old new : Sitting) (c : Step) → new.number ≡ old.number → MovesOn st old.seen c new.seen → IsSession st old → IsSession st new
 still_session st old new c same moves is = record {
   from_one = subst (λ (n : ℕ). 0 < n) (sym same) is.from_one;
+  speaks = subst Speaks (sym same) is.speaks;
   within = subst (λ (n : ℕ). n ≤ st.sessions) (sym same) is.within;
-  legal = by_case (counts c.reply) moves;
+  legal = still_legal st old.seen new.seen c moves is.legal;
 }
-  where
-    by_case : (b : Bool) → MatchBool b (Extends st old.seen c new.seen) (new.seen ≡ old.seen) → IsLegalHistory st new.seen
-    by_case true x = x.0
-    by_case false e = subst (IsLegalHistory st) (sym e) is.legal
 
 pub fronts_told : (hist : History) (guests : List Sitting) → AreTold hist guests → All (IsFrontOf hist) guests
 fronts_told hist guests told = by_list guests told.0
   where
-    by_list : (ss : List Sitting) → ((k : ℕ) (x : Sitting) → get_elem? ss k ≡ some x → IsBeginning x.seen hist × (0 < x.number → calls_of x.number hist ≡ calls_of x.number x.seen)) → All (IsFrontOf hist) ss
+    by_list : (ss : List Sitting) → ((k : ℕ) (x : Sitting) → get_elem? ss k ≡ some x → IsBeginning x.seen hist × (Speaks x.number → calls_of x.number hist ≡ calls_of x.number x.seen)) → All (IsFrontOf hist) ss
     by_list [] f = λ k d lt. absurd (omega arith)
-    by_list (s ∷ ss) f = All-cons (IsFrontOf hist) s ss (let e = f 0 s refl in (e.0, λ pos. (e.0, e.1 pos))) (by_list ss (λ k x e. f (suc k) x e))
+    by_list (s ∷ ss) f = All-cons (IsFrontOf hist) s ss (let e = f 0 s refl in (e.0, λ speaks. (e.0, e.1 speaks))) (by_list ss (λ k x e. f (suc k) x e))
 
 at : (ss : List Sitting) (k : ℕ) (d : Sitting) → k < length ss → get_elem? ss k ≡ some (get_or ss k d)
 at [] k d lt = absurd (omega arith)

@@ -1,6 +1,7 @@
--- The rule of a store's word, and what the steps on it tell. Its seats are the keeper's, which knows the whole history; those
--- of sessions, and of witnesses with the number 0, which know a beginning; and such as are gone.
-use Rattle.std.specs.Prelude.{◌≡◌, ℕ, ◌+◌, ◌<◌, ◌≤◌, Bool, true, false, cond, List, [], ◌∷◌, ◌++◌, length}
+-- The rule of a store's word, and what the steps on it tell. Its seats are the keeper's, which knows the whole history; that of
+-- the checkpointer with the number 0, those of sessions with theirs, and those of witnesses, which know a beginning; and such
+-- as are gone.
+use Rattle.std.specs.Prelude.{◌≡◌, ◌≢◌, ℕ, ◌+◌, ◌<◌, ◌≤◌, cond, List, [], ◌∷◌, length}
 use mathlib.Core.Option.{Option, none, some}
 use lib.ListN.{get_elem?}
 use Rattle.atomic_table.specs.Table.{State, Me, Step as Exchange}
@@ -12,7 +13,15 @@ use Rattle.pc_tie.specs.declared.sight.Sitting.{Sitting}
 use Rattle.pc_tie.specs.declared.sight.Sight.{Sight}
 use Rattle.pc_tie.specs.declared.sight.Sight.TheVariants.{Whole, Front, Gone}
 
--- a session's number, or 0, and the history that it has seen
+-- the number of a witness's seat, past those of all sessions
+abbrev pub a_witness : ℕ
+a_witness = 65
+
+-- the seat of this number speaks for a session, or for the checkpointer: it is no witness's
+abbrev pub Speaks : ℕ → Type 0
+Speaks n = n ≢ a_witness
+
+-- a seat's number, and the history that it has seen
 abbrev pub sitting : ℕ → History → Sitting
 sitting n seen = record { number = n; seen = seen }
 
@@ -22,7 +31,7 @@ hist_of (Whole hist dealt guests) = hist
 hist_of (Front n seen) = seen
 hist_of Gone = []
 
--- how many sessions' seats the keeper has dealt, or 0
+-- how many seats the keeper has dealt, the checkpointer's first, or 0
 abbrev pub dealt_of : Sight → ℕ
 dealt_of (Whole hist dealt guests) = dealt
 dealt_of (Front n seen) = 0
@@ -34,30 +43,30 @@ guests_of (Whole hist dealt guests) = guests
 guests_of (Front n seen) = []
 guests_of Gone = []
 
--- the number of the session, or 0
+-- the number of the seat; the keeper counts as a witness here
 abbrev pub number_of : Sight → ℕ
-number_of (Whole hist dealt guests) = 0
+number_of (Whole hist dealt guests) = a_witness
 number_of (Front n seen) = n
-number_of Gone = 0
+number_of Gone = a_witness
 
 -- what the seat of a badge has seen
 abbrev pub seen_in : List Sight → History
 seen_in [] = []
 seen_in (v ∷ vs) = hist_of v
 
--- how many sessions' seats it has dealt
+-- how many seats it has dealt
 abbrev pub dealt_in : List Sight → ℕ
 dealt_in [] = 0
 dealt_in (v ∷ vs) = dealt_of v
 
--- what is seen is a beginning of the history; and where n is a session's number, the seat speaks for it, and has seen all of
--- its calls
+-- what is seen is a beginning of the history; and where n is no witness's number, it was dealt, the seat owns it, and has seen
+-- all of its calls
 abbrev pub Knows : History → ℕ → (ℕ → ℕ) → ℕ → ℕ → History → Type 0
-Knows history dealt owner id n seen = IsBeginning seen history × (n ≤ dealt) × (0 < n → (owner n ≡ id) × (calls_of n history ≡ calls_of n seen))
+Knows history dealt owner id n seen = IsBeginning seen history × (Speaks n → (n < dealt) × (owner n ≡ id) × (calls_of n history ≡ calls_of n seen))
 
--- no session's seat was taken in twice
+-- no seat but a witness's was taken in twice
 abbrev pub AreApart : List Sitting → Type 0
-AreApart guests = (i j : ℕ) (x y : Sitting) → get_elem? guests i ≡ some x → get_elem? guests j ≡ some y → 0 < x.number → x.number ≡ y.number → i ≡ j
+AreApart guests = (i j : ℕ) (x y : Sitting) → get_elem? guests i ≡ some x → get_elem? guests j ≡ some y → Speaks x.number → x.number ≡ y.number → i ≡ j
 
 -- what a seat knows fits the history
 abbrev pub Fits : History → ℕ → ℕ → (ℕ → ℕ) → ℕ → Sight → Type 0
@@ -65,8 +74,8 @@ Fits history keeper dealt owner id (Whole hist g guests) = (id ≡ keeper) × (h
 Fits history keeper dealt owner id (Front n seen) = Knows history dealt owner id n seen
 Fits history keeper dealt owner id Gone = Unit {0}
 
--- There is one legal history, which the keeper knows whole. The word is the number of entries of its log. Each session has an
--- owner among the seats, and what each seat knows fits.
+-- There is one legal history, which the keeper knows whole. The word is the number of entries of its log. Each number but the
+-- witnesses' has an owner among the seats, the keeper until it is dealt, and what each seat knows fits.
 pub record HasOneHistory {S : Type 0} (st : Setting) (s : State S Sight) : Type 0 where
   pub history : History
   pub keeper : ℕ
@@ -74,10 +83,10 @@ pub record HasOneHistory {S : Type 0} (st : Setting) (s : State S Sight) : Type 
   pub owner : ℕ → ℕ
   pub legal : IsLegalHistory st history
   pub words : s.words ≡ length (log_of history) ∷ []
-  pub spare : (n : ℕ) → dealt < n → owner n ≡ keeper
+  pub spare : (n : ℕ) → dealt ≤ n → Speaks n → owner n ≡ keeper
   pub each : (id : ℕ) (v : Sight) → get_elem? s.views id ≡ some v → Fits history keeper dealt owner id v
 
--- what a session has seen after a step: one that doesn't count leaves it
+-- what a seat has seen after its step: one that doesn't count leaves it
 abbrev pub sight_after : Step → History → History → History
 sight_after c hist seen = cond (counts c.reply) (c ∷ hist) seen
 
@@ -95,10 +104,10 @@ abbrev pub told : Option Step → (Step → Type 0) → Type 0
 told none P = Unit {0}
 told (some s) P = P (said_step s)
 
--- the first seat that was taken in knew a beginning of the history, and all calls of its session
+-- the first seat that was taken in knew a beginning of the history, and all calls of its number where it is no witness's
 abbrev pub KnewFirst : History → List Sitting → Type 0
 KnewFirst hist [] = Unit {0}
-KnewFirst hist (x ∷ xs) = IsBeginning x.seen hist × (0 < x.number → calls_of x.number hist ≡ calls_of x.number x.seen)
+KnewFirst hist (x ∷ xs) = IsBeginning x.seen hist × (Speaks x.number → calls_of x.number hist ≡ calls_of x.number x.seen)
 
 -- the keeper adds the step that is said to the history
 abbrev pub Applied : Exchange Step → Me Step Sight → ℕ → Me Step Sight → Type 0
@@ -130,29 +139,29 @@ first_out (x ∷ xs) = Front x.number x.seen
 abbrev pub left_out : Sight → Sight
 left_out v = first_out (guests_of v)
 
--- the step is that of the one seat that was taken in, or of no session
+-- the step is that of the one seat that was taken in, which is no witness's
 abbrev pub Asked : Step → List Sitting → Type 0
-Asked c [] = session_of c.event ≡ 0
-Asked c (x ∷ []) = session_of c.event ≡ x.number
+Asked c [] = ⊥
+Asked c (x ∷ []) = Speaks x.number × (session_of c.event ≡ x.number)
 Asked c (x ∷ y ∷ ys) = ⊥
 
--- the next session's seat is dealt
+-- the next seat is dealt
 abbrev pub after_dealing : Sight → Sight
 after_dealing v = Whole (hist_of v) (dealt_of v + 1) (guests_of v)
 
 -- the seat that is dealt, which has seen nothing
 abbrev pub new_front : Sight → Sight
-new_front v = Front (dealt_of v + 1) []
+new_front v = Front (dealt_of v) []
 
--- each seat that was taken in had seen a beginning of the history with all calls of its session, and no session's seat is there
--- twice
+-- each seat that was taken in had seen a beginning of the history, with all calls of its number where it is no witness's; and
+-- none but a witness's is there twice
 abbrev pub AreTold : History → List Sitting → Type 0
-AreTold hist guests = ((k : ℕ) (x : Sitting) → get_elem? guests k ≡ some x → IsBeginning x.seen hist × (0 < x.number → calls_of x.number hist ≡ calls_of x.number x.seen)) × AreApart guests
+AreTold hist guests = ((k : ℕ) (x : Sitting) → get_elem? guests k ≡ some x → IsBeginning x.seen hist × (Speaks x.number → calls_of x.number hist ≡ calls_of x.number x.seen)) × AreApart guests
 
 -- what a look tells of the seats that were taken in; it changes nothing
 abbrev pub Compared : Exchange Step → Me Step Sight → ℕ → Me Step Sight → Type 0
 Compared st v found w = (w ≡ v) × AreTold (hist_of v.0) (guests_of v.0)
 
--- a seat that has seen the whole history
+-- a witness's seat, which has seen the whole history
 abbrev pub shown_out : Sight → Sight
-shown_out v = Front 0 (hist_of v)
+shown_out v = Front a_witness (hist_of v)

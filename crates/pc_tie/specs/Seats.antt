@@ -9,7 +9,7 @@ use Rattle.pc_model.specs.Calls.{counts, IsBeginning, Extends, HasCallsOf}
 use Rattle.pc_tie.specs.declared.sight.Sitting.{Sitting}
 use Rattle.pc_tie.specs.declared.sight.Sight.{Sight}
 use Rattle.pc_tie.specs.declared.sight.Sight.TheVariants.{Front}
-use Rattle.pc_tie.specs.Rules.{sitting, number_of, hist_of}
+use Rattle.pc_tie.specs.Rules.{a_witness, Speaks, sitting, number_of, hist_of}
 
 -- which word it is, and what the store's run starts from
 pub record Name : Type 0 where
@@ -18,24 +18,25 @@ pub record Name : Type 0 where
 
 -- what the seat of a badge knows: a number, and the history that it has seen
 abbrev pub sitting_in : List Sight → Sitting
-sitting_in [] = sitting 0 []
+sitting_in [] = sitting a_witness []
 sitting_in (v ∷ vs) = sitting (number_of v) (hist_of v)
 
--- the badge is that of a session's or a witness's seat at the word
+-- the badge is that of a seat at the word which isn't the keeper's
 abbrev pub IsSeatAt : TableId → Badge Sight → Type 0
 IsSeatAt table badge = (badge.table_id ≡ table) × (badge.views ≡ Front (sitting_in badge.views).number (sitting_in badge.views).seen ∷ [])
 
 -- the number is that of a session, and what it has seen is a legal history
 pub record IsSession (st : Setting) (s : Sitting) : Type 0 where
   pub from_one : 0 < s.number
+  pub speaks : Speaks s.number
   pub within : s.number ≤ st.sessions
   pub legal : IsLegalHistory st s.seen
 
--- A step moves a session on: where its reply counts, what it has seen is extended by the step; else it stays.
+-- A step moves a seat on: where its reply counts, what it has seen is extended by the step; else it stays.
 abbrev pub MovesOn : Setting → History → Step → History → Type 0
 MovesOn st old step new = MatchBool (counts step.reply) (Extends st old step new) (new ≡ old)
 
--- what the keeper knows: the history, how many sessions' seats it has dealt, and those that it has taken in, the last one first
+-- what the keeper knows: the history, how many seats it has dealt, and those that it has taken in, the last one first
 pub record Meeting : Type 0 where
   pub history : History
   pub dealt : ℕ
@@ -44,15 +45,15 @@ pub record Meeting : Type 0 where
 abbrev pub meeting : History → ℕ → List Sitting → Meeting
 meeting history dealt guests = record { history = history; dealt = dealt; guests = guests }
 
--- the number of the first, or 0 where there is none
+-- the number of the first, or a witness's where there is none
 abbrev pub first_number : List Sitting → ℕ
-first_number [] = 0
+first_number [] = a_witness
 first_number (s ∷ ss) = s.number
 
--- no two sessions have one number
+-- no two seats but witnesses' have one number
 abbrev pub NoTwoAlike : List Sitting → Type 0
-NoTwoAlike ss = (i j : ℕ) (d : Sitting) → i < length ss → j < length ss → 0 < (get_or ss i d).number → (get_or ss i d).number ≡ (get_or ss j d).number → i ≡ j
+NoTwoAlike ss = (i j : ℕ) (d : Sitting) → i < length ss → j < length ss → Speaks (get_or ss i d).number → (get_or ss i d).number ≡ (get_or ss j d).number → i ≡ j
 
--- the session, or the witness, has seen a beginning of the history; and a session all of its own calls
+-- the seat has seen a beginning of the history; and where it is no witness's, all calls of its number
 abbrev pub IsFrontOf : History → Sitting → Type 0
-IsFrontOf history s = IsBeginning s.seen history × (0 < s.number → HasCallsOf history s.number s.seen)
+IsFrontOf history s = IsBeginning s.seen history × (Speaks s.number → HasCallsOf history s.number s.seen)

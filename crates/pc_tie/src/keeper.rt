@@ -5,12 +5,12 @@ ghost use Rattle.pc_model.specs.Replies.{IsLegalHistory};
 ghost use Rattle.pc_model.specs.Calls.{session_of, IsBeginning, HasCallsOf};
 ghost use Rattle.pc_tie.specs.declared.sight.Sitting.{Sitting};
 ghost use Rattle.pc_tie.specs.declared.sight.Sight.TheVariants.{Whole};
-ghost use Rattle.pc_tie.specs.Rules.{sitting, Asked, guests_after, KnewFirst, AreTold};
+ghost use Rattle.pc_tie.specs.Rules.{a_witness, Speaks, sitting, sight_after, Asked, guests_after, KnewFirst, AreTold};
 ghost use Rattle.pc_tie.specs.Seats.{meeting, sitting_in, IsSeatAt, IsSession, MovesOn, first_number, NoTwoAlike, IsFrontOf};
 
 use crate::name::StoreName;
 use crate::rule::{Append, Compare, Deal, Show, Visit};
-use crate::seats::{SessionSeat, Witness};
+use crate::seats::{CheckpointerSeat, SessionSeat, Witness};
 use crate::sight::Sight;
 use crate::tie::Tie;
 use atomic_table::{Badge, Seat};
@@ -18,8 +18,7 @@ use pc_types::{SessionNo, Step};
 use std::marker::{Model, PhantomData};
 use std::mem;
 
-/// The keeper of a store's history. Contracts see the history, how many sessions' seats were dealt, and the seats that it has
-/// taken in.
+/// The keeper of a store's history. Contracts see the history, how many seats were dealt, and those that it has taken in.
 #[derive(Drop)]
 pub struct Keeper<N: StoreName> {
     seat: Seat<Step, Sight>,
@@ -47,29 +46,38 @@ pub struct Dealer<N: StoreName> {
 }
 
 impl<N: StoreName> Model for Dealer<N> {
-    ghost use Rattle.std.specs.Prelude.{◌≡◌, ℕ, []};
+    ghost use Rattle.std.specs.Prelude.{◌≡◌, ◌+◌, ℕ, []};
     ghost use Rattle.pc_tie.specs.Seats.{meeting};
 
     ghost Value = { ℕ };
 
     ghost view = { λ d. d.dealt };
 
-    ghost invariant = { λ d. d.keeper ≡ meeting [] d.dealt [] };
+    ghost invariant = { λ d. d.keeper ≡ meeting [] (d.dealt + 1) [] };
+}
+
+// The checkpointer's seat at a new word, and who deals the others.
+pub(crate) fn deal_first<N: StoreName>(
+    tie: &Tie<N>,
+    seat: Seat<Step, Sight>,
+) -> (CheckpointerSeat<N>, Dealer<N>)
+    requires { (seat.table_id ≡ N.name.table) × (seat.me ≡ (Whole [] 0 [], [])) }
+    ensures checkpointer { result.0 ≡ [] }
+    ensures dealer { result.1 ≡ 0 }
+{
+    let mut keeper = Keeper {
+        seat,
+        name: PhantomData,
+    };
+    let badge = keeper.deal(tie);
+    let checkpointer = CheckpointerSeat {
+        badge,
+        name: PhantomData,
+    };
+    (checkpointer, Dealer { keeper, dealt: 0 })
 }
 
 impl<N: StoreName> Dealer<N> {
-    // The dealer of a new word.
-    pub(crate) fn new(seat: Seat<Step, Sight>) -> Dealer<N>
-        requires { (seat.table_id ≡ N.name.table) × (seat.me ≡ (Whole [] 0 [], [])) }
-        ensures { result ≡ 0 }
-    {
-        let keeper = Keeper {
-            seat,
-            name: PhantomData,
-        };
-        Dealer { keeper, dealt: 0 }
-    }
-
     /// The seat of the next session, which has seen nothing.
     pub fn deal(&mut self, tie: &Tie<N>) -> SessionSeat<N>
         requires { (self.old < 64) × (self.old < N.name.setting.sessions) }
@@ -95,7 +103,7 @@ impl<N: StoreName> Dealer<N> {
 
     /// The keeper of the history, which is empty.
     pub fn into_keeper(self) -> Keeper<N>
-        ensures { result ≡ meeting [] self [] }
+        ensures { result ≡ meeting [] (self + 1) [] }
     {
         let Dealer { keeper, dealt: _ } = self;
         keeper
@@ -103,12 +111,13 @@ impl<N: StoreName> Dealer<N> {
 }
 
 impl<N: StoreName> Keeper<N> {
-    // The seat of the next session.
+    // The next seat.
     fn deal(&mut self, tie: &Tie<N>) -> Badge<Sight>
-        requires { (self.old.history ≡ []) × (self.old.guests ≡ []) }
+        requires new { (self.old.history ≡ []) × (self.old.guests ≡ []) }
+        requires speaks { Speaks self.old.dealt }
         ensures keeper { self.new ≡ meeting [] (self.old.dealt + 1) [] }
         ensures seat { IsSeatAt N.name.table result }
-        ensures sitting { sitting_in result.views ≡ sitting (self.old.dealt + 1) [] }
+        ensures sitting { sitting_in result.views ≡ sitting self.old.dealt [] }
     {
         tie.table
             .shared
@@ -143,7 +152,7 @@ impl<N: StoreName> Keeper<N> {
     fn show(&mut self, tie: &Tie<N>) -> Badge<Sight>
         ensures keeper { self.new ≡ meeting self.old.history self.old.dealt [] }
         ensures seat { IsSeatAt N.name.table result }
-        ensures sitting { sitting_in result.views ≡ sitting 0 self.old.history }
+        ensures sitting { sitting_in result.views ≡ sitting a_witness self.old.history }
     {
         tie.table
             .shared
@@ -159,8 +168,7 @@ impl<N: StoreName> Keeper<N> {
         let _found = tie.table.shared.load::<Compare>(&mut self.seat, 0);
     }
 
-    // Adds a step to the history: that of the one seat that was taken in, or of no session. `before` and `after` are the
-    // numbers of entries of the log.
+    // Adds a step of the one seat that was taken in to the history. `before` and `after` are the numbers of entries of the log.
     fn append(&mut self, tie: &Tie<N>, before: u64, after: u64, step: &Step)
         requires asked { Asked step.now self.old.guests }
         requires legal { IsLegalHistory N.name.setting (step.now ∷ self.old.history) }
@@ -173,6 +181,35 @@ impl<N: StoreName> Keeper<N> {
             .table
             .shared
             .compare_exchange_with::<Append>(&mut self.seat, 0, before, after, step);
+    }
+
+    // Adds a step of the badge's seat to the history, and the seat moves on by it.
+    fn note_at(
+        &mut self,
+        tie: &Tie<N>,
+        badge: &mut Badge<Sight>,
+        before: u64,
+        after: u64,
+        step: &Step,
+    )
+        requires alone { self.old.guests ≡ [] }
+        requires seat { IsSeatAt N.name.table badge.old }
+        requires speaks { Speaks (sitting_in badge.old.views).number }
+        requires own { session_of step.now.event ≡ (sitting_in badge.old.views).number }
+        requires legal { IsLegalHistory N.name.setting (step.now ∷ self.old.history) }
+        requires before { before ≡ length (log_of self.old.history) }
+        requires after { after ≡ length (log_of (step.now ∷ self.old.history)) }
+        ensures keeper { self.new ≡ meeting (step.now ∷ self.old.history) self.old.dealt [] }
+        ensures seat { IsSeatAt N.name.table badge.new }
+        ensures number { (sitting_in badge.new.views).number ≡ (sitting_in badge.old.views).number }
+        ensures sees { (sitting_in badge.new.views).seen ≡ sight_after step.now self.old.history (sitting_in badge.old.views).seen }
+        ensures moves { MovesOn N.name.setting (sitting_in badge.old.views).seen step.now (sitting_in badge.new.views).seen }
+        ensures knew { HasCallsOf self.old.history (sitting_in badge.old.views).number (sitting_in badge.old.views).seen }
+    {
+        let own = mem::replace(badge, Badge::blank());
+        self.enter(tie, own);
+        self.append(tie, before, after, step);
+        *badge = self.leave(tie);
     }
 
     /// Adds a step of the session to the history. `before` and `after` are the numbers of entries of the log.
@@ -194,22 +231,41 @@ impl<N: StoreName> Keeper<N> {
         ensures moves { MovesOn N.name.setting session.old.seen step.now session.new.seen }
         ensures knew { HasCallsOf self.old.history session.old.number session.old.seen }
     {
-        let badge = mem::replace(&mut session.badge, Badge::blank());
-        self.enter(tie, badge);
-        self.append(tie, before, after, step);
-        session.badge = self.leave(tie);
+        self.note_at(tie, &mut session.badge, before, after, step);
     }
 
-    /// Adds a step of no session to the history. `before` and `after` are the numbers of entries of the log.
-    pub fn note_own(&mut self, tie: &Tie<N>, before: u64, after: u64, step: &Step)
+    /// Adds a step of the checkpointer to the history. `before` and `after` are the numbers of entries of the log.
+    pub fn note_own(
+        &mut self,
+        tie: &Tie<N>,
+        checkpointer: &mut CheckpointerSeat<N>,
+        before: u64,
+        after: u64,
+        step: &Step,
+    )
         requires alone { self.old.guests ≡ [] }
         requires own { session_of step.now.event ≡ 0 }
         requires legal { IsLegalHistory N.name.setting (step.now ∷ self.old.history) }
         requires before { before ≡ length (log_of self.old.history) }
         requires after { after ≡ length (log_of (step.now ∷ self.old.history)) }
-        ensures { self.new ≡ meeting (step.now ∷ self.old.history) self.old.dealt [] }
+        ensures keeper { self.new ≡ meeting (step.now ∷ self.old.history) self.old.dealt [] }
+        ensures sees { checkpointer.new ≡ sight_after step.now self.old.history checkpointer.old }
+        ensures moves { MovesOn N.name.setting checkpointer.old step.now checkpointer.new }
+        ensures knew { HasCallsOf self.old.history 0 checkpointer.old }
     {
-        self.append(tie, before, after, step);
+        self.note_at(tie, &mut checkpointer.badge, before, after, step);
+    }
+
+    /// Compares the history with what the checkpointer has seen: a beginning of it, with all calls of the checkpointer.
+    pub fn compare_own(&mut self, tie: &Tie<N>, checkpointer: &mut CheckpointerSeat<N>)
+        requires alone { self.old.guests ≡ [] }
+        ensures same { (self.new ≡ self.old) × (checkpointer.new ≡ checkpointer.old) }
+        ensures knew { HasCallsOf self.old.history 0 checkpointer.old }
+    {
+        let badge = mem::replace(&mut checkpointer.badge, Badge::blank());
+        self.enter(tie, badge);
+        self.look(tie);
+        checkpointer.badge = self.leave(tie);
     }
 
     /// A witness that has seen the history as it is.

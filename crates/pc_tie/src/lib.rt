@@ -1,4 +1,4 @@
-//! What ties the sessions of a store to its one history: seats at one word that threads share, each of which knows the history
+//! What ties the sessions and the checkpointer of a store to its one history: seats at one word that threads share, each of which knows the history
 //! or a beginning of it.
 #![tactic(auto)]
 
@@ -11,6 +11,6 @@ mod tie;
 
 pub use keeper::{Dealer, Keeper};
 pub use name::StoreName;
-pub use seats::{SessionSeat, Witness};
+pub use seats::{CheckpointerSeat, SessionSeat, Witness};
 pub use sight::{Sight, Sitting};
 pub use tie::{Tie, Untied};

@@ -68,7 +68,7 @@ impl Split<Sight> for Show {
     ghost right = { shown_out };
 }
 
-/// The next session's seat is dealt.
+/// The next seat is dealt: the checkpointer's first, then those of sessions.
 pub struct Deal;
 
 impl Split<Sight> for Deal {

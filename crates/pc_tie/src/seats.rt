@@ -1,4 +1,4 @@
-//! The seats of sessions and of witnesses.
+//! The seats of sessions, of the checkpointer and of witnesses.
 ghost use Rattle.std.specs.Prelude.{◌≡◌};
 ghost use Rattle.pc_tie.specs.Seats.{IsSession};
 
@@ -38,7 +38,27 @@ impl<N: StoreName> SessionSeat<N> {
     }
 }
 
-/// A seat of no session, which has seen a beginning of the history. Contracts see that.
+/// The checkpointer's seat at the word of its store, which has one. Contracts see the history that it has seen, which is legal.
+#[derive(Drop)]
+pub struct CheckpointerSeat<N: StoreName> {
+    pub(crate) badge: Badge<Sight>,
+    pub(crate) name: PhantomData<N>,
+}
+
+impl<N: StoreName> Model for CheckpointerSeat<N> {
+    ghost use Rattle.std.specs.Prelude.{◌≡◌};
+    ghost use Rattle.pc_model.specs.History.{History};
+    ghost use Rattle.pc_model.specs.Replies.{IsLegalHistory};
+    ghost use Rattle.pc_tie.specs.Seats.{sitting_in, IsSeatAt};
+
+    ghost Value = { History };
+
+    ghost view = { λ c. (sitting_in c.badge.views).seen };
+
+    ghost invariant = { λ c. IsSeatAt N.name.table c.badge × ((sitting_in c.badge.views).number ≡ 0) × IsLegalHistory N.name.setting (sitting_in c.badge.views).seen };
+}
+
+/// A seat of nobody who calls, which has seen a beginning of the history. Contracts see that.
 #[derive(Drop)]
 pub struct Witness<N: StoreName> {
     pub(crate) badge: Badge<Sight>,
@@ -48,11 +68,12 @@ pub struct Witness<N: StoreName> {
 impl<N: StoreName> Model for Witness<N> {
     ghost use Rattle.std.specs.Prelude.{◌≡◌};
     ghost use Rattle.pc_model.specs.History.{History};
+    ghost use Rattle.pc_tie.specs.Rules.{a_witness};
     ghost use Rattle.pc_tie.specs.Seats.{sitting_in, IsSeatAt};
 
     ghost Value = { History };
 
     ghost view = { λ w. (sitting_in w.badge.views).seen };
 
-    ghost invariant = { λ w. IsSeatAt N.name.table w.badge × ((sitting_in w.badge.views).number ≡ 0) };
+    ghost invariant = { λ w. IsSeatAt N.name.table w.badge × ((sitting_in w.badge.views).number ≡ a_witness) };
 }

@@ -2,9 +2,9 @@
 use pc_types::Step;
 use std::collections::LinkedList;
 
-/// What a session has seen.
+/// What a seat has seen.
 pub struct Sitting {
-    /// The number of the session; a witness has 0.
+    /// The number of the session; the checkpointer has 0, and a witness 65, which is no session's.
     pub number: u64,
     /// The history that it has seen, the last step first.
     pub seen: LinkedList<Step>,
@@ -12,9 +12,9 @@ pub struct Sitting {
 
 /// What a seat knows.
 pub enum Sight {
-    /// As the keeper: the whole history, how many sessions' seats were dealt, and the seats that were taken in.
+    /// As the keeper: the whole history, how many seats were dealt, and those that were taken in.
     Whole(LinkedList<Step>, u64, LinkedList<Sitting>),
-    /// As the session of this number, or as a witness: a beginning of the history.
+    /// As the seat of this number: a beginning of the history.
     Front(u64, LinkedList<Step>),
     /// Nothing any more.
     Gone,

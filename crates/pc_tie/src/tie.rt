@@ -1,10 +1,11 @@
 //! The word of a store.
-ghost use Rattle.std.specs.Prelude.{◌≡◌, IfOk, IfErr};
+ghost use Rattle.std.specs.Prelude.{◌≡◌, [], IfOk, IfErr};
 ghost use Rattle.pc_engine.specs.Store.{setting_of};
 
-use crate::keeper::Dealer;
+use crate::keeper::{Dealer, deal_first};
 use crate::name::StoreName;
 use crate::rule::OneHistory;
+use crate::seats::CheckpointerSeat;
 use crate::sight::Sight;
 use atomic_table::{Seat, Table};
 use pc_engine::World;
@@ -46,17 +47,19 @@ impl Untied {
         Ok(Untied { table, seat })
     }
 
-    /// The word under its name, and who deals its seats.
-    pub fn named<N: StoreName>(self) -> (Tie<N>, Dealer<N>)
+    /// The word under its name, the checkpointer's seat, which has seen nothing, and who deals the others.
+    pub fn named<N: StoreName>(self) -> (Tie<N>, CheckpointerSeat<N>, Dealer<N>)
         requires { self ≡ N.name }
-        ensures { result.1 ≡ 0 }
+        ensures checkpointer { result.1 ≡ [] }
+        ensures dealer { result.2 ≡ 0 }
     {
         let Untied { table, seat } = self;
         let tie = Tie {
             table,
             name: PhantomData,
         };
-        (tie, Dealer::new(seat))
+        let (checkpointer, dealer) = deal_first(&tie, seat);
+        (tie, checkpointer, dealer)
     }
 }
 

@@ -1,4 +1,4 @@
-use Rattle.std.proofs.Common.{ap, sym, ◌∙◌, arith, subst}
+use Rattle.std.proofs.Common.{sym, ◌∙◌, arith, subst}
 use Rattle.pc_tie.specs.Rules.{AreTold}
 use Rattle.pc_tie.specs.Seats.{Meeting}
 use Rattle.pc_tie.proofs.Visits.{compares_at}

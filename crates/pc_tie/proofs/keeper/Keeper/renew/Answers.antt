@@ -1,4 +1,4 @@
-use Rattle.std.proofs.Common.{◌≡◌, refl, sym, ap, ◌∙◌, subst}
+use Rattle.std.proofs.Common.{◌≡◌, refl, ap, ◌∙◌, subst}
 use Rattle.pc_model.specs.History.{History}
 use Rattle.pc_model.specs.Calls.{IsBeginning}
 use Rattle.pc_tie.specs.declared.sight.Sitting.{Sitting}
