@@ -1,4 +1,6 @@
+pub mod CycleLaws
 mod Batching
+mod Calling
 mod Growing
 mod Passing
 mod Worths

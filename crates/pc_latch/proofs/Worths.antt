@@ -1,6 +1,6 @@
 -- What tickets are worth: one that was just handed out, and the join of two.
-use Rattle.std.proofs.Common.{◌≡◌, ◌≢◌, ◌<◌, get_or, ⊎_elim, ℕ, ◌+◌, Bool, true, false, List, [], ◌∷◌, ◌++◌, ◌-◌, eqb, cond, length, length-append, All, ap, sym, ◌∙◌, subst, arith}
-use Rattle.std.specs.Prelude.{Some, None, Contains, slice_get}
+use Rattle.std.proofs.Common.{◌≡◌, ◌≢◌, ◌⊎◌, inl, inr, ◌<◌, get_or, ⊎_elim, ℕ, ◌+◌, Bool, true, false, List, [], ◌∷◌, ◌++◌, ◌-◌, eqb, cond, length, length-append, All, ap, sym, ◌∙◌, subst, arith}
+use Rattle.std.specs.Prelude.{Some, None, Contains, slice_get, Result, Ok, Err, IfErr}
 use Rattle.std.proofs.lemmas.Bool.{cases_eq}
 use Rattle.std.proofs.lemmas.List.{get_or_append_left, get_or-append-add}
 use Rattle.std.proofs.lemmas.List.Elements.{All-head, Contains-get_or}
@@ -10,7 +10,7 @@ use Rattle.pc_model.specs.History.{History, log_of}
 use Rattle.pc_model.specs.Sets as set
 use Rattle.pc_model.specs.Files.{File, joined_file, shelf, file_at}
 use Rattle.pc_model.specs.Standing.{IsOfItsPoints}
-use Rattle.pc_model.specs.Replies.{Setting, IsLegalHistory}
+use Rattle.pc_model.specs.Replies.{Setting}
 use Rattle.pc_model.specs.Calls.{IsBeginning}
 use Rattle.pc_model.specs.SessionLaws.{HasNoJoins}
 use Rattle.pc_model.proofs.LegalEffectLaws.{legal_has_legal_effects}
@@ -19,7 +19,8 @@ use Rattle.pc_model.proofs.BeginningLaws.{files_stay}
 use Rattle.pc_model.proofs.FileNumberLaws.{files_numbered}
 use Rattle.pc_engine.specs.Store.{Store, setting_of}
 use Rattle.pc_engine.specs.Stands.{Stands}
-use Rattle.pc_latch.specs.Tickets.{IsWorth, IsNoTicket}
+use Rattle.pc_types.specs.declared.Refusal.{Refusal}
+use Rattle.pc_latch.specs.Tickets.{IsWorth, HasNoFile, IsNoTicket}
 
 all_left : {X : Type 0} (P : X → Type 0) (xs ys : List X) → All P (xs ++ ys) → All P xs
 all_left P xs ys all k d lt = subst P (get_or_append_left xs ys d k lt) (all k d (omega (arith, length-append xs ys, lt)))
@@ -55,10 +56,35 @@ shelved_worth st w h n f is s at =
 pub shelved_points : (w : Store) (h : History) (n : ℕ) (f : File) → Stands w h → HasNoJoins h → file_at w.shelf n ≡ Some f → f.points ≡ set.insert set.empty n
 shelved_points w h n f s none at = files_numbered (setting_of w) h n f (legal_has_legal_effects (setting_of w) h s.legal) none (ap (λ l. file_at l n) (sym s.parts.cycle.shelved) ∙ at)
 
--- where the shelf has no such file there is no ticket
-pub no_ticket : (st : Setting) (w : Store) (h : History) (n : ℕ) → setting_of w ≡ st → Stands w h → file_at w.shelf n ≡ None → IsNoTicket st n why.NoFile
-no_ticket st w h n is s at =
-    (h, subst (λ (t : Setting). IsLegalHistory t h) is s.legal, ap (λ (t : Setting). file_at (shelf t.run h) n) (sym is) ∙ (ap (λ l. file_at l n) (sym s.parts.cycle.shelved) ∙ at))
+-- what the world's shelf has is what that of the history has, after which it stands
+pub shelved_by_history : (st : Setting) (w : Store) (h seen : History) (n : ℕ) → setting_of w ≡ st → Stands w h → h ≡ seen → file_at (shelf st.run seen) n ≡ file_at w.shelf n
+shelved_by_history st w h seen n is s same =
+    ap (λ (l : History). file_at (shelf st.run l) n) (sym same) ∙ (ap (λ (t : Setting). file_at (shelf t.run h) n) (sym is) ∙ ap (λ l. file_at l n) (sym s.parts.cycle.shelved))
+
+-- why no ticket was handed out
+pub none_handed : (st : Setting) (w : Store) (h seen : History) (n : ℕ) (given : Refusal) → setting_of w ≡ st → Stands w h → h ≡ seen → (given ≡ why.NoFile → file_at w.shelf n ≡ None) → (given ≡ why.NoFile) ⊎ (given ≡ why.OutOfMemory) → IsNoTicket st seen n given
+none_handed st w h seen n given is s same none (inl e) = subst (IsNoTicket st seen n) (sym e) (shelved_by_history st w h seen n is s same ∙ none e)
+none_handed st w h seen n given is s same none (inr e) = subst (IsNoTicket st seen n) (sym e) tt
+
+-- a file is there
+pub some_handed : (st : Setting) (w : Store) (h seen : History) (n : ℕ) (f : File) → setting_of w ≡ st → Stands w h → h ≡ seen → file_at w.shelf n ≡ Some f → file_at (shelf st.run seen) n ≡ Some f
+some_handed st w h seen n f is s same at = shelved_by_history st w h seen n is s same ∙ at
+
+pub not_missing : (st : Setting) (w : Store) (h seen : History) (n : ℕ) (f : File) → setting_of w ≡ st → Stands w h → h ≡ seen → file_at w.shelf n ≡ Some f → HasNoFile st seen n → ⊥
+not_missing st w h seen n f is s same at none = no_file (sym none ∙ some_handed st w h seen n f is s same at)
+  where
+    no_file : None ≡ Some f → ⊥
+    no_file e = cc
+
+-- what is told of tickets by one history is told by another one with the same shelf
+pub same_refusal : {T : Type 0} (st : Setting) (h seen : History) (n : ℕ) (r : Result T Refusal) → shelf st.run h ≡ shelf st.run seen → IfErr r (IsNoTicket st h n) → IfErr r (IsNoTicket st seen n)
+same_refusal st h seen n (Ok ticket) same told = tt
+same_refusal st h seen n (Err given) same told = by_why given told
+  where
+    by_why : (given : Refusal) → IsNoTicket st h n given → IsNoTicket st seen n given
+    by_why why.NoFile none = ap (λ l. file_at l n) (sym same) ∙ none
+    by_why why.OutOfMemory none = tt
+    by_why other none = absurd none
 
 -- of one more it is told what it is worth
 pub worth_more : (P : File → Type 0) (files : List File) (k : ℕ) → ((d : File) → P (get_or files k d)) → ((j : ℕ) (d : File) → j < k → P (get_or files j d)) → (j : ℕ) (d : File) → j < k + 1 → P (get_or files j d)

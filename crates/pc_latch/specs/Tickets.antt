@@ -20,11 +20,15 @@ IsWorth st seen file = (h : History) → IsLegalHistory st h → BeginsWith h se
 abbrev pub HaveGrown : List History → List History → Type 0
 HaveGrown old new = (length new ≡ length old) × ((k : ℕ) (d : History) → k < length old → IsBeginning (get_or old k d) (get_or new k d))
 
--- why there is no ticket of the file of this number: after some legal history the shelf has no such file; or memory ran out
-abbrev pub IsNoTicket : Setting → ℕ → Refusal → Type 0
-IsNoTicket st number why.NoFile = (h : History) × IsLegalHistory st h × (file_at (shelf st.run h) number ≡ None)
-IsNoTicket st number why.OutOfMemory = ⊤
-IsNoTicket st number other = ⊥
+-- the history's shelf has no file of this number
+abbrev pub HasNoFile : Setting → History → ℕ → Type 0
+HasNoFile st history number = file_at (shelf st.run history) number ≡ None
+
+-- why there is no ticket of the file of this number: the history's shelf has no such file; or memory ran out
+abbrev pub IsNoTicket : Setting → History → ℕ → Refusal → Type 0
+IsNoTicket st history number why.NoFile = HasNoFile st history number
+IsNoTicket st history number why.OutOfMemory = ⊤
+IsNoTicket st history number other = ⊥
 
 -- why two tickets aren't joined: the refusal that is due, or, where none is, that memory ran out
 abbrev pub IsRefusedJoin : Option Refusal → Refusal → Type 0

@@ -1,11 +1,11 @@
 //! What lies under the latch: the world, and the keeper of its history.
-ghost use Rattle.std.specs.Prelude.{◌≡◌, ◌∷◌, ◌++◌, [], false, IfOk, IfErr, OnErr, All, length, drop};
+ghost use Rattle.std.specs.Prelude.{◌≡◌, ◌↔◌, ◌∷◌, ◌++◌, [], false, Err, Some, None, IfOk, IfErr, OnErr, All, length, drop};
 ghost use Rattle.pc_types.specs.declared.Event.TheVariants.{Take};
 ghost use Rattle.pc_model.specs.FewWrites.{HasFewWrites};
+ghost use Rattle.pc_model.specs.Files.{file_at, shelf};
 ghost use Rattle.pc_model.specs.History.{History, log_of, phase_of};
-ghost use Rattle.pc_model.specs.Headline.{TakesPointValue};
 ghost use Rattle.pc_model.specs.Replies.{IsLegalHistory};
-ghost use Rattle.pc_model.specs.Calls.{step_of, session_of, counts, IsAnswered};
+ghost use Rattle.pc_model.specs.Calls.{step_of, session_of, counts, IsAnswered, IsBeginning, HasCallsOf};
 ghost use Rattle.pc_model.specs.ReplyKinds.{IsReplyTo};
 ghost use Rattle.pc_model.specs.SessionLaws.{IsNoJoin};
 ghost use Rattle.pc_engine.specs.Asking.{AsksOfOpen};
@@ -13,14 +13,14 @@ ghost use Rattle.pc_engine.specs.Store.{setting_of};
 ghost use Rattle.pc_engine.specs.Stands.{Stands, Follows};
 ghost use Rattle.pc_tie.specs.Seats.{MovesOn};
 ghost use Rattle.pc_latch.specs.Batches.{batch};
-ghost use Rattle.pc_latch.specs.Cycles.{next_event};
+ghost use Rattle.pc_latch.specs.Cycles.{next_event, IsCalled, IsAdvance, IsTaken};
 ghost use Rattle.pc_model.specs.Sets as set;
-ghost use Rattle.pc_latch.specs.Tickets.{IsNoTicket};
+ghost use Rattle.pc_latch.specs.Tickets.{HasNoFile, IsNoTicket};
 
 use crate::pass::{LogPass, next_of};
 use crate::ticket::PartTicket;
 use pc_engine::World;
-use pc_tie::{Keeper, SessionSeat, StoreName, Tie};
+use pc_tie::{CheckpointerSeat, Keeper, SessionSeat, StoreName, Tie, Witness};
 use pc_types::{Entry, Event, FileNo, Phase, Refusal, Reply, Step};
 use std::alloc::Global;
 use std::marker::Model;
@@ -110,41 +110,45 @@ impl<N: StoreName> Latched<N> {
         self.keeper.note(tie, session, before, after, step);
     }
 
-    // An event of no session.
-    fn call_own(&mut self, tie: &Tie<N>, event: Event) -> Reply
+    // The checkpointer asks the event.
+    fn call_own(
+        &mut self,
+        tie: &Tie<N>,
+        checkpointer: &mut CheckpointerSeat<N>,
+        event: Event,
+    ) -> Reply
         requires own { session_of event ≡ 0 }
         requires no_join { IsNoJoin event }
-        ensures kind { IsReplyTo event result }
         ensures history { self.new ≡ step_of event result ∷ self.old }
-        ensures legal { IsLegalHistory N.name.setting (step_of event result ∷ self.old) }
-        ensures values { TakesPointValue N.name.setting.base (step_of event result ∷ self.old) }
+        ensures knew { HasCallsOf self.old 0 checkpointer.old }
+        ensures called { IsCalled N.name.setting checkpointer.old event result checkpointer.new }
     {
         let before = self.world.log().len() as u64;
         let reply = self.world.step(&event);
         let after = self.world.log().len() as u64;
         let step = Step { event, reply };
-        self.keeper.note_own(tie, before, after, &step);
+        self.keeper
+            .note_own(tie, checkpointer, before, after, &step);
         let Step { event, reply } = step;
         drop(event);
         reply
     }
 
-    /// Asks for the event that ends the phase.
-    pub fn advance(&mut self, tie: &Tie<N>) -> Reply
+    /// The checkpointer asks for the event that ends the phase.
+    pub fn advance(&mut self, tie: &Tie<N>, checkpointer: &mut CheckpointerSeat<N>) -> Reply
         ensures history { self.new ≡ step_of (next_event (phase_of self.old)) result ∷ self.old }
-        ensures legal { IsLegalHistory N.name.setting (step_of (next_event (phase_of self.old)) result ∷ self.old) }
+        ensures called { IsAdvance N.name.setting checkpointer.old result checkpointer.new }
     {
         let event = next_event(self.world.phase());
-        self.call_own(tie, event)
+        self.call_own(tie, checkpointer, event)
     }
 
-    /// Takes one key of the point.
-    pub fn take(&mut self, tie: &Tie<N>) -> Reply
+    /// The checkpointer takes one key of the point.
+    pub fn take(&mut self, tie: &Tie<N>, checkpointer: &mut CheckpointerSeat<N>) -> Reply
         ensures history { self.new ≡ step_of Take result ∷ self.old }
-        ensures legal { IsLegalHistory N.name.setting (step_of Take result ∷ self.old) }
-        ensures values { TakesPointValue N.name.setting.base (step_of Take result ∷ self.old) }
+        ensures called { IsTaken N.name.setting checkpointer.old result checkpointer.new }
     {
-        self.call_own(tie, Event::Take)
+        self.call_own(tie, checkpointer, Event::Take)
     }
 
     /// The next entries of the log after those that the pass has handed out, as long as there is room for so many bytes of text,
@@ -189,16 +193,18 @@ impl<N: StoreName> Latched<N> {
         (world, keeper)
     }
 
-    /// A ticket of the shelf's file of this number. Refuses with `NoFile` where there is none, and else only with `OutOfMemory`.
-    pub fn take_part(
+    // A ticket of the shelf's file of this number.
+    fn ticket(
         &mut self,
         alloc: Global,
         tie: &Tie<N>,
         number: FileNo,
     ) -> Result<PartTicket<N>, Refusal>
         ensures same { self.new ≡ self.old }
-        ensures ticket { IfOk result (λ t. t.points ≡ set.insert set.empty number) }
-        ensures refused { IfErr result (λ why. IsNoTicket N.name.setting number why) }
+        ensures file { IfOk result (λ t. file_at (shelf N.name.setting.run self.old) number ≡ Some t) }
+        ensures point { IfOk result (λ t. t.points ≡ set.insert set.empty number) }
+        ensures refused { IfErr result (IsNoTicket N.name.setting self.old number) }
+        ensures none { HasNoFile N.name.setting self.old number → result ≡ Err Refusal.NoFile }
     {
         let part = match self.world.hand_out(number) {
             Ok(part) => part,
@@ -214,5 +220,55 @@ impl<N: StoreName> Latched<N> {
             part,
             witnesses,
         })
+    }
+
+    /// A ticket of the shelf's file of this number, for the checkpointer, who knows the shelf. Refuses with `NoFile` exactly
+    /// where there is none, and else only with `OutOfMemory`.
+    pub fn take_part(
+        &mut self,
+        alloc: Global,
+        tie: &Tie<N>,
+        checkpointer: &mut CheckpointerSeat<N>,
+        number: FileNo,
+    ) -> Result<PartTicket<N>, Refusal>
+        ensures same { (self.new ≡ self.old) × (checkpointer.new ≡ checkpointer.old) }
+        ensures file { IfOk result (λ t. file_at (shelf N.name.setting.run checkpointer.old) number ≡ Some t) }
+        ensures point { IfOk result (λ t. t.points ≡ set.insert set.empty number) }
+        ensures refused { IfErr result (IsNoTicket N.name.setting checkpointer.old number) }
+        ensures none { HasNoFile N.name.setting checkpointer.old number → result ≡ Err Refusal.NoFile }
+    {
+        self.keeper.compare_own(tie, checkpointer);
+        self.ticket(alloc, tie, number)
+    }
+
+    /// A ticket of the shelf's file of this number, for whoever has the witness, which then has seen the history. Refuses with
+    /// `NoFile` exactly where there is none, and else only with `OutOfMemory`.
+    pub fn take_shown(
+        &mut self,
+        alloc: Global,
+        tie: &Tie<N>,
+        witness: &mut Witness<N>,
+        number: FileNo,
+    ) -> Result<PartTicket<N>, Refusal>
+        ensures same { self.new ≡ self.old }
+        ensures sees { witness.new ≡ self.old }
+        ensures had_seen { IsBeginning witness.old witness.new }
+        ensures legal { IsLegalHistory N.name.setting witness.new }
+        ensures file { IfOk result (λ t. file_at (shelf N.name.setting.run witness.new) number ≡ Some t) }
+        ensures point { IfOk result (λ t. t.points ≡ set.insert set.empty number) }
+        ensures refused { IfErr result (IsNoTicket N.name.setting witness.new number) }
+        ensures none { HasNoFile N.name.setting witness.new number → result ≡ Err Refusal.NoFile }
+    {
+        self.keeper.renew(tie, witness);
+        self.ticket(alloc, tie, number)
+    }
+
+    /// A witness that has seen the history as it is.
+    pub fn witness(&mut self, tie: &Tie<N>) -> Witness<N>
+        ensures same { self.new ≡ self.old }
+        ensures witness { result ≡ self.old }
+        ensures legal { IsLegalHistory N.name.setting result }
+    {
+        self.keeper.witness(tie)
     }
 }
