@@ -1,5 +1,5 @@
 -- What a comparison at the end tells of the sessions.
-use Rattle.std.proofs.Common.{◌≡◌, ℕ, zero, suc, ◌<◌, length, get_or, List, [], ◌∷◌, ◌++◌, map, All, refl, ap, sym, ◌∙◌, subst, arith}
+use Rattle.std.proofs.Common.{◌≡◌, ℕ, zero, suc, length, get_or, List, [], ◌∷◌, ◌++◌, map, All, refl, ap, sym, ◌∙◌, subst, arith}
 use Rattle.std.proofs.lemmas.List.{append-nil}
 use Rattle.std.proofs.lemmas.List.Elements.{All-head, All-tail, All-cons}
 use Rattle.pc_types.specs.declared.Receipt.{Receipt}
@@ -9,6 +9,7 @@ use Rattle.pc_model.specs.Receipts.{Own, own_of, AreExact}
 use Rattle.pc_model.proofs.OwnCallLaws.{own_own}
 use Rattle.pc_model.proofs.ReceiptLaws.{exact}
 use Rattle.pc_tie.specs.declared.sight.Sitting.{Sitting}
+use Rattle.pc_tie.specs.Rules.{Speaks}
 use Rattle.pc_tie.specs.Seats.{IsFrontOf, NoTwoAlike}
 use Rattle.pc_shared.specs.Sitters.{Sitter, sitting_of, IsSeated, IsSettled, AreApart}
 
@@ -48,5 +49,5 @@ pub all_apart : (ss : List Sitter) (guests : List Sitting) → guests ≡ [] →
 all_apart ss guests none seated apart i j d lt lt' same =
     let t : NoTwoAlike (map sitting_of ss) = subst NoTwoAlike (ap (λ (gs : List Sitting). map sitting_of ss ++ gs) none ∙ append-nil (map sitting_of ss)) apart in
     let len = same_length ss in
-    let pos : 0 < (get_or (map sitting_of ss) i (sitting_of d)).number = subst (λ (s : Sitting). 0 < s.number) (sym (at ss i d)) (seated i d lt).0 in
-    t i j (sitting_of d) (omega (arith, lt, len)) (omega (arith, lt', len)) pos (ap (λ (s : Sitting). s.number) (at ss i d) ∙ (same ∙ ap (λ (s : Sitting). s.number) (sym (at ss j d))))
+    let speaks : Speaks (get_or (map sitting_of ss) i (sitting_of d)).number = subst (λ (s : Sitting). Speaks s.number) (sym (at ss i d)) (seated i d lt).0 in
+    t i j (sitting_of d) (omega (arith, lt, len)) (omega (arith, lt', len)) speaks (ap (λ (s : Sitting). s.number) (at ss i d) ∙ (same ∙ ap (λ (s : Sitting). s.number) (sym (at ss j d))))

@@ -11,7 +11,7 @@ use Rattle.pc_model.specs.Replies.{Setting, IsLegalHistory}
 use Rattle.pc_model.specs.Calls.{HasCallsOf}
 use Rattle.pc_model.specs.Receipts.{Read, own, own_of, AreExact}
 use Rattle.pc_tie.specs.declared.sight.Sitting.{Sitting}
-use Rattle.pc_tie.specs.Rules.{sitting}
+use Rattle.pc_tie.specs.Rules.{Speaks, sitting}
 
 -- a session's number, the history that it has seen, and its receipts
 pub record Sitter : Type 0 where
@@ -38,9 +38,9 @@ abbrev pub new_sitters : ℕ → List Sitter
 new_sitters zero = []
 new_sitters (suc k) = new_sitters k ++ sitter (suc k) [] [] ∷ []
 
--- it has a number, and the receipts that its history gives it
+-- its number is no witness's, and it has the receipts that its history gives it
 abbrev pub IsSeated : Sitter → Type 0
-IsSeated s = (0 < s.number) × (s.receipts ≡ (own_of s.number s.seen).receipts)
+IsSeated s = Speaks s.number × (s.receipts ≡ (own_of s.number s.seen).receipts)
 
 -- The history begins with what the session has seen, and has no other call of it; its receipts are those that the history gives
 -- it, and exact by the log.
@@ -66,13 +66,14 @@ abbrev pub LacksOne : ℕ → List Sitter → Type 0
 LacksOne count ss = (k : ℕ) × (k < count) × (is_there ss (k + 1) ≡ false)
 
 -- What a store leaves, by one legal history: the base is that of the start, and the log that of the history; each session has
--- seen a beginning of it with just its calls, and has exact receipts; each part is the file of its points; and the entries that
--- were handed out are the first of the log, so many.
-pub record IsLeft (st : Setting) (start : BaseFile) (log : List Entry) (logged : ℕ) (sessions : List Sitter) (parts : List File) (given : List Entry) (history : History) : Type 0 where
+-- seen a beginning of it with just its calls, and has exact receipts; so has the checkpointer seen one with just its calls; each
+-- part is the file of its points; and the entries that were handed out are the first of the log, so many.
+pub record IsLeft (st : Setting) (start : BaseFile) (log : List Entry) (logged : ℕ) (sessions : List Sitter) (checkpointer : History) (parts : List File) (given : List Entry) (history : History) : Type 0 where
   pub legal : IsLegalHistory st history
   pub base : start ≡ record { run = st.run; point = 0; pairs = st.base }
   pub log_is : log ≡ log_of history
   pub settled : All (IsSettled st history) sessions
+  pub cycles : HasCallsOf history 0 checkpointer
   pub worth : All (IsOfItsPoints st.run st.base log) parts
   pub list : given ≡ take logged log
   pub within : logged ≤ length log

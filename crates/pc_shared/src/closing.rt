@@ -1,6 +1,7 @@
 //! What a store leaves when it is closed.
 ghost use Rattle.std.specs.Prelude.{◌≡◌, ◌≤◌, ◌++◌, All, MatchBool, length, map, take, vec_capacity};
 ghost use Rattle.pc_model.specs.FewWrites.{HasFewWrites};
+ghost use Rattle.pc_model.specs.Calls.{HasCallsOf};
 ghost use Rattle.pc_model.specs.History.{log_of};
 ghost use Rattle.pc_model.specs.Standing.{IsOfItsPoints};
 ghost use Rattle.pc_engine.specs.Stands.{Stands};
@@ -12,7 +13,7 @@ use crate::session::Session;
 use pc_engine::World;
 use pc_latch::{Latched, LogPass, PartTicket, renew_tickets};
 use pc_part::Base;
-use pc_tie::{Keeper, StoreName, Tie};
+use pc_tie::{CheckpointerSeat, Keeper, StoreName, Tie};
 use pc_types::Entry;
 
 /// What is left of a store that was closed.
@@ -93,12 +94,13 @@ pub(crate) fn has_all<N: StoreName>(sessions: &[Session<N>], count: u8) -> bool
     true
 }
 
-// Compares the history with all that the sessions, the tickets and the pass have seen.
+// Compares the history with all that the sessions, the checkpointer, the tickets and the pass have seen.
 pub(crate) fn close<N: StoreName>(
     tie: &Tie<N>,
     count: u8,
     latched: Latched<N>,
     sessions: Vec<Session<N>>,
+    checkpointer: CheckpointerSeat<N>,
     tickets: Vec<PartTicket<N>>,
     pass: LogPass<N>,
 ) -> Closed<N>
@@ -106,12 +108,15 @@ pub(crate) fn close<N: StoreName>(
     ensures receipts { result.receipts.items ≡ sessions.items }
     ensures settled { All (IsSettled N.name.setting latched) sessions.items }
     ensures apart { AreApart sessions.items }
+    ensures calls { HasCallsOf latched 0 checkpointer }
     ensures parts { result.parts.items ≡ tickets.items }
     ensures worth { All (IsOfItsPoints N.name.setting.run N.name.setting.base (log_of latched)) tickets.items }
     ensures list { (pass ≡ take result.logged (log_of latched)) × (result.logged ≤ length (log_of latched)) }
     ensures all { MatchBool result.all (HasAll count sessions.items) (LacksOne count sessions.items) }
 {
     let (world, mut keeper) = latched.into_parts();
+    let mut checkpointer = checkpointer;
+    keeper.compare_own(tie, &mut checkpointer);
     let mut sessions = sessions;
     compare_all(tie, &mut keeper, &mut sessions);
     let mut tickets = tickets;

@@ -11,6 +11,7 @@ mod waits;
 pub use closing::Closed;
 pub use pc_latch::{LogPass, PartTicket};
 pub use pc_receipts::Receipts;
+pub use pc_tie::{CheckpointerSeat, Witness};
 pub use session::{Answer, Session};
 pub use store::{Held, Opened, Shared, Turn, pause};
 pub use waits::{Waits, Woken};

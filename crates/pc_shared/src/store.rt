@@ -1,8 +1,10 @@
 //! The store that threads share.
-ghost use Rattle.std.specs.Prelude.{◌≡◌, ◌≢◌, ◌≤◌, ◌<◌, ◌⊎◌, ◌++◌, [], false, length, IfOk, IfErr, IfSome, OnErr, All, MatchBool};
+ghost use Rattle.std.specs.Prelude.{◌≡◌, ◌≢◌, ◌≤◌, ◌<◌, ◌⊎◌, ◌++◌, [], false, Some, Err, length, IfOk, IfErr, IfSome, OnErr, All, MatchBool};
 ghost use Rattle.pc_model.specs.FewWrites.{HasFewWrites};
+ghost use Rattle.pc_model.specs.Files.{file_at, shelf};
 ghost use Rattle.pc_model.specs.Maps.{len};
-ghost use Rattle.pc_model.specs.Calls.{session_of, counts, IsAnswered};
+ghost use Rattle.pc_model.specs.Replies.{IsLegalHistory};
+ghost use Rattle.pc_model.specs.Calls.{session_of, counts, IsAnswered, IsBeginning};
 ghost use Rattle.pc_model.specs.ReplyKinds.{IsReplyTo};
 ghost use Rattle.pc_model.specs.SessionLaws.{IsNoJoin};
 ghost use Rattle.pc_engine.specs.Asking.{AsksOfOpen};
@@ -14,7 +16,7 @@ ghost use Rattle.pc_latch.specs.Batches.{batch};
 ghost use Rattle.pc_latch.specs.Cycles.{IsAdvance, IsTaken};
 ghost use Rattle.pc_model.specs.History.{History};
 ghost use Rattle.pc_model.specs.Sets as set;
-ghost use Rattle.pc_latch.specs.Tickets.{IsNoTicket};
+ghost use Rattle.pc_latch.specs.Tickets.{HasNoFile, IsNoTicket};
 ghost use Rattle.pc_shared.specs.Asked.{is_wait};
 ghost use Rattle.pc_shared.specs.Sitters.{new_sitters, IsLeft, AreApart, HasAll, LacksOne};
 
@@ -26,7 +28,7 @@ use pc_engine::World;
 use pc_latch::{Latched, LogPass, PartTicket};
 use pc_part::Base;
 use pc_receipts::Work;
-use pc_tie::{Keeper, SessionSeat, StoreName, Tie, Untied};
+use pc_tie::{CheckpointerSeat, Keeper, SessionSeat, StoreName, Tie, Untied, Witness};
 use pc_types::{Entry, FileNo, Lsn, MOST_KEYS, MOST_SESSIONS, Refusal, Reply, Step};
 use std::alloc::Global;
 use std::hash::RandomState;
@@ -89,12 +91,15 @@ impl Opened {
         })
     }
 
-    /// The store under its name, its sessions, numbered from 1, which have seen nothing, and its logger's pass, to which nothing
-    /// was handed out. Refuses with `OutOfMemory` alone.
-    pub fn named<N: StoreName>(self) -> Result<(Shared<N>, Vec<Session<N>>, LogPass<N>), Refusal>
+    /// The store under its name; its sessions, numbered from 1, and its checkpointer's seat, which have seen nothing; and its
+    /// logger's pass, to which nothing was handed out. Refuses with `OutOfMemory` alone.
+    pub fn named<N: StoreName>(
+        self,
+    ) -> Result<(Shared<N>, Vec<Session<N>>, CheckpointerSeat<N>, LogPass<N>), Refusal>
         requires { self ≡ N.name }
         ensures sessions { IfOk result (λ r. r.1.items ≡ new_sitters N.name.setting.sessions) }
-        ensures pass { IfOk result (λ r. r.2 ≡ []) }
+        ensures checkpointer { IfOk result (λ r. r.2 ≡ []) }
+        ensures pass { IfOk result (λ r. r.3 ≡ []) }
         ensures memory { IfErr result (λ e. e ≡ Refusal.OutOfMemory) }
     {
         let Opened {
@@ -103,7 +108,7 @@ impl Opened {
             world,
             count,
         } = self;
-        let (tie, mut dealer) = tie.named::<N>();
+        let (tie, checkpointer, mut dealer) = tie.named::<N>();
         let mut sessions = Vec::new(alloc);
         for _ in 0..count {
             sessions.reserve(1)?;
@@ -127,7 +132,7 @@ impl Opened {
             logged: Logged::new(),
             count,
         };
-        Ok((shared, sessions, pass))
+        Ok((shared, sessions, checkpointer, pass))
     }
 }
 
@@ -276,25 +281,27 @@ impl<N: StoreName> Shared<N> {
         unreachable!()
     }
 
-    /// Asks for the event that ends the phase of the checkpoint's cycle, and answers at once: the phase that it is then, or the
-    /// point's part where a capture is done; that transactions or keys are still in the way; or a refusal.
-    pub fn advance<R: Wait>(&self, rt: &R) -> Reply
-        ensures { IsAdvance N.name.setting result }
+    /// The checkpointer asks for the event that ends the phase of the checkpoint's cycle, and is answered at once: the phase that
+    /// it is then, or the point's part where a capture is done; that transactions or keys are still in the way; or a refusal.
+    /// Which event that is is told by what the checkpointer has seen, which moves on by each answer but a refusal.
+    pub fn advance<R: Wait>(&self, rt: &R, checkpointer: &mut CheckpointerSeat<N>) -> Reply
+        ensures { IsAdvance N.name.setting checkpointer.old result checkpointer.new }
     {
         let mut held = self.get_latch(rt);
-        let reply = held.latched.advance(&self.tie);
+        let reply = held.latched.advance(&self.tie, checkpointer);
         let woken = held.waits.note(&reply);
         drop(held);
         self.wake(woken);
         reply
     }
 
-    /// Takes one key of the point: the key with what it had there, that none is left, or a refusal.
-    pub fn take<R: Wait>(&self, rt: &R) -> Reply
-        ensures { IsTaken N.name.setting result }
+    /// The checkpointer takes one key of the point: the key with what it had there, that none is left, or a refusal. What it has
+    /// seen moves on by each answer but a refusal.
+    pub fn take<R: Wait>(&self, rt: &R, checkpointer: &mut CheckpointerSeat<N>) -> Reply
+        ensures { IsTaken N.name.setting checkpointer.old result checkpointer.new }
     {
         let mut held = self.get_latch(rt);
-        let reply = held.latched.take(&self.tie);
+        let reply = held.latched.take(&self.tie, checkpointer);
         let woken = held.waits.note(&reply);
         drop(held);
         self.wake(woken);
@@ -320,16 +327,18 @@ impl<N: StoreName> Shared<N> {
     }
 
     /// Ends the store, and tells by one legal history what it leaves: the base that it started from and the log of that history,
-    /// of which each session handed in has seen a beginning with all of its own calls; their receipts are exact. Each ticket's
-    /// part, a joined one too, is the file of its points by that log. The entries that the pass has handed out are the first of
-    /// the log. No two sessions have one number; `all` says whether every session of the store is there. It takes no memory.
+    /// of which each session handed in has seen a beginning with all of its own calls, and so has the checkpointer; the sessions'
+    /// receipts are exact. Each ticket's part, a joined one too, is the file of its points by that log. The entries that the pass
+    /// has handed out are the first of the log. No two sessions have one number; `all` says whether every session of the store is
+    /// there. It takes no memory.
     pub fn close(
         self,
         sessions: Vec<Session<N>>,
+        checkpointer: CheckpointerSeat<N>,
         tickets: Vec<PartTicket<N>>,
         pass: LogPass<N>,
     ) -> Closed<N>
-        ensures left { (h : History) × IsLeft N.name.setting result.world.base result.world.log result.logged sessions.items tickets.items pass h }
+        ensures left { (h : History) × IsLeft N.name.setting result.world.base result.world.log result.logged sessions.items checkpointer tickets.items pass h }
         ensures apart { AreApart sessions.items }
         ensures receipts { result.receipts.items ≡ sessions.items }
         ensures parts { result.parts.items ≡ tickets.items }
@@ -349,17 +358,56 @@ impl<N: StoreName> Shared<N> {
             count,
         } = self;
         let Held { latched, waits: _ } = latch.into_inner();
-        close(&tie, count, latched, sessions, tickets, pass)
+        close(&tie, count, latched, sessions, checkpointer, tickets, pass)
     }
 
-    /// A ticket of the shelf's file of this number, which is the file of the point of this number. Refuses with `NoFile` where
-    /// there is no such file, and else only with `OutOfMemory`.
-    pub fn take_part<R: Wait>(&self, rt: &R, number: FileNo) -> Result<PartTicket<N>, Refusal>
-        ensures ticket { IfOk result (λ t. t.points ≡ set.insert set.empty number) }
-        ensures refused { IfErr result (λ why. IsNoTicket N.name.setting number why) }
+    /// A ticket of the shelf's file of this number, which is the file of the point of this number, for the checkpointer, who
+    /// knows the shelf by what he has seen. Refuses with `NoFile` exactly where there is no such file, and else only with
+    /// `OutOfMemory`.
+    pub fn take_part<R: Wait>(
+        &self,
+        rt: &R,
+        checkpointer: &mut CheckpointerSeat<N>,
+        number: FileNo,
+    ) -> Result<PartTicket<N>, Refusal>
+        ensures same { checkpointer.new ≡ checkpointer.old }
+        ensures file { IfOk result (λ t. file_at (shelf N.name.setting.run checkpointer.old) number ≡ Some t) }
+        ensures point { IfOk result (λ t. t.points ≡ set.insert set.empty number) }
+        ensures refused { IfErr result (IsNoTicket N.name.setting checkpointer.old number) }
+        ensures none { HasNoFile N.name.setting checkpointer.old number → result ≡ Err Refusal.NoFile }
     {
         let mut held = self.get_latch(rt);
-        held.latched.take_part(self.alloc, &self.tie, number)
+        held.latched
+            .take_part(self.alloc, &self.tie, checkpointer, number)
+    }
+
+    /// A ticket of the shelf's file of this number, which is the file of the point of this number, for whoever has the witness:
+    /// it has then seen the store's legal history so far. Refuses with `NoFile` exactly where there is no such file after that,
+    /// and else only with `OutOfMemory`.
+    pub fn take_shown<R: Wait>(
+        &self,
+        rt: &R,
+        witness: &mut Witness<N>,
+        number: FileNo,
+    ) -> Result<PartTicket<N>, Refusal>
+        ensures had_seen { IsBeginning witness.old witness.new }
+        ensures legal { IsLegalHistory N.name.setting witness.new }
+        ensures file { IfOk result (λ t. file_at (shelf N.name.setting.run witness.new) number ≡ Some t) }
+        ensures point { IfOk result (λ t. t.points ≡ set.insert set.empty number) }
+        ensures refused { IfErr result (IsNoTicket N.name.setting witness.new number) }
+        ensures none { HasNoFile N.name.setting witness.new number → result ≡ Err Refusal.NoFile }
+    {
+        let mut held = self.get_latch(rt);
+        held.latched
+            .take_shown(self.alloc, &self.tie, witness, number)
+    }
+
+    /// A witness of the store's legal history so far.
+    pub fn witness<R: Wait>(&self, rt: &R) -> Witness<N>
+        ensures { IsLegalHistory N.name.setting result }
+    {
+        let mut held = self.get_latch(rt);
+        held.latched.witness(&self.tie)
     }
 
     /// Waits until the count of changes isn't `seen`, and gives the count. Each answer but a refusal, `NotYet` and `NoneLeft` is a

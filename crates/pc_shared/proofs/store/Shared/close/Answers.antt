@@ -19,6 +19,7 @@ returns-clause-left g c =
         base = λ k. record { run = (is k).run; point = s.parts.start k; pairs = (is k).base };
         log_is = log;
         settled = e.settled;
+        cycles = e.calls;
         worth = subst (λ (l : List Entry). All (IsOfItsPoints g.N.StoreName.name.setting.run g.N.StoreName.name.setting.base l) c.args.tickets.items) (sym log) e.worth;
         list = e.list.0 ∙ ap (take c.close.result.logged) (sym log);
         within = subst (λ (l : List Entry). c.close.result.logged ≤ length l) (sym log) e.list.1;
