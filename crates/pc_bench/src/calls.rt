@@ -4,7 +4,7 @@ ghost use Rattle.std.specs.Prelude.{◌≡◌};
 use crate::failure::Failure;
 use crate::options::Crowd;
 use crate::pairs::{pair_of, scattered};
-use pc_shared::{LogPass, Opened, Session, Shared};
+use pc_shared::{CheckpointerSeat, LogPass, Opened, Session, Shared};
 use pc_tie::StoreName;
 use pc_types::{FileNo, Refusal, Reply};
 use std::alloc::Global;
@@ -124,10 +124,11 @@ fn time_advance<N: StoreName, R: Wait>(
     rt: &R,
     host: &HostRuntime,
     shared: &Shared<N>,
+    seat: &mut CheckpointerSeat<N>,
     timed: &mut Timed,
 ) -> Result<(), Failure> {
     let start = Instant::now(host)?;
-    let reply = shared.advance(rt);
+    let reply = shared.advance(rt, seat);
     let noted = timed.note(host, start);
     has_more(&reply)?;
     noted
@@ -147,11 +148,12 @@ fn time_takes<N: StoreName, R: Wait>(
     rt: &R,
     host: &HostRuntime,
     shared: &Shared<N>,
+    seat: &mut CheckpointerSeat<N>,
     timed: &mut Timed,
 ) -> Result<(), Failure> {
     for _ in rt.forever() {
         let start = Instant::now(host)?;
-        let reply = shared.take(rt);
+        let reply = shared.take(rt, seat);
         let noted = timed.note(host, start);
         let has_more = has_more(&reply)?;
         drop(reply);
@@ -168,11 +170,12 @@ fn time_ticket<N: StoreName, R: Wait>(
     rt: &R,
     host: &HostRuntime,
     shared: &Shared<N>,
+    seat: &mut CheckpointerSeat<N>,
     number: u32,
     timed: &mut Timed,
 ) -> Result<(), Failure> {
     let start = Instant::now(host)?;
-    let ticket = shared.take_part(rt, FileNo(number))?;
+    let ticket = shared.take_part(rt, seat, FileNo(number))?;
     let noted = timed.note(host, start);
     drop(ticket);
     noted
@@ -183,17 +186,18 @@ fn time_point<N: StoreName, R: Wait>(
     rt: &R,
     host: &HostRuntime,
     shared: &Shared<N>,
+    seat: &mut CheckpointerSeat<N>,
     number: u32,
     calls: &mut Calls,
 ) -> Result<(), Failure> {
     for _ in 0..3 {
-        time_advance(rt, host, shared, &mut calls.advance)?;
+        time_advance(rt, host, shared, seat, &mut calls.advance)?;
     }
-    time_takes(rt, host, shared, &mut calls.take)?;
+    time_takes(rt, host, shared, seat, &mut calls.take)?;
     for _ in 0..2 {
-        time_advance(rt, host, shared, &mut calls.advance)?;
+        time_advance(rt, host, shared, seat, &mut calls.advance)?;
     }
-    time_ticket(rt, host, shared, number, &mut calls.take_part)
+    time_ticket(rt, host, shared, seat, number, &mut calls.take_part)
 }
 
 // What was logged since, in the batches of a logger.
@@ -223,6 +227,7 @@ fn time_calls<N: StoreName, R: Wait>(
     host: &HostRuntime,
     shared: &Shared<N>,
     session: &mut Session<N>,
+    seat: &mut CheckpointerSeat<N>,
     pass: &mut LogPass<N>,
     crowd: &Crowd,
 ) -> Result<Calls, Failure> {
@@ -233,7 +238,7 @@ fn time_calls<N: StoreName, R: Wait>(
         time_transaction(rt, host, shared, session, number, &mut calls)?;
         if number == crowd.keys - 1 {
             points = points.saturating_add(1);
-            time_point(rt, host, shared, points, &mut calls)?;
+            time_point(rt, host, shared, seat, points, &mut calls)?;
             time_logging(rt, host, shared, pass, &mut calls.log_next)?;
         }
     }
@@ -250,9 +255,9 @@ pub fn call_by_one<N: StoreName, R: Wait>(
 ) -> Result<Calls, Failure>
     requires { opened ≡ N.name }
 {
-    let (shared, mut sessions, mut pass) = opened.named::<N>()?;
+    let (shared, mut sessions, mut seat, mut pass) = opened.named::<N>()?;
     let Some(session) = sessions.first_mut() else {
         return Err(Failure::Refused(Refusal::NoSession));
     };
-    time_calls(rt, host, &shared, session, &mut pass, crowd)
+    time_calls(rt, host, &shared, session, &mut seat, &mut pass, crowd)
 }

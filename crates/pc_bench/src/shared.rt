@@ -95,6 +95,6 @@ pub fn share<N: StoreName + Send + Sync, R: Threads + Wait + Sync>(
 ) -> Result<u64, Refusal>
     requires { opened ≡ N.name }
 {
-    let (shared, mut sessions, _pass) = opened.named::<N>()?;
+    let (shared, mut sessions, _seat, _pass) = opened.named::<N>()?;
     Ok(commit_by_all(rt, alloc, &shared, &mut sessions, crowd))
 }

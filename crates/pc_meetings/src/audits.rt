@@ -1,7 +1,7 @@
 //! The tickets' files beside the log.
 use pc_part::Part;
 use pc_replay::{CompleteFile, audit};
-use pc_shared::{Closed, PartTicket, Shared};
+use pc_shared::{CheckpointerSeat, Closed, PartTicket, Shared};
 use pc_tie::StoreName;
 use pc_types::{FileNo, Refusal, Triple};
 use std::alloc::Global;
@@ -12,17 +12,18 @@ pub fn take_parts<N: StoreName, R: Wait>(
     rt: &R,
     alloc: Global,
     shared: &Shared<N>,
+    seat: &mut CheckpointerSeat<N>,
     points: u32,
 ) -> Result<Vec<PartTicket<N>>, Refusal> {
     let mut tickets = Vec::new(alloc);
     if points == 0 {
         return Ok(tickets);
     }
-    let mut joined = shared.take_part(rt, FileNo(1))?;
-    tickets.push(shared.take_part(rt, FileNo(1))?)?;
+    let mut joined = shared.take_part(rt, seat, FileNo(1))?;
+    tickets.push(shared.take_part(rt, seat, FileNo(1))?)?;
     for number in 2..=points {
-        tickets.push(shared.take_part(rt, FileNo(number))?)?;
-        let next = shared.take_part(rt, FileNo(number))?;
+        tickets.push(shared.take_part(rt, seat, FileNo(number))?)?;
+        let next = shared.take_part(rt, seat, FileNo(number))?;
         joined = join_tickets(joined, next)?;
     }
     tickets.push(joined)?;

@@ -1,12 +1,14 @@
 //! An example of the library: two sessions on threads of their own, a checkpointer and a collapser beside them, and a logger behind
 //! them, over one store from its opening to its close.
 ghost use Rattle.std.specs.Prelude.{◌≡◌, []};
+ghost use Rattle.pc_types.specs.declared.Phase.TheVariants.{Rest};
+ghost use Rattle.pc_model.specs.History.{phase_of};
 ghost use Rattle.pc_board.specs.Passes.{IsOfBoard};
 
 use crate::logged::{TextOfLog, is_text_of};
 use crate::writers::{collapse_points, commit_often, commit_one, run_jobs, take_points};
 use pc_board::{Board, BoardPass};
-use pc_shared::{Closed, LogPass, Opened, PartTicket, Session, Shared};
+use pc_shared::{CheckpointerSeat, Closed, LogPass, Opened, PartTicket, Session, Shared};
 use pc_tie::StoreName;
 use pc_types::{Point, Refusal};
 use std::alloc::Global;
@@ -44,10 +46,18 @@ pub fn use_store<N: StoreName + Send + Sync, R: Threads + Wait + Sync>(
 ) -> Result<Example, Refusal>
     requires { opened ≡ N.name }
 {
-    let (shared, mut sessions, mut pass) = opened.named::<N>()?;
+    let (shared, mut sessions, mut seat, mut pass) = opened.named::<N>()?;
     let mut text = TextOfLog::new(alloc);
-    let done = run_threads(rt, alloc, &shared, &mut sessions, &mut pass, &mut text)?;
-    let closed = shared.close(sessions, done.tickets, pass);
+    let done = run_threads(
+        rt,
+        alloc,
+        &shared,
+        &mut seat,
+        &mut sessions,
+        &mut pass,
+        &mut text,
+    )?;
+    let closed = shared.close(sessions, seat, done.tickets, pass);
     text.write_rest(&closed)?;
     let is_logged = is_text_of(alloc, text, &closed)?;
     Ok(left_by(done.commits, &closed, is_logged))
@@ -65,11 +75,13 @@ fn run_threads<N: StoreName + Send + Sync, R: Threads + Wait + Sync>(
     rt: &R,
     alloc: Global,
     shared: &Shared<N>,
+    seat: &mut CheckpointerSeat<N>,
     sessions: &mut Vec<Session<N>>,
     pass: &mut LogPass<N>,
     text: &mut TextOfLog,
 ) -> Result<Done<N>, Refusal>
-    requires { pass.old ≡ [] }
+    requires pass { pass.old ≡ [] }
+    requires seat { seat.old ≡ [] }
 {
     let (board, mut passes) = Board::new(alloc, 2)?;
     let (Some(mut theirs), Some(mut ours)) = (passes.pop(), passes.pop()) else {
@@ -79,6 +91,7 @@ fn run_threads<N: StoreName + Send + Sync, R: Threads + Wait + Sync>(
         rt,
         alloc,
         shared,
+        seat,
         &board,
         &mut ours,
         &mut theirs,
@@ -97,19 +110,21 @@ fn use_board<N: StoreName + Send + Sync, R: Threads + Wait + Sync>(
     rt: &R,
     alloc: Global,
     shared: &Shared<N>,
+    seat: &mut CheckpointerSeat<N>,
     board: &Board,
     ours: &mut BoardPass,
     theirs: &mut BoardPass,
     sessions: &mut [Session<N>],
 ) -> Result<Done<N>, Refusal>
+    requires rest { phase_of seat.old ≡ Rest }
     requires ours { IsOfBoard ours.old board.now }
     requires theirs { IsOfBoard theirs.old board.now }
 {
     let (commits, tickets) = join(
         rt,
         || -> Result<u64, Refusal>
-            requires { IsOfBoard ours.now board.now }
-        { commit_to_the_end(rt, alloc, shared, board, ours, sessions) },
+            requires { IsOfBoard ours.now board.now × (phase_of seat.now ≡ Rest) }
+        { commit_to_the_end(rt, alloc, shared, seat, board, ours, sessions) },
         || -> Result<Vec<PartTicket<N>>, Refusal>
             requires { IsOfBoard theirs.now board.now }
         { collapse_points(rt, alloc, shared, board, theirs, POINTS) },
@@ -124,13 +139,15 @@ fn commit_to_the_end<N: StoreName + Send + Sync, R: Threads + Wait + Sync>(
     rt: &R,
     alloc: Global,
     shared: &Shared<N>,
+    seat: &mut CheckpointerSeat<N>,
     board: &Board,
     pass: &mut BoardPass,
     sessions: &mut [Session<N>],
 ) -> Result<u64, Refusal>
-    requires { IsOfBoard pass.old board.now }
+    requires board { IsOfBoard pass.old board.now }
+    requires rest { phase_of seat.old ≡ Rest }
 {
-    let committed = commit_beside_points(rt, alloc, shared, board, pass, sessions);
+    let committed = commit_beside_points(rt, alloc, shared, seat, board, pass, sessions);
     shared.mark_end(rt);
     committed
 }
@@ -140,11 +157,13 @@ fn commit_beside_points<N: StoreName + Send + Sync, R: Threads + Wait + Sync>(
     rt: &R,
     alloc: Global,
     shared: &Shared<N>,
+    seat: &mut CheckpointerSeat<N>,
     board: &Board,
     pass: &mut BoardPass,
     sessions: &mut [Session<N>],
 ) -> Result<u64, Refusal>
-    requires { IsOfBoard pass.old board.now }
+    requires board { IsOfBoard pass.old board.now }
+    requires rest { phase_of seat.old ≡ Rest }
 {
     let Some((first, others)) = sessions.split_first_mut() else {
         return Err(Refusal::NoSession);
@@ -156,8 +175,8 @@ fn commit_beside_points<N: StoreName + Send + Sync, R: Threads + Wait + Sync>(
         rt,
         || commit_both(rt, alloc, shared, first, second),
         || -> Result<u32, Refusal>
-            requires { IsOfBoard pass.now board.now }
-        { take_points(rt, shared, board, pass, POINTS) },
+            requires { IsOfBoard pass.now board.now × (phase_of seat.now ≡ Rest) }
+        { take_points(rt, shared, seat, board, pass, POINTS) },
     );
     points?;
     committed

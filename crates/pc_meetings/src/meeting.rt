@@ -1,5 +1,7 @@
 //! A store from its opening to its close, with its clients, its checkpointer, its logger and a collapser on threads of their own.
 ghost use Rattle.std.specs.Prelude.{◌≡◌, []};
+ghost use Rattle.pc_types.specs.declared.Phase.TheVariants.{Rest};
+ghost use Rattle.pc_model.specs.History.{phase_of};
 ghost use Rattle.pc_board.specs.Passes.{IsOfBoard};
 
 use crate::audits::{right_files, take_parts};
@@ -9,7 +11,7 @@ use crate::receipts::{are_exact, count_of};
 use pc_board::{Board, BoardPass};
 use pc_jobs::Job;
 use pc_log::encode_log;
-use pc_shared::{Closed, LogPass, Opened, PartTicket, Session, Shared};
+use pc_shared::{CheckpointerSeat, Closed, LogPass, Opened, PartTicket, Session, Shared};
 use pc_tie::StoreName;
 use pc_types::{Entry, Lsn, Refusal, Tally};
 use pc_workers::{Count, checkpoint_loop, client_loop, collapse_loop, log_loop, log_rest};
@@ -140,16 +142,18 @@ fn run_to_the_end<N: StoreName + Send + Sync, R: Threads + Wait + Sync>(
     room: &Room<N>,
     board: &Board,
     pass: &mut BoardPass,
+    seat: &mut CheckpointerSeat<N>,
     sessions: &mut [Session<N>],
 ) -> Result<u32, Refusal>
-    requires { IsOfBoard pass.old board.now }
+    requires board { IsOfBoard pass.old board.now }
+    requires rest { phase_of seat.old ≡ Rest }
 {
     let points = room.plan.points;
     let (points, ()) = join(
         rt,
         || -> Result<u32, Refusal>
-            requires { IsOfBoard pass.now board.now }
-        { checkpoint_loop(rt, room.shared, board, pass, points, room.gate) },
+            requires { IsOfBoard pass.now board.now × (phase_of seat.now ≡ Rest) }
+        { checkpoint_loop(rt, room.shared, seat, board, pass, points, room.gate) },
         || run_clients(rt, room, sessions),
     );
     room.shared.mark_end(rt);
@@ -169,10 +173,12 @@ fn collapse<N: StoreName, R: Wait>(
         return Ok(Vec::new(room.alloc));
     }
     let points = room.plan.points;
+    let mut witness = room.shared.witness(rt);
     collapse_loop(
         rt,
         room.alloc,
         room.shared,
+        &mut witness,
         board,
         pass,
         0,
@@ -215,17 +221,19 @@ fn run_on<N: StoreName + Send + Sync, R: Threads + Wait + Sync>(
     theirs: &mut BoardPass,
     text: &mut Tally<Vec<u8>>,
     pass: &mut LogPass<N>,
+    seat: &mut CheckpointerSeat<N>,
     sessions: &mut [Session<N>],
 ) -> Result<Vec<PartTicket<N>>, Refusal>
     requires ours { IsOfBoard ours.old board.now }
     requires theirs { IsOfBoard theirs.old board.now }
     requires pass { pass.old ≡ [] }
+    requires rest { phase_of seat.old ≡ Rest }
 {
     let (ended, held) = join(
         rt,
         || -> Result<u32, Refusal>
-            requires { IsOfBoard ours.now board.now }
-        { run_to_the_end(rt, room, board, ours, sessions) },
+            requires { IsOfBoard ours.now board.now × (phase_of seat.now ≡ Rest) }
+        { run_to_the_end(rt, room, board, ours, seat, sessions) },
         || -> Result<Vec<PartTicket<N>>, Refusal>
             requires { IsOfBoard theirs.now board.now × (pass.now ≡ []) }
         { log_beside_collapser(rt, room, board, theirs, text, pass) },
@@ -240,9 +248,11 @@ fn run_all<N: StoreName + Send + Sync, R: Threads + Wait + Sync>(
     room: &Room<N>,
     text: &mut Tally<Vec<u8>>,
     pass: &mut LogPass<N>,
+    seat: &mut CheckpointerSeat<N>,
     sessions: &mut [Session<N>],
 ) -> Result<Vec<PartTicket<N>>, Refusal>
-    requires { pass.old ≡ [] }
+    requires pass { pass.old ≡ [] }
+    requires seat { seat.old ≡ [] }
 {
     let (board, mut passes) = Board::new(room.alloc, 2)?;
     let (Some(mut theirs), Some(mut ours)) = (passes.pop(), passes.pop()) else {
@@ -256,9 +266,10 @@ fn run_all<N: StoreName + Send + Sync, R: Threads + Wait + Sync>(
         &mut theirs,
         text,
         pass,
+        seat,
         sessions,
     )?;
-    let mut tickets = take_parts(rt, room.alloc, room.shared, room.plan.points)?;
+    let mut tickets = take_parts(rt, room.alloc, room.shared, seat, room.plan.points)?;
     tickets.append(&mut held)?;
     Ok(tickets)
 }
@@ -276,7 +287,7 @@ pub fn meet<N: StoreName + Send + Sync, R: Threads + Wait + Sync>(
     let gate = Meeting::new(plan.stops, plan.alone);
     let done = Done::new();
     let mut text = Tally::new(Vec::new(alloc));
-    let (shared, mut sessions, mut pass) = opened.named::<N>()?;
+    let (shared, mut sessions, mut seat, mut pass) = opened.named::<N>()?;
     let room = Room {
         alloc,
         shared: &shared,
@@ -285,8 +296,8 @@ pub fn meet<N: StoreName + Send + Sync, R: Threads + Wait + Sync>(
         gate: &gate,
         done: &done,
     };
-    let tickets = run_all(rt, &room, &mut text, &mut pass, &mut sessions)?;
-    let closed = shared.close(sessions, tickets, pass);
+    let tickets = run_all(rt, &room, &mut text, &mut pass, &mut seat, &mut sessions)?;
+    let closed = shared.close(sessions, seat, tickets, pass);
     log_rest(&closed, &mut text)?;
     left_by(alloc, &closed, &gate, &done, text)
 }

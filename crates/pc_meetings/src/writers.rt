@@ -1,9 +1,12 @@
 //! What each thread does.
+ghost use Rattle.std.specs.Prelude.{◌≡◌};
+ghost use Rattle.pc_types.specs.declared.Phase.TheVariants.{Rest};
+ghost use Rattle.pc_model.specs.History.{phase_of};
 ghost use Rattle.pc_board.specs.Passes.{IsOfBoard};
 
 use pc_board::{Board, BoardPass};
 use pc_jobs::{Job, Op};
-use pc_shared::{Answer, PartTicket, Session, Shared};
+use pc_shared::{Answer, CheckpointerSeat, PartTicket, Session, Shared};
 use pc_tie::StoreName;
 use pc_types::{Items, Key, OpenGate, Refusal, Value};
 use pc_workers::{Count, checkpoint_loop, client_loop, collapse_loop};
@@ -95,13 +98,15 @@ fn job_of(alloc: Global) -> Result<Job, Refusal> {
 pub fn take_points<N: StoreName, R: Wait>(
     rt: &R,
     shared: &Shared<N>,
+    seat: &mut CheckpointerSeat<N>,
     board: &Board,
     pass: &mut BoardPass,
     points: u32,
 ) -> Result<u32, Refusal>
-    requires { IsOfBoard pass.old board.now }
+    requires board { IsOfBoard pass.old board.now }
+    requires rest { phase_of seat.old ≡ Rest }
 {
-    checkpoint_loop(rt, shared, board, pass, points, &OpenGate)
+    checkpoint_loop(rt, shared, seat, board, pass, points, &OpenGate)
 }
 
 /// Takes the files of so many points as they are published, and joins them.
@@ -115,5 +120,16 @@ pub fn collapse_points<N: StoreName, R: Wait>(
 ) -> Result<Vec<PartTicket<N>>, Refusal>
     requires { IsOfBoard pass.old board.now }
 {
-    collapse_loop(rt, alloc, shared, board, pass, 0, points, &OpenGate)
+    let mut witness = shared.witness(rt);
+    collapse_loop(
+        rt,
+        alloc,
+        shared,
+        &mut witness,
+        board,
+        pass,
+        0,
+        points,
+        &OpenGate,
+    )
 }

@@ -3,13 +3,15 @@ use Rattle.std.proofs.Common.{◌≡◌, ◌≢◌, ◌==◌, ◌≤◌, ◌+◌
 use Rattle.std.proofs.lemmas.List.{append-nil, length-append, map-append}
 use Rattle.std.proofs.lemmas.List.Elements.{All-nil, All-cons, All-append, filter-append}
 use mathlib.Core.List.{IsPrefix}
-use Rattle.pc_model.specs.Replies.{Setting}
+use Rattle.pc_types.specs.declared.Phase.{Phase}
 use Rattle.pc_board.specs.declared.calls.Kind.{Kind}
 use Rattle.pc_board.specs.declared.calls.Kind.TheVariants.{Claim, Publish, Look}
 use Rattle.pc_board.specs.declared.calls.Call.{Call}
 use Rattle.pc_board.specs.Calls.{call, calls_by, greatest_of}
 use Rattle.pc_board.specs.Passes.{Pass, MakesCall}
-use Rattle.pc_workers.specs.Boards.{own_calls, MakesCalls, publications, IsShelved, HasPublished, HasPublishedSome, claimed_by, numbers_in, HasClaimed}
+use Rattle.pc_latch.specs.Cycles.{done_in, done_among}
+use Rattle.pc_workers.specs.Boards.{own_calls, MakesCalls, publications, claimed_by, numbers_in, HasClaimed}
+use Rattle.pc_workers.specs.Checkpointing.{HasPublished}
 
 by_append : (n : ℕ) (xs ys : List Call) → calls_by n (xs ++ ys) ≡ calls_by n xs ++ calls_by n ys
 by_append n xs ys = filter-append (λ (c : Call). c.by == n) xs ys
@@ -43,33 +45,23 @@ makes_on first middle last xs ys a b = record {
   own = b.own ∙ (ap (λ l. l ++ ys) a.own ∙ append_assoc (own_calls first) xs ys);
 }
 
-module _ (st : Setting) where
-  pub published_none : (pass : Pass) → HasPublished st 0 pass pass
-  published_none pass = record { points = []; made = makes_none pass; count_is = refl; shelved = All-nil (IsShelved st) }
+pub published_none : (pass : Pass) → HasPublished [] pass pass
+published_none pass = makes_none pass
 
-  pub published_one : (before after : Pass) (point : ℕ) → IsShelved st point → MakesCall before Publish point after → HasPublished st 1 before after
-  published_one before after point is m =
-      record { points = point ∷ []; made = makes_one before after Publish point m; count_is = omega arith; shelved = All-cons (IsShelved st) point [] is (All-nil (IsShelved st)) }
+pub published_one : (before after : Pass) (point : ℕ) → MakesCall before Publish point after → MakesCalls before after (publications before.number (point ∷ []))
+published_one before after point m = makes_one before after Publish point m
 
-  pub published_on : (n k : ℕ) (first middle last : Pass) → HasPublished st n first middle → HasPublished st k middle last → HasPublished st (n + k) first last
-  published_on n k first middle last a b =
-      let by = first.number in
-      let both : publications by a.points ++ publications middle.number b.points ≡ publications by (a.points ++ b.points) =
-      (λ i. publications by a.points ++ publications (a.made.same.1 i) b.points) ∙ sym (map-append (λ point. call by Publish point) a.points b.points) in
-      record {
-        points = a.points ++ b.points;
-        made = subst (MakesCalls first last) both (makes_on first middle last (publications by a.points) (publications middle.number b.points) a.made b.made);
-        count_is = omega (arith, length-append a.points b.points, a.count_is, b.count_is);
-        shelved = All-append (IsShelved st) a.points b.points a.shelved b.shelved;
-      }
+pub done_append : (xs ys : List (Phase × ℕ)) → done_among (xs ++ ys) ≡ done_among xs ++ done_among ys
+done_append [] ys = refl
+done_append (x ∷ xs) ys = ap (λ l. done_in x.0 x.1 ++ l) (done_append xs ys) ∙ sym (append_assoc (done_in x.0 x.1) (done_among xs) (done_among ys))
 
-  -- nothing at all is at most so much
-  pub some_none : (most : ℕ) (pass : Pass) → HasPublishedSome st most pass pass
-  some_none most pass = (0, omega arith, published_none pass)
-
-  -- behind points that were published others that are at most so many
-  pub some_on : (n k most : ℕ) (first middle last : Pass) → n + k ≤ most → HasPublished st n first middle → HasPublishedSome st k middle last → HasPublishedSome st most first last
-  some_on n k most first middle last le a b = (n + b.0, omega (arith, b.1), published_on n b.0 first middle last a b.2)
+pub published_on : (xs ys : List (Phase × ℕ)) (first middle last : Pass) → HasPublished xs first middle → HasPublished ys middle last → HasPublished (xs ++ ys) first last
+published_on xs ys first middle last a b =
+    let by = first.number in
+    let both : publications by (done_among xs) ++ publications middle.number (done_among ys) ≡ publications by (done_among (xs ++ ys)) =
+    (λ i. publications by (done_among xs) ++ publications (a.same.1 i) (done_among ys))
+    ∙ (sym (map-append (λ point. call by Publish point) (done_among xs) (done_among ys)) ∙ ap (publications by) (sym (done_append xs ys))) in
+    subst (MakesCalls first last) both (makes_on first middle last (publications by (done_among xs)) (publications middle.number (done_among ys)) a b)
 
 -- what a pass has seen published it has still seen
 greatest_of_more : (xs ys : List Call) → greatest_of xs ≤ greatest_of (xs ++ ys)

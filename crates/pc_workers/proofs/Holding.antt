@@ -7,7 +7,8 @@ use Rattle.pc_types.specs.declared.Refusal.{Refusal}
 use Rattle.pc_types.specs.declared.Refusal.TheVariants.{OutOfMemory}
 use Rattle.pc_model.specs.Files.{File, joined_file}
 use Rattle.pc_model.specs.Numbers.{same_number, is_one_of}
-use Rattle.pc_model.specs.Replies.{Setting}
+use Rattle.pc_model.specs.History.{History}
+use Rattle.pc_model.specs.Replies.{Setting, IsLegalHistory}
 use Rattle.pc_model.specs.Sets as set
 use Rattle.pc_model.specs.Sets.{Set, number_order}
 use Rattle.pc_model.proofs.SetLaws.{contains-from_list}
@@ -86,16 +87,17 @@ ends_so points first middle last files h e = record {
   ended = e.2;
 }
 
-pub stops_so : (st : Setting) (points number : ℕ) (first middle last : Pass) (files : List File) (why : Refusal) → Holds points first middle files → HasShown points middle last number → IsNoTicket st (suc number) why → HasStopped st points first last why
-stops_so st points number first middle last files why h s is = record {
+pub stops_so : (st : Setting) (points number : ℕ) (seen : History) (first middle last : Pass) (files : List File) (why : Refusal) → Holds points first middle files → HasShown points middle last number → IsLegalHistory st seen × IsNoTicket st seen (suc number) why
+    → HasStopped st points seen first last why
+stops_so st points number seen first middle last files why h s is = record {
   numbers = h.taken ++ number ∷ [];
   claims = claimed_on first middle last h.taken (number ∷ []) h.claims s.0;
   shown = All-append (IsShown points last) h.taken (number ∷ []) (still_shown points middle last (number ∷ []) h.taken s.0 h.shown) (All-cons (IsShown points last) number [] s.1 (All-nil (IsShown points last)));
-  cause = inr (h.taken, number, refl, is);
+  cause = inr (h.taken, number, refl, is.0, is.1);
 }
 
-pub stops_for_memory : (st : Setting) (points : ℕ) (first last : Pass) (files : List File) (why : Refusal) → Holds points first last files → why ≡ OutOfMemory → HasStopped st points first last why
-stops_for_memory st points first last files why h is = record { numbers = h.taken; claims = h.claims; shown = h.shown; cause = inl is }
+pub stops_for_memory : (st : Setting) (points : ℕ) (seen : History) (first last : Pass) (files : List File) (why : Refusal) → Holds points first last files → why ≡ OutOfMemory → HasStopped st points seen first last why
+stops_for_memory st points seen first last files why h is = record { numbers = h.taken; claims = h.claims; shown = h.shown; cause = inl is }
 
 -- a ticket's file is that of a number that was claimed and shown
 abbrev IsNext : ℕ → Pass → Pass → File → Type 0

@@ -1,6 +1,8 @@
 pub mod LoggingLaws
 mod BoardCalls
 mod ClientJobs
+mod Cycling
+pub mod WholeCycles
 mod Holding
 pub mod CoverLaws
 mod OpenLaws

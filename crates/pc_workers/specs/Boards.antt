@@ -1,14 +1,11 @@
 -- What the calls of one pass are that a loop has made on a board.
-use Rattle.std.specs.Prelude.{◌≡◌, ◌≢◌, ◌≤◌, ℕ, List, [], ◌∷◌, ◌++◌, All, map, length}
+use Rattle.std.specs.Prelude.{◌≡◌, ◌≢◌, ℕ, List, [], ◌∷◌, ◌++◌, All, map}
 use mathlib.Core.List.{IsPrefix}
-use Rattle.pc_types.specs.declared.Reply.TheVariants.{PartDone}
-use Rattle.pc_model.specs.Replies.{Setting}
 use Rattle.pc_board.specs.declared.calls.Kind.{Kind}
 use Rattle.pc_board.specs.declared.calls.Kind.TheVariants.{Claim, Publish, Look}
 use Rattle.pc_board.specs.declared.calls.Call.{Call}
 use Rattle.pc_board.specs.Calls.{call, calls_by}
 use Rattle.pc_board.specs.Passes.{Pass, IsSamePass}
-use Rattle.pc_latch.specs.Cycles.{IsAdvance}
 
 -- the calls that the pass has made itself
 abbrev pub own_calls : Pass → List Call
@@ -20,24 +17,9 @@ pub record MakesCalls (before after : Pass) (calls : List Call) : Type 0 where
   pub seen : IsPrefix before.seen after.seen
   pub own : own_calls after ≡ own_calls before ++ calls
 
--- some legal history goes on by the end of a capture, which has put the point's part on the shelf
-abbrev pub IsShelved : Setting → ℕ → Type 0
-IsShelved st point = (file entries : ℕ) × IsAdvance st (PartDone point file entries)
-
 -- the calls of the pass of this number that publish the points, in their order
 abbrev pub publications : ℕ → List ℕ → List Call
 publications number points = map (λ point. call number Publish point) points
-
--- Since then the pass has published so many points, each with its part on the shelf, and made no other call.
-pub record HasPublished (st : Setting) (count : ℕ) (before after : Pass) : Type 0 where
-  pub points : List ℕ
-  pub made : MakesCalls before after (publications before.number points)
-  pub count_is : length points ≡ count
-  pub shelved : All (IsShelved st) points
-
--- it has published at most so many
-abbrev pub HasPublishedSome : Setting → ℕ → Pass → Pass → Type 0
-HasPublishedSome st most before after = (count : ℕ) × (count ≤ most) × HasPublished st count before after
 
 -- the numbers and the one that a call of this kind claims before them
 abbrev pub claimed_by : Kind → ℕ → List ℕ → List ℕ

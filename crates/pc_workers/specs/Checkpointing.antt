@@ -1,10 +1,93 @@
--- Why a checkpointer stops.
-use Rattle.std.specs.Prelude.{◌⊎◌}
+-- What a checkpointer has seen and published since, and why it stops.
+use Rattle.std.specs.Prelude.{◌≡◌, ◌⊎◌, ℕ, zero, suc, ◌+◌, Bool, true, false, List, [], ◌∷◌, ◌++◌, Option, Some, None}
+use mathlib.Core.List.{IsPrefix}
+use Rattle.pc_types.specs.declared.Event.TheVariants.{Take}
+use Rattle.pc_types.specs.declared.Phase.{Phase}
+use Rattle.pc_types.specs.declared.Phase.TheVariants.{Rest, Prepare, Resolve, Capture, Complete}
 use Rattle.pc_types.specs.declared.Refusal.{Refusal}
-use Rattle.pc_types.specs.declared.Reply.TheVariants.{Refused}
-use Rattle.pc_model.specs.Replies.{Setting}
-use Rattle.pc_latch.specs.Cycles.{IsAdvance, IsTaken}
+use Rattle.pc_types.specs.declared.Reply.{Reply}
+use Rattle.pc_types.specs.declared.Reply.TheVariants as told
+use Rattle.pc_model.specs.History.{History, phase_of, point_of}
+use Rattle.pc_model.specs.Headline.{TakesPointValue}
+use Rattle.pc_model.specs.Replies.{Setting, IsLegalHistory}
+use Rattle.pc_model.specs.Calls.{IsBeginning, IsAnswered}
+use Rattle.pc_board.specs.Passes.{Pass}
+use Rattle.pc_latch.specs.Cycles.{next_event, phases_entered, done_among}
+use Rattle.pc_workers.specs.Boards.{MakesCalls, publications}
 
--- after some legal history this refusal is the reply to the event that ends the phase, or to a take
-abbrev pub IsRefusal : Setting → Refusal → Type 0
-IsRefusal st why = IsAdvance st (Refused why) ⊎ IsTaken st (Refused why)
+-- the phase behind a phase
+abbrev pub next_phase : Phase → Phase
+next_phase Rest = Prepare
+next_phase Prepare = Resolve
+next_phase Resolve = Capture
+next_phase Capture = Complete
+next_phase Complete = Rest
+
+-- the point as that phase is entered: where a cycle begins it is the next one
+abbrev pub next_point : Phase → ℕ → ℕ
+next_point Rest point = point + 1
+next_point other point = point
+
+-- the phases of the point's cycle, in their order
+abbrev pub whole_cycle : ℕ → List (Phase × ℕ)
+whole_cycle point = (Prepare, point) ∷ (Resolve, point) ∷ (Capture, point) ∷ (Complete, point) ∷ (Rest, point) ∷ []
+
+-- those of so many cycles behind the point, one after the other
+abbrev pub whole_cycles : ℕ → ℕ → List (Phase × ℕ)
+whole_cycles point zero = []
+whole_cycles point (suc count) = whole_cycles point count ++ whole_cycle (point + suc count)
+
+-- The checkpointer has seen a history that goes on from what it had seen; if that was legal, and each of its takes carried what
+-- its key had at the point, so is this one, and so has each of its takes. Just these phases were entered since, each with its
+-- point; and the phase and the point are now these.
+pub record HasReached (st : Setting) (phases : List (Phase × ℕ)) (phase : Phase) (point : ℕ) (before after : History) : Type 0 where
+  pub begins : IsBeginning before after
+  pub legal : IsLegalHistory st before → IsLegalHistory st after
+  pub values : TakesPointValue st.base before → TakesPointValue st.base after
+  pub entered : phases_entered after ≡ phases_entered before ++ phases
+  pub in_phase : phase_of after ≡ phase
+  pub at_point : point_of after ≡ point
+
+-- no phase was entered
+abbrev pub HasStood : Setting → History → History → Type 0
+HasStood st before after = HasReached st [] (phase_of before) (point_of before) before after
+
+-- the next phase was
+abbrev pub HasTurned : Setting → History → History → Type 0
+HasTurned st before after =
+    HasReached st ((next_phase (phase_of before), next_point (phase_of before) (point_of before)) ∷ []) (next_phase (phase_of before)) (next_point (phase_of before) (point_of before)) before after
+
+-- it has gone through so many whole cycles, one after the other
+abbrev pub HasCycled : Setting → ℕ → History → History → Type 0
+HasCycled st count before after = HasReached st (whole_cycles (point_of before) count) Rest (point_of before + count) before after
+
+-- The store may answer this refusal to the event that ends the phase, or to a take: after some legal history with all that the
+-- checkpointer has seen, and no other call of it.
+abbrev pub IsRefusal : Setting → History → Refusal → Type 0
+IsRefusal st seen why = IsAnswered st 0 seen (next_event (phase_of seen)) (told.Refused why) ⊎ IsAnswered st 0 seen Take (told.Refused why)
+
+-- it stopped at a refusal, and no phase was entered
+abbrev pub IsHeldUp : Setting → History → History → Refusal → Type 0
+IsHeldUp st before after why = HasStood st before after × IsRefusal st after why
+
+-- Since then the pass has published the points whose parts were put on the shelf as these phases were entered, in their order,
+-- and has made no other call.
+abbrev pub HasPublished : List (Phase × ℕ) → Pass → Pass → Type 0
+HasPublished phases before after = MakesCalls before after (publications before.number (done_among phases))
+
+-- It stopped at a refusal: since then a beginning of the phases that were due was entered, and what was put on the shelf was
+-- published, and no more.
+pub record HasBrokenOff (st : Setting) (due : List (Phase × ℕ)) (before after : History) (earlier later : Pass) (why : Refusal) : Type 0 where
+  pub phases : List (Phase × ℕ)
+  pub phase : Phase
+  pub point : ℕ
+  pub first : IsPrefix phases due
+  pub reached : HasReached st phases phase point before after
+  pub published : HasPublished phases earlier later
+  pub refusal : IsRefusal st after why
+
+-- the point of the phase that a reply names, if it names one
+abbrev pub point_named : Reply → Option ℕ
+point_named (told.Phase phase point) = Some point
+point_named (told.PartDone point file entries) = Some point
+point_named other = None

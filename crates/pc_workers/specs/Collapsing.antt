@@ -4,8 +4,9 @@ use Rattle.std.specs.List.{list_any}
 use Rattle.pc_types.specs.declared.Refusal.{Refusal}
 use Rattle.pc_types.specs.declared.Refusal.TheVariants.{OutOfMemory}
 use Rattle.pc_model.specs.Files.{File}
+use Rattle.pc_model.specs.History.{History}
 use Rattle.pc_model.specs.Numbers.{is_one_of}
-use Rattle.pc_model.specs.Replies.{Setting}
+use Rattle.pc_model.specs.Replies.{Setting, IsLegalHistory}
 use Rattle.pc_model.specs.Sets as set
 use Rattle.pc_board.specs.declared.limits.TheConstants.{MOST_CLAIMS}
 use Rattle.pc_board.specs.Calls.{greatest_of}
@@ -41,12 +42,13 @@ pub record HasCollapsed (points : ℕ) (before after : Pass) (files : List File)
   pub holds : (point : ℕ) → has_point files point ≡ is_one_of point (map suc taken)
   pub ended : IsAtEnd points after last
 
--- All numbers that were claimed since were shown. Then memory ran out, or there was no ticket of the last one's file.
-pub record HasStopped (st : Setting) (points : ℕ) (before after : Pass) (why : Refusal) : Type 0 where
+-- All numbers that were claimed since were shown. Then memory ran out, or there was no ticket of the last one's file by the legal
+-- history that the collapser's witness has then seen.
+pub record HasStopped (st : Setting) (points : ℕ) (seen : History) (before after : Pass) (why : Refusal) : Type 0 where
   pub numbers : List ℕ
   pub claims : HasClaimed before after numbers
   pub shown : All (IsShown points after) numbers
-  pub cause : (why ≡ OutOfMemory) ⊎ ((earlier : List ℕ) × (last : ℕ) × (numbers ≡ earlier ++ last ∷ []) × IsNoTicket st (suc last) why)
+  pub cause : (why ≡ OutOfMemory) ⊎ ((earlier : List ℕ) × (last : ℕ) × (numbers ≡ earlier ++ last ∷ []) × IsLegalHistory st seen × IsNoTicket st seen (suc last) why)
 
 -- a number was claimed since, and shown
 abbrev pub HasShown : ℕ → Pass → Pass → ℕ → Type 0

@@ -1,9 +1,6 @@
 -- Which points some files have.
 use Rattle.std.specs.Prelude.{ℕ, ◌≤◌, List, IsTrue}
-use Rattle.pc_types.specs.declared.Refusal.{Refusal}
 use Rattle.pc_model.specs.Files.{File}
-use Rattle.pc_model.specs.Replies.{Setting}
-use Rattle.pc_latch.specs.Tickets.{IsNoTicket}
 use Rattle.pc_workers.specs.Collapsing.{has_point}
 
 -- each of the points from 1 to this is one that some of the files has
@@ -17,7 +14,3 @@ HaveOnlyTo points files = (point : ℕ) → IsTrue (has_point files point) → (
 -- the files have just the points from 1 to this
 abbrev pub HaveJustTo : ℕ → List File → Type 0
 HaveJustTo points files = HaveAllTo points files × HaveOnlyTo points files
-
--- there is no ticket of the file of one of the points from 1 to this, for this reason; want of memory is one
-abbrev pub IsMissing : Setting → ℕ → Refusal → Type 0
-IsMissing st points why = (point : ℕ) × (1 ≤ point) × (point ≤ points) × IsNoTicket st point why

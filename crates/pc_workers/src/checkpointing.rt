@@ -1,29 +1,66 @@
 //! The checkpointer's loop: it takes one point after the other.
-ghost use Rattle.std.specs.Prelude.{◌≡◌, IfOk, IfErr, OnErr};
+ghost use Rattle.std.specs.Prelude.{◌≡◌, ◌+◌, IfOk, IfErr, OnErr};
+ghost use Rattle.pc_types.specs.declared.Phase.TheVariants.{Rest};
 ghost use Rattle.pc_types.specs.declared.Reply.TheVariants.{Refused};
-ghost use Rattle.pc_board.specs.Passes.{IsOfBoard};
-ghost use Rattle.pc_latch.specs.Cycles.{IsAdvance, IsTaken};
-ghost use Rattle.pc_workers.specs.Boards.{HasPublished, HasPublishedSome, IsShelved};
-ghost use Rattle.pc_workers.specs.Checkpointing.{IsRefusal};
+ghost use Rattle.pc_model.specs.History.{phase_of, point_of};
+ghost use Rattle.pc_board.specs.declared.calls.Kind.TheVariants.{Publish};
+ghost use Rattle.pc_board.specs.Passes.{IsOfBoard, MakesCall};
+ghost use Rattle.pc_workers.specs.Checkpointing.{whole_cycle, whole_cycles, point_named, HasReached, HasStood, HasTurned, HasCycled, IsHeldUp, HasPublished, HasBrokenOff};
 
 use pc_board::{Board, BoardPass};
-use pc_shared::Shared;
+use pc_shared::{CheckpointerSeat, Shared};
 use pc_tie::StoreName;
 use pc_types::{Gate, Phase, Place, Point, Refusal, Reply};
 use std::sync::Wait;
 
-// Asks for the event that ends the phase, until it is answered with another phase; while others are in the way it waits until
-// the count of changes is another than the one from before it asked.
-fn change_phase<N: StoreName, R: Wait>(rt: &R, shared: &Shared<N>) -> Result<(), Refusal>
-    ensures { IfErr result (λ why. IsAdvance N.name.setting (Refused why)) }
+// The point of the phase that the reply names, if it names one; or the refusal that it is.
+fn told(reply: &Reply) -> Result<Option<Point>, Refusal>
+    ensures named { IfOk result (λ named. named ≡ point_named reply.now) }
+    ensures refused { IfErr result (λ why. reply.now ≡ Refused why) }
 {
-    let mut seen = 0;
+    match reply {
+        Reply::Phase(_, point) => Ok(Some(*point)),
+        Reply::PartDone(point, _, _) => Ok(Some(*point)),
+        Reply::Refused(why) => Err(*why),
+        _ => Ok(None),
+    }
+}
+
+// Whether more keys may be left to take; or the refusal that the reply to a take is.
+fn has_more(reply: &Reply) -> Result<bool, Refusal>
+    ensures { IfErr result (λ why. reply.now ≡ Refused why) }
+{
+    match reply {
+        Reply::NoneLeft => Ok(false),
+        Reply::Refused(why) => Err(*why),
+        _ => Ok(true),
+    }
+}
+
+// Asks for the event that ends the phase, until it is answered with the next phase, and gives its point; while others are in the
+// way it waits until the count of changes is another than the one from before it asked.
+fn change_phase<N: StoreName, R: Wait>(
+    rt: &R,
+    shared: &Shared<N>,
+    seat: &mut CheckpointerSeat<N>,
+) -> Result<Point, Refusal>
+    ensures turned { IfOk result (λ _. HasTurned N.name.setting seat.old seat.new) }
+    ensures point { IfOk result (λ point. point ≡ point_of seat.new) }
+    ensures held_up { IfErr result (IsHeldUp N.name.setting seat.old seat.new) }
+{
+    let mut changes = 0;
     for _ in rt.forever() {
-        match shared.advance(rt) {
-            Reply::NotYet(_) => seen = shared.until_changed(rt, seen),
-            Reply::Refused(why) => return Err(why),
-            _ => return Ok(()),
+        let reply = shared.advance(rt, seat);
+        let told = told(&reply);
+        drop(reply);
+        let named = match told {
+            Ok(named) => named,
+            Err(why) => return Err(why),
+        };
+        if let Some(point) = named {
+            return Ok(point);
         }
+        changes = shared.until_changed(rt, changes);
     }
     unreachable!()
 }
@@ -32,15 +69,21 @@ fn change_phase<N: StoreName, R: Wait>(rt: &R, shared: &Shared<N>) -> Result<(),
 fn enter<N: StoreName, R: Wait, G: Gate>(
     rt: &R,
     shared: &Shared<N>,
+    seat: &mut CheckpointerSeat<N>,
     phase: Phase,
     gate: &G,
-) -> Result<(), Refusal>
-    ensures { IfErr result (λ why. IsAdvance N.name.setting (Refused why)) }
+) -> Result<Point, Refusal>
+    ensures turned { IfOk result (λ _. HasTurned N.name.setting seat.old seat.new) }
+    ensures point { IfOk result (λ point. point ≡ point_of seat.new) }
+    ensures held_up { IfErr result (IsHeldUp N.name.setting seat.old seat.new) }
 {
     gate.pass(Place::Due(phase));
-    change_phase(rt, shared)?;
+    let point = match change_phase(rt, shared, seat) {
+        Ok(point) => point,
+        Err(why) => return Err(why),
+    };
     gate.pass(Place::Entered(phase));
-    Ok(())
+    Ok(point)
 }
 
 // The checkpointer gives way after so many takes.
@@ -50,17 +93,22 @@ const TAKES: u32 = 32;
 fn take_keys<N: StoreName, R: Wait, G: Gate>(
     rt: &R,
     shared: &Shared<N>,
+    seat: &mut CheckpointerSeat<N>,
     gate: &G,
 ) -> Result<(), Refusal>
-    ensures { IfErr result (λ why. IsTaken N.name.setting (Refused why)) }
+    ensures stood { IfOk result (λ _. HasStood N.name.setting seat.old seat.new) }
+    ensures held_up { IfErr result (IsHeldUp N.name.setting seat.old seat.new) }
 {
     let mut takes = 0u32;
     let mut seen = 0;
     for _ in rt.forever() {
-        match shared.take(rt) {
-            Reply::NoneLeft => return Ok(()),
-            Reply::Refused(why) => return Err(why),
-            _ => gate.pass(Place::Took),
+        let reply = shared.take(rt, seat);
+        let has_more = has_more(&reply);
+        drop(reply);
+        match has_more {
+            Ok(true) => gate.pass(Place::Took),
+            Ok(false) => return Ok(()),
+            Err(why) => return Err(why),
         }
         takes = takes.wrapping_add(1);
         if takes.is_multiple_of(TAKES) {
@@ -70,39 +118,25 @@ fn take_keys<N: StoreName, R: Wait, G: Gate>(
     unreachable!()
 }
 
-// Asks for the event that ends the phase, until it is answered that a point's part is on the shelf; that is the first answer
-// where the phase is a capture whose keys were taken.
-fn shelve<N: StoreName, R: Wait>(rt: &R, shared: &Shared<N>) -> Result<Point, Refusal>
-    ensures shelved { IfOk result (IsShelved N.name.setting) }
-    ensures refused { IfErr result (λ why. IsAdvance N.name.setting (Refused why)) }
-{
-    let mut seen = 0;
-    for _ in rt.forever() {
-        match shared.advance(rt) {
-            Reply::PartDone(point, _, _) => return Ok(point),
-            Reply::Refused(why) => return Err(why),
-            _ => seen = shared.until_changed(rt, seen),
-        }
-    }
-    unreachable!()
-}
-
 // Ends the capture, and publishes the point once its part is on the shelf.
 fn complete<N: StoreName, R: Wait, G: Gate>(
     rt: &R,
     shared: &Shared<N>,
+    seat: &mut CheckpointerSeat<N>,
     board: &Board,
     pass: &mut BoardPass,
     gate: &G,
 ) -> Result<(), Refusal>
     requires { IsOfBoard pass.old board.now }
-    ensures published { IfOk result (λ _. HasPublished N.name.setting 1 pass.old pass.new) }
-    ensures refused { IfErr result (λ why. IsAdvance N.name.setting (Refused why)) }
+    ensures turned { IfOk result (λ _. HasTurned N.name.setting seat.old seat.new) }
+    ensures published { IfOk result (λ _. MakesCall pass.old Publish (point_of seat.new) pass.new) }
+    ensures held_up { IfErr result (IsHeldUp N.name.setting seat.old seat.new) }
     ensures same { OnErr result (pass.new ≡ pass.old) }
 {
-    gate.pass(Place::Due(Phase::Complete));
-    let point = shelve(rt, shared)?;
-    gate.pass(Place::Entered(Phase::Complete));
+    let point = match enter(rt, shared, seat, Phase::Complete, gate) {
+        Ok(point) => point,
+        Err(why) => return Err(why),
+    };
     board.publish(pass, point);
     Ok(())
 }
@@ -111,43 +145,50 @@ fn complete<N: StoreName, R: Wait, G: Gate>(
 fn take_point<N: StoreName, R: Wait, G: Gate>(
     rt: &R,
     shared: &Shared<N>,
+    seat: &mut CheckpointerSeat<N>,
     board: &Board,
     pass: &mut BoardPass,
     gate: &G,
 ) -> Result<(), Refusal>
-    requires { IsOfBoard pass.old board.now }
-    ensures published { IfOk result (λ _. HasPublished N.name.setting 1 pass.old pass.new) }
-    ensures some { IfErr result (λ _. HasPublishedSome N.name.setting 1 pass.old pass.new) }
-    ensures refused { IfErr result (IsRefusal N.name.setting) }
+    requires board { IsOfBoard pass.old board.now }
+    requires rest { phase_of seat.old ≡ Rest }
+    ensures reached { IfOk result (λ _. HasReached N.name.setting (whole_cycle (point_of seat.old + 1)) Rest (point_of seat.old + 1) seat.old seat.new) }
+    ensures published { IfOk result (λ _. HasPublished (whole_cycle (point_of seat.old + 1)) pass.old pass.new) }
+    ensures broken_off { IfErr result (HasBrokenOff N.name.setting (whole_cycle (point_of seat.old + 1)) seat.old seat.new pass.old pass.new) }
 {
-    enter(rt, shared, Phase::Prepare, gate)?;
-    enter(rt, shared, Phase::Resolve, gate)?;
-    enter(rt, shared, Phase::Capture, gate)?;
-    take_keys(rt, shared, gate)?;
-    complete(rt, shared, board, pass, gate)?;
-    enter(rt, shared, Phase::Rest, gate)
+    enter(rt, shared, seat, Phase::Prepare, gate)?;
+    enter(rt, shared, seat, Phase::Resolve, gate)?;
+    enter(rt, shared, seat, Phase::Capture, gate)?;
+    take_keys(rt, shared, seat, gate)?;
+    complete(rt, shared, seat, board, pass, gate)?;
+    enter(rt, shared, seat, Phase::Rest, gate)?;
+    Ok(())
 }
 
-/// Takes so many points, one after the other, and answers how many. It passes the gate before and after each change of the
-/// phase, and after each key. It publishes each point with the pass once its part is on the shelf, before it asks for the rest
-/// that ends the point's cycle; it makes no other call on the board. The first refusal ends it: one that the store may answer,
-/// after some legal history, to the event that ends a phase or to a take. No other thread may ask for these events beside it.
+/// Takes so many points, one after the other, and answers how many. The phase is rest at first, and the checkpointer's calls then
+/// make up so many whole cycles; by the rules of the store each of them takes all keys of its point. It passes the gate before and
+/// after each change of the phase, and after each key. It publishes each point with the pass once its part is on the shelf, before
+/// it asks for the rest that ends the point's cycle; it makes no other call on the board. The first refusal ends it: one that the
+/// store may answer, after some legal history with all that the checkpointer has seen, to the event that ends the phase or to a
+/// take. What was put on the shelf until then was published.
 pub fn checkpoint_loop<N: StoreName, R: Wait, G: Gate>(
     rt: &R,
     shared: &Shared<N>,
+    seat: &mut CheckpointerSeat<N>,
     board: &Board,
     pass: &mut BoardPass,
     points: u32,
     gate: &G,
 ) -> Result<u32, Refusal>
-    requires { IsOfBoard pass.old board.now }
+    requires board { IsOfBoard pass.old board.now }
+    requires rest { phase_of seat.old ≡ Rest }
     ensures points { IfOk result (λ n. n ≡ points) }
-    ensures published { IfOk result (λ n. HasPublished N.name.setting n pass.old pass.new) }
-    ensures some { IfErr result (λ _. HasPublishedSome N.name.setting points pass.old pass.new) }
-    ensures refused { IfErr result (IsRefusal N.name.setting) }
+    ensures cycled { IfOk result (λ n. HasCycled N.name.setting n seat.old seat.new) }
+    ensures published { IfOk result (λ n. HasPublished (whole_cycles (point_of seat.old) n) pass.old pass.new) }
+    ensures broken_off { IfErr result (HasBrokenOff N.name.setting (whole_cycles (point_of seat.old) points) seat.old seat.new pass.old pass.new) }
 {
     for _ in 0..points {
-        take_point(rt, shared, board, pass, gate)?;
+        take_point(rt, shared, seat, board, pass, gate)?;
     }
     Ok(points)
 }

@@ -1,5 +1,7 @@
 //! A collapser's loop: it takes the files of points that were published, and joins them while the store is used.
 ghost use Rattle.std.specs.Prelude.{◌≡◌, ◌≤◌, ◌<◌, ◌||◌, ℕ, suc, [], IfErr, IfOk, IfSome, IfNone, MatchOption, vec_capacity, vec_len};
+ghost use Rattle.pc_model.specs.Calls.{IsBeginning};
+ghost use Rattle.pc_model.specs.Replies.{IsLegalHistory};
 ghost use Rattle.pc_model.specs.Sets as set;
 ghost use Rattle.pc_board.specs.Calls.{greatest_of};
 ghost use Rattle.pc_board.specs.Passes.{IsOfBoard};
@@ -8,7 +10,7 @@ ghost use Rattle.pc_workers.specs.Boards.{HasClaimed};
 ghost use Rattle.pc_workers.specs.Collapsing.{has_point, HasCollapsed, HasEnded, HasShown, HasStopped};
 
 use pc_board::{Board, BoardPass};
-use pc_shared::{PartTicket, Shared};
+use pc_shared::{PartTicket, Shared, Witness};
 use pc_tie::StoreName;
 use pc_types::{FileNo, Gate, Place, Point, Refusal};
 use std::alloc::Global;
@@ -47,13 +49,15 @@ fn await_file<N: StoreName, R: Wait>(
 fn next_ticket<N: StoreName, R: Wait>(
     rt: &R,
     shared: &Shared<N>,
+    witness: &mut Witness<N>,
     board: &Board,
     pass: &mut BoardPass,
     points: u32,
 ) -> Result<Option<PartTicket<N>>, Refusal>
     requires { IsOfBoard pass.old board.now }
     ensures ticket { IfOk result (λ next. MatchOption next (HasEnded points pass.old pass.new) (λ ticket. (number : ℕ) × HasShown points pass.old pass.new number × (ticket.points ≡ set.insert set.empty (suc number)))) }
-    ensures refused { IfErr result (λ why. (number : ℕ) × HasShown points pass.old pass.new number × IsNoTicket N.name.setting (suc number) why) }
+    ensures refused { IfErr result (λ why. (number : ℕ) × HasShown points pass.old pass.new number × IsLegalHistory N.name.setting witness.new × IsNoTicket N.name.setting witness.new (suc number) why) }
+    ensures had_seen { IsBeginning witness.old witness.new }
 {
     let Some(number) = board.claim(pass) else {
         return Ok(None);
@@ -64,7 +68,7 @@ fn next_ticket<N: StoreName, R: Wait>(
     let Some(file) = await_file(rt, shared, board, pass, number) else {
         return Ok(None);
     };
-    match shared.take_part(rt, file) {
+    match shared.take_shown(rt, witness, file) {
         Ok(ticket) => Ok(Some(ticket)),
         Err(why) => Err(why),
     }
@@ -98,11 +102,12 @@ fn take_in<N: StoreName, G: Gate>(
 /// holds; before each join it passes the gate. It ends where a number isn't below `points`, where the end was marked before it
 /// looked and the number's point wasn't published, or where the pass can claim no more. It gives what it holds: none, one, or
 /// more where a join was refused; together they have just the points behind the claimed numbers but the last. Refuses as a
-/// ticket does, or with `OutOfMemory`; what it held is then let go.
+/// ticket does by what the witness has then seen, or with `OutOfMemory`; what it held is then let go.
 pub fn collapse_loop<N: StoreName, R: Wait, G: Gate>(
     rt: &R,
     alloc: Global,
     shared: &Shared<N>,
+    witness: &mut Witness<N>,
     board: &Board,
     pass: &mut BoardPass,
     collapser: u8,
@@ -111,12 +116,13 @@ pub fn collapse_loop<N: StoreName, R: Wait, G: Gate>(
 ) -> Result<Vec<PartTicket<N>>, Refusal>
     requires { IsOfBoard pass.old board.now }
     ensures held { IfOk result (λ tickets. HasCollapsed points pass.old pass.new tickets.items) }
-    ensures refused { IfErr result (HasStopped N.name.setting points pass.old pass.new) }
+    ensures refused { IfErr result (HasStopped N.name.setting points witness.new pass.old pass.new) }
+    ensures had_seen { IsBeginning witness.old witness.new }
 {
     let mut held = Vec::new(alloc);
     for _ in rt.forever() {
         held.reserve(1)?;
-        match next_ticket(rt, shared, board, pass, points) {
+        match next_ticket(rt, shared, witness, board, pass, points) {
             Ok(Some(ticket)) => take_in(&mut held, ticket, collapser, gate),
             Ok(None) => return Ok(held),
             Err(why) => return Err(why),

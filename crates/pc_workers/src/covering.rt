@@ -1,12 +1,14 @@
 //! The points that the files of tickets have.
-ghost use Rattle.std.specs.Prelude.{◌≡◌, ◌&&◌, nat_le, IfOk, IfErr};
+ghost use Rattle.std.specs.Prelude.{◌≡◌, ◌≤◌, ◌&&◌, nat_le, length, IfOk, IfErr};
 ghost use Rattle.pc_model.specs.Sets as set;
+ghost use Rattle.pc_model.specs.Replies.{IsLegalHistory};
 ghost use Rattle.pc_part.specs.Parts.{covers};
+ghost use Rattle.pc_latch.specs.Cycles.{points_done};
 ghost use Rattle.pc_workers.specs.Collapsing.{has_point};
-ghost use Rattle.pc_workers.specs.Covering.{HaveOnlyTo, HaveJustTo, IsMissing};
+ghost use Rattle.pc_workers.specs.Covering.{HaveOnlyTo, HaveJustTo};
 
 use pc_part::{Part, Range};
-use pc_shared::{PartTicket, Shared};
+use pc_shared::{CheckpointerSeat, PartTicket, Shared};
 use pc_tie::StoreName;
 use pc_types::{FileNo, Refusal};
 use std::sync::Wait;
@@ -41,22 +43,27 @@ fn has_point<N: StoreName>(tickets: &[PartTicket<N>], point: u32) -> bool
 }
 
 /// The tickets, whose files have no points but those from 1 to this, and behind them one of each such point that none of them
-/// has. Refuses as a ticket of one of these points does, or with `OutOfMemory`; the tickets are then let go.
+/// has. The checkpointer has seen a legal history in which so many points' parts were put on the shelf. Refuses with
+/// `OutOfMemory` alone; the tickets are then let go.
 pub fn with_missing_points<N: StoreName, R: Wait>(
     rt: &R,
     shared: &Shared<N>,
+    seat: &mut CheckpointerSeat<N>,
     held: Vec<PartTicket<N>>,
     points: u32,
 ) -> Result<Vec<PartTicket<N>>, Refusal>
-    requires { HaveOnlyTo points held.items }
+    requires only { HaveOnlyTo points held.items }
+    requires legal { IsLegalHistory N.name.setting seat.old }
+    requires done { points ≤ length (points_done seat.old) }
+    ensures same { seat.new ≡ seat.old }
     ensures covering { IfOk result (λ tickets. HaveJustTo points tickets.items) }
-    ensures refused { IfErr result (IsMissing N.name.setting points) }
+    ensures memory { IfErr result (λ why. why ≡ Refusal.OutOfMemory) }
 {
     let mut tickets = held;
     for others in 0..points {
         let point = others + 1;
         if !has_point(&tickets, point) {
-            tickets.push(shared.take_part(rt, FileNo(point))?)?;
+            tickets.push(shared.take_part(rt, seat, FileNo(point))?)?;
         }
     }
     Ok(tickets)

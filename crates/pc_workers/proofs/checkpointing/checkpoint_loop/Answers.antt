@@ -1,19 +1,41 @@
-use Rattle.std.proofs.Common.{◌∙◌, arith}
-use Rattle.std.proofs.lemmas.Result.{err_from_is_err_and}
-use Rattle.pc_workers.proofs.BoardCalls.{published_none, published_on, some_on}
+use Rattle.std.proofs.Common.{◌≡◌, ℕ, subst, ◌∙◌, arith}
+use Rattle.pc_model.specs.History.{point_of}
+use Rattle.pc_workers.specs.Checkpointing.{whole_cycles, HasCycled, HasPublished, HasBrokenOff}
+use Rattle.pc_workers.proofs.BoardCalls.{published_none}
+use Rattle.pc_workers.proofs.Cycling.{of_refusal}
+use Rattle.pc_workers.proofs.WholeCycles.{cycled_none, cycled_on, cycle_published, breaks_off_in}
 use Rattle.pc_workers.proofs.checkpointing.checkpoint_loop.Goals as goal
 
 pub loop-init : goal.loop-init
-loop-init g c = published_none g.N.StoreName.name.setting c.args.pass.now
+loop-init g c = (cycled_none g.N.StoreName.name.setting c.args.seat.now c.requires.rest, published_none c.args.pass.now)
 
-pub take_point-requires : goal.take_point-requires
-take_point-requires g c = c.loop.invariant.made.same.0 ∙ c.requires
+pub take_point-requires-clause-board : goal.take_point-requires-clause-board
+take_point-requires-clause-board g c = c.loop.invariant.1.same.0 ∙ c.requires.board
+
+pub take_point-requires-clause-rest : goal.take_point-requires-clause-rest
+take_point-requires-clause-rest g c = c.loop.invariant.0.in_phase
 
 pub loop-preserved : goal.loop-preserved
-loop-preserved g c = published_on g.N.StoreName.name.setting c.loop.counter 1 c.args.pass.now c.loop.pass c.take_point.new.pass c.loop.invariant c.in_ok-take_point.ensures.published
+loop-preserved g c =
+    let st = g.N.StoreName.name.setting in
+    let i = c.loop.invariant in (
+      cycled_on st c.loop.counter c.args.seat.now c.loop.seat c.take_point.new.seat i.0 c.in_ok-take_point.ensures.reached,
+      cycle_published st c.loop.counter c.args.seat.now c.loop.seat c.args.pass.now c.loop.pass c.take_point.new.pass i.0 i.1 c.in_ok-take_point.ensures.published,
+    )
 
-pub returns-in_err-take_point-clause-some : goal.returns-in_err-take_point-clause-some
-returns-in_err-take_point-clause-some g c =
-    let p = err_from_is_err_and c.from_residual.result c.from_residual.ensures.1 in
-    rw p.1
-    (some_on g.N.StoreName.name.setting c.loop.counter 1 c.args.points c.args.pass.now c.loop.pass c.take_point.new.pass (omega (arith, c.loop-test.true)) c.loop.invariant c.in_err-take_point.ensures.some)
+pub returns-in_err-take_point-clause-broken_off : goal.returns-in_err-take_point-clause-broken_off
+returns-in_err-take_point-clause-broken_off g c =
+    let st = g.N.StoreName.name.setting in
+    let i = c.loop.invariant in
+    of_refusal (HasBrokenOff st (whole_cycles (point_of c.args.seat.now) c.args.points) c.args.seat.now c.take_point.new.seat c.args.pass.now c.take_point.new.pass) c.from_residual.result _ c.from_residual.ensures.1
+    (breaks_off_in st c.loop.counter c.args.points c.args.seat.now c.loop.seat c.take_point.new.seat c.args.pass.now c.loop.pass c.take_point.new.pass _ (omega (arith, c.loop-test.true)) i.0 i.1 c.in_err-take_point.ensures.broken_off)
+
+pub returns-clause-cycled : goal.returns-clause-cycled
+returns-clause-cycled g c =
+    let all : c.loop.counter ≡ c.args.points = omega (arith, c.loop-test.false, c.loop.auto.counter-end) in
+    subst (λ (k : ℕ). HasCycled g.N.StoreName.name.setting k c.args.seat.now c.loop.seat) all c.loop.invariant.0
+
+pub returns-clause-published : goal.returns-clause-published
+returns-clause-published g c =
+    let all : c.loop.counter ≡ c.args.points = omega (arith, c.loop-test.false, c.loop.auto.counter-end) in
+    subst (λ (k : ℕ). HasPublished (whole_cycles (point_of c.args.seat.now) k) c.args.pass.now c.loop.pass) all c.loop.invariant.1

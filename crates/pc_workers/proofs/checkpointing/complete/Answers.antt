@@ -1,5 +1,7 @@
-use Rattle.pc_workers.proofs.BoardCalls.{published_one}
+use Rattle.std.proofs.Common.{ℕ, subst}
+use Rattle.pc_board.specs.declared.calls.Kind.TheVariants.{Publish}
+use Rattle.pc_board.specs.Passes.{MakesCall}
 use Rattle.pc_workers.proofs.checkpointing.complete.Goals as goal
 
 pub returns-clause-published : goal.returns-clause-published
-returns-clause-published g c = published_one g.N.StoreName.name.setting c.args.pass.now c.publish.new.pass c.in_ok-point.point c.in_ok-point.ensures.shelved c.publish.ensures
+returns-clause-published g c = subst (λ (n : ℕ). MakesCall c.args.pass.now Publish n c.publish.new.pass) c.in-Ok.ensures.point c.publish.ensures

@@ -1,32 +1,92 @@
-use Rattle.std.proofs.Common.{sym, subst}
-use Rattle.std.proofs.lemmas.Result.{err_from_is_err_and}
-use Rattle.pc_board.specs.Passes.{Pass}
-use Rattle.pc_workers.specs.Boards.{HasPublishedSome}
-use Rattle.pc_workers.proofs.BoardCalls.{some_none}
+use Rattle.std.proofs.Common.{◌≡◌, ◌+◌, ℕ, List, [], ◌∷◌, refl, sym, ap, subst, ◌∙◌}
+use Rattle.pc_types.specs.declared.Phase.{Phase}
+use Rattle.pc_types.specs.declared.Phase.TheVariants.{Rest, Prepare, Resolve, Capture, Complete}
+use Rattle.pc_model.specs.History.{History, point_of}
+use Rattle.pc_board.specs.declared.calls.Kind.TheVariants.{Publish}
+use Rattle.pc_board.specs.Passes.{Pass, MakesCall}
+use Rattle.pc_workers.specs.Checkpointing.{whole_cycle, HasPublished, HasBrokenOff}
+use Rattle.pc_workers.proofs.BoardCalls.{published_none, published_one}
+use Rattle.pc_workers.proofs.Cycling.{reached_stood, breaks_off, of_refusal}
+use Rattle.pc_workers.proofs.WholeCycles.{at_rest, to_prepare, to_resolve, to_capture, to_complete, to_rest}
 use Rattle.pc_workers.proofs.checkpointing.take_point.Goals as goal
 
-pub returns-in_err-enter-clause-some : goal.returns-in_err-enter-clause-some
-returns-in_err-enter-clause-some g c =
-    let p = err_from_is_err_and c.from_residual.result c.from_residual.ensures.1 in
-    rw p.1 (some_none g.N.StoreName.name.setting 1 c.args.pass.now)
-
-pub returns-in_err-enter-2-clause-some : goal.returns-in_err-enter-2-clause-some
-returns-in_err-enter-2-clause-some g c =
-    let p = err_from_is_err_and c.from_residual-in_err-enter-2.result c.from_residual-in_err-enter-2.ensures.1 in
-    rw p.1 (some_none g.N.StoreName.name.setting 1 c.args.pass.now)
-
-pub returns-in_err-enter-3-clause-some : goal.returns-in_err-enter-3-clause-some
-returns-in_err-enter-3-clause-some g c =
-    let p = err_from_is_err_and c.from_residual-in_err-enter-3.result c.from_residual-in_err-enter-3.ensures.1 in
-    rw p.1 (some_none g.N.StoreName.name.setting 1 c.args.pass.now)
-
-pub returns-in_err-take_keys-clause-some : goal.returns-in_err-take_keys-clause-some
-returns-in_err-take_keys-clause-some g c =
-    let p = err_from_is_err_and c.from_residual-in_err-take_keys.result c.from_residual-in_err-take_keys.ensures.1 in
-    rw p.1 (some_none g.N.StoreName.name.setting 1 c.args.pass.now)
-
-pub returns-in_err-complete-clause-some : goal.returns-in_err-complete-clause-some
-returns-in_err-complete-clause-some g c =
+pub returns-in_err-enter-clause-broken_off : goal.returns-in_err-enter-clause-broken_off
+returns-in_err-enter-clause-broken_off g c =
     let st = g.N.StoreName.name.setting in
-    let p = err_from_is_err_and c.from_residual-in_err-complete.result c.from_residual-in_err-complete.ensures.1 in
-    rw p.1 (subst (λ (q : Pass). HasPublishedSome st 1 c.args.pass.now q) (sym c.in_err-complete.ensures.same) (some_none st 1 c.args.pass.now))
+    let a = c.args.seat.now in
+    let m = point_of a in
+    of_refusal (HasBrokenOff st (whole_cycle (m + 1)) a c.enter.new.seat c.args.pass.now c.args.pass.now) c.from_residual.result _ c.from_residual.ensures.1
+    (breaks_off st (whole_cycle (m + 1)) ([]) ((Prepare, m + 1) ∷ (Resolve, m + 1) ∷ (Capture, m + 1) ∷ (Complete, m + 1) ∷ (Rest, m + 1) ∷ []) Rest (m) a (a) c.enter.new.seat c.args.pass.now c.args.pass.now _ refl
+    (at_rest st a c.requires.rest)
+    (published_none c.args.pass.now)
+    c.in_err-enter.ensures.held_up)
+
+pub returns-in_err-enter-2-clause-broken_off : goal.returns-in_err-enter-2-clause-broken_off
+returns-in_err-enter-2-clause-broken_off g c =
+    let st = g.N.StoreName.name.setting in
+    let a = c.args.seat.now in
+    let m = point_of a in
+    of_refusal (HasBrokenOff st (whole_cycle (m + 1)) a c.enter-2.new.seat c.args.pass.now c.args.pass.now) c.from_residual-in_err-enter-2.result _ c.from_residual-in_err-enter-2.ensures.1
+    (breaks_off st (whole_cycle (m + 1)) ((Prepare, m + 1) ∷ []) ((Resolve, m + 1) ∷ (Capture, m + 1) ∷ (Complete, m + 1) ∷ (Rest, m + 1) ∷ []) Prepare (m + 1) a (c.enter.new.seat) c.enter-2.new.seat c.args.pass.now c.args.pass.now _ refl
+    (to_prepare st a c.enter.new.seat c.requires.rest c.in_ok-enter.ensures.turned)
+    (published_none c.args.pass.now)
+    c.in_err-enter-2.ensures.held_up)
+
+pub returns-in_err-enter-3-clause-broken_off : goal.returns-in_err-enter-3-clause-broken_off
+returns-in_err-enter-3-clause-broken_off g c =
+    let st = g.N.StoreName.name.setting in
+    let a = c.args.seat.now in
+    let m = point_of a in
+    of_refusal (HasBrokenOff st (whole_cycle (m + 1)) a c.enter-3.new.seat c.args.pass.now c.args.pass.now) c.from_residual-in_err-enter-3.result _ c.from_residual-in_err-enter-3.ensures.1
+    (breaks_off st (whole_cycle (m + 1)) ((Prepare, m + 1) ∷ (Resolve, m + 1) ∷ []) ((Capture, m + 1) ∷ (Complete, m + 1) ∷ (Rest, m + 1) ∷ []) Resolve (m + 1) a (c.enter-2.new.seat) c.enter-3.new.seat c.args.pass.now c.args.pass.now _ refl
+    (to_resolve st a c.enter.new.seat c.enter-2.new.seat c.requires.rest c.in_ok-enter.ensures.turned c.in_ok-enter-2.ensures.turned)
+    (published_none c.args.pass.now)
+    c.in_err-enter-3.ensures.held_up)
+
+pub returns-in_err-take_keys-clause-broken_off : goal.returns-in_err-take_keys-clause-broken_off
+returns-in_err-take_keys-clause-broken_off g c =
+    let st = g.N.StoreName.name.setting in
+    let a = c.args.seat.now in
+    let m = point_of a in
+    of_refusal (HasBrokenOff st (whole_cycle (m + 1)) a c.take_keys.new.seat c.args.pass.now c.args.pass.now) c.from_residual-in_err-take_keys.result _ c.from_residual-in_err-take_keys.ensures.1
+    (breaks_off st (whole_cycle (m + 1)) ((Prepare, m + 1) ∷ (Resolve, m + 1) ∷ (Capture, m + 1) ∷ []) ((Complete, m + 1) ∷ (Rest, m + 1) ∷ []) Capture (m + 1) a (c.enter-3.new.seat) c.take_keys.new.seat c.args.pass.now c.args.pass.now _ refl
+    (to_capture st a c.enter.new.seat c.enter-2.new.seat c.enter-3.new.seat c.requires.rest c.in_ok-enter.ensures.turned c.in_ok-enter-2.ensures.turned c.in_ok-enter-3.ensures.turned)
+    (published_none c.args.pass.now)
+    c.in_err-take_keys.ensures.held_up)
+
+pub returns-in_err-complete-clause-broken_off : goal.returns-in_err-complete-clause-broken_off
+returns-in_err-complete-clause-broken_off g c =
+    let st = g.N.StoreName.name.setting in
+    let a = c.args.seat.now in
+    let m = point_of a in
+    of_refusal (HasBrokenOff st (whole_cycle (m + 1)) a c.complete.new.seat c.args.pass.now c.complete.new.pass) c.from_residual-in_err-complete.result _ c.from_residual-in_err-complete.ensures.1
+    (breaks_off st (whole_cycle (m + 1)) ((Prepare, m + 1) ∷ (Resolve, m + 1) ∷ (Capture, m + 1) ∷ []) ((Complete, m + 1) ∷ (Rest, m + 1) ∷ []) Capture (m + 1) a (c.take_keys.new.seat) c.complete.new.seat c.args.pass.now c.complete.new.pass _ refl
+    (reached_stood st ((Prepare, m + 1) ∷ (Resolve, m + 1) ∷ (Capture, m + 1) ∷ []) Capture (m + 1) a c.enter-3.new.seat c.take_keys.new.seat (to_capture st a c.enter.new.seat c.enter-2.new.seat c.enter-3.new.seat c.requires.rest c.in_ok-enter.ensures.turned c.in_ok-enter-2.ensures.turned c.in_ok-enter-3.ensures.turned) c.in_ok-take_keys.ensures.stood)
+    (subst (λ (q : Pass). HasPublished ((Prepare, m + 1) ∷ (Resolve, m + 1) ∷ (Capture, m + 1) ∷ []) c.args.pass.now q) (sym c.in_err-complete.ensures.same) (published_none c.args.pass.now))
+    c.in_err-complete.ensures.held_up)
+
+pub returns-in_err-enter-4-clause-broken_off : goal.returns-in_err-enter-4-clause-broken_off
+returns-in_err-enter-4-clause-broken_off g c =
+    let st = g.N.StoreName.name.setting in
+    let a = c.args.seat.now in
+    let m = point_of a in
+    of_refusal (HasBrokenOff st (whole_cycle (m + 1)) a c.enter-4.new.seat c.args.pass.now c.complete.new.pass) c.from_residual-in_err-enter-4.result _ c.from_residual-in_err-enter-4.ensures.1
+    (breaks_off st (whole_cycle (m + 1)) ((Prepare, m + 1) ∷ (Resolve, m + 1) ∷ (Capture, m + 1) ∷ (Complete, m + 1) ∷ []) ((Rest, m + 1) ∷ []) Complete (m + 1) a (c.complete.new.seat) c.enter-4.new.seat c.args.pass.now c.complete.new.pass _ refl
+    (to_complete st a c.enter-3.new.seat c.take_keys.new.seat c.complete.new.seat (to_capture st a c.enter.new.seat c.enter-2.new.seat c.enter-3.new.seat c.requires.rest c.in_ok-enter.ensures.turned c.in_ok-enter-2.ensures.turned c.in_ok-enter-3.ensures.turned) c.in_ok-take_keys.ensures.stood c.in_ok-complete.ensures.turned)
+    (published_one c.args.pass.now c.complete.new.pass (m + 1) (subst (λ (n : ℕ). MakesCall c.args.pass.now Publish n c.complete.new.pass) (to_complete st a c.enter-3.new.seat c.take_keys.new.seat c.complete.new.seat (to_capture st a c.enter.new.seat c.enter-2.new.seat c.enter-3.new.seat c.requires.rest c.in_ok-enter.ensures.turned c.in_ok-enter-2.ensures.turned c.in_ok-enter-3.ensures.turned) c.in_ok-take_keys.ensures.stood c.in_ok-complete.ensures.turned).at_point c.in_ok-complete.ensures.published))
+    c.in_err-enter-4.ensures.held_up)
+
+pub returns-clause-reached : goal.returns-clause-reached
+returns-clause-reached g c =
+    let st = g.N.StoreName.name.setting in
+    let a = c.args.seat.now in
+    to_rest st a c.complete.new.seat c.enter-4.new.seat
+    (to_complete st a c.enter-3.new.seat c.take_keys.new.seat c.complete.new.seat (to_capture st a c.enter.new.seat c.enter-2.new.seat c.enter-3.new.seat c.requires.rest c.in_ok-enter.ensures.turned c.in_ok-enter-2.ensures.turned c.in_ok-enter-3.ensures.turned) c.in_ok-take_keys.ensures.stood c.in_ok-complete.ensures.turned)
+    c.in_ok-enter-4.ensures.turned
+
+pub returns-clause-published : goal.returns-clause-published
+returns-clause-published g c =
+    let st = g.N.StoreName.name.setting in
+    let a = c.args.seat.now in
+    let m = point_of a in
+    published_one c.args.pass.now c.complete.new.pass (m + 1) (subst (λ (n : ℕ). MakesCall c.args.pass.now Publish n c.complete.new.pass) (to_complete st a c.enter-3.new.seat c.take_keys.new.seat c.complete.new.seat (to_capture st a c.enter.new.seat c.enter-2.new.seat c.enter-3.new.seat c.requires.rest c.in_ok-enter.ensures.turned c.in_ok-enter-2.ensures.turned c.in_ok-enter-3.ensures.turned) c.in_ok-take_keys.ensures.stood c.in_ok-complete.ensures.turned).at_point c.in_ok-complete.ensures.published)

@@ -27,7 +27,7 @@ returns-in-Ok-clause-ticket g c =
         claimed_on c.args.pass.now c.claim.new.pass c.await_file.new.pass (n ∷ []) [] (claimed_one c.args.pass.now c.claim.new.pass n c.in-Some.ensures.some) c.await_file.ensures.calls,
         (omega (arith, c.if-number-from.false, c.from.ensures), file.1),
       ),
-      c.in-Ok.ensures.ticket ∙ ap (λ (k : ℕ). let one : Set number_order = set.insert set.empty k in one) file.0,
+      c.in-Ok.ensures.point ∙ ap (λ (k : ℕ). let one : Set number_order = set.insert set.empty k in one) file.0,
     )
 
 pub returns-in-Err-clause-refused : goal.returns-in-Err-clause-refused
@@ -39,5 +39,6 @@ returns-in-Err-clause-refused g c =
         claimed_on c.args.pass.now c.claim.new.pass c.await_file.new.pass (n ∷ []) [] (claimed_one c.args.pass.now c.claim.new.pass n c.in-Some.ensures.some) c.await_file.ensures.calls,
         (omega (arith, c.if-number-from.false, c.from.ensures), file.1),
       ),
-      subst (λ (k : ℕ). IsNoTicket g.N.StoreName.name.setting k c.in-Err.why) file.0 c.in-Err.ensures.refused,
+      c.take_shown.ensures.legal,
+      subst (λ (k : ℕ). IsNoTicket g.N.StoreName.name.setting c.take_shown.new.witness k c.in-Err.why) file.0 c.in-Err.ensures.refused,
     )
