@@ -145,10 +145,14 @@ has_file files n low high none = by_zero (eqb n 0) refl none
     by_zero true e at = let zero_is : n ≡ 0 = grind (arith, nat_tests) in absurd (omega (arith, low, zero_is))
     by_zero false e at = is_there files (n - 1) (omega (arith, low, high)) at
 
--- where the part of a point was put on the shelf only memory keeps a ticket of it back
-pub only_memory : (st : Setting) (seen : History) (points point : ℕ) (given : Refusal) → IsLegalHistory st seen → points ≤ length (points_done seen) → 1 ≤ point → point ≤ points → IsNoTicket st seen point given → given ≡ why.OutOfMemory
-only_memory st seen points point why.NoFile legal done low high none =
+memory_alone : (st : Setting) (seen : History) (points point : ℕ) (given : Refusal) → IsLegalHistory st seen → points ≤ length (points_done seen) → 1 ≤ point → point ≤ points → IsNoTicket st seen point given → given ≡ why.OutOfMemory
+memory_alone st seen points point why.NoFile legal done low high none =
     let files = files_of_points st seen legal in
     absurd (has_file (shelf st.run seen) point low (omega (arith, files, done, high)) none)
-only_memory st seen points point why.OutOfMemory legal done low high none = refl
-only_memory st seen points point other legal done low high none = absurd none
+memory_alone st seen points point why.OutOfMemory legal done low high none = refl
+memory_alone st seen points point other legal done low high none = absurd none
+
+-- where the part of a point was put on the shelf only memory keeps a ticket of it back
+pub only_memory : (st : Setting) (h seen : History) (points point : ℕ) (given : Refusal) → h ≡ seen → IsLegalHistory st seen → points ≤ length (points_done seen) → 1 ≤ point → point ≤ points → IsNoTicket st h point given → given ≡ why.OutOfMemory
+only_memory st h seen points point given same legal done low high none =
+    memory_alone st seen points point given legal done low high (subst (λ (l : History). IsNoTicket st l point given) same none)

@@ -29,7 +29,7 @@ returns-in-Ok-None-clause-held g c =
 pub returns-in-Err-clause-refused : goal.returns-in-Err-clause-refused
 returns-in-Err-clause-refused g c =
     let e = c.in-Err.ensures.refused in
-    stops_so g.N.StoreName.name.setting c.args.points e.0 c.next_ticket.new.witness c.args.pass.now c.loop.pass c.next_ticket.new.pass c.loop.held.items c.in-Err.why c.loop.invariant.0 e.1 e.2
+    stops_so g.N.StoreName.name.setting c.args.points e.0 c.next_ticket.new.witness c.args.pass.now c.loop.pass c.next_ticket.new.pass c.loop.held.items c.in-Err.why c.loop.invariant.0 e.1 (e.2, e.3)
 
 pub returns-in-Ok-None-clause-had_seen : goal.returns-in-Ok-None-clause-had_seen
 returns-in-Ok-None-clause-had_seen g c = beginning_trans c.args.witness.now c.loop.witness c.next_ticket.new.witness c.loop.invariant.1 c.next_ticket.ensures.had_seen
