@@ -1,10 +1,9 @@
 -- The phases that a checkpointer enters, call after call.
-use Rattle.std.proofs.Common.{◌≡◌, ◌⊎◌, inl, inr, ⊎_elim, ℕ, zero, suc, ◌+◌, ◌≤◌, Bool, true, false, true≢false, List, [], ◌∷◌, ◌++◌, length, refl, ap, sym, ◌∙◌, subst, arith, append_assoc}
-use Rattle.std.specs.Prelude.{Option, Some, None, MatchBool}
+use Rattle.std.proofs.Common.{◌≡◌, ◌⊎◌, inl, inr, ℕ, Bool, true, false, List, [], ◌∷◌, ◌++◌, refl, ap, sym, ◌∙◌, subst, append_assoc}
+use Rattle.std.specs.Prelude.{Some, None, MatchBool}
 use Rattle.std.specs.Prelude.{Result, Ok, Err, IfOk, IfErr}
 use Rattle.std.specs.Result.{IsErrAnd}
 use Rattle.std.proofs.lemmas.List.{append-nil}
-use mathlib.Core.List.{IsPrefix}
 use Rattle.pc_types.specs.declared.Event.{Event}
 use Rattle.pc_types.specs.declared.Event.TheVariants as asked
 use Rattle.pc_types.specs.declared.Phase.{Phase}
@@ -14,19 +13,19 @@ use Rattle.pc_types.specs.declared.Reply.{Reply}
 use Rattle.pc_types.specs.declared.Reply.TheVariants as told
 use Rattle.pc_types.specs.declared.Step.{Step}
 use Rattle.pc_model.specs.History.{History, Effect, effect, effect_of, effect_of_move, effect_of_take, effect_of_done, phase_by, phase_of, point_by, point_of}
-use Rattle.pc_model.specs.History.Effect.{Moves, Takes, Shelves, Nothing}
+use Rattle.pc_model.specs.History.Effect.{Moves, Shelves, Nothing}
 use Rattle.pc_model.specs.Headline.{TakesPointValue}
 use Rattle.pc_model.specs.LegalEffects.{Fits, FitsMove}
 use Rattle.pc_model.specs.Replies.{Setting, IsLegal, IsLegalHistory}
 use Rattle.pc_model.specs.ReplyKinds.{IsMoveReply, IsDoneReply, IsReplyTo}
-use Rattle.pc_model.specs.Calls.{step_of, session_of, counts, IsBeginning, Extends, HasCallsOf, IsAnswered}
+use Rattle.pc_model.specs.Calls.{step_of, session_of, counts, Extends, IsAnswered}
 use Rattle.pc_model.proofs.BeginningLaws.{beginning_self, beginning_trans}
 use Rattle.pc_model.proofs.LegalEffectLaws.{legal_fits}
 use Rattle.pc_model.proofs.ReplyKindLaws.{reply_kind}
 use Rattle.pc_board.specs.Passes.{Pass}
-use Rattle.pc_latch.specs.Cycles.{next_event, IsCalled, IsAdvance, IsTaken, entered_by, phases_entered, done_among}
+use Rattle.pc_latch.specs.Cycles.{next_event, IsCalled, IsAdvance, IsTaken, entered_by, phases_entered}
 use Rattle.pc_latch.proofs.CycleLaws.{phase_known, point_known, entered_known, right_before}
-use Rattle.pc_workers.specs.Checkpointing.{next_phase, next_point, whole_cycle, whole_cycles, HasReached, HasStood, HasTurned, HasCycled, IsRefusal, IsHeldUp, HasPublished, HasBrokenOff, point_named}
+use Rattle.pc_workers.specs.Checkpointing.{next_phase, next_point, HasReached, HasStood, HasTurned, IsHeldUp, HasPublished, HasBrokenOff, point_named}
 
 own_event : (phase : Phase) → session_of (next_event phase) ≡ 0
 own_event Rest = refl

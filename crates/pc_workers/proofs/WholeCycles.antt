@@ -1,13 +1,12 @@
 -- Whole cycles, one after the other, and the points whose parts were put on the shelf.
 use Rattle.std.proofs.Common.{◌≡◌, ℕ, zero, suc, ◌+◌, ◌-◌, ◌<◌, ◌≤◌, eqb, Bool, true, false, cond, List, [], ◌∷◌, ◌++◌, length, length-append, refl, ap, sym, ◌∙◌, subst, arith, append_assoc}
-use Rattle.std.specs.Prelude.{Option, Some, None, slice_get}
+use Rattle.std.specs.Prelude.{Some, None, slice_get}
 use Rattle.std.proofs.lemmas.Bool.Decides.{nat_tests}
 use Rattle.std.proofs.lemmas.List.{append-nil}
 use Rattle.pc_types.specs.declared.Phase.{Phase}
 use Rattle.pc_types.specs.declared.Phase.TheVariants.{Rest, Prepare, Resolve, Capture, Complete}
 use Rattle.pc_types.specs.declared.Refusal.{Refusal}
 use Rattle.pc_types.specs.declared.Refusal.TheVariants as why
-use Rattle.pc_types.specs.declared.Step.{Step}
 use Rattle.pc_model.specs.History.{History, Effect, effect, phase_of, point_of}
 use Rattle.pc_model.specs.History.Effect.{Moves, Shelves}
 use Rattle.pc_model.specs.Files.{File, shelf, shelved_by, file_at}
@@ -15,12 +14,11 @@ use Rattle.pc_model.specs.LegalEffects.{Fits}
 use Rattle.pc_model.specs.Replies.{Setting, IsLegalHistory}
 use Rattle.pc_model.proofs.LegalEffectLaws.{legal_fits}
 use Rattle.pc_board.specs.Passes.{Pass}
-use Rattle.pc_latch.specs.Cycles.{entered_by, phases_entered, done_in, done_among, points_done}
-use Rattle.pc_latch.specs.Tickets.{HasNoFile, IsNoTicket}
-use Rattle.pc_workers.specs.Boards.{MakesCalls, publications}
-use Rattle.pc_workers.specs.Checkpointing.{next_phase, next_point, whole_cycle, whole_cycles, HasReached, HasStood, HasTurned, HasCycled, IsHeldUp, HasPublished, HasBrokenOff}
-use Rattle.pc_workers.proofs.BoardCalls.{published_none, published_on, done_append}
-use Rattle.pc_workers.proofs.Cycling.{reached_on, reached_stood, reached_turned, stood_still, breaks_off}
+use Rattle.pc_latch.specs.Cycles.{entered_by, phases_entered, done_among, points_done}
+use Rattle.pc_latch.specs.Tickets.{IsNoTicket}
+use Rattle.pc_workers.specs.Checkpointing.{whole_cycle, whole_cycles, HasReached, HasStood, HasTurned, HasCycled, HasPublished, HasBrokenOff}
+use Rattle.pc_workers.proofs.BoardCalls.{published_on, done_append}
+use Rattle.pc_workers.proofs.Cycling.{reached_on, reached_stood, reached_turned, stood_still}
 
 module _ (st : Setting) where
   -- at rest no phase of a cycle was entered

@@ -1,5 +1,5 @@
 -- What a checkpointer has seen and published since, and why it stops.
-use Rattle.std.specs.Prelude.{◌≡◌, ◌⊎◌, ℕ, zero, suc, ◌+◌, Bool, true, false, List, [], ◌∷◌, ◌++◌, Option, Some, None}
+use Rattle.std.specs.Prelude.{◌≡◌, ◌⊎◌, ℕ, zero, suc, ◌+◌, List, [], ◌∷◌, ◌++◌, Option, Some, None}
 use mathlib.Core.List.{IsPrefix}
 use Rattle.pc_types.specs.declared.Event.TheVariants.{Take}
 use Rattle.pc_types.specs.declared.Phase.{Phase}

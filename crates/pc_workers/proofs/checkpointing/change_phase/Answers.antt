@@ -1,4 +1,4 @@
-use Rattle.std.proofs.Common.{◌≡◌, ℕ, sym, ◌∙◌}
+use Rattle.std.proofs.Common.{sym, ◌∙◌}
 use Rattle.pc_workers.proofs.Cycling.{stood_still, stood_on, stood_turned, held_on, turned, waited, advance_refused}
 use Rattle.pc_workers.proofs.checkpointing.change_phase.Goals as goal
 

@@ -1,7 +1,6 @@
-use Rattle.std.proofs.Common.{◌≡◌, ◌+◌, ℕ, List, [], ◌∷◌, refl, sym, ap, subst, ◌∙◌}
-use Rattle.pc_types.specs.declared.Phase.{Phase}
+use Rattle.std.proofs.Common.{◌+◌, ℕ, [], ◌∷◌, refl, sym, subst}
 use Rattle.pc_types.specs.declared.Phase.TheVariants.{Rest, Prepare, Resolve, Capture, Complete}
-use Rattle.pc_model.specs.History.{History, point_of}
+use Rattle.pc_model.specs.History.{point_of}
 use Rattle.pc_board.specs.declared.calls.Kind.TheVariants.{Publish}
 use Rattle.pc_board.specs.Passes.{Pass, MakesCall}
 use Rattle.pc_workers.specs.Checkpointing.{whole_cycle, HasPublished, HasBrokenOff}

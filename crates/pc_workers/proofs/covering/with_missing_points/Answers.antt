@@ -1,9 +1,5 @@
-use Rattle.std.proofs.Common.{◌≡◌, rules, ℕ, ◌+◌, ◌≤◌, length, sym, ap, subst, ◌∙◌, arith}
+use Rattle.std.proofs.Common.{◌≡◌, rules, ◌+◌, sym, ap, ◌∙◌, arith}
 use Rattle.pc_types.specs.declared.Refusal.TheVariants.{OutOfMemory}
-use Rattle.pc_model.specs.History.{History}
-use Rattle.pc_model.specs.Replies.{Setting, IsLegalHistory}
-use Rattle.pc_latch.specs.Cycles.{points_done}
-use Rattle.pc_latch.specs.Tickets.{IsNoTicket}
 use Rattle.pc_workers.specs.Collapsing.{has_point}
 use Rattle.pc_workers.proofs.CoverLaws.{one_taken, none_taken}
 use Rattle.pc_workers.proofs.Cycling.{of_refusal}
