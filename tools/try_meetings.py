@@ -1,15 +1,18 @@
 #!/usr/bin/env python3
-"""Tries bodies that no proof refuses, since nothing is promised of waiting: those in tools/meetings/*.edit, on which the threads of
-crates/pc_meetings must miss one another in the meeting that the edit names.
+"""Tries bodies that no proof refuses, since nothing is promised of waiting: those in tools/meetings/*.edit, on which threads must miss
+one another: those of crates/pc_meetings in the meeting that the edit names, or those of a test, which fails then.
 
-    try_meetings.py          tries each on a copy of the repository, by `rt try` of the program: some minutes each
+    try_meetings.py          tries each on a copy of the repository, by `rt try` of the program or of the tests: some minutes each
+    try_meetings.py NAME..   these alone
 
 An edit is written as those of crates/*/must-fail are, with its files named from the folder crates/ on, and with a line
-`meeting: NAME`. The status is 1 where one of them changes nothing, ends without that meeting's line, or lets the threads meet.
+`meeting: NAME`, or `test: CRATE NAME`. The status is 1 where one of them changes nothing, ends without that line, or lets the threads
+meet, and where they don't meet without it.
 """
 
 import glob
 import os
+import re
 import shutil
 import subprocess
 import sys
@@ -43,34 +46,47 @@ def applied(lines, crates):
                 it.write(text)
 
 
-def told(lines):
-    """The lines that the program prints on a copy with the edit, by meeting; and the end of all that it prints."""
+def tried(lines, crate, *words):
+    """What `rt try` prints in the folder of a crate, on a copy with the edit."""
     with tempfile.TemporaryDirectory(prefix="meetings-") as room:
         copy = os.path.join(room, "copy")
         shutil.copytree(ROOT, copy, ignore=shutil.ignore_patterns(".git", "out"))
         applied(lines, os.path.join(copy, "crates"))
-        ran = subprocess.run(["rt", "try"], cwd=os.path.join(copy, "crates", PROGRAM), capture_output=True, text=True)
-    printed = [line.removeprefix("| ").partition(": ") for line in ran.stdout.splitlines()]
-    return {name: rest for name, _, rest in printed}, (ran.stdout + ran.stderr)[-600:]
+        ran = subprocess.run(["rt", "try", *words], cwd=os.path.join(copy, "crates", crate), capture_output=True, text=True)
+    return ran.stdout + ran.stderr
 
 
-def main():
-    edits = {path: lines_of(path) for path in sorted(glob.glob(os.path.join(ROOT, "tools", "meetings", "*.edit")))}
-    meetings = {path: dict(lines)["meeting"] for path, lines in edits.items()}
+def is_met(lines, told):
+    """Whether the threads met in the edit's meeting, or its test passed; None where the output doesn't say it."""
+    said = dict(lines)
+    if "meeting" in said:
+        words = re.search(rf"(?m)^(?:\| )?{re.escape(said['meeting'])}: met (true|false),", told)
+        return words and words[1] == "true"
+    words = re.search(rf"(?m)^(?:\| )?test {re.escape(said['test'].split()[1])} \.\.\. (ok|FAILED)", told)
+    return words and words[1] == "ok"
+
+
+def call_of(lines):
+    """The crate that is tried, and the words for it."""
+    said = dict(lines)
+    return (PROGRAM,) if "meeting" in said else (said["test"].split()[0], "--test")
+
+
+def main(names):
+    edits = {os.path.basename(path).removesuffix(".edit"): lines_of(path) for path in sorted(glob.glob(os.path.join(ROOT, "tools", "meetings", "*.edit")))}
+    lacking = [name for name in names if name not in edits]
+    if lacking:
+        sys.exit(f"no such edit: {' '.join(lacking)}")
+    edits = {name: edits[name] for name in names or edits}
     failed = False
-    found, end = told([])
-    for name in sorted(set(meetings.values())):
-        line = found.get(name, f"no line: {end}")
-        failed |= not line.startswith("met true")
-        print(f"{name}, as it stands: {'they meet' if line.startswith('met true') else line}", flush=True)
-    for path, lines in edits.items():
-        found, end = told(lines)
-        line = found.get(meetings[path], f"no line: {end}")
-        failed |= not line.startswith("met false")
-        name = os.path.basename(path).removesuffix(".edit")
-        print(f"{name}: {'they miss one another' if line.startswith('met false') else line}", flush=True)
+    as_it_stands = {call: tried([], *call) for call in sorted({call_of(lines) for lines in edits.values()})}
+    for name, lines in edits.items():
+        for what, told, wanted in (("as it stands", as_it_stands[call_of(lines)], True), ("with the edit", tried(lines, *call_of(lines)), False)):
+            met = is_met(lines, told)
+            failed |= met is not wanted
+            print(f"{name}, {what}: {told[-600:] if met is None else 'they meet' if met else 'they miss one another'}", flush=True)
     return int(failed)
 
 
 if __name__ == "__main__":
-    sys.exit(main())
+    sys.exit(main(sys.argv[1:]))
