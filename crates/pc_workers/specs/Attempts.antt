@@ -104,7 +104,8 @@ abbrev pub AreDeaths : Setting → ℕ → List Op → ℕ → History → Histo
 AreDeaths st s ops zero early late = late ≡ early
 AreDeaths st s ops (suc deaths) early late = (between : History) × AreDeaths st s ops deaths early between × IsAttempt st s ops Died between late
 
--- how the last attempt at a job ended, which is marked or not, after so many deaths: a job that isn't marked was refused, or has died as often as it may
+-- how the last attempt at a job ended, after so many that died: one that is marked was committed, and another one was refused, or has
+-- died as often as it may
 abbrev pub IsLast : Bool → ℕ → Ended → Type 0
 IsLast true deaths ended = ended ≡ Committed
 IsLast false deaths ended = (ended ≡ Refused) ⊎ ((ended ≡ Died) × (deaths ≡ MOST_REPEATS))

@@ -10,7 +10,7 @@ returns-in_default g c =
       receipts = then_committed [] (done_by c.attempt.result (wrote_all [] c.args.ops.now)) c.args.session.now c.loop.session c.attempt.new.session c.loop.invariant.committed c.attempt.ensures.receipts;
       repeated = λ idle.
           ended_at g.N.StoreName.name.setting c.args.session.now.number c.args.ops.now c.args.session.now.seen c.loop.session.seen c.attempt.new.session.seen c.loop.session.number c.loop.invariant.committed.number
-          c.attempt.result c.attempt.ensures.attempt c.in_default.not-Died c.loop.counter c.loop-test.true (c.loop.invariant.died idle) idle;
+          c.attempt.result c.attempt.ensures.attempt c.in_default.not-Died c.loop.counter (omega (arith, c.loop-test.true)) (c.loop.invariant.died idle) idle;
     }
 
 pub loop-preserved : goal.loop-preserved
