@@ -1,5 +1,7 @@
 -- What a closed store leaves, as what is asked of files that a legal history left.
-use Rattle.std.proofs.Common.{◌≡◌, ℕ, List, All, sym, subst}
+use Rattle.std.proofs.Common.{◌≡◌, ℕ, Bool, true, false, List, [], ◌∷◌, ◌++◌, All, drop, length, refl, sym, subst}
+use Rattle.std.specs.Prelude.{MatchBool}
+use Rattle.std.proofs.lemmas.List.Elements.{All-nil, All-cons, All-head, All-tail}
 use Rattle.pc_types.specs.declared.Entry.{Entry}
 use Rattle.pc_model.specs.Files.{BaseFile, File}
 use Rattle.pc_model.specs.History.{History}
@@ -8,7 +10,22 @@ use Rattle.pc_model.specs.Standing.{IsOfItsPoints}
 use Rattle.pc_shared.specs.Sitters.{Sitter, IsLeft}
 use Rattle.pc_outcomes.specs.Leaving.{AreLeftAfter}
 
-pub left_after : (st : Setting) (base : BaseFile) (log : List Entry) (logged : ℕ) (sessions : List Sitter) (tickets files : List File) (given : List Entry) → files ≡ tickets
-    → (h : History) × IsLeft st base log logged sessions tickets given h → (history : History) × AreLeftAfter st history base log files
-left_after st base log logged sessions tickets files given same (h, left) =
+pub left_after : (st : Setting) (base : BaseFile) (log : List Entry) (logged : ℕ) (sessions : List Sitter) (seat : History) (tickets files : List File) (given : List Entry) → files ≡ tickets
+    → (h : History) × IsLeft st base log logged sessions seat tickets given h → (history : History) × AreLeftAfter st history base log files
+left_after st base log logged sessions seat tickets files given same (h, left) =
     (h, record { legal = left.legal; start = left.base; log_is = left.log_is; worth = subst (All (IsOfItsPoints st.run st.base log)) (sym same) left.worth })
+
+-- what a test that came out well says
+pub it_is : (A B : Type 0) (b : Bool) → b ≡ true → MatchBool b A B → A
+it_is A B true is m = m
+it_is A B false is m = absurd (cc (is))
+
+-- of some things and others, what holds of all holds of the first ones
+pub first_ones : {X : Type 0} (P : X → Type 0) (xs ys : List X) → All P (xs ++ ys) → All P xs
+first_ones P [] ys has = All-nil P
+first_ones P (x ∷ xs) ys has = All-cons P x xs (All-head P x (xs ++ ys) has) (first_ones P xs ys (All-tail P x (xs ++ ys) has))
+
+-- and behind the first ones stand the others
+pub behind_first : {X : Type 0} (xs ys : List X) → drop (length xs) (xs ++ ys) ≡ ys
+behind_first [] ys = refl
+behind_first (x ∷ xs) ys = behind_first xs ys

@@ -1,4 +1,7 @@
 mod BeginLaws
 mod HistoryLaws
 pub mod NewPasses
-mod SingleLaws
+mod CommitLaws
+mod DealingLaws
+mod WorkLaws
+mod FolderLaws

@@ -1,6 +1,6 @@
 -- A run of a workload: what its store starts from, what its text is read as, what is printed, why it may fail, and what is told of
 -- that.
-use Rattle.std.specs.Prelude.{◌≡◌, ◌⊎◌, ◌++◌, ℕ, List, Option, Result, Err, [], IsOk, IfOk, IfSome, MatchOption, MatchResult, codes}
+use Rattle.std.specs.Prelude.{◌≡◌, ◌⊎◌, ◌++◌, ℕ, Bool, List, Option, Result, Err, [], is_some, IsOk, IfOk, IfSome, MatchOption, MatchResult, codes}
 use Rattle.std.specs.Io.KnownBytes.{Appends}
 use Rattle.pc_types.specs.Counted.{HasRisen, AppendsBeginning}
 use Rattle.pc_types.specs.Tallies.{Puts, inner_of, failures_of}
@@ -30,9 +30,11 @@ use Rattle.pc_outcomes.specs.declared.outcome.Printed.{Printed}
 use Rattle.pc_outcomes.specs.declared.outcome.Printed.TheVariants as printed
 use Rattle.pc_outcomes.specs.Leaving.{commits_in, IsLegacy}
 use Rattle.pc_outcomes.specs.Outcomes.{printed_text, status_of}
-use Rattle.pc_outcomes.specs.declared.outcome.Left.{Left}
 use Rattle.pc_workers.specs.Covering.{HaveJustTo}
+use Rattle.pc_runs.specs.Folders.{LeavesFiles, base_of}
+use Rattle.pc_runs.specs.Worked.{HaveRunBy}
 use Rattle.pc_texts.specs.FileNames.{name_of}
+use Rattle.pc_texts.specs.declared.file_names.FileName.{FileName}
 
 -- the store of a run over this base: 64 sessions, and room for so many keys
 abbrev pub run_setting : BaseFile → ℕ → Setting
@@ -61,17 +63,19 @@ Begins remaining contents origin old new NotBegun = new ≡ old
 Begins remaining contents origin old new (Unstarted why) = IsUnstarted remaining origin.start why × (new ≡ old)
 Begins remaining contents origin old new (Begun st) = (base : BaseFile) × IsStart remaining contents origin.start old new base × (st ≡ run_setting base origin.capacity)
 
--- By one legal history of the store: so many transactions were committed, and of these files, which its log gives their points,
--- this is left.
-pub record IsOfHistory (st : Setting) (commits : ℕ) (files : List File) (left : Left) : Type 0 where
+-- The workload was run over a store of this setting, told by one legal history of it: its clients have run, so many transactions
+-- were committed and so many given up; of some files, which have just the points from 1 to the last one that was asked for and are
+-- those that the log gives their points, this is left; and where there is a folder, it has the files of the run.
+pub record IsRun {D : Type 0} (holds : D → FileName → List ℕ → Type 0) (st : Setting) (workload : Workload) (there : Bool) (left : Option D) (outcome : Outcome) : Type 0 where
   pub history : History
   pub legal : IsLegalHistory st history
-  pub commits_are : commits ≡ commits_in (log_of history)
-  pub legacy : IsLegacy (record { run = st.run; point = 0; pairs = st.base }) (log_of history) files left
-
--- the same of some files that have just the points from 1 to the last one that was asked for
-abbrev pub IsRun : Setting → Outcome → Type 0
-IsRun st outcome = (files : List File) × HaveJustTo outcome.points files × IsOfHistory st outcome.commits files outcome.left
+  pub clients_ran : HaveRunBy st.sessions (log_of history) workload.clients outcome.given_up
+  pub commits_are : outcome.commits ≡ commits_in (log_of history)
+  pub points_are : outcome.points ≡ workload.points
+  pub files : List File
+  pub cover : HaveJustTo outcome.points files
+  pub legacy : IsLegacy (base_of st) (log_of history) files outcome.left
+  pub folder_has : LeavesFiles holds (base_of st) (log_of history) outcome.points there left
 
 -- what a file holds is worth this; said where its bytes are known
 abbrev pub IsReadAs : {R : Type 0} → (R → Option (List ℕ)) → Result R Refusal → Reading → Type 0
@@ -94,17 +98,18 @@ CanRun remaining opened = IsOk opened × ((workload : Workload) × IsReadAs rema
 abbrev pub HasBegun : {R D : Type 0} → (R → Option (List ℕ)) → Result R Refusal → Option (RunFolder D) → (Beginning → Type 0) → Type 0
 HasBegun remaining opened folder begins = CanRun remaining opened × IsUsable folder × ((st : Setting) × begins (Begun st))
 
--- It is printed of the workload that the file holds: of a bad line, before anything is begun; else the workload was run, of a
--- setting with which it has begun, and only where the folder is usable.
-abbrev pub IsAnswer : {R D : Type 0} → (R → Option (List ℕ)) → Result R Refusal → Option (RunFolder D) → (Beginning → Type 0) → Printed → Type 0
-IsAnswer remaining opened folder begins (printed.BadLine line) = IsReadAs remaining opened (reading.BadLine line) × begins NotBegun
-IsAnswer remaining opened folder begins (printed.Whole outcome) = IsUsable folder
-    × ((workload : Workload) × IsReadAs remaining opened (reading.Runs workload) × (outcome.points ≡ workload.points))
-    × ((st : Setting) × begins (Begun st) × IsRun st outcome)
+-- It is printed of the workload that the file holds, and this is left of the folder: of a bad line, before anything is begun; else
+-- the workload was run, of a setting with which it has begun, and only where the folder is usable.
+abbrev pub IsAnswer : {R D : Type 0} → (R → Option (List ℕ)) → (D → FileName → List ℕ → Type 0) → Result R Refusal → Option (RunFolder D) → (Beginning → Type 0) → Option D → Printed → Type 0
+IsAnswer remaining holds opened folder begins left (printed.BadLine line) = IsReadAs remaining opened (reading.BadLine line) × begins NotBegun
+IsAnswer remaining holds opened folder begins left (printed.Whole outcome) = IsUsable folder
+    × ((workload : Workload) × IsReadAs remaining opened (reading.Runs workload)
+    × ((st : Setting) × begins (Begun st) × IsRun holds st workload (is_some folder) left outcome))
 
--- what is printed of the workload that the file holds went out, all of it, and this is its status
-abbrev pub GoesOut : {R D T : Type 0} → (R → Option (List ℕ)) → (T → Option (List ℕ)) → Result R Refusal → Option (RunFolder D) → (Beginning → Type 0) → Tally T → Tally T → ℕ → Type 0
-GoesOut remaining contents opened folder begins old new status = (some : Printed) × IsAnswer remaining opened folder begins some × (status ≡ status_of some)
+-- what is printed of the workload that the file holds went out, all of it, and this is its status, and what is left of the folder
+abbrev pub GoesOut : {R D T : Type 0} → (R → Option (List ℕ)) → (D → FileName → List ℕ → Type 0) → (T → Option (List ℕ)) → Result R Refusal → Option (RunFolder D) → (Beginning → Type 0) → Tally T → Tally T
+    → Option D → ℕ → Type 0
+GoesOut remaining holds contents opened folder begins old new left status = (some : Printed) × IsAnswer remaining holds opened folder begins left some × (status ≡ status_of some)
     × Appends (contents (inner_of old)) (contents (inner_of new)) (printed_text some) × (failures_of new ≡ failures_of old)
 
 -- Why nothing is printed: where the file wasn't opened, the reason for that; where its workload can be run, and the folder can't
@@ -119,10 +124,11 @@ IsUnanswered remaining opened folder begins failure.Output = ⊥
 
 -- Why not all was printed: the output failed, which was counted, and a beginning of what is printed went out; or there is nothing
 -- to print.
-abbrev pub IsCause : {R D T : Type 0} → (R → Option (List ℕ)) → (T → Option (List ℕ)) → Result R Refusal → Option (RunFolder D) → (Beginning → Type 0) → Tally T → Tally T → Failure → Type 0
-IsCause remaining contents opened folder begins old new failure.Output = HasRisen (failures_of old) (failures_of new)
-    × ((some : Printed) × IsAnswer remaining opened folder begins some × AppendsBeginning (contents (inner_of old)) (contents (inner_of new)) (printed_text some))
-IsCause remaining contents opened folder begins old new other = (new ≡ old) × IsUnanswered remaining opened folder begins other
+abbrev pub IsCause : {R D T : Type 0} → (R → Option (List ℕ)) → (D → FileName → List ℕ → Type 0) → (T → Option (List ℕ)) → Result R Refusal → Option (RunFolder D) → (Beginning → Type 0) → Tally T → Tally T
+    → Failure → Type 0
+IsCause {R} {D} remaining holds contents opened folder begins old new failure.Output = HasRisen (failures_of old) (failures_of new)
+    × ((left : Option D) × (some : Printed) × IsAnswer remaining holds opened folder begins left some × AppendsBeginning (contents (inner_of old)) (contents (inner_of new)) (printed_text some))
+IsCause remaining holds contents opened folder begins old new other = (new ≡ old) × IsUnanswered remaining opened folder begins other
 
 -- the line that tells of a reason by a name
 abbrev pub reason_text : List ℕ → List ℕ → List ℕ

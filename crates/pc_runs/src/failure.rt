@@ -1,5 +1,5 @@
 //! What is told of a run that failed, and of an output that did.
-ghost use Rattle.std.specs.Prelude.{◌≡◌, IfErr, OnOk};
+ghost use Rattle.std.specs.Prelude.{◌≡◌, IfErr, IfOk, OnOk, is_some};
 ghost use Rattle.std.specs.Io.KnownBytes.{Appends};
 ghost use Rattle.pc_types.specs.Counted.{HasRisen, AppendsBeginning};
 ghost use Rattle.pc_types.specs.Tallies.{Puts, inner_of, failures_of};
@@ -50,6 +50,7 @@ impl From<Refusal> for Failure {
 /// What makes the files of the folder, where there is one.
 pub fn usable<D: Drop>(folder: Option<RunFolder<D>>) -> Result<Option<D>, Failure>
     ensures usable { OnOk result (IsUsable folder) }
+    ensures there { IfOk result (λ files. is_some files ≡ is_some folder) }
     ensures unusable { IfErr result (IsUnusable folder) }
 {
     let Some(RunFolder { name, files }) = folder else {

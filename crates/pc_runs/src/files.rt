@@ -1,6 +1,9 @@
 //! The files that a run leaves in a folder.
-ghost use Rattle.pc_types.specs.Tallies.{Puts};
+ghost use Rattle.std.specs.Prelude.{◌≡◌, IfOk, OnOk};
+ghost use Rattle.pc_types.specs.Tallies.{Puts, inner_of};
+ghost use Rattle.pc_part.specs.Texts.{base_text};
 ghost use Rattle.pc_script.specs.Runs.{report_text};
+ghost use Rattle.pc_texts.specs.declared.file_names.FileName.TheVariants as file;
 ghost use Rattle.pc_texts.specs.FileNames.{name_of};
 
 use pc_part::Base;
@@ -43,9 +46,12 @@ pub fn report_unmade<E: Write>(
 
 /// Writes the file of the base, and makes that of the log, to which nothing is written yet.
 pub fn begin_files<F: Write + Drop, D: NewFiles<F>>(
-    folder: &D,
+    folder: &mut D,
     base: &Base,
-) -> Result<Tally<F>, Fault> {
+) -> Result<Tally<F>, Fault>
+    ensures base { OnOk result (D.holds folder.new file.Base (base_text base.now)) }
+    ensures log { IfOk result (λ log. F.contents (inner_of log) ≡ D.blank) }
+{
     let mut file = make_file(folder, FileName::Base)?;
     base.encode(&mut file)?;
     finish_file(folder, FileName::Base, file)?;

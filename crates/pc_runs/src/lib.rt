@@ -14,4 +14,4 @@ pub use crew::{Crew, MOST_WORKERS};
 pub use files::{RunFolder, Unusable};
 pub use origin::{NamedFolder, Origin, Start};
 pub use pc_threads::NewFiles;
-pub use run::run_workload;
+pub use run::{Finished, run_workload};

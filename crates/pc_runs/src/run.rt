@@ -1,6 +1,7 @@
 //! A run of a workload, from its reader to the status.
-ghost use Rattle.std.specs.Prelude.{◌≡◌, ◌⊎◌, ◌≤◌, IsOk, IfOk, IfErr, OnOk};
+ghost use Rattle.std.specs.Prelude.{◌≡◌, ◌⊎◌, ◌≤◌, is_some, IsOk, IfOk, IfErr, OnOk};
 ghost use Rattle.pc_types.specs.declared.limits.TheConstants.{MOST_KEYS};
+ghost use Rattle.pc_runs.specs.Folders.{HasBegunFiles};
 ghost use Rattle.pc_runs.specs.Runs.{Begins, GoesOut, IsAnswer, IsCause, IsFailed, IsRun, IsUnanswered, run_setting};
 
 use crate::crew::Crew;
@@ -26,10 +27,13 @@ use std::thread::Threads;
 // How many sessions the store of a run has.
 const SESSIONS: u8 = 64;
 
-// The status of a run that didn't fail.
-const DONE: u8 = 0;
-
-const BAD_LINE: u8 = 3;
+/// How a run has ended.
+#[derive(Drop)]
+pub struct Finished<D> {
+    pub status: u8,
+    /// What makes the files of the folder, where there is one and the workload was run.
+    pub folder: Option<D>,
+}
 
 /// Reads a workload, runs its clients on threads beside a checkpointer and collapsers, over a store without pairs or with those that
 /// a folder's files are worth, and prints what they leave: how many transactions were committed and given up, how many points were taken, the file of all points, and whether the files are
@@ -43,7 +47,8 @@ const BAD_LINE: u8 = 3;
 ///   from: then nothing is run, and no file is made. Of an output that fails nothing is told.
 ///
 /// What is damaged or lacks of the files that the store starts from is told on the error writer before the run begins. Where there
-/// is a folder for files, the base, the log and the file of each point are written to it; the log as it grows.
+/// is a folder for files, the base, the log and the file of each point are written to it, the log as it grows, and the folder is handed
+/// back where all of that was done.
 ///
 /// The seed is that of the hashes of the store's keys: two words given by chance (`RandomState::new`), so that no workload can
 /// pick keys that all share a chain.
@@ -66,19 +71,22 @@ pub fn run_workload<
     folder: Option<RunFolder<D>>,
     out: &mut Tally<W>,
     errors: &mut Tally<E>,
-) -> u8
-    ensures status { (result ≡ 0) ⊎ (result ≡ 1) ⊎ (result ≡ 3) }
-    ensures opened { ¬ (result ≡ 1) → IsOk workload.opened }
-    ensures printed { ¬ (result ≡ 1) → GoesOut R.remaining W.contents workload.opened folder (Begins S.remaining E.contents origin errors.old errors.new) out.old out.new result }
-    ensures cause { result ≡ 1 → IsFailed E.contents workload.name.items errors.new
-        (λ between. IsCause R.remaining W.contents workload.opened folder (Begins S.remaining E.contents origin errors.old between) out.old out.new) }
+) -> Finished<D>
+    ensures status { (result.status ≡ 0) ⊎ (result.status ≡ 1) ⊎ (result.status ≡ 3) }
+    ensures opened { ¬ (result.status ≡ 1) → IsOk workload.opened }
+    ensures printed { ¬ (result.status ≡ 1) → GoesOut R.remaining D.holds W.contents workload.opened folder (Begins S.remaining E.contents origin errors.old errors.new) out.old out.new result.folder result.status }
+    ensures cause { result.status ≡ 1 → IsFailed E.contents workload.name.items errors.new
+        (λ between. IsCause R.remaining D.holds W.contents workload.opened folder (Begins S.remaining E.contents origin errors.old between) out.old out.new) }
 {
     let NamedFile { name, opened } = workload;
     match run_opened(rt, alloc, seed, opened, origin, crew, folder, out, errors) {
-        Ok(status) => status,
+        Ok(finished) => finished,
         Err(failure) => {
             failure.report(&name, errors);
-            1
+            Finished {
+                status: 1,
+                folder: None,
+            }
         }
     }
 }
@@ -103,17 +111,18 @@ fn run_opened<
     folder: Option<RunFolder<D>>,
     out: &mut Tally<W>,
     errors: &mut Tally<E>,
-) -> Result<u8, Failure>
+) -> Result<Finished<D>, Failure>
     ensures opened { OnOk result (IsOk opened) }
-    ensures printed { IfOk result (λ status. GoesOut R.remaining W.contents opened folder (Begins S.remaining E.contents origin errors.old errors.new) out.old out.new status) }
-    ensures cause { IfErr result (IsCause R.remaining W.contents opened folder (Begins S.remaining E.contents origin errors.old errors.new) out.old out.new) }
+    ensures printed { IfOk result (λ finished. GoesOut R.remaining D.holds W.contents opened folder (Begins S.remaining E.contents origin errors.old errors.new) out.old out.new finished.folder finished.status) }
+    ensures cause { IfErr result (IsCause R.remaining D.holds W.contents opened folder (Begins S.remaining E.contents origin errors.old errors.new) out.old out.new) }
 {
-    let printed = answer(rt, alloc, seed, opened, origin, crew, folder, errors)?;
+    let (printed, folder) = answer(rt, alloc, seed, opened, origin, crew, folder, errors)?;
     print(&printed, out)?;
-    Ok(printed.status())
+    let status = printed.status();
+    Ok(Finished { status, folder })
 }
 
-// What is to be printed of the workload: the first bad line, or what its run left.
+// What is to be printed of the workload: the first bad line, or what its run left; and what is left of the folder.
 fn answer<
     R: Read + Drop,
     S: Read + Drop,
@@ -131,20 +140,22 @@ fn answer<
     crew: &Crew<'_, G>,
     folder: Option<RunFolder<D>>,
     errors: &mut Tally<E>,
-) -> Result<Printed, Failure>
+) -> Result<(Printed, Option<D>), Failure>
     ensures opened { OnOk result (IsOk opened) }
-    ensures answer { IfOk result (IsAnswer R.remaining opened folder (Begins S.remaining E.contents origin errors.old errors.new)) }
+    ensures answer { IfOk result (λ r. IsAnswer R.remaining D.holds opened folder (Begins S.remaining E.contents origin errors.old errors.new) r.1 r.0) }
     ensures cause { IfErr result (IsUnanswered R.remaining opened folder (Begins S.remaining E.contents origin errors.old errors.new)) }
 {
     let text = read_opened(alloc, opened)?;
     match read_workload(alloc, &text)? {
-        Reading::BadLine(line) => Ok(Printed::BadLine(line)),
+        Reading::BadLine(line) => Ok((Printed::BadLine(line), None)),
         Reading::Runs(workload) => {
             let folder = usable(folder)?;
             let Origin { start, capacity } = origin;
             let base = base_of(alloc, start, errors)?;
-            let outcome = run_read(rt, alloc, seed, workload, base, capacity, crew, folder)?;
-            Ok(Printed::Whole(outcome))
+            let (outcome, folder) = run_read(
+                rt, alloc, seed, workload, base, capacity, crew, folder,
+            )?;
+            Ok((Printed::Whole(outcome), folder))
         }
     }
 }
@@ -165,19 +176,32 @@ fn run_read<
     capacity: u32,
     crew: &Crew<'_, G>,
     folder: Option<D>,
-) -> Result<Outcome, Fault>
+) -> Result<(Outcome, Option<D>), Fault>
     requires start { base.point ≡ 0 }
     requires capacity { (1 ≤ capacity) × (capacity ≤ MOST_KEYS) }
-    ensures points { IfOk result (λ outcome. outcome.points ≡ workload.points) }
-    ensures run { IfOk result (IsRun (run_setting base capacity)) }
+    ensures run { IfOk result (λ r. IsRun D.holds (run_setting base capacity) workload (is_some folder) r.1 r.0) }
 {
     if base.pairs().len() > capacity as usize {
         return Err(Fault::Refused(Refusal::Full));
     }
-    let log = match &folder {
-        Some(folder) => Some(begin_files(folder, &base)?),
-        None => None,
-    };
+    let (folder, log) = begin(folder, &base)?;
     let opened = Opened::new(alloc, base, SESSIONS, capacity, seed)?;
-    run_store::<Brand, F, D, G, H>(rt, alloc, opened, workload, crew, &folder, log)
+    run_store::<Brand, F, D, G, H>(rt, alloc, opened, workload, crew, folder, log)
+}
+
+// Begins the files of the folder, where there is one.
+fn begin<F: Write + Drop, D: NewFiles<F> + Drop>(
+    folder: Option<D>,
+    base: &Base,
+) -> Result<(Option<D>, Option<Tally<F>>), Fault>
+    ensures there { IfOk result (λ r. is_some r.0 ≡ is_some folder) }
+    ensures begun { IfOk result (λ r. HasBegunFiles D.holds F.contents D.blank base.now r.0 r.1) }
+{
+    match folder {
+        Some(mut folder) => {
+            let log = begin_files(&mut folder, base)?;
+            Ok((Some(folder), Some(log)))
+        }
+        None => Ok((None, None)),
+    }
 }

@@ -1,25 +1,32 @@
 //! A store of a workload, from its opening to what it leaves.
-ghost use Rattle.std.specs.Prelude.{◌≡◌, ◌≤◌, ◌<◌, All, length, take, drop, IfOk};
+ghost use Rattle.std.specs.Prelude.{◌≡◌, ◌≤◌, ◌<◌, ◌++◌, [], All, List, length, drop, is_some, IfOk};
 ghost use Rattle.pc_model.specs.History.{History};
 ghost use Rattle.pc_board.specs.Passes.{IsOfBoard};
-ghost use Rattle.pc_outcomes.specs.Leaving.{AreLeftAfter};
+ghost use Rattle.pc_outcomes.specs.Leaving.{AreLeftAfter, IsLegacy, commits_in};
+ghost use Rattle.pc_shared.specs.Sitters.{Sitter};
+ghost use Rattle.pc_threads.specs.Clients.{HaveWorked, clients_in};
+ghost use Rattle.pc_workers.specs.Checkpointing.{HasCycled};
 ghost use Rattle.pc_workers.specs.Covering.{HaveOnlyTo, HaveJustTo};
-ghost use Rattle.pc_runs.specs.Runs.{IsOfHistory, IsRun};
-ghost use Rattle.pc_runs.specs.Singles.{AreSingles};
+ghost use Rattle.pc_workers.specs.Logging.{rest_text};
+ghost use Rattle.pc_threads.specs.Files.{HasWritten};
+ghost use Rattle.pc_threads.specs.Logs.{HasLogged};
+ghost use Rattle.pc_runs.specs.Folders.{HasBegunFiles, HasFinished, base_of};
+ghost use Rattle.pc_runs.specs.Runs.{IsRun};
 
 use crate::crew::Crew;
 use crate::pace::every_of;
 use pc_board::{Board, BoardPass};
 use pc_jobs::{Workload, deal};
 use pc_outcomes::{Left, Outcome, commits_in, left_by};
-use pc_shared::{Closed, Opened, PartTicket, Session, Shared};
+use pc_shared::{CheckpointerSeat, Closed, Opened, PartTicket, Session, Shared};
 use pc_shelf::SharedPart;
+use pc_texts::FileName;
 use pc_threads::{
-    Fault, Logger, NewFiles, Rested, Room, Seating, Written, flush_file, gather, hands_of,
+    Fault, Logger, NewFiles, Ran, Rested, Room, Seating, Worked, Written, finish_file, hands_of,
     run_threads, seat_workers,
 };
 use pc_tie::StoreName;
-use pc_types::{FileNo, Gate, Refusal, Tally};
+use pc_types::{Gate, Refusal, Tally};
 use pc_workers::{log_rest, with_missing_points};
 use std::alloc::{AllocError, Global};
 use std::io::Write;
@@ -28,61 +35,57 @@ use std::sync::Wait;
 use std::sync::atomic::AtomicU64;
 use std::thread::Threads;
 
-// What the threads leave of a store: its sessions, and tickets of its files.
+// What the threads leave of a store: its sessions, tickets of its files, and the folder, if there is one.
 #[derive(Drop)]
-struct Ended<N: StoreName> {
+struct Ended<N: StoreName, D> {
     sessions: Vec<Session<N>>,
     given_up: u64,
-    // A ticket of each point, where its file was written, and behind them tickets that are to be joined.
-    tickets: Vec<PartTicket<N>>,
-    // How many of the tickets are of a point whose file was written.
-    singles: usize,
-    ghost within: { singles ≤ length tickets.items },
-    ghost named: { AreSingles (take singles tickets.items) },
-}
-
-// A ticket of each point.
-fn take_singles<N: StoreName, R: Wait>(
-    rt: &R,
-    alloc: Global,
-    shared: &Shared<N>,
-    points: u32,
-) -> Result<Vec<PartTicket<N>>, Refusal>
-    ensures { IfOk result (λ tickets. AreSingles tickets.items) }
-{
-    let mut tickets = Vec::new(alloc);
-    for others in 0..points {
-        tickets.push(shared.take_part(rt, FileNo(others + 1))?)?;
-    }
-    Ok(tickets)
+    seat: CheckpointerSeat<N>,
+    // A ticket of each point whose file was written.
+    written: Vec<PartTicket<N>>,
+    // Tickets that are to be joined.
+    joined: Vec<PartTicket<N>>,
+    folder: Option<D>,
 }
 
 // Takes back what the threads had: the sessions of all clients, and the tickets of the collapsers with those of the points that
-// they left, behind one of each point where its file was written.
-fn take_back<N: StoreName, R: Wait>(
+// they left.
+fn take_back<N: StoreName, D: Drop, R: Wait>(
     rt: &R,
-    alloc: Global,
     shared: &Shared<N>,
-    singles: u32,
     points: u32,
     idle: Vec<Session<N>>,
-    rested: Rested<N>,
-) -> Result<Ended<N>, Fault>
-    requires { HaveOnlyTo points rested.held.items }
-    ensures cover { IfOk result (λ ended. HaveJustTo points (drop ended.singles ended.tickets.items)) }
+    rested: Rested<N, D>,
+) -> Result<Ended<N, D>, Fault>
+    requires only { HaveOnlyTo points rested.held.items }
+    requires cycles { HasCycled N.name.setting points [] rested.worked.seat }
+    ensures sessions { IfOk result (λ ended. ended.sessions.items ≡ idle.items ++ rested.worked.ran.sessions.items) }
+    ensures given_up { IfOk result (λ ended. ended.given_up ≡ rested.worked.ran.given_up) }
+    ensures cover { IfOk result (λ ended. HaveJustTo points ended.joined.items) }
+    ensures written { IfOk result (λ ended. ended.written.items ≡ rested.worked.written.items) }
+    ensures folder { IfOk result (λ ended. ended.folder ≡ rested.worked.folder) }
 {
-    let Rested { workers, held } = rested;
+    let Rested { worked, held } = rested;
+    let Worked {
+        ran,
+        mut seat,
+        folder,
+        written,
+    } = worked;
+    let Ran {
+        sessions: mut busy,
+        given_up,
+    } = ran;
     let mut sessions = idle;
-    let given_up = gather(&mut sessions, workers)?;
-    let mut joined = with_missing_points(rt, shared, held, points)?;
-    let mut tickets = take_singles(rt, alloc, shared, singles)?;
-    let singles = tickets.len();
-    tickets.append(&mut joined)?;
+    sessions.append(&mut busy)?;
+    let joined = with_missing_points(rt, shared, &mut seat, held, points)?;
     Ok(Ended {
         sessions,
         given_up,
-        tickets,
-        singles,
+        seat,
+        written,
+        joined,
+        folder,
     })
 }
 
@@ -90,45 +93,56 @@ fn take_back<N: StoreName, R: Wait>(
 fn use_store<
     N: StoreName + Send + Sync,
     F: Write + Drop + Send,
-    D: NewFiles<F>,
+    D: NewFiles<F> + Drop,
     G: Gate + Sync,
     R: Threads + Wait + Sync,
 >(
     rt: &R,
     room: &Room<'_, N, G>,
     seating: Seating<N>,
+    seat: CheckpointerSeat<N>,
     board: &Board,
     passes: Vec<BoardPass>,
-    folder: &Option<D>,
+    folder: Option<D>,
     every: u32,
     logger: Logger<N, F>,
-) -> Result<(Ended<N>, Written<N, F>), Fault>
+) -> Result<(Ended<N, D>, Written<N, F>), Fault>
+    requires fresh { seat ≡ [] }
     requires some { 0 < length passes.items }
     requires ours { All (λ pass. IsOfBoard pass board.now) passes.items }
-    ensures cover { IfOk result (λ r. HaveJustTo room.now.points (drop r.0.singles r.0.tickets.items)) }
+    ensures clients { IfOk result (λ r. (more : List Sitter) × (r.0.sessions.items ≡ seating.idle.items ++ more) × HaveWorked (clients_in seating.workers.items) r.0.given_up more) }
+    ensures cover { IfOk result (λ r. HaveJustTo room.now.points r.0.joined.items) }
+    ensures written { IfOk result (λ r. HasWritten D.holds room.now.points folder r.0.folder r.0.written.items) }
+    ensures logged { IfOk result (λ r. HasLogged F.contents N.name.setting.run logger.out r.1.out r.1.pass) }
 {
     let Seating { workers, idle } = seating;
-    let singles = if logger.out.is_some() { room.points } else { 0 };
-    let hands = hands_of(room.alloc, board, passes, workers, folder.as_ref(), every)?;
+    let hands = hands_of(room.alloc, board, passes, workers, seat, folder, every)?;
     let (rested, written) = run_threads(rt, room, hands, logger)?;
-    let ended = take_back(
-        rt,
-        room.alloc,
-        room.shared,
-        singles,
-        room.points,
-        idle,
-        rested,
-    )?;
+    let ended = take_back(rt, room.shared, room.points, idle, rested)?;
     Ok((ended, written))
 }
 
-/// Runs the workload over the store, to its close, and tells what it leaves. Where there is a folder, the log is written to it
-/// beside the threads, and its rest once the store is closed; and so is the file of each point, once the point was taken.
+// The tickets of a run, those of points whose files were written first, and how many these are.
+fn all_tickets<N: StoreName>(
+    written: Vec<PartTicket<N>>,
+    joined: Vec<PartTicket<N>>,
+) -> Result<(Vec<PartTicket<N>>, usize), AllocError>
+    ensures { IfOk result (λ r. (r.0.items ≡ written.items ++ joined.items) × (r.1 ≡ length written.items)) }
+{
+    let mut tickets = written;
+    let mut joined = joined;
+    let singles = tickets.len();
+    tickets.append(&mut joined)?;
+    Ok((tickets, singles))
+}
+
+/// Runs the workload over the store, to its close, and tells what it leaves. Where there is a folder, which has the base's file and
+/// that of the log, which is blank, the log is written to it beside the threads, and its rest once the store is closed; and so is
+/// the file of each point, once the point was taken.
 pub fn run_store<
     N: StoreName + Send + Sync,
     F: Write + Drop + Send,
-    D: NewFiles<F>,
+    D: NewFiles<F> + Drop,
     G: Gate + Sync,
     R: Threads + Wait + Sync,
 >(
@@ -137,15 +151,15 @@ pub fn run_store<
     opened: Opened,
     workload: Workload,
     crew: &Crew<'_, G>,
-    folder: &Option<D>,
+    folder: Option<D>,
     log: Option<Tally<F>>,
-) -> Result<Outcome, Fault>
-    requires { opened ≡ N.name }
-    ensures points { IfOk result (λ outcome. outcome.points ≡ workload.points) }
-    ensures run { IfOk result (IsRun N.name.setting) }
+) -> Result<(Outcome, Option<D>), Fault>
+    requires name { opened ≡ N.name }
+    requires begun { HasBegunFiles D.holds F.contents D.blank (base_of N.name.setting) folder log }
+    ensures run { IfOk result (λ r. IsRun D.holds N.name.setting workload (is_some folder) r.1 r.0) }
 {
     let Workload { points, clients } = workload;
-    let (shared, sessions, pass) = opened.named::<N>()?;
+    let (shared, sessions, seat, pass) = opened.named::<N>()?;
     let (board, passes) = Board::new(alloc, crew.collapsers + 1)?;
     let every = every_of(crew.every, points, &clients);
     let dealt = deal(alloc, crew.workers, clients)?;
@@ -160,23 +174,32 @@ pub fn run_store<
         working: &working,
     };
     let logger = Logger { pass, out: log };
-    let (ended, written) = use_store(rt, &room, seating, &board, passes, folder, every, logger)?;
+    let (ended, logged) = use_store(
+        rt, &room, seating, seat, &board, passes, folder, every, logger,
+    )?;
     let Ended {
         sessions,
         given_up,
-        tickets,
-        singles,
+        seat,
+        written,
+        joined,
+        folder,
     } = ended;
-    let Written { pass, out, ended } = written;
-    let closed = shared.close(sessions, tickets, pass);
-    ended?;
-    let left = leave(rt, alloc, closed, singles, crew, out)?;
-    Ok(Outcome {
+    let (tickets, singles) = all_tickets(written, joined)?;
+    let Written { pass, out } = logged;
+    let closed = shared.close(sessions, seat, tickets, pass);
+    if !closed.all {
+        return Err(Fault::Refused(Refusal::NoSession));
+    }
+    let folder = finish_log(&closed, folder, out)?;
+    let left = leave(rt, alloc, closed, singles, crew)?;
+    let outcome = Outcome {
         commits: left.commits,
         given_up,
         points,
         left: left.files,
-    })
+    };
+    Ok((outcome, folder))
 }
 
 // What a closed store leaves.
@@ -186,21 +209,19 @@ struct Legacy {
     files: Left,
 }
 
-// Writes the rest of the log, and tells what the closed store leaves. So many of the tickets are of a point whose file was written.
-fn leave<N: StoreName, F: Write + Drop, G: Gate + Sync, R: Threads + Wait + Sync>(
+// Tells what the closed store leaves. So many of the tickets are of a point whose file was written.
+fn leave<N: StoreName, G: Gate + Sync, R: Threads + Wait + Sync>(
     rt: &R,
     alloc: Global,
     closed: Closed<N>,
     singles: usize,
     crew: &Crew<'_, G>,
-    log: Option<Tally<F>>,
 ) -> Result<Legacy, Fault>
-    requires logged { closed.logged ≤ length closed.world.log }
     requires singles { singles ≤ length closed.parts.items }
     requires after { (history : History) × AreLeftAfter N.name.setting history closed.world.base closed.world.log closed.parts.items }
-    ensures history { IfOk result (λ legacy. IsOfHistory N.name.setting legacy.commits (drop singles closed.parts.items) legacy.files) }
+    ensures commits { IfOk result (λ legacy. legacy.commits ≡ commits_in closed.world.log) }
+    ensures files { IfOk result (λ legacy. IsLegacy closed.world.base closed.world.log (drop singles closed.parts.items) legacy.files) }
 {
-    finish_log(&closed, log)?;
     let mut closed = closed;
     let files = files_of(alloc, &mut closed)?;
     let (base, log) = (closed.base(), closed.log());
@@ -235,16 +256,21 @@ fn files_of<N: StoreName>(
     Ok(files)
 }
 
-// The rest of the log, where there is a file for it.
-fn finish_log<N: StoreName, F: Write + Drop>(
+// Writes the rest of the log, of which so many entries were handed out and written, and the file is whole; where there is one.
+fn finish_log<N: StoreName, F: Write + Drop, D: NewFiles<F> + Drop>(
     closed: &Closed<N>,
+    folder: Option<D>,
     log: Option<Tally<F>>,
-) -> Result<(), Fault>
+) -> Result<Option<D>, Fault>
     requires { closed.now.logged ≤ length closed.now.world.log }
+    ensures { IfOk result (λ later. HasFinished D.holds F.contents D.blank (rest_text closed.now.logged closed.now.world.log) folder log later) }
 {
-    let Some(mut log) = log else {
-        return Ok(());
-    };
-    log_rest(closed, &mut log)?;
-    flush_file(&mut log)
+    match (folder, log) {
+        (Some(mut folder), Some(mut log)) => {
+            log_rest(closed, &mut log)?;
+            finish_file(&mut folder, FileName::Log, log)?;
+            Ok(Some(folder))
+        }
+        (folder, _) => Ok(folder),
+    }
 }

@@ -1,0 +1,3 @@
+pub mod Clients
+pub mod Files
+pub mod Logs

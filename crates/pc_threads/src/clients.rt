@@ -1,35 +1,47 @@
 //! The clients of a workload: each has a session, and each worker runs its own clients, one after the other.
-ghost use Rattle.std.specs.Prelude.{◌≡◌, ◌⊎◌, IfOk, IfErr};
+ghost use Rattle.std.specs.Prelude.{◌≡◌, ◌⊎◌, ◌+◌, ◌++◌, [], ◌∷◌, All, IfOk, IfErr, List, map};
+ghost use Rattle.std.specs.List.{flat_map};
 ghost use Rattle.pc_types.specs.declared.refusal.Refusal.TheVariants.{NoSession, OutOfMemory};
+ghost use Rattle.pc_jobs.specs.Jobs.{job_of};
+ghost use Rattle.pc_jobs.specs.declared.works.Client.{Client};
+ghost use Rattle.pc_shared.specs.Sitters.{sitter};
+ghost use Rattle.pc_threads.specs.Clients.{HasDone, HasWorked, HaveWorked, IsFresh, first_of, jobs_in};
 
 use crate::room::Room;
 use pc_jobs::{Client, Fill, Job, Work};
 use pc_shared::Session;
 use pc_tie::StoreName;
 use pc_types::{Gate, Items, Refusal, SessionNo};
-use pc_workers::{Count, client_loop};
-use std::alloc::{AllocError, Global};
+use pc_workers::client_loop;
+use std::alloc::Global;
 use std::marker::Model;
 use std::slice;
 use std::sync::Wait;
 
-/// A client with the session that it works as.
+/// A client with the session that it is to work as, of which nothing was asked yet.
 #[derive(Drop)]
 pub struct Seated<N: StoreName> {
     pub session: Session<N>,
     pub client: Client,
-    ghost own: { session.number ≡ client.session },
+    ghost fresh: { session ≡ sitter client.session [] [] },
 }
 
-/// A worker: the clients that were dealt to it, and how many jobs they have committed and given up. Contracts see its clients.
+/// What clients leave that have run: their sessions, in the clients' order, and how many of their transactions were given up.
+#[derive(Drop)]
+pub struct Ran<N: StoreName> {
+    pub sessions: Vec<Session<N>>,
+    pub given_up: u64,
+}
+
+/// A worker: the clients that were dealt to it. Contracts see them.
 #[derive(Drop)]
 pub struct Worker<N: StoreName> {
     pub seats: Vec<Seated<N>>,
-    pub count: Count,
 }
 
 impl<N: StoreName> Model for Worker<N> {
     ghost use Rattle.std.specs.Prelude.{List, map};
+    ghost use Rattle.pc_jobs.specs.Jobs.{job_of};
     ghost use Rattle.pc_jobs.specs.declared.works.Client.{Client};
 
     ghost Value = { List Client };
@@ -44,28 +56,19 @@ pub struct Seating<N: StoreName> {
     pub idle: Vec<Session<N>>,
 }
 
-// One job that was given up.
-const GIVEN_UP: Count = Count {
-    commits: 0,
-    given_up: 1,
-};
-
-const NOTHING: Count = Count {
-    commits: 0,
-    given_up: 0,
-};
-
 // The session of the number is taken out. Refuses with `NoSession` where it isn't there.
 fn take_session<N: StoreName>(
     sessions: &mut Vec<Session<N>>,
     number: SessionNo,
 ) -> Result<Session<N>, Refusal>
-    ensures own { IfOk result (λ session. session.number ≡ number) }
+    requires { All IsFresh sessions.old.items }
+    ensures own { IfOk result (λ session. session ≡ sitter number [] []) }
+    ensures fresh { All IsFresh sessions.new.items }
     ensures refused { IfErr result (λ why. why ≡ NoSession) }
 {
     for place in 0..sessions.len() {
         if sessions[place].number() == number {
-            return Ok(sessions.swap_remove(place));
+            return Ok(sessions.remove(place));
         }
     }
     Err(Refusal::NoSession)
@@ -77,7 +80,9 @@ fn seat_worker<N: StoreName>(
     clients: Items<Client>,
     sessions: &mut Vec<Session<N>>,
 ) -> Result<Worker<N>, Refusal>
+    requires { All IsFresh sessions.old.items }
     ensures clients { IfOk result (λ worker. worker ≡ clients) }
+    ensures fresh { All IsFresh sessions.new.items }
     ensures refused { IfErr result (λ why. (why ≡ NoSession) ⊎ (why ≡ OutOfMemory)) }
 {
     let mut seats = Vec::new(alloc);
@@ -85,20 +90,19 @@ fn seat_worker<N: StoreName>(
         let session = take_session(sessions, client.session)?;
         seats.push(Seated { session, client })?;
     }
-    Ok(Worker {
-        seats,
-        count: NOTHING,
-    })
+    Ok(Worker { seats })
 }
 
-/// Gives each client the session of its number. Refuses with `NoSession` where a session isn't there, and else with
-/// `OutOfMemory` alone.
+/// Gives each client the session of its number; of none of the sessions anything was asked yet. Refuses with `NoSession` where a
+/// session isn't there, and else with `OutOfMemory` alone.
 pub fn seat_workers<N: StoreName>(
     alloc: Global,
     dealt: Vec<Items<Client>>,
     sessions: Vec<Session<N>>,
 ) -> Result<Seating<N>, Refusal>
+    requires { All IsFresh sessions.items }
     ensures clients { IfOk result (λ seating. seating.workers.items ≡ dealt.items) }
+    ensures idle { IfOk result (λ seating. All IsFresh seating.idle.items) }
     ensures refused { IfErr result (λ why. (why ≡ NoSession) ⊎ (why ≡ OutOfMemory)) }
 {
     let mut idle = sessions;
@@ -109,69 +113,29 @@ pub fn seat_workers<N: StoreName>(
     Ok(Seating { workers, idle })
 }
 
-// Counts what another loop counted too.
-fn add(count: &mut Count, more: Count) {
-    count.commits = count.commits.saturating_add(more.commits);
-    count.given_up = count.given_up.saturating_add(more.given_up);
-}
-
-// The works, in order, as long as the log's file isn't lost.
-fn run_works<N: StoreName, R: Wait, G: Gate>(
-    rt: &R,
-    room: &Room<'_, N, G>,
-    session: &mut Session<N>,
-    works: &[Work],
-) -> Count
-    ensures { session.new.number ≡ session.old.number }
+// The sum of both. Refuses with `Full` where it is more than can be counted.
+fn sum(a: u64, b: u64) -> Result<u64, Refusal>
+    ensures { IfOk result (λ sum. sum ≡ a + b) }
 {
-    let mut count = NOTHING;
-    for work in works {
-        if room.shared.has_log_ended() {
-            break;
-        }
-        let more = match work {
-            Work::Once(job) => run_jobs(rt, room, session, slice::from_ref(job)),
-            Work::Fill(fill) => run_fill(rt, room, session, fill),
-        };
-        add(&mut count, more);
-    }
-    count
-}
-
-impl<N: StoreName> Seated<N> {
-    // The transactions of the client, in order, as long as the log's file isn't lost.
-    fn run<R: Wait, G: Gate>(&mut self, rt: &R, room: &Room<'_, N, G>) -> Count
-        ensures { self.new.client ≡ self.old.client }
-    {
-        run_works(rt, room, &mut self.session, self.client.works.as_slice())
+    match a.checked_add(b) {
+        Some(sum) => Ok(sum),
+        None => Err(Refusal::Full),
     }
 }
 
-impl<N: StoreName> Worker<N> {
-    /// Runs its clients, one after the other, as long as the log's file isn't lost, and leaves the room.
-    pub fn run<R: Wait, G: Gate>(self, rt: &R, room: &Room<'_, N, G>) -> Worker<N> {
-        let Worker {
-            mut seats,
-            mut count,
-        } = self;
-        for seated in seats.iter_mut() {
-            let more = seated.run(rt, room);
-            add(&mut count, more);
-        }
-        room.leave(rt);
-        Worker { seats, count }
-    }
-}
-
+// The jobs, in order; how many were given up. Refuses with `Device` where the log's file was lost before.
 fn run_jobs<N: StoreName, R: Wait, G: Gate>(
     rt: &R,
     room: &Room<'_, N, G>,
     session: &mut Session<N>,
     jobs: &[Job],
-) -> Count
-    ensures { session.new.number ≡ session.old.number }
+) -> Result<u64, Refusal>
+    ensures { IfOk result (λ given_up. HasDone jobs.now given_up session.old session.new) }
 {
-    client_loop(
+    if room.shared.has_log_ended() {
+        return Err(Refusal::Device);
+    }
+    let count = client_loop(
         rt,
         room.alloc,
         room.shared,
@@ -179,52 +143,141 @@ fn run_jobs<N: StoreName, R: Wait, G: Gate>(
         jobs,
         room.lag,
         room.gate,
-    )
+    );
+    Ok(count.given_up)
 }
 
-// The transactions of a fill, each made when it is its turn, as long as the log's file isn't lost; one for which memory ran out is
-// given up.
+// The transaction of a fill of this number, made now; where memory ran out for that it is given up.
+fn run_made<N: StoreName, R: Wait, G: Gate>(
+    rt: &R,
+    room: &Room<'_, N, G>,
+    session: &mut Session<N>,
+    fill: &Fill,
+    number: u32,
+) -> Result<u64, Refusal>
+    ensures { IfOk result (λ given_up. HasDone (job_of fill.now number ∷ []) given_up session.old session.new) }
+{
+    match fill.job(room.alloc, number) {
+        Ok(job) => run_jobs(rt, room, session, &[job]),
+        Err(_) => Ok(1),
+    }
+}
+
+// The transactions of a fill, each made when it is its turn.
 fn run_fill<N: StoreName, R: Wait, G: Gate>(
     rt: &R,
     room: &Room<'_, N, G>,
     session: &mut Session<N>,
     fill: &Fill,
-) -> Count
-    ensures { session.new.number ≡ session.old.number }
+) -> Result<u64, Refusal>
+    ensures { IfOk result (λ given_up. HasDone (first_of fill.now fill.now.count) given_up session.old session.new) }
 {
-    let mut count = NOTHING;
-    for number in 0..fill.count {
-        if room.shared.has_log_ended() {
-            break;
-        }
-        let more = match fill.job(room.alloc, number) {
-            Ok(job) => run_jobs(rt, room, session, &[job]),
-            Err(_) => GIVEN_UP,
-        };
-        add(&mut count, more);
-    }
-    count
-}
-
-fn add_sessions<N: StoreName>(
-    sessions: &mut Vec<Session<N>>,
-    worker: Worker<N>,
-) -> Result<(), AllocError> {
-    for seated in worker.seats {
-        sessions.push(seated.session)?;
-    }
-    Ok(())
-}
-
-/// The sessions of all clients join the others. How many jobs their workers gave up. It fails only where memory ran out.
-pub fn gather<N: StoreName>(
-    sessions: &mut Vec<Session<N>>,
-    workers: Vec<Worker<N>>,
-) -> Result<u64, AllocError> {
     let mut given_up = 0u64;
-    for worker in workers {
-        given_up = given_up.saturating_add(worker.count.given_up);
-        add_sessions(sessions, worker)?;
+    for number in 0..fill.count {
+        let more = run_made(rt, room, session, fill, number)?;
+        given_up = sum(given_up, more)?;
     }
     Ok(given_up)
+}
+
+// A piece of work.
+fn run_work<N: StoreName, R: Wait, G: Gate>(
+    rt: &R,
+    room: &Room<'_, N, G>,
+    session: &mut Session<N>,
+    work: &Work,
+) -> Result<u64, Refusal>
+    ensures { IfOk result (λ given_up. HasDone (jobs_in work.now) given_up session.old session.new) }
+{
+    match work {
+        Work::Once(job) => run_jobs(rt, room, session, slice::from_ref(job)),
+        Work::Fill(fill) => run_fill(rt, room, session, fill),
+    }
+}
+
+// The works, in order.
+fn run_works<N: StoreName, R: Wait, G: Gate>(
+    rt: &R,
+    room: &Room<'_, N, G>,
+    session: &mut Session<N>,
+    works: &[Work],
+) -> Result<u64, Refusal>
+    ensures { IfOk result (λ given_up. HasDone (flat_map jobs_in works.now) given_up session.old session.new) }
+{
+    let mut given_up = 0u64;
+    for work in works {
+        let more = run_work(rt, room, session, work)?;
+        given_up = sum(given_up, more)?;
+    }
+    Ok(given_up)
+}
+
+impl<N: StoreName> Seated<N> {
+    // The transactions of the client, in order. Its session, and how many were given up.
+    fn run<R: Wait, G: Gate>(
+        self,
+        rt: &R,
+        room: &Room<'_, N, G>,
+    ) -> Result<(Session<N>, u64), Refusal>
+        ensures { IfOk result (λ r. HasWorked self.client r.1 r.0) }
+    {
+        let Seated {
+            mut session,
+            client,
+        } = self;
+        let given_up = run_works(rt, room, &mut session, client.works.as_slice())?;
+        Ok((session, given_up))
+    }
+}
+
+// The clients, one after the other.
+fn run_clients<N: StoreName, R: Wait, G: Gate>(
+    rt: &R,
+    room: &Room<'_, N, G>,
+    seats: Vec<Seated<N>>,
+) -> Result<Ran<N>, Refusal>
+    ensures { IfOk result (λ ran. HaveWorked (map (λ seated. seated.client) seats.items) ran.given_up ran.sessions.items) }
+{
+    let mut sessions = Vec::with_capacity(room.alloc, seats.len())?;
+    let mut given_up = 0u64;
+    for seated in seats {
+        let (session, more) = seated.run(rt, room)?;
+        sessions.push(session)?;
+        given_up = sum(given_up, more)?;
+    }
+    Ok(Ran { sessions, given_up })
+}
+
+impl<N: StoreName> Worker<N> {
+    /// Runs its clients, one after the other, and leaves the room. Refuses with `Device` where the log's file was lost before one
+    /// of their transactions, with `OutOfMemory` before the first of them, and with `Full` where more of them were given up than
+    /// can be counted.
+    pub fn run<R: Wait, G: Gate>(self, rt: &R, room: &Room<'_, N, G>) -> Result<Ran<N>, Refusal>
+        ensures { IfOk result (λ ran. HaveWorked self ran.given_up ran.sessions.items) }
+    {
+        let Worker { seats } = self;
+        let ended = run_clients(rt, room, seats);
+        room.leave(rt);
+        ended
+    }
+}
+
+impl<N: StoreName> Ran<N> {
+    // The clients of another worker have run too. Refuses with `OutOfMemory`, or with `Full` where more of them were given up than
+    // can be counted.
+    pub(crate) fn and(self, other: Ran<N>) -> Result<Ran<N>, Refusal>
+        ensures { (clients others : List Client) → HaveWorked clients self.given_up self.sessions.items → HaveWorked others other.given_up other.sessions.items → IfOk result (λ all. HaveWorked (clients ++ others) all.given_up all.sessions.items) }
+    {
+        let Ran {
+            mut sessions,
+            given_up,
+        } = self;
+        let Ran {
+            sessions: mut others,
+            given_up: more,
+        } = other;
+        sessions.append(&mut others)?;
+        let given_up = sum(given_up, more)?;
+        Ok(Ran { sessions, given_up })
+    }
 }

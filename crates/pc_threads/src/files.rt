@@ -1,7 +1,12 @@
 //! The files that a run makes in a folder.
-ghost use Rattle.std.specs.Prelude.{◌≡◌, IfErr};
+ghost use Rattle.std.specs.Prelude.{◌≡◌, ℕ, List, IfErr, IfOk, OnOk, OnErr};
+ghost use Rattle.std.specs.Io.KnownBytes.{Appends, Keeps};
+ghost use Rattle.pc_types.specs.Tallies.{inner_of};
 ghost use Rattle.pc_types.specs.declared.refusal.Refusal.TheVariants.{Device};
 ghost use Rattle.pc_model.specs.Sets as set;
+ghost use Rattle.pc_part.specs.Texts.{part_text};
+ghost use Rattle.pc_texts.specs.declared.file_names.FileName.TheVariants as file;
+ghost use Rattle.pc_threads.specs.Files.{KeepsOthers};
 ghost use Rattle.pc_threads.specs.declared.fault.Fault.TheVariants as Fault;
 
 use crate::fault::Fault;
@@ -10,27 +15,51 @@ use pc_texts::FileName;
 use pc_types::{Point, Refusal, Tally};
 use std::io::Write;
 
-/// What makes the files of a folder.
+/// What makes the files of a folder. Contracts see the texts that the folder has under its names; of a folder of which that isn't
+/// known each text counts as had.
 pub trait NewFiles<F: Write> {
-    /// Makes the file, without bytes; what a file of this name had is lost. Refuses for whatever keeps it from being made.
-    fn make(&self, name: &FileName) -> Result<F, Refusal>;
+    ghost use Rattle.std.specs.Prelude.{◌≡◌, ℕ, List, Option, IfOk, OnOk};
+    ghost use Rattle.std.specs.Io.KnownBytes.{Appends};
+    ghost use Rattle.pc_texts.specs.declared.file_names.FileName.{FileName};
+    ghost use Rattle.pc_threads.specs.Files.{KeepsOthers};
+
+    // The folder has this text under this name.
+    ghost holds: { Self → FileName → List ℕ → Type 0 };
+
+    // What a file that was just made is known to hold.
+    ghost blank: { Option (List ℕ) };
+
+    /// Makes the file, without bytes; what a file of this name had is lost, and the others stay. Refuses for whatever keeps it from
+    /// being made.
+    fn make(&mut self, name: &FileName) -> Result<F, Refusal>
+        ensures blank { IfOk result (λ file. F.contents file ≡ blank) }
+        ensures others { KeepsOthers (holds self.old) (holds self.new) name.now };
 
     /// All bytes of the file were written, and have gone out of whatever keeps them: from now on it is whole, where it wasn't
-    /// before. Refuses for whatever keeps it from being so.
-    fn finish(&self, name: &FileName) -> Result<(), Refusal>;
+    /// before. The other files stay. Refuses for whatever keeps it from being so.
+    fn finish(&mut self, name: &FileName, file: F) -> Result<(), Refusal>
+        ensures whole { OnOk result ((text : List ℕ) → Appends blank (F.contents file) text → holds self.new name.now text) }
+        ensures others { KeepsOthers (holds self.old) (holds self.new) name.now };
 }
 
 /// Makes the file.
-pub fn make_file<F: Write, D: NewFiles<F>>(folder: &D, name: FileName) -> Result<Tally<F>, Fault> {
+pub fn make_file<F: Write, D: NewFiles<F>>(
+    folder: &mut D,
+    name: FileName,
+) -> Result<Tally<F>, Fault>
+    ensures blank { IfOk result (λ file. F.contents (inner_of file) ≡ D.blank) }
+    ensures others { KeepsOthers (D.holds folder.old) (D.holds folder.new) name }
+{
     match folder.make(&name) {
         Ok(file) => Ok(Tally::new(file)),
         Err(why) => Err(Fault::Unmade(name, why)),
     }
 }
 
-/// What was written goes out of whatever keeps it.
-pub fn flush_file<F: Write>(file: &mut Tally<F>) -> Result<(), Fault>
-    ensures { IfErr result (λ fault. fault ≡ Fault.Refused Device) }
+// What was written goes out of whatever keeps it.
+fn flush_file<F: Write>(file: &mut Tally<F>) -> Result<(), Fault>
+    ensures stays { Keeps (F.contents (inner_of file.old)) (F.contents (inner_of file.new)) }
+    ensures device { IfErr result (λ fault. fault ≡ Fault.Refused Device) }
 {
     match file.flush() {
         Ok(()) => Ok(()),
@@ -40,13 +69,16 @@ pub fn flush_file<F: Write>(file: &mut Tally<F>) -> Result<(), Fault>
 
 /// What was written goes out, and the file is whole.
 pub fn finish_file<F: Write + Drop, D: NewFiles<F>>(
-    folder: &D,
+    folder: &mut D,
     name: FileName,
     file: Tally<F>,
-) -> Result<(), Fault> {
+) -> Result<(), Fault>
+    ensures whole { OnOk result ((text : List ℕ) → Appends D.blank (F.contents (inner_of file)) text → D.holds folder.new name text) }
+    ensures others { KeepsOthers (D.holds folder.old) (D.holds folder.new) name }
+{
     let mut file = file;
     flush_file(&mut file)?;
-    match folder.finish(&name) {
+    match folder.finish(&name, file.into_inner()) {
         Ok(()) => Ok(()),
         Err(why) => Err(Fault::Unmade(name, why)),
     }
@@ -54,11 +86,13 @@ pub fn finish_file<F: Write + Drop, D: NewFiles<F>>(
 
 /// Writes the file of the point, which is of it alone.
 pub fn write_part<F: Write + Drop, D: NewFiles<F>>(
-    folder: &D,
+    folder: &mut D,
     point: Point,
     part: &Part,
 ) -> Result<(), Fault>
     requires { part.now.points ≡ set.insert set.empty point }
+    ensures whole { OnOk result (D.holds folder.new (file.Part point) (part_text part.now)) }
+    ensures others { KeepsOthers (D.holds folder.old) (D.holds folder.new) (file.Part point) }
 {
     let mut file = make_file(folder, FileName::Part(point))?;
     part.encode(&mut file)?;

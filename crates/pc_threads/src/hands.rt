@@ -1,10 +1,11 @@
 //! Who runs a workload on a store: a checkpointer and collapsers, each with a pass of one board, and workers.
-ghost use Rattle.std.specs.Prelude.{◌≡◌, ◌+◌, ◌<◌, All, length, IfOk};
+ghost use Rattle.std.specs.Prelude.{◌≡◌, ◌+◌, ◌<◌, [], All, length, IfOk};
 ghost use Rattle.pc_board.specs.Passes.{IsOfBoard};
 
 use crate::clients::Worker;
 use crate::points::Checkpointer;
 use pc_board::{Board, BoardPass};
+use pc_shared::CheckpointerSeat;
 use pc_tie::StoreName;
 use pc_types::Lsn;
 use std::alloc::{AllocError, Global};
@@ -27,7 +28,7 @@ pub struct Collapser<'a> {
 /// Who runs a workload: the checkpointer, workers with their clients, and collapsers.
 #[derive(Drop)]
 pub struct Hands<'a, N: StoreName, D> {
-    pub checkpointer: Checkpointer<'a, D>,
+    pub checkpointer: Checkpointer<'a, N, D>,
     pub workers: Vec<Worker<N>>,
     pub collapsers: Vec<Collapser<'a>>,
 }
@@ -52,19 +53,22 @@ fn seat_collapsers<'a>(
 }
 
 /// The workers, a collapser for each pass but the last one, and that one for the checkpointer, which takes a point once so many
-/// transactions have committed since the last one, and writes the points' files to the folder, if there is one. It fails only where
-/// memory ran out.
-pub fn hands_of<'a, N: StoreName, D>(
+/// transactions have committed since the last one, and writes the points' files to the folder, if there is one; it has taken none
+/// yet. It fails only where memory ran out.
+pub fn hands_of<'a, N: StoreName, D: Drop>(
     alloc: Global,
     board: &'a Board,
     passes: Vec<BoardPass>,
     workers: Vec<Worker<N>>,
-    folder: Option<&'a D>,
+    seat: CheckpointerSeat<N>,
+    folder: Option<D>,
     every: u32,
 ) -> Result<Hands<'a, N, D>, AllocError>
     requires some { 0 < length passes.items }
     requires ours { All (λ pass. IsOfBoard pass board.now) passes.items }
     ensures workers { IfOk result (λ hands. hands.workers.items ≡ workers.items) }
+    ensures folder { IfOk result (λ hands. (hands.checkpointer.folder ≡ folder) × (hands.checkpointer.written.items ≡ [])) }
+    ensures seat { IfOk result (λ hands. hands.checkpointer.at_store ≡ seat) }
     ensures collapsers { IfOk result (λ hands. length hands.collapsers.items + 1 ≡ length passes.items) }
 {
     let mut passes = passes;
@@ -72,10 +76,12 @@ pub fn hands_of<'a, N: StoreName, D>(
         unreachable!();
     };
     let checkpointer = Checkpointer {
-        seat: Seat { board, pass },
-        folder,
+        at_store: seat,
+        at_board: Seat { board, pass },
         every,
         counted_from: Lsn(0),
+        folder,
+        written: Vec::new(alloc),
     };
     let collapsers = seat_collapsers(alloc, board, passes)?;
     Ok(Hands {

@@ -9,10 +9,10 @@ mod points;
 mod room;
 mod threads;
 
-pub use clients::{Seated, Seating, Worker, gather, seat_workers};
+pub use clients::{Ran, Seated, Seating, Worker, seat_workers};
 pub use fault::Fault;
-pub use files::{NewFiles, finish_file, flush_file, make_file, write_part};
+pub use files::{NewFiles, finish_file, make_file, write_part};
 pub use hands::{Collapser, Hands, Seat, hands_of};
 pub use points::Checkpointer;
 pub use room::Room;
-pub use threads::{Logger, Rested, Written, run_threads};
+pub use threads::{Logger, Rested, Worked, Written, run_threads};

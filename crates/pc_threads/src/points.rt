@@ -1,30 +1,67 @@
 //! The points of a run: each is taken once enough was committed since the last one, and its file is written when it is there.
+ghost use Rattle.std.specs.Prelude.{◌≡◌, ◌+◌, ◌≤◌, ℕ, List, Option, IfOk, OnOk, length};
+ghost use Rattle.pc_types.specs.declared.Phase.TheVariants.{Rest};
+ghost use Rattle.pc_model.specs.History.{History, phase_of};
+ghost use Rattle.pc_workers.specs.Checkpointing.{HasCycled};
+ghost use Rattle.pc_texts.specs.declared.file_names.FileName.TheVariants as file;
+ghost use Rattle.pc_threads.specs.Files.{HasParts, HasWritten};
+
 use crate::fault::Fault;
 use crate::files::{NewFiles, write_part};
 use crate::hands::Seat;
 use crate::room::Room;
+use pc_shared::{CheckpointerSeat, PartTicket};
 use pc_tie::StoreName;
 use pc_types::{FileNo, Gate, Lsn, Point, Refusal};
 use pc_workers::checkpoint_loop;
 use std::io::Write;
 use std::sync::Wait;
 
-/// The checkpointer of a run: its seat at the board, the folder for the files of points, if there is one, how many transactions
-/// are to commit from the begin of one point to that of the next, and the log's entry from which they are counted.
+/// The checkpointer of a run: its seats at the store and at the board, how many transactions are to commit from the begin of one
+/// point to that of the next, the log's entry from which they are counted, and the folder for the files of points, if there is one,
+/// with a ticket of each point whose file was written.
 #[derive(Drop)]
-pub struct Checkpointer<'a, D> {
-    pub seat: Seat<'a>,
-    pub folder: Option<&'a D>,
+pub struct Checkpointer<'a, N: StoreName, D> {
+    pub at_store: CheckpointerSeat<N>,
+    pub at_board: Seat<'a>,
     pub every: u32,
     pub counted_from: Lsn,
+    pub folder: Option<D>,
+    pub written: Vec<PartTicket<N>>,
 }
 
 // How many entries of the log a point's cycle makes: one for each change of the phase.
 const TOKENS: u32 = 5;
 
-impl<'a, D> Checkpointer<'a, D> {
+// Writes the file of the point, which is the next one, to the folder.
+fn write_point<N: StoreName, F: Write + Drop, D: NewFiles<F>, G: Gate, R: Wait>(
+    rt: &R,
+    room: &Room<'_, N, G>,
+    seat: &mut CheckpointerSeat<N>,
+    folder: &mut D,
+    written: &mut Vec<PartTicket<N>>,
+    point: Point,
+) -> Result<(), Fault>
+    ensures parts { HasParts (D.holds folder.old) written.old.items → point ≡ length written.old.items + 1 → OnOk result (HasParts (D.holds folder.new) written.new.items) }
+    ensures count { OnOk result (length written.new.items ≡ length written.old.items + 1) }
+    ensures base { (text : List ℕ) → D.holds folder.old file.Base text → D.holds folder.new file.Base text }
+    ensures seat { seat.new ≡ seat.old }
+{
+    written.reserve(1)?;
+    let number = FileNo(u32::from(point.0));
+    let ticket = room.shared.take_part(rt, seat, number)?;
+    write_part(folder, point, ticket.part())?;
+    written.push_reserved(ticket);
+    Ok(())
+}
+
+impl<'a, N: StoreName, D: Drop> Checkpointer<'a, N, D> {
     // Waits until so many transactions have committed, or no further one commits, and counts from there.
-    fn await_commits<N: StoreName, G: Gate, R: Wait>(&mut self, rt: &R, room: &Room<'_, N, G>) {
+    fn await_commits<G: Gate, R: Wait>(&mut self, rt: &R, room: &Room<'_, N, G>)
+        ensures folder { self.new.folder ≡ self.old.folder }
+        ensures written { self.new.written ≡ self.old.written }
+        ensures seat { self.new.at_store ≡ self.old.at_store }
+    {
         let due = Lsn(self.counted_from.0.saturating_add(self.every));
         let _ = room.shared.until_committed(rt, due);
         let begun = room.shared.last_entry(rt);
@@ -32,46 +69,77 @@ impl<'a, D> Checkpointer<'a, D> {
     }
 
     // Takes the point of this number, and writes its file.
-    fn take<N: StoreName, F: Write + Drop, G: Gate, R: Wait>(
+    fn take<F: Write + Drop, G: Gate, R: Wait>(
         self,
         rt: &R,
         room: &Room<'_, N, G>,
         point: Point,
-    ) -> Result<Checkpointer<'a, D>, Fault>
+    ) -> Result<Checkpointer<'a, N, D>, Fault>
     where
         D: NewFiles<F>,
+        requires { phase_of self.at_store ≡ Rest }
+        ensures cycle { IfOk result (λ later. HasCycled N.name.setting 1 self.entry.at_store later.at_store) }
+        ensures written { (first : Option D) (before : ℕ) → before + 1 ≡ point → HasWritten D.holds before first self.entry.folder self.entry.written.items → IfOk result (λ later. HasWritten D.holds point first later.folder later.written.items) }
     {
         let Checkpointer {
-            seat,
-            folder,
+            mut at_store,
+            at_board,
             every,
             counted_from,
+            folder,
+            mut written,
         } = self;
-        let Seat { board, mut pass } = seat;
-        checkpoint_loop(rt, room.shared, board, &mut pass, 1, room.gate)?;
-        if let Some(folder) = folder {
-            let ticket = room.shared.take_part(rt, FileNo(u32::from(point.0)))?;
-            write_part(folder, point, ticket.part())?;
-        }
-        let seat = Seat { board, pass };
+        let Seat { board, mut pass } = at_board;
+        checkpoint_loop(
+            rt,
+            room.shared,
+            &mut at_store,
+            board,
+            &mut pass,
+            1,
+            room.gate,
+        )?;
+        let folder = match folder {
+            Some(mut folder) => {
+                write_point(rt, room, &mut at_store, &mut folder, &mut written, point)?;
+                Some(folder)
+            }
+            None => None,
+        };
+        let at_board = Seat { board, pass };
         Ok(Checkpointer {
-            seat,
-            folder,
+            at_store,
+            at_board,
             every,
             counted_from,
+            folder,
+            written,
         })
     }
 }
 
 // Takes the points behind the first so many, to the last one of this number: each once enough has committed since the one before,
 // or no further transaction commits.
-pub(crate) fn take_points<'a, N: StoreName, F: Write + Drop, D: NewFiles<F>, G: Gate, R: Wait>(
+pub(crate) fn take_points<
+    'a,
+    N: StoreName,
+    F: Write + Drop,
+    D: NewFiles<F> + Drop,
+    G: Gate,
+    R: Wait,
+>(
     rt: &R,
     room: &Room<'_, N, G>,
-    checkpointer: Checkpointer<'a, D>,
+    checkpointer: Checkpointer<'a, N, D>,
     taken: u32,
     last: u32,
-) -> Result<Checkpointer<'a, D>, Fault> {
+) -> Result<Checkpointer<'a, N, D>, Fault>
+    requires order { taken ≤ last }
+    requires rest { phase_of checkpointer.at_store ≡ Rest }
+    ensures rest { IfOk result (λ later. phase_of later.at_store ≡ Rest) }
+    ensures cycles { (first : History) → HasCycled N.name.setting taken first checkpointer.entry.at_store → IfOk result (λ later. HasCycled N.name.setting last first later.at_store) }
+    ensures written { (first : Option D) → HasWritten D.holds taken first checkpointer.entry.folder checkpointer.entry.written.items → IfOk result (λ later. HasWritten D.holds last first later.folder later.written.items) }
+{
     let mut checkpointer = checkpointer;
     for others in taken..last {
         let Ok(point) = u16::try_from(others + 1) else {

@@ -1,28 +1,45 @@
 //! The threads of a run: workers beside the checkpointer, and beside all of them collapsers and the logger.
-ghost use Rattle.std.specs.Prelude.{◌≡◌, ℕ, [], All, IfOk};
+ghost use Rattle.std.specs.Prelude.{◌≡◌, ℕ, [], All, Option, IfOk, map};
 ghost use Rattle.pc_board.specs.Passes.{IsOfBoard};
+ghost use Rattle.pc_types.specs.declared.Phase.TheVariants.{Rest};
+ghost use Rattle.pc_model.specs.History.{phase_of};
+ghost use Rattle.pc_workers.specs.Checkpointing.{HasCycled};
 ghost use Rattle.pc_workers.specs.Covering.{HaveOnlyTo};
+ghost use Rattle.pc_threads.specs.Clients.{HaveWorked, clients_in};
+ghost use Rattle.pc_threads.specs.Files.{HasWritten};
+ghost use Rattle.pc_threads.specs.Logs.{HasLogged};
 
-use crate::clients::Worker;
+use crate::clients::{Ran, Worker};
 use crate::fault::Fault;
 use crate::files::NewFiles;
 use crate::hands::{Collapser, Hands, Seat};
 use crate::points::{Checkpointer, take_points};
 use crate::room::Room;
 use pc_board::{Board, BoardPass};
-use pc_shared::{LogPass, PartTicket, Shared};
+use pc_shared::{CheckpointerSeat, LogPass, PartTicket, Shared};
 use pc_tie::StoreName;
 use pc_types::{Gate, Refusal, Tally};
 use pc_workers::{collapse_loop, log_loop};
 use std::alloc::Global;
 use std::io::Write;
+use std::snapshot::Snapshot;
 use std::sync::Wait;
 use std::thread::{self, Promise, PromisedHandle, Threads};
 
-/// What they leave: the workers, and the tickets that the collapsers hold.
+/// What workers and checkpointer leave: all clients have run; the checkpointer's seat at the store; the folder, if there is one, and a
+/// ticket of each point whose file was written to it.
 #[derive(Drop)]
-pub struct Rested<N: StoreName> {
-    pub workers: Vec<Worker<N>>,
+pub struct Worked<N: StoreName, D> {
+    pub ran: Ran<N>,
+    pub seat: CheckpointerSeat<N>,
+    pub folder: Option<D>,
+    pub written: Vec<PartTicket<N>>,
+}
+
+/// What they leave beside the collapsers, and the tickets that those hold.
+#[derive(Drop)]
+pub struct Rested<N: StoreName, D> {
+    pub worked: Worked<N, D>,
     pub held: Vec<PartTicket<N>>,
 }
 
@@ -34,33 +51,43 @@ pub struct Logger<N: StoreName, F: Write> {
     ghost fresh: { pass ≡ [] },
 }
 
-/// What a logger has written, and whether all of it went out.
+/// What a logger has written.
 #[derive(Drop)]
 pub struct Written<N: StoreName, F: Write> {
     pub pass: LogPass<N>,
     pub out: Option<Tally<F>>,
-    pub ended: Result<(), Refusal>,
 }
 
-impl<N: StoreName, F: Write> Logger<N, F> {
+impl<N: StoreName, F: Write + Drop> Logger<N, F> {
     // Writes the log until the end is marked, or its file is lost, and tells the others that no more is written.
-    fn run<R: Wait, G: Gate>(self, rt: &R, room: &Room<'_, N, G>) -> Written<N, F> {
+    fn run<R: Wait, G: Gate>(self, rt: &R, room: &Room<'_, N, G>) -> Result<Written<N, F>, Refusal>
+        ensures { IfOk result (λ written. HasLogged F.contents N.name.setting.run self.out written.out written.pass) }
+    {
         let Logger { mut pass, out } = self;
         let Some(mut out) = out else {
-            return Written {
-                pass,
-                out: None,
-                ended: Ok(()),
-            };
+            return Ok(Written { pass, out: None });
         };
-        let ended = log_loop(rt, room.shared, &mut pass, &mut out, room.gate).map(|_| ());
+        let ended = log_loop(rt, room.shared, &mut pass, &mut out, room.gate);
         room.shared.mark_log_end(rt);
-        Written {
-            pass,
-            out: Some(out),
-            ended,
+        match ended {
+            Ok(_) => Ok(Written {
+                pass,
+                out: Some(out),
+            }),
+            Err(why) => Err(why),
         }
     }
+}
+
+// The promise of a logger: what its pass has handed out was written to its file.
+#[derive(Drop)]
+struct LogOf<N: StoreName, F: Write>(Snapshot<Logger<N, F>>);
+
+impl<N: StoreName, F: Write> Promise<Result<Written<N, F>, Refusal>> for LogOf<N, F> {
+    ghost use Rattle.std.specs.Prelude.{IfOk};
+    ghost use Rattle.pc_threads.specs.Logs.{HasLogged};
+
+    ghost kept_by = { λ given written. IfOk written (λ w. HasLogged F.contents N.name.setting.run given.0.value.out w.out w.pass) };
 }
 
 // Joins the files of points as they are published. The tickets that the collapser holds in the end. All that it is given stands
@@ -78,7 +105,18 @@ fn collapse<N: StoreName, R: Wait, G: Gate>(
     requires { IsOfBoard pass board.now }
     ensures { IfOk result (λ tickets. HaveOnlyTo points tickets.items) }
 {
-    collapse_loop(rt, alloc, shared, board, &mut pass, number, points, gate)
+    let mut witness = shared.witness(rt);
+    collapse_loop(
+        rt,
+        alloc,
+        shared,
+        &mut witness,
+        board,
+        &mut pass,
+        number,
+        points,
+        gate,
+    )
 }
 
 // The promise of tickets whose files have no points but those from 1 to this.
@@ -108,40 +146,93 @@ fn join_collapsers<N: StoreName, R: Threads>(
     Ok(held)
 }
 
+// The promise of a worker: its clients have run.
+#[derive(Drop)]
+struct ClientsOf<N: StoreName>(Snapshot<Worker<N>>);
+
+impl<N: StoreName> Promise<Result<Ran<N>, Refusal>> for ClientsOf<N> {
+    ghost use Rattle.std.specs.Prelude.{IfOk};
+    ghost use Rattle.pc_threads.specs.Clients.{HaveWorked};
+
+    ghost kept_by = { λ given ended. IfOk ended (λ ran. HaveWorked given.0.value ran.given_up ran.sessions.items) };
+}
+
+// The clients of all workers, once their threads have ended.
+fn join_workers<N: StoreName, R: Threads>(
+    rt: &R,
+    alloc: Global,
+    handles: Vec<PromisedHandle<Result<Ran<N>, Refusal>, ClientsOf<N>>>,
+) -> Result<Ran<N>, Fault>
+    ensures { IfOk result (λ ran. HaveWorked (clients_in (map (λ handle. handle.promise.0.value) handles.items)) ran.given_up ran.sessions.items) }
+{
+    let mut all = Ran {
+        sessions: Vec::new(alloc),
+        given_up: 0,
+    };
+    for handle in handles {
+        let ran = handle.join(rt)?;
+        all = all.and(ran)?;
+    }
+    Ok(all)
+}
+
 // The workers, with all points but the last one beside them, and the last one once they have ended.
 fn run_workers<
     'x,
     N: StoreName + Send + Sync,
     F: Write + Drop,
-    D: NewFiles<F>,
+    D: NewFiles<F> + Drop,
     G: Gate + Sync,
     R: Threads + Wait + Sync,
 >(
     rt: &'x R,
     room: &'x Room<'x, N, G>,
-    checkpointer: Checkpointer<'x, D>,
+    checkpointer: Checkpointer<'x, N, D>,
     workers: Vec<Worker<N>>,
-) -> Result<Vec<Worker<N>>, Fault> {
+) -> Result<Worked<N, D>, Fault>
+    requires rest { phase_of checkpointer.at_store ≡ Rest }
+    ensures clients { IfOk result (λ worked. HaveWorked (clients_in workers.items) worked.ran.given_up worked.ran.sessions.items) }
+    ensures cycles { IfOk result (λ worked. HasCycled N.name.setting room.now.points checkpointer.entry.at_store worked.seat) }
+    ensures points { (first : Option D) → HasWritten D.holds 0 first checkpointer.entry.folder checkpointer.entry.written.items → IfOk result (λ worked. HasWritten D.holds room.now.points first worked.folder worked.written.items) }
+{
     let handles = Vec::with_capacity(room.alloc, workers.len())?;
-    let rested = Vec::with_capacity(room.alloc, workers.len())?;
+    let points = room.points;
     thread::scope(
         thread::scope_env(),
         rt,
-        |scope| -> Result<Vec<Worker<N>>, Fault> {
-            let (mut handles, mut rested) = (handles, rested);
+        |scope| -> Result<Worked<N, D>, Fault>
+            requires handles { handles.items ≡ [] }
+            requires rest { phase_of checkpointer.at_store ≡ Rest }
+            ensures cycles { IfOk result (λ worked. HasCycled N.name.setting points checkpointer.entry.at_store worked.seat) }
+            ensures clients { IfOk result (λ worked. HaveWorked (clients_in workers.items) worked.ran.given_up worked.ran.sessions.items) }
+            ensures points { (first : Option D) → HasWritten D.holds 0 first checkpointer.entry.folder checkpointer.entry.written.items → IfOk result (λ worked. HasWritten D.holds points first worked.folder worked.written.items) }
+        {
+            let mut handles = handles;
             for worker in workers {
-                match scope.spawn(move || worker.run(rt, room)) {
+                let given = Snapshot::of(&worker);
+                match scope.spawn_with(ClientsOf(given), move || worker.run(rt, room)) {
                     Ok(handle) => handles.push(handle)?,
                     Err(_) => return Err(Fault::NoThread),
                 }
             }
-            let beside = room.points.saturating_sub(1);
+            let beside = points.saturating_sub(1);
             let checkpointer = take_points(rt, room, checkpointer, 0, beside)?;
-            for handle in handles {
-                rested.push(handle.join(rt))?;
-            }
-            take_points(rt, room, checkpointer, beside, room.points)?;
-            Ok(rested)
+            let ran = join_workers(rt, room.alloc, handles)?;
+            let checkpointer = take_points(rt, room, checkpointer, beside, points)?;
+            let Checkpointer {
+                at_store: seat,
+                at_board: _,
+                every: _,
+                counted_from: _,
+                folder,
+                written,
+            } = checkpointer;
+            Ok(Worked {
+                ran,
+                seat,
+                folder,
+                written,
+            })
         },
     )
 }
@@ -151,11 +242,15 @@ fn run_hands<
     'x,
     N: StoreName + Send + Sync,
     F: Write + Drop,
-    D: NewFiles<F>,
+    D: NewFiles<F> + Drop,
     G: Gate + Sync,
     R: Threads + Wait + Sync,
->(rt: &'x R, room: &'x Room<'x, N, G>, hands: Hands<'x, N, D>) -> Result<Rested<N>, Fault>
-    ensures { IfOk result (λ rested. HaveOnlyTo room.now.points rested.held.items) }
+>(rt: &'x R, room: &'x Room<'x, N, G>, hands: Hands<'x, N, D>) -> Result<Rested<N, D>, Fault>
+    requires rest { phase_of hands.checkpointer.at_store ≡ Rest }
+    ensures clients { IfOk result (λ rested. HaveWorked (clients_in hands.entry.workers.items) rested.worked.ran.given_up rested.worked.ran.sessions.items) }
+    ensures cycles { IfOk result (λ rested. HasCycled N.name.setting room.now.points hands.entry.checkpointer.at_store rested.worked.seat) }
+    ensures points { (first : Option D) → HasWritten D.holds 0 first hands.entry.checkpointer.folder hands.entry.checkpointer.written.items → IfOk result (λ rested. HasWritten D.holds room.now.points first rested.worked.folder rested.worked.written.items) }
+    ensures held { IfOk result (λ rested. HaveOnlyTo room.now.points rested.held.items) }
 {
     let Hands {
         checkpointer,
@@ -167,9 +262,13 @@ fn run_hands<
     thread::scope(
         thread::scope_env(),
         rt,
-        |scope| -> Result<Rested<N>, Fault>
-            requires { handles.items ≡ [] }
-            ensures { IfOk result (λ rested. HaveOnlyTo points rested.held.items) }
+        |scope| -> Result<Rested<N, D>, Fault>
+            requires handles { handles.items ≡ [] }
+            requires rest { phase_of checkpointer.at_store ≡ Rest }
+            ensures cycles { IfOk result (λ rested. HasCycled N.name.setting room.entry.now.points checkpointer.entry.at_store rested.worked.seat) }
+            ensures clients { IfOk result (λ rested. HaveWorked (clients_in workers.items) rested.worked.ran.given_up rested.worked.ran.sessions.items) }
+            ensures points { (first : Option D) → HasWritten D.holds 0 first checkpointer.entry.folder checkpointer.entry.written.items → IfOk result (λ rested. HasWritten D.holds room.entry.now.points first rested.worked.folder rested.worked.written.items) }
+            ensures held { IfOk result (λ rested. HaveOnlyTo points rested.held.items) }
         {
             let mut handles = handles;
             for collapser in collapsers {
@@ -195,20 +294,21 @@ fn run_hands<
             }
             let ended = run_workers(rt, room, checkpointer, workers);
             room.shared.mark_end(rt);
-            let workers = ended?;
+            let worked = ended?;
             let held = join_collapsers(rt, room.alloc, handles)?;
-            Ok(Rested { workers, held })
+            Ok(Rested { worked, held })
         },
     )
 }
 
 /// Runs them all, and marks the end once the workers have ended and the points are taken, or whatever else keeps them from it: a
-/// thread can't be started, a point can't be taken, or memory ran out. It returns once all threads have ended.
+/// thread can't be started, a point can't be taken, or memory ran out. It returns once all threads have ended. Where the log's file
+/// is lost it refuses for that, whatever else went wrong.
 pub fn run_threads<
     'x,
     N: StoreName + Send + Sync,
     F: Write + Drop + Send,
-    D: NewFiles<F>,
+    D: NewFiles<F> + Drop,
     G: Gate + Sync,
     R: Threads + Wait + Sync,
 >(
@@ -216,25 +316,36 @@ pub fn run_threads<
     room: &'x Room<'x, N, G>,
     hands: Hands<'x, N, D>,
     logger: Logger<N, F>,
-) -> Result<(Rested<N>, Written<N, F>), Fault>
-    ensures { IfOk result (λ r. HaveOnlyTo room.now.points r.0.held.items) }
+) -> Result<(Rested<N, D>, Written<N, F>), Fault>
+    requires rest { phase_of hands.checkpointer.at_store ≡ Rest }
+    ensures clients { IfOk result (λ r. HaveWorked (clients_in hands.entry.workers.items) r.0.worked.ran.given_up r.0.worked.ran.sessions.items) }
+    ensures cycles { IfOk result (λ r. HasCycled N.name.setting room.now.points hands.entry.checkpointer.at_store r.0.worked.seat) }
+    ensures points { (first : Option D) → HasWritten D.holds 0 first hands.entry.checkpointer.folder hands.entry.checkpointer.written.items → IfOk result (λ r. HasWritten D.holds room.now.points first r.0.worked.folder r.0.worked.written.items) }
+    ensures held { IfOk result (λ r. HaveOnlyTo room.now.points r.0.held.items) }
+    ensures logged { IfOk result (λ r. HasLogged F.contents N.name.setting.run logger.out r.1.out r.1.pass) }
 {
     if logger.out.is_none() {
         let rested = run_hands(rt, room, hands)?;
-        return Ok((rested, logger.run(rt, room)));
+        return Ok((rested, logger.run(rt, room)?));
     }
     thread::scope(
         thread::scope_env(),
         rt,
-        |scope| -> Result<(Rested<N>, Written<N, F>), Fault>
-            ensures { IfOk result (λ r. HaveOnlyTo room.entry.now.points r.0.held.items) }
+        |scope| -> Result<(Rested<N, D>, Written<N, F>), Fault>
+            requires { phase_of hands.checkpointer.at_store ≡ Rest }
+            ensures clients { IfOk result (λ r. HaveWorked (clients_in hands.entry.workers.items) r.0.worked.ran.given_up r.0.worked.ran.sessions.items) }
+            ensures cycles { IfOk result (λ r. HasCycled N.name.setting room.entry.now.points hands.entry.checkpointer.at_store r.0.worked.seat) }
+            ensures points { (first : Option D) → HasWritten D.holds 0 first hands.entry.checkpointer.folder hands.entry.checkpointer.written.items → IfOk result (λ r. HasWritten D.holds room.entry.now.points first r.0.worked.folder r.0.worked.written.items) }
+            ensures held { IfOk result (λ r. HaveOnlyTo room.entry.now.points r.0.held.items) }
+            ensures logged { IfOk result (λ r. HasLogged F.contents N.name.setting.run logger.out r.1.out r.1.pass) }
         {
-            let Ok(logging) = scope.spawn(move || logger.run(rt, room)) else {
+            let given = Snapshot::of(&logger);
+            let Ok(logging) = scope.spawn_with(LogOf(given), move || logger.run(rt, room)) else {
                 return Err(Fault::NoThread);
             };
             let ended = run_hands(rt, room, hands);
             room.shared.mark_end(rt);
-            let written = logging.join(rt);
+            let written = logging.join(rt)?;
             match ended {
                 Ok(rested) => Ok((rested, written)),
                 Err(fault) => Err(fault),

@@ -235,13 +235,21 @@ fn why_unmade(e: &io::Error) -> Refusal {
     Refusal::Device
 }
 
+// What is on a disk is known to no contract.
 impl<'a> NewFiles<RunFile> for NewFolder<'a> {
-    fn make(&self, name: &FileName) -> Result<RunFile, Refusal> {
+    ghost use Rattle.std.specs.Prelude.{⊤, None};
+
+    ghost holds = { λ folder name text. ⊤ };
+
+    ghost blank = { None };
+
+    fn make(&mut self, name: &FileName) -> Result<RunFile, Refusal> {
         let path = self.new_path_of(name)?;
         self.made(name, path.as_str()).map_err(|e| why_unmade(&e))
     }
 
-    fn finish(&self, name: &FileName) -> Result<(), Refusal> {
+    fn finish(&mut self, name: &FileName, file: RunFile) -> Result<(), Refusal> {
+        drop(file);
         if is_log(name) {
             return Ok(());
         }

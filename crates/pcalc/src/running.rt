@@ -109,9 +109,10 @@ fn run<H: Threads + Wait + Sync, E: Write>(
         every: options.every,
         gate: progress,
     };
-    let status = run_workload(
+    let finished = run_workload(
         threads, alloc, seed, file, origin, &crew, folder, &mut out, errors,
     );
+    let status = finished.status;
     progress.end();
     if status == 0 && options.is_reported {
         progress.put_report(&mut out)?;

@@ -1,7 +1,7 @@
-use Rattle.std.proofs.Common.{refl}
+use Rattle.std.proofs.Common.{Bool, refl, subst}
 use Rattle.std.proofs.lemmas.Result.{err_from_is_err_and}
 use Rattle.pc_jobs.specs.declared.workloads.Reading.TheVariants.{Runs}
-use Rattle.pc_runs.specs.Runs.{Begins, CanRun, run_setting}
+use Rattle.pc_runs.specs.Runs.{Begins, CanRun, IsRun, run_setting}
 use Rattle.pc_runs.proofs.BeginLaws.{read_as, run_failed, not_started}
 use Rattle.pc_runs.proofs.run.answer.Goals as goal
 
@@ -30,5 +30,5 @@ returns-in_ok-outcome-in-Runs-clause-answer g c =
     let text = c.in_ok-text.text.items in
     let read = read_as g.R.Read.remaining c.args.opened text c.deref.result.now c.in_ok-line.field-0 (Runs c.in-Runs.workload) c.in_ok-text.ensures.script c.deref.ensures.value c.in_ok-line.ensures.reading c.in-Runs.is in
     let base = c.in_ok-base-in-Runs.base in
-    let outcome = c.in_ok-outcome-in-Runs.ensures in
-    (c.in_ok-folder-in-Runs.ensures.usable, (c.in-Runs.workload, read, outcome.points), (run_setting base c.args.origin.capacity, (base, c.in_ok-base-in-Runs.ensures.start, refl), outcome.run))
+    let run = subst (λ (there : Bool). IsRun g.D.NewFiles.holds (run_setting base c.args.origin.capacity) c.in-Runs.workload there c.in_ok-outcome-in-Runs.folder c.in_ok-outcome-in-Runs.outcome) c.in_ok-folder-in-Runs.ensures.there c.in_ok-outcome-in-Runs.ensures.run in
+    (c.in_ok-folder-in-Runs.ensures.usable, (c.in-Runs.workload, read, (run_setting base c.args.origin.capacity, (base, c.in_ok-base-in-Runs.ensures.start, refl), run)))

@@ -1,5 +1,6 @@
-use Rattle.std.proofs.Common.{◌≡◌}
+use Rattle.pc_threads.specs.Clients.{HasDone, first_of}
 use Rattle.pc_threads.proofs.clients.run_fill.Given as goal
 
+-- so many transactions are done
 abbrev pub invariant-loop-number : goal.invariant-loop-number
-invariant-loop-number g l = l.session.number ≡ l.fn.session.number
+invariant-loop-number g l = HasDone (first_of l.fill l.number) l.given_up l.fn.session l.session

@@ -1,5 +1,8 @@
-use Rattle.std.proofs.Common.{◌≡◌}
+use Rattle.std.specs.Prelude.{take}
+use Rattle.std.specs.List.{flat_map}
+use Rattle.pc_threads.specs.Clients.{HasDone, jobs_in}
 use Rattle.pc_threads.proofs.clients.run_works.Given as goal
 
+-- the works so far are done
 abbrev pub invariant-loop-work : goal.invariant-loop-work
-invariant-loop-work g l = l.session.number ≡ l.fn.session.number
+invariant-loop-work g l = HasDone (flat_map jobs_in (take l.work-index l.works)) l.given_up l.fn.session l.session

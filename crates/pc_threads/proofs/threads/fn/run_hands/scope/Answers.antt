@@ -13,3 +13,12 @@ loop-collapser-preserved g c =
       subst (All (λ handle. handle.promise.0 ≡ points)) (sym c.in-Ok-push.ensures.items)
           (All-append (λ handle. handle.promise.0 ≡ points) c.loop-collapser.handles.items (first ∷ []) c.loop-collapser.invariant.2 more),
     )
+
+pub returns : goal.returns
+returns g c =
+    record {
+      clients = c.in_ok-worked.ensures.clients;
+      cycles = c.in_ok-worked.ensures.cycles;
+      points = c.in_ok-worked.ensures.points;
+      held = c.in_ok-held.ensures c.captures.points c.loop-collapser.invariant.2;
+    }

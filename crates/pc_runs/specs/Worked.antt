@@ -1,0 +1,35 @@
+-- What the clients of a workload have done, by the log of their store.
+use Rattle.std.specs.Prelude.{◌≡◌, ◌≤◌, ◌+◌, ◌-◌, ◌==◌, ℕ, Bool, List, [], ◌∷◌, IsFalse, All, if◌then◌else◌, length}
+use Rattle.std.specs.List.{list_any}
+use Rattle.pc_types.specs.declared.Entry.{Entry}
+use Rattle.pc_types.specs.declared.Entry.TheVariants.{Commit, Token}
+use Rattle.pc_types.specs.declared.Write.{Write}
+use Rattle.pc_jobs.specs.declared.works.Client.{Client}
+use Rattle.pc_threads.specs.Clients.{jobs_of}
+use Rattle.pc_workers.specs.Clients.{marked}
+
+-- what the session has committed: the writes of each of its commits in the log, in order
+abbrev pub commits_of : ℕ → List Entry → List (List Write)
+commits_of s [] = []
+commits_of s (Commit session writes ∷ log) = if session == s then writes ∷ commits_of s log else commits_of s log
+commits_of s (Token phase point ∷ log) = commits_of s log
+
+-- The client's session has committed just what those of the client's transactions write that are marked, in their order.
+abbrev pub HasRunBy : List Entry → Client → Type 0
+HasRunBy log client = (marks : List Bool) × (length marks ≡ length (jobs_of client)) × (commits_of client.session log ≡ marked marks (jobs_of client))
+
+-- how many of the clients' transactions have not committed
+abbrev pub left_over : List Entry → List Client → ℕ
+left_over log [] = 0
+left_over log (client ∷ clients) = (length (jobs_of client) - length (commits_of client.session log)) + left_over log clients
+
+-- the session is that of one of the clients
+abbrev pub is_taken : List Client → ℕ → Bool
+is_taken clients session = list_any (λ client. client.session == session) clients
+
+-- Each client has run, and all transactions that have not committed were given up; of the sessions from 1 to this one, no other
+-- has committed anything.
+pub record HaveRunBy (sessions : ℕ) (log : List Entry) (clients : List Client) (given_up : ℕ) : Type 0 where
+  pub each : All (HasRunBy log) clients
+  pub count : given_up ≡ left_over log clients
+  pub alone : (session : ℕ) → 1 ≤ session → session ≤ sessions → IsFalse (is_taken clients session) → commits_of session log ≡ []

@@ -1,0 +1,9 @@
+use Rattle.std.proofs.Common.{◌≡◌, ◌++◌, map}
+use Rattle.pc_threads.proofs.threads.fn.run_workers.scope.Given as goal
+
+-- the workers that were started have promised their clients
+abbrev pub invariant-loop-worker : goal.invariant-loop-worker
+invariant-loop-worker g l =
+    (goal.iterator-loop-worker g).can_next l.worker-iterator
+    × (goal.iterator-loop-worker g).is_finite l.worker-iterator
+    × (map (λ handle. handle.promise.0.value) l.handles.items ++ l.worker-iterator.rest.items ≡ l.initial.worker-iterator.rest.items)

@@ -1,0 +1,22 @@
+-- What the files of a folder hold.
+use Rattle.std.specs.Prelude.{◌≡◌, ◌≢◌, ◌<◌, ◌+◌, ℕ, List, [], Option, Some, None, length, slice_index_or}
+use Rattle.pc_model.specs.Files.{File}
+use Rattle.pc_model.specs.Sets as set
+use Rattle.pc_part.specs.Texts.{part_text}
+use Rattle.pc_texts.specs.declared.file_names.FileName.{FileName}
+use Rattle.pc_texts.specs.declared.file_names.FileName.TheVariants.{Base, Part}
+
+-- what a folder had under other names than this one, it has still
+abbrev pub KeepsOthers : (FileName → List ℕ → Type 0) → (FileName → List ℕ → Type 0) → FileName → Type 0
+KeepsOthers old new name = (other : FileName) (text : List ℕ) → other ≢ name → old other text → new other text
+
+-- The first file is of point 1 alone, the second one of point 2, and so on, and the folder has the text of each under its name.
+abbrev pub HasParts : (FileName → List ℕ → Type 0) → List File → Type 0
+HasParts holds files = (place : ℕ) (file : File) → place < length files
+    → ((slice_index_or files place file).points ≡ set.insert set.empty (place + 1)) × holds (Part (place + 1)) (part_text (slice_index_or files place file))
+
+-- The files of so many points were written to a folder, which has its base still; where there is no folder, none was.
+abbrev pub HasWritten : {D : Type 0} → (D → FileName → List ℕ → Type 0) → ℕ → Option D → Option D → List File → Type 0
+HasWritten holds points None None files = files ≡ []
+HasWritten holds points (Some old) (Some new) files = ((text : List ℕ) → holds old Base text → holds new Base text) × (length files ≡ points) × HasParts (holds new) files
+HasWritten holds points old new files = ⊥
