@@ -1,9 +1,10 @@
-//! Tests of the two sets: worked rows, over a row of links.
+//! Tests of the two sets: worked rows, and a walk beside plain lists, over a row of links.
 ghost use Rattle.std.specs.Prelude.{◌≡◌, ◌≢◌, ◌<◌, ◌≤◌, IfOk, OnOk, IsTrue, length};
 ghost use Rattle.pc_chain.specs.Chains.{Avoids};
 ghost use Rattle.pc_dirty.specs.declared.side.Place.{Place};
 ghost use Rattle.pc_units.specs.Rows.{link_at, has_links, AreKept};
 
+use pc_asks::{drawn, following};
 use pc_chain::Links;
 use pc_dirty::{Dirty, Place, Side};
 use pc_types::SlotId;
@@ -239,5 +240,125 @@ const ROWS: [(Ask, Told); 43] = [
 fn sets_over_one_row(rt: HostRuntime) -> Result<(), Fail> {
     let mut kept = nothing_kept(rt.alloc())?;
     assert_eq!(rt; first_wrong(&mut kept, &ROWS)?, None);
+    Ok(())
+}
+
+// How many requests the walk has.
+const STEPS: u32 = 5000;
+
+// A request by chance: most add or take, and a close is asked for about as often as the closed set is empty.
+fn drawn_ask(seed: u64) -> Ask {
+    match drawn(seed, 33, 16) {
+        0..=6 => Add(drawn(seed, 37, 13)),
+        7..=11 => Pop,
+        12..=13 => Close,
+        14 => First,
+        _ => Counts,
+    }
+}
+
+// How many slots there are.
+fn count_of(slots: &[u32]) -> u32 {
+    let mut count = 0u32;
+    for _ in slots {
+        count = count.saturating_add(1);
+    }
+    count
+}
+
+// The slots of the open and of the closed set, in their order.
+#[derive(Drop)]
+struct Lists {
+    opened: Vec<u32>,
+    closed: Vec<u32>,
+}
+
+impl Lists {
+    fn add(&mut self, slot: u32) -> Result<Told, AllocError> {
+        if slot >= 12 || self.opened.contains(&slot) {
+            return Ok(Refused);
+        }
+        self.opened.push(slot)?;
+        Ok(Done)
+    }
+
+    fn close(&mut self) -> Result<Told, AllocError> {
+        if !self.closed.is_empty() {
+            return Ok(Refused);
+        }
+        self.closed.append(&mut self.opened)?;
+        Ok(Done)
+    }
+
+    fn pop(&mut self) -> Told {
+        if self.closed.is_empty() {
+            return Nothing;
+        }
+        Slot(self.closed.remove(0))
+    }
+
+    fn first(&self) -> Told {
+        match self.closed.first() {
+            Some(slot) => Slot(*slot),
+            None => Nothing,
+        }
+    }
+
+    // What lists answer, in the place of the sets.
+    fn answer(&mut self, ask: Ask) -> Result<Told, AllocError> {
+        match ask {
+            Add(slot) => self.add(slot),
+            Close => self.close(),
+            Pop => Ok(self.pop()),
+            First => Ok(self.first()),
+            Counts => Ok(Counted(count_of(&self.opened), count_of(&self.closed))),
+        }
+    }
+}
+
+// How many requests of each kind were answered so: done, refused, with a slot, with nothing, and with counts.
+type Tally = [u32; 5];
+
+fn note(tally: &mut Tally, told: Told) {
+    let place = match told {
+        Done => 0,
+        Refused => 1,
+        Slot(_) => 2,
+        Nothing => 3,
+        Counted(_, _) => 4,
+    };
+    tally[place] = tally[place].saturating_add(1);
+}
+
+// The number of the first request that lists answer otherwise; nothing where none is, and each answer came often.
+fn first_other(kept: &mut Kept, lists: &mut Lists) -> Result<Option<u32>, AllocError>
+    requires { AreKept kept.old.row.first.items kept.old.row.second.items kept.old.sets kept.old.opened.items }
+{
+    let mut seed = 1u64;
+    let mut tally: Tally = [0; 5];
+    for step in 0..STEPS {
+        seed = following(seed);
+        let ask = drawn_ask(seed);
+        let told = answer(kept, ask)?;
+        if told != lists.answer(ask)? {
+            return Ok(Some(step));
+        }
+        note(&mut tally, told);
+    }
+    Ok(if tally.iter().all(|count| *count > 100) {
+        None
+    } else {
+        Some(STEPS)
+    })
+}
+
+#[test]
+fn sets_beside_lists(rt: HostRuntime) -> Result<(), Fail> {
+    let mut kept = nothing_kept(rt.alloc())?;
+    let mut lists = Lists {
+        opened: Vec::new(rt.alloc()),
+        closed: Vec::new(rt.alloc()),
+    };
+    assert_eq!(rt; first_other(&mut kept, &mut lists)?, None);
     Ok(())
 }
