@@ -46,6 +46,17 @@ impl Meeting {
         self.missed.load(Ordering::SeqCst) == 0
     }
 
+    /// Somebody comes to the sign: stands where he is to, and has failed where nobody was to stand.
+    pub fn come(&self, sign: Sign) {
+        let time = self.counts.note(sign);
+        for visit in self.alone {
+            self.be_alone(visit, sign, time);
+        }
+        for stop in self.stops {
+            self.stop(stop, sign, time);
+        }
+    }
+
     // Stands where the stop is at this sign and time.
     fn stop(&self, stop: &Stop, sign: Sign, time: u64) {
         let Stop(Visit(at, which), theirs) = *stop;
@@ -89,15 +100,8 @@ impl Meeting {
 impl Gate for Meeting {
     fn pass(&self, place: Place) {
         thread::yield_now();
-        let Some(sign) = sign_of(place) else {
-            return;
-        };
-        let time = self.counts.note(sign);
-        for visit in self.alone {
-            self.be_alone(visit, sign, time);
-        }
-        for stop in self.stops {
-            self.stop(stop, sign, time);
+        if let Some(sign) = sign_of(place) {
+            self.come(sign);
         }
     }
 }

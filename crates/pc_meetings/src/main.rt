@@ -33,8 +33,8 @@ const CAPACITY: u32 = 8192;
 // How many sessions the example has.
 const EXAMPLE_SESSIONS: u8 = 2;
 
-// The status is 1 where memory, the output or the draw of a seed failed, or threads missed one another, after which no more
-// meetings are run.
+// The status is 1 where memory, the output or the draw of a seed failed, or in a meeting threads missed one another, a job was given
+// up or the logger left something, after which no more meetings are run.
 fn main(rt: HostRuntime) -> ExitCode {
     match run(&rt, &rt) {
         Ok(()) => ExitCode::from(0),
@@ -70,7 +70,7 @@ fn run_meetings<H: Threads + Wait + Sync>(
         match meet_by(threads, rt.alloc(), seed, &plan) {
             Ok(left) => {
                 tell(rt, name, &left)?;
-                if !left.have_met {
+                if !left.went_on() {
                     return Err(io::ErrorKind::Other.into());
                 }
             }
@@ -111,12 +111,15 @@ fn tell_example(rt: &HostRuntime, left: &Example) -> io::Result<()> {
 
 fn tell(rt: &HostRuntime, name: &str, left: &Left) -> io::Result<()> {
     let text = format!(in rt.alloc();
-        "{name}: met {}, commits {}, given up {}, each kept {}, tokens {}, all {}, written {}, exact {}, right files {:?}\n",
+        "{name}: met {}, commits {}, given up {}, receipts {}, reads {}, entries {}, tokens {}, logged {}, all {}, written {}, exact {}, right files {:?}\n",
         left.have_met,
         left.commits,
         left.given_up,
-        left.is_each_kept(),
+        left.receipts,
+        left.reads,
+        left.entries,
         left.tokens,
+        left.logged,
         left.all,
         left.is_written,
         left.are_exact,

@@ -7,7 +7,8 @@ ghost use Rattle.pc_board.specs.Passes.{IsOfBoard};
 use crate::audits::{right_files, take_parts};
 use crate::gate::{Meeting, Stop, Visit};
 use crate::jobs::Work;
-use crate::receipts::{are_exact, count_of};
+use crate::receipts::{are_exact, count_of, reads_of};
+use crate::signs::Sign;
 use pc_board::{Board, BoardPass};
 use pc_jobs::Job;
 use pc_log::encode_log;
@@ -25,8 +26,9 @@ use std::thread::{self, Threads, join};
 pub struct Plan {
     pub sessions: u8,
     pub points: u32,
-    /// Whether a collapser joins the points' files beside all others.
-    pub collapses: bool,
+    /// Up to which point a collapser joins files beside all others, 0 where there is none; where it is to join more points than are
+    /// taken, it waits for the end.
+    pub joins: u32,
     pub work: Work,
     /// How many entries a client may leave unwritten behind its commit; where none is given it never waits for the log.
     pub lag: Option<u32>,
@@ -43,11 +45,14 @@ pub struct Left {
     /// How many jobs were committed, and how many were given up.
     pub commits: u64,
     pub given_up: u64,
-    /// How many receipts the sessions have.
+    /// How many receipts the sessions have, and how many reads these.
     pub receipts: usize,
+    pub reads: usize,
     /// How many commits the log has, and how many tokens.
     pub entries: usize,
     pub tokens: usize,
+    /// How many of the log's entries the logger was handed before the end.
+    pub logged: usize,
     /// Whether every session is there.
     pub all: bool,
     /// Whether what the logger wrote is the text of the log.
@@ -59,9 +64,10 @@ pub struct Left {
 }
 
 impl Left {
-    /// Whether there is a receipt and an entry of the log for each commit.
-    pub fn is_each_kept(&self) -> bool {
-        self.receipts == self.entries && self.entries as u64 == self.commits
+    /// Whether all that stood met the others, no job was given up, and the logger has written each entry that there was.
+    pub fn went_on(&self) -> bool {
+        let entries = self.entries.saturating_add(self.tokens);
+        self.have_met && self.given_up == 0 && self.logged == entries
     }
 }
 
@@ -136,6 +142,18 @@ fn run_clients<N: StoreName + Send + Sync, R: Threads + Wait + Sync>(
     );
 }
 
+// The end is marked, by which a collapser that waits for more points than there are is to be woken. Where he sleeps on, a change of
+// the phase wakes him, so that the program comes to its end.
+fn end<N: StoreName, R: Wait>(rt: &R, room: &Room<N>, seat: &mut CheckpointerSeat<N>) {
+    room.shared.mark_end(rt);
+    room.gate.come(Sign::EndIsMarked);
+    if room.gate.have_met() || room.plan.joins <= room.plan.points {
+        return;
+    }
+    let reply = room.shared.advance(rt, seat);
+    drop(reply);
+}
+
 // The clients and the checkpointer; once they are through, the end is marked.
 fn run_to_the_end<N: StoreName + Send + Sync, R: Threads + Wait + Sync>(
     rt: &R,
@@ -156,7 +174,7 @@ fn run_to_the_end<N: StoreName + Send + Sync, R: Threads + Wait + Sync>(
         { checkpoint_loop(rt, room.shared, seat, board, pass, points, room.gate) },
         || run_clients(rt, room, sessions),
     );
-    room.shared.mark_end(rt);
+    end(rt, room, seat);
     points
 }
 
@@ -169,12 +187,11 @@ fn collapse<N: StoreName, R: Wait>(
 ) -> Result<Vec<PartTicket<N>>, Refusal>
     requires { IsOfBoard pass.old board.now }
 {
-    if !room.plan.collapses {
+    if room.plan.joins == 0 {
         return Ok(Vec::new(room.alloc));
     }
-    let points = room.plan.points;
     let mut witness = room.shared.witness(rt);
-    collapse_loop(
+    let held = collapse_loop(
         rt,
         room.alloc,
         room.shared,
@@ -182,9 +199,11 @@ fn collapse<N: StoreName, R: Wait>(
         board,
         pass,
         0,
-        points,
+        room.plan.joins,
         room.gate,
-    )
+    );
+    room.gate.come(Sign::CollapserEnds);
+    held
 }
 
 // The logger, and beside it the collapser.
@@ -315,8 +334,10 @@ fn left_by<N: StoreName>(
         commits: done.commits.load(Ordering::SeqCst),
         given_up: done.given_up.load(Ordering::SeqCst),
         receipts: count_of(&closed.receipts),
+        reads: reads_of(alloc, &closed.receipts)?,
         entries,
         tokens,
+        logged: closed.logged,
         all: closed.all,
         is_written: is_text_of(alloc, text, closed)?,
         are_exact: are_exact(alloc, closed.log(), &closed.receipts)?,

@@ -9,7 +9,7 @@ use crate::signs::Sign;
 const BESIDE_A_POINT: Plan = Plan {
     sessions: 2,
     points: 1,
-    collapses: false,
+    joins: 0,
     work: Work::Listed(&[
         &[&[Ask::Put(b'a', 1)]],
         &[&[Ask::Put(b'c', 1)], &[Ask::Put(b'b', 1)]],
@@ -30,7 +30,7 @@ const BESIDE_A_POINT: Plan = Plan {
 const COLLAPSE_BESIDE: Plan = Plan {
     sessions: 1,
     points: 3,
-    collapses: true,
+    joins: 3,
     work: Work::Listed(&[&[&[Ask::Put(b'a', 1)]]]),
     lag: None,
     stops: &[
@@ -40,11 +40,26 @@ const COLLAPSE_BESIDE: Plan = Plan {
     alone: &[],
 };
 
+// The collapser is to join a point more than is taken. Session 1 begins once that one is over, and commits sixty times meanwhile.
+// Once it has, the end is marked, by which the collapser is to be woken.
+const END_WAKES: Plan = Plan {
+    sessions: 1,
+    points: 1,
+    joins: 2,
+    work: Work::Listed(&[&SIXTY]),
+    lag: None,
+    stops: &[
+        Stop(Visit(Sign::FirstStarts, 1), Visit(Sign::EntersRest, 1)),
+        Stop(Visit(Sign::EndIsMarked, 1), Visit(Sign::CollapserEnds, 1)),
+    ],
+    alone: &[],
+};
+
 // Session 1 begins once session 2 has committed, and reads what that has written.
 const READ_BACK: Plan = Plan {
     sessions: 2,
     points: 0,
-    collapses: false,
+    joins: 0,
     work: Work::Listed(&[&[&[Ask::Get(b'k')]], &[&[Ask::Put(b'k', 1)]]]),
     lag: None,
     stops: &[Stop(Visit(Sign::FirstStarts, 1), Visit(Sign::SecondCommits, 1))],
@@ -55,7 +70,7 @@ const READ_BACK: Plan = Plan {
 const SESSIONS_MEET: Plan = Plan {
     sessions: 2,
     points: 0,
-    collapses: false,
+    joins: 0,
     work: Work::Listed(&[&[&[Ask::Put(b'a', 1)]], &[&[Ask::Put(b'b', 1)]]]),
     lag: None,
     stops: &[
@@ -70,7 +85,7 @@ const SESSIONS_MEET: Plan = Plan {
 const YOUNGER_DIES: Plan = Plan {
     sessions: 2,
     points: 0,
-    collapses: false,
+    joins: 0,
     work: Work::Listed(&[
         &[&[Ask::Put(b'a', 1)]],
         &[&[Ask::Put(b'b', 2), Ask::Put(b'a', 2)]],
@@ -84,15 +99,18 @@ const YOUNGER_DIES: Plan = Plan {
     alone: &[],
 };
 
-// What session 3 puts beside a session that waits, each in a transaction of its own.
+// What is put while another one waits, each in a transaction of its own.
 const SIXTY: [Asks; 60] = [&[Ask::Put(b'c', 3)]; 60];
+
+// The same, and one more.
+const SIXTY_ONE: [Asks; 61] = [&[Ask::Put(b'c', 3)]; 61];
 
 // Session 1 is the older one. It asks for what session 2 has locked and waits, while session 3 commits sixty times; session 2
 // commits only then, and session 1 goes on once it has.
 const OLDER_WAITS: Plan = Plan {
     sessions: 3,
     points: 0,
-    collapses: false,
+    joins: 0,
     work: Work::Listed(&[
         &[&[Ask::Put(b'a', 1), Ask::Put(b'k', 1)]],
         &[&[Ask::Put(b'k', 2)]],
@@ -108,11 +126,35 @@ const OLDER_WAITS: Plan = Plan {
     alone: &[],
 };
 
+// Session 1 is the older one. It asks for what session 2 has locked and waits, while session 3 commits sixty times. Only then
+// session 2 asks for what session 1 has locked, dies and is aborted, by which session 1 is to be woken: session 3, whose last
+// commit would wake it too, and session 2, which begins again, go on once session 1 has committed.
+const ABORT_WAKES: Plan = Plan {
+    sessions: 3,
+    points: 0,
+    joins: 0,
+    work: Work::Listed(&[
+        &[&[Ask::Put(b'a', 1), Ask::Put(b'k', 1)]],
+        &[&[Ask::Put(b'k', 2), Ask::Put(b'a', 2)]],
+        &SIXTY_ONE,
+    ]),
+    lag: None,
+    stops: &[
+        Stop(Visit(Sign::SecondStarts, 1), Visit(Sign::FirstSteps, 1)),
+        Stop(Visit(Sign::FirstSteps, 1), Visit(Sign::SecondSteps, 1)),
+        Stop(Visit(Sign::ThirdStarts, 1), Visit(Sign::SecondSteps, 1)),
+        Stop(Visit(Sign::SecondSteps, 1), Visit(Sign::ThirdCommits, 60)),
+        Stop(Visit(Sign::SecondStarts, 2), Visit(Sign::FirstCommits, 1)),
+        Stop(Visit(Sign::ThirdStarts, 61), Visit(Sign::FirstCommits, 1)),
+    ],
+    alone: &[],
+};
+
 // Four sessions put keys of their own, a thousand each.
 const APART: Plan = Plan {
     sessions: 4,
     points: 0,
-    collapses: false,
+    joins: 0,
     work: Work::Made(4, 1000, Made::Apart),
     lag: None,
     stops: &[],
@@ -123,7 +165,7 @@ const APART: Plan = Plan {
 const CROWD: Plan = Plan {
     sessions: 64,
     points: 8,
-    collapses: false,
+    joins: 0,
     work: Work::Made(64, 2, Made::Crowded),
     lag: None,
     stops: &[],
@@ -135,7 +177,7 @@ const CROWD: Plan = Plan {
 const LOG_HOLDS: Plan = Plan {
     sessions: 1,
     points: 0,
-    collapses: false,
+    joins: 0,
     work: Work::Listed(&[&[
         &[Ask::Put(b'a', 1)],
         &[Ask::Put(b'a', 2)],
@@ -150,13 +192,15 @@ const LOG_HOLDS: Plan = Plan {
 };
 
 /// All of them, with their names.
-pub const PLANS: [(&str, Plan); 9] = [
+pub const PLANS: [(&str, Plan); 11] = [
     ("beside a point", BESIDE_A_POINT),
     ("collapse beside", COLLAPSE_BESIDE),
+    ("the end wakes a collapser", END_WAKES),
     ("read back", READ_BACK),
     ("sessions meet", SESSIONS_MEET),
     ("the younger one dies", YOUNGER_DIES),
     ("the older one waits", OLDER_WAITS),
+    ("an abort wakes the older one", ABORT_WAKES),
     ("the log holds a client", LOG_HOLDS),
     ("four apart", APART),
     ("a crowd over ten keys", CROWD),

@@ -38,6 +38,25 @@ pub fn count_of<N: StoreName>(sessions: &[Session<N>]) -> usize {
     count
 }
 
+/// How many reads the sessions' receipts have.
+pub fn reads_of<N: StoreName>(alloc: Global, sessions: &[Session<N>]) -> Result<usize, Refusal> {
+    let mut count = 0usize;
+    for session in sessions {
+        count = count.saturating_add(reads_in(alloc, session.receipts())?);
+    }
+    Ok(count)
+}
+
+fn reads_in(alloc: Global, receipts: &Receipts) -> Result<usize, Refusal> {
+    let mut count = 0usize;
+    for place in 0..receipts.len() {
+        if let Some(receipt) = receipts.copy(alloc, place)? {
+            count = count.saturating_add(receipt.reads.as_slice().len());
+        }
+    }
+    Ok(count)
+}
+
 fn receipt_of<N: StoreName>(
     alloc: Global,
     sessions: &[Session<N>],

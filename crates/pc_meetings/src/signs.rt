@@ -4,7 +4,7 @@ use std::sync::atomic::{AtomicU64, Ordering};
 
 /// A place that is counted: of sessions 1 and 2 the beginnings of transactions, their first operations and their commits; of
 /// session 3 the beginnings and the commits; that session 1 waits for the log, and that the logger is to write; of the checkpointer
-/// some of its phases, and its keys; and how often the first collapser holds two files.
+/// some of its phases, and its keys; how often the first collapser holds two files, and that it has ended; and that the end is marked.
 #[derive(Clone, Copy, Debug, PartialEq, Eq)]
 pub enum Sign {
     FirstStarts,
@@ -20,8 +20,11 @@ pub enum Sign {
     PrepareIsDue,
     EntersResolve,
     EntersComplete,
+    EntersRest,
     Takes,
     Pairs,
+    CollapserEnds,
+    EndIsMarked,
 }
 
 /// The sign of the place, where it is counted.
@@ -40,6 +43,7 @@ pub fn sign_of(place: Place) -> Option<Sign> {
         Place::Due(Phase::Prepare) => Some(Sign::PrepareIsDue),
         Place::Entered(Phase::Resolve) => Some(Sign::EntersResolve),
         Place::Entered(Phase::Complete) => Some(Sign::EntersComplete),
+        Place::Entered(Phase::Rest) => Some(Sign::EntersRest),
         Place::Took => Some(Sign::Takes),
         Place::Pair(0) => Some(Sign::Pairs),
         _ => None,
@@ -49,7 +53,7 @@ pub fn sign_of(place: Place) -> Option<Sign> {
 /// How often each was passed.
 #[derive(Drop)]
 pub struct Counts {
-    counts: [AtomicU64; 15],
+    counts: [AtomicU64; 18],
 }
 
 impl Counts {
@@ -57,6 +61,9 @@ impl Counts {
     pub fn new() -> Counts {
         Counts {
             counts: [
+                AtomicU64::new(0),
+                AtomicU64::new(0),
+                AtomicU64::new(0),
                 AtomicU64::new(0),
                 AtomicU64::new(0),
                 AtomicU64::new(0),
