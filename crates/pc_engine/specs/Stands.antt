@@ -3,6 +3,7 @@ use Rattle.std.specs.Prelude.{◌≡◌, ℕ, ◌≤◌, true, false, Option, So
 use Rattle.pc_types.specs.declared.Event.{Event}
 use Rattle.pc_types.specs.declared.Reply.{Reply}
 use Rattle.pc_types.specs.declared.Reply.TheVariants as told
+use Rattle.pc_types.specs.declared.limits.TheConstants.{MOST_SESSIONS}
 use Rattle.pc_model.specs.Maps as map_of
 use Rattle.pc_model.specs.Database.{key_order}
 use Rattle.pc_model.specs.Points.{taken}
@@ -47,7 +48,7 @@ pub record IsReadOff (w : Store) (history : History) : Type 0 where
 -- values; the history is legal, each Take has carried what its key has at the point, and each part of the world is read off
 -- the history.
 pub record Stands (w : Store) (history : History) : Type 0 where
-  pub sessions : length w.sessions ≤ 64
+  pub sessions : length w.sessions ≤ MOST_SESSIONS
   pub limits : AreInLimits history
   pub legal : IsLegalHistory (setting_of w) history
   pub values : TakesPointValue w.base.pairs history

@@ -8,7 +8,7 @@ use Rattle.pc_types.specs.declared.Reply.{Reply}
 use Rattle.pc_types.specs.declared.Reply.TheVariants as told
 use Rattle.pc_types.specs.declared.Refusal.{Refusal}
 use Rattle.pc_types.specs.declared.Refusal.TheVariants as why
-use Rattle.pc_types.specs.declared.limits.TheConstants.{MOST_FILES, MOST_LOG_ENTRIES, MOST_POINTS}
+use Rattle.pc_types.specs.declared.limits.TheConstants.{MOST_FILES, MOST_LOG_ENTRIES, MOST_POINTS, MOST_TRANSACTIONS}
 use Rattle.pc_model.specs.Database.{key_cmp, written}
 use Rattle.pc_model.specs.Sets as set
 use Rattle.pc_model.specs.Files.{File, file_at, join_of, triples_taken}
@@ -60,7 +60,7 @@ OpenCause w s (Some r) = (causes : List (Bool × Refusal)) → first_refusal (op
 
 -- the causes of a begin's refusals
 abbrev pub begin_causes : Store → ℕ → List (Bool × Refusal)
-begin_causes w s = (no_session (setting_of w) s, why.NoSession) ∷ (is_some (active w s), why.AlreadyBegun) ∷ (w.begun == 1099511627776, why.LogFull) ∷ []
+begin_causes w s = (no_session (setting_of w) s, why.NoSession) ∷ (is_some (active w s), why.AlreadyBegun) ∷ (w.begun == MOST_TRANSACTIONS, why.LogFull) ∷ []
 
 -- a transaction begins, of the class of the phase, and has written nothing
 abbrev pub Begins : Store → ℕ → Reply → Store → Type 0

@@ -1,11 +1,13 @@
 -- What a line of a workload spells by itself.
 use Rattle.std.specs.Prelude.{ℕ, ◌&&◌, nat_le, Bool, List, [], ◌∷◌, Option, Some, None, if◌then◌else◌, codes}
 use Rattle.std.specs.Str.{bytes_eq}
+use Rattle.pc_types.specs.declared.limits.TheConstants.{MOST_SESSIONS}
 use Rattle.pc_lines.specs.Words.{number_of, text_of}
 use Rattle.pc_lines.specs.Lines.{words_of, is_key, is_value, is_comment}
 use Rattle.pc_jobs.specs.declared.works.Op.TheVariants as op
 use Rattle.pc_jobs.specs.declared.phrases.Phrase.{Phrase}
 use Rattle.pc_jobs.specs.declared.phrases.Phrase.TheVariants as phrase
+use Rattle.pc_jobs.specs.declared.phrases.TheConstants.{MOST_FILL, MOST_RUN_POINTS}
 use Rattle.pc_jobs.specs.Prefixes.{is_prefix}
 
 -- a text of which a test holds
@@ -73,8 +75,8 @@ one_word verb =
 -- what two words spell
 abbrev pub two_words : List ℕ → List ℕ → Phrase
 two_words verb word =
-    if bytes_eq verb (codes "points") then points_line (number_within 0 1000 word)
-    else (if bytes_eq verb (codes "client") then client_line (number_within 1 64 word)
+    if bytes_eq verb (codes "points") then points_line (number_within 0 MOST_RUN_POINTS word)
+    else (if bytes_eq verb (codes "client") then client_line (number_within 1 MOST_SESSIONS word)
     else (if bytes_eq verb (codes "get") then get_line (key_of word)
     else (if bytes_eq verb (codes "del") then del_line (key_of word) else phrase.Malformed)))
 
@@ -85,7 +87,7 @@ three_words verb key value = if bytes_eq verb (codes "put") then put_line (key_o
 -- what four words spell
 abbrev pub four_words : List ℕ → List ℕ → List ℕ → List ℕ → Phrase
 four_words verb prefix count value =
-    if bytes_eq verb (codes "fill") then fill_line (prefix_of prefix) (number_within 1 1000000 count) (value_of value) else phrase.Malformed
+    if bytes_eq verb (codes "fill") then fill_line (prefix_of prefix) (number_within 1 MOST_FILL count) (value_of value) else phrase.Malformed
 
 -- what the words of a line spell
 abbrev pub spelled_by : List (List ℕ) → Phrase

@@ -9,7 +9,7 @@ mod workloads;
 mod works;
 
 pub use dealing::deal;
-pub use phrases::Phrase;
+pub use phrases::{MOST_FILL, MOST_RUN_POINTS, Phrase};
 pub use prefixes::Prefix;
 pub use workloads::{Reading, read_workload};
 pub use works::{Client, Fill, Job, Op, Work, Workload};

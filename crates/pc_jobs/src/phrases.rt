@@ -5,7 +5,7 @@ ghost use Rattle.pc_jobs.specs.Phrases.{key_of, value_of, prefix_of, number_with
 use crate::prefixes::Prefix;
 use crate::works::{Fill, Op};
 use pc_lines::{is_comment, is_key, is_value, number, text_of, words_of};
-use pc_types::{Key, Refusal, SessionNo, Value};
+use pc_types::{Key, MOST_SESSIONS, Refusal, SessionNo, Value};
 use std::alloc::Global;
 
 /// What a line of a workload spells by itself, wherever it stands.
@@ -29,11 +29,11 @@ pub enum Phrase {
     Malformed,
 }
 
-const MOST_RUN_POINTS: u32 = 1_000;
+/// A workload asks for at most so many points.
+pub const MOST_RUN_POINTS: u32 = 1_000;
 
-const MOST_SESSION: u32 = 64;
-
-const MOST_FILL: u32 = 1_000_000;
+/// A fill has at least one transaction, and at most so many.
+pub const MOST_FILL: u32 = 1_000_000;
 
 /// What the line, without its end, spells. Refuses only with `OutOfMemory`.
 pub(crate) fn spelled(alloc: Global, text: &[u8]) -> Result<Phrase, Refusal>
@@ -120,7 +120,7 @@ fn four_words(
 }
 
 fn points_line(word: &[u8]) -> Phrase
-    ensures { result ≡ points_line (number_within 0 1000 word.now) }
+    ensures { result ≡ points_line (number_within 0 MOST_RUN_POINTS word.now) }
 {
     match number_within(0, MOST_RUN_POINTS, word) {
         Some(points) => Phrase::Points(points),
@@ -129,9 +129,9 @@ fn points_line(word: &[u8]) -> Phrase
 }
 
 fn client_line(word: &[u8]) -> Phrase
-    ensures { result ≡ client_line (number_within 1 64 word.now) }
+    ensures { result ≡ client_line (number_within 1 MOST_SESSIONS word.now) }
 {
-    match number_within(1, MOST_SESSION, word) {
+    match number_within(1, u32::from(MOST_SESSIONS), word) {
         Some(session) => Phrase::Client(SessionNo(session)),
         None => Phrase::Malformed,
     }
@@ -170,7 +170,7 @@ fn put_line(alloc: Global, key: &[u8], value: &[u8]) -> Result<Phrase, Refusal>
 }
 
 fn fill_line(alloc: Global, prefix: &[u8], count: &[u8], value: &[u8]) -> Result<Phrase, Refusal>
-    ensures phrase { IfOk result (λ phrase. phrase ≡ fill_line (prefix_of prefix.now) (number_within 1 1000000 count.now) (value_of value.now)) }
+    ensures phrase { IfOk result (λ phrase. phrase ≡ fill_line (prefix_of prefix.now) (number_within 1 MOST_FILL count.now) (value_of value.now)) }
     ensures refusals { IfErr result (λ e. e ≡ Refusal.OutOfMemory) }
 {
     let prefix = prefix_of(alloc, prefix)?;

@@ -2,6 +2,7 @@
 use Rattle.std.specs.Prelude.{◌≡◌, ℕ, ◌+◌, ◌-◌, ◌<◌, ◌≤◌, ◌^◌, ◌==◌, List, ◌++◌, length, take, Some, None, Ok, Err, All, slice_index, if◌then◌else◌}
 use Rattle.pc_types.specs.declared.refusal.Refusal.TheVariants.{Short}
 use Rattle.pc_types.specs.declared.Entry.{Entry}
+use Rattle.pc_types.specs.declared.limits.TheConstants.{MOST_SESSIONS}
 use Rattle.pc_model.specs.History.{History, log_of}
 use Rattle.pc_model.specs.Replies.{Setting}
 use Rattle.pc_model.specs.Standing.{HasLegalEffects}
@@ -42,7 +43,7 @@ LogTextsAreRead =
 
 -- The log of a run has a text: its entries are within the limits of the format, and its tokens keep their order.
 abbrev pub LogsOfRunsHaveTexts : Type 0
-LogsOfRunsHaveTexts = (st : Setting) (history : History) → HasLegalEffects st history → st.sessions ≤ 64 → AreInLimits history → IsLog (log_of history)
+LogsOfRunsHaveTexts = (st : Setting) (history : History) → HasLegalEffects st history → st.sessions ≤ MOST_SESSIONS → AreInLimits history → IsLog (log_of history)
 
 -- how many bytes of the first c are behind the text of the first p entries
 abbrev pub left_behind : ℕ → List Entry → ℕ → ℕ → ℕ

@@ -11,6 +11,7 @@ use Rattle.pc_types.specs.declared.Phase.TheVariants.{Rest, Prepare, Resolve, Ca
 use Rattle.pc_types.specs.declared.Write.{Write}
 use Rattle.pc_types.specs.Fields.{◌>>=◌, where_true, bytes_at, number_at, magic_at, key_at, content_at}
 use Rattle.pc_types.specs.declared.limits.TheConstants.{MOST_SESSIONS, MOST_WRITES}
+use Rattle.pc_log.specs.declared.reading.TheConstants.{MOST_BODY_BYTES}
 use Rattle.pc_log.specs.declared.order.LastToken.{LastToken}
 use Rattle.pc_log.specs.declared.reading.LogText.{LogText}
 use Rattle.pc_log.specs.Texts.{log_magic, same_key}
@@ -86,7 +87,7 @@ body_at last bytes = do
 unfoldable pub entry_at : LastToken → List ℕ → Result (Entry × List ℕ) Refusal
 entry_at last bytes = do
   size ← number_at Short w32 bytes
-  lawful ← where_true (nat_le 1 size.0 && nat_le size.0 16844036) BadLength size
+  lawful ← where_true (nat_le 1 size.0 && nat_le size.0 MOST_BODY_BYTES) BadLength size
   body ← bytes_at Short lawful.0 lawful.1
   entry ← body_at last body.0
   Ok (entry, body.1)

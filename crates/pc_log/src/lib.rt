@@ -16,4 +16,4 @@ pub use laws::{
 };
 pub use log::Log;
 pub use order::LastToken;
-pub use reading::{LogText, read_entry, read_header, read_log};
+pub use reading::{LogText, MOST_BODY_BYTES, read_entry, read_header, read_log};

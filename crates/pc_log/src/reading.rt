@@ -8,10 +8,17 @@ ghost use Rattle.pc_log.specs.Laws.{IsWhole};
 use crate::order::LastToken;
 use crate::phases;
 use pc_types::{
-    Entry, Items, Key, MOST_SESSIONS, MOST_WRITES, Point, Refusal, SessionNo, Write, read_bytes,
-    read_content, read_key, read_magic, read_u16, read_u32, read_u64,
+    Entry, Items, Key, MOST_KEY_BYTES, MOST_SESSIONS, MOST_VALUE_BYTES, MOST_WRITES, Point,
+    Refusal, SessionNo, Write, read_bytes, read_content, read_key, read_magic, read_u16, read_u32,
+    read_u64,
 };
 use std::alloc::Global;
+
+/// The body of an entry has at most so many bytes: those of the most writes, of the longest keys and values, with two for the
+/// length of each key, one for what stands behind it and four for the length of its value, behind one each for the kind and
+/// the session and two for the number of writes.
+pub const MOST_BODY_BYTES: usize = 4
+    + MOST_WRITES * (2 + MOST_KEY_BYTES + 1 + 4 + MOST_VALUE_BYTES);
 
 /// What was read of a log's text: its whole entries, which are all that can be read behind the header one by one with their
 /// tokens in order, and what is left behind them.
@@ -111,7 +118,7 @@ pub fn read_entry(alloc: Global, last: LastToken, bytes: &[u8]) -> Result<(Entry
     ensures { Gives (λ x. (x.0, x.1.now)) result (entry_at last bytes.now) }
 {
     let (size, rest) = read_u32(bytes, Refusal::Short)?;
-    if size == 0 || 16_844_036 < size {
+    if size == 0 || MOST_BODY_BYTES < size as usize {
         return Err(Refusal::BadLength);
     }
     let (body, rest) = read_bytes(rest, size as usize, Refusal::Short)?;

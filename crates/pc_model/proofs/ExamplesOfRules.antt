@@ -1,11 +1,11 @@
--- Single rules, by computing.
+-- Single rules and limits, by computing.
 use Rattle.std.proofs.Common.{◌≡◌, [], ◌∷◌, Some, true, false, refl, ap, reverse}
 use Rattle.pc_model.specs.Maps as map_of
 use Rattle.pc_model.specs.Database.{database_of}
 use Rattle.pc_model.specs.Files.{same_content}
 use Rattle.pc_model.specs.Reads.{HasRightReads}
 use Rattle.pc_model.specs.Examples.{k, v5, v6}
-use Rattle.pc_model.specs.ExamplesOfRules.{LockRules, FileRules, RefusalRules, ReadRules, overtaken_read, own_write_missed}
+use Rattle.pc_model.specs.ExamplesOfRules.{LockRules, FileRules, LimitRules, RefusalRules, ReadRules, overtaken_read, own_write_missed}
 use Rattle.pc_model.proofs.Causes as causes
 
 pub lock_rules : LockRules
@@ -39,6 +39,20 @@ file_rules = record {
   gap_above_the_base = refl;
   no_gap_above_the_base = refl;
   no_gap_below_the_base = refl;
+}
+
+pub limit_rules : LimitRules
+limit_rules = record {
+  most_key_bytes = refl;
+  most_value_bytes = refl;
+  most_sessions = refl;
+  most_keys = refl;
+  most_transactions = refl;
+  most_writes = refl;
+  most_log_entries = refl;
+  most_points = refl;
+  most_files = refl;
+  most_file_entries = refl;
 }
 
 pub refusal_rules : RefusalRules

@@ -1,4 +1,4 @@
--- Single rules, each shown at one place: rules of locks, of files, of refusals and of reads.
+-- Single rules, each shown at one place: rules of locks, of files, of refusals and of reads; and the limits of the store as numbers.
 use Rattle.std.specs.Prelude.{◌≡◌, ℕ, zero, suc, Bool, true, false, List, [], ◌∷◌, Some, None, reverse}
 use Rattle.pc_types.specs.declared.Phase.TheVariants.{Rest}
 use Rattle.pc_types.specs.declared.Event.TheVariants as asked
@@ -12,6 +12,7 @@ use Rattle.pc_model.specs.History.{History}
 use Rattle.pc_types.specs.declared.Mode.TheVariants.{Shared, Exclusive}
 use Rattle.pc_types.specs.declared.Outcome.TheVariants.{Granted, Queued, Died}
 use Rattle.pc_types.specs.declared.Request.{Request}
+use Rattle.pc_types.specs.declared.limits.TheConstants.{MOST_FILES, MOST_FILE_ENTRIES, MOST_KEYS, MOST_KEY_BYTES, MOST_LOG_ENTRIES, MOST_POINTS, MOST_SESSIONS, MOST_TRANSACTIONS, MOST_VALUE_BYTES, MOST_WRITES}
 use Rattle.pc_model.specs.Locks.{outcome, queue_after, queue_without}
 use Rattle.pc_model.specs.Points.{Triples, joined, laid}
 use Rattle.pc_model.specs.Files.{File, conflict}
@@ -95,6 +96,24 @@ numbered_key n = 107 ∷ n ∷ []
 abbrev pub many_puts : ℕ → History
 many_puts zero = step (asked.Begin 1) (told.Begun 1) ∷ []
 many_puts (suc n) = step (asked.Put 1 (numbered_key n) v1) told.Ok ∷ many_puts n
+
+-- The limits of the store. Everywhere else each has its name.
+pub record LimitRules : Type 0 where
+  -- of a key and of a value, in bytes
+  pub most_key_bytes : MOST_KEY_BYTES ≡ 255
+  pub most_value_bytes : MOST_VALUE_BYTES ≡ 65535
+  -- of a store: its sessions, the keys that it has room for, and the transactions that it begins
+  pub most_sessions : MOST_SESSIONS ≡ 64
+  pub most_keys : MOST_KEYS ≡ 1048576
+  pub most_transactions : MOST_TRANSACTIONS ≡ 1099511627776
+  -- of the keys that a transaction writes
+  pub most_writes : MOST_WRITES ≡ 256
+  -- of a log's entries, and of a run's points
+  pub most_log_entries : MOST_LOG_ENTRIES ≡ 16777216
+  pub most_points : MOST_POINTS ≡ 65535
+  -- of a shelf's files, and of a file's entries
+  pub most_files : MOST_FILES ≡ 65536
+  pub most_file_entries : MOST_FILE_ENTRIES ≡ 4294967295
 
 -- Rules of refusals, and of those that no short history meets.
 pub record RefusalRules : Type 0 where

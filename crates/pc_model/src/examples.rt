@@ -1,5 +1,5 @@
-//! Worked examples of the definitions: whole histories with their files and states, replies that aren't legal, and single
-//! rules. Each function does nothing, and its contract is the examples of one subject.
+//! Worked examples of the definitions: whole histories with their files and states, replies that aren't legal, single
+//! rules, and the limits. Each function does nothing, and its contract is the examples of one subject.
 ghost use Rattle.pc_model.specs.ExamplesOfTransactions.{ExamplesOfTransactions};
 ghost use Rattle.pc_model.specs.ExamplesOfPoints.{ExamplesOfPoints};
 ghost use Rattle.pc_model.specs.ExamplesOfFiles.{ExamplesOfFiles};
@@ -8,7 +8,7 @@ ghost use Rattle.pc_model.specs.ExamplesOfLocks.{ExamplesOfLocks};
 ghost use Rattle.pc_model.specs.ExamplesOfCapacity.{ExamplesOfCapacity};
 ghost use Rattle.pc_model.specs.ExamplesOfRefusals.{ExamplesOfRefusals};
 ghost use Rattle.pc_model.specs.ExamplesOfIllegalReplies.{ExamplesOfIllegalReplies};
-ghost use Rattle.pc_model.specs.ExamplesOfRules.{LockRules, FileRules, RefusalRules, ReadRules};
+ghost use Rattle.pc_model.specs.ExamplesOfRules.{LockRules, FileRules, LimitRules, RefusalRules, ReadRules};
 
 /// Transactions: what they read, and what their commits leave.
 pub fn worked_examples_of_transactions()
@@ -50,10 +50,11 @@ pub fn illegal_replies()
     ensures { ExamplesOfIllegalReplies }
 {}
 
-/// Single rules, each at one place: of locks, of files, of refusals and of reads.
+/// Single rules, each at one place: of locks, of files, of refusals and of reads; and the limits of the store as numbers.
 pub fn worked_examples_of_rules()
     ensures locks { LockRules }
     ensures files { FileRules }
+    ensures limits { LimitRules }
     ensures refusals { RefusalRules }
     ensures reads { ReadRules }
 {}

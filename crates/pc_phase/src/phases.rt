@@ -1,5 +1,5 @@
 //! The phase and the point, with how many transactions of each class are active.
-ghost use Rattle.std.specs.Prelude.{◌≡◌, ◌<◌, ◌↔◌, ◌+◌, Some, None, IsOk, OnOk, IfErr, OnErr};
+ghost use Rattle.std.specs.Prelude.{◌≡◌, ◌<◌, ◌↔◌, ◌+◌, ◌-◌, ◌^◌, Some, None, IsOk, OnOk, IfErr, OnErr};
 ghost use Rattle.pc_types.specs.declared.Phase.TheVariants.{Rest};
 ghost use Rattle.pc_model.specs.History.{class_in};
 ghost use Rattle.pc_types.specs.Phases.{same_phase};
@@ -76,7 +76,7 @@ impl Phases {
     /// A transaction begins, and is active in the class of the phase. It is given its class, by which it leaves. Fewer than
     /// 4,294,967,295 of that class may be active before.
     pub fn enter(&mut self) -> Class
-        requires { active_of self.old (class_in self.old.phase) < 4294967295 }
+        requires { active_of self.old (class_in self.old.phase) < 2 ^ 32 - 1 }
         ensures class { result ≡ class_in self.old.phase }
         ensures entered { self.new ≡ entered self.old (class_in self.old.phase) }
         ensures sound { IsSound self.new }

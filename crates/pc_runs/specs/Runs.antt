@@ -4,6 +4,7 @@ use Rattle.std.specs.Prelude.{◌≡◌, ◌⊎◌, ◌++◌, ℕ, Bool, List, O
 use Rattle.std.specs.Io.KnownBytes.{Appends}
 use Rattle.pc_types.specs.Counted.{HasRisen, AppendsBeginning}
 use Rattle.pc_types.specs.Tallies.{Puts, inner_of, failures_of}
+use Rattle.pc_types.specs.declared.limits.TheConstants.{MOST_SESSIONS}
 use Rattle.pc_types.specs.declared.refusal.Refusal.{Refusal}
 use Rattle.pc_types.specs.declared.tally.Tally.{Tally}
 use Rattle.pc_model.specs.Database.{database_of}
@@ -38,7 +39,7 @@ use Rattle.pc_texts.specs.declared.file_names.FileName.{FileName}
 
 -- the store of a run over this base: 64 sessions, and room for so many keys
 abbrev pub run_setting : BaseFile → ℕ → Setting
-run_setting base capacity = record { run = base.run; base = base.pairs; sessions = 64; capacity = capacity }
+run_setting base capacity = record { run = base.run; base = base.pairs; sessions = MOST_SESSIONS; capacity = capacity }
 
 -- It is the base that a run starts from. Of no folder it has no pairs and the run's number, and nothing is told; else it is made of
 -- the folder, and what is damaged there was told.

@@ -16,16 +16,13 @@ use pc_part::Base;
 use pc_script::{NamedFile, read_opened};
 use pc_shared::Opened;
 use pc_threads::{Fault, NewFiles};
-use pc_types::{Gate, Refusal, Tally};
+use pc_types::{Gate, MOST_SESSIONS, Refusal, Tally};
 use std::alloc::Global;
 use std::hash::RandomState;
 use std::io::{Read, Write};
 use std::marker::Brand;
 use std::sync::Wait;
 use std::thread::Threads;
-
-// How many sessions the store of a run has.
-const SESSIONS: u8 = 64;
 
 /// How a run has ended.
 #[derive(Drop)]
@@ -185,7 +182,7 @@ fn run_read<
         return Err(Fault::Refused(Refusal::Full));
     }
     let (folder, log) = begin(folder, &base)?;
-    let opened = Opened::new(alloc, base, SESSIONS, capacity, seed)?;
+    let opened = Opened::new(alloc, base, MOST_SESSIONS, capacity, seed)?;
     run_store::<Brand, F, D, G, H>(rt, alloc, opened, workload, crew, folder, log)
 }
 

@@ -49,6 +49,7 @@ pub struct Opened {
 impl Model for Opened {
     ghost use Rattle.std.specs.Prelude.{◌≡◌, ◌≤◌, []};
     ghost use Rattle.std.specs.Coded.{codes};
+    ghost use Rattle.pc_types.specs.declared.limits.TheConstants.{MOST_SESSIONS};
     ghost use Rattle.pc_model.specs.Database.{database_code};
     ghost use Rattle.pc_engine.specs.Stands.{Stands};
     ghost use Rattle.pc_engine.specs.Store.{setting_of};
@@ -60,7 +61,7 @@ impl Model for Opened {
 
     ghost view = { λ o. o.tie };
 
-    ghost invariant = { λ o. Stands o.world [] × (setting_of o.world ≡ o.tie.setting) × ((setting_of o.world).sessions ≡ o.count) × (o.count ≤ 64) };
+    ghost invariant = { λ o. Stands o.world [] × (setting_of o.world ≡ o.tie.setting) × ((setting_of o.world).sessions ≡ o.count) × (o.count ≤ MOST_SESSIONS) };
 }
 
 impl Opened {

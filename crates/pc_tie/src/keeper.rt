@@ -1,5 +1,6 @@
 //! Who deals the seats of a store, and who keeps its history.
 ghost use Rattle.std.specs.Prelude.{◌≡◌, ◌<◌, ◌≤◌, ◌+◌, ◌∷◌, [], All, List, length};
+ghost use Rattle.pc_types.specs.declared.limits.TheConstants.{MOST_SESSIONS};
 ghost use Rattle.pc_model.specs.History.{log_of};
 ghost use Rattle.pc_model.specs.Replies.{IsLegalHistory};
 ghost use Rattle.pc_model.specs.Calls.{session_of, IsBeginning, HasCallsOf};
@@ -80,7 +81,7 @@ pub(crate) fn deal_first<N: StoreName>(
 impl<N: StoreName> Dealer<N> {
     /// The seat of the next session, which has seen nothing.
     pub fn deal(&mut self, tie: &Tie<N>) -> SessionSeat<N>
-        requires { (self.old < 64) × (self.old < N.name.setting.sessions) }
+        requires { (self.old < MOST_SESSIONS) × (self.old < N.name.setting.sessions) }
         ensures dealt { self.new ≡ self.old + 1 }
         ensures seat { result ≡ sitting (self.old + 1) [] }
     {
