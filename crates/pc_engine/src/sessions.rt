@@ -1,5 +1,6 @@
 //! The sessions' open transactions.
 ghost use Rattle.std.specs.Prelude.{◌≡◌, ◌<◌, ◌≤◌, ◌-◌, ◌==◌, length, [], ◌+◌, option_map, option_copied, None, Some, List, ℕ, IfOk, IfErr, OnErr, OnOk, is_none, replicate, true, false};
+ghost use Rattle.smallvec.specs.SmallVec.{HasRoomFor};
 ghost use Rattle.pc_model.specs.History.{class_in};
 ghost use Rattle.pc_model.specs.Database.{with_write, written};
 ghost use Rattle.pc_model.specs.Locks.{outcome};
@@ -34,7 +35,7 @@ pub(crate) struct Transaction {
     pub(crate) class: Class,
     pub(crate) has_died: bool,
     pub(crate) writes: WriteSet,
-    /// The numbers of the slots in which the keys of the writes were found, in the order of the writes, as far as they are known.
+    /// The numbers of the slots in which the keys of the writes were found, in the order of the writes.
     pub(crate) slots: SmallVec<u32, 4>,
 }
 
@@ -249,7 +250,12 @@ fn request_write(
     ensures shut { records.new.shut ≡ records.old.shut }
     ensures same { OnErr result (active_of transaction.new ≡ active_of transaction.old) }
 {
-    let Ok(value) = prepared(alloc, &mut transaction.writes, &write.value) else {
+    let Ok(value) = prepared(
+        alloc,
+        &mut transaction.writes,
+        &mut transaction.slots,
+        &write.value,
+    ) else {
         return Err(why_refused(records, &write.key));
     };
     let (number, class) = (transaction.number, transaction.class);
@@ -262,30 +268,33 @@ fn request_write(
     Ok(outcome)
 }
 
-// Notes the write, and the slot of a key that it is the first write of, where there is memory for that: else the key will be
-// searched.
+// Notes the write, and the slot of a key that it is the first write of. There is room for both.
 fn note(writes: &mut WriteSet, slots: &mut SmallVec<u32, 4>, write: Write, slot: SlotId)
-    requires { 0 < writes.old.room }
+    requires room { 0 < writes.old.room }
+    requires place { HasRoomFor slots.old 1 }
     ensures { writes.new.items ≡ with_write writes.old.items write }
 {
     let known = writes.len();
     writes.note(write);
-    if known < writes.len() {
-        let _ = slots.push(slot.0);
+    if known != writes.len() {
+        slots.push_reserved(slot.0);
     }
 }
 
-// A copy of the content, with room for one more write.
+// A copy of the content, with room for one more write and its slot.
 fn prepared(
     alloc: Global,
     writes: &mut WriteSet,
+    slots: &mut SmallVec<u32, 4>,
     content: &Option<Value>,
 ) -> Result<Option<Value>, AllocError>
     ensures copy { IfOk result (λ copy. copy ≡ content.now) }
     ensures room { OnOk result (0 < writes.new.room) }
+    ensures place { OnOk result (HasRoomFor slots.new 1) }
     ensures same { writes.new.items ≡ writes.old.items }
 {
     writes.reserve()?;
+    slots.reserve(1)?;
     copy_content(alloc, content)
 }
 
