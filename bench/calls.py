@@ -13,6 +13,7 @@ import sys
 import tempfile
 
 import child
+import history
 
 PROGRAM = os.path.join(os.path.dirname(os.path.abspath(__file__)), "..", "crates", "pc_bench", "out", "pc_bench")
 RUNS = 7
@@ -40,6 +41,7 @@ def measure_points(words):
     group = max(1, points // GROUPS)
     for first in range(0, points, group):
         some = least[first : first + group]
+        history.note("points %s of %s keys: a key taken, points %d to %d" % (points, words[1], first + 1, first + len(some)), min(some), "us")
         print("points %d to %d: %s" % (first + 1, first + len(some), spread("us a key taken:", some)))
 
 
@@ -53,6 +55,8 @@ def measure_commits(words):
         print("%s: %s, %d runs" % (name, ", ".join("%s %s" % count for count in runs[0].items() if count[0] != "commit_us"), RUNS))
         print(spread("committed a second, thousands:", [int(t["committed"]) * 1e3 / int(t["commit_us"]) for t in runs]))
     least = {name: min(int(t["commit_us"]) for t in runs) for name, runs in told.items()}
+    for name, time in least.items():
+        history.note("commits %s over %s keys, %s" % (words[0], words[1], name), int(words[0]) * 1e6 / time, "a second")
     print("ratio of the greatest rates %.3f" % (least["without points"] / least["with points"]))
 
 

@@ -11,6 +11,7 @@ import sys
 import tempfile
 
 import child
+import history
 
 PROGRAM = os.path.join(os.path.dirname(os.path.abspath(__file__)), "..", "crates", "pcalc", "out", "pcalc")
 RUNS = 7
@@ -48,6 +49,7 @@ def main():
                     written.add(it.read())
             times = [seconds for seconds, _ in runs]
             rates = size / max(times) / 1e6, size / min(times) / 1e6
+            history.note("collapse: %d files of %d entries, %d collapsers" % (files, entries, collapsers), rates[1], "MB a second")
             print("%d collapsers: %.3f to %.3f s, %.0f to %.0f MB a second, peak %.0f MB" % (collapsers, min(times), max(times), *rates, max(peak for _, peak in runs) / 1e6))
         if len(written) != 1:
             sys.exit("the collapses wrote different bytes")

@@ -15,6 +15,7 @@ import sys
 import tempfile
 
 import child
+import history
 
 sys.path.insert(0, os.path.join(os.path.dirname(os.path.abspath(__file__)), "..", "tools"))
 
@@ -97,6 +98,9 @@ def main():
     times = [seconds for seconds, _ in runs]
     rates = (records / max(times), records / min(times), size / max(times) / 1e6, size / min(times) / 1e6)
     print("%.3f to %.3f s, %.0f to %.0f records a second, %.1f to %.1f MB a second" % (min(times), max(times), *rates))
+    figure = "recover: %d pairs, %d commits, %d parts" % (pairs, commits, parts)
+    history.note(figure, rates[1], "records a second")
+    history.note(figure, max(peak for _, peak in runs) / 1e6, "MB")
     print("peak %.0f MB" % (max(peak for _, peak in runs) / 1e6))
 
 

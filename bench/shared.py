@@ -19,6 +19,8 @@ import subprocess
 import sys
 import tempfile
 
+import history
+
 CRATES = os.path.join(os.path.dirname(os.path.abspath(__file__)), "..", "crates")
 RUNS = 7
 THREADS = (1, 2, 4)
@@ -41,6 +43,7 @@ def rates(name, count, field, *words):
 
 
 def tell(text, rate, base=None):
+    history.note(text, rate[0], "a second")
     beside = "" if base is None else ", %.2f of the stepped store" % (rate[0] / base[0])
     print("%s: %.0f a second (from %.0f)%s" % (text, *rate, beside), flush=True)
 
@@ -59,6 +62,7 @@ def tell_calls(commits, keys):
         count = runs[0][name][0]
         mean = min(int(run[name][2]) for run in runs)
         longest = [int(run[name][4]) for run in runs]
+        history.note("longest call of %s over %d keys, at worst" % (name, keys), max(longest) / 1e3, "us")
         print("%s: %s calls, mean %d ns at best, the longest %.1f us at best and %.1f at worst" % (name, count, mean, min(longest) / 1e3, max(longest) / 1e3))
 
 

@@ -5,6 +5,7 @@ import os
 import sys
 
 import child
+import history
 
 KEYS, MANY_KEYS = 1000, 200_000
 LINES_OF_A_TRANSACTION = 10
@@ -60,8 +61,11 @@ def main():
         seconds = min(run[0] for run in runs)
         memory = max(run[1] for run in runs)
         times.append(seconds)
+        history.note("step: %d lines over %d keys" % (count, keys), count / seconds, "lines a second")
         print("%d lines over %d keys: %.2f s, %d lines a second, peak %.0f MB" % (count, keys, seconds, count / seconds, memory), flush=True)
     ratio, over_many = times[1] / times[0], times[2] / times[0]
+    history.note("step: twice the lines", ratio, "times as long")
+    history.note("step: %d keys for %d" % (MANY_KEYS, KEYS), over_many, "times as long")
     print("twice the lines took %.2f times the time (at most %.1f is wanted)" % (ratio, MOST_TIMES_LONGER))
     print("as many lines over %d keys took %.2f times the time (at most %.1f is wanted)" % (MANY_KEYS, over_many, MOST_TIMES_LONGER_OVER_MANY))
     sys.exit(0 if ratio <= MOST_TIMES_LONGER and over_many <= MOST_TIMES_LONGER_OVER_MANY else 1)

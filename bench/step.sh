@@ -5,7 +5,14 @@
 # Build the program first: `rt run -- step ../../examples/first.pcs` in the folder crates/pcalc.
 set -u
 cd "$(dirname "$0")/.." || exit 1
-lines=${1:-1000000}
+note=
+lines=1000000
+for word in "$@"; do
+    case $word in
+    --note) note=$word ;;
+    *) lines=$word ;;
+    esac
+done
 program=crates/pcalc/out/pcalc
 if [ ! -x "$program" ]; then
     echo "$program is not there: build it first" >&2
@@ -13,4 +20,4 @@ if [ ! -x "$program" ]; then
 fi
 folder=$(mktemp -d) || exit 1
 trap 'rm -rf "$folder"' EXIT
-python3 bench/step.py "$program" "$lines" "$folder"
+python3 bench/step.py "$program" "$lines" "$folder" $note
