@@ -3,6 +3,7 @@
 
     spec_guide.py                     the lists of the headline contracts
     spec_guide.py --mark              writes them into docs/ARCHITECTURE.md
+    spec_guide.py --check             tells whether they stand there as they are; the status is 1 where they don't
     spec_guide.py CRATE FUNCTION      that of one function, with the words of each file
     spec_guide.py CRATE FUNCTION WORD why the word is reached: the way to it from the clauses
 
@@ -195,13 +196,24 @@ def listed(order, specs, known):
     return "; ".join(parts)
 
 
-def mark():
-    """Puts the lists in the place of those that the page has."""
-    before, title, rest = text_of(PAGE).partition("\n## What has to be believed\n")
+def marked(page):
+    """The page with the lists in the place of those that it has."""
+    before, title, rest = page.partition("\n## What has to be believed\n")
     text, plan, behind = rest.partition("\n## What is to be bettered\n")
     kept = [line for line in text.rstrip().split("\n") if not line.startswith("- **")]
+    return before + title + "\n".join(kept).rstrip() + "\n\n" + "\n".join(headlines()) + "\n" + plan + behind
+
+
+def mark():
+    page = marked(text_of(PAGE))
     with open(PAGE, "w", encoding="utf-8") as it:
-        it.write(before + title + "\n".join(kept).rstrip() + "\n\n" + "\n".join(headlines()) + "\n" + plan + behind)
+        it.write(page)
+
+
+def check():
+    page = text_of(PAGE)
+    if marked(page) != page:
+        sys.exit("docs/ARCHITECTURE.md: what has to be believed isn't listed as it is: tools/spec_guide.py --mark")
 
 
 def tell_one(crate, function):
@@ -230,6 +242,8 @@ def main():
         print("\n".join(headlines()))
     elif words == ["--mark"]:
         mark()
+    elif words == ["--check"]:
+        check()
     elif len(words) == 2:
         tell_one(*words)
     elif len(words) == 3:

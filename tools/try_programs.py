@@ -9,6 +9,7 @@
     run_cases.py          workloads that are run on threads, and the folders that they leave
     crash_cases.py        runs that are killed, and what is recovered of their folders
     refused_growths.py    a run and the tests of pc_growths, each growth of memory that they ask for refused in turn
+    PAGES                 what tools make of the crates stands in docs/ as they make it, and each wrong body is one
 
 What differs is shown, and what was seen of growths; the last line is 'N passed, M failed'; the status is 1 where one failed.
 """
@@ -31,6 +32,7 @@ import run_cases
 ROOT = os.path.join(os.path.dirname(os.path.abspath(__file__)), "..")
 SECONDS = 60
 NOBODY = 65_534
+PAGES = ("check_edits.py",), ("crate_tables.py",), ("spec_guide.py", "--check")
 
 
 def program_of(crate):
@@ -129,6 +131,13 @@ def crashes():
             yield from crash_cases.crashes(os.path.abspath(program_of("pcalc")), folder)
 
 
+def pages():
+    """What each tool finds in the pages, by its name."""
+    for tool, *words in PAGES:
+        status, out, err = ran([sys.executable, os.path.join(ROOT, "tools", tool), *words])
+        yield f"tools/{tool}", (out + err).decode().splitlines() if status else []
+
+
 def content_of(folder, name):
     """What a file has, or None where it isn't there."""
     try:
@@ -157,7 +166,7 @@ def differences(told, status, out, err):
 
 def main():
     passed = failed = 0
-    for some in (stored, cases, crashes, refused_growths.growths):
+    for some in (stored, cases, crashes, refused_growths.growths, pages):
         for name, lines in some():
             if lines:
                 failed += 1

@@ -1,0 +1,87 @@
+#!/usr/bin/env python3
+"""Makes the tables of crates in docs/ARCHITECTURE.md, from crates.txt and the first words of each crate's page.
+
+    crate_tables.py           tells whether they are as they are to be; the status is 1 where they aren't
+    crate_tables.py --mark    writes them
+
+A table stands behind a line `<!-- crates NAME -->`, where NAME is `store` or `gate`, the two parts of crates.txt, up to the next blank line. Of what a crate
+stands on only those crates are named that none of the others brings with it.
+"""
+
+import os
+import re
+import sys
+
+ROOT = os.path.join(os.path.dirname(os.path.abspath(__file__)), "..")
+PAGE = os.path.join(ROOT, "docs", "ARCHITECTURE.md")
+PARTS = ("store", "gate")
+MARK = re.compile(r"(?m)^(<!-- crates (\w+) -->\n)((?:\|.*\n)*)")
+
+
+def text_of(*path):
+    with open(os.path.join(ROOT, *path), encoding="utf-8") as it:
+        return it.read()
+
+
+def graph():
+    """By part the crates in their order, and by crate those of the repository that it stands on."""
+    parts, below = [], {}
+    for line in text_of("crates.txt").splitlines():
+        if line.startswith("#"):
+            parts.append([])
+        elif ":" in line:
+            name, _, names = line.partition(":")
+            parts[-1].append(name)
+            below[name] = [it for it in names.split() if it.startswith("pc_")]
+    return dict(zip(PARTS, parts, strict=True)), below
+
+
+def all_below(name, below):
+    found = set()
+    for other in below[name]:
+        found |= {other} | all_below(other, below)
+    return found
+
+
+def nearest(name, below):
+    """Those that it stands on but for what others of them bring along."""
+    brought = set().union(*(all_below(other, below) for other in below[name]))
+    return [other for other in below[name] if other not in brought]
+
+
+def page_of(name):
+    """The first paragraph of what a crate says of itself."""
+    folder = os.path.join("crates", name, "src")
+    file = "lib.rt" if os.path.exists(os.path.join(ROOT, folder, "lib.rt")) else "main.rt"
+    lines = []
+    for line in text_of(folder, file).splitlines():
+        if not line.startswith("//! "):
+            break
+        lines.append(line[4:])
+    return " ".join(lines)
+
+
+def table(names, below):
+    yield "| crate | what it has | stands on |"
+    yield "|---|---|---|"
+    for name in names:
+        yield f"| `{name}` | {page_of(name)} | {', '.join(f'`{it}`' for it in nearest(name, below))} |"
+
+
+def main(words):
+    if words not in ([], ["--mark"]):
+        sys.exit(__doc__)
+    parts, below = graph()
+    text = text_of("docs", "ARCHITECTURE.md")
+    right = MARK.sub(lambda it: it[1] + "\n".join(table(parts[it[2]], below)) + "\n", text)
+    if words:
+        with open(PAGE, "w", encoding="utf-8") as it:
+            it.write(right)
+    elif right != text or len(MARK.findall(text)) != len(PARTS):
+        print("docs/ARCHITECTURE.md: the tables of crates are not as they are to be: tools/crate_tables.py --mark")
+        return 1
+    return 0
+
+
+if __name__ == "__main__":
+    sys.exit(main(sys.argv[1:]))
