@@ -1,18 +1,18 @@
 #!/usr/bin/env python3
 """Looks over the wrong bodies in crates/*/must-fail and crates/*/tried, in a second and without a proof: each must be able to
-change something, and docs/PROMISES.md must say where it is.
+change something, and to name the promises for which it stands.
 
     check_edits.py            tells what is wrong
-    check_edits.py --mark     sets the names in docs/PROMISES.md as they are to be set
+    check_edits.py --mark     writes the column of wrong bodies in docs/PROMISES.md
 
-An edit is a file of lines `file: PATH`, `old: TEXT` and `new: TEXT`. Each text is one line: what stands on further lines is
-not read, so an edit that is spread over several lines may change nothing, and is then proved. Told are a line of another
-form, an old text that doesn't stand exactly once in its file, a new text that is the old one, and one that calls a function
+An edit is a file of lines `file: PATH`, `old: TEXT` and `new: TEXT`, and one `promise: NAME; NAME ..`. Each text is one line: what stands
+on further lines is not read, so an edit that is spread over several lines may change nothing, and is then proved. Told are a line
+of another form, an old text that doesn't stand exactly once in its file, a new text that is the old one, and one that calls a function
 which no source of its crate names, or a method of a name that no function has in the crate, in those that it stands on, or in
 the kit's library: that is no body at all, and the gate takes no such refusal. (A method is looked for by its name alone, since
-no types are known here.) In the column of edits in docs/PROMISES.md the name of one that the gate tries is bold, and that of
-another one plain. Told are a name set otherwise, one that no edit has, and an edit that no row of its crate names. The status
-is 1 where anything is told.
+no types are known here.) A row of docs/PROMISES.md begins with the name of its promise, in bold; its third cell has the edits that name
+it, those that the gate tries in bold. Told are a name that no row has, and a page whose column is another one. The status is 1 where
+anything is told.
 """
 
 import functools
@@ -27,7 +27,8 @@ from gate_times import crates_of
 ROOT = os.path.join(os.path.dirname(os.path.abspath(__file__)), "..")
 CRATES = os.path.join(ROOT, "crates")
 PROMISES = os.path.join(ROOT, "docs", "PROMISES.md")
-COLUMN = 2
+ROW = re.compile(r"^\| \*\*([^*]+)\*\*: ")
+COLUMN = 3
 CALL = re.compile(r"(?<![\w.:])([a-z_]\w*)\(")
 METHOD = re.compile(r"\.([a-z_]\w*)(?:::<[^()]*>)?\(")
 FUNCTION = re.compile(r"\bfn ([a-z_]\w*)")
@@ -65,6 +66,8 @@ def faults_of(edit):
                 yield from ("no source of the crate names %s" % it for it in unknown_calls(rest, source + text_of(edit)))
                 yield from ("no source has a method %s" % it for it in unknown_methods(rest, os.path.basename(folder), text_of(edit)))
             text, old = text.replace(old, rest), None
+        elif word == "promise":
+            continue
         else:
             yield "a line of another form: %s" % line
     if changes == 0:
@@ -120,49 +123,50 @@ def edits():
     return sorted(it for folder in ("must-fail", "tried") for it in glob.glob(os.path.join(CRATES, "*", folder, "*.edit")))
 
 
-def places():
-    """By the name of an edit, the crates in which it stands, and whether the gate tries it there."""
+def promises_of(edit):
+    """The names of the promises for which the edit stands."""
+    found = re.search(r"(?m)^promise: (.+)$", text_of(edit))
+    return [it.strip() for it in found[1].split(";")] if found else []
+
+
+def bodies():
+    """By the name of a promise the names of its edits, each with whether the gate tries it."""
     found = {}
     for edit in edits():
         folder, file = os.path.split(edit)
-        found.setdefault(file.removesuffix(".edit"), {})[folder.split(os.sep)[-2]] = folder.endswith("must-fail")
+        for name in promises_of(edit):
+            found.setdefault(name, {})
+            body = file.removesuffix(".edit")
+            found[name][body] = found[name].get(body, False) or folder.endswith("must-fail")
     return found
 
 
-def marked(text, found, told):
-    """The text with each edit's name set as it is to be; what is wrong with the names is told."""
-    crates, named, lines = [], set(), []
+def marked(text, found):
+    """The text with the column of wrong bodies as it is to be."""
+    lines = []
     for line in text.split("\n"):
-        if line.startswith("## "):
-            crates = re.findall(r"`(\w+)`", line)
-        cells = line.split(" | ")
-        if line.startswith("| ") and len(cells) == 4:
-            cells[COLUMN] = re.sub(r"\*{0,2}`([a-z0-9]+(?:_[a-z0-9]+)+)`\*{0,2}", lambda it: set_name(it[1], crates, found, named, told), cells[COLUMN])
-        lines.append(" | ".join(cells))
-    told += [f"{crate}/{name}: no row of its crate names it" for name, where in found.items() for crate in where if (crate, name) not in named]
+        row = ROW.match(line)
+        if row:
+            cells = line.split("|")
+            names = sorted(found.get(row[1], {}).items(), key=lambda it: (not it[1], it[0]))
+            cells[COLUMN] = " " + ", ".join(f"**`{name}`**" if is_tried else f"`{name}`" for name, is_tried in names) + " "
+            line = "|".join(cells)
+        lines.append(line)
     return "\n".join(lines)
-
-
-def set_name(name, crates, found, named, told):
-    if os.path.isdir(os.path.join(CRATES, name)):
-        return f"`{name}`"
-    where = found.get(name, {})
-    here = [it for it in where if it in crates] or [*where]
-    named.update((it, name) for it in here)
-    if not here:
-        told.append(f"docs/PROMISES.md: no edit has the name {name}")
-    return f"**`{name}`**" if any(where[it] for it in here) else f"`{name}`"
 
 
 def main(words):
     told = ["%s: %s" % (os.path.relpath(edit, CRATES), fault) for edit in edits() for fault in faults_of(edit)]
-    text = text_of(PROMISES)
-    right = marked(text, places(), told)
+    text, found = text_of(PROMISES), bodies()
+    rows = {row[1] for row in map(ROW.match, text.split("\n")) if row}
+    told += ["%s: it names no promise" % os.path.relpath(edit, CRATES) for edit in edits() if not promises_of(edit)]
+    told += ["docs/PROMISES.md: no row has the name %s" % name for name in found if name not in rows]
+    right = marked(text, found)
     if "--mark" in words:
         with open(PROMISES, "w", encoding="utf-8") as it:
             it.write(right)
     elif right != text:
-        told.append("docs/PROMISES.md: an edit's name is not set as it is to be: tools/check_edits.py --mark")
+        told.append("docs/PROMISES.md: the column of wrong bodies is not as it is to be: tools/check_edits.py --mark")
     print("\n".join(told + ["%d edits, %d faults" % (len(edits()), len(told))]))
     return 1 if told else 0
 

@@ -59,8 +59,9 @@ def text_sum(names):
 
 
 def body_sum(name, body):
+    """The checksum of what it changes: the promises that it names are no part of it."""
     with open(path_of(name, body), "rb") as it:
-        return hashlib.sha256(it.read()).hexdigest()[:6]
+        return hashlib.sha256(b"".join(line for line in it if not line.startswith(b"promise:"))).hexdigest()[:6]
 
 
 class Record:
