@@ -27,8 +27,6 @@ RANGES = [("lag", "N", 0, 16_777_216), ("every", "COMMITS", 1, 1_000_000_000), (
 NOTHING_REPORTED = b"commits a second 0\ndeaths 0\nlongest wait 0 ms\nlongest pause 0 ms\n"
 HEADING = b"# hundredths of a second from the begin of the run; commits in this one; the phase at its end"
 PHASES = {phase.encode() for phase in plain_files.PHASES}
-# The options of a run that take a number, what stands for it in the help, and between what it is.
-RANGES = [("lag", "N", 0, 16_777_216), ("every", "COMMITS", 1, 1_000_000_000), ("run", "N", 1, 2_147_483_647), ("capacity", "N", 1, 1_048_576)]
 
 # What a workload has, and the number of its first bad line.
 BAD_LINES = [
