@@ -134,10 +134,30 @@ def telling_cases(folder):
     yield Case("a report to a full output", ("run", "one.pcw", "--report"), 1, output=FULL)
 
 
+def is_spread(points, every):
+    """Whether a log has so many points, and each has begun behind so many commits for it and for each one before, or behind the last commit of all."""
+    def is_right(text):
+        commits, begun = 0, []
+        try:
+            entries = plain_files.read_log(text or b"").entries
+        except plain_files.Refused:
+            return False
+        for entry in entries:
+            if entry[0] == "commit":
+                commits += 1
+            elif entry[1] == "prepare":
+                begun.append(commits)
+        return len(begun) == points and all(at >= every * number or at == commits for number, at in enumerate(begun, 1))
+    return is_right
+
+
 def pace_cases(folder):
-    """What is said of the files and the points of a run changes nothing of what it prints."""
+    """What is said of the files and the points of a run changes nothing of what it prints; points lie as far apart as is said."""
     written(folder, "four.pcw", FOUR)
     written(folder, "one.pcw", ONE)
+    for place, every, more in (("spread", 500, ()), ("spread100", 100, ("--every", "100")), ("spread900", 900, ("--every", "900", "--workers", "1"))):
+        words = ("run", "four.pcw", "--dir", new_folder(folder, place), *more)
+        yield Case(f"8 points, each {every} commits behind the one before", words, 0, FOUR_TOLD, checks={f"{place}/log.pcl": is_spread(8, every)})
     for number, more in enumerate((("--lag", "0"), ("--lag", "1"), ("--sync",), ("--every", "1"), ("--every", "1000000000"), ("--capacity", "4000"))):
         words = ("run", "four.pcw", "--dir", new_folder(folder, f"paced{number}"), *more)
         yield Case("four clients", words, 0, FOUR_TOLD, files={f"paced{number}/base.pcb": EMPTY, f"paced{number}/base.pcb.new": None, f"paced{number}/part-00008.pcp.new": None})
