@@ -386,6 +386,7 @@ def closed_cases(folder):
         yield case(("collapse", "closed_out.pcp", "one.pcp", "two.pcp", "three.pcp"), 0, b"points 1-3 entries 2\n", files={"closed_out.pcp": ALL})
         os.remove(os.path.join(folder, "closed_out.pcp"))
         yield case(("recover", "no_log"), 0, NO_LOG, files={"no_log/base.pcb": BASE})
+        yield case(("frob",), 2, err=[b"error: unrecognized subcommand 'frob'\n"])
         for words in (("step", "none.pcs"), ("run", "none.pcw")):
             yield case(words, 1, err=b"pcalc: %s: NoFile\n" % words[1].encode())
         yield case(("collapse", "none.pcp/out.pcp", "one.pcp"), 1, err=b"pcalc: none.pcp/out.pcp: Device\n", files={"one.pcp": POINTS["one.pcp"].text()})

@@ -60,7 +60,8 @@ fn run_command<H: Threads + Wait + Sync>(rt: &HostRuntime, threads: &H) -> io::R
     }
 }
 
-// Prints the fault of usage, or the help or the version that was asked for; the status.
+// Prints the fault of usage, or the help or the version that was asked for; the status. A fault of usage has its own, also where it
+// can't be told.
 fn tell(rt: &HostRuntime, told: Result<Error, Error>) -> io::Result<u8> {
     let e = match told {
         Ok(e) => e,
@@ -69,8 +70,12 @@ fn tell(rt: &HostRuntime, told: Result<Error, Error>) -> io::Result<u8> {
     if e.kind() == ErrorKind::OutOfMemory {
         return Ok(1);
     }
-    e.print(rt)?;
-    Ok(if e.use_stderr() { 2 } else { 0 })
+    let printed = e.print(rt);
+    if e.use_stderr() {
+        return Ok(2);
+    }
+    printed?;
+    Ok(0)
 }
 
 // The seed of the hashes of a script's store is drawn before anything is opened; where the system gives none, the status is 1 and
