@@ -13,6 +13,9 @@ from program_cases import FAULTS, FULL, LITTLE, MANY, Case, beside, feed, piped,
 EMPTY = plain_files.Base(1, 0, {}).text()
 FOUR = b"points 8\n" + b"".join(b"client %d\nfill %s 1000 x\n" % (number + 1, name) for number, name in enumerate((b"a", b"b", b"c", b"d")))
 FOUR_TOLD = b"commits 4000\ngave up 0\npoints 8\ncollapsed 1-8 entries 4000\nstate pairs 4000\ncheck ok\n"
+# The same keys, written twenty times, so that a run takes long enough for points that begin too soon.
+AGAIN = b"points 8\n" + b"".join(b"client %d\n" % (number + 1) + b"fill %s 1000 x\n" % name * 20 for number, name in enumerate((b"a", b"b", b"c", b"d")))
+AGAIN_TOLD = FOUR_TOLD.replace(b"commits 4000", b"commits 80000")
 ONE = b"points 1\nclient 1\nfill a 3 x\n"
 ONE_TOLD = b"commits 3\ngave up 0\npoints 1\ncollapsed 1 entries 3\nstate pairs 3\ncheck ok\n"
 NOTHING_TOLD = b"commits 0\ngave up 0\npoints 0\ncollapsed none\ncheck ok\n"
@@ -155,9 +158,10 @@ def pace_cases(folder):
     """What is said of the files and the points of a run changes nothing of what it prints; points lie as far apart as is said."""
     written(folder, "four.pcw", FOUR)
     written(folder, "one.pcw", ONE)
-    for place, every, more in (("spread", 500, ()), ("spread100", 100, ("--every", "100")), ("spread900", 900, ("--every", "900", "--workers", "1"))):
-        words = ("run", "four.pcw", "--dir", new_folder(folder, place), *more)
-        yield Case(f"8 points, each {every} commits behind the one before", words, 0, FOUR_TOLD, checks={f"{place}/log.pcl": is_spread(8, every)})
+    written(folder, "again.pcw", AGAIN)
+    for place, every, more in (("spread", 10_000, ()), ("spread18", 18_000, ("--every", "18000", "--workers", "1"))):
+        words = ("run", "again.pcw", "--dir", new_folder(folder, place), *more)
+        yield Case(f"8 points, each {every} commits behind the one before", words, 0, AGAIN_TOLD, checks={f"{place}/log.pcl": is_spread(8, every)})
     for number, more in enumerate((("--lag", "0"), ("--lag", "1"), ("--sync",), ("--every", "1"), ("--every", "1000000000"), ("--capacity", "4000"))):
         words = ("run", "four.pcw", "--dir", new_folder(folder, f"paced{number}"), *more)
         yield Case("four clients", words, 0, FOUR_TOLD, files={f"paced{number}/base.pcb": EMPTY, f"paced{number}/base.pcb.new": None, f"paced{number}/part-00008.pcp.new": None})
