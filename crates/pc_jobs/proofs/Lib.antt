@@ -2,3 +2,4 @@ mod PhraseLemmas
 mod WorkloadLemmas
 mod ReadLemmas
 mod Turns
+mod FillLaws

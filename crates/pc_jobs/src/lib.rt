@@ -9,6 +9,7 @@ mod workloads;
 mod works;
 
 pub use dealing::deal;
+pub use fills::FillJob;
 pub use phrases::{MOST_FILL, MOST_RUN_POINTS, Phrase};
 pub use prefixes::Prefix;
 pub use workloads::{Reading, read_workload};

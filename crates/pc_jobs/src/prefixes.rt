@@ -1,7 +1,8 @@
 //! What the keys of a fill begin with.
-ghost use Rattle.std.specs.Prelude.{◌≡◌, ◌++◌, IfOk, IfErr, if◌then◌else◌, Some, None};
+ghost use Rattle.std.specs.Prelude.{◌≡◌, ◌<◌, ◌++◌, length, IfOk, IfErr, if◌then◌else◌, Some, None};
 ghost use Rattle.pc_jobs.specs.Prefixes.{is_prefix, digit, six_digits, IsPrefix};
 
+use arrayvec::ArrayVec;
 use pc_types::{Key, MOST_KEY_BYTES, Refusal};
 use std::alloc::Global;
 use std::marker::Model;
@@ -46,15 +47,16 @@ impl Prefix {
         self.bytes.as_slice()
     }
 
-    /// The key of this prefix with the last six decimal digits of the number behind it. Refuses only with `OutOfMemory`.
+    /// The key of this prefix with the last six decimal digits of the number behind it. Refuses only with `OutOfMemory`, and only
+    /// where the key has more than 16 bytes: a shorter one takes no memory.
     pub fn key(&self, alloc: Global, number: u32) -> Result<Key, Refusal>
         ensures key { IfOk result (λ key. key ≡ self.now ++ six_digits number) }
-        ensures refusals { IfErr result (λ e. e ≡ Refusal.OutOfMemory) }
+        ensures refusals { IfErr result (λ e. (e ≡ Refusal.OutOfMemory) × (16 < length (self.now ++ six_digits number))) }
     {
-        let mut bytes = Vec::with_capacity(alloc, MOST_KEY_BYTES)?;
-        bytes.extend_from_slice(self.as_bytes())?;
-        bytes.extend_from_slice(&six_digits(number))?;
-        Key::new(alloc, &bytes)
+        let mut bytes = ArrayVec::<u8, MOST_KEY_BYTES>::new();
+        bytes.try_extend_from_slice(self.as_bytes()).unwrap();
+        bytes.try_extend_from_slice(&six_digits(number)).unwrap();
+        Key::new(alloc, bytes.as_slice())
     }
 }
 
