@@ -7,5 +7,5 @@ mod Holding
 pub mod CoverLaws
 mod OpenLaws
 mod AskedLaws
-mod AttemptLaws
+pub mod AttemptLaws
 pub mod RunLaws

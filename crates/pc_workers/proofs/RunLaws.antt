@@ -35,6 +35,19 @@ runs_chain jobs next commits more first between last a b =
       count = ap length is ∙ length-append (marked a.marks jobs) (marked b.marks next) ∙ ap (λ n. n + length (marked b.marks next)) a.count ∙ ap (λ n. commits + n) b.count;
     }
 
+-- which jobs are marked in these runs
+pub no_marks : (s : Sitter) → (no_jobs_run s).marks ≡ []
+unfolding no_jobs_run
+no_marks s = refl
+
+pub left_mark : (job : Job) (s : Sitter) → (job_is_left job s).marks ≡ false ∷ []
+unfolding job_is_left
+left_mark job s = refl
+
+pub marks_chain : (jobs next : List Job) (commits more : ℕ) (first between last : Sitter) (a : HasRun jobs commits first between) (b : HasRun next more between last) → (runs_chain jobs next commits more first between last a b).marks ≡ a.marks ++ b.marks
+unfolding runs_chain
+marks_chain jobs next commits more first between last a b = refl
+
 -- ---- the same of jobs that were tried
 
 pub no_jobs_tried : (st : Setting) (s : Sitter) → HasTried st [] 0 s s
