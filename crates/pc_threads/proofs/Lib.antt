@@ -1,2 +1,3 @@
+mod DoneLaws
 pub mod ClientLaws
 pub mod FileLaws

@@ -1,13 +1,17 @@
 -- What the clients of a run have done, each as its session.
-use Rattle.std.specs.Prelude.{◌≡◌, ◌+◌, ℕ, zero, suc, List, [], ◌∷◌, ◌++◌, length}
+use Rattle.std.specs.Prelude.{◌≡◌, ◌⊎◌, ◌+◌, ℕ, zero, suc, Bool, false, List, [], ◌∷◌, ◌++◌, length}
 use Rattle.std.specs.List.{flat_map}
+use Rattle.pc_model.specs.History.{History, is_open}
+use Rattle.pc_model.specs.Replies.{Setting}
 use Rattle.pc_jobs.specs.declared.works.Client.{Client}
 use Rattle.pc_jobs.specs.declared.works.Fill.{Fill}
 use Rattle.pc_jobs.specs.declared.works.Job.{Job}
+use Rattle.pc_jobs.specs.declared.works.Op.{Op}
 use Rattle.pc_jobs.specs.declared.works.Work.{Work}
 use Rattle.pc_jobs.specs.declared.works.Work.TheVariants as work
 use Rattle.pc_jobs.specs.Jobs.{job_of}
 use Rattle.pc_shared.specs.Sitters.{Sitter, sitter}
+use Rattle.pc_workers.specs.Attempts.{TakesMemory, IsTried, AreTried}
 use Rattle.pc_workers.specs.Clients.{HasRun}
 
 -- the first transactions of a fill, so many
@@ -28,19 +32,45 @@ jobs_of client = flat_map jobs_in client.works
 abbrev pub IsFresh : Sitter → Type 0
 IsFresh s = s ≡ sitter s.number [] []
 
--- Of the transactions some were committed, and so many were given up.
-abbrev pub HasDone : List Job → ℕ → Sitter → Sitter → Type 0
-HasDone jobs given_up old new = (commits : ℕ) × HasRun jobs commits old new × (commits + given_up ≡ length jobs)
+-- Memory was wanting to make a transaction, which names a key or a value of more than 16 bytes: it isn't marked as committed, and
+-- nothing was asked for it.
+abbrev pub IsUnmade : Job → Bool → History → History → Type 0
+IsUnmade job mark early late = (mark ≡ false) × (late ≡ early) × ((op : Op) × (job.ops ≡ op ∷ []) × TakesMemory op)
 
--- the client has done its transactions, from a fresh session on, and given up so many
-abbrev pub HasWorked : Client → ℕ → Sitter → Type 0
-HasWorked client given_up session = HasDone (jobs_of client) given_up (sitter client.session [] []) session
+-- The transactions of a fill, of which those that are marked were committed, were each tried, or couldn't be made, one after the
+-- other: between these two histories that the session had seen before and has seen now.
+abbrev pub AreFilled : Setting → List Job → ℕ → List Bool → History → History → Type 0
+AreFilled st [] s [] early late = late ≡ early
+AreFilled st (job ∷ jobs) s (mark ∷ marks) early late = (between : History) × (IsTried st s job mark early between ⊎ IsUnmade job mark early between) × AreFilled st jobs s marks between late
+AreFilled st jobs s marks early late = ⊥
+
+-- a piece of work was done: a transaction that stands by itself was tried
+abbrev pub IsDone : Setting → Work → ℕ → List Bool → History → History → Type 0
+IsDone st (work.Once job) s marks early late = AreTried st s marks (job ∷ []) early late
+IsDone st (work.Fill fill) s marks early late = AreFilled st (first_of fill fill.count) s marks early late
+
+-- works were done, one after the other
+abbrev pub AreDone : Setting → List Work → ℕ → List Bool → History → History → Type 0
+AreDone st [] s marks early late = (marks ≡ []) × (late ≡ early)
+AreDone st (w ∷ works) s marks early late = (own others : List Bool) × (between : History) × (marks ≡ own ++ others) × IsDone st w s own early between × AreDone st works s others between late
+
+-- Of the transactions those that are marked were committed, and so many others given up; and if the session had no transaction open,
+-- they were done in this way.
+pub record HasDone (way : ℕ → List Bool → History → History → Type 0) (jobs : List Job) (given_up : ℕ) (old new : Sitter) : Type 0 where
+  pub commits : ℕ
+  pub run : HasRun jobs commits old new
+  pub all : commits + given_up ≡ length jobs
+  pub done : is_open old.number old.seen ≡ false → way old.number run.marks old.seen new.seen
+
+-- the client has done its works, from a fresh session on, and given up so many transactions
+abbrev pub HasWorked : Setting → Client → ℕ → Sitter → Type 0
+HasWorked st client given_up session = HasDone (AreDone st client.works) (jobs_of client) given_up (sitter client.session [] []) session
 
 -- the clients have, each as the session at its place, and have given up so many together
-abbrev pub HaveWorked : List Client → ℕ → List Sitter → Type 0
-HaveWorked [] given_up [] = given_up ≡ 0
-HaveWorked (client ∷ clients) given_up (session ∷ sessions) = (own others : ℕ) × (given_up ≡ own + others) × HasWorked client own session × HaveWorked clients others sessions
-HaveWorked clients given_up sessions = ⊥
+abbrev pub HaveWorked : Setting → List Client → ℕ → List Sitter → Type 0
+HaveWorked st [] given_up [] = given_up ≡ 0
+HaveWorked st (client ∷ clients) given_up (session ∷ sessions) = (own others : ℕ) × (given_up ≡ own + others) × HasWorked st client own session × HaveWorked st clients others sessions
+HaveWorked st clients given_up sessions = ⊥
 
 -- the clients of all workers, one worker after the other
 abbrev pub clients_in : List (List Client) → List Client

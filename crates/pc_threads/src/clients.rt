@@ -5,10 +5,10 @@ ghost use Rattle.pc_types.specs.declared.refusal.Refusal.TheVariants.{NoSession,
 ghost use Rattle.pc_jobs.specs.Jobs.{job_of};
 ghost use Rattle.pc_jobs.specs.declared.works.Client.{Client};
 ghost use Rattle.pc_shared.specs.Sitters.{sitter};
-ghost use Rattle.pc_threads.specs.Clients.{HasDone, HasWorked, HaveWorked, IsFresh, first_of, jobs_in};
+ghost use Rattle.pc_threads.specs.Clients.{AreDone, AreFilled, HasDone, HasWorked, HaveWorked, IsDone, IsFresh, first_of, jobs_in};
 
 use crate::room::Room;
-use pc_jobs::{Client, Fill, Job, Work};
+use pc_jobs::{Client, Fill, FillJob, Job, Work};
 use pc_shared::Session;
 use pc_tie::StoreName;
 use pc_types::{Gate, Items, Refusal, SessionNo};
@@ -123,14 +123,14 @@ fn sum(a: u64, b: u64) -> Result<u64, Refusal>
     }
 }
 
-// The jobs, in order; how many were given up. Refuses with `Device` where the log's file was lost before.
-fn run_jobs<N: StoreName, R: Wait, G: Gate>(
+// The transaction is tried; how many were given up. Refuses with `Device` where the log's file was lost before.
+fn run_job<N: StoreName, R: Wait, G: Gate>(
     rt: &R,
     room: &Room<'_, N, G>,
     session: &mut Session<N>,
-    jobs: &[Job],
+    job: &Job,
 ) -> Result<u64, Refusal>
-    ensures { IfOk result (λ given_up. HasDone jobs.now given_up session.old session.new) }
+    ensures { IfOk result (λ given_up. HasDone (IsDone N.name.setting (Work.Once job.now)) (job.now ∷ []) given_up session.old session.new) }
 {
     if room.shared.has_log_ended() {
         return Err(Refusal::Device);
@@ -140,25 +140,27 @@ fn run_jobs<N: StoreName, R: Wait, G: Gate>(
         room.alloc,
         room.shared,
         session,
-        jobs,
+        slice::from_ref(job),
         room.lag,
         room.gate,
     );
     Ok(count.given_up)
 }
 
-// The transaction of a fill of this number, made now; where memory ran out for that it is given up.
+// The transaction of a fill of this number, made now, is tried; where memory ran out for its key or its value, which is of more
+// than 16 bytes, it is given up, and nothing is asked for it.
 fn run_made<N: StoreName, R: Wait, G: Gate>(
     rt: &R,
     room: &Room<'_, N, G>,
     session: &mut Session<N>,
+    made: &mut FillJob,
     fill: &Fill,
     number: u32,
 ) -> Result<u64, Refusal>
-    ensures { IfOk result (λ given_up. HasDone (job_of fill.now number ∷ []) given_up session.old session.new) }
+    ensures { IfOk result (λ given_up. HasDone (AreFilled N.name.setting (job_of fill.now number ∷ [])) (job_of fill.now number ∷ []) given_up session.old session.new) }
 {
-    match fill.job(room.alloc, number) {
-        Ok(job) => run_jobs(rt, room, session, &[job]),
+    match made.set(room.alloc, fill, number) {
+        Ok(()) => run_job(rt, room, session, made.as_job()),
         Err(_) => Ok(1),
     }
 }
@@ -168,13 +170,14 @@ fn run_fill<N: StoreName, R: Wait, G: Gate>(
     rt: &R,
     room: &Room<'_, N, G>,
     session: &mut Session<N>,
+    made: &mut FillJob,
     fill: &Fill,
 ) -> Result<u64, Refusal>
-    ensures { IfOk result (λ given_up. HasDone (first_of fill.now fill.now.count) given_up session.old session.new) }
+    ensures { IfOk result (λ given_up. HasDone (AreFilled N.name.setting (first_of fill.now fill.now.count)) (first_of fill.now fill.now.count) given_up session.old session.new) }
 {
     let mut given_up = 0u64;
     for number in 0..fill.count {
-        let more = run_made(rt, room, session, fill, number)?;
+        let more = run_made(rt, room, session, made, fill, number)?;
         given_up = sum(given_up, more)?;
     }
     Ok(given_up)
@@ -185,13 +188,14 @@ fn run_work<N: StoreName, R: Wait, G: Gate>(
     rt: &R,
     room: &Room<'_, N, G>,
     session: &mut Session<N>,
+    made: &mut FillJob,
     work: &Work,
 ) -> Result<u64, Refusal>
-    ensures { IfOk result (λ given_up. HasDone (jobs_in work.now) given_up session.old session.new) }
+    ensures { IfOk result (λ given_up. HasDone (IsDone N.name.setting work.now) (jobs_in work.now) given_up session.old session.new) }
 {
     match work {
-        Work::Once(job) => run_jobs(rt, room, session, slice::from_ref(job)),
-        Work::Fill(fill) => run_fill(rt, room, session, fill),
+        Work::Once(job) => run_job(rt, room, session, job),
+        Work::Fill(fill) => run_fill(rt, room, session, made, fill),
     }
 }
 
@@ -200,32 +204,34 @@ fn run_works<N: StoreName, R: Wait, G: Gate>(
     rt: &R,
     room: &Room<'_, N, G>,
     session: &mut Session<N>,
+    made: &mut FillJob,
     works: &[Work],
 ) -> Result<u64, Refusal>
-    ensures { IfOk result (λ given_up. HasDone (flat_map jobs_in works.now) given_up session.old session.new) }
+    ensures { IfOk result (λ given_up. HasDone (AreDone N.name.setting works.now) (flat_map jobs_in works.now) given_up session.old session.new) }
 {
     let mut given_up = 0u64;
     for work in works {
-        let more = run_work(rt, room, session, work)?;
+        let more = run_work(rt, room, session, made, work)?;
         given_up = sum(given_up, more)?;
     }
     Ok(given_up)
 }
 
 impl<N: StoreName> Seated<N> {
-    // The transactions of the client, in order. Its session, and how many were given up.
+    // The transactions of the client, in order, those of its fills made in one place. Its session, and how many were given up.
     fn run<R: Wait, G: Gate>(
         self,
         rt: &R,
         room: &Room<'_, N, G>,
+        made: &mut FillJob,
     ) -> Result<(Session<N>, u64), Refusal>
-        ensures { IfOk result (λ r. HasWorked self.client r.1 r.0) }
+        ensures { IfOk result (λ r. HasWorked N.name.setting self.client r.1 r.0) }
     {
         let Seated {
             mut session,
             client,
         } = self;
-        let given_up = run_works(rt, room, &mut session, client.works.as_slice())?;
+        let given_up = run_works(rt, room, &mut session, made, client.works.as_slice())?;
         Ok((session, given_up))
     }
 }
@@ -236,12 +242,13 @@ fn run_clients<N: StoreName, R: Wait, G: Gate>(
     room: &Room<'_, N, G>,
     seats: Vec<Seated<N>>,
 ) -> Result<Ran<N>, Refusal>
-    ensures { IfOk result (λ ran. HaveWorked (map (λ seated. seated.client) seats.items) ran.given_up ran.sessions.items) }
+    ensures { IfOk result (λ ran. HaveWorked N.name.setting (map (λ seated. seated.client) seats.items) ran.given_up ran.sessions.items) }
 {
+    let mut made = FillJob::new(room.alloc)?;
     let mut sessions = Vec::with_capacity(room.alloc, seats.len())?;
     let mut given_up = 0u64;
     for seated in seats {
-        let (session, more) = seated.run(rt, room)?;
+        let (session, more) = seated.run(rt, room, &mut made)?;
         sessions.push(session)?;
         given_up = sum(given_up, more)?;
     }
@@ -253,7 +260,7 @@ impl<N: StoreName> Worker<N> {
     /// of their transactions, with `OutOfMemory` before the first of them, and with `Full` where more of them were given up than
     /// can be counted.
     pub fn run<R: Wait, G: Gate>(self, rt: &R, room: &Room<'_, N, G>) -> Result<Ran<N>, Refusal>
-        ensures { IfOk result (λ ran. HaveWorked self ran.given_up ran.sessions.items) }
+        ensures { IfOk result (λ ran. HaveWorked N.name.setting self ran.given_up ran.sessions.items) }
     {
         let Worker { seats } = self;
         let ended = run_clients(rt, room, seats);
@@ -266,7 +273,7 @@ impl<N: StoreName> Ran<N> {
     // The clients of another worker have run too. Refuses with `OutOfMemory`, or with `Full` where more of them were given up than
     // can be counted.
     pub(crate) fn and(self, other: Ran<N>) -> Result<Ran<N>, Refusal>
-        ensures { (clients others : List Client) → HaveWorked clients self.given_up self.sessions.items → HaveWorked others other.given_up other.sessions.items → IfOk result (λ all. HaveWorked (clients ++ others) all.given_up all.sessions.items) }
+        ensures { (clients others : List Client) → HaveWorked N.name.setting clients self.given_up self.sessions.items → HaveWorked N.name.setting others other.given_up other.sessions.items → IfOk result (λ all. HaveWorked N.name.setting (clients ++ others) all.given_up all.sessions.items) }
     {
         let Ran {
             mut sessions,

@@ -154,7 +154,7 @@ impl<N: StoreName> Promise<Result<Ran<N>, Refusal>> for ClientsOf<N> {
     ghost use Rattle.std.specs.Prelude.{IfOk};
     ghost use Rattle.pc_threads.specs.Clients.{HaveWorked};
 
-    ghost kept_by = { λ given ended. IfOk ended (λ ran. HaveWorked given.0.value ran.given_up ran.sessions.items) };
+    ghost kept_by = { λ given ended. IfOk ended (λ ran. HaveWorked N.name.setting given.0.value ran.given_up ran.sessions.items) };
 }
 
 // The clients of all workers, once their threads have ended.
@@ -163,7 +163,7 @@ fn join_workers<N: StoreName, R: Threads>(
     alloc: Global,
     handles: Vec<PromisedHandle<Result<Ran<N>, Refusal>, ClientsOf<N>>>,
 ) -> Result<Ran<N>, Fault>
-    ensures { IfOk result (λ ran. HaveWorked (clients_in (map (λ handle. handle.promise.0.value) handles.items)) ran.given_up ran.sessions.items) }
+    ensures { IfOk result (λ ran. HaveWorked N.name.setting (clients_in (map (λ handle. handle.promise.0.value) handles.items)) ran.given_up ran.sessions.items) }
 {
     let mut all = Ran {
         sessions: Vec::new(alloc),
@@ -191,7 +191,7 @@ fn run_workers<
     workers: Vec<Worker<N>>,
 ) -> Result<Worked<N, D>, Fault>
     requires rest { phase_of checkpointer.at_store ≡ Rest }
-    ensures clients { IfOk result (λ worked. HaveWorked (clients_in workers.items) worked.ran.given_up worked.ran.sessions.items) }
+    ensures clients { IfOk result (λ worked. HaveWorked N.name.setting (clients_in workers.items) worked.ran.given_up worked.ran.sessions.items) }
     ensures cycles { IfOk result (λ worked. HasCycled N.name.setting room.now.points checkpointer.entry.at_store worked.seat) }
     ensures points { (first : Option D) → HasWritten D.holds 0 first checkpointer.entry.folder checkpointer.entry.written.items → IfOk result (λ worked. HasWritten D.holds room.now.points first worked.folder worked.written.items) }
 {
@@ -204,7 +204,7 @@ fn run_workers<
             requires handles { handles.items ≡ [] }
             requires rest { phase_of checkpointer.at_store ≡ Rest }
             ensures cycles { IfOk result (λ worked. HasCycled N.name.setting points checkpointer.entry.at_store worked.seat) }
-            ensures clients { IfOk result (λ worked. HaveWorked (clients_in workers.items) worked.ran.given_up worked.ran.sessions.items) }
+            ensures clients { IfOk result (λ worked. HaveWorked N.name.setting (clients_in workers.items) worked.ran.given_up worked.ran.sessions.items) }
             ensures points { (first : Option D) → HasWritten D.holds 0 first checkpointer.entry.folder checkpointer.entry.written.items → IfOk result (λ worked. HasWritten D.holds points first worked.folder worked.written.items) }
         {
             let mut handles = handles;
@@ -247,7 +247,7 @@ fn run_hands<
     R: Threads + Wait + Sync,
 >(rt: &'x R, room: &'x Room<'x, N, G>, hands: Hands<'x, N, D>) -> Result<Rested<N, D>, Fault>
     requires rest { phase_of hands.checkpointer.at_store ≡ Rest }
-    ensures clients { IfOk result (λ rested. HaveWorked (clients_in hands.entry.workers.items) rested.worked.ran.given_up rested.worked.ran.sessions.items) }
+    ensures clients { IfOk result (λ rested. HaveWorked N.name.setting (clients_in hands.entry.workers.items) rested.worked.ran.given_up rested.worked.ran.sessions.items) }
     ensures cycles { IfOk result (λ rested. HasCycled N.name.setting room.now.points hands.entry.checkpointer.at_store rested.worked.seat) }
     ensures points { (first : Option D) → HasWritten D.holds 0 first hands.entry.checkpointer.folder hands.entry.checkpointer.written.items → IfOk result (λ rested. HasWritten D.holds room.now.points first rested.worked.folder rested.worked.written.items) }
     ensures held { IfOk result (λ rested. HaveOnlyTo room.now.points rested.held.items) }
@@ -266,7 +266,7 @@ fn run_hands<
             requires handles { handles.items ≡ [] }
             requires rest { phase_of checkpointer.at_store ≡ Rest }
             ensures cycles { IfOk result (λ rested. HasCycled N.name.setting room.entry.now.points checkpointer.entry.at_store rested.worked.seat) }
-            ensures clients { IfOk result (λ rested. HaveWorked (clients_in workers.items) rested.worked.ran.given_up rested.worked.ran.sessions.items) }
+            ensures clients { IfOk result (λ rested. HaveWorked N.name.setting (clients_in workers.items) rested.worked.ran.given_up rested.worked.ran.sessions.items) }
             ensures points { (first : Option D) → HasWritten D.holds 0 first checkpointer.entry.folder checkpointer.entry.written.items → IfOk result (λ rested. HasWritten D.holds room.entry.now.points first rested.worked.folder rested.worked.written.items) }
             ensures held { IfOk result (λ rested. HaveOnlyTo points rested.held.items) }
         {
@@ -318,7 +318,7 @@ pub fn run_threads<
     logger: Logger<N, F>,
 ) -> Result<(Rested<N, D>, Written<N, F>), Fault>
     requires rest { phase_of hands.checkpointer.at_store ≡ Rest }
-    ensures clients { IfOk result (λ r. HaveWorked (clients_in hands.entry.workers.items) r.0.worked.ran.given_up r.0.worked.ran.sessions.items) }
+    ensures clients { IfOk result (λ r. HaveWorked N.name.setting (clients_in hands.entry.workers.items) r.0.worked.ran.given_up r.0.worked.ran.sessions.items) }
     ensures cycles { IfOk result (λ r. HasCycled N.name.setting room.now.points hands.entry.checkpointer.at_store r.0.worked.seat) }
     ensures points { (first : Option D) → HasWritten D.holds 0 first hands.entry.checkpointer.folder hands.entry.checkpointer.written.items → IfOk result (λ r. HasWritten D.holds room.now.points first r.0.worked.folder r.0.worked.written.items) }
     ensures held { IfOk result (λ r. HaveOnlyTo room.now.points r.0.held.items) }
@@ -333,7 +333,7 @@ pub fn run_threads<
         rt,
         |scope| -> Result<(Rested<N, D>, Written<N, F>), Fault>
             requires { phase_of hands.checkpointer.at_store ≡ Rest }
-            ensures clients { IfOk result (λ r. HaveWorked (clients_in hands.entry.workers.items) r.0.worked.ran.given_up r.0.worked.ran.sessions.items) }
+            ensures clients { IfOk result (λ r. HaveWorked N.name.setting (clients_in hands.entry.workers.items) r.0.worked.ran.given_up r.0.worked.ran.sessions.items) }
             ensures cycles { IfOk result (λ r. HasCycled N.name.setting room.entry.now.points hands.entry.checkpointer.at_store r.0.worked.seat) }
             ensures points { (first : Option D) → HasWritten D.holds 0 first hands.entry.checkpointer.folder hands.entry.checkpointer.written.items → IfOk result (λ r. HasWritten D.holds room.entry.now.points first r.0.worked.folder r.0.worked.written.items) }
             ensures held { IfOk result (λ r. HaveOnlyTo room.entry.now.points r.0.held.items) }

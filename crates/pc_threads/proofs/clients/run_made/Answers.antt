@@ -1,6 +1,14 @@
-use Rattle.pc_jobs.specs.Jobs.{job_of}
-use Rattle.pc_threads.proofs.ClientLaws.{one_left}
+use Rattle.std.proofs.Common.{refl, ◌∙◌}
+use Rattle.pc_jobs.specs.Jobs.{job_of, key_at}
+use Rattle.pc_jobs.specs.declared.works.Op.TheVariants.{Put}
+use Rattle.pc_threads.proofs.DoneLaws.{filled_ones, unmade_one}
 use Rattle.pc_threads.proofs.clients.run_made.Goals as goal
 
+pub returns-in-Ok : goal.returns-in-Ok
+returns-in-Ok g c = filled_ones g.N.StoreName.name.setting (job_of c.args.fill.now c.args.number) c.as_job.result.now c.run_job.result c.args.session.now c.run_job.new.session (c.as_job.ensures ∙ c.in-Ok.ensures.job) c.run_job.ensures
+
 pub returns-in-Err : goal.returns-in-Err
-returns-in-Err g c = one_left (job_of c.args.fill.now c.args.number) c.args.session.now
+returns-in-Err g c =
+    let fill = c.args.fill.now in
+    let number = c.args.number in
+    unmade_one g.N.StoreName.name.setting (job_of fill number) (Put (key_at fill number) fill.value) c.args.session.now refl c.in-Err.ensures.refusals.1

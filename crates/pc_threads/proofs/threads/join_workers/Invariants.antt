@@ -6,4 +6,4 @@ use Rattle.pc_threads.proofs.threads.join_workers.Given as goal
 -- the clients of the threads so far have run
 abbrev pub invariant-loop-handle : goal.invariant-loop-handle
 invariant-loop-handle g l = (clients : List Client) × (clients ++ clients_in (map (λ handle. handle.promise.0.value) l.handle-iterator.rest.items) ≡ clients_in (map (λ handle. handle.promise.0.value) l.fn.handles.items))
-    × HaveWorked clients l.all.given_up l.all.sessions.items
+    × HaveWorked g.N.StoreName.name.setting clients l.all.given_up l.all.sessions.items

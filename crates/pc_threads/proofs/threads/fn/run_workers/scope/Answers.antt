@@ -13,7 +13,7 @@ returns g c =
     let all : promised ≡ c.captures.workers.items =
     sym (append-nil promised) ∙ ap (λ (more : List (List Client)). promised ++ more) (sym none) ∙ c.loop-worker.invariant.2 ∙ c.into_iter-worker-iterator.ensures.into_iter_gives.0 in
     record {
-      clients = subst (λ (workers : List (List Client)). HaveWorked (clients_in workers) c.in_ok-ran.ran.given_up c.in_ok-ran.ran.sessions.items) all c.in_ok-ran.ensures;
+      clients = subst (λ (workers : List (List Client)). HaveWorked g.N.StoreName.name.setting (clients_in workers) c.in_ok-ran.ran.given_up c.in_ok-ran.ran.sessions.items) all c.in_ok-ran.ensures;
       cycles =
           c.in_ok-checkpointer-2.ensures.cycles c.captures.checkpointer.at_store
           (c.in_ok-checkpointer.ensures.cycles c.captures.checkpointer.at_store (cycled_none g.N.StoreName.name.setting c.captures.checkpointer.at_store c.requires.rest));
