@@ -1,3 +1,4 @@
+mod Milestones
 mod Owners
 mod Steps
 mod Visits

@@ -1,5 +1,5 @@
 //! Who deals the seats of a store, and who keeps its history.
-ghost use Rattle.std.specs.Prelude.{◌≡◌, ◌<◌, ◌≤◌, ◌+◌, ◌∷◌, [], All, List, length};
+ghost use Rattle.std.specs.Prelude.{◌≡◌, ◌<◌, ◌≤◌, ◌+◌, ◌∷◌, [], true, All, List, length};
 ghost use Rattle.pc_types.specs.declared.limits.TheConstants.{MOST_SESSIONS};
 ghost use Rattle.pc_model.specs.History.{log_of};
 ghost use Rattle.pc_model.specs.Replies.{IsLegalHistory};
@@ -9,6 +9,7 @@ ghost use Rattle.pc_tie.specs.declared.sight.Sight.TheVariants.{Whole};
 ghost use Rattle.pc_tie.specs.Rules.{a_witness, Speaks, sitting, sight_after, Asked, guests_after, KnewFirst, AreTold};
 ghost use Rattle.pc_tie.specs.Seats.{meeting, sitting_in, IsSeatAt, IsSession, MovesOn, first_number, NoTwoAlike, IsFrontOf};
 
+use crate::milestone::Milestone;
 use crate::name::StoreName;
 use crate::rule::{Append, Compare, Deal, Show, Visit};
 use crate::seats::{CheckpointerSeat, SessionSeat, Witness};
@@ -292,6 +293,33 @@ impl<N: StoreName> Keeper<N> {
         self.enter(tie, badge);
         self.look(tie);
         witness.badge = self.show(tie);
+    }
+
+    // Compares the history with what the witness has seen: a beginning of it.
+    fn compare_witness(&mut self, tie: &Tie<N>, witness: &mut Witness<N>)
+        requires alone { self.old.guests ≡ [] }
+        ensures same { (self.new ≡ self.old) × (witness.new ≡ witness.old) }
+        ensures had_seen { IsBeginning witness.old self.old.history }
+    {
+        let badge = mem::replace(&mut witness.badge, Badge::blank());
+        self.enter(tie, badge);
+        self.look(tie);
+        witness.badge = self.leave(tie);
+    }
+
+    /// Compares the history with what the milestone has seen: a beginning of it. False where its witness isn't there, since
+    /// somebody else just compares it; then nothing is told.
+    pub fn compare_milestone(&mut self, tie: &Tie<N>, milestone: &Milestone<N>) -> bool
+        requires alone { self.old.guests ≡ [] }
+        ensures same { self.new ≡ self.old }
+        ensures had_seen { result ≡ true → IsBeginning milestone.now self.old.history }
+    {
+        let Some(mut witness) = milestone.take() else {
+            return false;
+        };
+        self.compare_witness(tie, &mut witness);
+        milestone.put_back(witness);
+        true
     }
 
     /// Takes a session's seat in.

@@ -3,6 +3,7 @@
 #![tactic(auto)]
 
 mod keeper;
+mod milestone;
 mod name;
 mod rule;
 mod seats;
@@ -10,6 +11,7 @@ mod sight;
 mod tie;
 
 pub use keeper::{Dealer, Keeper};
+pub use milestone::Milestone;
 pub use name::StoreName;
 pub use seats::{CheckpointerSeat, SessionSeat, Witness};
 pub use sight::{Sight, Sitting};
