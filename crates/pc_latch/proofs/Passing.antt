@@ -1,7 +1,8 @@
 -- What a pass has handed out.
-use Rattle.std.proofs.Common.{◌≡◌, ℕ, zero, suc, ◌+◌, ◌≤◌, List, [], ◌∷◌, ◌++◌, length, length-append, take, drop, ap, sym, ◌∙◌, arith}
+use Rattle.std.proofs.Common.{◌≡◌, ℕ, zero, suc, ◌+◌, ◌≤◌, List, [], ◌∷◌, ◌++◌, length, length-append, take, drop, take_all, ap, sym, ◌∙◌, arith}
 use Rattle.std.proofs.Math.Seq.{take-add}
 use Rattle.std.proofs.lemmas.List.{take-append-le, length-drop, length-take-le}
+use mathlib.Core.List.{IsPrefix}
 use Rattle.pc_types.specs.declared.Entry.{Entry}
 use Rattle.pc_model.specs.History.{History, log_of}
 use Rattle.pc_model.specs.Calls.{IsBeginning}
@@ -22,6 +23,17 @@ still_first n seen hist p lt = let g = logs_grow seen hist p in ap (take n) g.1 
 
 pub first_length : (n : ℕ) (log given : List Entry) → n ≤ length log → take n log ≡ given → length given ≡ n
 first_length n log given lt is = ap length (sym is) ∙ length-take-le n log lt
+
+-- what a pass has handed out, by what its witness sees then
+pub first_are : (n : ℕ) (seen hist : History) (given : List Entry) → IsBeginning seen hist → n ≤ length (log_of seen) → take n (log_of seen) ≡ given → given ≡ take (length given) (log_of hist)
+first_are n seen hist given told lt is = sym is ∙ (sym (still_first n seen hist told lt) ∙ ap (λ k. take k (log_of hist)) (sym (first_length n (log_of seen) given lt is)))
+
+-- where that is all, each entry is there that a beginning of the history has
+pub all_handed : (mark hist : History) (log given : List Entry) → IsBeginning mark hist → given ≡ take (length given) (log_of hist) → log ≡ log_of hist → length log ≤ length given → IsPrefix (log_of mark) given
+all_handed mark hist log given past first log_is all =
+    let g = logs_grow mark hist past in
+    let whole : given ≡ log_of hist = first ∙ take_all (length given) (log_of hist) (omega (arith, all, ap length log_is)) in
+    (g.0, sym g.1 ∙ sym whole)
 
 -- A pass had handed out n entries of what its witness had seen, which now sees the latch's history; the next entries of the log,
 -- so many, are handed out.

@@ -1,5 +1,6 @@
 //! What lies under the latch: the world, and the keeper of its history.
-ghost use Rattle.std.specs.Prelude.{◌≡◌, ◌↔◌, ◌∷◌, ◌++◌, [], false, Err, Some, None, IfOk, IfErr, OnErr, All, length, drop};
+ghost use Rattle.std.specs.Prelude.{◌≡◌, ◌↔◌, ◌∷◌, ◌++◌, [], true, false, Err, Some, None, IfOk, IfErr, OnErr, All, length, drop};
+ghost use mathlib.Core.List.{IsPrefix};
 ghost use Rattle.pc_types.specs.declared.Event.TheVariants.{Take};
 ghost use Rattle.pc_model.specs.FewWrites.{HasFewWrites};
 ghost use Rattle.pc_model.specs.Files.{file_at, shelf};
@@ -20,7 +21,7 @@ ghost use Rattle.pc_latch.specs.Tickets.{HasNoFile, IsNoTicket};
 use crate::pass::{LogPass, next_of};
 use crate::ticket::PartTicket;
 use pc_engine::World;
-use pc_tie::{CheckpointerSeat, Keeper, SessionSeat, StoreName, Tie, Witness};
+use pc_tie::{CheckpointerSeat, Keeper, Milestone, SessionSeat, StoreName, Tie, Witness};
 use pc_types::{Entry, Event, FileNo, Phase, Refusal, Reply, Step};
 use std::alloc::Global;
 use std::marker::Model;
@@ -177,6 +178,25 @@ impl<N: StoreName> Latched<N> {
         Ok(entries)
     }
 
+    /// Whether the pass has handed out all entries that the log has: then it has each that the log had at the milestone. False too
+    /// where somebody else just compares the milestone.
+    pub fn has_all(
+        &mut self,
+        tie: &Tie<N>,
+        pass: &mut LogPass<N>,
+        milestone: &Milestone<N>,
+    ) -> bool
+        ensures held { self.new ≡ self.old }
+        ensures same { pass.new ≡ pass.old }
+        ensures all { result ≡ true → IsPrefix (log_of milestone.now) pass.old }
+    {
+        pass.renew(tie, &mut self.keeper);
+        if pass.len() < self.world.log().len() {
+            return false;
+        }
+        self.keeper.compare_milestone(tie, milestone)
+    }
+
     /// How many entries the log has, at most 16,777,216.
     pub fn log_len(&self) -> u32
         ensures { result ≡ length (log_of self.now) }
@@ -259,8 +279,30 @@ impl<N: StoreName> Latched<N> {
         ensures refused { IfErr result (IsNoTicket N.name.setting witness.new number) }
         ensures none { HasNoFile N.name.setting witness.new number → result ≡ Err Refusal.NoFile }
     {
-        self.keeper.renew(tie, witness);
+        self.renew(tie, witness);
         self.ticket(alloc, tie, number)
+    }
+
+    // The witness sees the history as it is, of which it had seen a beginning.
+    fn renew(&mut self, tie: &Tie<N>, witness: &mut Witness<N>)
+        ensures same { self.new ≡ self.old }
+        ensures sees { witness.new ≡ self.old }
+        ensures had_seen { IsBeginning witness.old witness.new }
+        ensures legal { IsLegalHistory N.name.setting witness.new }
+    {
+        self.keeper.renew(tie, witness);
+    }
+
+    /// A milestone of the history as it is, which the witness then has seen.
+    pub fn milestone(&mut self, tie: &Tie<N>, witness: &mut Witness<N>) -> Milestone<N>
+        ensures same { self.new ≡ self.old }
+        ensures history { result ≡ witness.new }
+        ensures sees { witness.new ≡ self.old }
+        ensures had_seen { IsBeginning witness.old witness.new }
+        ensures legal { IsLegalHistory N.name.setting witness.new }
+    {
+        self.renew(tie, witness);
+        Milestone::new(self.witness(tie))
     }
 
     /// A witness that has seen the history as it is.

@@ -59,6 +59,16 @@ impl<N: StoreName> LogPass<N> {
         self.count
     }
 
+    // Its witness sees the keeper's history: what was handed out are the first entries of that one's log.
+    pub(crate) fn renew(&mut self, tie: &Tie<N>, keeper: &mut Keeper<N>)
+        requires { keeper.old.guests ≡ [] }
+        ensures same { self.new ≡ self.old }
+        ensures keeper { keeper.new ≡ keeper.old }
+        ensures first { self.old ≡ take (length self.old) (log_of keeper.old.history) }
+    {
+        keeper.renew(tie, &mut self.witness);
+    }
+
     /// Ends the pass: how many entries of the keeper's log were handed out, the first ones.
     pub fn close(self, tie: &Tie<N>, keeper: &mut Keeper<N>) -> usize
         requires { keeper.old.guests ≡ [] }
