@@ -3,12 +3,14 @@
 
 mod asks;
 mod closing;
+mod ending;
 mod logged;
 mod session;
 mod store;
 mod waits;
 
 pub use closing::Closed;
+pub use ending::{EndMark, Marked};
 pub use pc_latch::{LogPass, PartTicket};
 pub use pc_receipts::Receipts;
 pub use pc_tie::{CheckpointerSeat, Witness};

@@ -28,13 +28,15 @@ use pc_engine::World;
 use pc_latch::{Latched, LogPass, PartTicket};
 use pc_part::Base;
 use pc_receipts::Work;
-use pc_tie::{CheckpointerSeat, Keeper, SessionSeat, StoreName, Tie, Untied, Witness};
+use pc_tie::{
+    CheckpointerSeat, Keeper, Milestone, SessionSeat, StoreName, Tie, Untied, Witness,
+};
 use pc_types::{Entry, FileNo, Lsn, MOST_KEYS, MOST_SESSIONS, Refusal, Reply, Step};
 use std::alloc::Global;
 use std::hash::RandomState;
 use std::marker::Model;
 use std::sync::atomic::{AtomicU64, Ordering};
-use std::sync::{Condvar, Mutex, MutexGuard, Wait};
+use std::sync::{Condvar, Mutex, MutexGuard, OnceLock, Wait};
 use std::thread;
 
 /// A store that was opened, and has no name yet. Contracts see the name that it can be given.
@@ -131,6 +133,7 @@ impl Opened {
             repeating: Mutex::new(Turn),
             found_taken: AtomicU64::new(0),
             logged: Logged::new(),
+            end: OnceLock::new(),
             count,
         };
         Ok((shared, sessions, checkpointer, pass))
@@ -152,6 +155,8 @@ pub struct Shared<N: StoreName> {
     // How often somebody has found the latch taken.
     found_taken: AtomicU64,
     pub(crate) logged: Logged,
+    // The end, once it is marked.
+    pub(crate) end: OnceLock<Milestone<N>>,
     pub(crate) count: u8,
     ghost count_is: { N.name.setting.sessions ≡ count },
 }
@@ -202,7 +207,7 @@ pub fn pause(times: u32) {
 
 impl<N: StoreName> Shared<N> {
     // Gets the latch.
-    fn get_latch<R: Wait>(&self, rt: &R) -> MutexGuard<'_, Held<N>> {
+    pub(crate) fn get_latch<R: Wait>(&self, rt: &R) -> MutexGuard<'_, Held<N>> {
         if let Some(held) = self.latch.try_lock() {
             return held;
         }
@@ -219,7 +224,7 @@ impl<N: StoreName> Shared<N> {
     }
 
     // Wakes those who can go on.
-    fn wake(&self, woken: Woken) {
+    pub(crate) fn wake(&self, woken: Woken) {
         if woken.for_locks {
             self.granted.notify_all();
         }
@@ -356,6 +361,7 @@ impl<N: StoreName> Shared<N> {
             repeating: _,
             found_taken: _,
             logged: _,
+            end: _,
             count,
         } = self;
         let Held { latched, waits: _ } = latch.into_inner();
@@ -462,13 +468,18 @@ impl<N: StoreName> Shared<N> {
             if number.0 <= last {
                 return Some(Lsn(last));
             }
-            if held.waits.is_last() {
+            if held.waits.is_last() || self.has_ended() {
                 return None;
             }
             held.waits.await_commit(number.0);
             held = self.committed.wait(rt, held);
         }
         unreachable!()
+    }
+
+    // Whether the end was marked.
+    fn has_ended(&self) -> bool {
+        self.end.witness().is_some()
     }
 
     /// Marks that no client commits any more, for who waits for a commit.
@@ -481,18 +492,5 @@ impl<N: StoreName> Shared<N> {
     /// that asks for it is to have no transaction open: then nobody waits for a lock of one that waits here.
     pub fn turn_to_repeat<R: Wait>(&self, rt: &R) -> MutexGuard<'_, Turn> {
         self.repeating.lock(rt)
-    }
-
-    /// Marks the end, for loops that ask whether it is marked. It is a change, of the phase too, and ends nothing by itself.
-    pub fn mark_end<R: Wait>(&self, rt: &R) {
-        let mut held = self.get_latch(rt);
-        let woken = held.waits.end();
-        drop(held);
-        self.wake(woken);
-    }
-
-    /// Whether the end was marked.
-    pub fn ended<R: Wait>(&self, rt: &R) -> bool {
-        self.get_latch(rt).waits.has_ended
     }
 }

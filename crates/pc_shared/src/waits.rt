@@ -37,7 +37,7 @@ impl Awaited {
 }
 
 /// How many calls wait for a lock, how often the store and its phase have changed and how many calls wait for that, which entry of
-/// the log is waited for first, and whether the last commit and the end were marked.
+/// the log is waited for first, and whether the last commit was marked.
 #[derive(Drop)]
 pub struct Waits {
     pub(crate) for_locks: u64,
@@ -45,7 +45,6 @@ pub struct Waits {
     phases: Awaited,
     due: u32,
     has_last: bool,
-    pub(crate) has_ended: bool,
 }
 
 // No entry is waited for: none has this number.
@@ -94,7 +93,6 @@ impl Waits {
             phases: Awaited::new(),
             due: NONE_DUE,
             has_last: false,
-            has_ended: false,
         }
     }
 
@@ -136,9 +134,8 @@ impl Waits {
         }
     }
 
-    // Marks the end, which counts as a change of the store and of its phase.
+    // The end was marked, which counts as a change of the store and of its phase.
     pub(crate) fn end(&mut self) -> Woken {
-        self.has_ended = true;
         Woken {
             for_locks: false,
             for_change: self.changes.come(),
@@ -152,9 +149,9 @@ impl Waits {
         self.has_last = true;
     }
 
-    // Whether no further commit is waited for.
+    // Whether the last commit was marked.
     pub(crate) fn is_last(&self) -> bool {
-        self.has_last || self.has_ended
+        self.has_last
     }
 
     // The entry of this number is waited for too.
