@@ -1,10 +1,10 @@
 -- What a collapser holds, ticket after ticket.
-use Rattle.std.proofs.Common.{◌≡◌, ℕ, suc, Bool, true, false, ◌||◌, Option, Some, None, MatchOption, List, [], ◌∷◌, ◌++◌, All, map, refl, ap, sym, subst, ◌∙◌, inl, inr, arith}
+use Rattle.std.proofs.Common.{◌≡◌, ◌⊎◌, ℕ, suc, Bool, true, false, ◌||◌, Option, Some, None, MatchOption, List, [], ◌∷◌, ◌++◌, All, map, refl, ap, sym, subst, ◌∙◌, inl, inr, arith}
 use Rattle.std.proofs.lemmas.List.{map-append}
 use Rattle.std.proofs.lemmas.List.Elements.{All-nil, All-cons, All-append}
 use Rattle.std.proofs.lemmas.List.Folds.{list_any-append}
 use Rattle.pc_types.specs.declared.Refusal.{Refusal}
-use Rattle.pc_types.specs.declared.Refusal.TheVariants.{OutOfMemory}
+use Rattle.pc_types.specs.declared.Refusal.TheVariants.{NoFile, OutOfMemory}
 use Rattle.pc_model.specs.Files.{File, joined_file}
 use Rattle.pc_model.specs.Numbers.{same_number, is_one_of}
 use Rattle.pc_model.specs.History.{History}
@@ -108,3 +108,9 @@ is_next points before after next file is m = subst (λ (o : Option File). MatchO
 
 pub is_none : (points : ℕ) (before after : Pass) (next : Option File) → next ≡ None → MatchOption next (HasEnded points before after) (IsNext points before after) → HasEnded points before after
 is_none points before after next is m = subst (λ (o : Option File). MatchOption o (HasEnded points before after) (IsNext points before after)) is m
+
+-- for what a ticket is refused
+pub ticket_why : (st : Setting) (seen : History) (number : ℕ) (why : Refusal) → IsNoTicket st seen number why → (why ≡ NoFile) ⊎ (why ≡ OutOfMemory)
+ticket_why st seen number NoFile is = inl refl
+ticket_why st seen number OutOfMemory is = inr refl
+ticket_why st seen number other is = absurd is

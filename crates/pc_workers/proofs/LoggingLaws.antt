@@ -1,5 +1,6 @@
 -- What a logger writes, piece after piece; and that its text and the rest's are together the text of the whole log.
-use Rattle.std.proofs.Common.{◌≡◌, ◌⊎◌, ℕ, List, ◌++◌, take, drop, Option, Some, None, Ok, Err, sym, ap, subst, ◌∙◌, inl, inr, append_assoc, arith}
+use Rattle.std.proofs.Common.{◌≡◌, ◌⊎◌, ℕ, List, ◌++◌, take, drop, Option, Some, None, Ok, Err, refl, sym, ap, subst, ◌∙◌, inl, inr, append_assoc, arith}
+use Rattle.std.specs.Prelude.{Result, IfOk}
 use Rattle.std.specs.Io.KnownBytes.{Appends, Keeps}
 use Rattle.std.specs.List.{flat_map}
 use Rattle.std.proofs.lemmas.List.{take-append-drop}
@@ -74,3 +75,9 @@ module _ {T : Type 0} (contents : T → Option (List ℕ)) where
       → Puts contents b c (Ok tt) (rest_text logged log) → Puts contents a c (Ok tt) (log_text run log)
   whole_log a b c run logged log given is p q =
       logs_on a b c run given (drop logged log) log (sym (take-append-drop logged log) ∙ ap (λ (l : List Entry). l ++ drop logged log) (sym is)) p q
+
+  -- the same of the writer as it is
+  pub whole_rest : (b c : Tally T) (run logged : ℕ) (log : List Entry) (result : Result (Unit {0}) Refusal) → HasGoneOut contents b (log_text run (take logged log)) → Puts contents b c result (rest_text logged log)
+      → IfOk result (λ _. HasGoneOut contents c (log_text run log))
+  whole_rest b c run logged log (Ok u) out q = (out.0, whole_log out.0 b c run logged log (take logged log) refl out.1 q)
+  whole_rest b c run logged log (Err e) out q = tt

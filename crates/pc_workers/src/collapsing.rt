@@ -1,5 +1,5 @@
 //! A collapser's loop: it takes the files of points that were published, and joins them while the store is used.
-ghost use Rattle.std.specs.Prelude.{◌≡◌, ◌≤◌, ◌<◌, ◌||◌, ℕ, suc, [], IfErr, IfOk, IfSome, IfNone, MatchOption, vec_capacity, vec_len};
+ghost use Rattle.std.specs.Prelude.{◌≡◌, ◌⊎◌, ◌≤◌, ◌<◌, ◌||◌, ℕ, suc, [], IfErr, IfOk, IfSome, IfNone, MatchOption, vec_capacity, vec_len};
 ghost use Rattle.pc_model.specs.Calls.{IsBeginning};
 ghost use Rattle.pc_model.specs.Replies.{IsLegalHistory};
 ghost use Rattle.pc_model.specs.Sets as set;
@@ -32,7 +32,7 @@ fn await_file<N: StoreName, R: Wait>(
 {
     let mut seen = 0;
     for _ in rt.forever() {
-        let has_ended = shared.ended(rt);
+        let has_ended = shared.end_mark().is_some();
         let Point(horizon) = board.horizon(pass);
         if number < u64::from(horizon) {
             return Some(FileNo(number as u32 + 1));
@@ -101,8 +101,9 @@ fn take_in<N: StoreName, G: Gate>(
 /// Claims numbers with the pass, takes the file of the point behind each once that is published, and joins it at once to what it
 /// holds; before each join it passes the gate. It ends where a number isn't below `points`, where the end was marked before it
 /// looked and the number's point wasn't published, or where the pass can claim no more. It gives what it holds: none, one, or
-/// more where a join was refused; together they have just the points behind the claimed numbers but the last. Refuses as a
-/// ticket does by what the witness has then seen, or with `OutOfMemory`; what it held is then let go.
+/// more where a join was refused; together they have just the points behind the claimed numbers but the last. Refuses with
+/// `NoFile` alone, where the store that the witness has then seen has no file of the last number's point, or with `OutOfMemory`;
+/// what it held is then let go.
 pub fn collapse_loop<N: StoreName, R: Wait, G: Gate>(
     rt: &R,
     alloc: Global,
@@ -117,6 +118,7 @@ pub fn collapse_loop<N: StoreName, R: Wait, G: Gate>(
     requires { IsOfBoard pass.old board.now }
     ensures held { IfOk result (λ tickets. HasCollapsed points pass.old pass.new tickets.items) }
     ensures refused { IfErr result (HasStopped N.name.setting points witness.new pass.old pass.new) }
+    ensures named { IfErr result (λ why. (why ≡ Refusal.NoFile) ⊎ (why ≡ Refusal.OutOfMemory)) }
     ensures had_seen { IsBeginning witness.old witness.new }
 {
     let mut held = Vec::new(alloc);

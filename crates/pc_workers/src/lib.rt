@@ -11,4 +11,4 @@ pub use checkpointing::checkpoint_loop;
 pub use clients::{Count, MOST_REPEATS, client_loop};
 pub use collapsing::collapse_loop;
 pub use covering::with_missing_points;
-pub use logging::{MOST_BATCH, log_loop, log_rest};
+pub use logging::{LogEnd, MOST_BATCH, has_all_until, log_loop, log_rest};

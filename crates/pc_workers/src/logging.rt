@@ -1,15 +1,17 @@
 //! The logger's loop: the text of the log goes out while the store is used.
-ghost use Rattle.std.specs.Prelude.{◌≡◌, ◌≤◌, ◌++◌, [], List, length, All, IfOk};
+ghost use Rattle.std.specs.Prelude.{◌≡◌, ◌≤◌, ◌++◌, ℕ, [], List, length, take, All, IfOk, IfSome};
 ghost use Rattle.std.specs.List.{flat_map};
+ghost use mathlib.Core.List.{IsPrefix};
 ghost use Rattle.pc_types.specs.Tallies.{Puts};
 ghost use Rattle.pc_model.specs.FewWrites.{HasFewWrites};
+ghost use Rattle.pc_model.specs.History.{log_of};
 ghost use Rattle.pc_types.specs.declared.Entry.{Entry};
 ghost use Rattle.pc_log.specs.Texts.{entry_text, log_text};
 ghost use Rattle.pc_shared.specs.Written.{HasGoneOut};
 ghost use Rattle.pc_workers.specs.Logging.{Flushes, Logged, LogsMore, rest_text};
 
 use pc_log::{encode_entry, encode_header};
-use pc_shared::{Closed, LogPass, Shared, pause};
+use pc_shared::{Closed, EndMark, LogPass, Shared, pause};
 use pc_tie::StoreName;
 use pc_types::{Entry, Gate, Lsn, Place, Refusal, Tally};
 use std::io;
@@ -94,61 +96,93 @@ fn rest<N: StoreName>(shared: &Shared<N>) {
     }
 }
 
-// A turn of the logger: the next entries go out, and it rests. Where there are none, it says whether the end had been marked before
-// it looked for them, and if it hadn't, waits until the count of changes is another than the one from before.
-fn turn<N: StoreName, R: Wait, W: io::Write, G: Gate>(
+// A turn of the logger: the next entries go out, and it rests. Where there were none, it gives the mark of the end, if that is marked and
+// there still are none, and else waits until the count of changes is another than the one from before it looked for them.
+fn turn<'a, N: StoreName, R: Wait, W: io::Write, G: Gate>(
     rt: &R,
-    shared: &Shared<N>,
+    shared: &'a Shared<N>,
     pass: &mut LogPass<N>,
     out: &mut Tally<W>,
     seen: &mut u64,
     gate: &G,
-) -> Result<bool, Refusal>
+) -> Result<Option<EndMark<'a, N>>, Refusal>
     requires { HasGoneOut W.contents out.old (log_text N.name.setting.run pass.old) }
-    ensures { LogsMore W.contents out.old out.new result pass.old pass.new }
+    ensures text { LogsMore W.contents out.old out.new result pass.old pass.new }
+    ensures ours { IfOk result (λ end. IfSome end (λ mark. mark.token.of ≡ shared.now.end.id)) }
+    ensures all { IfOk result (λ end. IfSome end (λ mark. IsPrefix (log_of mark.token.value) pass.new)) }
 {
-    let has_ended = shared.ended(rt);
     let has_more = log_batch(rt, shared, pass, out, gate)?;
     if has_more {
         rest(shared);
-        return Ok(false);
+        return Ok(None);
     }
-    if !has_ended {
+    let end = shared.end_of_log(rt, pass);
+    if end.is_none() {
         *seen = shared.until_changed(rt, *seen);
     }
-    Ok(has_ended)
+    Ok(end)
+}
+
+/// How a logger's loop has ended.
+#[derive(Drop)]
+pub struct LogEnd<'a, N: StoreName> {
+    /// The number of the last entry that was handed out.
+    pub last: Lsn,
+    /// The mark of the store's end.
+    pub mark: EndMark<'a, N>,
 }
 
 /// Writes the log as the store grows it: the header of the run, and each entry, until the end is marked and no entry is left. It
 /// takes all entries that are there, up to some 262,144 bytes of text at once, flushes the writer behind them, and then marks them
 /// as written; it passes the gate before and after that. Answers the number of the last entry that the pass has then handed out,
-/// which is how many they are. Whatever it answers, the pass has what was handed out: on Ok and where memory ran out its whole
-/// text went out; `Device` is answered exactly where the device failed, and then a beginning of the text went out, and not all of
-/// it, or all of it, and a flush failed.
-pub fn log_loop<N: StoreName, R: Wait, W: io::Write, G: Gate>(
+/// which is how many they are, and the mark of the store's end: each entry that the log had when the end was marked is among them.
+/// Whatever it answers, the pass has what was handed out: on Ok and where memory ran out its whole text went out; `Device` is
+/// answered exactly where the device failed, and then a beginning of the text went out, and not all of it, or all of it, and a flush
+/// failed.
+pub fn log_loop<'a, N: StoreName, R: Wait, W: io::Write, G: Gate>(
     rt: &R,
-    shared: &Shared<N>,
+    shared: &'a Shared<N>,
     pass: &mut LogPass<N>,
     out: &mut Tally<W>,
     gate: &G,
-) -> Result<Lsn, Refusal>
+) -> Result<LogEnd<'a, N>, Refusal>
     requires { pass.old ≡ [] }
     ensures text { Logged W.contents out.old out.new result (log_text N.name.setting.run pass.new) }
-    ensures last { IfOk result (λ n. n ≡ length pass.new) }
+    ensures last { IfOk result (λ end. end.last ≡ length pass.new) }
+    ensures ours { IfOk result (λ end. end.mark.token.of ≡ shared.now.end.id) }
+    ensures all { IfOk result (λ end. IsPrefix (log_of end.mark.token.value) pass.new) }
 {
     encode_header(out, pass.run())?;
     let mut seen = 0;
     for _ in rt.forever() {
-        if turn(rt, shared, pass, out, &mut seen, gate)? {
-            return Ok(Lsn(pass.len() as u32));
+        match turn(rt, shared, pass, out, &mut seen, gate) {
+            Ok(Some(mark)) => {
+                let last = Lsn(pass.len() as u32);
+                return Ok(LogEnd { last, mark });
+            }
+            Ok(None) => {}
+            Err(why) => return Err(why),
         }
     }
     unreachable!()
 }
 
-/// Writes what the logger has left of the log of a store that was closed. It takes no memory, and refuses with `Device` exactly
-/// where the device failed; then a beginning of the text went out, and not all of it.
-pub fn log_rest<N: StoreName, W: io::Write>(
+/// Where the logger has ended, its pass has each entry that the log had when the end was marked, as any mark of the store's end tells:
+/// of one store's end all marks tell the same. It does nothing, and its contract is that law.
+pub fn has_all_until<'a, N: StoreName>(
+    mark: &EndMark<'a, N>,
+    ended: &LogEnd<'a, N>,
+    _pass: &LogPass<N>,
+)
+    requires ours { mark.now.token.of ≡ ended.now.mark.token.of }
+    requires all { IsPrefix (log_of ended.now.mark.token.value) _pass.now }
+    ensures { IsPrefix (log_of mark.now.token.value) _pass.now }
+{
+    ended.mark.agrees(mark);
+}
+
+// The entries behind those that were handed out go out.
+fn put_rest<N: StoreName, W: io::Write>(
     closed: &Closed<N>,
     out: &mut Tally<W>,
 ) -> Result<(), Refusal>
@@ -157,4 +191,18 @@ pub fn log_rest<N: StoreName, W: io::Write>(
 {
     let log = closed.log();
     put_entries(out, &log[closed.logged..])
+}
+
+/// Writes what the logger has left of the log of a store that was closed: where the text of what was handed out had gone out, that
+/// of the whole log then has. It takes no memory, and refuses with `Device` exactly where the device failed; then a beginning of the
+/// text went out, and not all of it.
+pub fn log_rest<N: StoreName, W: io::Write>(
+    closed: &Closed<N>,
+    out: &mut Tally<W>,
+) -> Result<(), Refusal>
+    requires { closed.now.logged ≤ length closed.now.world.log }
+    ensures text { Puts W.contents out.old out.new result (rest_text closed.now.logged closed.now.world.log) }
+    ensures whole { (run : ℕ) → HasGoneOut W.contents out.old (log_text run (take closed.now.logged closed.now.world.log)) → IfOk result (λ _. HasGoneOut W.contents out.new (log_text run closed.now.world.log)) }
+{
+    put_rest(closed, out)
 }

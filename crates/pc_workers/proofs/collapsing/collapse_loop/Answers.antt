@@ -3,7 +3,7 @@ use Rattle.pc_model.specs.Files.{File}
 use Rattle.pc_model.specs.Sets as set
 use Rattle.pc_model.proofs.BeginningLaws.{beginning_self, beginning_trans}
 use Rattle.pc_workers.specs.Collapsing.{has_point, HasCollapsed}
-use Rattle.pc_workers.proofs.Holding.{holds_none, holds_more, ends_so, stops_so, is_next, is_none}
+use Rattle.pc_workers.proofs.Holding.{holds_none, holds_more, ends_so, stops_so, ticket_why, is_next, is_none}
 use Rattle.pc_workers.proofs.collapsing.collapse_loop.Goals as goal
 
 pub loop-init : goal.loop-init
@@ -36,3 +36,6 @@ returns-in-Ok-None-clause-had_seen g c = beginning_trans c.args.witness.now c.lo
 
 pub returns-in-Err-clause-had_seen : goal.returns-in-Err-clause-had_seen
 returns-in-Err-clause-had_seen g c = beginning_trans c.args.witness.now c.loop.witness c.next_ticket.new.witness c.loop.invariant.1 c.next_ticket.ensures.had_seen
+
+pub returns-in-Err-clause-named : goal.returns-in-Err-clause-named
+returns-in-Err-clause-named g c = let e = c.in-Err.ensures.refused in ticket_why g.N.StoreName.name.setting c.next_ticket.new.witness _ c.in-Err.why e.3
