@@ -1,3 +1,4 @@
 mod DoneLaws
 pub mod ClientLaws
 pub mod FileLaws
+mod Numbering

@@ -1,3 +1,4 @@
 pub mod Clients
 pub mod Files
+pub mod Hands
 pub mod Logs

@@ -1,6 +1,8 @@
 //! Who runs a workload on a store: a checkpointer and collapsers, each with a pass of one board, and workers.
-ghost use Rattle.std.specs.Prelude.{◌≡◌, ◌+◌, ◌<◌, [], All, length, IfOk};
+ghost use Rattle.std.specs.Prelude.{◌≡◌, ◌+◌, ◌<◌, ◌≤◌, [], All, length, map, IfOk};
+ghost use Rattle.pc_board.specs.declared.limits.TheConstants.{MOST_PASSES};
 ghost use Rattle.pc_board.specs.Passes.{IsOfBoard};
+ghost use Rattle.pc_threads.specs.Hands.{first_numbers};
 
 use crate::clients::Worker;
 use crate::points::Checkpointer;
@@ -33,28 +35,30 @@ pub struct Hands<'a, N: StoreName, D> {
     pub collapsers: Vec<Collapser<'a>>,
 }
 
-// The collapsers, each with a pass of the board.
+// The collapsers, each with a pass of the board, numbered from 0.
 fn seat_collapsers<'a>(
     alloc: Global,
     board: &'a Board,
     passes: Vec<BoardPass>,
 ) -> Result<Vec<Collapser<'a>>, AllocError>
-    requires { All (λ pass. IsOfBoard pass board.now) passes.items }
-    ensures { IfOk result (λ collapsers. length collapsers.items ≡ length passes.items) }
+    requires ours { All (λ pass. IsOfBoard pass board.now) passes.items }
+    requires few { length passes.items ≤ MOST_PASSES }
+    ensures all { IfOk result (λ collapsers. length collapsers.items ≡ length passes.items) }
+    ensures numbers { IfOk result (λ collapsers. map (λ collapser. collapser.number) collapsers.items ≡ first_numbers (length collapsers.items)) }
 {
     let mut collapsers = Vec::new(alloc);
     let mut number = 0u8;
     for pass in passes {
         let seat = Seat { board, pass };
         collapsers.push(Collapser { number, seat })?;
-        number = number.wrapping_add(1);
+        number += 1;
     }
     Ok(collapsers)
 }
 
-/// The workers, a collapser for each pass but the last one, and that one for the checkpointer, which takes a point once so many
-/// transactions have committed since the last one, and writes the points' files to the folder, if there is one; it has taken none
-/// yet. It fails only where memory ran out.
+/// The workers; a collapser for each pass but the last one, numbered from 0; and that pass for the checkpointer, which takes a point
+/// once so many transactions have committed since the last one, and writes the points' files to the folder, if there is one; it has
+/// taken none yet. It fails only where memory ran out.
 pub fn hands_of<'a, N: StoreName, D: Drop>(
     alloc: Global,
     board: &'a Board,
@@ -65,11 +69,13 @@ pub fn hands_of<'a, N: StoreName, D: Drop>(
     every: u32,
 ) -> Result<Hands<'a, N, D>, AllocError>
     requires some { 0 < length passes.items }
+    requires few { length passes.items ≤ MOST_PASSES }
     requires ours { All (λ pass. IsOfBoard pass board.now) passes.items }
     ensures workers { IfOk result (λ hands. hands.workers.items ≡ workers.items) }
     ensures folder { IfOk result (λ hands. (hands.checkpointer.folder ≡ folder) × (hands.checkpointer.written.items ≡ [])) }
     ensures seat { IfOk result (λ hands. hands.checkpointer.at_store ≡ seat) }
     ensures collapsers { IfOk result (λ hands. length hands.collapsers.items + 1 ≡ length passes.items) }
+    ensures numbers { IfOk result (λ hands. map (λ collapser. collapser.number) hands.collapsers.items ≡ first_numbers (length hands.collapsers.items)) }
 {
     let mut passes = passes;
     let Some(pass) = passes.pop() else {

@@ -176,6 +176,12 @@ fn join_workers<N: StoreName, R: Threads>(
     Ok(all)
 }
 
+// Marks the end, for whoever waits for that; where it is marked already, it stays so.
+fn mark_end<N: StoreName, R: Wait>(rt: &R, shared: &Shared<N>) {
+    let mut witness = shared.witness(rt);
+    let _marked = shared.mark_end(rt, &mut witness);
+}
+
 // The workers, with all points but the last one beside them, and the last one once they have ended.
 fn run_workers<
     'x,
@@ -282,18 +288,18 @@ fn run_hands<
                 ) {
                     Ok(handle) => {
                         let Ok(()) = handles.push(handle) else {
-                            room.shared.mark_end(rt);
+                            mark_end(rt, room.shared);
                             return Err(Fault::Refused(Refusal::OutOfMemory));
                         };
                     }
                     Err(_) => {
-                        room.shared.mark_end(rt);
+                        mark_end(rt, room.shared);
                         return Err(Fault::NoThread);
                     }
                 }
             }
             let ended = run_workers(rt, room, checkpointer, workers);
-            room.shared.mark_end(rt);
+            mark_end(rt, room.shared);
             let worked = ended?;
             let held = join_collapsers(rt, room.alloc, handles)?;
             Ok(Rested { worked, held })
@@ -344,7 +350,7 @@ pub fn run_threads<
                 return Err(Fault::NoThread);
             };
             let ended = run_hands(rt, room, hands);
-            room.shared.mark_end(rt);
+            mark_end(rt, room.shared);
             let written = logging.join(rt)?;
             match ended {
                 Ok(rested) => Ok((rested, written)),
