@@ -1,7 +1,9 @@
 -- What the bag and the collapsers' hands hold together.
-use Rattle.std.specs.Prelude.{◌≡◌, ℕ, ◌+◌, ◌≤◌, List, [], ◌∷◌, ◌++◌, length, Option, IfSome}
+use Rattle.std.specs.Prelude.{◌≡◌, ℕ, ◌+◌, ◌≤◌, List, [], ◌∷◌, ◌++◌, length, Option, None, IfSome}
+use Rattle.std.specs.Option.{option_or}
 use mathlib.Core.Option.{some}
 use lib.ListN.{get_elem?}
+use Rattle.pc_types.specs.declared.Refusal.{Refusal}
 use Rattle.pc_model.specs.Files.{File}
 use Rattle.crossbeam_queue.specs.Passes.{view, IsPassOf}
 use Rattle.crossbeam_queue.specs.declared.array_queue.Doing.{Doing}
@@ -50,3 +52,8 @@ module _ {G Q A : Type 0} (bag : Slotted (Option File) (Doing File Hand) Q A) wh
 -- the same, and where a join was refused, the fold of the given files may be refused for it
 abbrev pub IsDone : {G Q A : Type 0} → List File → Slotted (Option File) (Doing File Hand) Q A → Collapser G → Type 0
 IsDone given bag c = IsReady bag c × IfSome c.refused (IsCauseFor given)
+
+-- the first refusal that a collapser kept, if one did
+abbrev pub first_kept : {G : Type 0} → List (Collapser G) → Option Refusal
+first_kept [] = None
+first_kept (c ∷ cs) = option_or c.refused (first_kept cs)

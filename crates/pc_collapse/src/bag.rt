@@ -1,7 +1,7 @@
 //! Collapsers that join files out of one bag.
-ghost use Rattle.std.specs.Prelude.{◌≡◌, ◌<◌, ◌≤◌, ◌+◌, [], ◌∷◌, ◌++◌, length, IfSome, IfOk, IfErr, All, vec_len, MatchResult};
+ghost use Rattle.std.specs.Prelude.{◌≡◌, ◌<◌, ◌≤◌, ◌+◌, [], ◌∷◌, ◌++◌, length, Err, IfSome, IfOk, IfErr, All, vec_len, MatchResult};
 ghost use Rattle.crossbeam_queue.specs.Passes.{view, IsPassOf, ruled_capacity};
-ghost use Rattle.pc_collapse.specs.Bags.{hand, all_parts, IsReady, IsDone};
+ghost use Rattle.pc_collapse.specs.Bags.{hand, all_parts, first_kept, IsReady, IsDone};
 ghost use Rattle.pc_collapse.specs.Folds.{Folds};
 ghost use Rattle.pc_collapse.specs.Worth.{AreWorth, IsCauseFor, Joins};
 
@@ -69,10 +69,30 @@ fn collapse<G: Given + Send + Sync, E: Gate + Sync, R: Threads + Wait + Sync>(
     fill(rt, &bag, &mut pass, pieces);
     let mut all = hands(alloc, &bag, &mut pass, workers)?;
     work_all(rt, alloc, parts, &bag, &mut all, workers, gate);
-    if let Some(why) = gather(&bag, &mut pass, all) {
+    left_by(rt, alloc, parts, &bag, &mut pass, all)
+}
+
+// What has become of the files once all collapsers have ended: where one of them kept a refusal, the first that was kept; and else
+// the join of what is left in the bag.
+fn left_by<G: Given, R: Wait>(
+    rt: &R,
+    alloc: Global,
+    parts: &[Part],
+    bag: &Bag<G>,
+    pass: &mut BagPass<G>,
+    all: Vec<Collapser<G>>,
+) -> Result<Part, Refusal>
+    requires files { (parts.now ≡ G.parts) × (0 < length G.files) }
+    requires queue { IsPassOf bag.now pass.old }
+    requires parts { ((view pass.old).parts + vec_len all ≡ all_parts) × ((view pass.old).held ≡ []) }
+    requires done { All (IsDone G.files bag.now) all.items }
+    ensures joined { Joins G.files result }
+    ensures kept { IfSome (first_kept all.items) (λ why. result ≡ Err why) }
+{
+    if let Some(why) = gather(bag, pass, all) {
         return Err(why);
     }
-    let left = drain(rt, alloc, &bag, &mut pass)?;
+    let left = drain(rt, alloc, bag, pass)?;
     fold_pieces(alloc, parts, left)
 }
 
@@ -265,13 +285,14 @@ fn put<G: Given, R: Wait>(rt: &R, bag: &Bag<G>, pass: &mut BagPass<G>, file: Pie
     };
 }
 
-// The collapsers give their hands back. Answers why a join was refused, if one was.
+// The collapsers give their hands back. Answers why a join was refused: the first cause that one of them kept, if one did.
 fn gather<G: Given>(bag: &Bag<G>, pass: &mut BagPass<G>, all: Vec<Collapser<G>>) -> Option<Refusal>
     requires queue { IsPassOf bag.now pass.old }
     requires parts { ((view pass.old).parts + vec_len all ≡ all_parts) × ((view pass.old).held ≡ []) }
     requires done { All (IsDone G.files bag.now) all.items }
     ensures queue { IsPassOf bag.now pass.new × (view pass.new ≡ hand all_parts []) }
     ensures refused { IfSome result (IsCauseFor G.files) }
+    ensures kept { result ≡ first_kept all.items }
 {
     let mut refused = None;
     for collapser in all {

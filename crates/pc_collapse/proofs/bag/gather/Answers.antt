@@ -3,7 +3,7 @@ use Rattle.pc_collapse.specs.declared.rule.Hand.{Hand}
 use Rattle.pc_collapse.specs.Worth.{IsCauseFor}
 use Rattle.pc_collapse.specs.Bags.{IsDone}
 use Rattle.pc_collapse.proofs.BagMoves.{merges}
-use Rattle.pc_collapse.proofs.Gathered.{first_of, others_of, either}
+use Rattle.pc_collapse.proofs.Gathered.{first_of, others_of, either, kept_on}
 use Rattle.pc_collapse.proofs.bag.gather.Goals as goal
 
 pub absorb-requires-clause-rule : goal.absorb-requires-clause-rule
@@ -24,4 +24,5 @@ loop-collapser-preserved g c =
       omega (arith, parts, one, n, before),
       others_of (IsDone g.G.Given.files c.args.bag.now) _ _ _ inv.3 c.in-Some.ensures.steps.0,
       (let r = c.or-refused.ensures in rw r (either (IsCauseFor g.G.Given.files) _ _ inv.4 done.1)),
+      kept_on c.loop-collapser.refused c.or-refused.result _ _ _ c.in-Some.collapser inv.5 c.in-Some.ensures.steps.0 c.or-refused.ensures,
     )
