@@ -1,8 +1,9 @@
 -- What the clients have done as their sessions is what the log of a closed store says of them.
-use Rattle.std.proofs.Common.{◌≡◌, ◌==◌, ◌≤◌, ◌+◌, ◌-◌, ◌||◌, ℕ, zero, suc, Bool, true, false, List, [], ◌∷◌, ◌++◌, length, All, refl, ap, sym, ◌∙◌, arith}
+use Rattle.std.proofs.Common.{◌≡◌, ◌==◌, ◌≤◌, ◌+◌, ◌-◌, ◌||◌, ℕ, zero, suc, Bool, true, false, List, [], ◌∷◌, ◌++◌, length, All, refl, ap, sym, subst, ◌∙◌, arith}
 use Rattle.std.specs.Prelude.{IsFalse}
 use Rattle.std.proofs.lemmas.List.Elements.{All-nil, All-cons, All-head, All-push, All-tail}
 use Rattle.std.proofs.lemmas.Bool.Decides.{nat_tests}
+use Rattle.pc_model.specs.Calls.{HasCallsOf}
 use Rattle.pc_model.specs.History.{History, log_of}
 use Rattle.pc_model.specs.Replies.{Setting}
 use Rattle.pc_jobs.specs.declared.works.Client.{Client}
@@ -29,20 +30,22 @@ module _ (st : Setting) (h : History) where
   committed s settled = receipts_are_commits s.number h ∙ ap written_in (sym settled.own)
 
   -- a client that has worked
-  client_ran : (client : Client) (own : ℕ) (session : Sitter) → HasWorked client own session → IsSettled st h session → HasRunBy (log_of h) client × (own ≡ left_of client)
-  client_ran client own session (commits, ran, sum) settled =
+  client_ran : (client : Client) (own : ℕ) (session : Sitter) → HasWorked st client own session → IsSettled st h session → HasRunBy st h client × (own ≡ left_of client)
+  client_ran client own session has settled =
+      let ran = has.run in
       let is : commits_of client.session (log_of h) ≡ marked ran.marks (jobs_of client) =
       ap (λ n. commits_of n (log_of h)) (sym ran.committed.number) ∙ committed session settled ∙ ap written_in ran.committed.receipts ∙ ran.committed.writes in
       let count = ap length is in
-      ((ran.marks, ran.one_each, is), omega (arith, sum, count, ran.count))
+      let calls : HasCallsOf h client.session session.seen = subst (λ n. HasCallsOf h n session.seen) ran.committed.number settled.calls in
+      (record { marks = ran.marks; one_each = ran.one_each; commits = is; seen = session.seen; calls = calls; done = has.done refl }, omega (arith, has.all, count, ran.count))
 
-  clients_ran : (clients : List Client) (given_up : ℕ) (sessions : List Sitter) → HaveWorked clients given_up sessions → All (IsSettled st h) sessions
-      → All (HasRunBy (log_of h)) clients × (given_up ≡ total left_of clients)
-  clients_ran [] given_up [] have settled = (All-nil (HasRunBy (log_of h)), have)
+  clients_ran : (clients : List Client) (given_up : ℕ) (sessions : List Sitter) → HaveWorked st clients given_up sessions → All (IsSettled st h) sessions
+      → All (HasRunBy st h) clients × (given_up ≡ total left_of clients)
+  clients_ran [] given_up [] have settled = (All-nil (HasRunBy st h), have)
   clients_ran (c ∷ clients) given_up (s ∷ sessions) (own, others, sum, has, have) settled =
       let one = client_ran c own s has (All-head (IsSettled st h) s sessions settled) in
       let rest = clients_ran clients others sessions have (All-tail (IsSettled st h) s sessions settled) in
-      (All-cons (HasRunBy (log_of h)) c clients one.0 rest.0, sum ∙ ap (λ n. n + others) one.1 ∙ ap (λ n. left_of c + n) rest.1)
+      (All-cons (HasRunBy st h) c clients one.0 rest.0, sum ∙ ap (λ n. n + others) one.1 ∙ ap (λ n. left_of c + n) rest.1)
   clients_ran [] given_up (s ∷ sessions) have settled = absurd have
   clients_ran (c ∷ clients) given_up [] have settled = absurd have
 
@@ -59,10 +62,10 @@ module _ (st : Setting) (h : History) where
       by false is some rest = rest some
 
   -- and else it is a client's
-  taken : (n : ℕ) (clients : List Client) (given_up : ℕ) (sessions : List Sitter) → HaveWorked clients given_up sessions → All (λ (c : Client). (c.session == n) ≡ false) clients → is_there sessions n ≡ false
+  taken : (n : ℕ) (clients : List Client) (given_up : ℕ) (sessions : List Sitter) → HaveWorked st clients given_up sessions → All (λ (c : Client). (c.session == n) ≡ false) clients → is_there sessions n ≡ false
   taken n [] given_up [] have none = refl
-  taken n (c ∷ clients) given_up (s ∷ sessions) (own, others, sum, (commits, ran, all), have) none =
-      let other : (s.number == n) ≡ false = ap (λ m. m == n) ran.committed.number ∙ All-head (λ (k : Client). (k.session == n) ≡ false) c clients none in
+  taken n (c ∷ clients) given_up (s ∷ sessions) (own, others, sum, has, have) none =
+      let other : (s.number == n) ≡ false = ap (λ m. m == n) has.run.committed.number ∙ All-head (λ (k : Client). (k.session == n) ≡ false) c clients none in
       ap (λ b. b || is_there sessions n) other ∙ taken n clients others sessions have (All-tail (λ (k : Client). (k.session == n) ≡ false) c clients none)
   taken n [] given_up (s ∷ sessions) have none = absurd have
   taken n (c ∷ clients) given_up [] have none = absurd have
@@ -89,17 +92,17 @@ module _ (st : Setting) (h : History) where
       by false at none rest = All-cons (λ (k : Client). (k.session == n) ≡ false) c clients at (rest none)
 
   -- what the clients of all workers have done, where all sessions of the store are there
-  pub have_run : (count workers : ℕ) (clients : List Client) (dealt : List (List Client)) (given_up : ℕ) (idle worked : List Sitter) → 1 ≤ workers → IsDealt workers clients dealt
-      → HaveWorked (clients_in dealt) given_up worked → All IsFresh idle → All (IsSettled st h) (idle ++ worked) → HasAll count (idle ++ worked) → HaveRunBy count (log_of h) clients given_up
-  have_run count workers clients dealt given_up idle worked some is have fresh settled all =
+  pub have_run : (workers : ℕ) (clients : List Client) (dealt : List (List Client)) (given_up : ℕ) (idle worked : List Sitter) → 1 ≤ workers → IsDealt workers clients dealt
+      → HaveWorked st (clients_in dealt) given_up worked → All IsFresh idle → All (IsSettled st h) (idle ++ worked) → HasAll st.sessions (idle ++ worked) → HaveRunBy st h clients given_up
+  have_run workers clients dealt given_up idle worked some is have fresh settled all =
       let ran = clients_ran (clients_in dealt) given_up worked have (back (IsSettled st h) idle worked settled) in
       record {
-        each = of_dealt (HasRunBy (log_of h)) workers clients dealt some is ran.0;
+        each = of_dealt (HasRunBy st h) workers clients dealt some is ran.0;
         count = ran.1 ∙ same_total left_of workers clients dealt some is ∙ sym (same_left clients);
         alone = alone;
       }
     where
-      alone : (session : ℕ) → 1 ≤ session → session ≤ count → IsFalse (is_taken clients session) → commits_of session (log_of h) ≡ []
+      alone : (session : ℕ) → 1 ≤ session → session ≤ st.sessions → IsFalse (is_taken clients session) → commits_of session (log_of h) ≡ []
       alone (suc k) low high free =
           let none = to_dealt (λ (c : Client). (c.session == suc k) ≡ false) workers clients dealt is (none_taken (suc k) clients free) in
           let there : is_there (idle ++ worked) (suc k) ≡ true = ap (is_there (idle ++ worked)) (omega arith) ∙ all k (omega (arith, high)) in

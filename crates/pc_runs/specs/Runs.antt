@@ -70,7 +70,7 @@ Begins remaining contents origin old new (Begun st) = (base : BaseFile) × IsSta
 pub record IsRun {D : Type 0} (holds : D → FileName → List ℕ → Type 0) (st : Setting) (workload : Workload) (there : Bool) (left : Option D) (outcome : Outcome) : Type 0 where
   pub history : History
   pub legal : IsLegalHistory st history
-  pub clients_ran : HaveRunBy st.sessions (log_of history) workload.clients outcome.given_up
+  pub clients_ran : HaveRunBy st history workload.clients outcome.given_up
   pub commits_are : outcome.commits ≡ commits_in (log_of history)
   pub points_are : outcome.points ≡ workload.points
   pub files : List File

@@ -1,11 +1,14 @@
--- What the clients of a workload have done, by the log of their store.
+-- What the clients of a workload have done, by the one history of their store.
 use Rattle.std.specs.Prelude.{◌≡◌, ◌≤◌, ◌+◌, ◌-◌, ◌==◌, ℕ, Bool, List, [], ◌∷◌, IsFalse, All, if◌then◌else◌, length}
 use Rattle.std.specs.List.{list_any}
 use Rattle.pc_types.specs.declared.Entry.{Entry}
 use Rattle.pc_types.specs.declared.Entry.TheVariants.{Commit, Token}
 use Rattle.pc_types.specs.declared.Write.{Write}
+use Rattle.pc_model.specs.Calls.{HasCallsOf}
+use Rattle.pc_model.specs.History.{History, log_of}
+use Rattle.pc_model.specs.Replies.{Setting}
 use Rattle.pc_jobs.specs.declared.works.Client.{Client}
-use Rattle.pc_threads.specs.Clients.{jobs_of}
+use Rattle.pc_threads.specs.Clients.{AreDone, jobs_of}
 use Rattle.pc_workers.specs.Clients.{marked}
 
 -- what the session has committed: the writes of each of its commits in the log, in order
@@ -14,9 +17,16 @@ commits_of s [] = []
 commits_of s (Commit session writes ∷ log) = if session == s then writes ∷ commits_of s log else commits_of s log
 commits_of s (Token phase point ∷ log) = commits_of s log
 
--- The client's session has committed just what those of the client's transactions write that are marked, in their order.
-abbrev pub HasRunBy : List Entry → Client → Type 0
-HasRunBy log client = (marks : List Bool) × (length marks ≡ length (jobs_of client)) × (commits_of client.session log ≡ marked marks (jobs_of client))
+-- The client's session has committed just what those of the client's transactions write that are marked, in their order; and with
+-- the calls that the history has of it, and no others, its works were done so: each transaction was tried, and those that aren't
+-- marked were given up for what is said there.
+pub record HasRunBy (st : Setting) (history : History) (client : Client) : Type 0 where
+  pub marks : List Bool
+  pub one_each : length marks ≡ length (jobs_of client)
+  pub commits : commits_of client.session (log_of history) ≡ marked marks (jobs_of client)
+  pub seen : History
+  pub calls : HasCallsOf history client.session seen
+  pub done : AreDone st client.works client.session marks [] seen
 
 -- how many of the clients' transactions have not committed
 abbrev pub left_over : List Entry → List Client → ℕ
@@ -27,9 +37,9 @@ left_over log (client ∷ clients) = (length (jobs_of client) - length (commits_
 abbrev pub is_taken : List Client → ℕ → Bool
 is_taken clients session = list_any (λ client. client.session == session) clients
 
--- Each client has run, and all transactions that have not committed were given up; of the sessions from 1 to this one, no other
--- has committed anything.
-pub record HaveRunBy (sessions : ℕ) (log : List Entry) (clients : List Client) (given_up : ℕ) : Type 0 where
-  pub each : All (HasRunBy log) clients
-  pub count : given_up ≡ left_over log clients
-  pub alone : (session : ℕ) → 1 ≤ session → session ≤ sessions → IsFalse (is_taken clients session) → commits_of session log ≡ []
+-- Each client has run, and all transactions that have not committed were given up; of the store's sessions, no other has committed
+-- anything.
+pub record HaveRunBy (st : Setting) (history : History) (clients : List Client) (given_up : ℕ) : Type 0 where
+  pub each : All (HasRunBy st history) clients
+  pub count : given_up ≡ left_over (log_of history) clients
+  pub alone : (session : ℕ) → 1 ≤ session → session ≤ st.sessions → IsFalse (is_taken clients session) → commits_of session (log_of history) ≡ []

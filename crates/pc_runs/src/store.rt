@@ -110,7 +110,7 @@ fn use_store<
     requires fresh { seat ≡ [] }
     requires some { 0 < length passes.items }
     requires ours { All (λ pass. IsOfBoard pass board.now) passes.items }
-    ensures clients { IfOk result (λ r. (more : List Sitter) × (r.0.sessions.items ≡ seating.idle.items ++ more) × HaveWorked (clients_in seating.workers.items) r.0.given_up more) }
+    ensures clients { IfOk result (λ r. (more : List Sitter) × (r.0.sessions.items ≡ seating.idle.items ++ more) × HaveWorked N.name.setting (clients_in seating.workers.items) r.0.given_up more) }
     ensures cover { IfOk result (λ r. HaveJustTo room.now.points r.0.joined.items) }
     ensures written { IfOk result (λ r. HasWritten D.holds room.now.points folder r.0.folder r.0.written.items) }
     ensures logged { IfOk result (λ r. HasLogged F.contents N.name.setting.run logger.out r.1.out r.1.pass) }

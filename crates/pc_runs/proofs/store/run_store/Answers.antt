@@ -54,8 +54,8 @@ returns g c =
         history = left.0;
         legal = left.1.legal;
         clients_ran =
-            have_run st left.0 st.sessions c.args.crew.now.workers c.args.workload.clients c.in_ok-dealt.dealt.items ended.given_up seating.idle.items worked.0 c.args.crew.now.in_range.0 c.in_ok-dealt.ensures
-            (subst (λ (all : List (List Client)). HaveWorked (clients_in all) ended.given_up worked.0) c.in_ok-seating.ensures.clients worked.2) c.in_ok-seating.ensures.idle
+            have_run st left.0 c.args.crew.now.workers c.args.workload.clients c.in_ok-dealt.dealt.items ended.given_up seating.idle.items worked.0 c.args.crew.now.in_range.0 c.in_ok-dealt.ensures
+            (subst (λ (all : List (List Client)). HaveWorked st (clients_in all) ended.given_up worked.0) c.in_ok-seating.ensures.clients worked.2) c.in_ok-seating.ensures.idle
             (subst (All (IsSettled st left.0)) worked.1 left.1.settled) (subst (HasAll st.sessions) worked.1 (it_is _ _ closed.all c.if-not-closed.false c.close-closed.ensures.all));
         commits_are = c.in_ok-left.ensures.commits ∙ ap commits_in left.1.log_is;
         points_are = refl;
