@@ -111,9 +111,20 @@ def needed_by(names):
     return [it for it in crates_of() if it in below]
 
 
+def linked(one, other):
+    """Copies a file; one of a built library gets a second name, since `rt` never writes into such a file."""
+    if ".rlib/" not in one:
+        return shutil.copy2(one, other)
+    try:
+        os.link(one, other)
+    except OSError:
+        shutil.copy2(one, other)
+    return other
+
+
 def copy_with(copy, chosen):
     """A copy of the repository in which the chosen bodies are those of the gate."""
-    shutil.copytree(ROOT, copy, ignore=shutil.ignore_patterns(".git"))
+    shutil.copytree(ROOT, copy, ignore=shutil.ignore_patterns(".git"), copy_function=linked)
     for name in crates():
         shutil.rmtree(f"{copy}/crates/{name}/must-fail", ignore_errors=True)
         os.makedirs(f"{copy}/crates/{name}/must-fail")

@@ -14,7 +14,7 @@ An edit is written as those of crates/*/must-fail are, with its files named from
 - `workload: NAME WORDS`: in a run of examples/NAME.pcw with these words, which must then print something else than examples/NAME.out;
 - `test: CRATE NAME`: by the test, which must then fail, and passes as it stands.
 
-Each is tried on a copy of the repository, by `rt try` of the program or of the tests: some minutes each. What was seen is noted in
+Each is tried on a copy of the repository with the libraries that are built in it, by `rt try` of the program or of the tests: a minute or more each. What was seen is noted in
 tools/meetings/tried: the body, its checksum, that of the sources of the crates that it changes and of the crate in which it is seen, and the date.
 The status is 1 where a body changes nothing, ends without saying so, or isn't seen.
 """
@@ -28,6 +28,8 @@ import shutil
 import subprocess
 import sys
 import tempfile
+
+from try_bodies import linked
 
 ROOT = os.path.join(os.path.dirname(os.path.abspath(__file__)), "..")
 FOLDER = os.path.join(ROOT, "tools", "meetings")
@@ -109,7 +111,7 @@ def told(lines, crate, *words):
     """The lines that `rt try` prints in the crate on a copy with the edit; and the end of all that is printed."""
     with tempfile.TemporaryDirectory(prefix="meetings-") as room:
         copy = os.path.join(room, "copy")
-        shutil.copytree(ROOT, copy, ignore=shutil.ignore_patterns(".git", "out"))
+        shutil.copytree(ROOT, copy, ignore=shutil.ignore_patterns(".git"), copy_function=linked)
         applied(lines, os.path.join(copy, "crates"))
         ran = subprocess.run(["rt", "try", *words], cwd=os.path.join(copy, "crates", crate), capture_output=True, text=True)
     return [line.removeprefix("| ") for line in ran.stdout.splitlines()], (ran.stdout + ran.stderr)[-600:]
