@@ -180,12 +180,7 @@ impl<N: StoreName> Latched<N> {
 
     /// Whether the pass has handed out all entries that the log has: then it has each that the log had at the milestone. False too
     /// where somebody else just compares the milestone.
-    pub fn has_all(
-        &mut self,
-        tie: &Tie<N>,
-        pass: &mut LogPass<N>,
-        milestone: &Milestone<N>,
-    ) -> bool
+    pub fn has_all(&mut self, tie: &Tie<N>, pass: &mut LogPass<N>, milestone: &Milestone<N>) -> bool
         ensures held { self.new ≡ self.old }
         ensures same { pass.new ≡ pass.old }
         ensures all { result ≡ true → IsPrefix (log_of milestone.now) pass.old }

@@ -28,9 +28,7 @@ use pc_engine::World;
 use pc_latch::{Latched, LogPass, PartTicket};
 use pc_part::Base;
 use pc_receipts::Work;
-use pc_tie::{
-    CheckpointerSeat, Keeper, Milestone, SessionSeat, StoreName, Tie, Untied, Witness,
-};
+use pc_tie::{CheckpointerSeat, Keeper, Milestone, SessionSeat, StoreName, Tie, Untied, Witness};
 use pc_types::{Entry, FileNo, Lsn, MOST_KEYS, MOST_SESSIONS, Refusal, Reply, Step};
 use std::alloc::Global;
 use std::hash::RandomState;
