@@ -148,7 +148,8 @@ fn commit_to_the_end<N: StoreName + Send + Sync, R: Threads + Wait + Sync>(
     requires rest { phase_of seat.old ≡ Rest }
 {
     let committed = commit_beside_points(rt, alloc, shared, seat, board, pass, sessions);
-    shared.mark_end(rt);
+    let mut witness = shared.witness(rt);
+    let _marked = shared.mark_end(rt, &mut witness);
     committed
 }
 

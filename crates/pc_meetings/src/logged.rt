@@ -32,7 +32,10 @@ impl TextOfLog {
     ) -> Result<Lsn, Refusal>
         requires { pass.old ≡ [] }
     {
-        log_loop(rt, shared, pass, &mut self.out, &OpenGate)
+        match log_loop(rt, shared, pass, &mut self.out, &OpenGate) {
+            Ok(end) => Ok(end.last),
+            Err(why) => Err(why),
+        }
     }
 
     /// Writes the rest of a closed log.

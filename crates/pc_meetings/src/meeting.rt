@@ -145,7 +145,8 @@ fn run_clients<N: StoreName + Send + Sync, R: Threads + Wait + Sync>(
 // The end is marked, by which a collapser that waits for more points than there are is to be woken. Where he sleeps on, a change of
 // the phase wakes him, so that the program comes to its end.
 fn end<N: StoreName, R: Wait>(rt: &R, room: &Room<N>, seat: &mut CheckpointerSeat<N>) {
-    room.shared.mark_end(rt);
+    let mut witness = room.shared.witness(rt);
+    let _marked = room.shared.mark_end(rt, &mut witness);
     room.gate.come(Sign::EndIsMarked);
     if room.gate.have_met() || room.plan.joins <= room.plan.points {
         return;
@@ -206,6 +207,21 @@ fn collapse<N: StoreName, R: Wait>(
     held
 }
 
+// The logger; the number of the last entry that it was handed.
+fn log<N: StoreName, R: Wait>(
+    rt: &R,
+    room: &Room<N>,
+    text: &mut Tally<Vec<u8>>,
+    pass: &mut LogPass<N>,
+) -> Result<Lsn, Refusal>
+    requires { pass.old ≡ [] }
+{
+    match log_loop(rt, room.shared, pass, text, room.gate) {
+        Ok(end) => Ok(end.last),
+        Err(why) => Err(why),
+    }
+}
+
 // The logger, and beside it the collapser.
 fn log_beside_collapser<N: StoreName + Send + Sync, R: Threads + Wait + Sync>(
     rt: &R,
@@ -222,7 +238,7 @@ fn log_beside_collapser<N: StoreName + Send + Sync, R: Threads + Wait + Sync>(
         rt,
         || -> Result<Lsn, Refusal>
             requires { pass.now ≡ [] }
-        { log_loop(rt, room.shared, pass, text, room.gate) },
+        { log(rt, room, text, pass) },
         || -> Result<Vec<PartTicket<N>>, Refusal>
             requires { IsOfBoard theirs.now board.now }
         { collapse(rt, room, board, theirs) },
