@@ -1,11 +1,13 @@
 -- A workload that can be run, and why nothing is printed of it.
-use Rattle.std.proofs.Common.{◌≡◌, ℕ, List, Option, Some, None, Result, Ok, Err, sym, ◌∙◌, inr}
+use Rattle.std.proofs.Common.{◌≡◌, ℕ, List, Option, Some, None, Result, Ok, Err, sym, ◌∙◌, inl, inr}
 use Rattle.std.proofs.lemmas.Bool.{false≢true}
-use Rattle.std.specs.Prelude.{IfOk, IfSome}
+use Rattle.std.specs.Prelude.{IfOk, IfSome, IsOk}
 use Rattle.pc_types.specs.declared.refusal.Refusal.{Refusal}
+use Rattle.pc_types.specs.declared.refusal.Refusal.TheVariants.{OutOfMemory}
 use Rattle.pc_model.specs.Replies.{Setting}
 use Rattle.pc_jobs.specs.Workloads.{reading_of}
 use Rattle.pc_jobs.specs.declared.workloads.Reading.{Reading}
+use Rattle.pc_script.specs.Runs.{IsScriptFault}
 use Rattle.pc_threads.specs.declared.fault.Fault.{Fault}
 use Rattle.pc_threads.specs.declared.fault.Fault.TheVariants as fault
 use Rattle.pc_runs.specs.declared.failure.Failure.{Failure}
@@ -13,7 +15,7 @@ use Rattle.pc_runs.specs.declared.failure.Failure.TheVariants as failure
 use Rattle.pc_runs.specs.declared.files.RunFolder.{RunFolder}
 use Rattle.pc_runs.specs.declared.origin.Start.{Start}
 use Rattle.pc_runs.specs.declared.origin.Start.TheVariants as start
-use Rattle.pc_runs.specs.Runs.{Beginning, Begun, Unstarted, CanRun, IsReadAs, IsUnanswered, IsUnstarted, IsUsable}
+use Rattle.pc_runs.specs.Runs.{Beginning, Begun, NotBegun, Unstarted, CanRun, IsReadAs, IsUnanswered, IsUnstarted, IsUsable}
 
 if_some : {X : Type 0} (o : Option X) (P Q : X → Type 0) → ((x : X) → P x → Q x) → IfSome o P → IfSome o Q
 if_some None P Q on has = tt
@@ -27,12 +29,20 @@ read_as remaining (Ok reader) bytes text some worth script same reads is =
     if_some (remaining reader) (λ (held : List ℕ). bytes ≡ held) (λ (held : List ℕ). reading_of held ≡ worth)
     (λ held has. (λ k. reading_of (sym (same ∙ has) k)) ∙ (sym reads ∙ is)) script
 
+-- memory ran out for what was read
+pub out_of_memory : {R : Type 0} (opened : Result R Refusal) (why : Refusal) → IsOk opened → why ≡ OutOfMemory → IsScriptFault opened why
+out_of_memory (Ok reader) why there is = inl is
+out_of_memory (Err absent) why there is = absurd (false≢true there)
+
 module _ {R D : Type 0} (remaining : R → Option (List ℕ)) (folder : Option (RunFolder D)) (begins : Beginning → Type 0) where
+  -- the workload couldn't be read
+  pub unread : (opened : Result R Refusal) (why : Refusal) → IsScriptFault opened why → begins NotBegun → IsUnanswered remaining opened folder begins (failure.Run (fault.Refused why))
+  unread opened why fault none = inl (fault, none)
+
   -- the run has begun, and failed
   pub run_failed : (opened : Result R Refusal) (why : Fault) (st : Setting) → CanRun remaining opened → IsUsable folder → begins (Begun st)
       → IsUnanswered remaining opened folder begins (failure.Run why)
-  run_failed (Ok reader) (fault.Refused why) st can usable begun = inr (can, usable, (st, begun))
-  run_failed (Err absent) (fault.Refused why) st can usable begun = absurd (false≢true can.0)
+  run_failed opened (fault.Refused why) st can usable begun = inr (can, usable, (st, begun))
   run_failed opened (fault.Unmade name why) st can usable begun = (can, usable, (st, begun))
   run_failed opened fault.NoThread st can usable begun = (can, usable, (st, begun))
 

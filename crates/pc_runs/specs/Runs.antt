@@ -1,6 +1,6 @@
 -- A run of a workload: what its store starts from, what its text is read as, what is printed, why it may fail, and what is told of
 -- that.
-use Rattle.std.specs.Prelude.{◌≡◌, ◌⊎◌, ◌++◌, ℕ, Bool, List, Option, Result, Err, [], is_some, IsOk, IfOk, IfSome, MatchOption, MatchResult, codes}
+use Rattle.std.specs.Prelude.{◌≡◌, ◌⊎◌, ◌++◌, ℕ, Bool, List, Option, Result, Err, [], is_some, IsOk, IfOk, IfSome, MatchOption, codes}
 use Rattle.std.specs.Io.KnownBytes.{Appends}
 use Rattle.pc_types.specs.Counted.{HasRisen, AppendsBeginning}
 use Rattle.pc_types.specs.Tallies.{Puts, inner_of, failures_of}
@@ -18,6 +18,7 @@ use Rattle.pc_jobs.specs.declared.workloads.Reading.TheVariants as reading
 use Rattle.pc_script.specs.Bases.{IsMade, IsUnmade}
 use Rattle.pc_script.specs.Recoveries.{TellsOf}
 use Rattle.pc_script.specs.Recoveries as recoveries
+use Rattle.pc_script.specs.Runs.{IsScriptFault}
 use Rattle.pc_threads.specs.declared.fault.Fault.TheVariants as fault
 use Rattle.pc_runs.specs.declared.failure.Failure.{Failure}
 use Rattle.pc_runs.specs.declared.failure.Failure.TheVariants as failure
@@ -113,11 +114,11 @@ abbrev pub GoesOut : {R D T : Type 0} → (R → Option (List ℕ)) → (D → F
 GoesOut remaining holds contents opened folder begins old new left status = (some : Printed) × IsAnswer remaining holds opened folder begins left some × (status ≡ status_of some)
     × Appends (contents (inner_of old)) (contents (inner_of new)) (printed_text some) × (failures_of new ≡ failures_of old)
 
--- Why nothing is printed: where the file wasn't opened, the reason for that; where its workload can be run, and the folder can't
--- be used, the reason for this; where it can be used, and there is nothing to start from, that; and else one of the run, by files
--- or threads only where it has begun.
+-- Why nothing is printed: where the file wasn't opened, the reason for that; where it was, that it couldn't be read, or that memory
+-- ran out; where its workload can be run, and the folder can't be used, the reason for this; where it can be used, and there is
+-- nothing to start from, that; and else one of the run, which has begun.
 abbrev pub IsUnanswered : {R D : Type 0} → (R → Option (List ℕ)) → Result R Refusal → Option (RunFolder D) → (Beginning → Type 0) → Failure → Type 0
-IsUnanswered remaining opened folder begins (failure.Run (fault.Refused why)) = MatchResult opened (λ reader. begins NotBegun ⊎ HasBegun remaining opened folder begins) (λ absent. (why ≡ absent) × begins NotBegun)
+IsUnanswered remaining opened folder begins (failure.Run (fault.Refused why)) = (IsScriptFault opened why × begins NotBegun) ⊎ HasBegun remaining opened folder begins
 IsUnanswered remaining opened folder begins (failure.Run other) = HasBegun remaining opened folder begins
 IsUnanswered remaining opened folder begins (failure.Folder name why) = CanRun remaining opened × IsUnusable folder (failure.Folder name why) × begins NotBegun
 IsUnanswered remaining opened folder begins (failure.Start name why) = CanRun remaining opened × IsUsable folder × begins (Unstarted (failure.Start name why))

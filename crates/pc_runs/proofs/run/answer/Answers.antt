@@ -2,7 +2,7 @@ use Rattle.std.proofs.Common.{Bool, refl, subst}
 use Rattle.std.proofs.lemmas.Result.{err_from_is_err_and}
 use Rattle.pc_jobs.specs.declared.workloads.Reading.TheVariants.{Runs}
 use Rattle.pc_runs.specs.Runs.{Begins, CanRun, IsRun, run_setting}
-use Rattle.pc_runs.proofs.BeginLaws.{read_as, run_failed, not_started}
+use Rattle.pc_runs.proofs.BeginLaws.{not_started, out_of_memory, read_as, run_failed, unread}
 use Rattle.pc_runs.proofs.run.answer.Goals as goal
 
 pub returns-in_err-base-in-Runs-clause-cause : goal.returns-in_err-base-in-Runs-clause-cause
@@ -32,3 +32,16 @@ returns-in_ok-outcome-in-Runs-clause-answer g c =
     let base = c.in_ok-base-in-Runs.base in
     let run = subst (λ (there : Bool). IsRun g.D.NewFiles.holds (run_setting base c.args.origin.capacity) c.in-Runs.workload there c.in_ok-outcome-in-Runs.folder c.in_ok-outcome-in-Runs.outcome) c.in_ok-folder-in-Runs.ensures.there c.in_ok-outcome-in-Runs.ensures.run in
     (c.in_ok-folder-in-Runs.ensures.usable, (c.in-Runs.workload, read, (run_setting base c.args.origin.capacity, (base, c.in_ok-base-in-Runs.ensures.start, refl), run)))
+
+pub returns-in_err-text-clause-cause : goal.returns-in_err-text-clause-cause
+returns-in_err-text-clause-cause g c =
+    let p = err_from_is_err_and c.from_residual.result c.from_residual.ensures.1 in
+    rw (p.1, p.2) (unread g.R.Read.remaining c.args.folder (Begins g.S.Read.remaining g.E.Write.contents c.args.origin c.args.errors.now c.args.errors.now) c.args.opened c.in_err-text.field-0.0 c.in_err-text.ensures.cause refl)
+
+pub returns-in_err-line-clause-cause : goal.returns-in_err-line-clause-cause
+returns-in_err-line-clause-cause g c =
+    let p = err_from_is_err_and c.from_residual-in_err-line.result c.from_residual-in_err-line.ensures.1 in
+    let why = c.in_err-line.field-0.0 in
+    rw (p.1, p.2)
+    (unread g.R.Read.remaining c.args.folder (Begins g.S.Read.remaining g.E.Write.contents c.args.origin c.args.errors.now c.args.errors.now) c.args.opened why
+    (out_of_memory c.args.opened why c.in_ok-text.ensures.opened c.in_err-line.ensures.refusals) refl)
