@@ -1,7 +1,10 @@
--- A board that has passes has a first one.
-use Rattle.std.proofs.Common.{ℕ, zero, suc, ◌<◌, ◌≤◌, [], ◌∷◌, length, length-append, arith}
+-- How many passes a new board has.
+use Rattle.std.proofs.Common.{◌≡◌, ℕ, zero, suc, ◌<◌, ◌≤◌, [], ◌∷◌, length, length-append, refl, arith}
 use Rattle.pc_board.specs.Passes.{Board, new_passes}
 
+pub as_many : (board : Board) (count : ℕ) → length (new_passes board.name count) ≡ count
+as_many board zero = refl
+as_many board (suc count) = omega (arith, as_many board count, length-append (new_passes board.name count) (record { board = board.name; number = count; seen = [] } ∷ []))
+
 pub some_passes : (board : Board) (count : ℕ) → 1 ≤ count → 0 < length (new_passes board.name count)
-some_passes board zero some = absurd (omega (arith, some))
-some_passes board (suc count) some = omega (arith, length-append (new_passes board.name count) (record { board = board.name; number = count; seen = [] } ∷ []))
+some_passes board count some = omega (arith, some, as_many board count)

@@ -1,6 +1,7 @@
 //! A store of a workload, from its opening to what it leaves.
 ghost use Rattle.std.specs.Prelude.{◌≡◌, ◌≤◌, ◌<◌, ◌++◌, [], All, List, length, drop, is_some, IfOk};
 ghost use Rattle.pc_model.specs.History.{History};
+ghost use Rattle.pc_board.specs.declared.limits.TheConstants.{MOST_PASSES};
 ghost use Rattle.pc_board.specs.Passes.{IsOfBoard};
 ghost use Rattle.pc_outcomes.specs.Leaving.{AreLeftAfter, IsLegacy, commits_in};
 ghost use Rattle.pc_shared.specs.Sitters.{Sitter};
@@ -109,6 +110,7 @@ fn use_store<
 ) -> Result<(Ended<N, D>, Written<N, F>), Fault>
     requires fresh { seat ≡ [] }
     requires some { 0 < length passes.items }
+    requires few { length passes.items ≤ MOST_PASSES }
     requires ours { All (λ pass. IsOfBoard pass board.now) passes.items }
     ensures clients { IfOk result (λ r. (more : List Sitter) × (r.0.sessions.items ≡ seating.idle.items ++ more) × HaveWorked N.name.setting (clients_in seating.workers.items) r.0.given_up more) }
     ensures cover { IfOk result (λ r. HaveJustTo room.now.points r.0.joined.items) }

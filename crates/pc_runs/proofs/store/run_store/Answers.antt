@@ -1,9 +1,10 @@
-use Rattle.std.proofs.Common.{◌≡◌, ◌<◌, ◌+◌, ◌++◌, List, All, length, length-append, drop, refl, sym, ap, subst, ◌∙◌, arith}
+use Rattle.std.proofs.Common.{◌≡◌, ◌<◌, ◌≤◌, ◌+◌, ◌++◌, List, All, length, length-append, drop, refl, sym, ap, subst, ◌∙◌, arith}
 use Rattle.std.specs.Prelude.{is_some}
 use Rattle.pc_types.specs.declared.Entry.{Entry}
 use Rattle.pc_model.specs.Files.{BaseFile}
 use Rattle.pc_model.specs.History.{log_of}
 use Rattle.pc_model.specs.Standing.{IsOfItsPoints}
+use Rattle.pc_board.specs.declared.limits.TheConstants.{MOST_PASSES}
 use Rattle.pc_board.specs.Passes.{Pass}
 use Rattle.pc_jobs.specs.declared.works.Client.{Client}
 use Rattle.pc_outcomes.specs.Leaving.{IsLegacy, commits_in}
@@ -12,7 +13,7 @@ use Rattle.pc_threads.specs.Clients.{HaveWorked, IsFresh, clients_in}
 use Rattle.pc_workers.specs.Covering.{HaveJustTo}
 use Rattle.pc_runs.specs.Folders.{LeavesFiles, base_of}
 use Rattle.pc_runs.proofs.HistoryLaws.{behind_first, first_ones, it_is, left_after}
-use Rattle.pc_runs.proofs.NewPasses.{some_passes}
+use Rattle.pc_runs.proofs.NewPasses.{as_many, some_passes}
 use Rattle.pc_runs.proofs.WorkLaws.{all_fresh, have_run}
 use Rattle.pc_runs.proofs.FolderLaws.{files_left}
 use Rattle.pc_runs.proofs.store.run_store.Goals as goal
@@ -20,6 +21,11 @@ use Rattle.pc_runs.proofs.store.run_store.Goals as goal
 pub use_store-requires-clause-some : goal.use_store-requires-clause-some
 use_store-requires-clause-some g c κs bounds =
     subst (λ (passes : List Pass). 0 < length passes) (sym c.in_ok-board.ensures.passes) (some_passes c.in_ok-board.board (c.args.crew.now.collapsers + 1) (omega arith))
+
+pub use_store-requires-clause-few : goal.use_store-requires-clause-few
+use_store-requires-clause-few g c κs bounds =
+    subst (λ (passes : List Pass). length passes ≤ MOST_PASSES) (sym c.in_ok-board.ensures.passes)
+    (let all = as_many c.in_ok-board.board (c.args.crew.now.collapsers + 1) in omega (arith, all, c.args.crew.now.in_range.3))
 
 pub seat_workers-requires : goal.seat_workers-requires
 seat_workers-requires g c = subst (All IsFresh) (sym c.in_ok-shared.ensures.sessions) (all_fresh g.N.StoreName.name.setting.sessions)
