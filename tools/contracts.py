@@ -1,0 +1,112 @@
+#!/usr/bin/env python3
+"""Compares the contracts of two trees: of each public function its signature and clauses, word for word.
+
+    contracts.py OLD NEW                    tells what differs between two commits; `.` is the tree as it stands
+    contracts.py OLD NEW --renames FILE     the same, once each word of OLD that begins a line of FILE is the one behind it
+    contracts.py OLD NEW --all              private functions too
+
+A function is known by its type and its name, whatever crate or file it stands in; where two have one name, their texts are compared as a set. Told are
+functions that one tree alone has, and of those whose text differs the lines that changed. The status is 1 where anything is told.
+"""
+
+import argparse
+import difflib
+import os
+import re
+import subprocess
+import sys
+
+ROOT = os.path.join(os.path.dirname(os.path.abspath(__file__)), "..")
+FUNCTION = re.compile(r"^(\s*)(pub(?:\([a-z]+\))? )?(?:const )?(?:unsafe )?fn (\w+)")
+OWNER = re.compile(r"^(?:pub )?(?:impl(?:<.*?>)? (?:.+? for )?|trait )([A-Z]\w*)")
+
+
+def sources_of(commit):
+    """The source files of a commit, by path."""
+    if commit == ".":
+        listed = subprocess.run(["git", "-C", ROOT, "ls-files", "--", "crates/*/src/*.rt"], check=True, capture_output=True, text=True).stdout.split("\n")
+        for path in filter(None, listed):
+            with open(os.path.join(ROOT, path), encoding="utf-8") as it:
+                yield path, it.read()
+        return
+    listed = subprocess.run(["git", "-C", ROOT, "ls-tree", "-r", "--name-only", commit, "--", "crates"], check=True, capture_output=True, text=True).stdout.split("\n")
+    for path in listed:
+        if re.match(r"crates/\w+/src/.*\.rt$", path):
+            yield path, subprocess.run(["git", "-C", ROOT, "show", f"{commit}:{path}"], check=True, capture_output=True, text=True).stdout
+
+
+def contract_at(lines, start, indent):
+    """The lines from the function's first one up to its body."""
+    found = []
+    for line in lines[start:]:
+        if line == indent + "{" or line == indent + "{}":
+            break
+        found.append(line.strip())
+        if line.rstrip().endswith((";", "{", "{}")) and not line.lstrip().startswith(("requires", "ensures")):
+            break
+    return "\n".join(found).rstrip("{").rstrip()
+
+
+def contracts_in(text, is_all):
+    """By its type and name, each function's signature with its clauses."""
+    lines, owner, is_of_trait = text.split("\n"), "", False
+    for number, line in enumerate(lines):
+        if found := OWNER.match(line):
+            owner, is_of_trait = found[1] + "::", "trait " in line or " for " in line
+        elif line == "}":
+            owner, is_of_trait = "", False
+        found = FUNCTION.match(line)
+        if found and (is_all or found[2] == "pub " or is_of_trait and not found[2]):
+            yield owner * bool(found[1]) + found[3], contract_at(lines, number, found[1])
+
+
+def contracts_of(commit, is_all):
+    found = {}
+    for _, text in sources_of(commit):
+        for name, contract in contracts_in(text, is_all):
+            found.setdefault(name, []).append(contract)
+    return {name: sorted(texts) for name, texts in found.items()}
+
+
+def renamed(contracts, words):
+    """The contracts with these words in the place of others."""
+    if not words:
+        return contracts
+    known = re.compile(r"(?<![\w])(?:%s)(?![\w])" % "|".join(map(re.escape, words)))
+    other = lambda text: known.sub(lambda it: words[it[0]], text)
+    return {other(name): sorted(map(other, texts)) for name, texts in contracts.items()}
+
+
+def words_of(file):
+    if file is None:
+        return {}
+    with open(file, encoding="utf-8") as it:
+        return dict(line.split() for line in it if line.strip())
+
+
+def differences(old, new):
+    for name in sorted({*old, *new}):
+        if name not in new:
+            yield f"{name}: gone"
+        elif name not in old:
+            yield f"{name}: new"
+        elif old[name] != new[name]:
+            pair = ["\n".join(it).split("\n") for it in (old[name], new[name])]
+            yield "\n".join([f"{name}:", *[line for line in [*difflib.unified_diff(*pair, lineterm="", n=0)][2:] if not line.startswith("@@")]])
+
+
+def main():
+    reader = argparse.ArgumentParser(description=__doc__, formatter_class=argparse.RawDescriptionHelpFormatter)
+    reader.add_argument("old")
+    reader.add_argument("new")
+    reader.add_argument("--renames")
+    reader.add_argument("--all", action="store_true")
+    given = reader.parse_args()
+    old, new = (contracts_of(commit, given.all) for commit in (given.old, given.new))
+    told = [*differences(renamed(old, words_of(given.renames)), new)]
+    print("\n".join([*told, f"{sum(map(len, old.values()))} and {sum(map(len, new.values()))} functions, {len(told)} differences"]))
+    return 1 if told else 0
+
+
+if __name__ == "__main__":
+    sys.exit(main())
