@@ -10,9 +10,9 @@ on further lines is not read, so an edit that is spread over several lines may c
 of another form, an old text that doesn't stand exactly once in its file, a new text that is the old one, and one that calls a function
 which no source of its crate names, or a method of a name that no function has in the crate, in those that it stands on, or in
 the kit's library: that is no body at all, and the gate takes no such refusal. (A method is looked for by its name alone, since
-no types are known here.) A row of docs/PROMISES.md begins with the name of its promise, in bold; its third cell has the edits that name
-it, those that the gate tries in bold. Told are a name that no row has, and a page whose column is another one. The status is 1 where
-anything is told.
+no types are known here.) A row of docs/PROMISES.md begins with the name of its promise, in bold; its third cell has those edits that
+name it and that the gate tries, and behind a plus how many more are tried on demand. Told are a name that no row has, and a page whose
+column is another one. The status is 1 where anything is told.
 """
 
 import functools
@@ -148,8 +148,10 @@ def marked(text, found):
         row = ROW.match(line)
         if row:
             cells = line.split("|")
-            names = sorted(found.get(row[1], {}).items(), key=lambda it: (not it[1], it[0]))
-            cells[COLUMN] = " " + ", ".join(f"**`{name}`**" if is_tried else f"`{name}`" for name, is_tried in names) + " "
+            named = found.get(row[1], {})
+            gate = [f"`{name}`" for name in sorted(named) if named[name]]
+            others = len(named) - len(gate)
+            cells[COLUMN] = " " + ", ".join(gate + ([f"+{others}"] if others else [])) + " "
             line = "|".join(cells)
         lines.append(line)
     return "\n".join(lines)
