@@ -3,23 +3,20 @@ use Rattle.std.proofs.Common.{◌≡◌, ◌≢◌, ◌⊎◌, inl, inr, ℕ, Li
 use Rattle.std.proofs.lemmas.Bool.{eqb-true, eq-eqb}
 use Rattle.pc_chain.specs.declared.chain.Chain.{Chain}
 use Rattle.pc_chain.specs.Chains.{IsEmpty}
-use Rattle.pc_model.specs.Queues.{stands_in}
-use Rattle.pc_dirty.specs.declared.side.Side.{Side}
 use Rattle.pc_locks.specs.States.{queue_at}
 use Rattle.pc_locks.specs.Keepers as keepers
 use Rattle.pc_locks.specs.Keepers.{AreEnds, DifferWhereNone}
-use Rattle.pc_locks.proofs.KeeperLaws.{other_ends, other_state, other_sound}
-use Rattle.pc_table.specs.Rows.{Row as TableRow, Contents, in_slot, slot_of as table_slot, with_record_in, with_row, without_slot, HasRow, IsNewSlot, AreInSlots}
+use Rattle.pc_locks.proofs.KeeperLaws.{other_ends, other_state}
+use Rattle.pc_table.specs.Rows.{Row as TableRow, Contents, in_slot, slot_of as table_slot, with_record_in, with_row, without_slot, IsNewSlot, AreInSlots}
 use Rattle.pc_table.proofs.RowLaws.{same_some}
 use Rattle.pc_slots.specs.declared.cells.Cell.{Cell}
 use Rattle.pc_slots.specs.Words.{chain_in, words_of, with_ends}
 use Rattle.pc_slots.specs.Slots.{Slot, slot_with, base_cell}
-use Rattle.pc_records.specs.Slots.{slots_in, cells_in, base_row, at_number, AreKept}
+use Rattle.pc_records.specs.Slots.{slots_in, cells_in, base_row, at_number}
 use Rattle.pc_records.specs.Ends.{ends_of, ends_in, queues_in, KeepSlots}
 use Rattle.pc_records.proofs.InSlots.{changed_in, in_changed, in_put, in_left, cell_there}
-use Rattle.pc_records.proofs.TableSlots.{no_find, no_number, changed_slots}
+use Rattle.pc_records.proofs.TableSlots.{no_find, changed_slots}
 use Rattle.pc_records.proofs.KeepingSets.{changed_sets}
-use Rattle.pc_records.proofs.SlotReleasing.{slot_there}
 use Rattle.pc_records.proofs.SlotMoments.{first_cell, other_cells}
 
 -- where each slot has the same ends
@@ -70,27 +67,6 @@ module _ (old new : Contents Cell) (id : ℕ) (gone : new ≡ without_slot old i
 
   pub queues_left : queues_in new.rows locks ≡ queues_in old.rows locks
   queues_left = λ i slot. (other_state (ends_in old.rows) (ends_in new.rows) locks differ).queues slot i
-
--- who has a request has it of a slot that has a row
-pub are_sound : (side : Side) (rows : List (TableRow Cell)) (locks : keepers.Kept) → AreKept (slots_in side rows) (queues_in rows locks) → AreEnds (ends_in rows) locks → keepers.AreSound (HasRow rows) (ends_in rows) locks
-are_sound side rows locks kept a = record { ends_are = a; held = λ slot t stands. by_row slot t stands (in_slot rows slot) refl }
-  where
-    by_row : (slot t : ℕ) → stands_in (queue_at (queues_in rows locks) slot) t ≡ true → (o : Option (List ℕ × Cell)) → in_slot rows slot ≡ o → is_some (in_slot rows slot) ≡ true
-    by_row slot t stands None e = absurd (slot_there t slot (slots_in side rows) (queues_in rows locks) kept stands (no_number side rows slot e))
-    by_row slot t stands (Some p) e = ap is_some e
-
--- so it is where a row goes in, of a key that has nothing yet
-pub sound_with : (side : Side) (old new : Contents Cell) (key : List ℕ) (id : ℕ) (content : Option (List ℕ)) (locks : keepers.Kept) → table_slot old.rows key ≡ None → IsNewSlot old id → new ≡ with_row old key id (base_cell content) → AreKept (slots_in side old.rows) (queues_in old.rows locks) → AreEnds (ends_in old.rows) locks →
-    keepers.AreSound (HasRow new.rows) (ends_in new.rows) locks
-sound_with side old new key id content locks none fresh made kept a =
-    other_sound (ends_in old.rows) (ends_in new.rows) locks (λ slot. inl (ap (λ (ends : ℕ → Chain ℕ). ends slot) (ends_with old new key id content none fresh made))) (HasRow old.rows) (HasRow new.rows) (λ slot t stands row. stays slot row) (are_sound side old.rows locks kept a)
-  where
-    by_test : (b : Bool) (o : Option (List ℕ × Cell)) → is_some o ≡ true → is_some (cond b (Some (key, base_cell content)) o) ≡ true
-    by_test true o row = refl
-    by_test false o row = row
-
-    stays : (slot : ℕ) → is_some (in_slot old.rows slot) ≡ true → is_some (in_slot new.rows slot) ≡ true
-    stays slot row = ap (λ (t : Contents Cell). is_some (in_slot t.rows slot)) made ∙ (ap is_some (in_put key id (base_cell content) old.rows slot (no_find old.rows key none) fresh.1) ∙ by_test (eqb id slot) (in_slot old.rows slot) row)
 
 at_same : (n : ℕ) (slots : List Slot) → map (at_number (λ s. s) n) slots ≡ slots
 at_same n [] = refl

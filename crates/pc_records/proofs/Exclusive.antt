@@ -1,7 +1,7 @@
 -- Who has the exclusive lock of a key has it alone, until it is released.
 use Rattle.std.proofs.Common.{◌≡◌, ℕ, suc, ◌<◌, [], ◌∷◌, ◌++◌, length, get_or, filter, not, Option, Some, None, refl, sym, ap, ◌∙◌, arith, cond, Bool, true, false, eqb, ◌&&◌, ◌||◌}
 use Rattle.std.specs.Prelude.{IsTrue}
-use Rattle.std.specs.List.{list_any, list_all, find}
+use Rattle.std.specs.List.{list_all}
 use Rattle.std.proofs.lemmas.Bool.Decides.{nat_tests}
 use Rattle.pc_types.specs.declared.Mode.{Mode}
 use Rattle.pc_types.specs.declared.Mode.TheVariants.{Shared, Exclusive}

@@ -13,9 +13,6 @@ use Rattle.pc_records.proofs.TableSlots.{no_find}
 pub sets_same : (rows : List (TableRow Cell)) → KeepSets rows rows
 sets_same rows = record { same = λ slot. refl }
 
-pub sets_then : (a b c : List (TableRow Cell)) → KeepSets a b → KeepSets b c → KeepSets a c
-sets_then a b c p q = record { same = λ slot. q.same slot ∙ p.same slot }
-
 -- a record whose words stay
 pub changed_sets : (rows : List (TableRow Cell)) (id : ℕ) (x y : Cell) → option_map (λ pair. pair.1) (in_slot rows id) ≡ Some x → words_of y ≡ words_of x → KeepSets rows (map (with_record_in id y) rows)
 changed_sets rows id x y has same = record { same = λ slot. ap in_sets (in_changed id y rows slot) ∙ by_test slot (eqb slot id) refl (in_slot rows slot) refl }

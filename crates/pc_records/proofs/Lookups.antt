@@ -1,5 +1,5 @@
 -- The slot of a key, and what is found by key in the slots.
-use Rattle.std.proofs.Common.{◌≡◌, ℕ, zero, suc, ◌<◌, List, [], ◌∷◌, length, map, get_or, set, Option, Some, None, is_some, option_map, refl, sym, ap, ◌∙◌, arith, cond, Bool, true, false}
+use Rattle.std.proofs.Common.{◌≡◌, ℕ, zero, suc, ◌<◌, List, [], ◌∷◌, length, get_or, Option, Some, None, is_some, refl, sym, ap, ◌∙◌, arith, cond, Bool, true, false}
 use Rattle.std.specs.Prelude.{All}
 use Rattle.std.specs.FinMap.{find, is_sorted}
 use Rattle.std.specs.FinMap.Entries.{below_all, is_some-find}
@@ -12,11 +12,9 @@ use Rattle.pc_model.specs.Database.{KeysRise, key_cmp, key_order, same_bytes}
 use Rattle.pc_locks.specs.States.{Queues}
 use Rattle.pc_model.proofs.CountLaws.{and_both, below_apart}
 use Rattle.pc_model.proofs.JoinLaws.{one_key}
-use Rattle.pc_slots.specs.declared.versions.Writer.{Writer}
-use Rattle.pc_records.specs.Rows.{Row, Record, record_of, stored}
-use Rattle.pc_records.specs.Tables.{read_of}
-use Rattle.pc_slots.specs.Slots.{Slot, committed_by, write_of, pending_in}
-use Rattle.pc_records.specs.Slots.{no_queues, pending_of, row_of, rows_of, with_entry, entries_of, at_key}
+use Rattle.pc_records.specs.Rows.{Row, Record, record_of}
+use Rattle.pc_slots.specs.Slots.{Slot}
+use Rattle.pc_records.specs.Slots.{no_queues, row_of, rows_of, with_entry, entries_of}
 use Rattle.pc_records.proofs.Tidying.{below_at}
 
 -- the slot of the key
@@ -52,14 +50,6 @@ none_of : {A : Type 0} (o : Option A) → is_some o ≡ false → o ≡ None
 none_of None e = refl
 none_of (Some x) e = cc
 
-pub no_slot : (queues : Queues) (o : Option Slot) → record_in queues o ≡ None → o ≡ None
-no_slot queues None e = refl
-no_slot queues (Some s) e = cc
-
--- a key below those of all slots has none
-none_below : (key : List ℕ) (slots : List Slot) → below_all key_cmp key (rows_of no_queues slots) ≡ true → slot_of slots key ≡ None
-none_below key slots below = no_slot no_queues (slot_of slots key) (sym (find_row no_queues slots key) ∙ none_of _ (is_some-find key_cmp key (rows_of no_queues slots) ∙ below_apart key (rows_of no_queues slots) below))
-
 -- the key of a later slot is another one
 head_apart : (x : Slot) (xs : List Slot) (key : List ℕ) (i : ℕ) (d : Slot) → KeysRise (rows_of no_queues (x ∷ xs)) → i < length xs → same_bytes key (get_or xs i d).key ≡ true → same_bytes key x.key ≡ false
 head_apart x xs key i d rise lt here =
@@ -85,17 +75,6 @@ slot_at (x ∷ xs) key (suc i) d rise lt here = rw (head_apart x xs key i d rise
 -- what holds of each slot that is found holds of all
 pub all_found : (P : Slot → Type 0) (slots : List Slot) → KeysRise (rows_of no_queues slots) → ((q : List ℕ) (s : Slot) → slot_of slots q ≡ Some s → P s) → All P slots
 all_found P slots rise each k d lt = each (get_or slots k d).key (get_or slots k d) (slot_at slots (get_or slots k d).key k d rise lt (same_self (get_or slots k d).key))
-
--- a slot that is found has the key
-pub key_found : (slots : List Slot) (q : List ℕ) (s : Slot) → slot_of slots q ≡ Some s → q ≡ s.key
-key_found [] q s found = cc
-key_found (x ∷ xs) q s found = by_test (same_bytes q x.key) refl found (key_found xs q s)
-  where
-    by_test : (b : Bool) → same_bytes q x.key ≡ b → cond b (Some x) (slot_of xs q) ≡ Some s → (slot_of xs q ≡ Some s → q ≡ s.key) → q ≡ s.key
-    by_test true is found rest =
-        let same : x ≡ s = cc in
-        one_key q x.key is ∙ ap (λ (y : Slot). y.key) same
-    by_test false is found rest = rest found
 
 -- what is found of a key is what its slot has
 below_entries : {X : Type 0} (f : Slot → Option X) (key : List ℕ) (slots : List Slot) → below_all key_cmp key (rows_of no_queues slots) ≡ true → below_all key_cmp key (entries_of f slots) ≡ true
@@ -133,40 +112,3 @@ find_entry {X} f (s ∷ ss) q h =
     by_value None is false same none later = later
     by_value (Some x) is true same none later = rw same (sym is)
     by_value (Some x) is false same none later = rw same later
-
--- slots that are changed under their keys
-pub slot_map : (g : Slot → Slot) (slots : List Slot) (q : List ℕ) → ((s : Slot) → (g s).key ≡ s.key) → slot_of (map g slots) q ≡ option_map g (slot_of slots q)
-slot_map g [] q keeps = refl
-slot_map g (s ∷ ss) q keeps = ap (λ k. cond (same_bytes q k) (Some (g s)) (slot_of (map g ss) q)) (keeps s) ∙ by_test (same_bytes q s.key) (slot_map g ss q keeps)
-  where
-    by_test : (b : Bool) → slot_of (map g ss) q ≡ option_map g (slot_of ss q) → cond b (Some (g s)) (slot_of (map g ss) q) ≡ option_map g (cond b (Some s) (slot_of ss q))
-    by_test true rest = refl
-    by_test false rest = rest
-
--- where the key has no slot nothing changes
-pub at_none : (f : Slot → Slot) (key : List ℕ) (slots : List Slot) → slot_of slots key ≡ None → map (at_key f key) slots ≡ slots
-at_none f key [] none = refl
-at_none f key (s ∷ ss) none = by_test (same_bytes key s.key) none (at_none f key ss)
-  where
-    by_test : (b : Bool) → cond b (Some s) (slot_of ss key) ≡ None → (slot_of ss key ≡ None → map (at_key f key) ss ≡ ss) → cond b (f s) s ∷ map (at_key f key) ss ≡ s ∷ ss
-    by_test true none rest = cc
-    by_test false none rest = ap (λ (xs : List Slot). s ∷ xs) (rest none)
-
--- the slot of the key is changed at its place
-pub at_place : (f : Slot → Slot) (slots : List Slot) (key : List ℕ) (i : ℕ) (d : Slot) → KeysRise (rows_of no_queues slots) → i < length slots → same_bytes key (get_or slots i d).key ≡ true → set slots i (f (get_or slots i d)) ≡ map (at_key f key) slots
-at_place f [] key i d rise lt here = absurd (omega (arith, lt))
-at_place f (x ∷ xs) key zero d rise lt here =
-    let below = (and_both (below_all key_cmp x.key (rows_of no_queues xs)) (is_sorted key_cmp (rows_of no_queues xs)) rise).0 in
-    let none : slot_of xs key ≡ None = none_below key xs (ap (λ (k : List ℕ). below_all key_cmp k (rows_of no_queues xs)) (one_key key x.key here) ∙ below) in
-    rw here (ap (λ (ys : List Slot). f x ∷ ys) (sym (at_none f key xs none)))
-at_place f (x ∷ xs) key (suc i) d rise lt here =
-    rw (head_apart x xs key i d rise (omega (arith, lt)) here) (ap (λ (ys : List Slot). x ∷ ys) (at_place f xs key i d (and_both (below_all key_cmp x.key (rows_of no_queues xs)) (is_sorted key_cmp (rows_of no_queues xs)) rise).1 (omega (arith, lt)) here))
-
--- what stands in the place of a key that has a slot
-pub latest_in : (queues : Queues) (slots : List Slot) (q : List ℕ) (s : Slot) → KeysRise (rows_of no_queues slots) → slot_of slots q ≡ Some s → s.live ≡ read_of (find key_cmp q (pending_of slots)) (stored (record_of (rows_of queues slots) q))
-latest_in queues slots q s rise found =
-    by_writer s.writer ∙ sym (ap (λ o. read_of o (stored (record_of (rows_of queues slots) q))) (find_entry pending_in slots q rise ∙ ap (of_slot pending_in) found) ∙ ap (λ o. read_of (pending_in s) (stored o)) (find_row queues slots q ∙ ap (record_in queues) found))
-  where
-    by_writer : (o : Option Writer) → s.live ≡ read_of (write_of o s.live) (committed_by o s.live)
-    by_writer None = refl
-    by_writer (Some w) = refl

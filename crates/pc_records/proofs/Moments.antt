@@ -134,23 +134,8 @@ saved_key point Before copy s = refl
 saved_key point During copy s = refl
 saved_key point After copy s = elim (s.is_in_closed_set && not (eqb s.mark point)) as (λ b. (cond b (record s { stable = Held copy; mark = point }) s).key ≡ s.key) [ true ↦ refl | false ↦ refl ]
 
-saved_number : (point : ℕ) (class : Class) (copy : Option (List ℕ)) (s : Slot) → (saved point class copy s).number ≡ s.number
-saved_number point Before copy s = refl
-saved_number point During copy s = refl
-saved_number point After copy s = elim (s.is_in_closed_set && not (eqb s.mark point)) as (λ b. (cond b (record s { stable = Held copy; mark = point }) s).number ≡ s.number) [ true ↦ refl | false ↦ refl ]
-
 pub put_key : (point t : ℕ) (class : Class) (copy value : Option (List ℕ)) (s : Slot) → (put_slot point t class copy value s).key ≡ s.key
 put_key point t class copy value s = elim s.writer as (λ o. (put_beside o point t class copy value s).key ≡ s.key) [ None ↦ saved_key point class copy s | Some w ↦ refl ]
-
-pub put_number : (point t : ℕ) (class : Class) (copy value : Option (List ℕ)) (s : Slot) → (put_slot point t class copy value s).number ≡ s.number
-put_number point t class copy value s = elim s.writer as (λ o. (put_beside o point t class copy value s).number ≡ s.number) [ None ↦ saved_number point class copy s | Some w ↦ refl ]
-
--- what is saved of a slot, the value, and the writer
-pub put_saved : (point t : ℕ) (class : Class) (copy value was : Option (List ℕ)) (s now : Slot) → s.writer ≡ None → was ≡ s.live → now ≡ saved point class copy s →
-    record now { live = value; writer = Some (record { transaction = t; class = class; before = was }) } ≡ put_slot point t class copy value s
-put_saved point t class copy value was s now none was_is is =
-    ap (λ (x : Slot). record x { live = value; writer = Some (record { transaction = t; class = class; before = was }) }) is
-    ∙ ap (λ (v : Option (List ℕ)). record (saved point class copy s) { live = value; writer = Some (record { transaction = t; class = class; before = v }) }) was_is ∙ sym (ap (λ o. put_beside o point t class copy value s) none)
 
 -- and the write that stands then
 pub put_pending : (point t : ℕ) (class : Class) (copy value : Option (List ℕ)) (s : Slot) → ((w : Writer) → s.writer ≡ Some w → (w.transaction ≡ t) × (w.class ≡ class)) → pending_in (put_slot point t class copy value s) ≡ Some (record { by = t; class = class; value = value })

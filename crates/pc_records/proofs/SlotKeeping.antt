@@ -1,5 +1,5 @@
 -- What slots and queues keep.
-use Rattle.std.proofs.Common.{◌≡◌, ℕ, suc, ◌+◌, ◌<◌, ◌≤◌, List, [], ◌++◌, length, take, drop, get_or, refl, sym, ap, ◌∙◌, subst, arith, cond, Bool, true, false, eqb}
+use Rattle.std.proofs.Common.{◌≡◌, ℕ, ◌+◌, ◌≤◌, List, [], refl, sym, ap, ◌∙◌, subst, arith, cond, Bool, true, false, eqb}
 use Rattle.std.specs.Prelude.{insert}
 use Rattle.std.proofs.lemmas.Bool.Decides.{nat_tests}
 use Rattle.pc_model.specs.Database.{KeysRise}
@@ -8,7 +8,7 @@ use Rattle.pc_locks.specs.States.{Queues, queue_at}
 use Rattle.pc_slots.specs.Slots.{Slot}
 use Rattle.pc_records.specs.Slots.{no_queues, rows_of, numbers_of, times, AreKept}
 use Rattle.pc_records.proofs.SlotRising.{keys_of, rise_any, rise_same}
-use Rattle.pc_records.proofs.Numbers.{times-insert, times-removed}
+use Rattle.pc_records.proofs.Numbers.{times-insert}
 use Rattle.pc_records.proofs.Queued.{set_at, queue_other}
 
 -- other slots of the same keys and numbers
@@ -18,24 +18,6 @@ kept_same slots new queues keys numbers kept = record {
   once = λ n. subst (λ ns. times n ns ≤ 1) (sym numbers) (kept.once n);
   bare = λ n none. kept.bare n (ap (times n) (sym numbers) ∙ none);
 }
-
--- another queue at a number that a slot has
-pub kept_queued : (slots : List Slot) (queues : Queues) (n : ℕ) (q : Queue) → 0 < times n (numbers_of slots) → AreKept slots queues → AreKept slots (set_at queues n q)
-kept_queued slots queues n q more kept = record {
-  rise = kept.rise;
-  once = kept.once;
-  bare = λ m none. queue_other queues n m q (other m none) ∙ kept.bare m none;
-}
-  where
-    other : (m : ℕ) → times m (numbers_of slots) ≡ 0 → eqb m n ≡ false
-    other m none = by_test (eqb m n) refl
-      where
-        by_test : (b : Bool) → eqb m n ≡ b → b ≡ false
-        by_test true is =
-            let same : m ≡ n = grind (arith, nat_tests, is) in
-            let some : 0 < times m (numbers_of slots) = subst (λ k. 0 < times k (numbers_of slots)) (sym same) more in
-            absurd (omega (arith, some, none))
-        by_test false is = refl
 
 -- a slot goes in with a number that no slot has, and has this queue
 pub kept_inserted : (slots new : List Slot) (queues new_queues : Queues) (i : ℕ) (x : Slot) (q : Queue) → AreKept slots queues → times x.number (numbers_of slots) ≡ 0 → new ≡ insert slots i x → new_queues ≡ set_at queues x.number q →
@@ -61,20 +43,3 @@ kept_inserted slots new queues new_queues i x q kept apart new_is queues_are ris
     by_test m false e none =
         let other : eqb m x.number ≡ false = grind (arith, nat_tests, e) in
         queue_other queues x.number m q other ∙ kept.bare m (omega (arith, none))
-
--- a slot goes whose queue is empty
-pub kept_removed : (slots new : List Slot) (queues : Queues) (i : ℕ) (e : Slot) → AreKept slots queues → i < length slots → e ≡ get_or slots i e → new ≡ take i slots ++ drop (suc i) slots → queue_at queues e.number ≡ [] → KeysRise (rows_of queues new) → AreKept new queues
-kept_removed slots new queues i e kept lt is new_is empty rise = record {
-  rise = rise_any queues no_queues new rise;
-  once = λ m. let c = count m in let o = kept.once m in omega (arith, c, o);
-  bare = λ m none. by_test m (eqb e.number m) refl (count m) none;
-}
-  where
-    count : (m : ℕ) → times m (numbers_of new) + cond (eqb e.number m) 1 0 ≡ times m (numbers_of slots)
-    count m = ap (λ (ss : List Slot). times m (numbers_of ss) + cond (eqb e.number m) 1 0) new_is ∙ (ap (λ (s : Slot). times m (numbers_of (take i slots ++ drop (suc i) slots)) + cond (eqb s.number m) 1 0) is ∙ times-removed m slots i e lt)
-
-    by_test : (m : ℕ) (b : Bool) → eqb e.number m ≡ b → times m (numbers_of new) + cond b 1 0 ≡ times m (numbers_of slots) → times m (numbers_of new) ≡ 0 → queue_at queues m ≡ []
-    by_test m true at c none =
-        let same : e.number ≡ m = grind (arith, nat_tests, at) in
-        ap (queue_at queues) (sym same) ∙ empty
-    by_test m false at c none = kept.bare m (omega (arith, c, none))

@@ -1,27 +1,21 @@
 -- The slots in the rows of a table.
-use Rattle.std.proofs.Common.{◌≡◌, ℕ, zero, suc, ◌+◌, ◌<◌, ◌≤◌, List, [], ◌∷◌, ◌++◌, length, map, filter, take, drop, get_or, Option, Some, None, option_map, is_some, is_none, not, refl, sym, ap, ◌∙◌, arith, cond, Bool, true, false, eqb, eqb-true}
+use Rattle.std.proofs.Common.{◌≡◌, ℕ, zero, suc, ◌+◌, ◌<◌, ◌≤◌, List, [], ◌∷◌, map, Option, Some, None, option_map, is_some, refl, sym, ap, ◌∙◌, arith, cond, Bool, true, false, eqb, eqb-true}
 use Rattle.std.specs.Prelude.{insert}
 use Rattle.std.specs.declared.cmp.Ordering.{Ordering}
 use Rattle.std.specs.declared.cmp.Ordering.TheVariants.{Less, Equal, Greater}
 use Rattle.std.specs.Ordering.{is_eq}
 use Rattle.std.specs.FinMap.{find, put, is_sorted}
 use Rattle.std.specs.FinMap.Entries.{below_all, by_order}
-use Rattle.std.proofs.lemmas.Bool.Decides.{nat_tests}
-use Rattle.std.proofs.lemmas.List.{get_or_default}
 use Rattle.pc_model.specs.Database.{key_cmp, KeysRise, same_bytes}
-use Rattle.pc_locks.specs.States.{Queues}
 use Rattle.pc_model.proofs.JoinLaws.{one_key}
 use Rattle.pc_model.proofs.RisingLaws.{both, none_below, Rise}
 use Rattle.pc_table.specs.Rows.{Row as TableRow, Contents, slot_of as table_slot, in_slot, with_record_in, HasRow, AreInSlots}
-use Rattle.pc_table.proofs.RowLaws.{no_row, same_some, slot_found, one_place, placed, record_found}
+use Rattle.pc_table.proofs.RowLaws.{no_row, same_some, slot_found, one_place}
 use Rattle.pc_slots.specs.declared.cells.Cell.{Cell}
-use Rattle.pc_records.specs.Rows.{record_of, stored}
-use Rattle.pc_records.specs.Tables.{read_of}
-use Rattle.pc_slots.specs.Slots.{Slot, slot_with, pending_in}
-use Rattle.pc_records.specs.Slots.{no_queues, slot_in, slots_in, pending_of, rows_of, row_of, numbers_of, times, at_key, at_number, IsNumbered}
-use Rattle.pc_records.proofs.Lookups.{slot_of, of_slot, same_self, find_row, find_entry, record_in, at_place}
-use Rattle.pc_records.proofs.Queued.{times_at}
-use Rattle.pc_records.proofs.SlotPlaces.{place, number_place, number_set}
+use Rattle.pc_slots.specs.Slots.{Slot, slot_with}
+use Rattle.pc_records.specs.Slots.{no_queues, slot_in, slots_in, rows_of, numbers_of, times, at_number}
+use Rattle.pc_records.proofs.Lookups.{slot_of, same_self}
+use Rattle.pc_records.proofs.SlotPlaces.{place}
 use Rattle.pc_dirty.specs.declared.side.Side.{Side}
 
 -- what a slot that has a row has
@@ -31,17 +25,6 @@ row_in rows n h = by_slot (in_slot rows n) h refl
     by_slot : (o : Option (List ℕ × Cell)) → is_some o ≡ true → in_slot rows n ≡ o → (p : List ℕ × Cell) × (in_slot rows n ≡ Some p)
     by_slot None h e = absurd cc
     by_slot (Some p) h e = (p, e)
-
--- the slot stands at the place
-pub record IsPlaced (slots : List Slot) (i : ℕ) (e : Slot) : Type 0 where
-  pub in_range : i < length slots
-  pub is : e ≡ get_or slots i e
-
-pub placed_number : (slots : List Slot) (i : ℕ) (e : Slot) → IsPlaced slots i e → IsNumbered slots e.number i
-placed_number slots i e at = record { in_range = at.in_range; has = λ d. ap (λ (s : Slot). s.number) (get_or_default slots i d e at.in_range ∙ sym at.is) }
-
-pub placed_same : (slots : List Slot) (i : ℕ) (e : Slot) → IsPlaced slots i e → (d : Slot) → same_bytes e.key (get_or slots i d).key ≡ true
-placed_same slots i e at d = ap (λ (s : Slot). same_bytes e.key s.key) (get_or_default slots i d e at.in_range ∙ sym at.is) ∙ same_self e.key
 
 pub no_find : (rows : List (TableRow Cell)) (key : List ℕ) → table_slot rows key ≡ None → find key_cmp key rows ≡ None
 no_find rows key e = by_place (find key_cmp key rows) e
@@ -125,33 +108,6 @@ module _ (side : Side) where
   pub once_in : (table : Contents Cell) → AreInSlots table → (n : ℕ) → times n (numbers_of (slots_in side table.rows)) ≤ 1
   once_in table a = once_rows table.rows a.rise (λ key other n x y e f. one_place table key other n x y a e f)
 
-  -- the slot in which a number's row is
-  pub slot_numbered : (rows : List (TableRow Cell)) (n i : ℕ) (key : List ℕ) (x : Cell) (d : Slot) → times n (numbers_of (slots_in side rows)) ≤ 1 → i < length (slots_in side rows) → (get_or (slots_in side rows) i d).number ≡ n → in_slot rows n ≡ Some (key, x) → slot_with side n key x ≡ get_or (slots_in side rows) i d
-  slot_numbered [] n i key x d once lt is e = absurd (no_row e)
-  slot_numbered (row ∷ rows) n zero key x d once lt is e = by_test (eqb row.1.0 n) refl e
-    where
-      by_test : (b : Bool) → eqb row.1.0 n ≡ b → cond b (Some (row.0, row.1.1)) (in_slot rows n) ≡ Some (key, x) → slot_with side n key x ≡ slot_in side row
-      by_test true t e = let p = same_some e in λ j. slot_with side (sym is j) (ap (λ (p : List ℕ × Cell). p.0) (sym p) j) (ap (λ (p : List ℕ × Cell). p.1) (sym p) j)
-      by_test false t e = absurd (let no : eqb row.1.0 n ≡ true = grind (arith, nat_tests, is) in cc)
-  slot_numbered (row ∷ rows) n (suc i) key x d once lt is e =
-      by_test (eqb row.1.0 n) once (times_at n (slots_in side rows) i d (omega (arith, lt)) is) e (λ one f. slot_numbered rows n i key x d one (omega (arith, lt)) is f)
-    where
-      by_test : (b : Bool) → cond b (times n (numbers_of (slots_in side rows)) + 1) (times n (numbers_of (slots_in side rows))) ≤ 1 → 0 < times n (numbers_of (slots_in side rows)) → cond b (Some (row.0, row.1.1)) (in_slot rows n) ≡ Some (key, x) →
-          (times n (numbers_of (slots_in side rows)) ≤ 1 → in_slot rows n ≡ Some (key, x) → slot_with side n key x ≡ get_or (slots_in side rows) i d) → slot_with side n key x ≡ get_or (slots_in side rows) i d
-      by_test true once more e rest = absurd (omega (arith, once, more))
-      by_test false once more e rest = rest once e
-
-  module _ (table : Contents Cell) (a : AreInSlots table) where
-    pub numbered_at : (n i : ℕ) (key : List ℕ) (x : Cell) → IsNumbered (slots_in side table.rows) n i → in_slot table.rows n ≡ Some (key, x) → IsPlaced (slots_in side table.rows) i (slot_with side n key x)
-    numbered_at n i key x at e = record { in_range = at.in_range; is = slot_numbered table.rows n i key x (slot_with side n key x) (once_in table a n) at.in_range (at.has (slot_with side n key x)) e }
-
-    -- the slot of a key
-    pub placed_key : (key : List ℕ) (n : ℕ) (x : Cell) → find key_cmp key table.rows ≡ Some (n, x) → (i : ℕ) × IsPlaced (slots_in side table.rows) i (slot_with side n key x)
-    placed_key key n x e =
-        let there : in_slot table.rows n ≡ Some (key, x) = (a.each n key x).1 e in
-        let at = number_place n (slots_in side table.rows) (number_has table.rows n (ap is_some there)) in
-        (at.0, numbered_at n at.0 key x at.1 there)
-
   -- what is found of the key in the slots
   abbrev pub cell_of : List ℕ → ℕ × Cell → Slot
   cell_of key p = slot_with side p.0 key p.1
@@ -163,12 +119,6 @@ module _ (side : Side) where
       by_test : (b : Bool) → same_bytes key row.0 ≡ b → slot_of (slots_in side rows) key ≡ option_map (cell_of key) (find key_cmp key rows) → cond b (Some (slot_in side row)) (slot_of (slots_in side rows) key) ≡ option_map (cell_of key) (cond b (Some row.1) (find key_cmp key rows))
       by_test true is rest = ap (λ k. Some (slot_with side row.1.0 k row.1.1)) (sym (one_key key row.0 is))
       by_test false is rest = rest
-
-  pub no_slot_in : (rows : List (TableRow Cell)) (key : List ℕ) → table_slot rows key ≡ None → slot_of (slots_in side rows) key ≡ None
-  no_slot_in rows key e = find_slots rows key ∙ ap (option_map (cell_of key)) (no_find rows key e)
-
-  pub no_record : (rows : List (TableRow Cell)) (key : List ℕ) (queues : Queues) → table_slot rows key ≡ None → find key_cmp key (rows_of queues (slots_in side rows)) ≡ None
-  no_record rows key queues e = find_row queues (slots_in side rows) key ∙ ap (record_in queues) (no_slot_in rows key e)
 
   -- a slot that gets another record
   same_others : (rows : List (TableRow Cell)) (n : ℕ) (y : Cell) (f : Slot → Slot) → times n (numbers_of (slots_in side rows)) ≡ 0 → slots_in side (map (with_record_in n y) rows) ≡ map (at_number f n) (slots_in side rows)
@@ -208,57 +158,3 @@ module _ (side : Side) where
       by_test Less none rest = refl
       by_test Equal none rest = absurd (no_row (sym none))
       by_test Greater none rest = ap (λ (ss : List Slot). slot_in side row ∷ ss) (rest none)
-
-  -- a slot that goes
-  others_left : (rows : List (TableRow Cell)) (n : ℕ) → times n (numbers_of (slots_in side rows)) ≡ 0 → slots_in side (filter (λ row. not (eqb row.1.0 n)) rows) ≡ slots_in side rows
-  others_left [] n none = refl
-  others_left (row ∷ rows) n none = by_test (eqb row.1.0 n) none (others_left rows n)
-    where
-      by_test : (b : Bool) → cond b (times n (numbers_of (slots_in side rows)) + 1) (times n (numbers_of (slots_in side rows))) ≡ 0 → (times n (numbers_of (slots_in side rows)) ≡ 0 → slots_in side (filter (λ row. not (eqb row.1.0 n)) rows) ≡ slots_in side rows) →
-          slots_in side (cond (not b) (row ∷ filter (λ row. not (eqb row.1.0 n)) rows) (filter (λ row. not (eqb row.1.0 n)) rows)) ≡ slots_in side (row ∷ rows)
-      by_test true none rest = absurd (omega (arith, none))
-      by_test false none rest = ap (λ (ss : List Slot). slot_in side row ∷ ss) (rest none)
-
-  pub slot_gone : (rows : List (TableRow Cell)) (n i : ℕ) (d : Slot) → times n (numbers_of (slots_in side rows)) ≤ 1 → i < length (slots_in side rows) → (get_or (slots_in side rows) i d).number ≡ n → slots_in side (filter (λ row. not (eqb row.1.0 n)) rows) ≡ take i (slots_in side rows) ++ drop (suc i) (slots_in side rows)
-  slot_gone [] n i d once lt is = absurd (omega (arith, lt))
-  slot_gone (row ∷ rows) n zero d once lt is = by_test (eqb row.1.0 n) refl once
-    where
-      by_test : (b : Bool) → eqb row.1.0 n ≡ b → cond b (times n (numbers_of (slots_in side rows)) + 1) (times n (numbers_of (slots_in side rows))) ≤ 1 → slots_in side (cond (not b) (row ∷ filter (λ row. not (eqb row.1.0 n)) rows) (filter (λ row. not (eqb row.1.0 n)) rows)) ≡ slots_in side rows
-      by_test true e once = others_left rows n (omega (arith, once))
-      by_test false e once = absurd (let no : eqb row.1.0 n ≡ true = grind (arith, nat_tests, is) in cc)
-  slot_gone (row ∷ rows) n (suc i) d once lt is = by_test (eqb row.1.0 n) once (times_at n (slots_in side rows) i d (omega (arith, lt)) is) (λ one. slot_gone rows n i d one (omega (arith, lt)) is)
-    where
-      by_test : (b : Bool) → cond b (times n (numbers_of (slots_in side rows)) + 1) (times n (numbers_of (slots_in side rows))) ≤ 1 → 0 < times n (numbers_of (slots_in side rows)) → (times n (numbers_of (slots_in side rows)) ≤ 1 → slots_in side (filter (λ row. not (eqb row.1.0 n)) rows) ≡ take i (slots_in side rows) ++ drop (suc i) (slots_in side rows)) →
-          slots_in side (cond (not b) (row ∷ filter (λ row. not (eqb row.1.0 n)) rows) (filter (λ row. not (eqb row.1.0 n)) rows)) ≡ slot_in side row ∷ (take i (slots_in side rows) ++ drop (suc i) (slots_in side rows))
-      by_test true once more rest = absurd (omega (arith, once, more))
-      by_test false once more rest = ap (λ (ss : List Slot). slot_in side row ∷ ss) (rest once)
-
-  -- the slot of the key is that of its number
-  pub number_key : (table : Contents Cell) → AreInSlots table → (f : Slot → Slot) (key : List ℕ) (n : ℕ) → table_slot table.rows key ≡ Some n → map (at_number f n) (slots_in side table.rows) ≡ map (at_key f key) (slots_in side table.rows)
-  number_key table a f key n s =
-      let h = placed table.rows key n s in
-      let slots = slots_in side table.rows in
-      let p = placed_key table a key n h.0 h.1 in
-      let e = slot_with side n key h.0 in
-      number_set f n slots p.0 e (once_in table a n) p.1.in_range ((placed_number slots p.0 e p.1).has e) ∙ at_place f slots key p.0 e (slots_rise table.rows a.rise) p.1.in_range (placed_same slots p.0 e p.1 e)
-
-  -- what is found of a key
-  pub cell_found : (table : Contents Cell) → AreInSlots table → (key : List ℕ) (n : ℕ) (x : Cell) → table_slot table.rows key ≡ Some n → option_map (λ pair. pair.1) (in_slot table.rows n) ≡ Some x → slot_of (slots_in side table.rows) key ≡ Some (slot_with side n key x)
-  cell_found table a key n x s e = find_slots table.rows key ∙ ap (option_map (cell_of key)) (record_found table key n a s x e)
-
-  pub record_there : (table : Contents Cell) → AreInSlots table → (key : List ℕ) (n : ℕ) (x : Cell) → table_slot table.rows key ≡ Some n → option_map (λ pair. pair.1) (in_slot table.rows n) ≡ Some x → (queues : Queues) → record_of (rows_of queues (slots_in side table.rows)) key ≡ Some (row_of queues (slot_with side n key x)).1
-  record_there table a key n x s e queues = find_row queues (slots_in side table.rows) key ∙ ap (record_in queues) (cell_found table a key n x s e)
-
-  pub is_new_in : (rows : List (TableRow Cell)) (key : List ℕ) (queues : Queues) → is_none (table_slot rows key) ≡ is_none (record_of (rows_of queues (slots_in side rows)) key)
-  is_new_in rows key queues = by_place (find key_cmp key rows) ∙ sym (ap is_none (find_row queues (slots_in side rows) key ∙ ap (record_in queues) (find_slots rows key)))
-    where
-      by_place : (o : Option (ℕ × Cell)) → is_none (option_map (λ place. place.0) o) ≡ is_none (record_in queues (option_map (cell_of key) o))
-      by_place None = refl
-      by_place (Some p) = refl
-
--- nothing stands in the place of a key that has no slot
-pub latest_of_none : (side : Side) (rows : List (TableRow Cell)) → Rise rows → (key : List ℕ) (queues : Queues) → table_slot rows key ≡ None
-    → None ≡ read_of (find key_cmp key (pending_of (slots_in side rows))) (stored (record_of (rows_of queues (slots_in side rows)) key))
-latest_of_none side rows rise key queues e =
-    sym (ap (λ o. read_of o (stored (record_of (rows_of queues (slots_in side rows)) key))) (find_entry pending_in (slots_in side rows) key (slots_rise side rows rise) ∙ ap (of_slot pending_in) (no_slot_in side rows key e))
-    ∙ ap stored (no_record side rows key queues e))

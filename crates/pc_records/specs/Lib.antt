@@ -2,6 +2,7 @@ pub mod Rows
 pub mod Following
 pub mod NewKeys
 pub mod Tables
+pub mod Floor
 pub mod Slots
 pub mod SetLists
 pub mod Ends

@@ -1,19 +1,13 @@
 -- The two sets in the slots of a table: which slots are in them, and in which order.
-use Rattle.std.specs.Prelude.{◌≡◌, ℕ, ◌==◌, ◌||◌, ◌&&◌, not, Bool, false, List, [], ◌∷◌, ◌++◌, map, Option, Some, None, is_some, option_map, if◌then◌else◌}
+use Rattle.std.specs.Prelude.{◌≡◌, ℕ, ◌==◌, ◌||◌, ◌&&◌, not, Bool, false, List, [], ◌∷◌, map, Option, Some, None, is_some, if◌then◌else◌}
 use Rattle.std.specs.List.{list_any}
-use Rattle.std.specs.FinMap.{find}
-use Rattle.pc_types.specs.declared.Write.{Write}
-use Rattle.pc_model.specs.Database.{key_cmp}
 use Rattle.pc_dirty.specs.declared.side.Place.{Place}
 use Rattle.pc_dirty.specs.declared.side.Side.{Side}
 use Rattle.pc_dirty.specs.declared.dirty.Dirty.{Dirty}
 use Rattle.pc_dirty.specs.Sets.{other_side, AreSets, opened_of, closed_of}
-use Rattle.pc_locks.specs.States.{Queues}
 use Rattle.pc_table.specs.Rows.{Row as TableRow, Contents, in_slot, HasRow}
 use Rattle.pc_slots.specs.declared.cells.Cell.{Cell}
-use Rattle.pc_records.specs.RowSteps.{left_rows}
 use Rattle.pc_slots.specs.Slots.{writer_in}
-use Rattle.pc_records.specs.Slots.{slots_in, rows_of}
 use Rattle.pc_slots.specs.Words.{Word, words_of, is_marked, link_of, unlinked}
 
 -- the slot has a row, and so a link on each side
@@ -105,17 +99,3 @@ pub record KeepRecords (old new : Contents Cell) : Type 0 where
 abbrev pub entering : Side → Option (List ℕ × Cell) → List (List ℕ)
 entering side None = []
 entering side (Some p) = if is_some (writer_in p.1) && not (is_marked side p.1) then p.0 ∷ [] else []
-
--- the same of a key
-abbrev pub entering_key : Side → List (TableRow Cell) → List ℕ → List (List ℕ)
-entering_key side rows key = entering side (option_map (λ place. (key, place.1)) (find key_cmp key rows))
-
--- the same of the keys of the writes, in order
-abbrev pub entering_keys : Side → List (TableRow Cell) → List Write → List (List ℕ)
-entering_keys side rows [] = []
-entering_keys side rows (w ∷ ws) = entering_key side rows w.key ++ entering_keys side rows ws
-
--- the key, which was the first of the closed set, is taken, and these keys are left
-pub record IsTaken (queues : Queues) (side : Side) (old : List (TableRow Cell)) (sets : Dirty) (new : List (TableRow Cell)) (key : List ℕ) (keys : List (List ℕ)) : Type 0 where
-  pub rows : rows_of queues (slots_in sets.side new) ≡ left_rows (rows_of queues (slots_in side old)) key
-  pub closed : closed_keys new sets ≡ keys

@@ -1,19 +1,13 @@
 -- Slots: what the rows of the table have, each with its number and its key. The requests of a slot are the queue at its number.
-use Rattle.std.specs.Prelude.{◌≡◌, ℕ, zero, suc, ◌+◌, ◌<◌, ◌≤◌, ◌==◌, List, [], ◌∷◌, map, length, insert, All, Option, Some, None, is_some, slice_index_or, if◌then◌else◌}
-use Rattle.pc_types.specs.declared.Mode.{Mode}
-use Rattle.pc_types.specs.declared.Write.{Write}
-use Rattle.pc_types.specs.declared.Outcome.TheVariants.{Granted}
-use Rattle.pc_model.specs.Database.{KeysRise, same_bytes, written}
-use Rattle.pc_model.specs.Locks.{queue_after}
-use Rattle.pc_model.specs.Places.{IsAt, IsGap}
+use Rattle.std.specs.Prelude.{◌≡◌, ℕ, ◌+◌, ◌≤◌, ◌==◌, List, [], ◌∷◌, map, Option, Some, None, if◌then◌else◌}
+use Rattle.pc_model.specs.Database.{KeysRise}
 use Rattle.pc_locks.specs.States.{Queues, queue_at}
 use Rattle.pc_dirty.specs.declared.side.Side.{Side}
 use Rattle.pc_dirty.specs.declared.side.Side.TheVariants.{First}
 use Rattle.pc_table.specs.Rows.{Row as TableRow}
 use Rattle.pc_slots.specs.declared.cells.Cell.{Cell}
-use Rattle.pc_slots.specs.Slots.{Slot, slot_with, base_cell, committed, pinned, Pending, pending_in, IsSound, new_slot}
+use Rattle.pc_slots.specs.Slots.{Slot, slot_with, base_cell, committed, pinned, Pending, pending_in}
 use Rattle.pc_records.specs.Rows.{Row}
-use Rattle.pc_records.specs.RowSteps.{if_kept, with_row}
 use Rattle.pc_records.specs.Tables.{Table}
 
 -- the slot in a row of the table
@@ -90,44 +84,6 @@ pub record AreKept (slots : List Slot) (queues : Queues) : Type 0 where
   pub once : (n : ℕ) → times n (numbers_of slots) ≤ 1
   pub bare : (n : ℕ) → times n (numbers_of slots) ≡ 0 → queue_at queues n ≡ []
 
--- the slot at place i has the key, whatever the queues
-abbrev pub IsSlotOf : List Slot → List ℕ → ℕ → Type 0
-IsSlotOf slots key i = (queues : Queues) → IsAt (rows_of queues slots) key i
-
--- no slot has the key, which goes in at place i, whatever the queues
-abbrev pub IsNewAt : List Slot → List ℕ → ℕ → Type 0
-IsNewAt slots key i = (queues : Queues) → IsGap (rows_of queues slots) key i
-
--- the slot at place i has the number
-pub record IsNumbered (slots : List Slot) (number : ℕ) (i : ℕ) : Type 0 where
-  pub in_range : i < length slots
-  pub has : (slot : Slot) → (slice_index_or slots i slot).number ≡ number
-
--- the rows without the one at place i where nothing keeps it
-abbrev pub tidied : List Row → ℕ → List Row
-tidied [] i = []
-tidied (row ∷ rows) zero = with_row (if_kept row.1) row.0 rows
-tidied (row ∷ rows) (suc i) = row ∷ tidied rows i
-
--- each of the slots keeps that
-pub record AreSound (point : ℕ) (queues : Queues) (slots : List Slot) : Type 0 where
-  pub each : All (λ slot. IsSound point (queue_at queues slot.number) slot) slots
-
--- a slot of the key, which has the number and nothing else yet, went in, and the transaction has the granted request in its queue
-pub record IsFirstIn (slots : List Slot) (new : List Slot) (queues : Queues) (key : List ℕ) (t : ℕ) (mode : Mode) (number : ℕ) : Type 0 where
-  pub place : ℕ
-  pub gap : IsNewAt slots key place
-  pub inserted : new ≡ insert slots place (new_slot number key)
-  pub queue : queue_at queues number ≡ queue_after [] t mode Granted
-
--- the slot changed, where it is that of the key
-abbrev pub at_key : (Slot → Slot) → List ℕ → Slot → Slot
-at_key f key slot = if same_bytes key slot.key then f slot else slot
-
 -- the slot changed, where it has the number
 abbrev pub at_number : (Slot → Slot) → ℕ → Slot → Slot
 at_number f number slot = if slot.number == number then f slot else slot
-
--- the slot changed, where its key is written
-abbrev pub at_writes : (Slot → Slot) → List Write → Slot → Slot
-at_writes f writes slot = if is_some (written writes slot.key) then f slot else slot

@@ -3,6 +3,7 @@
 #![tactic(auto)]
 
 mod ends;
+mod floor;
 mod links;
 mod records;
 mod slots;

@@ -1,35 +1,23 @@
 //! The records.
-ghost use Rattle.std.specs.Prelude.{◌≡◌, ◌==◌, ◌<◌, ◌≤◌, ◌++◌, ◌∷◌, [], false, true, length, map, is_none, is_some, option_map, Some, IfOk, IfErr, OnErr, if◌then◌else◌, List, ℕ};
-ghost use Rattle.std.specs.FinMap.{find};
+ghost use Rattle.std.specs.Prelude.{◌≡◌, ◌==◌, ◌<◌, ◌≤◌, ◌++◌, ◌∷◌, [], false, true, length, map, is_some, option_map, None, Some, IfOk, IfErr, OnErr, if◌then◌else◌, List, ℕ};
 ghost use Rattle.pc_types.specs.declared.Mode.TheVariants.{Shared, Exclusive};
 ghost use Rattle.pc_types.specs.declared.Class.TheVariants.{Before, During};
-ghost use Rattle.pc_model.specs.Maps.{get};
-ghost use Rattle.pc_model.specs.Database.{KeysRise, key_cmp, database_of, written};
-ghost use Rattle.pc_model.specs.Locks.{outcome};
 ghost use Rattle.pc_types.specs.declared.Outcome.TheVariants.{Granted};
 ghost use Rattle.pc_types.specs.Phases.{same_class};
-ghost use Rattle.pc_locks.specs.States as states;
-ghost use Rattle.pc_locks.specs.States.{slots_of};
-ghost use Rattle.pc_locks.specs.Keepers.{state_of, lists_of, AreEnds};
-ghost use Rattle.pc_records.specs.Rows.{record_of, stored, is_in_closed_set, requests_on};
+ghost use Rattle.pc_model.specs.Maps.{get};
+ghost use Rattle.pc_model.specs.Database.{KeysRise, database_of, written};
 ghost use Rattle.pc_model.specs.DistinctWrites.{AreDistinct};
+ghost use Rattle.pc_model.specs.Locks.{outcome};
+ghost use Rattle.pc_slots.specs.Slots.{Pending, nothing_aside, granted_slot};
+ghost use Rattle.pc_records.specs.Rows.{record_of, stored, is_in_closed_set, requests_on};
 ghost use Rattle.pc_records.specs.NewKeys.{new_keys};
-ghost use Rattle.pc_records.specs.SetLists.{KeepSets, IsListed, IsTaken, open_keys, closed_keys};
-ghost use Rattle.pc_records.specs.Ends.{ends_in, queues_in};
 ghost use Rattle.pc_records.specs.RowSteps.{is_full_for, is_waiting, rows_after, released_rows, written_row, closed_row, left_rows, committed_row};
-ghost use Rattle.pc_slots.specs.Slots.{Pending};
-ghost use Rattle.pc_records.specs.Tables.{kept_of, read_of, pending_at, value_of, latest, IsClearFor, pending_after, pending_without, AreListed, first_content, content_behind};
-ghost use Rattle.pc_records.specs.Slots.{slots_in, rows_of, pending_of, table_of, AreKept, AreSound, IsFirstIn};
-ghost use Rattle.pc_table.specs.Rows.{slot_of, HasRow};
+ghost use Rattle.pc_records.specs.Tables.{kept_of, pending_at, value_of, latest, IsClearFor, pending_after, pending_without, AreListed, first_content, content_behind};
+ghost use Rattle.pc_records.specs.Floor.{IsWhole, AreSound, IsOver, IsLeft, standing, stands_anywhere, waits_anywhere, number_of, has_spot, with_spot, with_new_spot, asked, changed, with_settled, with_all_settled, with_undone, with_all_undone};
 
-use crate::slots;
-use pc_dirty::Dirty;
-use pc_locks::Locks;
-use pc_slots::{Author, Cell, Stage, Writing};
-use pc_table::Table;
-use pc_types::{
-    Class, Key, MOST_KEYS, Mode, Outcome, Point, Refusal, SlotId, TxnNo, Value, Write, copy_content,
-};
+use crate::floor::Slots;
+use pc_slots::{Aside, Author, Writing};
+use pc_types::{Class, Key, MOST_KEYS, Mode, Outcome, Point, Refusal, SlotId, TxnNo, Value, Write};
 use std::alloc::{AllocError, Global};
 use std::hash::RandomState;
 use std::marker::Model;
@@ -54,24 +42,19 @@ pub struct Reading {
 /// the last closed set.
 #[derive(Drop)]
 pub struct Records {
-    table: Table<Cell>,
-    locks: Locks,
-    sets: Dirty,
+    slots: Slots,
     point: Point,
 }
 
 impl Model for Records {
-    ghost use Rattle.pc_locks.specs.Keepers.{AreEnds};
     ghost use Rattle.pc_records.specs.Tables.{Table};
-    ghost use Rattle.pc_records.specs.Ends.{ends_in, queues_in};
-    ghost use Rattle.pc_records.specs.Slots.{slots_in, table_of, AreKept, AreSound};
-    ghost use Rattle.pc_records.specs.SetLists.{IsListed, open_keys, closed_keys};
+    ghost use Rattle.pc_records.specs.Floor.{table_on, IsWhole, AreSound};
 
     ghost Value = { Table };
 
-    ghost view = { λ a. table_of a.table.capacity (queues_in a.table.rows a.locks) (slots_in a.sets.side a.table.rows) a.point (open_keys a.table.rows a.sets) (closed_keys a.table.rows a.sets) };
+    ghost view = { λ a. table_on a.point a.slots };
 
-    ghost invariant = { λ a. AreKept (slots_in a.sets.side a.table.rows) (queues_in a.table.rows a.locks) × (AreEnds (ends_in a.table.rows) a.locks × AreSound a.point (queues_in a.table.rows a.locks) (slots_in a.sets.side a.table.rows)) × IsListed a.table.rows a.sets };
+    ghost invariant = { λ a. IsWhole a.slots × AreSound a.point a.slots.spots };
 }
 
 impl Records {
@@ -88,13 +71,9 @@ impl Records {
         requires capacity { (1 ≤ capacity) × (capacity ≤ MOST_KEYS) }
         ensures { IfOk result (λ r. r ≡ record { capacity = capacity; rows = map committed_row pairs.now; pending = []; point = 0; opened = []; shut = [] }) }
     {
-        let table = slots::table_of(alloc, capacity, pairs, seed)?;
-        let locks = Locks::new(alloc);
-        let sets = Dirty::new();
+        let slots = Slots::of_pairs(alloc, capacity, pairs, seed)?;
         Ok(Records {
-            table,
-            locks,
-            sets,
+            slots,
             point: Point(0),
         })
     }
@@ -103,7 +82,10 @@ impl Records {
     pub fn is_full_for(&self, key: &Key) -> bool
         ensures { result ≡ is_full_for (kept_of self.now) key.now }
     {
-        slots::is_new(&self.table, key) && self.table.is_full()
+        match self.slots.find(key, None) {
+            Some(_) => false,
+            None => self.slots.is_full(),
+        }
     }
 
     /// The committed pairs, rising by key.
@@ -111,14 +93,14 @@ impl Records {
         ensures rise { IfOk result (λ pairs. KeysRise pairs.items) }
         ensures contents { IfOk result (λ pairs. (key : List ℕ) → get (database_of pairs.items) key ≡ stored (record_of self.now.rows key)) }
     {
-        slots::committed_pairs(alloc, &self.table)
+        self.slots.committed(alloc)
     }
 
     /// Whether a request of the transaction waits.
     pub fn is_waiting(&self, transaction: TxnNo) -> bool
         ensures { result ≡ is_waiting self.now.rows transaction }
     {
-        self.locks.is_waiting(transaction)
+        self.slots.is_waiting(transaction)
     }
 
     /// Answers the transaction's request to read the key, with a copy of what stands in its place; a key without a record gets
@@ -134,19 +116,20 @@ impl Records {
         ensures room { IfOk result (λ answer. is_full_for (kept_of self.old) key.now ≡ false) }
         ensures refusal { IfErr result (λ e. e ≡ (if is_full_for (kept_of self.old) key.now then Refusal.Full else Refusal.OutOfMemory)) }
     {
-        let side = self.sets.open_side();
-        let stage = Stage {
-            side,
-            point: self.point,
-        };
-        read(
-            alloc,
-            &mut self.table,
-            &mut self.locks,
-            stage,
-            transaction,
-            key,
-        )
+        match self.slots.find(key, None) {
+            Some(id) => {
+                let found = self.slots.copy(alloc, id)?;
+                let outcome = self.slots.request(transaction, id, Mode::Shared)?;
+                Ok(Reading { outcome, found })
+            }
+            None => {
+                request_new(alloc, &mut self.slots, transaction, key, Mode::Shared)?;
+                Ok(Reading {
+                    outcome: Outcome::Granted,
+                    found: None,
+                })
+            }
+        }
     }
 
     /// Answers the transaction's request to write the key, and writes it in its place where the request is granted. It is
@@ -174,21 +157,38 @@ impl Records {
         ensures room { IfOk result (λ answer. is_full_for (kept_of self.old) key.now ≡ false) }
         ensures refusal { IfErr result (λ e. e ≡ (if is_full_for (kept_of self.old) key.now then Refusal.Full else Refusal.OutOfMemory)) }
     {
-        let side = self.sets.open_side();
-        let stage = Stage {
-            side,
-            point: self.point,
-        };
-        let author = Author { transaction, class };
-        write(
-            alloc,
-            &mut self.table,
-            &mut self.locks,
-            stage,
-            author,
-            key,
-            value,
-        )
+        match self.slots.find(key, None) {
+            Some(id) => {
+                let room = pc_slots::room(alloc)?;
+                let copy = self.slots.copy_to_keep(alloc, id, self.point, class)?;
+                let outcome = self.slots.request(transaction, id, Mode::Exclusive)?;
+                let author = Author { transaction, class };
+                let write = Writing {
+                    author,
+                    room,
+                    copy,
+                    value,
+                };
+                put_granted(&mut self.slots, id, self.point, write, outcome);
+                Ok(Answer { outcome, slot: id })
+            }
+            None => {
+                let room = room_in(alloc, &self.slots)?;
+                let id = request_new(alloc, &mut self.slots, transaction, key, Mode::Exclusive)?;
+                let author = Author { transaction, class };
+                let write = Writing {
+                    author,
+                    room,
+                    copy: None,
+                    value,
+                };
+                self.slots.put(id, self.point, write);
+                Ok(Answer {
+                    outcome: Outcome::Granted,
+                    slot: id,
+                })
+            }
+        }
     }
 
     /// Removes all requests of the transaction, which has no write in place, and frees each slot that nothing keeps then.
@@ -196,12 +196,7 @@ impl Records {
         requires { (q : List ℕ) (p : Pending) → pending_at self.old q ≡ Some p → (p.by == transaction) ≡ false }
         ensures { self.new ≡ record self.old { rows = released_rows transaction self.old.rows } }
     {
-        let side = self.sets.open_side();
-        let stage = Stage {
-            side,
-            point: self.point,
-        };
-        release(&mut self.table, &mut self.locks, stage, transaction);
+        release(&mut self.slots, transaction);
     }
 
     /// The transaction of these writes, which stand in their places, is committed: they are the keys' values, and their
@@ -219,7 +214,7 @@ impl Records {
         ensures shut { self.new.shut ≡ self.old.shut }
         ensures listed { AreListed self.old }
     {
-        slots::settle_all(&mut self.table, &mut self.sets, writes, slots, self.point);
+        settle_all(&mut self.slots, writes, slots, self.point);
     }
 
     /// The transaction of these writes is undone: what was committed of their keys stands in their places again. The slots are
@@ -232,12 +227,7 @@ impl Records {
         ensures opened { self.new.opened ≡ self.old.opened }
         ensures shut { self.new.shut ≡ self.old.shut }
     {
-        let side = self.sets.open_side();
-        let stage = Stage {
-            side,
-            point: self.point,
-        };
-        slots::undo_all(&mut self.table, stage, writes, slots);
+        undo_all(&mut self.slots, writes, slots, self.point);
     }
 
     /// The open set is closed, as that of the point, and another one begins. No record is looked at.
@@ -248,7 +238,7 @@ impl Records {
         ensures closed { self.new ≡ record self.old { rows = map closed_row self.old.rows; point = point; opened = []; shut = self.old.opened } }
         ensures listed { AreListed self.old }
     {
-        self.sets.close(&self.table);
+        self.slots.close();
         self.point = point;
     }
 
@@ -257,7 +247,7 @@ impl Records {
         ensures count { result ≡ length self.now.shut }
         ensures listed { AreListed self.now }
     {
-        self.sets.closed_len(&self.table)
+        self.slots.closed_len()
     }
 
     /// The first key of the closed set with what it has at the point; None where the set is empty.
@@ -265,14 +255,7 @@ impl Records {
         ensures first { option_map content_behind result ≡ first_content self.now }
         ensures listed { AreListed self.now }
     {
-        match self.sets.first_closed(&self.table) {
-            Some(id) => {
-                let side = self.sets.open_side();
-                let pinned = pc_slots::pinned_of(self.table.get(id), side);
-                Some((self.table.key(id), pinned))
-            }
-            None => None,
-        }
+        self.slots.first_closed()
     }
 
     /// The first key of the closed set, in which there is one, is taken, and its slot is free where nothing keeps it. It takes
@@ -282,126 +265,26 @@ impl Records {
         ensures taken { (key : List ℕ) (keys : List (List ℕ)) → self.old.shut ≡ key ∷ keys → self.new ≡ record self.old { rows = left_rows self.old.rows key; shut = keys } }
         ensures listed { AreListed self.old }
     {
-        take(&mut self.table, &self.locks, &mut self.sets, self.point);
-    }
-}
-
-// Answers the transaction's request to read the key, with a copy of what stands in its place, which is made before the locks
-// are asked; or there was no room for it or memory ran out, and nothing changed.
-fn read(
-    alloc: Global,
-    table: &mut Table<Cell>,
-    locks: &mut Locks,
-    stage: Stage,
-    transaction: TxnNo,
-    key: &Key,
-) -> Result<Reading, Refusal>
-    requires kept { AreKept (slots_in stage.side table.old.rows) (queues_in table.old.rows locks.old) }
-    requires sound { AreSound stage.point (queues_in table.old.rows locks.old) (slots_in stage.side table.old.rows) }
-    requires ends { AreEnds (ends_in table.old.rows) locks.old }
-    requires ready { states.is_waiting (state_of (ends_in table.old.rows) locks.old) transaction ≡ false }
-    ensures told { IfOk result (λ answer. answer.outcome ≡ outcome (requests_on (record_of (rows_of (queues_in table.old.rows locks.old) (slots_in stage.side table.old.rows)) key.now)) transaction Shared) }
-    ensures found { IfOk result (λ answer. answer.found ≡ read_of (find key_cmp key.now (pending_of (slots_in stage.side table.old.rows))) (stored (record_of (rows_of (queues_in table.old.rows locks.old) (slots_in stage.side table.old.rows)) key.now))) }
-    ensures rows { IfOk result (λ answer. rows_of (queues_in table.new.rows locks.new) (slots_in stage.side table.new.rows) ≡ rows_after (rows_of (queues_in table.old.rows locks.old) (slots_in stage.side table.old.rows)) key.now transaction Shared answer.outcome) }
-    ensures clear { IfOk result (λ answer. answer.outcome ≡ Granted → IsClearFor (table_of table.old.capacity (queues_in table.old.rows locks.old) (slots_in stage.side table.old.rows) stage.point [] []) key.now transaction) }
-    ensures err { OnErr result (rows_of (queues_in table.new.rows locks.new) (slots_in stage.side table.new.rows) ≡ rows_of (queues_in table.old.rows locks.old) (slots_in stage.side table.old.rows)) }
-    ensures room { IfOk result (λ answer. is_full_for (kept_of (table_of table.old.capacity (queues_in table.old.rows locks.old) (slots_in stage.side table.old.rows) stage.point [] [])) key.now ≡ false) }
-    ensures refusal { IfErr result (λ e. e ≡ (if is_full_for (kept_of (table_of table.old.capacity (queues_in table.old.rows locks.old) (slots_in stage.side table.old.rows) stage.point [] [])) key.now then Refusal.Full else Refusal.OutOfMemory)) }
-    ensures pending { pending_of (slots_in stage.side table.new.rows) ≡ pending_of (slots_in stage.side table.old.rows) }
-    ensures kept { AreKept (slots_in stage.side table.new.rows) (queues_in table.new.rows locks.new) }
-    ensures sound { AreSound stage.point (queues_in table.new.rows locks.new) (slots_in stage.side table.new.rows) }
-    ensures ends { AreEnds (ends_in table.new.rows) locks.new }
-    ensures capacity { table.new.capacity ≡ table.old.capacity }
-    ensures sets { KeepSets table.old.rows table.new.rows }
-{
-    let mode = Mode::Shared;
-    match table.find(key) {
-        Some(id) => {
-            let found = copy_content(alloc, &table.get(id).live)?;
-            let outcome = locks.request(table, transaction, id, mode)?;
-            Ok(Reading { outcome, found })
-        }
-        None => {
-            request_new(alloc, table, locks, stage, transaction, key, mode)?;
-            Ok(Reading {
-                outcome: Outcome::Granted,
-                found: None,
-            })
+        if let Some(id) = self.slots.take_first() {
+            self.slots.tidy(id);
         }
     }
 }
 
-// Answers the transaction's request to write the key, and writes it where the request is granted; or there was no room for
-// it or memory ran out, and nothing changed. What the slot has to keep is copied before the locks are asked, and there is room for
-// it then.
-fn write(
-    alloc: Global,
-    table: &mut Table<Cell>,
-    locks: &mut Locks,
-    stage: Stage,
-    author: Author,
-    key: &Key,
-    value: Option<Value>,
-) -> Result<Answer, Refusal>
-    requires kept { AreKept (slots_in stage.side table.old.rows) (queues_in table.old.rows locks.old) }
-    requires sound { AreSound stage.point (queues_in table.old.rows locks.old) (slots_in stage.side table.old.rows) }
-    requires ends { AreEnds (ends_in table.old.rows) locks.old }
-    requires ready { states.is_waiting (state_of (ends_in table.old.rows) locks.old) author.transaction ≡ false }
-    requires outside { author.class ≡ Before → is_in_closed_set (record_of (rows_of (queues_in table.old.rows locks.old) (slots_in stage.side table.old.rows)) key.now) ≡ false }
-    requires again { (p : Pending) → find key_cmp key.now (pending_of (slots_in stage.side table.old.rows)) ≡ Some p → p.by ≡ author.transaction → p.class ≡ author.class }
-    ensures told { IfOk result (λ answer. answer.outcome ≡ outcome (requests_on (record_of (rows_of (queues_in table.old.rows locks.old) (slots_in stage.side table.old.rows)) key.now)) author.transaction Exclusive) }
-    ensures rows { IfOk result (λ answer. rows_of (queues_in table.new.rows locks.new) (slots_in stage.side table.new.rows) ≡ rows_after (rows_of (queues_in table.old.rows locks.old) (slots_in stage.side table.old.rows)) key.now author.transaction Exclusive answer.outcome) }
-    ensures clear { IfOk result (λ answer. answer.outcome ≡ Granted → IsClearFor (table_of table.old.capacity (queues_in table.old.rows locks.old) (slots_in stage.side table.old.rows) stage.point [] []) key.now author.transaction) }
-    ensures err { OnErr result (rows_of (queues_in table.new.rows locks.new) (slots_in stage.side table.new.rows) ≡ rows_of (queues_in table.old.rows locks.old) (slots_in stage.side table.old.rows)) }
-    ensures room { IfOk result (λ answer. is_full_for (kept_of (table_of table.old.capacity (queues_in table.old.rows locks.old) (slots_in stage.side table.old.rows) stage.point [] [])) key.now ≡ false) }
-    ensures refusal { IfErr result (λ e. e ≡ (if is_full_for (kept_of (table_of table.old.capacity (queues_in table.old.rows locks.old) (slots_in stage.side table.old.rows) stage.point [] [])) key.now then Refusal.Full else Refusal.OutOfMemory)) }
-    ensures pending { IfOk result (λ answer. (q : List ℕ) → find key_cmp q (pending_of (slots_in stage.side table.new.rows)) ≡ pending_after answer.outcome (table_of table.old.capacity (queues_in table.old.rows locks.old) (slots_in stage.side table.old.rows) stage.point [] []) key.now (record { by = author.transaction; class = author.class; value = value }) q) }
-    ensures still { OnErr result (pending_of (slots_in stage.side table.new.rows) ≡ pending_of (slots_in stage.side table.old.rows)) }
-    ensures kept { AreKept (slots_in stage.side table.new.rows) (queues_in table.new.rows locks.new) }
-    ensures sound { AreSound stage.point (queues_in table.new.rows locks.new) (slots_in stage.side table.new.rows) }
-    ensures ends { AreEnds (ends_in table.new.rows) locks.new }
-    ensures capacity { table.new.capacity ≡ table.old.capacity }
-    ensures sets { KeepSets table.old.rows table.new.rows }
+// Room for what a slot that is still to be made keeps aside; it is refused with `Full` where there are as many slots as there
+// may be, and else only where memory ran out.
+fn room_in(alloc: Global, slots: &Slots) -> Result<Box<Aside>, Refusal>
+    ensures room { IfOk result (λ room. room.value ≡ nothing_aside) }
+    ensures refusal { IfErr result (λ e. e ≡ (if length slots.now.spots == slots.now.capacity then Refusal.Full else Refusal.OutOfMemory)) }
 {
-    let mode = Mode::Exclusive;
-    let Author { transaction, class } = author;
-    let Stage { side, point } = stage;
-    match table.find(key) {
-        Some(id) => {
-            let room = pc_slots::room(alloc)?;
-            let copy = pc_slots::copy_to_keep(alloc, table.get(id), Stage { side, point }, class)?;
-            let outcome = locks.request(table, transaction, id, mode)?;
-            let write = Writing {
-                author: Author { transaction, class },
-                room,
-                copy,
-                value,
-            };
-            slots::put_granted(table, Stage { side, point }, id, write, outcome);
-            Ok(Answer { outcome, slot: id })
-        }
-        None => {
-            let room = slots::room_in(alloc, table)?;
-            let id = request_new(
-                alloc,
-                table,
-                locks,
-                Stage { side, point },
-                transaction,
-                key,
-                mode,
-            )?;
-            let write = Writing {
-                author: Author { transaction, class },
-                room,
-                copy: None,
-                value,
-            };
-            slots::put_at(table, Stage { side, point }, id, write);
-            Ok(Answer {
-                outcome: Outcome::Granted,
-                slot: id,
-            })
+    match pc_slots::room(alloc) {
+        Ok(room) => Ok(room),
+        Err(_) => {
+            if slots.is_full() {
+                Err(Refusal::Full)
+            } else {
+                Err(Refusal::OutOfMemory)
+            }
         }
     }
 }
@@ -410,67 +293,55 @@ fn write(
 // ran out nothing changed.
 fn request_new(
     alloc: Global,
-    table: &mut Table<Cell>,
-    locks: &mut Locks,
-    stage: Stage,
+    slots: &mut Slots,
     transaction: TxnNo,
     key: &Key,
     mode: Mode,
 ) -> Result<SlotId, Refusal>
-    requires kept { AreKept (slots_in stage.side table.old.rows) (queues_in table.old.rows locks.old) }
-    requires sound { AreSound stage.point (queues_in table.old.rows locks.old) (slots_in stage.side table.old.rows) }
-    requires ends { AreEnds (ends_in table.old.rows) locks.old }
-    requires ready { states.is_waiting (state_of (ends_in table.old.rows) locks.old) transaction ≡ false }
-    requires new { slot_of table.old.rows key.now ≡ None }
-    ensures told { IfOk result (λ id. outcome (requests_on (record_of (rows_of (queues_in table.old.rows locks.old) (slots_in stage.side table.old.rows)) key.now)) transaction mode ≡ Granted) }
-    ensures rows { IfOk result (λ id. rows_of (queues_in table.new.rows locks.new) (slots_in stage.side table.new.rows) ≡ rows_after (rows_of (queues_in table.old.rows locks.old) (slots_in stage.side table.old.rows)) key.now transaction mode Granted) }
-    ensures slot { IfOk result (IsFirstIn (slots_in stage.side table.old.rows) (slots_in stage.side table.new.rows) (queues_in table.new.rows locks.new) key.now transaction mode) }
-    ensures row { IfOk result (HasRow table.new.rows) }
-    ensures err { OnErr result (rows_of (queues_in table.new.rows locks.new) (slots_in stage.side table.new.rows) ≡ rows_of (queues_in table.old.rows locks.old) (slots_in stage.side table.old.rows)) }
-    ensures room { IfOk result (λ id. is_full_for (kept_of (table_of table.old.capacity (queues_in table.old.rows locks.old) (slots_in stage.side table.old.rows) stage.point [] [])) key.now ≡ false) }
-    ensures refusal { IfErr result (λ e. e ≡ (if is_full_for (kept_of (table_of table.old.capacity (queues_in table.old.rows locks.old) (slots_in stage.side table.old.rows) stage.point [] [])) key.now then Refusal.Full else Refusal.OutOfMemory)) }
-    ensures pending { pending_of (slots_in stage.side table.new.rows) ≡ pending_of (slots_in stage.side table.old.rows) }
-    ensures kept { AreKept (slots_in stage.side table.new.rows) (queues_in table.new.rows locks.new) }
-    ensures sound { AreSound stage.point (queues_in table.new.rows locks.new) (slots_in stage.side table.new.rows) }
-    ensures ends { AreEnds (ends_in table.new.rows) locks.new }
-    ensures capacity { table.new.capacity ≡ table.old.capacity }
-    ensures sets { KeepSets table.old.rows table.new.rows }
+    requires new { number_of slots.old.spots key.now ≡ None }
+    requires ready { waits_anywhere slots.old.spots transaction ≡ false }
+    ensures asked { IfOk result (λ id. slots.new ≡ with_spot (asked transaction mode Granted) id (with_new_spot id key.now slots.old)) }
+    ensures made { IfOk result (λ id. IsWhole (with_new_spot id key.now slots.old)) }
+    ensures there { IfOk result (λ id. has_spot slots.new.spots id ≡ true) }
+    ensures room { IfOk result (λ id. (length slots.old.spots == slots.old.capacity) ≡ false) }
+    ensures refusal { IfErr result (λ e. e ≡ (if length slots.old.spots == slots.old.capacity then Refusal.Full else Refusal.OutOfMemory)) }
+    ensures same { OnErr result (slots.new ≡ slots.old) }
+    ensures whole { IsWhole slots.new }
 {
-    let id = slots::make(alloc, table, key)?;
-    match locks.request(table, transaction, id, mode) {
+    let id = slots.make(alloc, key)?;
+    match slots.request(transaction, id, mode) {
         Ok(_) => Ok(id),
         Err(_) => {
-            drop(table.remove(id));
+            slots.tidy(id);
             Err(Refusal::OutOfMemory)
         }
     }
 }
 
-// Removes the first request of the transaction's list, and frees its slot where nothing keeps it then; false where there
-// is none.
-fn release_next(
-    table: &mut Table<Cell>,
-    locks: &mut Locks,
-    stage: Stage,
-    transaction: TxnNo,
-) -> bool
-    requires kept { AreKept (slots_in stage.side table.old.rows) (queues_in table.old.rows locks.old) }
-    requires sound { AreSound stage.point (queues_in table.old.rows locks.old) (slots_in stage.side table.old.rows) }
-    requires ends { AreEnds (ends_in table.old.rows) locks.old }
-    requires over { (q : List ℕ) (p : Pending) → find key_cmp q (pending_of (slots_in stage.side table.old.rows)) ≡ Some p → (p.by == transaction) ≡ false }
-    ensures kept { AreKept (slots_in stage.side table.new.rows) (queues_in table.new.rows locks.new) }
-    ensures sound { AreSound stage.point (queues_in table.new.rows locks.new) (slots_in stage.side table.new.rows) }
-    ensures ends { AreEnds (ends_in table.new.rows) locks.new }
-    ensures capacity { table.new.capacity ≡ table.old.capacity }
-    ensures pending { pending_of (slots_in stage.side table.new.rows) ≡ pending_of (slots_in stage.side table.old.rows) }
-    ensures rows { released_rows transaction (rows_of (queues_in table.new.rows locks.new) (slots_in stage.side table.new.rows)) ≡ released_rows transaction (rows_of (queues_in table.old.rows locks.old) (slots_in stage.side table.old.rows)) }
-    ensures shrinks { result ≡ true → length (slots_of (lists_of locks.new) transaction) < length (slots_of (lists_of locks.old) transaction) }
-    ensures done { result ≡ false → rows_of (queues_in table.new.rows locks.new) (slots_in stage.side table.new.rows) ≡ released_rows transaction (rows_of (queues_in table.old.rows locks.old) (slots_in stage.side table.old.rows)) }
-    ensures sets { KeepSets table.old.rows table.new.rows }
+// The write stands in the slot where its request was granted.
+fn put_granted(slots: &mut Slots, id: SlotId, point: Point, write: Writing, answer: Outcome)
+    requires whole { IsWhole slots.old }
+    requires there { has_spot slots.old.spots id ≡ true }
+    requires room { write.room.value ≡ nothing_aside }
+    ensures put { slots.new ≡ with_spot (changed (granted_slot answer point write.author.transaction write.author.class write.copy write.value)) id slots.old }
+    ensures whole { IsWhole slots.new }
 {
-    match locks.release_one(table, transaction) {
-        Some(id) => {
-            slots::tidy(table, locks, stage, id);
+    if let Outcome::Granted = answer {
+        slots.put(id, point, write);
+    }
+}
+
+// Removes the first request of the transaction, and frees its slot where nothing keeps it then; false where there is none.
+fn release_next(slots: &mut Slots, transaction: TxnNo) -> bool
+    requires whole { IsWhole slots.old }
+    ensures left { (point : ℕ) → AreSound point slots.old.spots → IsOver transaction slots.old.spots → IsLeft point transaction slots.old slots.new }
+    ensures fewer { result ≡ true → standing transaction slots.new.spots < standing transaction slots.old.spots }
+    ensures done { result ≡ false → stands_anywhere slots.new.spots transaction ≡ false }
+    ensures whole { IsWhole slots.new }
+{
+    match slots.release_one(transaction) {
+        Some(slot) => {
+            slots.tidy(slot);
             true
         }
         None => false,
@@ -478,43 +349,61 @@ fn release_next(
 }
 
 // Removes all requests of the transaction, one after the other.
-fn release(table: &mut Table<Cell>, locks: &mut Locks, stage: Stage, transaction: TxnNo)
-    requires kept { AreKept (slots_in stage.side table.old.rows) (queues_in table.old.rows locks.old) }
-    requires sound { AreSound stage.point (queues_in table.old.rows locks.old) (slots_in stage.side table.old.rows) }
-    requires ends { AreEnds (ends_in table.old.rows) locks.old }
-    requires over { (q : List ℕ) (p : Pending) → find key_cmp q (pending_of (slots_in stage.side table.old.rows)) ≡ Some p → (p.by == transaction) ≡ false }
-    ensures kept { AreKept (slots_in stage.side table.new.rows) (queues_in table.new.rows locks.new) }
-    ensures sound { AreSound stage.point (queues_in table.new.rows locks.new) (slots_in stage.side table.new.rows) }
-    ensures ends { AreEnds (ends_in table.new.rows) locks.new }
-    ensures capacity { table.new.capacity ≡ table.old.capacity }
-    ensures pending { pending_of (slots_in stage.side table.new.rows) ≡ pending_of (slots_in stage.side table.old.rows) }
-    ensures rows { rows_of (queues_in table.new.rows locks.new) (slots_in stage.side table.new.rows) ≡ released_rows transaction (rows_of (queues_in table.old.rows locks.old) (slots_in stage.side table.old.rows)) }
-    ensures sets { KeepSets table.old.rows table.new.rows }
+fn release(slots: &mut Slots, transaction: TxnNo)
+    requires whole { IsWhole slots.old }
+    ensures left { (point : ℕ) → AreSound point slots.old.spots → IsOver transaction slots.old.spots → IsLeft point transaction slots.old slots.new }
+    ensures done { stands_anywhere slots.new.spots transaction ≡ false }
+    ensures whole { IsWhole slots.new }
 {
-    let Stage { side, point } = stage;
-    while release_next(table, locks, Stage { side, point }, transaction) {}
+    while release_next(slots, transaction) {}
 }
 
-// The first key of the closed set, in which there is one, is taken, and its slot is free where nothing keeps it.
-fn take(table: &mut Table<Cell>, locks: &Locks, sets: &mut Dirty, point: Point)
-    requires kept { AreKept (slots_in sets.old.side table.old.rows) (queues_in table.old.rows locks.now) }
-    requires sound { AreSound point (queues_in table.old.rows locks.now) (slots_in sets.old.side table.old.rows) }
-    requires ends { AreEnds (ends_in table.old.rows) locks.now }
-    requires listed { IsListed table.old.rows sets.old }
-    requires first { (key : List ℕ) × (keys : List (List ℕ)) × (closed_keys table.old.rows sets.old ≡ key ∷ keys) × ((p : Pending) → find key_cmp key (pending_of (slots_in sets.old.side table.old.rows)) ≡ Some p → same_class p.class During ≡ false) }
-    ensures kept { AreKept (slots_in sets.new.side table.new.rows) (queues_in table.new.rows locks.now) }
-    ensures sound { AreSound point (queues_in table.new.rows locks.now) (slots_in sets.new.side table.new.rows) }
-    ensures capacity { table.new.capacity ≡ table.old.capacity }
-    ensures pending { pending_of (slots_in sets.new.side table.new.rows) ≡ pending_of (slots_in sets.old.side table.old.rows) }
-    ensures listed { IsListed table.new.rows sets.new }
-    ensures ends { AreEnds (ends_in table.new.rows) locks.now }
-    ensures queues { queues_in table.new.rows locks.now ≡ queues_in table.old.rows locks.now }
-    ensures opened { open_keys table.new.rows sets.new ≡ open_keys table.old.rows sets.old }
-    ensures taken { (key : List ℕ) (keys : List (List ℕ)) → closed_keys table.old.rows sets.old ≡ key ∷ keys → IsTaken (queues_in table.old.rows locks.now) sets.old.side table.old.rows sets.new table.new.rows key keys }
+// The write that stands in the key's place is committed; the key is looked for near the slot first.
+fn settle_key(slots: &mut Slots, key: &Key, near: Option<SlotId>, point: Point)
+    requires whole { IsWhole slots.old }
+    ensures settled { slots.new ≡ with_settled point key.now slots.old }
+    ensures whole { IsWhole slots.new }
 {
-    let side = sets.open_side();
-    if let Some(id) = sets.pop_closed(table) {
-        slots::mark_taken(table, side, id);
-        slots::tidy(table, locks, Stage { side, point }, id);
+    if let Some(id) = slots.find(key, near) {
+        slots.settle(id, point);
+    }
+}
+
+// These writes, no two of which have one key, are committed. The numbers are those of the slots where their keys were found, as
+// far as that is known.
+fn settle_all(slots: &mut Slots, writes: &[Write], numbers: &[u32], point: Point)
+    requires whole { IsWhole slots.old }
+    requires distinct { AreDistinct writes.now }
+    ensures settled { slots.new ≡ with_all_settled point writes.now slots.old }
+    ensures whole { IsWhole slots.new }
+{
+    let mut found = numbers.iter();
+    for write in writes {
+        let near = found.next().map(|number| SlotId(*number));
+        settle_key(slots, &write.key, near, point);
+    }
+}
+
+// The write that stands in the key's place is undone; the key is looked for near the slot first.
+fn undo_key(slots: &mut Slots, key: &Key, near: Option<SlotId>, point: Point)
+    requires whole { IsWhole slots.old }
+    ensures undone { slots.new ≡ with_undone point key.now slots.old }
+    ensures whole { IsWhole slots.new }
+{
+    if let Some(id) = slots.find(key, near) {
+        slots.undo(id, point);
+    }
+}
+
+// These writes are undone. The numbers are those of `settle_all`.
+fn undo_all(slots: &mut Slots, writes: &[Write], numbers: &[u32], point: Point)
+    requires whole { IsWhole slots.old }
+    ensures undone { slots.new ≡ with_all_undone point writes.now slots.old }
+    ensures whole { IsWhole slots.new }
+{
+    let mut found = numbers.iter();
+    for write in writes {
+        let near = found.next().map(|number| SlotId(*number));
+        undo_key(slots, &write.key, near, point);
     }
 }

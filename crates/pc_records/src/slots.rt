@@ -1,26 +1,23 @@
 //! Slots: what the table's rows have, each with its number and its key. The requests of a slot are those of the locks' queue
 //! at its number, whose ends the slot keeps.
-ghost use Rattle.std.specs.Prelude.{◌≡◌, ◌==◌, ◌≤◌, ◌++◌, [], false, map, length, IfOk, IfErr, OnOk, OnErr, None, Some, Ok, is_none, if◌then◌else◌, List, ℕ};
+ghost use Rattle.std.specs.Prelude.{◌≡◌, ◌==◌, ◌≤◌, ◌++◌, [], false, map, length, IfOk, IfErr, OnOk, OnErr, None, Some, Ok, if◌then◌else◌, List, ℕ};
 ghost use Rattle.pc_model.specs.Maps.{get};
 ghost use Rattle.pc_model.specs.Database.{KeysRise, database_of};
 ghost use Rattle.pc_locks.specs.States.{Queues};
-ghost use Rattle.pc_locks.specs.Keepers.{AreEnds};
 ghost use Rattle.pc_table.specs.Rows.{slot_of, in_slot, HasRow, IsNewSlot, AreInSlots, with_row, with_record};
 ghost use Rattle.pc_dirty.specs.declared.side.Side.{Side};
 ghost use Rattle.pc_dirty.specs.declared.side.Side.TheVariants.{First};
 ghost use Rattle.pc_records.specs.Rows.{record_of, stored};
-ghost use Rattle.pc_model.specs.DistinctWrites.{AreDistinct};
-ghost use Rattle.pc_records.specs.Ends.{ends_in, queues_in};
-ghost use Rattle.pc_records.specs.SetLists.{KeepSets, IsUnmarked, IsListed, open_keys, closed_keys, entering, entering_key, entering_keys};
-ghost use Rattle.pc_slots.specs.Slots.{nothing_aside, base_cell, put_slot, granted_slot, settled, undone, taken_slot};
-ghost use Rattle.pc_records.specs.Slots.{slots_in, with_entry, content_in, cells_in, base_row, contents_of, rows_of, pending_of, AreKept, AreSound, IsNumbered, tidied, at_key, at_number, at_writes};
+ghost use Rattle.pc_records.specs.Ends.{ends_in};
+ghost use Rattle.pc_records.specs.SetLists.{KeepSets, IsUnmarked, IsListed, open_keys, closed_keys, entering};
+ghost use Rattle.pc_slots.specs.Slots.{nothing_aside, base_cell, put_slot, settled, undone, taken_slot};
+ghost use Rattle.pc_records.specs.Slots.{slots_in, with_entry, content_in, cells_in, base_row, contents_of, rows_of, at_number};
 
 use pc_dirty::{Dirty, Side};
-use pc_locks::Locks;
 use pc_replay::first_of_each;
-use pc_slots::{Aside, Cell, Stage, Writing, cell_with};
+use pc_slots::{Cell, Stage, Writing, cell_with};
 use pc_table::Table;
-use pc_types::{Class, Key, MOST_KEYS, Outcome, Point, Refusal, SlotId, TxnNo, Value, Write};
+use pc_types::{Key, MOST_KEYS, Point, Refusal, SlotId, Value};
 use std::alloc::{AllocError, Global};
 use std::hash::RandomState;
 
@@ -78,16 +75,6 @@ pub(crate) fn make(alloc: Global, table: &mut Table<Cell>, key: &Key) -> Result<
     ensures after { AreInSlots table.new }
 {
     table.make(alloc, key)
-}
-
-// Whether the key has no record.
-pub(crate) fn is_new(table: &Table<Cell>, key: &Key) -> bool
-    ensures { (side : Side) (queues : Queues) → result ≡ is_none (record_of (rows_of queues (slots_in side table.now.rows)) key.now) }
-{
-    match table.find(key) {
-        Some(_) => false,
-        None => true,
-    }
 }
 
 // The pairs of the slots that have a committed value, rising by key.
@@ -162,24 +149,6 @@ pub(crate) fn mark_taken(table: &mut Table<Cell>, side: Side, id: SlotId)
     pc_slots::take(table.get_mut(id), side);
 }
 
-// Room for what a slot that is still to be made keeps aside; it is refused with `Full` where there is no free slot, and else
-// only where memory ran out.
-pub(crate) fn room_in(alloc: Global, table: &Table<Cell>) -> Result<Box<Aside>, Refusal>
-    ensures room { IfOk result (λ room. room.value ≡ nothing_aside) }
-    ensures refusal { IfErr result (λ e. e ≡ (if length table.now.rows == table.now.capacity then Refusal.Full else Refusal.OutOfMemory)) }
-{
-    match pc_slots::room(alloc) {
-        Ok(room) => Ok(room),
-        Err(_) => {
-            if table.is_full() {
-                Err(Refusal::Full)
-            } else {
-                Err(Refusal::OutOfMemory)
-            }
-        }
-    }
-}
-
 // The write stands in the slot.
 pub(crate) fn put_at(table: &mut Table<Cell>, stage: Stage, id: SlotId, write: Writing)
     requires row { HasRow table.old.rows id }
@@ -192,28 +161,8 @@ pub(crate) fn put_at(table: &mut Table<Cell>, stage: Stage, id: SlotId, write: W
     pc_slots::put(table.get_mut(id), stage, write);
 }
 
-// The write stands in the slot where its request was granted.
-pub(crate) fn put_granted(
-    table: &mut Table<Cell>,
-    stage: Stage,
-    id: SlotId,
-    write: Writing,
-    answer: Outcome,
-)
-    requires row { HasRow table.old.rows id }
-    requires room { write.room.value ≡ nothing_aside }
-    ensures slots { slots_in stage.side table.new.rows ≡ map (at_number (granted_slot answer stage.point write.author.transaction write.author.class write.copy write.value) id) (slots_in stage.side table.old.rows) }
-    ensures capacity { table.new.capacity ≡ table.old.capacity }
-    ensures ends { ends_in table.new.rows ≡ ends_in table.old.rows }
-    ensures sets { KeepSets table.old.rows table.new.rows }
-{
-    if let Outcome::Granted = answer {
-        put_at(table, stage, id, write);
-    }
-}
-
 // The write that stands in the slot is committed, and the slot goes into the open set where it isn't in it.
-fn settle_slot(table: &mut Table<Cell>, sets: &mut Dirty, id: SlotId, point: Point)
+pub(crate) fn settle_slot(table: &mut Table<Cell>, sets: &mut Dirty, id: SlotId, point: Point)
     requires row { HasRow table.old.rows id }
     requires listed { IsListed table.old.rows sets.old }
     ensures slots { slots_in sets.old.side table.new.rows ≡ map (at_number (settled point) id) (slots_in sets.old.side table.old.rows) }
@@ -232,60 +181,8 @@ fn settle_slot(table: &mut Table<Cell>, sets: &mut Dirty, id: SlotId, point: Poi
     }
 }
 
-// The write that stands in the key's place is committed; the key is looked for near the slot first.
-fn settle_key(
-    table: &mut Table<Cell>,
-    sets: &mut Dirty,
-    key: &Key,
-    near: Option<SlotId>,
-    point: Point,
-)
-    requires listed { IsListed table.old.rows sets.old }
-    ensures slots { slots_in sets.old.side table.new.rows ≡ map (at_key (settled point) key.now) (slots_in sets.old.side table.old.rows) }
-    ensures capacity { table.new.capacity ≡ table.old.capacity }
-    ensures ends { ends_in table.new.rows ≡ ends_in table.old.rows }
-    ensures side { sets.new.side ≡ sets.old.side }
-    ensures listed { IsListed table.new.rows sets.new }
-    ensures opened { open_keys table.new.rows sets.new ≡ open_keys table.old.rows sets.old ++ entering_key sets.old.side table.old.rows key.now }
-    ensures closed { closed_keys table.new.rows sets.new ≡ closed_keys table.old.rows sets.old }
-{
-    if let Some(id) = table.find_near(key, near) {
-        settle_slot(table, sets, id, point);
-    }
-}
-
-// These writes, no two of which have one key, are committed. The slots are where their keys were found, as far as that is known.
-pub(crate) fn settle_all(
-    table: &mut Table<Cell>,
-    sets: &mut Dirty,
-    writes: &[Write],
-    slots: &[u32],
-    point: Point,
-)
-    requires listed { IsListed table.old.rows sets.old }
-    requires distinct { AreDistinct writes.now }
-    ensures slots { slots_in sets.old.side table.new.rows ≡ map (at_writes (settled point) writes.now) (slots_in sets.old.side table.old.rows) }
-    ensures capacity { table.new.capacity ≡ table.old.capacity }
-    ensures ends { ends_in table.new.rows ≡ ends_in table.old.rows }
-    ensures side { sets.new.side ≡ sets.old.side }
-    ensures listed { IsListed table.new.rows sets.new }
-    ensures opened { open_keys table.new.rows sets.new ≡ open_keys table.old.rows sets.old ++ entering_keys sets.old.side table.old.rows writes.now }
-    ensures closed { closed_keys table.new.rows sets.new ≡ closed_keys table.old.rows sets.old }
-{
-    let mut found = slots.iter();
-    for write in writes {
-        settle_key(
-            table,
-            sets,
-            &write.key,
-            found.next().map(|number| SlotId(*number)),
-            point,
-        );
-    }
-}
-
 // The write that stands in the slot is undone.
-fn undo_slot(table: &mut Table<Cell>, stage: Stage, id: SlotId)
+pub(crate) fn undo_slot(table: &mut Table<Cell>, stage: Stage, id: SlotId)
     requires { HasRow table.old.rows id }
     ensures slots { slots_in stage.side table.new.rows ≡ map (at_number (undone stage.point) id) (slots_in stage.side table.old.rows) }
     ensures capacity { table.new.capacity ≡ table.old.capacity }
@@ -293,56 +190,4 @@ fn undo_slot(table: &mut Table<Cell>, stage: Stage, id: SlotId)
     ensures sets { KeepSets table.old.rows table.new.rows }
 {
     pc_slots::undo(table.get_mut(id), stage);
-}
-
-// The write that stands in the key's place is undone; the key is looked for near the slot first.
-fn undo_key(table: &mut Table<Cell>, stage: Stage, key: &Key, near: Option<SlotId>)
-    ensures slots { slots_in stage.side table.new.rows ≡ map (at_key (undone stage.point) key.now) (slots_in stage.side table.old.rows) }
-    ensures capacity { table.new.capacity ≡ table.old.capacity }
-    ensures ends { ends_in table.new.rows ≡ ends_in table.old.rows }
-    ensures sets { KeepSets table.old.rows table.new.rows }
-{
-    if let Some(id) = table.find_near(key, near) {
-        undo_slot(table, stage, id);
-    }
-}
-
-// These writes are undone. The slots are where their keys were found, as far as that is known.
-pub(crate) fn undo_all(table: &mut Table<Cell>, stage: Stage, writes: &[Write], slots: &[u32])
-    ensures slots { slots_in stage.side table.new.rows ≡ map (at_writes (undone stage.point) writes.now) (slots_in stage.side table.old.rows) }
-    ensures capacity { table.new.capacity ≡ table.old.capacity }
-    ensures ends { ends_in table.new.rows ≡ ends_in table.old.rows }
-    ensures sets { KeepSets table.old.rows table.new.rows }
-{
-    let Stage { side, point } = stage;
-    let mut found = slots.iter();
-    for write in writes {
-        undo_key(
-            table,
-            Stage { side, point },
-            &write.key,
-            found.next().map(|number| SlotId(*number)),
-        );
-    }
-}
-
-// The slot is free where nothing keeps it.
-pub(crate) fn tidy(table: &mut Table<Cell>, locks: &Locks, stage: Stage, id: SlotId)
-    requires row { HasRow table.old.rows id }
-    requires kept { AreKept (slots_in stage.side table.old.rows) (queues_in table.old.rows locks.now) }
-    requires sound { AreSound stage.point (queues_in table.old.rows locks.now) (slots_in stage.side table.old.rows) }
-    requires ends { AreEnds (ends_in table.old.rows) locks.now }
-    ensures rows { (i : ℕ) → IsNumbered (slots_in stage.side table.old.rows) id i → rows_of (queues_in table.new.rows locks.now) (slots_in stage.side table.new.rows) ≡ tidied (rows_of (queues_in table.old.rows locks.now) (slots_in stage.side table.old.rows)) i }
-    ensures pending { pending_of (slots_in stage.side table.new.rows) ≡ pending_of (slots_in stage.side table.old.rows) }
-    ensures kept { AreKept (slots_in stage.side table.new.rows) (queues_in table.new.rows locks.now) }
-    ensures sound { AreSound stage.point (queues_in table.new.rows locks.now) (slots_in stage.side table.new.rows) }
-    ensures ends { AreEnds (ends_in table.new.rows) locks.now }
-    ensures queues { queues_in table.new.rows locks.now ≡ queues_in table.old.rows locks.now }
-    ensures capacity { table.new.capacity ≡ table.old.capacity }
-    ensures sets { KeepSets table.old.rows table.new.rows }
-{
-    let is_requested = locks.has_request(table, id);
-    if !pc_slots::is_kept(table.get(id), stage.side, is_requested) {
-        drop(table.remove(id));
-    }
 }

@@ -1,6 +1,4 @@
-use Rattle.pc_records.specs.Ends.{queues_in}
-use Rattle.pc_records.proofs.Among.{all_are_listed}
 use Rattle.pc_records.proofs.records.Records.closed_len.Goals as goal
 
 pub returns-clause-listed : goal.returns-clause-listed
-returns-clause-listed c = rw (← c.self.view_is) (all_are_listed c.self.inside.table.rows c.self.inside.sets (queues_in c.self.inside.table.rows c.self.inside.locks) c.self.invariant.0 c.self.invariant.2 c.self.inside.table.capacity c.self.inside.point)
+returns-clause-listed c = rw (← c.self.view_is) (record { open_set = c.self.invariant.0.listed.open_set; closed_set = c.self.invariant.0.listed.closed_set })

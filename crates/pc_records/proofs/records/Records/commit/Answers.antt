@@ -1,50 +1,42 @@
-use Rattle.pc_chain.specs.declared.chain.Chain.{Chain}
-use Rattle.pc_locks.specs.Keepers.{queues_of, AreEnds}
-use Rattle.pc_records.specs.Ends.{queues_in}
-use Rattle.pc_records.specs.Slots.{no_queues, slots_in, rows_of, AreKept, AreSound}
-use Rattle.pc_records.proofs.SlotRising.{rise_any}
-use Rattle.std.proofs.Common.{◌≡◌, ℕ, ◌++◌, map, ◌∙◌, sym, ap, subst}
-use Rattle.pc_records.proofs.SlotMoments.{kept_settled, sound_settled, pending_settled, rows_settled}
-use Rattle.pc_dirty.specs.declared.side.Side.{Side}
-use Rattle.pc_records.specs.SetLists.{open_keys}
+use Rattle.std.proofs.Common.{◌∙◌, ◌++◌, sym, ap, subst}
+use Rattle.std.specs.FinMap.{find, is_sorted}
+use Rattle.pc_model.specs.Database.{key_cmp}
 use Rattle.pc_slots.specs.Slots.{settled}
-use Rattle.pc_records.specs.Slots.{at_writes}
-use Rattle.pc_records.proofs.TableSlots.{rows_rise}
-use Rattle.pc_records.proofs.Entering.{keys_entered}
-use Rattle.pc_records.proofs.Among.{all_are_listed}
+use Rattle.pc_records.specs.Floor.{Floor, AreSound, rows_in, writes_in}
+use Rattle.pc_records.proofs.Moments.{settled_key, settled_writer, settled_again, settled_sound}
+use Rattle.pc_records.proofs.SpotWrites.{sound_writes, writes_gone, rows_settled, keys_opened}
 use Rattle.pc_records.proofs.records.Records.commit.Goals as goal
-use Rattle.pc_records.proofs.records.Records.commit.Goals.{After-settle_all}
 
-slots_now : (c : After-settle_all) → slots_in c.settle_all.new.sets.side c.settle_all.new.table.rows ≡ map (at_writes (settled c.self.inside.point) c.args.writes.now) (slots_in c.self.inside.sets.side c.self.inside.table.rows)
-slots_now c = ap (λ (s : Side). slots_in s c.settle_all.new.table.rows) c.settle_all.ensures.side ∙ c.settle_all.ensures.slots
+pub settle_all-requires-clause-whole : goal.settle_all-requires-clause-whole
+settle_all-requires-clause-whole c = c.self.invariant.0
 
 pub invariant_of-self : goal.invariant_of-self
-invariant_of-self c = (
-  subst (λ (ends : ℕ → Chain ℕ). AreKept (slots_in c.settle_all.new.sets.side c.settle_all.new.table.rows) (queues_of ends c.self.inside.locks)) (sym c.settle_all.ensures.ends) (kept_settled c.self.inside.point c.args.writes.now (slots_in c.self.inside.sets.side c.self.inside.table.rows) (slots_in c.settle_all.new.sets.side c.settle_all.new.table.rows) (queues_in c.self.inside.table.rows c.self.inside.locks) (slots_now c) c.self.invariant.0),
-  (subst (λ (ends : ℕ → Chain ℕ). AreEnds ends c.self.inside.locks) (sym c.settle_all.ensures.ends) c.self.invariant.1.0, subst (λ (ends : ℕ → Chain ℕ). AreSound c.self.inside.point (queues_of ends c.self.inside.locks) (slots_in c.settle_all.new.sets.side c.settle_all.new.table.rows)) (sym c.settle_all.ensures.ends) (sound_settled c.self.inside.point c.args.writes.now (slots_in c.self.inside.sets.side c.self.inside.table.rows) (slots_in c.settle_all.new.sets.side c.settle_all.new.table.rows) (queues_in c.self.inside.table.rows c.self.inside.locks) (slots_now c) c.self.invariant.0 c.self.invariant.1.1)),
-  c.settle_all.ensures.listed,
-)
+invariant_of-self c =
+    let p = c.self.inside.point in
+    (c.settle_all.ensures.whole, subst (λ (f : Floor). AreSound p f.spots) (sym c.settle_all.ensures.settled) (sound_writes (settled p) (settled_key p) (settled_writer p) (settled_again p) p (settled_sound p) c.args.writes.now c.self.inside.slots.spots c.self.invariant.1))
 
 pub returns-clause-rows : goal.returns-clause-rows
 returns-clause-rows c =
     rw (← c.self.view_is) (λ i. record {
-      capacity = c.settle_all.ensures.capacity i;
-      rows = (ap (λ (ends : ℕ → Chain ℕ). rows_of (queues_of ends c.self.inside.locks) (slots_in c.settle_all.new.sets.side c.settle_all.new.table.rows)) c.settle_all.ensures.ends ∙ rows_settled c.self.inside.point c.args.writes.now (slots_in c.self.inside.sets.side c.self.inside.table.rows) (slots_in c.settle_all.new.sets.side c.settle_all.new.table.rows) (queues_in c.self.inside.table.rows c.self.inside.locks) (slots_now c) c.self.invariant.0
-          (rw (← c.self.view_is) at c.requires.stand)) i;
+      capacity = (c.settle_all.ensures.settled i).capacity;
+      rows = (ap (λ (f : Floor). rows_in f.spots) c.settle_all.ensures.settled ∙ rows_settled c.self.inside.slots.spots c.self.invariant.0.rise c.self.inside.point c.args.writes.now (rw (← c.self.view_is) at c.requires.stand)) i;
     })
 
 pub returns-clause-pending : goal.returns-clause-pending
-returns-clause-pending c = rw (← c.self.view_is) (pending_settled c.self.inside.point c.args.writes.now (slots_in c.self.inside.sets.side c.self.inside.table.rows) (slots_in c.settle_all.new.sets.side c.settle_all.new.table.rows) (queues_in c.self.inside.table.rows c.self.inside.locks) (slots_now c) c.self.invariant.0)
+returns-clause-pending c =
+    let p = c.self.inside.point in
+    rw (← c.self.view_is) (λ q. ap (λ (f : Floor). find key_cmp q (writes_in f.spots)) c.settle_all.ensures.settled
+    ∙ writes_gone (settled p) (settled_key p) (settled_writer p) (settled_again p) c.args.writes.now c.self.inside.slots.spots c.self.invariant.0.rise (ap (λ (f : Floor). is_sorted key_cmp (rows_in f.spots)) (sym c.settle_all.ensures.settled) ∙ c.settle_all.ensures.whole.rise) q)
 
 pub returns-clause-rise : goal.returns-clause-rise
-returns-clause-rise c = rw (← c.self.view_is) (rise_any no_queues (queues_in c.self.inside.table.rows c.self.inside.locks) (slots_in c.self.inside.sets.side c.self.inside.table.rows) c.self.invariant.0.rise)
+returns-clause-rise c = rw (← c.self.view_is) c.self.invariant.0.rise
 
 pub returns-clause-opened : goal.returns-clause-opened
 returns-clause-opened c =
-    rw (← c.self.view_is) (c.settle_all.ensures.opened ∙ ap (λ ks. open_keys c.self.inside.table.rows c.self.inside.sets ++ ks) (keys_entered c.self.inside.sets.side (queues_in c.self.inside.table.rows c.self.inside.locks) c.self.inside.table.rows c.args.writes.now (rows_rise c.self.inside.sets.side c.self.inside.table.rows c.self.invariant.0.rise) (rw (← c.self.view_is) at c.requires.stand)))
+    rw (← c.self.view_is) (ap (λ (f : Floor). f.opened) c.settle_all.ensures.settled ∙ ap (λ ks. c.self.inside.slots.opened ++ ks) (keys_opened c.self.inside.slots.spots c.self.invariant.0.rise c.args.writes.now (rw (← c.self.view_is) at c.requires.stand)))
 
 pub returns-clause-shut : goal.returns-clause-shut
-returns-clause-shut c = rw (← c.self.view_is) c.settle_all.ensures.closed
+returns-clause-shut c = rw (← c.self.view_is) (ap (λ (f : Floor). f.closed) c.settle_all.ensures.settled)
 
 pub returns-clause-listed : goal.returns-clause-listed
-returns-clause-listed c = rw (← c.self.view_is) (all_are_listed c.self.inside.table.rows c.self.inside.sets (queues_in c.self.inside.table.rows c.self.inside.locks) c.self.invariant.0 c.self.invariant.2 c.self.inside.table.capacity c.self.inside.point)
+returns-clause-listed c = rw (← c.self.view_is) (record { open_set = c.self.invariant.0.listed.open_set; closed_set = c.self.invariant.0.listed.closed_set })

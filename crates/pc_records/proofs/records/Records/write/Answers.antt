@@ -1,30 +1,169 @@
-use Rattle.pc_locks.specs.Keepers.{lists_of}
-use Rattle.pc_records.specs.Ends.{queues_in}
-use Rattle.pc_records.specs.Slots.{slots_in}
-use Rattle.std.proofs.Common.{◌∙◌, ap}
+use Rattle.std.proofs.Common.{◌∙◌, ap, sym, subst, cond, Bool, refl}
+use Rattle.pc_types.specs.declared.Mode.TheVariants.{Exclusive}
+use Rattle.pc_types.specs.declared.Refusal.TheVariants.{Full, OutOfMemory}
 use Rattle.pc_records.specs.RowSteps.{is_waiting}
 use Rattle.pc_records.specs.Tables.{Table}
-use Rattle.pc_records.proofs.SlotWaiting.{waits_same}
-use Rattle.std.proofs.Common.{subst}
-use Rattle.pc_dirty.specs.declared.side.Side.{Side}
-use Rattle.pc_records.specs.Slots.{rows_of, AreKept, AreSound}
-use Rattle.pc_records.proofs.Listing.{kept_listed, kept_open, kept_closed}
-use Rattle.pc_records.proofs.Views.{seen_again, err_both}
+use Rattle.pc_records.specs.Floor.{Floor, AreSound, table_on, asked, has_spot}
+use Rattle.pc_records.proofs.SpotLaws.{found, has_same}
+use Rattle.pc_records.proofs.SpotAnswers.{waits_same, told_there, clear_there, told_new, clear_new, sound_answered, same_but, sound_put, rows_put, pending_put, same_but_new, sound_put_new, rows_put_new, pending_put_new, full, full_there, full_new, ran_out, refused_same, on_err}
 use Rattle.pc_records.proofs.records.Records.write.Goals as goal
 
-pub write-requires-clause-ready : goal.write-requires-clause-ready
-write-requires-clause-ready c =
-    waits_same (slots_in c.self.inside.sets.side c.self.inside.table.rows) (queues_in c.self.inside.table.rows c.self.inside.locks) (lists_of c.self.inside.locks) c.args.transaction c.self.invariant.1.0.settled.linked c.self.invariant.0
-    ∙ ap (λ (k : Table). is_waiting k.rows c.args.transaction) c.self.view_is ∙ c.requires.ready
+pub request-requires-clause-ready : goal.request-requires-clause-ready
+request-requires-clause-ready c =
+    waits_same c.args.transaction c.self.inside.slots.spots ∙ ap (λ (k : Table). is_waiting k.rows c.args.transaction) c.self.view_is ∙ c.requires.ready
+
+pub request_new-requires-clause-ready : goal.request_new-requires-clause-ready
+request_new-requires-clause-ready c =
+    waits_same c.args.transaction c.self.inside.slots.spots ∙ ap (λ (k : Table). is_waiting k.rows c.args.transaction) c.self.view_is ∙ c.requires.ready
+
+pub request_new-requires-clause-new : goal.request_new-requires-clause-new
+request_new-requires-clause-new c =
+    sym c.in-None.ensures.found
+
+pub put_granted-requires-clause-whole : goal.put_granted-requires-clause-whole
+put_granted-requires-clause-whole c =
+    c.request.ensures.whole
+
+pub put_granted-requires-clause-there : goal.put_granted-requires-clause-there
+put_granted-requires-clause-there c =
+    ap (λ (f : Floor). has_spot f.spots c.in-Some.id) c.in_ok-outcome-in-Some.ensures.asked ∙ has_same (asked c.args.transaction Exclusive c.in_ok-outcome-in-Some.outcome) (λ s. refl) c.in-Some.id c.in-Some.id c.self.inside.slots.spots ∙ c.in-Some.ensures.there
 
 pub invariant_of-self : goal.invariant_of-self
-invariant_of-self c = (subst (λ (s : Side). AreKept (slots_in s c.write.new.table.rows) (queues_in c.write.new.table.rows c.write.new.locks)) c.open_side-side.ensures c.write.ensures.kept, (c.write.ensures.ends, subst (λ (s : Side). AreSound c.self.inside.point (queues_in c.write.new.table.rows c.write.new.locks) (slots_in s c.write.new.table.rows)) c.open_side-side.ensures c.write.ensures.sound), kept_listed c.self.inside.table.rows c.write.new.table.rows c.self.inside.sets c.write.ensures.sets c.self.invariant.2)
+invariant_of-self c =
+    (c.request.ensures.whole, sound_answered c.self.inside.point c.args.transaction Exclusive c.self.inside.slots c.request.new.self c.args.key.now c.in-Some.id c.request.result c.request.ensures.asked c.request.ensures.same c.self.invariant.1)
 
-pub returns-clause-opened : goal.returns-clause-opened
-returns-clause-opened c = rw (← c.self.view_is) (kept_open c.self.inside.table.rows c.write.new.table.rows c.self.inside.sets c.write.ensures.sets c.self.invariant.2)
+pub invariant_of-self-in-Some : goal.invariant_of-self-in-Some
+invariant_of-self-in-Some c = (
+  c.put_granted.ensures.whole,
+  sound_put c.self.inside.point c.args.transaction c.args.class c.in_ok-copy-in-Some.copy c.args.value c.self.inside.slots c.request.new.self c.put_granted.new.slots c.args.key.now c.in-Some.id c.in_ok-outcome-in-Some.outcome c.self.invariant.0 c.self.invariant.1 (waits_same c.args.transaction c.self.inside.slots.spots ∙ ap (λ (k : Table). is_waiting k.rows c.args.transaction) c.self.view_is ∙ c.requires.ready)
+      (sym c.in-Some.ensures.found) c.in_ok-outcome-in-Some.ensures.told c.in_ok-copy-in-Some.ensures (rw (← c.self.view_is) at c.requires.outside) (rw (← c.self.view_is) at c.requires.again) c.in_ok-outcome-in-Some.ensures.asked c.put_granted.ensures.put,
+)
 
-pub returns-clause-shut : goal.returns-clause-shut
-returns-clause-shut c = rw (← c.self.view_is) (kept_closed c.self.inside.table.rows c.write.new.table.rows c.self.inside.sets c.write.ensures.sets c.self.invariant.2)
+pub invariant_of-self-in_err-id-in-None : goal.invariant_of-self-in_err-id-in-None
+invariant_of-self-in_err-id-in-None c =
+    (c.request_new.ensures.whole, subst (λ (f : Floor). AreSound c.self.inside.point f.spots) (sym c.in_err-id-in-None.ensures.same) c.self.invariant.1)
 
-pub returns-clause-err : goal.returns-clause-err
-returns-clause-err c = rw (← c.self.view_is) (err_both c.write.result (λ h p. seen_again c.self.inside.table c.write.new.table c.self.inside.sets (queues_in c.write.new.table.rows c.write.new.locks) c.self.inside.point c.open_side-side.result (λ s. rows_of (queues_in c.self.inside.table.rows c.self.inside.locks) (slots_in s c.self.inside.table.rows)) c.open_side-side.ensures c.write.ensures.sets c.self.invariant.2 c.write.ensures.capacity h p) c.write.ensures.err c.write.ensures.still)
+pub invariant_of-self-in-None : goal.invariant_of-self-in-None
+invariant_of-self-in-None c = (
+  c.put.ensures.whole,
+  sound_put_new c.self.inside.point c.args.transaction c.args.class c.args.value c.self.inside.slots c.request_new.new.slots c.put.new.self c.args.key.now c.in_ok-id-in-None.id (sym c.in-None.ensures.found) c.in_ok-id-in-None.ensures.made c.self.invariant.1 (waits_same c.args.transaction c.self.inside.slots.spots ∙ ap (λ (k : Table). is_waiting k.rows c.args.transaction) c.self.view_is ∙ c.requires.ready)
+      c.in_ok-id-in-None.ensures.asked c.put.ensures.put,
+)
+
+pub returns-in_ok-outcome-in-Some-clause-told : goal.returns-in_ok-outcome-in-Some-clause-told
+returns-in_ok-outcome-in-Some-clause-told c =
+    let f = found c.self.inside.slots c.args.key.now c.in-Some.id c.self.invariant.0 (sym c.in-Some.ensures.found) in
+    rw (← c.self.view_is) (told_there c.self.inside.slots c.self.invariant.0 c.args.key.now c.in-Some.id f.0 f.1 c.args.transaction Exclusive c.in_ok-outcome-in-Some.outcome c.in_ok-outcome-in-Some.ensures.told)
+
+pub returns-in_ok-outcome-in-Some-clause-rows : goal.returns-in_ok-outcome-in-Some-clause-rows
+returns-in_ok-outcome-in-Some-clause-rows c =
+    rw (← c.self.view_is) (λ i. record {
+      capacity = (same_but c.self.inside.point c.args.transaction c.args.class c.in_ok-copy-in-Some.copy c.args.value c.self.inside.slots c.request.new.self c.put_granted.new.slots c.args.key.now c.in-Some.id c.in_ok-outcome-in-Some.outcome c.self.invariant.0 c.self.invariant.1 (waits_same c.args.transaction c.self.inside.slots.spots ∙ ap (λ (k : Table). is_waiting k.rows c.args.transaction) c.self.view_is ∙ c.requires.ready)
+          (sym c.in-Some.ensures.found) c.in_ok-outcome-in-Some.ensures.told c.in_ok-copy-in-Some.ensures (rw (← c.self.view_is) at c.requires.outside) (rw (← c.self.view_is) at c.requires.again) c.in_ok-outcome-in-Some.ensures.asked c.put_granted.ensures.put i).capacity;
+      rows = rows_put c.self.inside.point c.args.transaction c.args.class c.in_ok-copy-in-Some.copy c.args.value c.self.inside.slots c.request.new.self c.put_granted.new.slots c.args.key.now c.in-Some.id c.in_ok-outcome-in-Some.outcome c.self.invariant.0 c.self.invariant.1 (waits_same c.args.transaction c.self.inside.slots.spots ∙ ap (λ (k : Table). is_waiting k.rows c.args.transaction) c.self.view_is ∙ c.requires.ready)
+          (sym c.in-Some.ensures.found) c.in_ok-outcome-in-Some.ensures.told c.in_ok-copy-in-Some.ensures (rw (← c.self.view_is) at c.requires.outside) (rw (← c.self.view_is) at c.requires.again) c.in_ok-outcome-in-Some.ensures.asked c.put_granted.ensures.put i;
+    })
+
+pub returns-in_ok-outcome-in-Some-clause-pending : goal.returns-in_ok-outcome-in-Some-clause-pending
+returns-in_ok-outcome-in-Some-clause-pending c =
+    rw (← c.self.view_is) (pending_put c.self.inside.point c.args.transaction c.args.class c.in_ok-copy-in-Some.copy c.args.value c.self.inside.slots c.request.new.self c.put_granted.new.slots c.args.key.now c.in-Some.id c.in_ok-outcome-in-Some.outcome c.self.invariant.0 c.self.invariant.1 (waits_same c.args.transaction c.self.inside.slots.spots ∙ ap (λ (k : Table). is_waiting k.rows c.args.transaction) c.self.view_is ∙ c.requires.ready)
+    (sym c.in-Some.ensures.found) c.in_ok-outcome-in-Some.ensures.told c.in_ok-copy-in-Some.ensures (rw (← c.self.view_is) at c.requires.outside) (rw (← c.self.view_is) at c.requires.again) c.in_ok-outcome-in-Some.ensures.asked c.put_granted.ensures.put c.put_granted.ensures.whole)
+
+pub returns-in_ok-outcome-in-Some-clause-clear : goal.returns-in_ok-outcome-in-Some-clause-clear
+returns-in_ok-outcome-in-Some-clause-clear c =
+    let f = found c.self.inside.slots c.args.key.now c.in-Some.id c.self.invariant.0 (sym c.in-Some.ensures.found) in
+    rw (← c.self.view_is) (clear_there c.self.inside.slots c.self.invariant.0 c.args.key.now c.in-Some.id f.0 f.1 c.self.inside.point c.args.transaction c.self.invariant.1 (waits_same c.args.transaction c.self.inside.slots.spots ∙ ap (λ (k : Table). is_waiting k.rows c.args.transaction) c.self.view_is ∙ c.requires.ready) Exclusive c.in_ok-outcome-in-Some.outcome c.in_ok-outcome-in-Some.ensures.told)
+
+pub returns-in_ok-outcome-in-Some-clause-opened : goal.returns-in_ok-outcome-in-Some-clause-opened
+returns-in_ok-outcome-in-Some-clause-opened c =
+    rw (← c.self.view_is) (ap (λ (f : Floor). f.opened) (same_but c.self.inside.point c.args.transaction c.args.class c.in_ok-copy-in-Some.copy c.args.value c.self.inside.slots c.request.new.self c.put_granted.new.slots c.args.key.now c.in-Some.id c.in_ok-outcome-in-Some.outcome c.self.invariant.0 c.self.invariant.1 (waits_same c.args.transaction c.self.inside.slots.spots ∙ ap (λ (k : Table). is_waiting k.rows c.args.transaction) c.self.view_is ∙ c.requires.ready)
+    (sym c.in-Some.ensures.found) c.in_ok-outcome-in-Some.ensures.told c.in_ok-copy-in-Some.ensures (rw (← c.self.view_is) at c.requires.outside) (rw (← c.self.view_is) at c.requires.again) c.in_ok-outcome-in-Some.ensures.asked c.put_granted.ensures.put))
+
+pub returns-in_ok-outcome-in-Some-clause-shut : goal.returns-in_ok-outcome-in-Some-clause-shut
+returns-in_ok-outcome-in-Some-clause-shut c =
+    rw (← c.self.view_is) (ap (λ (f : Floor). f.closed) (same_but c.self.inside.point c.args.transaction c.args.class c.in_ok-copy-in-Some.copy c.args.value c.self.inside.slots c.request.new.self c.put_granted.new.slots c.args.key.now c.in-Some.id c.in_ok-outcome-in-Some.outcome c.self.invariant.0 c.self.invariant.1 (waits_same c.args.transaction c.self.inside.slots.spots ∙ ap (λ (k : Table). is_waiting k.rows c.args.transaction) c.self.view_is ∙ c.requires.ready)
+    (sym c.in-Some.ensures.found) c.in_ok-outcome-in-Some.ensures.told c.in_ok-copy-in-Some.ensures (rw (← c.self.view_is) at c.requires.outside) (rw (← c.self.view_is) at c.requires.again) c.in_ok-outcome-in-Some.ensures.asked c.put_granted.ensures.put))
+
+pub returns-in_ok-outcome-in-Some-clause-room : goal.returns-in_ok-outcome-in-Some-clause-room
+returns-in_ok-outcome-in-Some-clause-room c =
+    rw (← c.self.view_is) (full_there c.self.inside.slots c.args.key.now c.in-Some.id (sym c.in-Some.ensures.found))
+
+pub returns-in_err-room-in-Some-clause-refusal : goal.returns-in_err-room-in-Some-clause-refusal
+returns-in_err-room-in-Some-clause-refusal c =
+    rw (← c.self.view_is) (refused_same c.from_residual.result OutOfMemory (cond (full c.self.inside.slots c.args.key.now) Full OutOfMemory) c.from_residual.ensures (ran_out c.self.inside.slots c.args.key.now (full_there c.self.inside.slots c.args.key.now c.in-Some.id (sym c.in-Some.ensures.found))))
+
+pub returns-in_err-copy-in-Some-clause-refusal : goal.returns-in_err-copy-in-Some-clause-refusal
+returns-in_err-copy-in-Some-clause-refusal c =
+    rw (← c.self.view_is) (refused_same c.from_residual-in_err-copy-in-Some.result OutOfMemory (cond (full c.self.inside.slots c.args.key.now) Full OutOfMemory) c.from_residual-in_err-copy-in-Some.ensures (ran_out c.self.inside.slots c.args.key.now (full_there c.self.inside.slots c.args.key.now c.in-Some.id (sym c.in-Some.ensures.found))))
+
+pub returns-in_err-outcome-in-Some-clause-refusal : goal.returns-in_err-outcome-in-Some-clause-refusal
+returns-in_err-outcome-in-Some-clause-refusal c =
+    rw (← c.self.view_is) (refused_same c.from_residual-in_err-outcome-in-Some.result OutOfMemory (cond (full c.self.inside.slots c.args.key.now) Full OutOfMemory) c.from_residual-in_err-outcome-in-Some.ensures (ran_out c.self.inside.slots c.args.key.now (full_there c.self.inside.slots c.args.key.now c.in-Some.id (sym c.in-Some.ensures.found))))
+
+pub returns-in_err-room-in-None-clause-refusal : goal.returns-in_err-room-in-None-clause-refusal
+returns-in_err-room-in-None-clause-refusal c =
+    rw (← c.self.view_is) (refused_same c.from_residual-in_err-room-in-None.result c.in_err-room-in-None.field-0.0 (cond (full c.self.inside.slots c.args.key.now) Full OutOfMemory) c.from_residual-in_err-room-in-None.ensures (c.in_err-room-in-None.ensures.refusal ∙ ap (λ (b : Bool). cond b Full OutOfMemory) (sym (full_new c.self.inside.slots c.args.key.now (sym c.in-None.ensures.found)))))
+
+pub returns-in_err-id-in-None-clause-refusal : goal.returns-in_err-id-in-None-clause-refusal
+returns-in_err-id-in-None-clause-refusal c =
+    rw (← c.self.view_is) (refused_same c.from_residual-in_err-id-in-None.result c.in_err-id-in-None.field-0.0 (cond (full c.self.inside.slots c.args.key.now) Full OutOfMemory) c.from_residual-in_err-id-in-None.ensures (c.in_err-id-in-None.ensures.refusal ∙ ap (λ (b : Bool). cond b Full OutOfMemory) (sym (full_new c.self.inside.slots c.args.key.now (sym c.in-None.ensures.found)))))
+
+pub returns-in_err-outcome-in-Some-clause-err : goal.returns-in_err-outcome-in-Some-clause-err
+returns-in_err-outcome-in-Some-clause-err c =
+    rw (← c.self.view_is) (on_err c.from_residual-in_err-outcome-in-Some.result (ap (table_on c.self.inside.point) c.in_err-outcome-in-Some.ensures.same))
+
+pub returns-in_err-outcome-in-Some-clause-opened : goal.returns-in_err-outcome-in-Some-clause-opened
+returns-in_err-outcome-in-Some-clause-opened c =
+    rw (← c.self.view_is) (ap (λ (f : Floor). f.opened) c.in_err-outcome-in-Some.ensures.same)
+
+pub returns-in_err-outcome-in-Some-clause-shut : goal.returns-in_err-outcome-in-Some-clause-shut
+returns-in_err-outcome-in-Some-clause-shut c =
+    rw (← c.self.view_is) (ap (λ (f : Floor). f.closed) c.in_err-outcome-in-Some.ensures.same)
+
+pub returns-in_err-id-in-None-clause-err : goal.returns-in_err-id-in-None-clause-err
+returns-in_err-id-in-None-clause-err c =
+    rw (← c.self.view_is) (on_err c.from_residual-in_err-id-in-None.result (ap (table_on c.self.inside.point) c.in_err-id-in-None.ensures.same))
+
+pub returns-in_err-id-in-None-clause-opened : goal.returns-in_err-id-in-None-clause-opened
+returns-in_err-id-in-None-clause-opened c =
+    rw (← c.self.view_is) (ap (λ (f : Floor). f.opened) c.in_err-id-in-None.ensures.same)
+
+pub returns-in_err-id-in-None-clause-shut : goal.returns-in_err-id-in-None-clause-shut
+returns-in_err-id-in-None-clause-shut c =
+    rw (← c.self.view_is) (ap (λ (f : Floor). f.closed) c.in_err-id-in-None.ensures.same)
+
+pub returns-in_ok-id-in-None-clause-told : goal.returns-in_ok-id-in-None-clause-told
+returns-in_ok-id-in-None-clause-told c =
+    rw (← c.self.view_is) (told_new c.self.inside.slots c.args.key.now (sym c.in-None.ensures.found) c.args.transaction Exclusive)
+
+pub returns-in_ok-id-in-None-clause-rows : goal.returns-in_ok-id-in-None-clause-rows
+returns-in_ok-id-in-None-clause-rows c =
+    rw (← c.self.view_is) (λ i. record {
+      capacity = (same_but_new c.self.inside.point c.args.transaction c.args.class c.args.value c.self.inside.slots c.request_new.new.slots c.put.new.self c.args.key.now c.in_ok-id-in-None.id (sym c.in-None.ensures.found) c.in_ok-id-in-None.ensures.made c.self.invariant.1 (waits_same c.args.transaction c.self.inside.slots.spots ∙ ap (λ (k : Table). is_waiting k.rows c.args.transaction) c.self.view_is ∙ c.requires.ready)
+          c.in_ok-id-in-None.ensures.asked c.put.ensures.put i).capacity;
+      rows = rows_put_new c.self.inside.point c.args.transaction c.args.class c.args.value c.self.inside.slots c.request_new.new.slots c.put.new.self c.args.key.now c.in_ok-id-in-None.id (sym c.in-None.ensures.found) c.in_ok-id-in-None.ensures.made c.self.invariant.1 (waits_same c.args.transaction c.self.inside.slots.spots ∙ ap (λ (k : Table). is_waiting k.rows c.args.transaction) c.self.view_is ∙ c.requires.ready)
+          c.in_ok-id-in-None.ensures.asked c.put.ensures.put i;
+    })
+
+pub returns-in_ok-id-in-None-clause-pending : goal.returns-in_ok-id-in-None-clause-pending
+returns-in_ok-id-in-None-clause-pending c =
+    rw (← c.self.view_is) (pending_put_new c.self.inside.point c.args.transaction c.args.class c.args.value c.self.inside.slots c.request_new.new.slots c.put.new.self c.args.key.now c.in_ok-id-in-None.id (sym c.in-None.ensures.found) c.in_ok-id-in-None.ensures.made c.self.invariant.1 (waits_same c.args.transaction c.self.inside.slots.spots ∙ ap (λ (k : Table). is_waiting k.rows c.args.transaction) c.self.view_is ∙ c.requires.ready)
+    c.in_ok-id-in-None.ensures.asked c.put.ensures.put c.put.ensures.whole)
+
+pub returns-in_ok-id-in-None-clause-clear : goal.returns-in_ok-id-in-None-clause-clear
+returns-in_ok-id-in-None-clause-clear c =
+    rw (← c.self.view_is) (λ granted. clear_new c.self.inside.slots c.args.key.now (sym c.in-None.ensures.found) c.self.invariant.0.rise c.self.inside.point c.args.transaction)
+
+pub returns-in_ok-id-in-None-clause-opened : goal.returns-in_ok-id-in-None-clause-opened
+returns-in_ok-id-in-None-clause-opened c =
+    rw (← c.self.view_is) (ap (λ (f : Floor). f.opened) (same_but_new c.self.inside.point c.args.transaction c.args.class c.args.value c.self.inside.slots c.request_new.new.slots c.put.new.self c.args.key.now c.in_ok-id-in-None.id (sym c.in-None.ensures.found) c.in_ok-id-in-None.ensures.made c.self.invariant.1 (waits_same c.args.transaction c.self.inside.slots.spots ∙ ap (λ (k : Table). is_waiting k.rows c.args.transaction) c.self.view_is ∙ c.requires.ready)
+    c.in_ok-id-in-None.ensures.asked c.put.ensures.put))
+
+pub returns-in_ok-id-in-None-clause-shut : goal.returns-in_ok-id-in-None-clause-shut
+returns-in_ok-id-in-None-clause-shut c =
+    rw (← c.self.view_is) (ap (λ (f : Floor). f.closed) (same_but_new c.self.inside.point c.args.transaction c.args.class c.args.value c.self.inside.slots c.request_new.new.slots c.put.new.self c.args.key.now c.in_ok-id-in-None.id (sym c.in-None.ensures.found) c.in_ok-id-in-None.ensures.made c.self.invariant.1 (waits_same c.args.transaction c.self.inside.slots.spots ∙ ap (λ (k : Table). is_waiting k.rows c.args.transaction) c.self.view_is ∙ c.requires.ready)
+    c.in_ok-id-in-None.ensures.asked c.put.ensures.put))
+
+pub returns-in_ok-id-in-None-clause-room : goal.returns-in_ok-id-in-None-clause-room
+returns-in_ok-id-in-None-clause-room c =
+    rw (← c.self.view_is) (full_new c.self.inside.slots c.args.key.now (sym c.in-None.ensures.found) ∙ c.in_ok-id-in-None.ensures.room)

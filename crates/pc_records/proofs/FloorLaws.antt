@@ -1,0 +1,328 @@
+-- The floor of slots, seen again where one of them or its queue has changed.
+use Rattle.std.proofs.Common.{◌≡◌, ◌≢◌, ℕ, ◌+◌, List, [], ◌∷◌, ◌++◌, map, Option, Some, None, is_some, option_map, refl, sym, ap, ◌∙◌, subst, cond, Bool, true, false, eqb, ◌||◌, ◌&&◌, ◌==◌, not, arith}
+use Rattle.std.proofs.lemmas.Bool.Decides.{nat_tests}
+use Rattle.std.specs.Prelude.{IfOk, IfSome, IfNone, OnErr, Result, Ok, Err}
+use Rattle.pc_types.specs.declared.Class.{Class}
+use Rattle.pc_types.specs.declared.Class.TheVariants.{Before, During, After}
+use Rattle.pc_chain.specs.declared.chain.Chain.{Chain}
+use Rattle.pc_types.specs.declared.Mode.{Mode}
+use Rattle.pc_types.specs.declared.Outcome.{Outcome}
+use Rattle.std.specs.FinMap.{find}
+use Rattle.pc_model.specs.Database.{key_cmp, same_bytes}
+use Rattle.pc_model.specs.Locks.{Queue, is_ungranted, outcome, queue_after, queue_without, request_in}
+use Rattle.pc_model.specs.Queues.{stands_in}
+use Rattle.pc_locks.specs.States.{Queues, queue_at, slots_of, first_of, SetsAt}
+use Rattle.pc_locks.specs.States as states
+use Rattle.pc_locks.specs.Keepers as keepers
+use Rattle.pc_dirty.specs.declared.side.Side.{Side}
+use Rattle.pc_dirty.specs.declared.dirty.Dirty.{Dirty}
+use Rattle.pc_dirty.specs.Sets.{other_side, AreSets}
+use Rattle.pc_table.specs.Rows.{Row as TableRow, Contents, in_slot, HasRow, slot_of as table_slot}
+use Rattle.pc_slots.specs.declared.cells.Cell.{Cell}
+use Rattle.pc_slots.specs.declared.versions.Stable.TheVariants.{Held}
+use Rattle.pc_slots.specs.declared.versions.Writer.{Writer}
+use Rattle.pc_slots.specs.Slots.{Slot, writer_in, put_slot, put_beside, saved, settled, closed_slot}
+use Rattle.pc_slots.specs.Words.{is_marked}
+use Rattle.pc_records.specs.Ends.{ends_in, queues_in, KeepSlots}
+use Rattle.pc_records.specs.RowSteps.{is_waiting}
+use Rattle.pc_records.specs.Slots.{slots_in, at_number, rows_of, numbers_of, times, AreKept}
+use Rattle.pc_records.specs.SetLists.{IsListed, KeepSets, HasPlace, next_in, open_slots, entering, open_keys, closed_keys}
+use Rattle.pc_records.specs.Floor.{Spot, spot_of, spots_of, floor_of, at_spot, with_spot, changed, queued, let_go, asked, queue_of, has_spot, stands_at, stands_anywhere, waits_anywhere, newly_opened, number_of}
+use Rattle.pc_records.proofs.Listing.{kept_open, kept_closed}
+use Rattle.pc_records.proofs.Moments.{settled_number}
+use Rattle.pc_records.proofs.SidesTurned.{slots_turned, turned_open, turned_closed}
+use Rattle.pc_records.proofs.SlotMoments.{kept_map}
+use Rattle.pc_records.proofs.SlotWaiting.{waits_same}
+use Rattle.pc_records.proofs.SlotReleasing.{slot_there, stands_first, stands_nowhere}
+
+-- a slot that has the number has a row
+pub spot_row : (side : Side) (queues : Queues) (id : ℕ) (rows : List (TableRow Cell)) → has_spot (spots_of queues (slots_in side rows)) id ≡ true → HasRow rows id
+spot_row side queues id [] has = absurd (cc (has))
+spot_row side queues id (row ∷ rows) has = by_test (eqb row.1.0 id) has (spot_row side queues id rows)
+  where
+    by_test : (b : Bool) → (b || has_spot (spots_of queues (slots_in side rows)) id) ≡ true → (has_spot (spots_of queues (slots_in side rows)) id ≡ true → HasRow rows id) → is_some (cond b (Some (row.0, row.1.1)) (in_slot rows id)) ≡ true
+    by_test true h rest = refl
+    by_test false h rest = rest h
+
+-- a write leaves the slot's number
+pub put_number : (point t : ℕ) (class : Class) (copy value : Option (List ℕ)) (slot : Slot) → (put_slot point t class copy value slot).number ≡ slot.number
+put_number point t class copy value slot = by_writer slot.writer
+  where
+    saves : (c : Class) → (saved point c copy slot).number ≡ slot.number
+    saves Before = refl
+    saves During = refl
+    saves After = elim (slot.is_in_closed_set && not (slot.mark == point)) as (λ b. (cond b (record slot { stable = Held copy; mark = point }) slot).number ≡ slot.number) [ true ↦ refl | false ↦ refl ]
+
+    by_writer : (w : Option Writer) → (put_beside w point t class copy value slot).number ≡ slot.number
+    by_writer None = saves class
+    by_writer (Some w) = refl
+
+-- and its key
+pub put_key : (point t : ℕ) (class : Class) (copy value : Option (List ℕ)) (slot : Slot) → (put_slot point t class copy value slot).key ≡ slot.key
+put_key point t class copy value slot = by_writer slot.writer
+  where
+    saves : (c : Class) → (saved point c copy slot).key ≡ slot.key
+    saves Before = refl
+    saves During = refl
+    saves After = elim (slot.is_in_closed_set && not (slot.mark == point)) as (λ b. (cond b (record slot { stable = Held copy; mark = point }) slot).key ≡ slot.key) [ true ↦ refl | false ↦ refl ]
+
+    by_writer : (w : Option Writer) → (put_beside w point t class copy value slot).key ≡ slot.key
+    by_writer None = saves class
+    by_writer (Some w) = refl
+
+-- the spots where the slot of a number has changed, and kept its number
+pub spots_changed : (f : Slot → Slot) (queues : Queues) (id : ℕ) → ((s : Slot) → (f s).number ≡ s.number) → (slots : List Slot) → spots_of queues (map (at_number f id) slots) ≡ map (at_spot (changed f) id) (spots_of queues slots)
+spots_changed f queues id keeps [] = refl
+spots_changed f queues id keeps (s ∷ slots) =
+    ap (λ (x : Spot). x ∷ spots_of queues (map (at_number f id) slots)) (one (eqb s.number id))
+    ∙ ap (λ (xs : List Spot). at_spot (changed f) id (spot_of queues s) ∷ xs) (spots_changed f queues id keeps slots)
+  where
+    one : (b : Bool) → spot_of queues (cond b (f s) s) ≡ cond b (changed f (spot_of queues s)) (spot_of queues s)
+    one true = ap (λ n. record { slot = f s; queue = queue_at queues n }) (keeps s)
+    one false = refl
+
+-- the spots where the queue of a number has changed
+pub spots_queued : (g : Queue → Queue) (id : ℕ) (queues new : Queues) → SetsAt queues new id (g (queue_at queues id)) → (slots : List Slot) → spots_of new slots ≡ map (at_spot (queued g) id) (spots_of queues slots)
+spots_queued g id queues new sets [] = refl
+spots_queued g id queues new sets (s ∷ slots) =
+    ap (λ (x : Spot). x ∷ spots_of new slots) (one (eqb s.number id) refl) ∙ ap (λ (xs : List Spot). at_spot (queued g) id (spot_of queues s) ∷ xs) (spots_queued g id queues new sets slots)
+  where
+    one : (b : Bool) → eqb s.number id ≡ b → spot_of new s ≡ cond b (queued g (spot_of queues s)) (spot_of queues s)
+    one true is =
+        let same : s.number ≡ id = grind (arith, nat_tests, is) in
+        ap (λ (q : Queue). record { slot = s; queue = q }) (ap (queue_at new) same ∙ sets.this ∙ ap (λ n. g (queue_at queues n)) (sym same))
+    one false is =
+        let other : s.number ≢ id = λ same. grind (arith, nat_tests, is, same) in
+        ap (λ (q : Queue). record { slot = s; queue = q }) (sets.others s.number other)
+
+-- the spots where each queue is what it was
+spots_alike : (queues new : Queues) → ((slot : ℕ) → queue_at new slot ≡ queue_at queues slot) → (slots : List Slot) → spots_of new slots ≡ spots_of queues slots
+spots_alike queues new alike [] = refl
+spots_alike queues new alike (s ∷ slots) = ap (λ (q : Queue). record { slot = s; queue = q } ∷ spots_of new slots) (alike s.number) ∙ ap (λ (xs : List Spot). spot_of queues s ∷ xs) (spots_alike queues new alike slots)
+
+-- the queue at a slot that is there
+queue_there : (queues : Queues) (id : ℕ) (slots : List Slot) → has_spot (spots_of queues slots) id ≡ true → queue_of (spots_of queues slots) id ≡ queue_at queues id
+queue_there queues id [] has = absurd (cc (has))
+queue_there queues id (s ∷ slots) has = by_test (eqb s.number id) refl has (queue_there queues id slots)
+  where
+    by_test : (b : Bool) → eqb s.number id ≡ b → (b || has_spot (spots_of queues slots) id) ≡ true → (has_spot (spots_of queues slots) id ≡ true → queue_of (spots_of queues slots) id ≡ queue_at queues id) → cond b (queue_at queues s.number) (queue_of (spots_of queues slots) id) ≡ queue_at queues id
+    by_test true is h rest =
+        let same : s.number ≡ id = grind (arith, nat_tests, is) in
+        ap (queue_at queues) same
+    by_test false is h rest = rest h
+
+-- a transaction waits somewhere as the rows have it
+pub waits_alike : (t : ℕ) (queues : Queues) (slots : List Slot) → waits_anywhere (spots_of queues slots) t ≡ is_waiting (rows_of queues slots) t
+waits_alike t queues [] = refl
+waits_alike t queues (s ∷ slots) = ap (λ b. is_ungranted (request_in (queue_at queues s.number) t) || b) (waits_alike t queues slots)
+
+-- and as the locks do
+pub waits_there : (side : Side) (rows : List (TableRow Cell)) (locks : keepers.Kept) (t : ℕ) → AreKept (slots_in side rows) (queues_in rows locks) → keepers.AreEnds (ends_in rows) locks → waits_anywhere (spots_of (queues_in rows locks) (slots_in side rows)) t ≡ false
+    → states.is_waiting (keepers.state_of (ends_in rows) locks) t ≡ false
+waits_there side rows locks t kept ends none = waits_same (slots_in side rows) (queues_in rows locks) (keepers.lists_of locks) t ends.settled.linked kept ∙ sym (waits_alike t (queues_in rows locks) (slots_in side rows)) ∙ none
+
+module _ (f : Slot → Slot) (id : ℕ) (table new : Contents Cell) (locks : keepers.Kept) (sets : Dirty) (side : Side) (is : side ≡ sets.side) (keeps : (s : Slot) → (f s).number ≡ s.number) where
+  -- the floor where one slot has changed
+  pub floor_changed : slots_in side new.rows ≡ map (at_number f id) (slots_in side table.rows) → new.capacity ≡ table.capacity → ends_in new.rows ≡ ends_in table.rows → KeepSets table.rows new.rows → IsListed table.rows sets
+      → floor_of new.capacity (queues_in new.rows locks) (slots_in sets.side new.rows) (open_keys new.rows sets) (closed_keys new.rows sets)
+      ≡ with_spot (changed f) id (floor_of table.capacity (queues_in table.rows locks) (slots_in sets.side table.rows) (open_keys table.rows sets) (closed_keys table.rows sets))
+  floor_changed slots capacity ends keep listed =
+      let here : slots_in sets.side new.rows ≡ map (at_number f id) (slots_in sets.side table.rows) = subst (λ (s : Side). slots_in s new.rows ≡ map (at_number f id) (slots_in s table.rows)) is slots in
+      let spots : spots_of (queues_in new.rows locks) (slots_in sets.side new.rows) ≡ map (at_spot (changed f) id) (spots_of (queues_in table.rows locks) (slots_in sets.side table.rows)) =
+      ap (λ (e : ℕ → Chain ℕ). spots_of (keepers.queues_of e locks) (slots_in sets.side new.rows)) ends ∙ ap (spots_of (queues_in table.rows locks)) here ∙ spots_changed f (queues_in table.rows locks) id keeps (slots_in sets.side table.rows) in
+      λ i. record {
+        capacity = capacity i;
+        spots = spots i;
+        opened = (kept_open table.rows new.rows sets keep listed) i;
+        closed = (kept_closed table.rows new.rows sets keep listed) i;
+      }
+
+-- a slot that its commit puts into the open set, as the sets have it
+pub opens_there : (side : Side) (queues : Queues) (id : ℕ) (rows : List (TableRow Cell)) → entering side (in_slot rows id) ≡ newly_opened (spots_of queues (slots_in side rows)) id
+opens_there side queues id [] = refl
+opens_there side queues id (row ∷ rows) = elim (eqb row.1.0 id) as (λ b. entering side (cond b (Some (row.0, row.1.1)) (in_slot rows id)) ≡ cond b (cond (is_some (writer_in row.1.1) && not (is_marked side row.1.1)) (row.0 ∷ []) []) (newly_opened (spots_of queues (slots_in side rows)) id)) [ true ↦ refl | false ↦ opens_there side queues id rows ]
+
+-- the floor where the write of one slot is committed
+pub floor_settled : (point id : ℕ) (table new : Contents Cell) (locks : keepers.Kept) (sets after : Dirty) → slots_in sets.side new.rows ≡ map (at_number (settled point) id) (slots_in sets.side table.rows) → new.capacity ≡ table.capacity → ends_in new.rows ≡ ends_in table.rows → after.side ≡ sets.side
+    → open_keys new.rows after ≡ open_keys table.rows sets ++ entering sets.side (in_slot table.rows id) → closed_keys new.rows after ≡ closed_keys table.rows sets
+    → floor_of new.capacity (queues_in new.rows locks) (slots_in after.side new.rows) (open_keys new.rows after) (closed_keys new.rows after)
+    ≡ record (with_spot (changed (settled point)) id (floor_of table.capacity (queues_in table.rows locks) (slots_in sets.side table.rows) (open_keys table.rows sets) (closed_keys table.rows sets))) { opened = open_keys table.rows sets ++ newly_opened (spots_of (queues_in table.rows locks) (slots_in sets.side table.rows)) id }
+floor_settled point id table new locks sets after slots capacity ends side opened closed =
+    let spots : spots_of (queues_in new.rows locks) (slots_in after.side new.rows) ≡ map (at_spot (changed (settled point)) id) (spots_of (queues_in table.rows locks) (slots_in sets.side table.rows)) =
+    ap (λ (e : ℕ → Chain ℕ). spots_of (keepers.queues_of e locks) (slots_in after.side new.rows)) ends ∙ ap (λ (s : Side). spots_of (queues_in table.rows locks) (slots_in s new.rows)) side ∙ ap (spots_of (queues_in table.rows locks)) slots ∙ spots_changed (settled point) (queues_in table.rows locks) id (settled_number point) (slots_in sets.side table.rows) in
+    λ i. record {
+      capacity = capacity i;
+      spots = spots i;
+      opened = (opened ∙ ap (λ (keys : List (List ℕ)). open_keys table.rows sets ++ keys) (opens_there sets.side (queues_in table.rows locks) id table.rows)) i;
+      closed = closed i;
+    }
+
+-- the number of a key's slot, as the table has it
+pub number_there : (side : Side) (queues : Queues) (key : List ℕ) (rows : List (TableRow Cell)) → table_slot rows key ≡ number_of (spots_of queues (slots_in side rows)) key
+number_there side queues key [] = refl
+number_there side queues key (row ∷ rows) = elim (same_bytes key row.0) as (λ b. option_map (λ (place : ℕ × Cell). place.0) (cond b (Some row.1) (find key_cmp key rows)) ≡ cond b (Some row.1.0) (number_of (spots_of queues (slots_in side rows)) key)) [ true ↦ refl | false ↦ number_there side queues key rows ]
+
+-- a row has its slot
+pub row_spot : (side : Side) (queues : Queues) (id : ℕ) (rows : List (TableRow Cell)) → HasRow rows id → has_spot (spots_of queues (slots_in side rows)) id ≡ true
+row_spot side queues id [] has = absurd (cc (has))
+row_spot side queues id (row ∷ rows) has = by_test (eqb row.1.0 id) has (row_spot side queues id rows)
+  where
+    by_test : (b : Bool) → is_some (cond b (Some (row.0, row.1.1)) (in_slot rows id)) ≡ true → (HasRow rows id → has_spot (spots_of queues (slots_in side rows)) id ≡ true) → (b || has_spot (spots_of queues (slots_in side rows)) id) ≡ true
+    by_test true h rest = refl
+    by_test false h rest = rest h
+
+pub found_spot : (side : Side) (queues : Queues) (rows : List (TableRow Cell)) (r : Option ℕ) → IfSome r (HasRow rows) → IfSome r (λ id. has_spot (spots_of queues (slots_in side rows)) id ≡ true)
+found_spot side queues rows (Some id) has = row_spot side queues id rows has
+found_spot side queues rows None has = tt
+
+-- the spots where every slot was closed
+spots_closed : (queues : Queues) (slots : List Slot) → spots_of queues (map closed_slot slots) ≡ map (changed closed_slot) (spots_of queues slots)
+spots_closed queues [] = refl
+spots_closed queues (s ∷ slots) = ap (λ (xs : List Spot). changed closed_slot (spot_of queues s) ∷ xs) (spots_closed queues slots)
+
+-- the open set was closed
+module _ (rows : List (TableRow Cell)) (locks : keepers.Kept) (sets new : Dirty) (kept : AreKept (slots_in sets.side rows) (queues_in rows locks)) (listed : IsListed rows sets) (none : closed_keys rows sets ≡ []) (side : new.side ≡ other_side sets.side)
+    (turned : AreSets (HasPlace rows) (next_in rows) new [] (open_slots rows sets)) where
+  turned_slots : slots_in new.side rows ≡ map closed_slot (slots_in sets.side rows)
+  turned_slots = ap (λ (s : Side). slots_in s rows) side ∙ slots_turned rows sets listed none (queues_in rows locks) kept
+
+  pub kept_turned : AreKept (slots_in new.side rows) (queues_in rows locks)
+  kept_turned = kept_map closed_slot (slots_in sets.side rows) (slots_in new.side rows) (queues_in rows locks) turned_slots (λ s. refl) (λ s. refl) kept
+
+  pub floor_closed : (capacity : ℕ) → floor_of capacity (queues_in rows locks) (slots_in new.side rows) (open_keys rows new) (closed_keys rows new)
+      ≡ record (floor_of capacity (queues_in rows locks) (slots_in sets.side rows) (open_keys rows sets) (closed_keys rows sets)) { spots = map (changed closed_slot) (spots_of (queues_in rows locks) (slots_in sets.side rows)); opened = []; closed = open_keys rows sets }
+  floor_closed capacity = λ i. record {
+    capacity = capacity;
+    spots = (ap (spots_of (queues_in rows locks)) turned_slots ∙ spots_closed (queues_in rows locks) (slots_in sets.side rows)) i;
+    opened = turned_open rows sets listed none new side turned i;
+    closed = turned_closed rows sets listed none new side turned i;
+  }
+
+-- the floor where one queue has changed
+floor_queued : (g : Queue → Queue) (id : ℕ) (table new : Contents Cell) (locks later : keepers.Kept) (sets : Dirty) → KeepSlots table new → SetsAt (queues_in table.rows locks) (queues_in new.rows later) id (g (queue_at (queues_in table.rows locks) id)) → IsListed table.rows sets
+    → floor_of new.capacity (queues_in new.rows later) (slots_in sets.side new.rows) (open_keys new.rows sets) (closed_keys new.rows sets)
+    ≡ with_spot (queued g) id (floor_of table.capacity (queues_in table.rows locks) (slots_in sets.side table.rows) (open_keys table.rows sets) (closed_keys table.rows sets))
+floor_queued g id table new locks later sets keep queues listed =
+    let spots : spots_of (queues_in new.rows later) (slots_in sets.side new.rows) ≡ map (at_spot (queued g) id) (spots_of (queues_in table.rows locks) (slots_in sets.side table.rows)) =
+    ap (spots_of (queues_in new.rows later)) (keep.slots sets.side) ∙ spots_queued g id (queues_in table.rows locks) (queues_in new.rows later) queues (slots_in sets.side table.rows) in
+    λ i. record {
+      capacity = keep.capacity i;
+      spots = spots i;
+      opened = (kept_open table.rows new.rows sets keep.sets listed) i;
+      closed = (kept_closed table.rows new.rows sets keep.sets listed) i;
+    }
+
+-- what slots and queues keep, where one slot has changed
+pub kept_changed : (f : Slot → Slot) (id : ℕ) (table new : Contents Cell) (locks : keepers.Kept) (side here : Side) → side ≡ here → ((s : Slot) → (f s).number ≡ s.number) → ((s : Slot) → (f s).key ≡ s.key) → slots_in side new.rows ≡ map (at_number f id) (slots_in side table.rows) → ends_in new.rows ≡ ends_in table.rows
+    → AreKept (slots_in here table.rows) (queues_in table.rows locks) → AreKept (slots_in here new.rows) (queues_in new.rows locks)
+kept_changed f id table new locks side here is numbers keys slots ends kept =
+    subst (λ (e : ℕ → Chain ℕ). AreKept (slots_in here new.rows) (keepers.queues_of e locks)) (sym ends)
+    (kept_map (at_number f id) (slots_in here table.rows) (slots_in here new.rows) (queues_in table.rows locks) (subst (λ (s : Side). slots_in s new.rows ≡ map (at_number f id) (slots_in s table.rows)) is slots)
+    (λ s. elim (eqb s.number id) as (λ b. (cond b (f s) s).key ≡ s.key) [ true ↦ keys s | false ↦ refl ]) (λ s. elim (eqb s.number id) as (λ b. (cond b (f s) s).number ≡ s.number) [ true ↦ numbers s | false ↦ refl ]) kept)
+
+-- and where the queue of a slot that is there has changed
+kept_queue : (id : ℕ) (q : Queue) (slots : List Slot) (queues new : Queues) → (times id (numbers_of slots) ≡ 0 → q ≡ []) → SetsAt queues new id q → AreKept slots queues → AreKept slots new
+kept_queue id q slots queues new empty sets kept = record { rise = kept.rise; once = kept.once; bare = λ n none. by_test n (eqb n id) refl none (kept.bare n none) }
+  where
+    by_test : (n : ℕ) (b : Bool) → eqb n id ≡ b → times n (numbers_of slots) ≡ 0 → queue_at queues n ≡ [] → queue_at new n ≡ []
+    by_test n true is none old =
+        let same : n ≡ id = grind (arith, nat_tests, is) in
+        ap (queue_at new) same ∙ sets.this ∙ empty (ap (λ m. times m (numbers_of slots)) (sym same) ∙ none)
+    by_test n false is none old =
+        let other : n ≢ id = λ same. grind (arith, nat_tests, is, same) in
+        sets.others n other ∙ old
+
+-- a slot that is there has its number
+has_times : (queues : Queues) (id : ℕ) (slots : List Slot) → has_spot (spots_of queues slots) id ≡ true → times id (numbers_of slots) ≡ 0 → ⊥
+has_times queues id [] has none = absurd (cc (has))
+has_times queues id (s ∷ slots) has none = by_test (eqb s.number id) refl has (has_times queues id slots)
+  where
+    by_test : (b : Bool) → eqb s.number id ≡ b → (b || has_spot (spots_of queues slots) id) ≡ true → (has_spot (spots_of queues slots) id ≡ true → times id (numbers_of slots) ≡ 0 → ⊥) → ⊥
+    by_test true is h rest =
+        let more : times id (numbers_of slots) + 1 ≡ 0 = sym (ap (λ b. cond b (times id (numbers_of slots) + 1) (times id (numbers_of slots))) is) ∙ none in
+        absurd (omega (arith, more))
+    by_test false is h rest = rest h (sym (ap (λ b. cond b (times id (numbers_of slots) + 1) (times id (numbers_of slots))) is) ∙ none)
+
+-- a transaction stands at the spot of a slot in whose queue it stands
+stands_spot : (t id : ℕ) (queues : Queues) (slots : List Slot) → stands_in (queue_at queues id) t ≡ true → (times id (numbers_of slots) ≡ 0 → ⊥) → stands_at (spots_of queues slots) id t ≡ true
+stands_spot t id queues [] stands some = absurd (some refl)
+stands_spot t id queues (s ∷ slots) stands some = by_test (eqb s.number id) refl (stands_spot t id queues slots stands)
+  where
+    by_test : (b : Bool) → eqb s.number id ≡ b → ((times id (numbers_of slots) ≡ 0 → ⊥) → stands_at (spots_of queues slots) id t ≡ true) → ((b && stands_in (queue_at queues s.number) t) || stands_at (spots_of queues slots) id t) ≡ true
+    by_test true is rest =
+        let same : s.number ≡ id = grind (arith, nat_tests, is) in
+        ap (λ b. b || stands_at (spots_of queues slots) id t) (ap (λ n. stands_in (queue_at queues n) t) same ∙ stands)
+    by_test false is rest = rest (λ none. some (ap (λ b. cond b (times id (numbers_of slots) + 1) (times id (numbers_of slots))) is ∙ none))
+
+-- and at none where it stands in no queue
+stands_at_none : (t : ℕ) (queues : Queues) (slots : List Slot) → ((n : ℕ) → stands_in (queue_at queues n) t ≡ false) → stands_anywhere (spots_of queues slots) t ≡ false
+stands_at_none t queues [] none = refl
+stands_at_none t queues (s ∷ slots) none = ap (λ b. b || stands_anywhere (spots_of queues slots) t) (none s.number) ∙ stands_at_none t queues slots none
+
+module _ (t : ℕ) (table new : Contents Cell) (locks later : keepers.Kept) (sets : Dirty) (kept : AreKept (slots_in sets.side table.rows) (queues_in table.rows locks)) (ends : keepers.AreEnds (ends_in table.rows) locks) (listed : IsListed table.rows sets) (keep : KeepSlots table new) where
+  abbrev Gone : Option ℕ → Type 0
+  Gone r = IfSome r (λ id. SetsAt (queues_in table.rows locks) (queues_in new.rows later) id (queue_without (queue_at (queues_in table.rows locks) id) t))
+
+  abbrev Same : Option ℕ → Type 0
+  Same r = IfNone r ((later ≡ locks) × (new ≡ table))
+
+  pub kept_released : (r : Option ℕ) → Gone r → Same r → AreKept (slots_in sets.side new.rows) (queues_in new.rows later)
+  kept_released (Some id) gone same = subst (λ (ss : List Slot). AreKept ss (queues_in new.rows later)) (sym (keep.slots sets.side)) (kept_queue id (queue_without (queue_at (queues_in table.rows locks) id) t) (slots_in sets.side table.rows) (queues_in table.rows locks) (queues_in new.rows later) (λ none. ap (λ q. queue_without q t) (kept.bare id none)) gone kept)
+  kept_released None gone same = subst (λ (p : Contents Cell × keepers.Kept). AreKept (slots_in sets.side p.0.rows) (queues_in p.0.rows p.1)) (λ i. (sym same.1 i, sym same.0 i)) kept
+
+  pub released : (r : Option ℕ) → r ≡ first_of (slots_of (keepers.lists_of locks) t) → Gone r
+      → IfSome r (λ id. (stands_at (spots_of (queues_in table.rows locks) (slots_in sets.side table.rows)) id t ≡ true) × (floor_of new.capacity (queues_in new.rows later) (slots_in sets.side new.rows) (open_keys new.rows sets) (closed_keys new.rows sets)
+      ≡ with_spot (let_go t) id (floor_of table.capacity (queues_in table.rows locks) (slots_in sets.side table.rows) (open_keys table.rows sets) (closed_keys table.rows sets))))
+  released None first gone = tt
+  released (Some id) first gone =
+      let stands = stands_first t id (queues_in table.rows locks) (keepers.lists_of locks) ends.settled.linked first in
+      (stands_spot t id (queues_in table.rows locks) (slots_in sets.side table.rows) stands (slot_there t id (slots_in sets.side table.rows) (queues_in table.rows locks) kept stands), floor_queued (λ q. queue_without q t) id table new locks later sets keep gone listed)
+
+  pub none_released_there : (r : Option ℕ) → r ≡ first_of (slots_of (keepers.lists_of locks) t) → Same r
+      → IfNone r ((floor_of new.capacity (queues_in new.rows later) (slots_in sets.side new.rows) (open_keys new.rows sets) (closed_keys new.rows sets)
+      ≡ floor_of table.capacity (queues_in table.rows locks) (slots_in sets.side table.rows) (open_keys table.rows sets) (closed_keys table.rows sets)) × (stands_anywhere (spots_of (queues_in table.rows locks) (slots_in sets.side table.rows)) t ≡ false))
+  none_released_there (Some id) first same = tt
+  none_released_there None first same = (
+    λ i. floor_of (same.1 i).capacity (queues_in (same.1 i).rows (same.0 i)) (slots_in sets.side (same.1 i).rows) (open_keys (same.1 i).rows sets) (closed_keys (same.1 i).rows sets),
+    stands_at_none t (queues_in table.rows locks) (slots_in sets.side table.rows) (stands_nowhere t (queues_in table.rows locks) (keepers.lists_of locks) ends.settled.linked first),
+  )
+
+module _ (t id : ℕ) (mode : Mode) (table new : Contents Cell) (locks later : keepers.Kept) (sets : Dirty) (kept : AreKept (slots_in sets.side table.rows) (queues_in table.rows locks)) (listed : IsListed table.rows sets) (keep : KeepSlots table new) (there : has_spot (spots_of (queues_in table.rows locks) (slots_in sets.side table.rows)) id ≡ true) where
+  abbrev Told : Outcome → Type 0
+  Told answer = answer ≡ outcome (queue_at (queues_in table.rows locks) id) t mode
+
+  abbrev Asks : Outcome → Type 0
+  Asks answer = SetsAt (queues_in table.rows locks) (queues_in new.rows later) id (queue_after (queue_at (queues_in table.rows locks) id) t mode answer)
+
+  abbrev Stays : {E : Type 0} → Result Outcome E → Type 0
+  Stays r = OnErr r (states.AreAlike (keepers.state_of (ends_in new.rows) later) (keepers.state_of (ends_in table.rows) locks))
+
+  pub asked_told : {E : Type 0} (r : Result Outcome E) → IfOk r Told → IfOk r (λ answer. answer ≡ outcome (queue_of (spots_of (queues_in table.rows locks) (slots_in sets.side table.rows)) id) t mode)
+  asked_told (Ok answer) told = told ∙ ap (λ q. outcome q t mode) (sym (queue_there (queues_in table.rows locks) id (slots_in sets.side table.rows) there))
+  asked_told (Err e) told = tt
+
+  pub asked_floor : {E : Type 0} (r : Result Outcome E) → IfOk r Asks → IfOk r (λ answer. floor_of new.capacity (queues_in new.rows later) (slots_in sets.side new.rows) (open_keys new.rows sets) (closed_keys new.rows sets)
+      ≡ with_spot (asked t mode answer) id (floor_of table.capacity (queues_in table.rows locks) (slots_in sets.side table.rows) (open_keys table.rows sets) (closed_keys table.rows sets)))
+  asked_floor (Ok answer) asks = floor_queued (λ q. queue_after q t mode answer) id table new locks later sets keep asks listed
+  asked_floor (Err e) asks = tt
+
+  pub unasked_floor : {E : Type 0} (r : Result Outcome E) → Stays r → OnErr r (floor_of new.capacity (queues_in new.rows later) (slots_in sets.side new.rows) (open_keys new.rows sets) (closed_keys new.rows sets)
+      ≡ floor_of table.capacity (queues_in table.rows locks) (slots_in sets.side table.rows) (open_keys table.rows sets) (closed_keys table.rows sets))
+  unasked_floor (Ok answer) stays = tt
+  unasked_floor (Err e) stays =
+      let spots : spots_of (queues_in new.rows later) (slots_in sets.side new.rows) ≡ spots_of (queues_in table.rows locks) (slots_in sets.side table.rows) =
+      ap (spots_of (queues_in new.rows later)) (keep.slots sets.side) ∙ spots_alike (queues_in table.rows locks) (queues_in new.rows later) stays.queues (slots_in sets.side table.rows) in
+      λ i. record {
+        capacity = keep.capacity i;
+        spots = spots i;
+        opened = (kept_open table.rows new.rows sets keep.sets listed) i;
+        closed = (kept_closed table.rows new.rows sets keep.sets listed) i;
+      }
+
+  pub asked_kept : {E : Type 0} (r : Result Outcome E) → IfOk r Asks → Stays r → AreKept (slots_in sets.side new.rows) (queues_in new.rows later)
+  asked_kept (Ok answer) asks stays =
+      subst (λ (ss : List Slot). AreKept ss (queues_in new.rows later)) (sym (keep.slots sets.side))
+      (kept_queue id (queue_after (queue_at (queues_in table.rows locks) id) t mode answer) (slots_in sets.side table.rows) (queues_in table.rows locks) (queues_in new.rows later) (λ none. absurd (has_times (queues_in table.rows locks) id (slots_in sets.side table.rows) there none)) asks kept)
+  asked_kept (Err e) asks stays =
+      subst (λ (ss : List Slot). AreKept ss (queues_in new.rows later)) (sym (keep.slots sets.side))
+      (record { rise = kept.rise; once = kept.once; bare = λ n none. stays.queues n ∙ kept.bare n none })

@@ -1,0 +1,230 @@
+-- Spots once writes are committed or undone, one after the other.
+use Rattle.std.proofs.Common.{◌≡◌, ℕ, zero, suc, ◌+◌, ◌<◌, ◌≤◌, List, [], ◌∷◌, ◌++◌, append_assoc, append-nil, length, drop, get_or, map, Option, Some, None, is_some, option_map, refl, sym, ap, ◌∙◌, subst, cond, Bool, true, false, eqb, ◌&&◌, not}
+use Rattle.std.proofs.lemmas.List.{drop_all}
+use Rattle.std.specs.FinMap.{find}
+use Rattle.pc_types.specs.declared.Write.{Write}
+use Rattle.pc_model.specs.Database.{key_cmp, same_bytes, written}
+use Rattle.pc_model.specs.DistinctWrites.{AreDistinct}
+use Rattle.pc_model.specs.Locks.{Queue}
+use Rattle.pc_model.proofs.JoinLaws.{one_key}
+use Rattle.pc_model.proofs.PlaceLaws.{rest_at}
+use Rattle.pc_model.proofs.RisingLaws.{Rise}
+use Rattle.pc_slots.specs.declared.versions.Writer.{Writer}
+use Rattle.pc_slots.specs.Slots.{Slot, pending_in, write_of, settled, undone, IsSound}
+use Rattle.pc_records.specs.Rows.{Row, record_of, is_in_open_set}
+use Rattle.pc_records.specs.RowSteps.{written_row, given}
+use Rattle.pc_records.specs.NewKeys.{with_new, new_keys}
+use Rattle.pc_records.specs.Tables.{value_of}
+use Rattle.pc_records.specs.Floor.{Spot, Floor, IsWhole, Each, AreSound, row_in, rows_in, writes_in, changed, at_key, at_writes, with_spot, number_of, newly_opened, newly_opened_key, newly_opened_keys, with_settled, with_undone}
+use Rattle.pc_records.proofs.Moments.{settled_key, row_settled, row_undone}
+use Rattle.pc_records.proofs.SpotLaws.{no, no_some, one_some, same_self, spot_of_key, record_in, write_in, found_record, found_write, key_found, each_by_key, each_map, key_map, spot_of_number, none_found, lacking_stay, found}
+
+-- a change of slots that keeps keys, leaves no writer, and does nothing twice
+module _ (f : Slot → Slot) (keys : (s : Slot) → (f s).key ≡ s.key) (none : (s : Slot) → (f s).writer ≡ None) (again : (s : Slot) → f (f s) ≡ f s) where
+  pub keeps_writes : (ws : List Write) (s : Spot) → (at_writes (changed f) ws s).slot.key ≡ s.slot.key
+  keeps_writes ws s = elim (is_some (written ws s.slot.key)) as (λ b. (cond b (changed f s) s).slot.key ≡ s.slot.key) [ true ↦ keys s.slot | false ↦ refl ]
+
+  at_next : (w : Write) (ws : List Write) (s : Spot) → at_writes (changed f) ws (at_key (changed f) w.key s) ≡ at_writes (changed f) (w ∷ ws) s
+  at_next w ws s = by_test (same_bytes w.key s.slot.key) (is_some (written ws s.slot.key)) refl
+    where
+      by_test : (b c : Bool) → is_some (written ws s.slot.key) ≡ c → at_writes (changed f) ws (cond b (changed f s) s) ≡ cond (is_some (cond b (Some w.value) (written ws s.slot.key))) (changed f s) s
+      by_test true true e =
+          ap (λ k. cond (is_some (written ws k)) (changed f (changed f s)) (changed f s)) (keys s.slot) ∙ ap (λ b. cond b (changed f (changed f s)) (changed f s)) e
+          ∙ ap (λ (x : Slot). record { slot = x; queue = s.queue }) (again s.slot)
+      by_test true false e = ap (λ k. cond (is_some (written ws k)) (changed f (changed f s)) (changed f s)) (keys s.slot) ∙ ap (λ b. cond b (changed f (changed f s)) (changed f s)) e
+      by_test false c e = refl
+
+  map_next : (w : Write) (ws : List Write) (ss : List Spot) → map (at_writes (changed f) ws) (map (at_key (changed f) w.key) ss) ≡ map (at_writes (changed f) (w ∷ ws)) ss
+  map_next w ws [] = refl
+  map_next w ws (s ∷ ss) = ap (λ (x : Spot). x ∷ map (at_writes (changed f) ws) (map (at_key (changed f) w.key) ss)) (at_next w ws s) ∙ ap (λ (xs : List Spot). at_writes (changed f) (w ∷ ws) s ∷ xs) (map_next w ws ss)
+
+  -- what is left to do of the writes does the rest
+  pub writes_next : (ws : List Write) (i : ℕ) (w : Write) (ss now new : List Spot) → i < length ws → w ≡ get_or ws i w → new ≡ map (at_key (changed f) w.key) now → map (at_writes (changed f) (drop i ws)) now ≡ map (at_writes (changed f) ws) ss
+      → map (at_writes (changed f) (drop (i + 1) ws)) new ≡ map (at_writes (changed f) ws) ss
+  writes_next ws i w ss now new lt is new_is so_far =
+      ap (map (at_writes (changed f) (drop (i + 1) ws))) new_is ∙ map_next w (drop (i + 1) ws) now ∙ ap (λ (vs : List Write). map (at_writes (changed f) vs) now) (sym (rest_at ws i w lt is)) ∙ so_far
+
+  pub writes_done : (ws : List Write) (i : ℕ) (ss now : List Spot) → length ws ≤ i → map (at_writes (changed f) (drop i ws)) now ≡ map (at_writes (changed f) ws) ss → now ≡ map (at_writes (changed f) ws) ss
+  writes_done ws i ss now le so_far = sym (ap (λ (vs : List Write). map (at_writes (changed f) vs) now) (drop_all i ws le) ∙ nothing now) ∙ so_far
+    where
+      nothing : (xs : List Spot) → map (at_writes (changed f) []) xs ≡ xs
+      nothing [] = refl
+      nothing (x ∷ xs) = ap (λ (ys : List Spot). x ∷ ys) (nothing xs)
+
+  -- the writes are gone then
+  pub writes_gone : (ws : List Write) (ss : List Spot) → Rise (rows_in ss) → Rise (rows_in (map (at_writes (changed f) ws) ss)) → (q : List ℕ) → find key_cmp q (writes_in (map (at_writes (changed f) ws) ss)) ≡ cond (is_some (written ws q)) None (find key_cmp q (writes_in ss))
+  writes_gone ws ss rise later q =
+      found_write (map (at_writes (changed f) ws) ss) q later ∙ ap write_in (key_map (at_writes (changed f) ws) (keeps_writes ws) ss q) ∙ by_spot (spot_of_key ss q) refl
+      ∙ sym (ap (cond (is_some (written ws q)) None) (found_write ss q rise))
+    where
+      by_none : (b : Bool) → None ≡ cond b None (write_in None)
+      by_none true = refl
+      by_none false = refl
+
+      by_test : (s : Spot) (b : Bool) → pending_in (cond b (changed f s) s).slot ≡ cond b None (pending_in s.slot)
+      by_test s true = ap (λ o. write_of o (f s.slot).live) (none s.slot)
+      by_test s false = refl
+
+      by_spot : (o : Option Spot) → spot_of_key ss q ≡ o → write_in (option_map (at_writes (changed f) ws) o) ≡ cond (is_some (written ws q)) None (write_in o)
+      by_spot None is = by_none (is_some (written ws q))
+      by_spot (Some s) is = by_test s (is_some (written ws s.slot.key)) ∙ ap (λ k. cond (is_some (written ws k)) None (pending_in s.slot)) (sym (key_found ss q s is))
+
+  pub sound_writes : (point : ℕ) → ((queue : Queue) (s : Slot) → IsSound point queue s → IsSound point queue (f s)) → (ws : List Write) (ss : List Spot) → AreSound point ss → AreSound point (map (at_writes (changed f) ws) ss)
+  sound_writes point each ws = each_map (λ s. IsSound point s.queue s.slot) (λ s. IsSound point s.queue s.slot) (at_writes (changed f) ws) (λ s sound. elim (is_some (written ws s.slot.key)) as (λ b. IsSound point (cond b (changed f s) s).queue (cond b (changed f s) s).slot) [ true ↦ each s.queue s.slot sound | false ↦ sound ])
+
+-- the keys that go into the open set
+abbrev opened_in : List ℕ → Option Spot → List (List ℕ)
+opened_in q None = []
+opened_in q (Some s) = cond (is_some s.slot.writer && not s.slot.is_in_open_set) (q ∷ []) []
+
+by_spots : (ss : List Spot) (q : List ℕ) → newly_opened_key ss q ≡ opened_in q (spot_of_key ss q)
+by_spots [] q = refl
+by_spots (s ∷ ss) q = by_test (same_bytes q s.slot.key) refl (by_spots ss q)
+  where
+    by_test : (b : Bool) → same_bytes q s.slot.key ≡ b → newly_opened_key ss q ≡ opened_in q (spot_of_key ss q) → cond b (cond (is_some s.slot.writer && not s.slot.is_in_open_set) (s.slot.key ∷ []) []) (newly_opened_key ss q) ≡ opened_in q (cond b (Some s) (spot_of_key ss q))
+    by_test true same rest = ap (λ k. cond (is_some s.slot.writer && not s.slot.is_in_open_set) (k ∷ []) []) (sym (one_key q s.slot.key same))
+    by_test false same rest = rest
+
+module _ (point : ℕ) where
+  abbrev settles : List ℕ → List Spot → List Spot
+  settles key ss = map (at_key (changed (settled point)) key) ss
+
+  other_opens : (ss : List Spot) (key q : List ℕ) → same_bytes q key ≡ false → newly_opened_key (settles key ss) q ≡ newly_opened_key ss q
+  other_opens [] key q other = refl
+  other_opens (s ∷ ss) key q other = by_test (same_bytes key s.slot.key) refl (other_opens ss key q other)
+    where
+      by_test : (b : Bool) → same_bytes key s.slot.key ≡ b → newly_opened_key (settles key ss) q ≡ newly_opened_key ss q → newly_opened_key (cond b (changed (settled point) s) s ∷ settles key ss) q ≡ newly_opened_key (s ∷ ss) q
+      by_test false same rest = ap (cond (same_bytes q s.slot.key) (cond (is_some s.slot.writer && not s.slot.is_in_open_set) (s.slot.key ∷ []) [])) rest
+      by_test true same rest =
+          let past : same_bytes q s.slot.key ≡ false = ap (same_bytes q) (sym (one_key key s.slot.key same)) ∙ other in
+          let past_now : same_bytes q (settled point s.slot).key ≡ false = ap (same_bytes q) (settled_key point s.slot) ∙ past in
+          ap (λ b. cond b (cond (is_some (settled point s.slot).writer && not (settled point s.slot).is_in_open_set) ((settled point s.slot).key ∷ []) []) (newly_opened_key (settles key ss) q)) past_now
+          ∙ rest ∙ sym (ap (λ b. cond b (cond (is_some s.slot.writer && not s.slot.is_in_open_set) (s.slot.key ∷ []) []) (newly_opened_key ss q)) past)
+
+  others_open : (ss : List Spot) (key : List ℕ) (ws : List Write) → is_some (written ws key) ≡ false → newly_opened_keys (settles key ss) ws ≡ newly_opened_keys ss ws
+  others_open ss key [] none = refl
+  others_open ss key (w ∷ ws) none = by_test (same_bytes w.key key) refl none (others_open ss key ws)
+    where
+      by_test : (b : Bool) → same_bytes w.key key ≡ b → is_some (cond b (Some w.value) (written ws key)) ≡ false → (is_some (written ws key) ≡ false → newly_opened_keys (settles key ss) ws ≡ newly_opened_keys ss ws) → newly_opened_key (settles key ss) w.key ++ newly_opened_keys (settles key ss) ws ≡ newly_opened_key ss w.key ++ newly_opened_keys ss ws
+      by_test true same none rest = no (sym none)
+      by_test false other none rest = ap (λ ks. ks ++ newly_opened_keys (settles key ss) ws) (other_opens ss key w.key other) ∙ ap (λ ks. newly_opened_key ss w.key ++ ks) (rest none)
+
+  distinct_drop : (i : ℕ) (ws : List Write) → AreDistinct ws → AreDistinct (drop i ws)
+  distinct_drop zero ws d = d
+  distinct_drop (suc i) [] d = tt
+  distinct_drop (suc i) (w ∷ ws) d = distinct_drop i ws d.1
+
+  -- one write more
+  pub opened_next : (ws : List Write) (i : ℕ) (w : Write) (now new : List Spot) (keys more all : List (List ℕ)) → i < length ws → w ≡ get_or ws i w → AreDistinct ws → new ≡ settles w.key now → more ≡ keys ++ newly_opened_key now w.key →
+      keys ++ newly_opened_keys now (drop i ws) ≡ all → more ++ newly_opened_keys new (drop (i + 1) ws) ≡ all
+  opened_next ws i w now new keys more all lt is d new_is more_is so_far =
+      let step : drop i ws ≡ w ∷ drop (i + 1) ws = rest_at ws i w lt is in
+      ap (λ (ss : List Spot). more ++ newly_opened_keys ss (drop (i + 1) ws)) new_is ∙ ap (λ ks. ks ++ newly_opened_keys (settles w.key now) (drop (i + 1) ws)) more_is ∙ append_assoc keys (newly_opened_key now w.key) (newly_opened_keys (settles w.key now) (drop (i + 1) ws))
+      ∙ ap (λ ks. keys ++ (newly_opened_key now w.key ++ ks)) (others_open now w.key (drop (i + 1) ws) (subst AreDistinct step (distinct_drop i ws d)).0) ∙ sym (ap (λ vs. keys ++ newly_opened_keys now vs) step) ∙ so_far
+
+  pub opened_done : (ws : List Write) (i : ℕ) (now : List Spot) (keys all : List (List ℕ)) → length ws ≤ i → keys ++ newly_opened_keys now (drop i ws) ≡ all → keys ≡ all
+  opened_done ws i now keys all le so_far = sym (ap (λ vs. keys ++ newly_opened_keys now vs) (drop_all i ws le) ∙ append-nil keys) ∙ so_far
+
+-- where each of the keys has a write in place, the keys that go in are those that are new
+module _ (ss : List Spot) (rise : Rise (rows_in ss)) where
+  abbrev Stand : List Write → Type 0
+  Stand ws = (q : List ℕ) → is_some (written ws q) ≡ true → option_map value_of (find key_cmp q (writes_in ss)) ≡ written ws q
+
+  stands : (ws : List Write) → Stand ws → (q : List ℕ) → is_some (written ws q) ≡ true → option_map value_of (write_in (spot_of_key ss q)) ≡ written ws q
+  stands ws stand q some = ap (option_map value_of) (sym (found_write ss q rise)) ∙ stand q some
+
+  new_one : (q : List ℕ) (v : Option (Option (List ℕ))) (o : Option Spot) → option_map value_of (write_in o) ≡ v → is_some v ≡ true → opened_in q o ≡ with_new (is_in_open_set (record_in o)) q []
+  new_one q v None e some = no (ap is_some e ∙ some)
+  new_one q v (Some s) e some = ap (λ b. cond (b && not s.slot.is_in_open_set) (q ∷ []) []) (by_writer s.slot.writer refl) ∙ elim s.slot.is_in_open_set as (λ b. cond (not b) (q ∷ []) [] ≡ with_new b q []) [ true ↦ refl | false ↦ refl ]
+    where
+      by_writer : (o : Option Writer) → s.slot.writer ≡ o → is_some o ≡ true
+      by_writer None is = no (ap is_some (sym (ap (λ o. option_map value_of (write_of o s.slot.live)) is) ∙ e) ∙ some)
+      by_writer (Some w) is = refl
+
+  with_front : (b : Bool) (q : List ℕ) (ks : List (List ℕ)) → with_new b q [] ++ ks ≡ with_new b q ks
+  with_front true q ks = refl
+  with_front false q ks = refl
+
+  all_new : (vs ws : List Write) → Stand vs → ((q : List ℕ) → is_some (written ws q) ≡ true → is_some (written vs q) ≡ true) → newly_opened_keys ss ws ≡ new_keys (rows_in ss) ws
+  all_new vs [] stand in_all = refl
+  all_new vs (w ∷ ws) stand in_all =
+      let some : is_some (written vs w.key) ≡ true = in_all w.key (ap (λ b. is_some (cond b (Some w.value) (written ws w.key))) (same_self w.key)) in
+      ap (λ ks. ks ++ newly_opened_keys ss ws) (by_spots ss w.key ∙ new_one w.key (written vs w.key) (spot_of_key ss w.key) (stands vs stand w.key some) some ∙ ap (λ o. with_new (is_in_open_set o) w.key []) (sym (found_record ss w.key)))
+      ∙ with_front (is_in_open_set (record_of (rows_in ss) w.key)) w.key (newly_opened_keys ss ws)
+      ∙ ap (with_new (is_in_open_set (record_of (rows_in ss) w.key)) w.key) (all_new vs ws stand (λ q e. in_all q (later (same_bytes w.key q) q e)))
+    where
+      later : (b : Bool) (q : List ℕ) → is_some (written ws q) ≡ true → is_some (cond b (Some w.value) (written ws q)) ≡ true
+      later true q e = refl
+      later false q e = e
+
+  pub keys_opened : (ws : List Write) → Stand ws → newly_opened_keys ss ws ≡ new_keys (rows_in ss) ws
+  keys_opened ws stand = all_new ws ws stand (λ q e. e)
+
+  -- the rows once the writes are committed
+  module _ (point : ℕ) (ws : List Write) (stand : Stand ws) where
+    abbrev Stands : Spot → Type 0
+    Stands s = is_some (written ws s.slot.key) ≡ true → option_map value_of (pending_in s.slot) ≡ written ws s.slot.key
+
+    one : (q : List ℕ) (s : Spot) → spot_of_key ss q ≡ Some s → Stands s
+    one q s found some =
+        let key : q ≡ s.slot.key = key_found ss q s found in
+        sym (ap (λ (o : Option Spot). option_map value_of (write_in o)) found) ∙ stands ws stand q (ap (λ k. is_some (written ws k)) key ∙ some) ∙ ap (written ws) key
+
+    row_one : (s : Spot) → Stands s → row_in (at_writes (changed (settled point)) ws s) ≡ written_row ws (row_in s)
+    row_one s stands = by_written (written ws s.slot.key) stands
+      where
+        by_written : (o : Option (Option (List ℕ))) → (is_some o ≡ true → option_map value_of (pending_in s.slot) ≡ o) → row_in (cond (is_some o) (changed (settled point) s) s) ≡ (s.slot.key, given o (row_in s).1)
+        by_written None stands = refl
+        by_written (Some v) stands = by_writer s.slot.writer refl (stands refl)
+          where
+            by_writer : (o : Option Writer) → s.slot.writer ≡ o → option_map value_of (write_of o s.slot.live) ≡ Some v → row_in (changed (settled point) s) ≡ (s.slot.key, record (row_in s).1 { value = v; is_in_open_set = true })
+            by_writer None is e = no_some e
+            by_writer (Some w) is e = row_settled (λ n. s.queue) point s.slot w is ∙ ap (λ (x : Option (List ℕ)). (s.slot.key, record (row_in s).1 { value = x; is_in_open_set = true })) (one_some e)
+
+    all : (xs : List Spot) → Each Stands xs → rows_in (map (at_writes (changed (settled point)) ws) xs) ≡ map (written_row ws) (rows_in xs)
+    all [] each = refl
+    all (x ∷ xs) each = ap (λ (r : Row). r ∷ rows_in (map (at_writes (changed (settled point)) ws) xs)) (row_one x each.0) ∙ ap (λ (rows : List Row). written_row ws (row_in x) ∷ rows) (all xs each.1)
+
+    pub rows_settled : rows_in (map (at_writes (changed (settled point)) ws) ss) ≡ map (written_row ws) (rows_in ss)
+    rows_settled = all ss (each_by_key Stands ss rise one)
+
+-- and once they are undone
+pub rows_undone : (point : ℕ) (ws : List Write) (ss : List Spot) → AreSound point ss → rows_in (map (at_writes (changed (undone point)) ws) ss) ≡ rows_in ss
+rows_undone point ws [] sound = refl
+rows_undone point ws (s ∷ ss) sound = ap (λ (r : Row). r ∷ rows_in (map (at_writes (changed (undone point)) ws) ss)) (by_test (is_some (written ws s.slot.key))) ∙ ap (λ (rows : List Row). row_in s ∷ rows) (rows_undone point ws ss sound.1)
+  where
+    by_test : (b : Bool) → row_in (cond b (changed (undone point) s) s) ≡ row_in s
+    by_test true = row_undone (λ n. s.queue) point s.queue s.slot sound.0
+    by_test false = refl
+
+-- a key that has a spot, and one that has none
+module _ (floor : Floor) (key : List ℕ) where
+  abbrev opened_of : Option Spot → List (List ℕ)
+  opened_of None = []
+  opened_of (Some s) = cond (is_some s.slot.writer && not s.slot.is_in_open_set) (s.slot.key ∷ []) []
+
+  opens_number : (id : ℕ) (ss : List Spot) → newly_opened ss id ≡ opened_of (spot_of_number ss id)
+  opens_number id [] = refl
+  opens_number id (s ∷ ss) = elim (eqb s.slot.number id) as (λ b. cond b (opened_of (Some s)) (newly_opened ss id) ≡ opened_of (cond b (Some s) (spot_of_number ss id))) [ true ↦ refl | false ↦ opens_number id ss ]
+
+  opens_key : (ss : List Spot) → newly_opened_key ss key ≡ opened_of (spot_of_key ss key)
+  opens_key [] = refl
+  opens_key (s ∷ ss) = elim (same_bytes key s.slot.key) as (λ b. cond b (opened_of (Some s)) (newly_opened_key ss key) ≡ opened_of (cond b (Some s) (spot_of_key ss key))) [ true ↦ refl | false ↦ opens_key ss ]
+
+  pub settled_there : (point id : ℕ) → IsWhole floor → number_of floor.spots key ≡ Some id → record (with_spot (changed (settled point)) id floor) { opened = floor.opened ++ newly_opened floor.spots id } ≡ with_settled point key floor
+  settled_there point id whole there =
+      let f = found floor key id whole there in
+      let opened : newly_opened floor.spots id ≡ newly_opened_key floor.spots key = opens_number id floor.spots ∙ ap opened_of (f.1.numbered ∙ sym f.1.at) ∙ sym (opens_key floor.spots) in
+      λ i. record floor { spots = f.1.swaps (changed (settled point)) i; opened = floor.opened ++ opened i }
+
+  pub undone_there : (point id : ℕ) → IsWhole floor → number_of floor.spots key ≡ Some id → with_spot (changed (undone point)) id floor ≡ with_undone point key floor
+  undone_there point id whole there = λ i. record floor { spots = (found floor key id whole there).1.swaps (changed (undone point)) i }
+
+  module _ (none : number_of floor.spots key ≡ None) where
+    pub settled_none : (point : ℕ) → floor ≡ with_settled point key floor
+    settled_none point =
+        let opened : floor.opened ++ newly_opened_key floor.spots key ≡ floor.opened = ap (λ ks. floor.opened ++ ks) (opens_key floor.spots ∙ ap opened_of (none_found floor.spots key none)) ∙ append-nil floor.opened in
+        λ i. record floor { spots = sym (lacking_stay (changed (settled point)) key floor.spots (none_found floor.spots key none)) i; opened = sym opened i }
+
+    pub undone_none : (point : ℕ) → floor ≡ with_undone point key floor
+    undone_none point = λ i. record floor { spots = sym (lacking_stay (changed (undone point)) key floor.spots (none_found floor.spots key none)) i }
