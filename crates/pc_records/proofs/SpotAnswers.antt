@@ -379,7 +379,13 @@ module _ (point t : ℕ) (mode : Mode) (floor new : Floor) (key : List ℕ) (id 
     pub made_back : (mid asked : Floor) → mid ≡ with_new_spot id key floor → asked ≡ mid → has_spot floor.spots id ≡ false → new ≡ record asked { spots = tidied id asked.spots } → new ≡ floor
     made_back mid asked mid_is same fresh is = is ∙ ap (λ (f : Floor). record f { spots = tidied id f.spots }) (same ∙ mid_is) ∙ (λ i. record floor { spots = back_again floor key none id fresh i })
 
--- the records once a key was written, where its request was granted
+-- what is known of the floor once a request to write the key was so answered, and the key written where it was granted
+pub record IsWritten (point t : ℕ) (class : Class) (value : Option (List ℕ)) (floor new : Floor) (key : List ℕ) (o : Outcome) : Type 0 where
+  pub same : new ≡ record floor { spots = new.spots }
+  pub sound : AreSound point new.spots
+  pub rows : rows_in new.spots ≡ rows_after (rows_in floor.spots) key t Exclusive o
+  pub pending : (q : List ℕ) → find key_cmp q (writes_in new.spots) ≡ pending_after o (table_on point floor) key (record { by = t; class = class; value = value }) q
+
 module _ (point t : ℕ) (class : Class) (copy value : Option (List ℕ)) (floor mid new : Floor) (key : List ℕ) (id : ℕ) (o : Outcome) (whole : IsWhole floor) (sound : AreSound point floor.spots) (ready : waits_anywhere floor.spots t ≡ false) (there : number_of floor.spots key ≡ Some id)
     (told : o ≡ outcome (queue_of floor.spots id) t Exclusive) (copied : copy ≡ of_spot (copy_kept point class) floor.spots id) (outside : class ≡ Before → is_in_closed_set (record_of (rows_in floor.spots) key) ≡ false)
     (again : (p : Pending) → find key_cmp key (writes_in floor.spots) ≡ Some p → p.by ≡ t → p.class ≡ class) (mid_is : mid ≡ with_spot (asked t Exclusive o) id floor) (new_is : new ≡ with_spot (changed (granted_slot o point t class copy value)) id mid) where
@@ -392,17 +398,14 @@ module _ (point t : ℕ) (class : Class) (copy value : Option (List ℕ)) (floor
   spots_now : new.spots ≡ now
   spots_now = ap (λ (f : Floor). f.spots) new_is ∙ ap (λ (f : Floor). map (at_spot (changed (granted_slot o point t class copy value)) id) f.spots) mid_is ∙ spots_written floor whole key id spot.0 spot.1 point t sound ready class copy value o told copied outside again
 
-  pub same_but : new ≡ record floor { spots = new.spots }
-  same_but = λ i. record { capacity = (ap (λ (f : Floor). f.capacity) new_is ∙ ap (λ (f : Floor). f.capacity) mid_is) i; spots = new.spots; opened = (ap (λ (f : Floor). f.opened) new_is ∙ ap (λ (f : Floor). f.opened) mid_is) i; closed = (ap (λ (f : Floor). f.closed) new_is ∙ ap (λ (f : Floor). f.closed) mid_is) i }
-
-  pub sound_put : AreSound point new.spots
-  sound_put = subst (AreSound point) (sym spots_now) (sound_written floor whole key id spot.0 spot.1 point t sound ready class copy value o told copied outside again)
-
-  pub rows_put : rows_in new.spots ≡ rows_after (rows_in floor.spots) key t Exclusive o
-  rows_put = ap rows_in spots_now ∙ rows_written floor whole key id spot.0 spot.1 point t sound ready class copy value o told copied outside again
-
-  pub pending_put : IsWhole new → (q : List ℕ) → find key_cmp q (writes_in new.spots) ≡ pending_after o (table_on point floor) key (record { by = t; class = class; value = value }) q
-  pending_put later q = ap (λ (ss : List Spot). find key_cmp q (writes_in ss)) spots_now ∙ pending_written floor whole key id spot.0 spot.1 point t sound ready class copy value o told copied outside again (ap (λ (ss : List Spot). is_sorted key_cmp (rows_in ss)) (sym spots_now) ∙ later.rise) q
+  pub written_there : IsWhole new → IsWritten point t class value floor new key o
+  written_there later = record {
+    same = ap (λ (f : Floor). record f { spots = new.spots }) (new_is ∙ ap (with_spot (changed (granted_slot o point t class copy value)) id) mid_is);
+    sound = subst (AreSound point) (sym spots_now) (sound_written floor whole key id spot.0 spot.1 point t sound ready class copy value o told copied outside again);
+    rows = ap rows_in spots_now ∙ rows_written floor whole key id spot.0 spot.1 point t sound ready class copy value o told copied outside again;
+    pending = λ q. ap (λ (ss : List Spot). find key_cmp q (writes_in ss)) spots_now
+        ∙ pending_written floor whole key id spot.0 spot.1 point t sound ready class copy value o told copied outside again (ap (λ (ss : List Spot). is_sorted key_cmp (rows_in ss)) (sym spots_now) ∙ later.rise) q;
+  }
 
 -- the same of a key that had no spot
 module _ (point t : ℕ) (class : Class) (value : Option (List ℕ)) (floor mid new : Floor) (key : List ℕ) (id : ℕ) (none : number_of floor.spots key ≡ None) (whole : IsWhole (with_new_spot id key floor)) (sound : AreSound point floor.spots) (ready : waits_anywhere floor.spots t ≡ false)
@@ -413,27 +416,16 @@ module _ (point t : ℕ) (class : Class) (value : Option (List ℕ)) (floor mid 
   told_made : Granted ≡ outcome (queue_of (entered (new_spot id key) floor.spots) id) t Exclusive
   told_made = sym (granted_made floor key none id made_spot.0 made_spot.1 t Exclusive (outcome (queue_of (entered (new_spot id key) floor.spots) id) t Exclusive) refl)
 
-  pub same_but_new : new ≡ record floor { spots = new.spots }
-  same_but_new =
-      same_but point t class None value (with_new_spot id key floor) mid new key id Granted whole (sound_made floor key none id point sound) (ready_made floor key none id t ready) (number_entered (new_spot id key) floor.spots none) told_made
-      (copy_made floor key none id point class made_spot.0 made_spot.1) (outside_made floor key none id class) (again_made floor key none id whole.rise t class) mid_is new_is
-
-  pub sound_put_new : AreSound point new.spots
-  sound_put_new =
-      sound_put point t class None value (with_new_spot id key floor) mid new key id Granted whole (sound_made floor key none id point sound) (ready_made floor key none id t ready) (number_entered (new_spot id key) floor.spots none) told_made
-      (copy_made floor key none id point class made_spot.0 made_spot.1) (outside_made floor key none id class) (again_made floor key none id whole.rise t class) mid_is new_is
-
-  pub rows_put_new : rows_in new.spots ≡ rows_after (rows_in floor.spots) key t Exclusive Granted
-  rows_put_new =
-      rows_put point t class None value (with_new_spot id key floor) mid new key id Granted whole (sound_made floor key none id point sound) (ready_made floor key none id t ready) (number_entered (new_spot id key) floor.spots none) told_made
-      (copy_made floor key none id point class made_spot.0 made_spot.1) (outside_made floor key none id class) (again_made floor key none id whole.rise t class) mid_is new_is
-      ∙ rows_made floor key none id t Exclusive
-
-  pub pending_put_new : IsWhole new → (q : List ℕ) → find key_cmp q (writes_in new.spots) ≡ pending_after Granted (table_on point floor) key (record { by = t; class = class; value = value }) q
-  pending_put_new later q =
-      pending_put point t class None value (with_new_spot id key floor) mid new key id Granted whole (sound_made floor key none id point sound) (ready_made floor key none id t ready) (number_entered (new_spot id key) floor.spots none) told_made
-      (copy_made floor key none id point class made_spot.0 made_spot.1) (outside_made floor key none id class) (again_made floor key none id whole.rise t class) mid_is new_is later q
-      ∙ pending_made floor key none id Granted point (record { by = t; class = class; value = value }) q
+  pub written_first : IsWhole new → IsWritten point t class value floor new key Granted
+  written_first later =
+      let w = written_there point t class None value (with_new_spot id key floor) mid new key id Granted whole (sound_made floor key none id point sound) (ready_made floor key none id t ready) (number_entered (new_spot id key) floor.spots none)
+      told_made (copy_made floor key none id point class made_spot.0 made_spot.1) (outside_made floor key none id class) (again_made floor key none id whole.rise t class) mid_is new_is later in
+      record {
+        same = w.same;
+        sound = w.sound;
+        rows = w.rows ∙ rows_made floor key none id t Exclusive;
+        pending = λ q. w.pending q ∙ pending_made floor key none id Granted point (record { by = t; class = class; value = value }) q;
+      }
 
 -- a write that isn't granted changes nothing
 pub put_none : (floor : Floor) (id point t : ℕ) (class : Class) (copy value : Option (List ℕ)) (o : Outcome) → o ≢ Granted → floor ≡ with_spot (changed (granted_slot o point t class copy value)) id floor

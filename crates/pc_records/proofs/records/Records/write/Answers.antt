@@ -1,12 +1,14 @@
-use Rattle.std.proofs.Common.{◌∙◌, ap, sym, subst, cond, Bool, refl}
+use Rattle.std.proofs.Common.{◌≡◌, ◌∙◌, ap, sym, subst, cond, Bool, refl}
 use Rattle.pc_types.specs.declared.Mode.TheVariants.{Exclusive}
+use Rattle.pc_types.specs.declared.Outcome.TheVariants.{Granted}
 use Rattle.pc_types.specs.declared.Refusal.TheVariants.{Full, OutOfMemory}
 use Rattle.pc_records.specs.RowSteps.{is_waiting}
 use Rattle.pc_records.specs.Tables.{Table}
 use Rattle.pc_records.specs.Floor.{Floor, AreSound, table_on, asked, has_spot}
 use Rattle.pc_records.proofs.SpotLaws.{found, has_same}
-use Rattle.pc_records.proofs.SpotAnswers.{waits_same, told_there, clear_there, told_new, clear_new, sound_answered, same_but, sound_put, rows_put, pending_put, same_but_new, sound_put_new, rows_put_new, pending_put_new, full, full_there, full_new, ran_out, refused_same, on_err}
+use Rattle.pc_records.proofs.SpotAnswers.{waits_same, told_there, clear_there, told_new, clear_new, sound_answered, IsWritten, written_there, written_first, full, full_there, full_new, ran_out, refused_same, on_err}
 use Rattle.pc_records.proofs.records.Records.write.Goals as goal
+use Rattle.pc_records.proofs.records.Records.write.Goals.{After-put_granted, After-put}
 
 pub request-requires-clause-ready : goal.request-requires-clause-ready
 request-requires-clause-ready c =
@@ -26,29 +28,39 @@ put_granted-requires-clause-whole c =
 
 pub put_granted-requires-clause-there : goal.put_granted-requires-clause-there
 put_granted-requires-clause-there c =
-    ap (λ (f : Floor). has_spot f.spots c.in-Some.id) c.in_ok-outcome-in-Some.ensures.asked ∙ has_same (asked c.args.transaction Exclusive c.in_ok-outcome-in-Some.outcome) (λ s. refl) c.in-Some.id c.in-Some.id c.self.inside.slots.spots ∙ c.in-Some.ensures.there
+    ap (λ (f : Floor). has_spot f.spots c.in-Some.id) c.in_ok-outcome-in-Some.ensures.asked
+    ∙ has_same (asked c.args.transaction Exclusive c.in_ok-outcome-in-Some.outcome) (λ s. refl) c.in-Some.id c.in-Some.id c.self.inside.slots.spots ∙ c.in-Some.ensures.there
+
+-- what is known once a key that has a slot was written
+there : (c : After-put_granted) → IsWritten c.self.inside.point c.args.transaction c.args.class c.args.value c.self.inside.slots c.put_granted.new.slots c.args.key.now c.in_ok-outcome-in-Some.outcome
+there c =
+    written_there c.self.inside.point c.args.transaction c.args.class c.in_ok-copy-in-Some.copy c.args.value c.self.inside.slots c.request.new.self c.put_granted.new.slots c.args.key.now c.in-Some.id c.in_ok-outcome-in-Some.outcome c.self.invariant.0 c.self.invariant.1
+    (waits_same c.args.transaction c.self.inside.slots.spots ∙ ap (λ (k : Table). is_waiting k.rows c.args.transaction) c.self.view_is ∙ c.requires.ready)
+    (sym c.in-Some.ensures.found) c.in_ok-outcome-in-Some.ensures.told c.in_ok-copy-in-Some.ensures (rw (← c.self.view_is) at c.requires.outside) (rw (← c.self.view_is) at c.requires.again)
+    c.in_ok-outcome-in-Some.ensures.asked c.put_granted.ensures.put c.put_granted.ensures.whole
+
+-- and one that had none
+first : (c : After-put) → IsWritten c.self.inside.point c.args.transaction c.args.class c.args.value c.self.inside.slots c.put.new.self c.args.key.now Granted
+first c =
+    written_first c.self.inside.point c.args.transaction c.args.class c.args.value c.self.inside.slots c.request_new.new.slots c.put.new.self c.args.key.now c.in_ok-id-in-None.id (sym c.in-None.ensures.found) c.in_ok-id-in-None.ensures.made c.self.invariant.1
+    (waits_same c.args.transaction c.self.inside.slots.spots ∙ ap (λ (k : Table). is_waiting k.rows c.args.transaction) c.self.view_is ∙ c.requires.ready)
+    c.in_ok-id-in-None.ensures.asked c.put.ensures.put c.put.ensures.whole
 
 pub invariant_of-self : goal.invariant_of-self
 invariant_of-self c =
     (c.request.ensures.whole, sound_answered c.self.inside.point c.args.transaction Exclusive c.self.inside.slots c.request.new.self c.args.key.now c.in-Some.id c.request.result c.request.ensures.asked c.request.ensures.same c.self.invariant.1)
 
 pub invariant_of-self-in-Some : goal.invariant_of-self-in-Some
-invariant_of-self-in-Some c = (
-  c.put_granted.ensures.whole,
-  sound_put c.self.inside.point c.args.transaction c.args.class c.in_ok-copy-in-Some.copy c.args.value c.self.inside.slots c.request.new.self c.put_granted.new.slots c.args.key.now c.in-Some.id c.in_ok-outcome-in-Some.outcome c.self.invariant.0 c.self.invariant.1 (waits_same c.args.transaction c.self.inside.slots.spots ∙ ap (λ (k : Table). is_waiting k.rows c.args.transaction) c.self.view_is ∙ c.requires.ready)
-      (sym c.in-Some.ensures.found) c.in_ok-outcome-in-Some.ensures.told c.in_ok-copy-in-Some.ensures (rw (← c.self.view_is) at c.requires.outside) (rw (← c.self.view_is) at c.requires.again) c.in_ok-outcome-in-Some.ensures.asked c.put_granted.ensures.put,
-)
+invariant_of-self-in-Some c =
+    (c.put_granted.ensures.whole, (there c).sound)
 
 pub invariant_of-self-in_err-id-in-None : goal.invariant_of-self-in_err-id-in-None
 invariant_of-self-in_err-id-in-None c =
     (c.request_new.ensures.whole, subst (λ (f : Floor). AreSound c.self.inside.point f.spots) (sym c.in_err-id-in-None.ensures.same) c.self.invariant.1)
 
 pub invariant_of-self-in-None : goal.invariant_of-self-in-None
-invariant_of-self-in-None c = (
-  c.put.ensures.whole,
-  sound_put_new c.self.inside.point c.args.transaction c.args.class c.args.value c.self.inside.slots c.request_new.new.slots c.put.new.self c.args.key.now c.in_ok-id-in-None.id (sym c.in-None.ensures.found) c.in_ok-id-in-None.ensures.made c.self.invariant.1 (waits_same c.args.transaction c.self.inside.slots.spots ∙ ap (λ (k : Table). is_waiting k.rows c.args.transaction) c.self.view_is ∙ c.requires.ready)
-      c.in_ok-id-in-None.ensures.asked c.put.ensures.put,
-)
+invariant_of-self-in-None c =
+    (c.put.ensures.whole, (first c).sound)
 
 pub returns-in_ok-outcome-in-Some-clause-told : goal.returns-in_ok-outcome-in-Some-clause-told
 returns-in_ok-outcome-in-Some-clause-told c =
@@ -57,32 +69,25 @@ returns-in_ok-outcome-in-Some-clause-told c =
 
 pub returns-in_ok-outcome-in-Some-clause-rows : goal.returns-in_ok-outcome-in-Some-clause-rows
 returns-in_ok-outcome-in-Some-clause-rows c =
-    rw (← c.self.view_is) (λ i. record {
-      capacity = (same_but c.self.inside.point c.args.transaction c.args.class c.in_ok-copy-in-Some.copy c.args.value c.self.inside.slots c.request.new.self c.put_granted.new.slots c.args.key.now c.in-Some.id c.in_ok-outcome-in-Some.outcome c.self.invariant.0 c.self.invariant.1 (waits_same c.args.transaction c.self.inside.slots.spots ∙ ap (λ (k : Table). is_waiting k.rows c.args.transaction) c.self.view_is ∙ c.requires.ready)
-          (sym c.in-Some.ensures.found) c.in_ok-outcome-in-Some.ensures.told c.in_ok-copy-in-Some.ensures (rw (← c.self.view_is) at c.requires.outside) (rw (← c.self.view_is) at c.requires.again) c.in_ok-outcome-in-Some.ensures.asked c.put_granted.ensures.put i).capacity;
-      rows = rows_put c.self.inside.point c.args.transaction c.args.class c.in_ok-copy-in-Some.copy c.args.value c.self.inside.slots c.request.new.self c.put_granted.new.slots c.args.key.now c.in-Some.id c.in_ok-outcome-in-Some.outcome c.self.invariant.0 c.self.invariant.1 (waits_same c.args.transaction c.self.inside.slots.spots ∙ ap (λ (k : Table). is_waiting k.rows c.args.transaction) c.self.view_is ∙ c.requires.ready)
-          (sym c.in-Some.ensures.found) c.in_ok-outcome-in-Some.ensures.told c.in_ok-copy-in-Some.ensures (rw (← c.self.view_is) at c.requires.outside) (rw (← c.self.view_is) at c.requires.again) c.in_ok-outcome-in-Some.ensures.asked c.put_granted.ensures.put i;
-    })
+    rw (← c.self.view_is) (λ i. record { capacity = ((there c).same i).capacity; rows = (there c).rows i })
 
 pub returns-in_ok-outcome-in-Some-clause-pending : goal.returns-in_ok-outcome-in-Some-clause-pending
 returns-in_ok-outcome-in-Some-clause-pending c =
-    rw (← c.self.view_is) (pending_put c.self.inside.point c.args.transaction c.args.class c.in_ok-copy-in-Some.copy c.args.value c.self.inside.slots c.request.new.self c.put_granted.new.slots c.args.key.now c.in-Some.id c.in_ok-outcome-in-Some.outcome c.self.invariant.0 c.self.invariant.1 (waits_same c.args.transaction c.self.inside.slots.spots ∙ ap (λ (k : Table). is_waiting k.rows c.args.transaction) c.self.view_is ∙ c.requires.ready)
-    (sym c.in-Some.ensures.found) c.in_ok-outcome-in-Some.ensures.told c.in_ok-copy-in-Some.ensures (rw (← c.self.view_is) at c.requires.outside) (rw (← c.self.view_is) at c.requires.again) c.in_ok-outcome-in-Some.ensures.asked c.put_granted.ensures.put c.put_granted.ensures.whole)
+    rw (← c.self.view_is) (there c).pending
 
 pub returns-in_ok-outcome-in-Some-clause-clear : goal.returns-in_ok-outcome-in-Some-clause-clear
 returns-in_ok-outcome-in-Some-clause-clear c =
     let f = found c.self.inside.slots c.args.key.now c.in-Some.id c.self.invariant.0 (sym c.in-Some.ensures.found) in
-    rw (← c.self.view_is) (clear_there c.self.inside.slots c.self.invariant.0 c.args.key.now c.in-Some.id f.0 f.1 c.self.inside.point c.args.transaction c.self.invariant.1 (waits_same c.args.transaction c.self.inside.slots.spots ∙ ap (λ (k : Table). is_waiting k.rows c.args.transaction) c.self.view_is ∙ c.requires.ready) Exclusive c.in_ok-outcome-in-Some.outcome c.in_ok-outcome-in-Some.ensures.told)
+    rw (← c.self.view_is) (clear_there c.self.inside.slots c.self.invariant.0 c.args.key.now c.in-Some.id f.0 f.1 c.self.inside.point c.args.transaction c.self.invariant.1
+    (waits_same c.args.transaction c.self.inside.slots.spots ∙ ap (λ (k : Table). is_waiting k.rows c.args.transaction) c.self.view_is ∙ c.requires.ready) Exclusive c.in_ok-outcome-in-Some.outcome c.in_ok-outcome-in-Some.ensures.told)
 
 pub returns-in_ok-outcome-in-Some-clause-opened : goal.returns-in_ok-outcome-in-Some-clause-opened
 returns-in_ok-outcome-in-Some-clause-opened c =
-    rw (← c.self.view_is) (ap (λ (f : Floor). f.opened) (same_but c.self.inside.point c.args.transaction c.args.class c.in_ok-copy-in-Some.copy c.args.value c.self.inside.slots c.request.new.self c.put_granted.new.slots c.args.key.now c.in-Some.id c.in_ok-outcome-in-Some.outcome c.self.invariant.0 c.self.invariant.1 (waits_same c.args.transaction c.self.inside.slots.spots ∙ ap (λ (k : Table). is_waiting k.rows c.args.transaction) c.self.view_is ∙ c.requires.ready)
-    (sym c.in-Some.ensures.found) c.in_ok-outcome-in-Some.ensures.told c.in_ok-copy-in-Some.ensures (rw (← c.self.view_is) at c.requires.outside) (rw (← c.self.view_is) at c.requires.again) c.in_ok-outcome-in-Some.ensures.asked c.put_granted.ensures.put))
+    rw (← c.self.view_is) (ap (λ (f : Floor). f.opened) (there c).same)
 
 pub returns-in_ok-outcome-in-Some-clause-shut : goal.returns-in_ok-outcome-in-Some-clause-shut
 returns-in_ok-outcome-in-Some-clause-shut c =
-    rw (← c.self.view_is) (ap (λ (f : Floor). f.closed) (same_but c.self.inside.point c.args.transaction c.args.class c.in_ok-copy-in-Some.copy c.args.value c.self.inside.slots c.request.new.self c.put_granted.new.slots c.args.key.now c.in-Some.id c.in_ok-outcome-in-Some.outcome c.self.invariant.0 c.self.invariant.1 (waits_same c.args.transaction c.self.inside.slots.spots ∙ ap (λ (k : Table). is_waiting k.rows c.args.transaction) c.self.view_is ∙ c.requires.ready)
-    (sym c.in-Some.ensures.found) c.in_ok-outcome-in-Some.ensures.told c.in_ok-copy-in-Some.ensures (rw (← c.self.view_is) at c.requires.outside) (rw (← c.self.view_is) at c.requires.again) c.in_ok-outcome-in-Some.ensures.asked c.put_granted.ensures.put))
+    rw (← c.self.view_is) (ap (λ (f : Floor). f.closed) (there c).same)
 
 pub returns-in_ok-outcome-in-Some-clause-room : goal.returns-in_ok-outcome-in-Some-clause-room
 returns-in_ok-outcome-in-Some-clause-room c =
@@ -102,11 +107,13 @@ returns-in_err-outcome-in-Some-clause-refusal c =
 
 pub returns-in_err-room-in-None-clause-refusal : goal.returns-in_err-room-in-None-clause-refusal
 returns-in_err-room-in-None-clause-refusal c =
-    rw (← c.self.view_is) (refused_same c.from_residual-in_err-room-in-None.result c.in_err-room-in-None.field-0.0 (cond (full c.self.inside.slots c.args.key.now) Full OutOfMemory) c.from_residual-in_err-room-in-None.ensures (c.in_err-room-in-None.ensures.refusal ∙ ap (λ (b : Bool). cond b Full OutOfMemory) (sym (full_new c.self.inside.slots c.args.key.now (sym c.in-None.ensures.found)))))
+    rw (← c.self.view_is) (refused_same c.from_residual-in_err-room-in-None.result c.in_err-room-in-None.field-0.0 (cond (full c.self.inside.slots c.args.key.now) Full OutOfMemory) c.from_residual-in_err-room-in-None.ensures
+    (c.in_err-room-in-None.ensures.refusal ∙ ap (λ (b : Bool). cond b Full OutOfMemory) (sym (full_new c.self.inside.slots c.args.key.now (sym c.in-None.ensures.found)))))
 
 pub returns-in_err-id-in-None-clause-refusal : goal.returns-in_err-id-in-None-clause-refusal
 returns-in_err-id-in-None-clause-refusal c =
-    rw (← c.self.view_is) (refused_same c.from_residual-in_err-id-in-None.result c.in_err-id-in-None.field-0.0 (cond (full c.self.inside.slots c.args.key.now) Full OutOfMemory) c.from_residual-in_err-id-in-None.ensures (c.in_err-id-in-None.ensures.refusal ∙ ap (λ (b : Bool). cond b Full OutOfMemory) (sym (full_new c.self.inside.slots c.args.key.now (sym c.in-None.ensures.found)))))
+    rw (← c.self.view_is) (refused_same c.from_residual-in_err-id-in-None.result c.in_err-id-in-None.field-0.0 (cond (full c.self.inside.slots c.args.key.now) Full OutOfMemory) c.from_residual-in_err-id-in-None.ensures
+    (c.in_err-id-in-None.ensures.refusal ∙ ap (λ (b : Bool). cond b Full OutOfMemory) (sym (full_new c.self.inside.slots c.args.key.now (sym c.in-None.ensures.found)))))
 
 pub returns-in_err-outcome-in-Some-clause-err : goal.returns-in_err-outcome-in-Some-clause-err
 returns-in_err-outcome-in-Some-clause-err c =
@@ -138,17 +145,11 @@ returns-in_ok-id-in-None-clause-told c =
 
 pub returns-in_ok-id-in-None-clause-rows : goal.returns-in_ok-id-in-None-clause-rows
 returns-in_ok-id-in-None-clause-rows c =
-    rw (← c.self.view_is) (λ i. record {
-      capacity = (same_but_new c.self.inside.point c.args.transaction c.args.class c.args.value c.self.inside.slots c.request_new.new.slots c.put.new.self c.args.key.now c.in_ok-id-in-None.id (sym c.in-None.ensures.found) c.in_ok-id-in-None.ensures.made c.self.invariant.1 (waits_same c.args.transaction c.self.inside.slots.spots ∙ ap (λ (k : Table). is_waiting k.rows c.args.transaction) c.self.view_is ∙ c.requires.ready)
-          c.in_ok-id-in-None.ensures.asked c.put.ensures.put i).capacity;
-      rows = rows_put_new c.self.inside.point c.args.transaction c.args.class c.args.value c.self.inside.slots c.request_new.new.slots c.put.new.self c.args.key.now c.in_ok-id-in-None.id (sym c.in-None.ensures.found) c.in_ok-id-in-None.ensures.made c.self.invariant.1 (waits_same c.args.transaction c.self.inside.slots.spots ∙ ap (λ (k : Table). is_waiting k.rows c.args.transaction) c.self.view_is ∙ c.requires.ready)
-          c.in_ok-id-in-None.ensures.asked c.put.ensures.put i;
-    })
+    rw (← c.self.view_is) (λ i. record { capacity = ((first c).same i).capacity; rows = (first c).rows i })
 
 pub returns-in_ok-id-in-None-clause-pending : goal.returns-in_ok-id-in-None-clause-pending
 returns-in_ok-id-in-None-clause-pending c =
-    rw (← c.self.view_is) (pending_put_new c.self.inside.point c.args.transaction c.args.class c.args.value c.self.inside.slots c.request_new.new.slots c.put.new.self c.args.key.now c.in_ok-id-in-None.id (sym c.in-None.ensures.found) c.in_ok-id-in-None.ensures.made c.self.invariant.1 (waits_same c.args.transaction c.self.inside.slots.spots ∙ ap (λ (k : Table). is_waiting k.rows c.args.transaction) c.self.view_is ∙ c.requires.ready)
-    c.in_ok-id-in-None.ensures.asked c.put.ensures.put c.put.ensures.whole)
+    rw (← c.self.view_is) (first c).pending
 
 pub returns-in_ok-id-in-None-clause-clear : goal.returns-in_ok-id-in-None-clause-clear
 returns-in_ok-id-in-None-clause-clear c =
@@ -156,13 +157,11 @@ returns-in_ok-id-in-None-clause-clear c =
 
 pub returns-in_ok-id-in-None-clause-opened : goal.returns-in_ok-id-in-None-clause-opened
 returns-in_ok-id-in-None-clause-opened c =
-    rw (← c.self.view_is) (ap (λ (f : Floor). f.opened) (same_but_new c.self.inside.point c.args.transaction c.args.class c.args.value c.self.inside.slots c.request_new.new.slots c.put.new.self c.args.key.now c.in_ok-id-in-None.id (sym c.in-None.ensures.found) c.in_ok-id-in-None.ensures.made c.self.invariant.1 (waits_same c.args.transaction c.self.inside.slots.spots ∙ ap (λ (k : Table). is_waiting k.rows c.args.transaction) c.self.view_is ∙ c.requires.ready)
-    c.in_ok-id-in-None.ensures.asked c.put.ensures.put))
+    rw (← c.self.view_is) (ap (λ (f : Floor). f.opened) (first c).same)
 
 pub returns-in_ok-id-in-None-clause-shut : goal.returns-in_ok-id-in-None-clause-shut
 returns-in_ok-id-in-None-clause-shut c =
-    rw (← c.self.view_is) (ap (λ (f : Floor). f.closed) (same_but_new c.self.inside.point c.args.transaction c.args.class c.args.value c.self.inside.slots c.request_new.new.slots c.put.new.self c.args.key.now c.in_ok-id-in-None.id (sym c.in-None.ensures.found) c.in_ok-id-in-None.ensures.made c.self.invariant.1 (waits_same c.args.transaction c.self.inside.slots.spots ∙ ap (λ (k : Table). is_waiting k.rows c.args.transaction) c.self.view_is ∙ c.requires.ready)
-    c.in_ok-id-in-None.ensures.asked c.put.ensures.put))
+    rw (← c.self.view_is) (ap (λ (f : Floor). f.closed) (first c).same)
 
 pub returns-in_ok-id-in-None-clause-room : goal.returns-in_ok-id-in-None-clause-room
 returns-in_ok-id-in-None-clause-room c =
