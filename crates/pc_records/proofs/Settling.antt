@@ -17,7 +17,8 @@ use Rattle.pc_slots.specs.declared.versions.Stable.TheVariants.{Empty}
 use Rattle.pc_slots.specs.declared.versions.Writer.{Writer}
 use Rattle.pc_slots.specs.Words.{is_marked, HaveLinks}
 use Rattle.pc_slots.specs.Slots.{Slot, slot_with, settled, settled_class, settled_from, writer_in}
-use Rattle.pc_records.specs.Slots.{slots_in}
+use Rattle.pc_records.specs.Slots.{slots_in, at_number}
+use Rattle.pc_records.proofs.TableSlots.{changed_slots}
 use Rattle.pc_records.specs.SetLists.{HasPlace, next_in, marked_in, key_in, keys_at, is_listed, AreLists, open_slots, closed_slots, IsListed, open_keys, closed_keys, entering, KeepSets, KeepRecords}
 use Rattle.pc_records.proofs.InSlots.{cell_there}
 use Rattle.pc_records.proofs.Unlinked.{slots_keep, marks_keep, key_keeps}
@@ -98,8 +99,21 @@ pub all_keys : (old new : List (TableRow Cell)) → ((slot : ℕ) → key_in (in
 all_keys old new f [] = refl
 all_keys old new f (x ∷ xs) = ap (λ (k : List ℕ). k ∷ keys_at new xs) (f x) ∙ ap (λ (ks : List (List ℕ)). key_in (in_slot old x) ∷ ks) (all_keys old new f xs)
 
+-- the write of the slot is committed, and it is in the open set, at its end where it wasn't in it
+pub record Settles (table new : Contents Cell) (sets now : Dirty) (point id : ℕ) : Type 0 where
+  pub slots : slots_in sets.side new.rows ≡ map (at_number (settled point) id) (slots_in sets.side table.rows)
+  pub listed : IsListed new.rows now
+  pub opened : open_keys new.rows now ≡ open_keys table.rows sets ++ entering sets.side (in_slot table.rows id)
+  pub closed : closed_keys new.rows now ≡ closed_keys table.rows sets
+
 module _ (table : Contents Cell) (a : AreInSlots table) (sets : Dirty) (l : IsListed table.rows sets) (id : ℕ) (x y : Cell) (has : option_map (λ pair. pair.1) (in_slot table.rows id) ≡ Some x) (point : ℕ)
-    (turns : (number : ℕ) (key : List ℕ) → slot_with sets.side number key y ≡ settled point (slot_with sets.side number key x)) (links : HaveLinks x y) where
+    (here : Side) (is : here ≡ sets.side) (turned : (number : ℕ) (key : List ℕ) → slot_with here number key y ≡ settled point (slot_with here number key x)) (links : HaveLinks x y) where
+  turns : (number : ℕ) (key : List ℕ) → slot_with sets.side number key y ≡ settled point (slot_with sets.side number key x)
+  turns = subst (λ (s : Side). (number : ℕ) (key : List ℕ) → slot_with s number key y ≡ settled point (slot_with s number key x)) is turned
+
+  turned_slots : slots_in sets.side (map (with_record_in id y) table.rows) ≡ map (at_number (settled point) id) (slots_in sets.side table.rows)
+  turned_slots = changed_slots sets.side table id x y (settled point) a has turns
+
   abbrev opened : List ℕ
   opened = open_slots table.rows sets
 
@@ -123,7 +137,10 @@ module _ (table : Contents Cell) (a : AreInSlots table) (sets : Dirty) (l : IsLi
       by_row (Some p) e = ap (λ o. marked_in side (option_map (λ c. (p.0, c)) o)) e
 
   -- it doesn't go in
-  module _ (stays : false ≡ (is_some (writer_in x) && not (is_marked sets.side x))) where
+  module _ (still : false ≡ (is_some (writer_in x) && not (is_marked here x))) where
+    stays : false ≡ (is_some (writer_in x) && not (is_marked sets.side x))
+    stays = subst (λ (s : Side). false ≡ (is_some (writer_in x) && not (is_marked s x))) is still
+
     open_same : is_marked sets.side y ≡ is_marked sets.side x
     open_same = open_now ∙ by_test (is_some (writer_in x)) (is_marked sets.side x) stays
       where
@@ -135,20 +152,23 @@ module _ (table : Contents Cell) (a : AreInSlots table) (sets : Dirty) (l : IsLi
     keeps : KeepSets table.rows after
     keeps = changed_sets table.rows id x y has (same_words sets.side x y links open_same closed_now)
 
-    pub stays_listed : IsListed after sets
+    stays_listed : IsListed after sets
     stays_listed = kept_listed table.rows after sets keeps l
 
-    pub stays_open : open_keys after sets ≡ open_keys table.rows sets ++ entering sets.side (in_slot table.rows id)
+    stays_open : open_keys after sets ≡ open_keys table.rows sets ++ entering sets.side (in_slot table.rows id)
     stays_open = kept_open table.rows after sets keeps l ∙ sym (ap (λ ks. open_keys table.rows sets ++ ks) nothing ∙ append-nil (open_keys table.rows sets))
       where
         nothing : entering sets.side (in_slot table.rows id) ≡ []
         nothing = let t = cell_there (in_slot table.rows id) x has in ap (entering sets.side) t.1 ∙ ap (λ b. cond b (t.0 ∷ []) []) (sym stays)
 
-    pub stays_closed : closed_keys after sets ≡ closed_keys table.rows sets
-    stays_closed = kept_closed table.rows after sets keeps l
+    pub stays_out : Settles table (record table { rows = after }) sets sets point id
+    stays_out = record { slots = turned_slots; listed = stays_listed; opened = stays_open; closed = kept_closed table.rows after sets keeps l }
 
   -- it goes in
-  module _ (goes : true ≡ (is_some (writer_in x) && not (is_marked sets.side x))) where
+  module _ (gone : true ≡ (is_some (writer_in x) && not (is_marked here x))) where
+    goes : true ≡ (is_some (writer_in x) && not (is_marked sets.side x))
+    goes = subst (λ (s : Side). true ≡ (is_some (writer_in x) && not (is_marked s x))) is gone
+
     marked_now : is_marked sets.side y ≡ true
     marked_now = open_now ∙ by_test (is_some (writer_in x)) (is_marked sets.side x) goes
       where
@@ -196,17 +216,17 @@ module _ (table : Contents Cell) (a : AreInSlots table) (sets : Dirty) (l : IsLi
       keys : (slot : ℕ) → key_in (in_slot new.rows slot) ≡ key_in (in_slot table.rows slot)
       keys slot = key_keeps (record table { rows = after }) new beside slot ∙ (links_kept table.rows id x y has links).key slot
 
-      pub goes_listed : IsListed new.rows now
+      goes_listed : IsListed new.rows now
       goes_listed = named new.rows now (opened ++ id ∷ []) closed lists
 
-      pub goes_open : open_keys new.rows now ≡ open_keys table.rows sets ++ entering sets.side (in_slot table.rows id)
+      goes_open : open_keys new.rows now ≡ open_keys table.rows sets ++ entering sets.side (in_slot table.rows id)
       goes_open = open_keys_named new.rows now (opened ++ id ∷ []) closed lists ∙ (all_keys table.rows new.rows keys (opened ++ id ∷ []) ∙ (keys_push table.rows opened id ∙ ap (λ ks. keys_at table.rows opened ++ ks) there))
         where
           there : key_in (in_slot table.rows id) ∷ [] ≡ entering sets.side (in_slot table.rows id)
           there = let t = cell_there (in_slot table.rows id) x has in ap (λ o. key_in o ∷ []) t.1 ∙ sym (ap (entering sets.side) t.1 ∙ ap (λ b. cond b (t.0 ∷ []) []) (sym goes))
 
-      pub goes_closed : closed_keys new.rows now ≡ closed_keys table.rows sets
+      goes_closed : closed_keys new.rows now ≡ closed_keys table.rows sets
       goes_closed = closed_keys_named new.rows now (opened ++ id ∷ []) closed lists ∙ all_keys table.rows new.rows keys closed
 
-      pub goes_slots : slots_in sets.side new.rows ≡ slots_in sets.side after
-      goes_slots = slots_keep (record table { rows = after }) new beside sets.side
+      pub goes_in : Settles table new sets now point id
+      goes_in = record { slots = slots_keep (record table { rows = after }) new beside sets.side ∙ turned_slots; listed = goes_listed; opened = goes_open; closed = goes_closed }

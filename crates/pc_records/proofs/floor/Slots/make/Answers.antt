@@ -54,9 +54,12 @@ returns-clause-refusal c =
     let i = c.self.inside in
     rw (← c.self.view_is) (made_refused i.sets.side i.table c.make.new.table (queues_in i.table.rows i.locks) (queues_in c.make.new.table.rows i.locks) c.make.result c.make.ensures.refusal)
 
-back : (locks : Kept) (sets : Dirty) (table new : Contents Cell) (r : Result ℕ Refusal) → OnErr r (new ≡ table) → OnErr r (floor_of new.capacity (queues_in new.rows locks) (slots_in sets.side new.rows) (open_keys new.rows sets) (closed_keys new.rows sets) ≡ floor_of table.capacity (queues_in table.rows locks) (slots_in sets.side table.rows) (open_keys table.rows sets) (closed_keys table.rows sets))
+abbrev seen : Kept → Dirty → Contents Cell → Floor
+seen locks sets t = floor_of t.capacity (queues_in t.rows locks) (slots_in sets.side t.rows) (open_keys t.rows sets) (closed_keys t.rows sets)
+
+back : (locks : Kept) (sets : Dirty) (table new : Contents Cell) (r : Result ℕ Refusal) → OnErr r (new ≡ table) → OnErr r (seen locks sets new ≡ seen locks sets table)
 back locks sets table new (Ok id) same = tt
-back locks sets table new (Err e) same = ap (λ (t : Contents Cell). floor_of t.capacity (queues_in t.rows locks) (slots_in sets.side t.rows) (open_keys t.rows sets) (closed_keys t.rows sets)) same
+back locks sets table new (Err e) same = ap (seen locks sets) same
 
 pub returns-clause-same : goal.returns-clause-same
 returns-clause-same c = rw (← c.self.view_is) (back c.self.inside.locks c.self.inside.sets c.self.inside.table c.make.new.table c.make.result c.make.ensures.err)

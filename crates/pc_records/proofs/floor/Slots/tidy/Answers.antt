@@ -1,4 +1,4 @@
-use Rattle.std.proofs.Common.{◌≡◌, ◌∙◌, ap, sym, true, false}
+use Rattle.std.proofs.Common.{◌≡◌, ◌∙◌, ap, sym, false}
 use Rattle.pc_locks.specs.States.{queue_at}
 use Rattle.pc_slots.specs.Slots.{slot_with, is_kept_slot}
 use Rattle.std.specs.Prelude.{[]}

@@ -77,7 +77,8 @@ returns-in_err-request_new-in-None-clause-err c =
 
 pub returns-in_err-request_new-in-None-clause-refusal : goal.returns-in_err-request_new-in-None-clause-refusal
 returns-in_err-request_new-in-None-clause-refusal c =
-    rw (← c.self.view_is) (refused_same c.from_residual-in_err-request_new-in-None.result c.in_err-request_new-in-None.field-0.0 (cond (full c.self.inside.slots c.args.key.now) Full OutOfMemory) c.from_residual-in_err-request_new-in-None.ensures (c.in_err-request_new-in-None.ensures.refusal ∙ ap (λ (b : Bool). cond b Full OutOfMemory) (sym (full_new c.self.inside.slots c.args.key.now (sym c.in-None.ensures.found)))))
+    rw (← c.self.view_is) (refused_same c.from_residual-in_err-request_new-in-None.result c.in_err-request_new-in-None.field-0.0 (cond (full c.self.inside.slots c.args.key.now) Full OutOfMemory) c.from_residual-in_err-request_new-in-None.ensures
+    (c.in_err-request_new-in-None.ensures.refusal ∙ ap (λ (b : Bool). cond b Full OutOfMemory) (sym (full_new c.self.inside.slots c.args.key.now (sym c.in-None.ensures.found)))))
 
 pub returns-in_ok-request_new-in-None-clause-told : goal.returns-in_ok-request_new-in-None-clause-told
 returns-in_ok-request_new-in-None-clause-told c =

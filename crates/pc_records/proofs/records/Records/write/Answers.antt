@@ -1,4 +1,4 @@
-use Rattle.std.proofs.Common.{◌≡◌, ◌∙◌, ap, sym, subst, cond, Bool, refl}
+use Rattle.std.proofs.Common.{◌∙◌, ap, sym, subst, cond, Bool, refl}
 use Rattle.pc_types.specs.declared.Mode.TheVariants.{Exclusive}
 use Rattle.pc_types.specs.declared.Outcome.TheVariants.{Granted}
 use Rattle.pc_types.specs.declared.Refusal.TheVariants.{Full, OutOfMemory}
