@@ -19,7 +19,8 @@ use std::alloc::{AllocError, Global};
 use std::hash::RandomState;
 use std::marker::Model;
 
-/// The slots of keys, each with the queue of its requests, and the two sets, linked through them.
+/// The slots of keys, each with the queue of its requests, and the two sets. The locks have the requests of a slot at its number,
+/// and the slot has the ends of their queue; the sets are linked through the slots.
 #[derive(Drop)]
 pub(crate) struct Slots {
     table: Table<Cell>,

@@ -37,9 +37,8 @@ pub struct Reading {
     pub found: Option<Value>,
 }
 
-/// The records, in the slots of a table; at most as many as its capacity. The locks have the requests of a slot's key at the
-/// slot's number, and the slot has the ends of their queue. The two sets are linked through the slots. The point is that of
-/// the last closed set.
+/// The records, at most as many as the capacity, each in a slot beside the requests of its key. The point is that of the last
+/// closed set.
 #[derive(Drop)]
 pub struct Records {
     slots: Slots,
