@@ -4,7 +4,6 @@ use Rattle.std.proofs.lemmas.Bool.{eqb-true, eq-eqb}
 use Rattle.pc_chain.specs.declared.chain.Chain.{Chain}
 use Rattle.pc_chain.specs.Chains.{IsEmpty}
 use Rattle.pc_locks.specs.States.{queue_at}
-use Rattle.pc_locks.specs.Keepers as keepers
 use Rattle.pc_locks.specs.Keepers.{AreEnds, DifferWhereNone}
 use Rattle.pc_locks.proofs.KeeperLaws.{other_ends, other_state}
 use Rattle.pc_table.specs.Rows.{Row as TableRow, Contents, in_slot, slot_of as table_slot, with_record_in, with_row, without_slot, IsNewSlot, AreInSlots}
@@ -17,7 +16,8 @@ use Rattle.pc_records.specs.Ends.{ends_of, ends_in, queues_in, KeepSlots}
 use Rattle.pc_records.proofs.InSlots.{changed_in, in_changed, in_put, in_left, cell_there}
 use Rattle.pc_records.proofs.TableSlots.{no_find, changed_slots}
 use Rattle.pc_records.proofs.KeepingSets.{changed_sets}
-use Rattle.pc_records.proofs.SlotMoments.{first_cell, other_cells}
+use Rattle.pc_records.proofs.BlankSlots.{first_cell, other_cells}
+use Rattle.pc_locks.specs.Keepers as keepers
 
 -- where each slot has the same ends
 each_same : (rows new : List (TableRow Cell)) → ((slot : ℕ) → ends_in new slot ≡ ends_in rows slot) → ends_in new ≡ ends_in rows

@@ -12,8 +12,6 @@ use Rattle.pc_model.specs.Database.{key_cmp, same_bytes}
 use Rattle.pc_model.specs.Locks.{Queue, is_ungranted, outcome, queue_after, queue_without, request_in}
 use Rattle.pc_model.specs.Queues.{stands_in}
 use Rattle.pc_locks.specs.States.{Queues, queue_at, slots_of, first_of, SetsAt}
-use Rattle.pc_locks.specs.States as states
-use Rattle.pc_locks.specs.Keepers as keepers
 use Rattle.pc_dirty.specs.declared.side.Side.{Side}
 use Rattle.pc_dirty.specs.declared.dirty.Dirty.{Dirty}
 use Rattle.pc_dirty.specs.Sets.{other_side, AreSets}
@@ -31,9 +29,11 @@ use Rattle.pc_records.specs.Floor.{Spot, spot_of, spots_of, floor_of, at_spot, w
 use Rattle.pc_records.proofs.Listing.{kept_open, kept_closed}
 use Rattle.pc_records.proofs.Moments.{settled_number}
 use Rattle.pc_records.proofs.SidesTurned.{slots_turned, turned_open, turned_closed}
-use Rattle.pc_records.proofs.SlotMoments.{kept_map}
 use Rattle.pc_records.proofs.SlotWaiting.{waits_same}
 use Rattle.pc_records.proofs.SlotReleasing.{slot_there, stands_first, stands_nowhere}
+use Rattle.pc_records.proofs.SlotKeeping.{kept_map}
+use Rattle.pc_locks.specs.States as states
+use Rattle.pc_locks.specs.Keepers as keepers
 
 -- a slot that has the number has a row
 pub spot_row : (side : Side) (queues : Queues) (id : ℕ) (rows : List (TableRow Cell)) → has_spot (spots_of queues (slots_in side rows)) id ≡ true → HasRow rows id

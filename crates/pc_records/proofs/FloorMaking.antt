@@ -14,7 +14,6 @@ use Rattle.pc_model.specs.Database.{key_cmp, same_bytes}
 use Rattle.pc_records.specs.Rows.{record_of, stored}
 use Rattle.pc_chain.specs.declared.chain.Chain.{Chain}
 use Rattle.pc_locks.specs.States.{Queues, queue_at}
-use Rattle.pc_locks.specs.Keepers as keepers
 use Rattle.pc_dirty.specs.declared.side.Side.{Side}
 use Rattle.pc_dirty.specs.declared.dirty.Dirty.{Dirty}
 use Rattle.pc_table.specs.Rows.{Row as TableRow, Contents, HasRow, AreInSlots, IsNewSlot, in_slot, with_row, slot_of as table_slot}
@@ -24,7 +23,7 @@ use Rattle.pc_slots.specs.Slots.{Slot, slot_with, base_cell, new_slot, keeps_cop
 use Rattle.pc_types.specs.declared.Class.{Class}
 use Rattle.pc_types.specs.declared.Class.TheVariants.{Before, During, After}
 use Rattle.pc_records.specs.Ends.{ends_in, queues_in}
-use Rattle.pc_records.specs.Slots.{slots_in, slot_in, cells_in, base_row, row_of, rows_of, times, numbers_of, AreKept}
+use Rattle.pc_records.specs.Slots.{slots_in, slot_in, cells_in, base_row, row_of, rows_of, times, numbers_of, AreKept, no_queues}
 use Rattle.pc_records.specs.SetLists.{IsListed, open_keys, closed_keys}
 use Rattle.pc_records.specs.Floor.{Spot, spot_of, spots_of, floor_of, has_spot, entered, new_spot, of_spot, copy_kept, committed_at, unnumbered, first_spot}
 use Rattle.pc_records.proofs.BlankSlots.{blank_slot}
@@ -32,13 +31,10 @@ use Rattle.pc_records.proofs.EndsKept.{ends_with}
 use Rattle.pc_records.proofs.FloorLaws.{row_spot}
 use Rattle.pc_records.proofs.KeepingSets.{sets_with}
 use Rattle.pc_records.proofs.Listing.{kept_listed, kept_open, kept_closed}
-use Rattle.pc_records.proofs.NewSlots.{went_in}
-use Rattle.pc_records.proofs.Queued.{set_is}
-use Rattle.pc_records.proofs.SlotKeeping.{kept_inserted}
-use Rattle.pc_records.proofs.SlotPlaces.{place}
+use Rattle.pc_records.proofs.SlotKeeping.{kept_inserted, set_is}
 use Rattle.pc_records.proofs.SlotRising.{rise_any}
-use Rattle.pc_records.proofs.TableSlots.{no_find, no_number, slots_rise}
-use Rattle.pc_records.specs.Slots.{no_queues}
+use Rattle.pc_records.proofs.TableSlots.{no_find, no_number, slots_rise, went_in, place}
+use Rattle.pc_locks.specs.Keepers as keepers
 
 -- the spots with a row that went in
 put_spots : (side : Side) (queues : Queues) (key : List ℕ) (n : ℕ) (x : Cell) (rows : List (TableRow Cell)) → find key_cmp key rows ≡ None → spots_of queues (slots_in side (put key_cmp key (n, x) rows)) ≡ entered (spot_of queues (slot_with side n key x)) (spots_of queues (slots_in side rows))

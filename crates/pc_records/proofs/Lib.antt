@@ -1,6 +1,5 @@
 mod BlankSlots
 mod SlotRising
-mod SlotPlaces
 mod TableSlots
 mod InSlots
 mod Unlinked
@@ -13,14 +12,9 @@ mod Leaving
 mod Among
 mod SidesTurned
 mod FirstSlots
-mod Tidied
-mod NewSlots
-mod Numbers
 mod CommittedPairs
 mod Copies
-mod Queued
 mod SlotKeeping
-mod Tidying
 mod SlotReleasing
 mod SlotWaiting
 pub mod FollowingLaws
@@ -37,7 +31,6 @@ pub mod NewKeyLaws
 mod Exclusive
 mod Lookups
 mod Moments
-mod SlotMoments
 mod FloorLaws
 mod FloorMaking
 mod FloorTaking

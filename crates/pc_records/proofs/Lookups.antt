@@ -15,7 +15,11 @@ use Rattle.pc_model.proofs.JoinLaws.{one_key}
 use Rattle.pc_records.specs.Rows.{Row, Record, record_of}
 use Rattle.pc_slots.specs.Slots.{Slot}
 use Rattle.pc_records.specs.Slots.{no_queues, row_of, rows_of, with_entry, entries_of}
-use Rattle.pc_records.proofs.Tidying.{below_at}
+
+below_at : (key : List ℕ) (rows : List Row) (i : ℕ) (d : Row) → i < length rows → below_all key_cmp key rows ≡ true → is_lt (key_cmp key (get_or rows i d).0) ≡ true
+below_at key [] i d lt h = absurd (omega (arith, lt))
+below_at key (row ∷ rows) zero d lt h = (and_both (is_lt (key_cmp key row.0)) (below_all key_cmp key rows) h).0
+below_at key (row ∷ rows) (suc i) d lt h = below_at key rows i d (omega (arith, lt)) (and_both (is_lt (key_cmp key row.0)) (below_all key_cmp key rows) h).1
 
 -- the slot of the key
 abbrev pub slot_of : List Slot → List ℕ → Option Slot

@@ -1,15 +1,44 @@
 -- What slots and queues keep.
-use Rattle.std.proofs.Common.{◌≡◌, ℕ, ◌+◌, ◌≤◌, List, [], refl, sym, ap, ◌∙◌, subst, arith, cond, Bool, true, false, eqb}
+use Rattle.std.proofs.Common.{◌≡◌, ℕ, ◌+◌, ◌≤◌, List, [], refl, sym, ap, ◌∙◌, subst, arith, cond, Bool, true, false, eqb, zero, suc, ◌∷◌, map}
 use Rattle.std.specs.Prelude.{insert}
 use Rattle.std.proofs.lemmas.Bool.Decides.{nat_tests}
 use Rattle.pc_model.specs.Database.{KeysRise}
 use Rattle.pc_model.specs.Locks.{Queue}
-use Rattle.pc_locks.specs.States.{Queues, queue_at}
+use Rattle.pc_locks.specs.States.{Queues, queue_at, SetsAt}
 use Rattle.pc_slots.specs.Slots.{Slot}
 use Rattle.pc_records.specs.Slots.{no_queues, rows_of, numbers_of, times, AreKept}
 use Rattle.pc_records.proofs.SlotRising.{keys_of, rise_any, rise_same}
-use Rattle.pc_records.proofs.Numbers.{times-insert}
-use Rattle.pc_records.proofs.Queued.{set_at, queue_other}
+use Rattle.std.proofs.lemmas.Bool.{eqb-true, eqb-false}
+
+-- how often a number stands among those of slots where one goes in
+pub times-insert : (n : ℕ) (slots : List Slot) (i : ℕ) (x : Slot) → times n (numbers_of (insert slots i x)) ≡ times n (numbers_of slots) + cond (eqb x.number n) 1 0
+times-insert n [] zero x = elim (eqb x.number n) as (λ b. cond b (0 + 1) 0 ≡ 0 + cond b 1 0) [ true ↦ refl | false ↦ refl ]
+times-insert n [] (suc i) x = elim (eqb x.number n) as (λ b. cond b (0 + 1) 0 ≡ 0 + cond b 1 0) [ true ↦ refl | false ↦ refl ]
+times-insert n (y ∷ ys) zero x = one_more (eqb x.number n) (times n (numbers_of (y ∷ ys)))
+  where
+    one_more : (b : Bool) (m : ℕ) → cond b (m + 1) m ≡ m + cond b 1 0
+    one_more true m = refl
+    one_more false m = omega arith
+times-insert n (y ∷ ys) (suc i) x = by_test (eqb y.number n) (eqb x.number n) (times-insert n ys i x)
+  where
+    by_test : (a b : Bool) → times n (numbers_of (insert ys i x)) ≡ times n (numbers_of ys) + cond b 1 0 → cond a (times n (numbers_of (insert ys i x)) + 1) (times n (numbers_of (insert ys i x))) ≡ cond a (times n (numbers_of ys) + 1) (times n (numbers_of ys)) + cond b 1 0
+    by_test true b e = omega (arith, e)
+    by_test false b e = e
+
+-- the queues, where that of this number is another
+abbrev pub set_at : Queues → ℕ → Queue → Queues
+set_at queues n q m = cond (eqb m n) q (queue_at queues m)
+
+pub queue_other : (queues : Queues) (n m : ℕ) (q : Queue) → eqb m n ≡ false → queue_at (set_at queues n q) m ≡ queue_at queues m
+queue_other queues n m q other = ap (λ b. cond b q (queue_at queues m)) other
+
+-- what is set at one number is set there
+pub set_is : (queues new : Queues) (n : ℕ) (q : Queue) → SetsAt queues new n q → new ≡ set_at queues n q
+set_is queues new n q h = λ i m. each m (eqb m n) refl i
+  where
+    each : (m : ℕ) (b : Bool) → eqb m n ≡ b → new m ≡ cond b q (queue_at queues m)
+    each m true is = ap new (eqb-true m n is) ∙ h.this
+    each m false is = h.others m (eqb-false m n is)
 
 -- other slots of the same keys and numbers
 pub kept_same : (slots new : List Slot) (queues : Queues) → keys_of new ≡ keys_of slots → numbers_of new ≡ numbers_of slots → AreKept slots queues → AreKept new queues
@@ -18,6 +47,18 @@ kept_same slots new queues keys numbers kept = record {
   once = λ n. subst (λ ns. times n ns ≤ 1) (sym numbers) (kept.once n);
   bare = λ n none. kept.bare n (ap (times n) (sym numbers) ∙ none);
 }
+
+-- slots that keep their keys and numbers
+pub keys_map : (g : Slot → Slot) (slots : List Slot) → ((s : Slot) → (g s).key ≡ s.key) → keys_of (map g slots) ≡ keys_of slots
+keys_map g [] keeps = refl
+keys_map g (x ∷ xs) keeps = ap (λ (k : List ℕ). k ∷ keys_of (map g xs)) (keeps x) ∙ ap (λ (ks : List (List ℕ)). x.key ∷ ks) (keys_map g xs keeps)
+
+pub numbers_map : (g : Slot → Slot) (slots : List Slot) → ((s : Slot) → (g s).number ≡ s.number) → numbers_of (map g slots) ≡ numbers_of slots
+numbers_map g [] keeps = refl
+numbers_map g (x ∷ xs) keeps = ap (λ (n : ℕ). n ∷ numbers_of (map g xs)) (keeps x) ∙ ap (λ (ns : List ℕ). x.number ∷ ns) (numbers_map g xs keeps)
+
+pub kept_map : (g : Slot → Slot) (slots new : List Slot) (queues : Queues) → new ≡ map g slots → ((s : Slot) → (g s).key ≡ s.key) → ((s : Slot) → (g s).number ≡ s.number) → AreKept slots queues → AreKept new queues
+kept_map g slots new queues is keys numbers kept = kept_same slots new queues (ap keys_of is ∙ keys_map g slots keys) (ap numbers_of is ∙ numbers_map g slots numbers) kept
 
 -- a slot goes in with a number that no slot has, and has this queue
 pub kept_inserted : (slots new : List Slot) (queues new_queues : Queues) (i : ℕ) (x : Slot) (q : Queue) → AreKept slots queues → times x.number (numbers_of slots) ≡ 0 → new ≡ insert slots i x → new_queues ≡ set_at queues x.number q →

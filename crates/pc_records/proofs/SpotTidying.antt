@@ -10,7 +10,7 @@ use Rattle.pc_model.specs.Queues.{stands_in}
 use Rattle.pc_model.proofs.RisingLaws.{Rise}
 use Rattle.pc_slots.specs.declared.versions.Writer.{Writer}
 use Rattle.pc_slots.specs.Slots.{Pending, pending_in, write_of, is_locked, IsSound, taken_slot}
-use Rattle.pc_records.specs.Rows.{Row, is_kept}
+use Rattle.pc_records.specs.Rows.{Row, is_kept, Record, record_of}
 use Rattle.pc_records.specs.RowSteps.{if_kept, with_row, released, released_rows, left_of, with_left, left_rows}
 use Rattle.pc_records.specs.Slots.{with_entry}
 use Rattle.pc_records.specs.Floor.{Spot, Floor, IsWhole, Each, AreApart, AreSound, row_in, rows_in, writes_in, table_on, changed, at_spot, with_spot, IsOver, IsLeft, has_spot, let_go, stands_at, stands_anywhere, is_needed, tidied, standing, TakesFirst, number_of}
@@ -19,7 +19,18 @@ use Rattle.pc_records.proofs.Moments.{sound_queue, kept_row, taken_sound}
 use Rattle.pc_records.proofs.FloorTidying.{no_request}
 use Rattle.pc_records.proofs.SlotReleasing.{gone, without, released_one, released_again}
 use Rattle.pc_records.proofs.SpotLaws.{no, one_some, same_self, spot_of_key, spot_of_number, record_in, write_in, found_record, found_write, key_found, head_lacks, tail_rises, each_by_key, each_found, each_changed, apart_stay, rows_changed, writes_same, has_same, has_number, found, IsFound}
-use Rattle.pc_records.proofs.Tidying.{others_all}
+
+-- the rows of other keys, where the key has none
+others_all : (key : List ℕ) (rows : List Row) → record_of rows key ≡ None → filter (λ row. not (same_bytes key row.0)) rows ≡ rows
+others_all key [] h = refl
+others_all key (row ∷ rows) h = by_test (same_bytes key row.0) refl (others_all key rows)
+  where
+    by_test : (b : Bool) → same_bytes key row.0 ≡ b → (record_of rows key ≡ None → filter (λ row. not (same_bytes key row.0)) rows ≡ rows) → filter (λ row. not (same_bytes key row.0)) (row ∷ rows) ≡ row ∷ rows
+    by_test true is rest = absurd (some_not_none row.1 (rw is at h))
+      where
+        some_not_none : (r : Record) → Some r ≡ None → ⊥
+        some_not_none r e = cc
+    by_test false is rest = rw is (ap (λ (rows : List Row). row ∷ rows) (rest (rw is at h)))
 
 pub or_parts : (a b : Bool) → (a || b) ≡ false → (a ≡ false) × (b ≡ false)
 or_parts true b e = absurd cc

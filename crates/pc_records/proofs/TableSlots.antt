@@ -1,5 +1,5 @@
 -- The slots in the rows of a table.
-use Rattle.std.proofs.Common.{◌≡◌, ℕ, zero, suc, ◌+◌, ◌<◌, ◌≤◌, List, [], ◌∷◌, map, Option, Some, None, option_map, is_some, refl, sym, ap, ◌∙◌, arith, cond, Bool, true, false, eqb, eqb-true}
+use Rattle.std.proofs.Common.{◌≡◌, ℕ, zero, suc, ◌+◌, ◌<◌, ◌≤◌, List, [], ◌∷◌, map, Option, Some, None, option_map, is_some, refl, sym, ap, ◌∙◌, arith, cond, Bool, true, false, eqb, eqb-true, subst}
 use Rattle.std.specs.Prelude.{insert}
 use Rattle.std.specs.declared.cmp.Ordering.{Ordering}
 use Rattle.std.specs.declared.cmp.Ordering.TheVariants.{Less, Equal, Greater}
@@ -9,14 +9,20 @@ use Rattle.std.specs.FinMap.Entries.{below_all, by_order}
 use Rattle.pc_model.specs.Database.{key_cmp, KeysRise, same_bytes}
 use Rattle.pc_model.proofs.JoinLaws.{one_key}
 use Rattle.pc_model.proofs.RisingLaws.{both, none_below, Rise}
-use Rattle.pc_table.specs.Rows.{Row as TableRow, Contents, slot_of as table_slot, in_slot, with_record_in, HasRow, AreInSlots}
+use Rattle.pc_table.specs.Rows.{Row as TableRow, Contents, slot_of as table_slot, in_slot, with_record_in, HasRow, AreInSlots, with_row}
 use Rattle.pc_table.proofs.RowLaws.{no_row, same_some, slot_found, one_place}
 use Rattle.pc_slots.specs.declared.cells.Cell.{Cell}
-use Rattle.pc_slots.specs.Slots.{Slot, slot_with}
+use Rattle.pc_slots.specs.Slots.{Slot, slot_with, base_cell, new_slot}
 use Rattle.pc_records.specs.Slots.{no_queues, slot_in, slots_in, rows_of, numbers_of, times, at_number}
 use Rattle.pc_records.proofs.Lookups.{slot_of, same_self}
-use Rattle.pc_records.proofs.SlotPlaces.{place}
 use Rattle.pc_dirty.specs.declared.side.Side.{Side}
+use Rattle.pc_records.proofs.BlankSlots.{blank_slot}
+use Rattle.pc_records.proofs.SlotKeeping.{numbers_map}
+
+-- where a slot of the key goes in
+abbrev pub place : List ℕ → List Slot → ℕ
+place key [] = 0
+place key (s ∷ ss) = by_order (key_cmp key s.key) 0 0 (suc (place key ss))
 
 -- what a slot that has a row has
 pub row_in : (rows : List (TableRow Cell)) (n : ℕ) → HasRow rows n → (p : List ℕ × Cell) × (in_slot rows n ≡ Some p)
@@ -158,3 +164,17 @@ module _ (side : Side) where
       by_test Less none rest = refl
       by_test Equal none rest = absurd (no_row (sym none))
       by_test Greater none rest = ap (λ (ss : List Slot). slot_in side row ∷ ss) (rest none)
+
+number_at : (f : Slot → Slot) → ((s : Slot) → (f s).number ≡ s.number) → (n : ℕ) (s : Slot) → (at_number f n s).number ≡ s.number
+number_at f keeps n s = elim (eqb s.number n) as (λ b. (cond b (f s) s).number ≡ s.number) [ true ↦ keeps s | false ↦ refl ]
+
+module _ (side : Side) where
+  -- a slot that is changed has its row still
+  pub row_stays : (old new : List (TableRow Cell)) (f : Slot → Slot) (n : ℕ) → ((s : Slot) → (f s).number ≡ s.number) → slots_in side new ≡ map (at_number f n) (slots_in side old) → HasRow old n → HasRow new n
+  row_stays old new f n keeps is row = has_number side new n (subst (λ (ns : List ℕ). 0 < times n ns) (sym (ap numbers_of is ∙ numbers_map (at_number f n) (slots_in side old) (number_at f keeps n))) (number_has side old n row))
+
+module _ (side : Side) where
+  -- the slot went in
+  module _ (old new : Contents Cell) (key : List ℕ) (id : ℕ) (none : table_slot old.rows key ≡ None) (made : new ≡ with_row old key id (base_cell None)) where
+    pub went_in : slots_in side new.rows ≡ insert (slots_in side old.rows) (place key (slots_in side old.rows)) (new_slot id key)
+    went_in = ap (λ (t : Contents Cell). slots_in side t.rows) made ∙ put_slots side key id (base_cell None) old.rows (no_find old.rows key none) ∙ ap (insert (slots_in side old.rows) (place key (slots_in side old.rows))) (blank_slot side id key None)

@@ -1,8 +1,7 @@
 use Rattle.std.proofs.Common.{refl}
 use Rattle.pc_slots.specs.Slots.{taken_slot}
-use Rattle.pc_records.proofs.TableSlots.{changed_slots}
+use Rattle.pc_records.proofs.TableSlots.{changed_slots, row_stays}
 use Rattle.pc_records.proofs.Marking.{unmarked}
-use Rattle.pc_records.proofs.Tidied.{row_stays}
 use Rattle.pc_records.proofs.EndsKept.{ends_changed}
 use Rattle.pc_records.proofs.slots.mark_taken.Goals as goal
 
