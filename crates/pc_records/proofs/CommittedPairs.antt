@@ -3,7 +3,7 @@ use Rattle.std.proofs.Common.{◌≡◌, ℕ, ◌+◌, ◌≤◌, List, [], ◌�
 use Rattle.std.specs.Prelude.{Result, Ok, Err, IfOk}
 use Rattle.std.specs.FinMap.{find, put}
 use Rattle.std.specs.FinMap.Entries.{find-put, find-append}
-use Rattle.std.proofs.lemmas.List.{append-nil, append_assoc}
+use Rattle.std.proofs.lemmas.List.{append-nil}
 use Rattle.std.proofs.lemmas.Bool.{lt-ltb, le-ltb}
 use Rattle.pc_model.specs.Maps as map_of
 use Rattle.pc_model.specs.Maps.{from_list}
@@ -37,14 +37,6 @@ pairs_of (s ∷ ss) = ap (with_entry s.key (committed s)) (pairs_of ss)
 stored_in : (queues : Queues) (o : Option Slot) → of_slot committed o ≡ stored (record_in queues o)
 stored_in queues None = refl
 stored_in queues (Some s) = refl
-
--- one more entry is passed
-pub pairs_next : (pairs new : List (List ℕ × List ℕ)) (key : List ℕ) (c : Option (List ℕ)) (left : List (List ℕ × Option (List ℕ))) → new ≡ pairs ++ with_entry key c [] → new ++ pairs_in left ≡ pairs ++ pairs_in ((key, c) ∷ left)
-pairs_next pairs new key c left new_is = ap (λ (ps : List (List ℕ × List ℕ)). ps ++ pairs_in left) new_is ∙ (append_assoc pairs (with_entry key c []) (pairs_in left) ∙ ap (λ (ps : List (List ℕ × List ℕ)). pairs ++ ps) (by_content c))
-  where
-    by_content : (c : Option (List ℕ)) → with_entry key c [] ++ pairs_in left ≡ with_entry key c (pairs_in left)
-    by_content None = refl
-    by_content (Some v) = refl
 
 module _ (side : Side) where
   -- what is committed in a place of the table

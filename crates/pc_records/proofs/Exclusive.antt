@@ -21,9 +21,6 @@ settled_legal queue s = sound_legal [] queue (settled_sound [] queue s.0)
 same_number : (a b : ℕ) → eqb a b ≡ true → a ≡ b
 same_number a b e = grind (arith, nat_tests, e)
 
-turned : (a b : ℕ) → eqb a b ≡ eqb b a
-turned a b = grind (arith, nat_tests)
-
 or_right : (a b : Bool) → b ≡ true → (a || b) ≡ true
 or_right true b e = refl
 or_right false b e = e

@@ -1,5 +1,5 @@
 -- The first key of the closed set, which is taken.
-use Rattle.std.proofs.Common.{◌≡◌, ℕ, List, [], ◌∷◌, Some, None, option_map, refl, sym, ap, ◌∙◌, subst, cond, Bool, true, false, eqb, ◌||◌}
+use Rattle.std.proofs.Common.{◌≡◌, ℕ, List, [], ◌∷◌, Some, option_map, refl, sym, ap, ◌∙◌, subst, cond, Bool, true, false, eqb, ◌||◌}
 use Rattle.std.proofs.lemmas.Bool.{eqb-true, ne_eqb, eqb-false}
 use Rattle.std.specs.FinMap.{find}
 use Rattle.pc_model.specs.Database.{key_cmp}
@@ -40,20 +40,9 @@ keys_first rows (x ∷ xs) id key keys e f =
     same_tail : {A : Type 0} {x y : A} {xs ys : List A} → x ∷ xs ≡ y ∷ ys → xs ≡ ys
     same_tail e = cc
 
-none_first : (rows : List (TableRow Cell)) (slots : List ℕ) → None ≡ first_of slots → keys_at rows slots ≡ []
-none_first rows [] e = refl
-none_first rows (x ∷ xs) e = absurd cc
-
 first_has : (P : ℕ → Type 0) (slots : List ℕ) (id : ℕ) → Some id ≡ first_of slots → AllHave P slots → P id
 first_has P [] id e h = absurd cc
 first_has P (x ∷ xs) id e h = let f : id ≡ x = cc in subst P (sym f) h.0
-
--- none is taken of an empty set
-pub none_taken : (rows : List (TableRow Cell)) (sets : Dirty) (key : List ℕ) (keys : List (List ℕ)) → None ≡ first_of (closed_slots rows sets) → closed_keys rows sets ≡ key ∷ keys → ⊥
-none_taken rows sets key keys e f = nothing (sym (none_first rows (closed_slots rows sets) e) ∙ f)
-  where
-    nothing : [] ≡ key ∷ keys → ⊥
-    nothing e = cc
 
 module _ (table : Contents Cell) (sets : Dirty) (l : IsListed table.rows sets) (id : ℕ) (first : Some id ≡ first_of (closed_slots table.rows sets)) where
   abbrev opened : List ℕ

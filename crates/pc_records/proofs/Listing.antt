@@ -13,10 +13,6 @@ use Rattle.pc_slots.specs.declared.cells.Cell.{Cell}
 use Rattle.pc_slots.specs.Words.{Word, link_at, words_of}
 use Rattle.pc_records.specs.SetLists.{HasPlace, link_in, next_in, marked_in, key_in, keys_at, is_listed, AreLists, open_slots, closed_slots, IsListed, open_keys, closed_keys, in_sets, KeepSets}
 
--- what the sets have of two words, with the key
-abbrev seen_words : List ℕ → Word × Word → Option (List ℕ × (Word × Word))
-seen_words key w = cond (w.0.is_in || w.1.is_in) (Some (key, w)) None
-
 abbrev word_in : Side → Word × Word → Word
 word_in First w = w.0
 word_in Second w = w.1

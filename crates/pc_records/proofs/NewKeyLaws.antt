@@ -1,6 +1,6 @@
 -- The keys that a commit adds to the open set.
-use Rattle.std.proofs.Common.{◌≡◌, ℕ, ◌+◌, ◌<◌, ◌≤◌, List, [], ◌∷◌, ◌++◌, length, drop, get_or, refl, sym, ap, ◌∙◌, arith, append_assoc, Bool, true, false, cond, is_some, is_none, eqb, Option, Some, ◌||◌, ◌&&◌}
-use Rattle.std.proofs.lemmas.List.{drop_all, append-nil}
+use Rattle.std.proofs.Common.{◌≡◌, ℕ, ◌+◌, ◌≤◌, List, [], ◌∷◌, ◌++◌, length, refl, sym, ap, ◌∙◌, arith, append_assoc, Bool, true, false, cond, is_some, is_none, eqb, Option, Some, ◌||◌, ◌&&◌}
+use Rattle.std.proofs.lemmas.List.{append-nil}
 use Rattle.std.proofs.lemmas.List.Folds.{list_any-append}
 use Rattle.std.proofs.lemmas.Bool.Decides.{nat_tests}
 use Rattle.pc_types.specs.declared.Write.{Write}
@@ -10,22 +10,7 @@ use Rattle.std.proofs.lemmas.Cmp.{eq_by_cmp_equiv}
 use Rattle.pc_model.proofs.JoinLaws.{one_key}
 use Rattle.pc_model.specs.DistinctWrites.{AreDistinct}
 use Rattle.pc_records.specs.NewKeys.{with_new, new_keys, is_one_too_many}
-use Rattle.pc_model.proofs.PlaceLaws.{rest_at}
 use Rattle.pc_records.specs.Rows.{Row, record_of, is_in_open_set}
-
-before_rest : (b : Bool) (key : List ℕ) (keys : List (List ℕ)) → with_new b key [] ++ keys ≡ with_new b key keys
-before_rest true key keys = refl
-before_rest false key keys = refl
-
--- one more write
-pub adds_next : (rows : List Row) (writes : List Write) (keys new all : List (List ℕ)) (i : ℕ) (w : Write) → i < length writes → w ≡ get_or writes i w → new ≡ keys ++ with_new (is_in_open_set (record_of rows w.key)) w.key [] →
-    keys ++ new_keys rows (drop i writes) ≡ all → new ++ new_keys rows (drop (i + 1) writes) ≡ all
-adds_next rows writes keys new all i w lt is new_is so_far =
-    ap (λ (ks : List (List ℕ)). ks ++ new_keys rows (drop (i + 1) writes)) new_is ∙ append_assoc keys (with_new (is_in_open_set (record_of rows w.key)) w.key []) (new_keys rows (drop (i + 1) writes))
-    ∙ ap (λ (ks : List (List ℕ)). keys ++ ks) (before_rest (is_in_open_set (record_of rows w.key)) w.key (new_keys rows (drop (i + 1) writes)) ∙ sym (ap (new_keys rows) (rest_at writes i w lt is))) ∙ so_far
-
-pub added_all : (rows : List Row) (writes : List Write) (keys : List (List ℕ)) (i : ℕ) → length writes ≤ i → keys ++ new_keys rows (drop i writes) ≡ new_keys rows writes → keys ≡ new_keys rows writes
-added_all rows writes keys i le so_far = sym (ap (λ (ws : List Write). keys ++ new_keys rows ws) (drop_all i writes le) ∙ append-nil keys) ∙ so_far
 
 pub no_more_new : (rows : List Row) (writes : List Write) → length (new_keys rows writes) ≤ length writes
 no_more_new rows [] = omega arith

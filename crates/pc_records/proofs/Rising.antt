@@ -4,19 +4,9 @@ use Rattle.std.specs.FinMap.{is_sorted}
 use Rattle.std.specs.FinMap.Entries.{is_sorted-put, is_sorted-where_key, below_all}
 use Rattle.std.specs.Ordering.{is_lt}
 use Rattle.pc_model.specs.Database.{key_cmp, key_order, same_bytes, KeysRise}
-use Rattle.pc_types.specs.declared.Mode.{Mode}
-use Rattle.pc_types.specs.declared.Outcome.{Outcome}
-use Rattle.pc_model.specs.Locks.{queue_after}
-use Rattle.pc_types.specs.declared.Outcome.TheVariants.{Granted, Queued, Died}
 use Rattle.pc_model.proofs.PairMapLaws.{computes, tested}
-use Rattle.pc_records.specs.Rows.{Row, Record, record_of, requests_on}
-use Rattle.pc_records.specs.RowSteps.{with_requests, rows_after, committed_row, closed_row, left_of, with_left, left_rows}
-
--- once a request is answered
-pub rise_after : (rows new : List Row) (key : List ℕ) (n : ℕ) (mode : Mode) (o : Outcome) → KeysRise rows → new ≡ rows_after rows key n mode o → KeysRise new
-rise_after rows new key n x Granted rise is = rw is (tested (is_sorted-put key_cmp key_order.total key (with_requests (record_of rows key) (queue_after (requests_on (record_of rows key)) n x Granted)) rows (computes rise)))
-rise_after rows new key n x Queued rise is = rw is (tested (is_sorted-put key_cmp key_order.total key (with_requests (record_of rows key) (queue_after (requests_on (record_of rows key)) n x Queued)) rows (computes rise)))
-rise_after rows new key n x Died rise is = rw is rise
+use Rattle.pc_records.specs.Rows.{Row, Record, record_of}
+use Rattle.pc_records.specs.RowSteps.{committed_row, closed_row, left_of, with_left, left_rows}
 
 -- rows of pairs rise as the pairs do
 below_rows : (key : List ℕ) (pairs : List (List ℕ × List ℕ)) → below_all key_cmp key (map committed_row pairs) ≡ below_all key_cmp key pairs
