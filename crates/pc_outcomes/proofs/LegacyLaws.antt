@@ -13,7 +13,7 @@ use Rattle.pc_outcomes.specs.Leaving.{with_file, Folded, IsLeft, AreLeftAfter, I
 use Rattle.pc_outcomes.specs.declared.outcome.Left.{Left}
 
 -- the fold of files of a log is the file of the points of all
-of_all : FilesFoldWell → (base : BaseFile) (log : List Entry) (files : List File) (collapsed : Option File) → All (IsOfItsPoints base.run base.pairs log) files → Folded files collapsed → IsOfAll base log files collapsed
+pub of_all : FilesFoldWell → (base : BaseFile) (log : List Entry) (files : List File) (collapsed : Option File) → All (IsOfItsPoints base.run base.pairs log) files → Folded files collapsed → IsOfAll base log files collapsed
 of_all well base log files None worth folded = folded
 of_all well base log [] (Some file) worth folded = cc
 of_all well base log (first ∷ others) (Some file) worth folded = well base.run base.pairs log first others (Ok file) (λ f. All-contains (IsOfItsPoints base.run base.pairs log) (first ∷ others) f worth) folded

@@ -1,1 +1,2 @@
 mod LegacyLaws
+mod UntoldLaws

@@ -1,9 +1,11 @@
 -- What a closed store leaves: how many commits its log has, the file of all points, and whether its files are right.
-use Rattle.std.specs.Prelude.{◌≡◌, ◌↔◌, ◌⊎◌, ℕ, Bool, true, false, List, [], ◌∷◌, ◌++◌, Option, Some, None, Ok, Err, All, IsTrue, length, filter}
+use Rattle.std.specs.Prelude.{◌≡◌, ◌≤◌, ◌↔◌, ◌⊎◌, ⊤, ℕ, Bool, true, false, List, [], ◌∷◌, ◌++◌, Option, Some, None, Ok, Err, All, IsTrue, IsFalse, length, filter}
+use Rattle.std.specs.List.{list_any}
 use Rattle.pc_types.specs.declared.Entry.{Entry}
 use Rattle.pc_types.specs.declared.Entry.TheVariants.{Commit, Token}
 use Rattle.pc_types.specs.declared.Refusal.{Refusal}
 use Rattle.pc_types.specs.declared.Refusal.TheVariants.{OutOfMemory}
+use Rattle.pc_types.specs.declared.Refusal.TheVariants as refusal
 use Rattle.pc_model.specs.Maps.{len}
 use Rattle.pc_model.specs.Sets as set
 use Rattle.pc_model.specs.Files.{BaseFile, File}
@@ -27,6 +29,10 @@ is_commit (Token phase point) = false
 -- how many commits the log has
 abbrev pub commits_in : List Entry → ℕ
 commits_in log = length (filter is_commit log)
+
+-- one of the files has the point
+abbrev pub has_point : List File → ℕ → Bool
+has_point files point = list_any (λ (file : File). set.contains file.points point) files
 
 -- the file is the fold of these; there is none of no files
 abbrev pub Folded : List File → Option File → Type 0
@@ -73,6 +79,17 @@ pub record AreLeftAfter (st : Setting) (history : History) (base : BaseFile) (lo
   pub start : base ≡ record { run = st.run; point = 0; pairs = st.base }
   pub log_is : log ≡ log_of history
   pub worth : All (IsOfItsPoints st.run st.base log) files
+
+-- The point is at or below one of the files' points, and none of them has it.
+abbrev pub IsMissing : List File → ℕ → Type 0
+IsMissing files point = (1 ≤ point) × IsFalse (has_point files point) × ((later : ℕ) × (point ≤ later) × IsTrue (has_point files later))
+
+-- Why nothing is told of such files: memory ran out; there are some, and together they have too many entries; or a point is missing.
+abbrev pub IsUntoldAfter : List File → Refusal → Type 0
+IsUntoldAfter files refusal.OutOfMemory = ⊤
+IsUntoldAfter files refusal.Full = ¬ (files ≡ [])
+IsUntoldAfter files (refusal.Gap point) = IsMissing files point
+IsUntoldAfter files other = ⊥
 
 -- the file is the one that the log gives the points of all these; there is none of no files
 abbrev pub IsOfAll : BaseFile → List Entry → List File → Option File → Type 0

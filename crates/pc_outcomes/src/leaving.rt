@@ -6,7 +6,7 @@ ghost use Rattle.pc_model.specs.History.{History};
 ghost use Rattle.pc_model.specs.LaidFiles.{laid_file};
 ghost use Rattle.pc_model.specs.Replies.{Setting};
 ghost use Rattle.pc_collapse.specs.declared.limits.TheConstants.{MOST_COLLAPSERS};
-ghost use Rattle.pc_outcomes.specs.Leaving.{is_commit, commits_in, summary_if_any, summary_of, with_file, Folded, AreLeftAfter, IsLeft, IsLegacy, IsUnfolded, IsUnlaid, IsUntold};
+ghost use Rattle.pc_outcomes.specs.Leaving.{is_commit, commits_in, summary_if_any, summary_of, with_file, Folded, AreLeftAfter, IsLeft, IsLegacy, IsUnfolded, IsUnlaid, IsUntold, IsUntoldAfter};
 
 use crate::outcome::{Collapsed, Left};
 use pc_collapse::{collapse_bag_owned, files_fold_well};
@@ -141,8 +141,9 @@ fn behind(files: &[SharedPart], singles: usize) -> &[SharedPart]
 }
 
 /// What a closed store leaves of its files. Those behind the first so many are folded to one, by so many collapsers, 1 to 64;
-/// that one is audited too. After a legal history all is right. Refuses for what keeps them from being folded, or the base from having their fold laid on it, and
-/// else with `OutOfMemory` alone.
+/// that one is audited too. After a legal history all is right. Refuses for what keeps them from being folded, or the base from having
+/// their fold laid on it, and else with `OutOfMemory` alone: after a legal history that is `Full`, where together they have too many
+/// entries, or `Gap`, where one of the points up to theirs is missing.
 pub fn left_by<G: Gate + Sync, R: Threads + Wait + Sync>(
     rt: &R,
     alloc: Global,
@@ -158,6 +159,7 @@ pub fn left_by<G: Gate + Sync, R: Threads + Wait + Sync>(
     ensures left { IfOk result (IsLeft base.now log.now files.items (drop singles files.items)) }
     ensures legacy { (st : Setting) (history : History) → AreLeftAfter st history base.now log.now files.items → IfOk result (IsLegacy base.now log.now (drop singles files.items)) }
     ensures refused { IfErr result (IsUntold base.now (drop singles files.items)) }
+    ensures untold { (st : Setting) (history : History) → AreLeftAfter st history base.now log.now files.items → IfErr result (IsUntoldAfter (drop singles files.items)) }
 {
     files_fold_well();
     files_of_their_points_are_right();
