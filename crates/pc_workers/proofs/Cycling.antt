@@ -213,10 +213,10 @@ module _ (st : Setting) where
         let r = refused_at (next_event (phase_of before)) why is called in
         (stood_same st before after r.0, inl (subst (λ (h : History). IsAnswered st 0 h (next_event (phase_of h)) (told.Refused why)) (sym r.0) r.1))
 
-    pub take_refused : (why : Refusal) → reply ≡ told.Refused why → IsTaken st before reply after → IsHeldUp st before after why
-    take_refused why is called =
+    pub take_refused : (why : Refusal) → phase_of before ≡ Capture → reply ≡ told.Refused why → IsTaken st before reply after → IsHeldUp st before after why
+    take_refused why capture is called =
         let r = refused_at asked.Take why is called in
-        (stood_same st before after r.0, inr (subst (λ (h : History). IsAnswered st 0 h asked.Take (told.Refused why)) (sym r.0) r.1))
+        (stood_same st before after r.0, inr (ap phase_of r.0 ∙ capture, subst (λ (h : History). IsAnswered st 0 h asked.Take (told.Refused why)) (sym r.0) r.1))
 
   pub stood_turned : (a b c : History) → HasStood st a b → HasTurned st b c → HasTurned st a c
   stood_turned a b c r s = reached_turned st [] (phase_of a) (point_of a) a b c r s

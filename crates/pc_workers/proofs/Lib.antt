@@ -2,6 +2,7 @@ pub mod LoggingLaws
 mod BoardCalls
 mod ClientJobs
 mod Cycling
+mod FullLaws
 pub mod WholeCycles
 mod Holding
 pub mod CoverLaws

@@ -1,10 +1,12 @@
 -- What a checkpointer has seen and published since, and why it stops.
-use Rattle.std.specs.Prelude.{◌≡◌, ◌⊎◌, ℕ, zero, suc, ◌+◌, List, [], ◌∷◌, ◌++◌, Option, Some, None}
+use Rattle.std.specs.Prelude.{◌≡◌, ◌⊎◌, ◌<◌, ⊤, ℕ, zero, suc, ◌+◌, List, [], ◌∷◌, ◌++◌, Option, Some, None}
 use mathlib.Core.List.{IsPrefix}
 use Rattle.pc_types.specs.declared.Event.TheVariants.{Take}
 use Rattle.pc_types.specs.declared.Phase.{Phase}
 use Rattle.pc_types.specs.declared.Phase.TheVariants.{Rest, Prepare, Resolve, Capture, Complete}
 use Rattle.pc_types.specs.declared.Refusal.{Refusal}
+use Rattle.pc_types.specs.declared.Refusal.TheVariants as refusal
+use Rattle.pc_types.specs.declared.limits.TheConstants.{MOST_POINTS}
 use Rattle.pc_types.specs.declared.Reply.{Reply}
 use Rattle.pc_types.specs.declared.Reply.TheVariants as told
 use Rattle.pc_model.specs.History.{History, phase_of, point_of}
@@ -61,10 +63,19 @@ HasTurned st before after =
 abbrev pub HasCycled : Setting → ℕ → History → History → Type 0
 HasCycled st count before after = HasReached st (whole_cycles (point_of before) count) Rest (point_of before + count) before after
 
--- The store may answer this refusal to the event that ends the phase, or to a take: after some legal history with all that the
--- checkpointer has seen, and no other call of it.
+-- The store may answer this refusal to the event that ends the phase, or in capture to a take: after some legal history with all
+-- that the checkpointer has seen, and no other call of it.
 abbrev pub IsRefusal : Setting → History → Refusal → Type 0
-IsRefusal st seen why = IsAnswered st 0 seen (next_event (phase_of seen)) (told.Refused why) ⊎ IsAnswered st 0 seen Take (told.Refused why)
+IsRefusal st seen why = IsAnswered st 0 seen (next_event (phase_of seen)) (told.Refused why) ⊎ ((phase_of seen ≡ Capture) × IsAnswered st 0 seen Take (told.Refused why))
+
+-- What such a refusal is, where the points up to this one are due: memory ran out, the log or the shelf has no place left, or
+-- there can't be so many points.
+abbrev pub IsFull : ℕ → Refusal → Type 0
+IsFull last refusal.OutOfMemory = ⊤
+IsFull last refusal.LogFull = ⊤
+IsFull last refusal.ShelfFull = ⊤
+IsFull last refusal.PointsFull = MOST_POINTS < last
+IsFull last other = ⊥
 
 -- it stopped at a refusal, and no phase was entered
 abbrev pub IsHeldUp : Setting → History → History → Refusal → Type 0

@@ -1,11 +1,11 @@
 //! The checkpointer's loop: it takes one point after the other.
 ghost use Rattle.std.specs.Prelude.{◌≡◌, ◌+◌, IfOk, IfErr, OnErr};
-ghost use Rattle.pc_types.specs.declared.Phase.TheVariants.{Rest};
+ghost use Rattle.pc_types.specs.declared.Phase.TheVariants.{Rest, Capture};
 ghost use Rattle.pc_types.specs.declared.Reply.TheVariants.{Refused};
 ghost use Rattle.pc_model.specs.History.{phase_of, point_of};
 ghost use Rattle.pc_board.specs.declared.calls.Kind.TheVariants.{Publish};
 ghost use Rattle.pc_board.specs.Passes.{IsOfBoard, MakesCall};
-ghost use Rattle.pc_workers.specs.Checkpointing.{whole_cycle, whole_cycles, point_named, HasReached, HasStood, HasTurned, HasCycled, IsHeldUp, HasPublished, HasBrokenOff};
+ghost use Rattle.pc_workers.specs.Checkpointing.{whole_cycle, whole_cycles, point_named, HasReached, HasStood, HasTurned, HasCycled, IsHeldUp, HasPublished, HasBrokenOff, IsFull};
 
 use pc_board::{Board, BoardPass};
 use pc_shared::{CheckpointerSeat, Shared};
@@ -96,6 +96,7 @@ fn take_keys<N: StoreName, R: Wait, G: Gate>(
     seat: &mut CheckpointerSeat<N>,
     gate: &G,
 ) -> Result<(), Refusal>
+    requires { phase_of seat.old ≡ Capture }
     ensures stood { IfOk result (λ _. HasStood N.name.setting seat.old seat.new) }
     ensures held_up { IfErr result (IsHeldUp N.name.setting seat.old seat.new) }
 {
@@ -155,6 +156,7 @@ fn take_point<N: StoreName, R: Wait, G: Gate>(
     ensures reached { IfOk result (λ _. HasReached N.name.setting (whole_cycle (point_of seat.old + 1)) Rest (point_of seat.old + 1) seat.old seat.new) }
     ensures published { IfOk result (λ _. HasPublished (whole_cycle (point_of seat.old + 1)) pass.old pass.new) }
     ensures broken_off { IfErr result (HasBrokenOff N.name.setting (whole_cycle (point_of seat.old + 1)) seat.old seat.new pass.old pass.new) }
+    ensures full { IfErr result (IsFull (point_of seat.old + 1)) }
 {
     enter(rt, shared, seat, Phase::Prepare, gate)?;
     enter(rt, shared, seat, Phase::Resolve, gate)?;
@@ -170,7 +172,8 @@ fn take_point<N: StoreName, R: Wait, G: Gate>(
 /// after each change of the phase, and after each key. It publishes each point with the pass once its part is on the shelf, before
 /// it asks for the rest that ends the point's cycle; it makes no other call on the board. The first refusal ends it: one that the
 /// store may answer, after some legal history with all that the checkpointer has seen, to the event that ends the phase or to a
-/// take. What was put on the shelf until then was published.
+/// take: `OutOfMemory`, `LogFull`, `ShelfFull`, or `PointsFull` where more than 65,535 points are due. What was put on the shelf until then was
+/// published.
 pub fn checkpoint_loop<N: StoreName, R: Wait, G: Gate>(
     rt: &R,
     shared: &Shared<N>,
@@ -186,6 +189,7 @@ pub fn checkpoint_loop<N: StoreName, R: Wait, G: Gate>(
     ensures cycled { IfOk result (λ n. HasCycled N.name.setting n seat.old seat.new) }
     ensures published { IfOk result (λ n. HasPublished (whole_cycles (point_of seat.old) n) pass.old pass.new) }
     ensures broken_off { IfErr result (HasBrokenOff N.name.setting (whole_cycles (point_of seat.old) points) seat.old seat.new pass.old pass.new) }
+    ensures full { IfErr result (IsFull (point_of seat.old + points)) }
 {
     for _ in 0..points {
         take_point(rt, shared, seat, board, pass, gate)?;

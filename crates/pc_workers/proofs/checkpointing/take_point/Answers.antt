@@ -1,13 +1,18 @@
-use Rattle.std.proofs.Common.{◌+◌, ℕ, [], ◌∷◌, refl, sym, subst}
+use Rattle.std.proofs.Common.{◌≡◌, ◌+◌, ℕ, [], ◌∷◌, refl, sym, subst, ◌∙◌, arith}
 use Rattle.pc_types.specs.declared.Phase.TheVariants.{Rest, Prepare, Resolve, Capture, Complete}
 use Rattle.pc_model.specs.History.{point_of}
 use Rattle.pc_board.specs.declared.calls.Kind.TheVariants.{Publish}
 use Rattle.pc_board.specs.Passes.{Pass, MakesCall}
-use Rattle.pc_workers.specs.Checkpointing.{whole_cycle, HasPublished, HasBrokenOff}
+use Rattle.pc_workers.specs.Checkpointing.{whole_cycle, HasPublished, HasBrokenOff, IsFull}
 use Rattle.pc_workers.proofs.BoardCalls.{published_none, published_one}
 use Rattle.pc_workers.proofs.Cycling.{reached_stood, breaks_off, of_refusal}
+use Rattle.pc_workers.proofs.FullLaws.{is_full, is_full_in}
 use Rattle.pc_workers.proofs.WholeCycles.{at_rest, to_prepare, to_resolve, to_capture, to_complete, to_rest}
 use Rattle.pc_workers.proofs.checkpointing.take_point.Goals as goal
+
+pub take_keys-requires : goal.take_keys-requires
+take_keys-requires g c =
+    (to_capture g.N.StoreName.name.setting c.args.seat.now c.enter.new.seat c.enter-2.new.seat c.enter-3.new.seat c.requires.rest c.in_ok-enter.ensures.turned c.in_ok-enter-2.ensures.turned c.in_ok-enter-3.ensures.turned).in_phase
 
 pub returns-in_err-enter-clause-broken_off : goal.returns-in_err-enter-clause-broken_off
 returns-in_err-enter-clause-broken_off g c =
@@ -74,6 +79,54 @@ returns-in_err-enter-4-clause-broken_off g c =
     (to_complete st a c.enter-3.new.seat c.take_keys.new.seat c.complete.new.seat (to_capture st a c.enter.new.seat c.enter-2.new.seat c.enter-3.new.seat c.requires.rest c.in_ok-enter.ensures.turned c.in_ok-enter-2.ensures.turned c.in_ok-enter-3.ensures.turned) c.in_ok-take_keys.ensures.stood c.in_ok-complete.ensures.turned)
     (published_one c.args.pass.now c.complete.new.pass (m + 1) (subst (λ (n : ℕ). MakesCall c.args.pass.now Publish n c.complete.new.pass) (to_complete st a c.enter-3.new.seat c.take_keys.new.seat c.complete.new.seat (to_capture st a c.enter.new.seat c.enter-2.new.seat c.enter-3.new.seat c.requires.rest c.in_ok-enter.ensures.turned c.in_ok-enter-2.ensures.turned c.in_ok-enter-3.ensures.turned) c.in_ok-take_keys.ensures.stood c.in_ok-complete.ensures.turned).at_point c.in_ok-complete.ensures.published))
     c.in_err-enter-4.ensures.held_up)
+
+pub returns-in_err-enter-clause-full : goal.returns-in_err-enter-clause-full
+returns-in_err-enter-clause-full g c =
+    let st = g.N.StoreName.name.setting in
+    let a = c.args.seat.now in
+    let held = c.in_err-enter.ensures.held_up in
+    let same : point_of c.enter.new.seat ≡ point_of a = held.0.at_point in
+    of_refusal (IsFull (point_of a + 1)) c.from_residual.result _ c.from_residual.ensures.1 (is_full st c.enter.new.seat (point_of a + 1) _ (λ rest. omega (arith, same)) held.1)
+
+pub returns-in_err-enter-2-clause-full : goal.returns-in_err-enter-2-clause-full
+returns-in_err-enter-2-clause-full g c =
+    let st = g.N.StoreName.name.setting in
+    let a = c.args.seat.now in
+    let held = c.in_err-enter-2.ensures.held_up in
+    of_refusal (IsFull (point_of a + 1)) c.from_residual-in_err-enter-2.result _ c.from_residual-in_err-enter-2.ensures.1
+    (is_full_in st c.enter-2.new.seat Prepare (point_of a + 1) _ (λ e. cc) (held.0.in_phase ∙ (to_prepare st a c.enter.new.seat c.requires.rest c.in_ok-enter.ensures.turned).in_phase) held.1)
+
+pub returns-in_err-enter-3-clause-full : goal.returns-in_err-enter-3-clause-full
+returns-in_err-enter-3-clause-full g c =
+    let st = g.N.StoreName.name.setting in
+    let a = c.args.seat.now in
+    let held = c.in_err-enter-3.ensures.held_up in
+    of_refusal (IsFull (point_of a + 1)) c.from_residual-in_err-enter-3.result _ c.from_residual-in_err-enter-3.ensures.1
+    (is_full_in st c.enter-3.new.seat Resolve (point_of a + 1) _ (λ e. cc) (held.0.in_phase ∙ (to_resolve st a c.enter.new.seat c.enter-2.new.seat c.requires.rest c.in_ok-enter.ensures.turned c.in_ok-enter-2.ensures.turned).in_phase) held.1)
+
+pub returns-in_err-take_keys-clause-full : goal.returns-in_err-take_keys-clause-full
+returns-in_err-take_keys-clause-full g c =
+    let st = g.N.StoreName.name.setting in
+    let a = c.args.seat.now in
+    let held = c.in_err-take_keys.ensures.held_up in
+    of_refusal (IsFull (point_of a + 1)) c.from_residual-in_err-take_keys.result _ c.from_residual-in_err-take_keys.ensures.1
+    (is_full_in st c.take_keys.new.seat Capture (point_of a + 1) _ (λ e. cc) (held.0.in_phase ∙ (to_capture st a c.enter.new.seat c.enter-2.new.seat c.enter-3.new.seat c.requires.rest c.in_ok-enter.ensures.turned c.in_ok-enter-2.ensures.turned c.in_ok-enter-3.ensures.turned).in_phase) held.1)
+
+pub returns-in_err-complete-clause-full : goal.returns-in_err-complete-clause-full
+returns-in_err-complete-clause-full g c =
+    let st = g.N.StoreName.name.setting in
+    let a = c.args.seat.now in
+    let held = c.in_err-complete.ensures.held_up in
+    of_refusal (IsFull (point_of a + 1)) c.from_residual-in_err-complete.result _ c.from_residual-in_err-complete.ensures.1
+    (is_full_in st c.complete.new.seat Capture (point_of a + 1) _ (λ e. cc) (held.0.in_phase ∙ c.in_ok-take_keys.ensures.stood.in_phase ∙ (to_capture st a c.enter.new.seat c.enter-2.new.seat c.enter-3.new.seat c.requires.rest c.in_ok-enter.ensures.turned c.in_ok-enter-2.ensures.turned c.in_ok-enter-3.ensures.turned).in_phase) held.1)
+
+pub returns-in_err-enter-4-clause-full : goal.returns-in_err-enter-4-clause-full
+returns-in_err-enter-4-clause-full g c =
+    let st = g.N.StoreName.name.setting in
+    let a = c.args.seat.now in
+    let held = c.in_err-enter-4.ensures.held_up in
+    of_refusal (IsFull (point_of a + 1)) c.from_residual-in_err-enter-4.result _ c.from_residual-in_err-enter-4.ensures.1
+    (is_full_in st c.enter-4.new.seat Complete (point_of a + 1) _ (λ e. cc) (held.0.in_phase ∙ (to_complete st a c.enter-3.new.seat c.take_keys.new.seat c.complete.new.seat (to_capture st a c.enter.new.seat c.enter-2.new.seat c.enter-3.new.seat c.requires.rest c.in_ok-enter.ensures.turned c.in_ok-enter-2.ensures.turned c.in_ok-enter-3.ensures.turned) c.in_ok-take_keys.ensures.stood c.in_ok-complete.ensures.turned).in_phase) held.1)
 
 pub returns-clause-reached : goal.returns-clause-reached
 returns-clause-reached g c =
