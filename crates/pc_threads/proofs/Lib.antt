@@ -1,4 +1,5 @@
 mod DoneLaws
+mod StopLaws
 pub mod ClientLaws
 pub mod FileLaws
 mod Numbering

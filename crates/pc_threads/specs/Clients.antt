@@ -1,6 +1,8 @@
 -- What the clients of a run have done, each as its session.
-use Rattle.std.specs.Prelude.{◌≡◌, ◌⊎◌, ◌+◌, ℕ, zero, suc, Bool, false, List, [], ◌∷◌, ◌++◌, length}
+use Rattle.std.specs.Prelude.{◌≡◌, ◌⊎◌, ◌≤◌, ◌+◌, ◌^◌, ℕ, zero, suc, Bool, false, IsTrue, List, [], ◌∷◌, ◌++◌, length}
 use Rattle.std.specs.List.{flat_map}
+use Rattle.pc_types.specs.declared.refusal.Refusal.{Refusal}
+use Rattle.pc_types.specs.declared.refusal.Refusal.TheVariants.{Device, Full, OutOfMemory}
 use Rattle.pc_model.specs.History.{History, is_open}
 use Rattle.pc_model.specs.Replies.{Setting}
 use Rattle.pc_jobs.specs.declared.works.Client.{Client}
@@ -62,6 +64,11 @@ pub record HasDone (way : ℕ → List Bool → History → History → Type 0) 
   pub all : commits + given_up ≡ length jobs
   pub done : is_open old.number old.seen ≡ false → way old.number run.marks old.seen new.seen
 
+-- Why whoever was to do these transactions has stopped before their end: the log's file was lost, where there is one; or more of
+-- them were given up than 64 bits can count.
+abbrev pub HasStopped : Bool → List Job → Refusal → Type 0
+HasStopped has_log jobs why = ((why ≡ Device) × IsTrue has_log) ⊎ ((why ≡ Full) × (2 ^ 64 ≤ length jobs))
+
 -- the client has done its works, from a fresh session on, and given up so many transactions
 abbrev pub HasWorked : Setting → Client → ℕ → Sitter → Type 0
 HasWorked st client given_up session = HasDone (AreDone st client.works) (jobs_of client) given_up (sitter client.session [] []) session
@@ -71,6 +78,10 @@ abbrev pub HaveWorked : Setting → List Client → ℕ → List Sitter → Type
 HaveWorked st [] given_up [] = given_up ≡ 0
 HaveWorked st (client ∷ clients) given_up (session ∷ sessions) = (own others : ℕ) × (given_up ≡ own + others) × HasWorked st client own session × HaveWorked st clients others sessions
 HaveWorked st clients given_up sessions = ⊥
+
+-- why clients have stopped: memory was wanting before the first of them, or one of them has
+abbrev pub HaveStopped : Bool → List Client → Refusal → Type 0
+HaveStopped has_log clients why = (why ≡ OutOfMemory) ⊎ HasStopped has_log (flat_map jobs_of clients) why
 
 -- the clients of all workers, one worker after the other
 abbrev pub clients_in : List (List Client) → List Client

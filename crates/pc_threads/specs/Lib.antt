@@ -1,4 +1,5 @@
 pub mod Clients
+pub mod Faults
 pub mod Files
 pub mod Hands
 pub mod Logs

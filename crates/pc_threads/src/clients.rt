@@ -1,11 +1,11 @@
 //! The clients of a workload: each has a session, and each worker runs its own clients, one after the other.
-ghost use Rattle.std.specs.Prelude.{◌≡◌, ◌⊎◌, ◌+◌, ◌++◌, [], ◌∷◌, All, IfOk, IfErr, List, map};
+ghost use Rattle.std.specs.Prelude.{◌≡◌, ◌⊎◌, ◌≤◌, ◌+◌, ◌^◌, ◌++◌, [], ◌∷◌, All, IfOk, IfErr, List, is_some, length, map};
 ghost use Rattle.std.specs.List.{flat_map};
-ghost use Rattle.pc_types.specs.declared.refusal.Refusal.TheVariants.{NoSession, OutOfMemory};
+ghost use Rattle.pc_types.specs.declared.refusal.Refusal.TheVariants.{Full, NoSession, OutOfMemory};
 ghost use Rattle.pc_jobs.specs.Jobs.{job_of};
 ghost use Rattle.pc_jobs.specs.declared.works.Client.{Client};
 ghost use Rattle.pc_shared.specs.Sitters.{sitter};
-ghost use Rattle.pc_threads.specs.Clients.{AreDone, AreFilled, HasDone, HasWorked, HaveWorked, IsDone, IsFresh, first_of, jobs_in};
+ghost use Rattle.pc_threads.specs.Clients.{AreDone, AreFilled, HasDone, HasStopped, HasWorked, HaveStopped, HaveWorked, IsDone, IsFresh, first_of, jobs_in, jobs_of};
 
 use crate::room::Room;
 use pc_jobs::{Client, Fill, FillJob, Job, Work};
@@ -115,7 +115,8 @@ pub fn seat_workers<N: StoreName>(
 
 // The sum of both. Refuses with `Full` where it is more than can be counted.
 fn sum(a: u64, b: u64) -> Result<u64, Refusal>
-    ensures { IfOk result (λ sum. sum ≡ a + b) }
+    ensures sum { IfOk result (λ sum. sum ≡ a + b) }
+    ensures full { IfErr result (λ why. (why ≡ Full) × (2 ^ 64 ≤ a + b)) }
 {
     match a.checked_add(b) {
         Some(sum) => Ok(sum),
@@ -130,9 +131,10 @@ fn run_job<N: StoreName, R: Wait, G: Gate>(
     session: &mut Session<N>,
     job: &Job,
 ) -> Result<u64, Refusal>
-    ensures { IfOk result (λ given_up. HasDone (IsDone N.name.setting (Work.Once job.now)) (job.now ∷ []) given_up session.old session.new) }
+    ensures done { IfOk result (λ given_up. HasDone (IsDone N.name.setting (Work.Once job.now)) (job.now ∷ []) given_up session.old session.new) }
+    ensures stopped { IfErr result (HasStopped (is_some room.now.lag) (job.now ∷ [])) }
 {
-    if room.shared.has_log_ended() {
+    if room.lag.is_some() && room.shared.has_log_ended() {
         return Err(Refusal::Device);
     }
     let count = client_loop(
@@ -157,7 +159,8 @@ fn run_made<N: StoreName, R: Wait, G: Gate>(
     fill: &Fill,
     number: u32,
 ) -> Result<u64, Refusal>
-    ensures { IfOk result (λ given_up. HasDone (AreFilled N.name.setting (job_of fill.now number ∷ [])) (job_of fill.now number ∷ []) given_up session.old session.new) }
+    ensures done { IfOk result (λ given_up. HasDone (AreFilled N.name.setting (job_of fill.now number ∷ [])) (job_of fill.now number ∷ []) given_up session.old session.new) }
+    ensures stopped { IfErr result (HasStopped (is_some room.now.lag) (job_of fill.now number ∷ [])) }
 {
     match made.set(room.alloc, fill, number) {
         Ok(()) => run_job(rt, room, session, made.as_job()),
@@ -173,7 +176,8 @@ fn run_fill<N: StoreName, R: Wait, G: Gate>(
     made: &mut FillJob,
     fill: &Fill,
 ) -> Result<u64, Refusal>
-    ensures { IfOk result (λ given_up. HasDone (AreFilled N.name.setting (first_of fill.now fill.now.count)) (first_of fill.now fill.now.count) given_up session.old session.new) }
+    ensures done { IfOk result (λ given_up. HasDone (AreFilled N.name.setting (first_of fill.now fill.now.count)) (first_of fill.now fill.now.count) given_up session.old session.new) }
+    ensures stopped { IfErr result (HasStopped (is_some room.now.lag) (first_of fill.now fill.now.count)) }
 {
     let mut given_up = 0u64;
     for number in 0..fill.count {
@@ -191,7 +195,8 @@ fn run_work<N: StoreName, R: Wait, G: Gate>(
     made: &mut FillJob,
     work: &Work,
 ) -> Result<u64, Refusal>
-    ensures { IfOk result (λ given_up. HasDone (IsDone N.name.setting work.now) (jobs_in work.now) given_up session.old session.new) }
+    ensures done { IfOk result (λ given_up. HasDone (IsDone N.name.setting work.now) (jobs_in work.now) given_up session.old session.new) }
+    ensures stopped { IfErr result (HasStopped (is_some room.now.lag) (jobs_in work.now)) }
 {
     match work {
         Work::Once(job) => run_job(rt, room, session, job),
@@ -207,7 +212,8 @@ fn run_works<N: StoreName, R: Wait, G: Gate>(
     made: &mut FillJob,
     works: &[Work],
 ) -> Result<u64, Refusal>
-    ensures { IfOk result (λ given_up. HasDone (AreDone N.name.setting works.now) (flat_map jobs_in works.now) given_up session.old session.new) }
+    ensures done { IfOk result (λ given_up. HasDone (AreDone N.name.setting works.now) (flat_map jobs_in works.now) given_up session.old session.new) }
+    ensures stopped { IfErr result (HasStopped (is_some room.now.lag) (flat_map jobs_in works.now)) }
 {
     let mut given_up = 0u64;
     for work in works {
@@ -225,7 +231,8 @@ impl<N: StoreName> Seated<N> {
         room: &Room<'_, N, G>,
         made: &mut FillJob,
     ) -> Result<(Session<N>, u64), Refusal>
-        ensures { IfOk result (λ r. HasWorked N.name.setting self.client r.1 r.0) }
+        ensures worked { IfOk result (λ r. HasWorked N.name.setting self.client r.1 r.0) }
+        ensures stopped { IfErr result (HasStopped (is_some room.now.lag) (jobs_of self.client)) }
     {
         let Seated {
             mut session,
@@ -242,7 +249,8 @@ fn run_clients<N: StoreName, R: Wait, G: Gate>(
     room: &Room<'_, N, G>,
     seats: Vec<Seated<N>>,
 ) -> Result<Ran<N>, Refusal>
-    ensures { IfOk result (λ ran. HaveWorked N.name.setting (map (λ seated. seated.client) seats.items) ran.given_up ran.sessions.items) }
+    ensures worked { IfOk result (λ ran. HaveWorked N.name.setting (map (λ seated. seated.client) seats.items) ran.given_up ran.sessions.items) }
+    ensures stopped { IfErr result (HaveStopped (is_some room.now.lag) (map (λ seated. seated.client) seats.items)) }
 {
     let mut made = FillJob::new(room.alloc)?;
     let mut sessions = Vec::with_capacity(room.alloc, seats.len())?;
@@ -260,7 +268,8 @@ impl<N: StoreName> Worker<N> {
     /// of their transactions, with `OutOfMemory` before the first of them, and with `Full` where more of them were given up than
     /// can be counted.
     pub fn run<R: Wait, G: Gate>(self, rt: &R, room: &Room<'_, N, G>) -> Result<Ran<N>, Refusal>
-        ensures { IfOk result (λ ran. HaveWorked N.name.setting self ran.given_up ran.sessions.items) }
+        ensures worked { IfOk result (λ ran. HaveWorked N.name.setting self ran.given_up ran.sessions.items) }
+        ensures stopped { IfErr result (HaveStopped (is_some room.now.lag) self) }
     {
         let Worker { seats } = self;
         let ended = run_clients(rt, room, seats);
@@ -273,7 +282,8 @@ impl<N: StoreName> Ran<N> {
     // The clients of another worker have run too. Refuses with `OutOfMemory`, or with `Full` where more of them were given up than
     // can be counted.
     pub(crate) fn and(self, other: Ran<N>) -> Result<Ran<N>, Refusal>
-        ensures { (clients others : List Client) → HaveWorked N.name.setting clients self.given_up self.sessions.items → HaveWorked N.name.setting others other.given_up other.sessions.items → IfOk result (λ all. HaveWorked N.name.setting (clients ++ others) all.given_up all.sessions.items) }
+        ensures worked { (clients others : List Client) → HaveWorked N.name.setting clients self.given_up self.sessions.items → HaveWorked N.name.setting others other.given_up other.sessions.items → IfOk result (λ all. HaveWorked N.name.setting (clients ++ others) all.given_up all.sessions.items) }
+        ensures stopped { IfErr result (λ why. (why ≡ OutOfMemory) ⊎ ((why ≡ Full) × (2 ^ 64 ≤ self.given_up + other.given_up))) }
     {
         let Ran {
             mut sessions,

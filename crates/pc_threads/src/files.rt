@@ -6,6 +6,7 @@ ghost use Rattle.pc_types.specs.declared.refusal.Refusal.TheVariants.{Device};
 ghost use Rattle.pc_model.specs.Sets as set;
 ghost use Rattle.pc_part.specs.Texts.{part_text};
 ghost use Rattle.pc_texts.specs.declared.file_names.FileName.TheVariants as file;
+ghost use Rattle.pc_threads.specs.Faults.{IsLost};
 ghost use Rattle.pc_threads.specs.Files.{KeepsOthers};
 ghost use Rattle.pc_threads.specs.declared.fault.Fault.TheVariants as Fault;
 
@@ -42,13 +43,14 @@ pub trait NewFiles<F: Write> {
         ensures others { KeepsOthers (holds self.old) (holds self.new) name.now };
 }
 
-/// Makes the file.
+/// Makes the file. It fails only where the file can't be made.
 pub fn make_file<F: Write, D: NewFiles<F>>(
     folder: &mut D,
     name: FileName,
 ) -> Result<Tally<F>, Fault>
     ensures blank { IfOk result (λ file. F.contents (inner_of file) ≡ D.blank) }
     ensures others { KeepsOthers (D.holds folder.old) (D.holds folder.new) name }
+    ensures lost { IfErr result (IsLost name) }
 {
     match folder.make(&name) {
         Ok(file) => Ok(Tally::new(file)),
@@ -67,7 +69,7 @@ fn flush_file<F: Write>(file: &mut Tally<F>) -> Result<(), Fault>
     }
 }
 
-/// What was written goes out, and the file is whole.
+/// What was written goes out, and the file is whole. It fails only where the device failed or the file can't be made.
 pub fn finish_file<F: Write + Drop, D: NewFiles<F>>(
     folder: &mut D,
     name: FileName,
@@ -75,6 +77,7 @@ pub fn finish_file<F: Write + Drop, D: NewFiles<F>>(
 ) -> Result<(), Fault>
     ensures whole { OnOk result ((text : List ℕ) → Appends D.blank (F.contents (inner_of file)) text → D.holds folder.new name text) }
     ensures others { KeepsOthers (D.holds folder.old) (D.holds folder.new) name }
+    ensures lost { IfErr result (IsLost name) }
 {
     let mut file = file;
     flush_file(&mut file)?;
@@ -84,7 +87,7 @@ pub fn finish_file<F: Write + Drop, D: NewFiles<F>>(
     }
 }
 
-/// Writes the file of the point, which is of it alone.
+/// Writes the file of the point, which is of it alone. It fails only where the device failed or the file can't be made.
 pub fn write_part<F: Write + Drop, D: NewFiles<F>>(
     folder: &mut D,
     point: Point,
@@ -93,6 +96,7 @@ pub fn write_part<F: Write + Drop, D: NewFiles<F>>(
     requires { part.now.points ≡ set.insert set.empty point }
     ensures whole { OnOk result (D.holds folder.new (file.Part point) (part_text part.now)) }
     ensures others { KeepsOthers (D.holds folder.old) (D.holds folder.new) (file.Part point) }
+    ensures lost { IfErr result (IsLost (file.Part point)) }
 {
     let mut file = make_file(folder, FileName::Part(point))?;
     part.encode(&mut file)?;

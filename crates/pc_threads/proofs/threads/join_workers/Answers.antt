@@ -8,5 +8,5 @@ loop-handle-preserved g c =
     let clients = c.in-Some.handle.promise.0.value in (
       was.0 ++ clients,
       over_some _ was.0 c.in-Some.handle c.next.new.self.rest.items c.loop-handle.handle-iterator.rest.items _ c.in-Some.ensures.steps.0 was.1,
-      c.in_ok-all.ensures was.0 clients was.2 c.in_ok-ran.ensures,
+      c.in_ok-all.ensures.worked was.0 clients was.2 c.in_ok-ran.ensures,
     )
