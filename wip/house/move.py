@@ -241,7 +241,7 @@ def words_in(items):
 
 def root_file(page, modules, given):
     """A root file; the layout is `rt fmt`'s."""
-    uses = [f"pub use {module}::{{{', '.join(sorted(items))}}};" for module, items in sorted(given)]
+    uses = [f"pub use {module}::{{{', '.join(sorted(items))}}};" for module, items in sorted(given) if items]
     return "\n".join([*(f"//! {line}" for line in page.split("\n")), "#![tactic(auto)]", "", *(f"mod {it};" for it in sorted(modules)), "", *uses, ""])
 
 
@@ -252,6 +252,8 @@ def merge(tree, step):
         tree.by_hand(f"{step}: of {', '.join(olds)} not all are there")
         return
     modules, given, module_of = merged_roots(tree, olds)
+    outer = [item for item in module_of if is_named_outside(tree, olds, item) or not is_named_among(tree, olds, item)]
+    given = [(module, [it for it in items if it in outer]) for module, items in given]
     libs = {part: merged_libs(tree, olds, part, others) for part in PARTS}
     for (old, part, name), other in others.items():
         tree.move(f"crates/{old}/{part}/{name}.antt", f"crates/{old}/{part}/{other}.antt")
@@ -285,6 +287,20 @@ def merged_roots(tree, olds):
         modules += some
         given += out
     return modules, given, {item: module for module, items in given for item in items}
+
+
+def sources_with(tree, item, crates):
+    """Whether a source of one of these crates takes the item from another crate."""
+    word = re.compile(rf"(?m)\b(?:{'|'.join(crates[1])})::(?:\{{[^{{}}]*\b{item}\b|{item}\b)")
+    return any(word.search(tree.read(it)) for name in crates[0] for it in tree.files(f"crates/{name}/src/*.rt"))
+
+
+def is_named_outside(tree, olds, item):
+    return sources_with(tree, item, ([it for it in names_in(read_rows(tree)) if it not in olds], olds))
+
+
+def is_named_among(tree, olds, item):
+    return sources_with(tree, item, (olds, olds))
 
 
 def merged_libs(tree, olds, part, others):
