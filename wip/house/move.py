@@ -6,7 +6,7 @@
     move.py TREE --only STEP..       these steps alone
     move.py TREE --renames FILE      writes the crates' names, old and new, into FILE: what tools/contracts.py --renames reads
 
-The steps, in their order: dead, chain, table, txn, capture, examples, names, tools, texts, deps, layout, pages, look (README.md beside this file says what
+The steps, in their order: dead, chain, table, txn, capture, examples, names, tools, deps, layout, pages, look (README.md beside this file says what
 each does). What a rule can't do is told at the end in lines that begin with `by hand:`, and the status is then 1.
 """
 
@@ -19,7 +19,7 @@ import subprocess
 import sys
 
 HERE = os.path.dirname(os.path.abspath(__file__))
-STEPS = ("dead", "chain", "table", "txn", "capture", "examples", "names", "tools", "texts", "deps", "layout", "pages", "look")
+STEPS = ("dead", "chain", "table", "txn", "capture", "examples", "names", "tools", "deps", "layout", "pages", "look")
 # Cases, measurements: what each crate is called from now on.
 NAMES = {
     "pc_bench": "bench_calls",
@@ -591,21 +591,30 @@ TOOLS = [
         'if "test" not in os.path.relpath(file, os.path.join(ROOT, "crates", name)):',
     ),
 ]
-TEXTS = [
-    ("docs/ARCHITECTURE.md", "(pc_table, pc_table)", "(pc_table)"),
-    (
-        "docs/ARCHITECTURE.md",
-        "Cases are data. These programs and test crates stand over the libraries, which have few tests of their own;",
-        "Cases are data. These programs and test crates, whose names begin with `test_`, stand over the libraries, which have few tests of their own;",
-    ),
-    ("docs/ARCHITECTURE.md", "crates/pc_NAME/", "crates/NAME/"),
-    (
-        "docs/PROMISES.md",
-        "The worked examples (`specs/Examples*`, made by `tools/worked_examples.py`)",
-        "The worked examples (`test_model`, most of them made by `tools/worked_examples.py`)",
-    ),
-    ("README.md", "| `crates/pc_NAME/` | `src` code", "| `crates/NAME/` | `pc_*` and `pcalc` the product, `test_*` what the gate runs over it, `bench_*` what is measured: `src` code"),
-]
+# By step, sentences that no rule makes. They are made in the steps' order, with the names of that step.
+TEXTS = {
+    "table": [("docs/ARCHITECTURE.md", "(pc_table, pc_table)", "(pc_table)")],
+    "examples": [
+        (
+            "docs/PROMISES.md",
+            "The worked examples (`specs/Examples*`, made by `tools/worked_examples.py`)",
+            "The worked examples (`test_model`, most of them made by `tools/worked_examples.py`)",
+        )
+    ],
+    "names": [
+        (
+            "docs/ARCHITECTURE.md",
+            "Cases are data. These programs and test crates stand over the libraries, which have few tests of their own;",
+            "Cases are data. These programs and test crates, whose names begin with `test_`, stand over the libraries, which have few tests of their own;",
+        ),
+        ("docs/ARCHITECTURE.md", "crates/pc_NAME/", "crates/NAME/"),
+        (
+            "README.md",
+            "| `crates/pc_NAME/` | `src` code",
+            "| `crates/NAME/` | `pc_*` and `pcalc` the product, `test_*` what the gate runs over it, `bench_*` what is measured: `src` code",
+        ),
+    ],
+}
 
 
 def edits(tree, found):
@@ -619,11 +628,6 @@ def edits(tree, found):
 def tools(tree):
     """What the tools know of crates by their names."""
     edits(tree, TOOLS)
-
-
-def texts(tree):
-    """Sentences that no rule makes."""
-    edits(tree, TEXTS)
 
 
 def named_in(tree, name):
@@ -691,6 +695,7 @@ def main():
         if step in (given.only or STEPS) and step not in given.without:
             print(f"{step}: {made[step].__doc__ or 'Makes one crate of ' + ', '.join(MERGES[step][0])}", flush=True)
             made[step](tree)
+            edits(tree, TEXTS.get(step, ()))
     if given.renames:
         with open(given.renames, "w", encoding="utf-8") as it:
             it.writelines(f"{old} {new}\n" for old, new in sorted(tree.renamed.items()))
