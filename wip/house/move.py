@@ -6,7 +6,7 @@
     move.py TREE --only STEP..       these steps alone
     move.py TREE --renames FILE      writes the crates' names, old and new, into FILE: what tools/contracts.py --renames reads
 
-The steps, in their order: dead, chain, table, txn, capture, examples, names, tools, deps, layout, pages, look (README.md beside this file says what
+The steps, in their order: dead, chain, table, txn, capture, examples, commands, names, tools, deps, layout, pages, look (README.md beside this file says what
 each does). What a rule can't do is told at the end in lines that begin with `by hand:`, and the status is then 1.
 """
 
@@ -19,7 +19,7 @@ import subprocess
 import sys
 
 HERE = os.path.dirname(os.path.abspath(__file__))
-STEPS = ("dead", "chain", "table", "txn", "capture", "examples", "names", "tools", "deps", "layout", "pages", "look")
+STEPS = ("dead", "chain", "table", "txn", "capture", "examples", "commands", "names", "tools", "deps", "layout", "pages", "look")
 # Cases, measurements: what each crate is called from now on.
 NAMES = {
     "pc_bench": "bench_calls",
@@ -559,6 +559,207 @@ def give_out(tree, old, new):
     """What the examples need of the model's lemmas is public from now on."""
     needed = {word for it in tree.files(f"{new}/proofs") for word in re.findall(r"\bRattle\.pc_model\.proofs\.(\w+)", tree.text(it) or "")}
     tree.change(f"{old}/proofs/Lib.antt", lambda text: re.sub(r"(?m)^mod (\w+)$", lambda it: f"pub mod {it[1]}" if it[1] in needed else it[0], text))
+
+
+# The commands, each without the others.
+
+RESTORE = ("bases", "recovery", "reports")
+RESTORE_SPECS = ("Bases", "Recoveries", "Reports")
+RESTORE_PROOFS = ("FolderBases", "FolderParts", "FolderRecovery")
+# The words of definitions that go to pc_texts, by the file in which they stood; and who has an item from now on.
+SHARED_WORDS = {"Runs": ("report_text", "IsScriptFault"), "Recoveries": ("Holds", "AreOpened", "TellsOf")}
+SHARED_ITEMS = {"run": ("read_opened", "report", "put_name", "put_why"), "recovery": ("NamedFile",)}
+HOME = {"NamedFile": "pc_texts", "read_opened": "pc_texts", "report": "pc_texts"}
+HOME |= dict.fromkeys(("Folder", "Lost", "recover_base", "run_recover", "tell_lost"), "pc_restore")
+FILES_PAGE = "//! Files that may have been opened: their bytes, and the line that tells why a command failed."
+PAGES = {
+    "pc_script": "Runs a script of transactions against a store, over any readers and writers.",
+    "pc_restore": "Recovers what a folder's files are worth, and makes the base of a next run of it; over any readers and writers.",
+    "pc_texts": "The texts of replies, states and files, and the names of files; files that may have been opened: their bytes, and what is told\n"
+    "where a command fails.",
+}
+COMMAND_TEXTS = [
+    ("docs/ARCHITECTURE.md", "`pc_script` `recovery.rt`", "`pc_restore` `recovery.rt`"),
+    ("docs/PROMISES.md", "## `pc_lines`, `pc_texts`, `pc_script`\n", "## `pc_lines`, `pc_texts`, `pc_script`, `pc_restore`\n"),
+    ("README.md", "| `pc_script`, `pc_runs` |", "| `pc_script`, `pc_restore`, `pc_runs` |"),
+]
+
+
+def commands(tree):
+    """Commands depend on no other command: recovery is a crate of its own, and what all commands need of files stands in pc_texts."""
+    old = "crates/pc_script"
+    if not tree.has(old, "src/recovery.rt") or tree.has("crates/pc_restore"):
+        tree.by_hand("commands: pc_script isn't as it was")
+        return
+    taken = [cut_items(tree, f"{old}/src/{module}.rt", items) for module, items in SHARED_ITEMS.items()]
+    specs = [cut_words(tree, f"{old}/specs/{name}.antt", words) for name, words in SHARED_WORDS.items()]
+    _, _, given, _ = page_and_rest(tree.read(f"{old}/src/lib.rt"))
+    split_files(tree, old, "crates/pc_restore")
+    imports = merged_imports([tree.read(f"{old}/src/run.rt"), tree.read("crates/pc_restore/src/recovery.rt")], "".join(taken))
+    tree.write("crates/pc_texts/src/files.rt", f"{FILES_PAGE}\n{imports}\n{''.join(reversed(taken)).strip()}\n")
+    definitions = merged_imports([tree.read(f"{old}/specs/Runs.antt"), tree.read("crates/pc_restore/specs/Recoveries.antt")], "".join(specs))
+    own = [word for words in SHARED_WORDS.values() for word in words]
+    items = [it for it, home in HOME.items() if home == "pc_texts"]
+    tree.write("crates/pc_texts/specs/Files.antt", f"-- Files that may have been opened: what they hold, and what is told of a fault.\n{definitions}\n{''.join(specs).strip()}\n")
+    roots_of_commands(tree, given)
+    tree.git("add", "crates/pc_texts", "crates/pc_restore", "crates/pc_script")
+    for path in tree.files("crates"):
+        if path.endswith((".rt", ".antt", ".edit")):
+            tree.change(path, lambda text: with_new_homes(path, text))
+    for path in ("pc_texts/src/files.rt", "pc_script/src/run.rt", "pc_restore/src/recovery.rt"):
+        tree.change(f"crates/{path}", with_own_items)
+    for path in ("pc_texts/src/files.rt", "pc_script/src/run.rt", "pc_restore/src/recovery.rt", "pc_texts/specs/Files.antt", "pc_script/specs/Runs.antt", "pc_restore/specs/Recoveries.antt"):
+        tree.change(f"crates/{path}", lambda text: without_unused(text, own if "/specs/Files" in path else items if "/files" in path else ()))
+    rows_of_commands(tree)
+    edits(tree, COMMAND_TEXTS)
+
+
+def cut_items(tree, path, items):
+    """Takes functions and structs with their docs out of a source, and gives their text."""
+    text, taken = tree.read(path), []
+    for item in items:
+        found = re.search(rf"(?m)^(?:///[^\n]*\n|#\[[^\n]*\n)*(?:pub )?(?:fn|struct) {item}\b[^\n]*\n(?:[^\n}}][^\n]*\n|\n)*\}}\n\n?", text)
+        if not found:
+            sys.exit(f"{path} has no {item}")
+        taken.append(found[0].rstrip("\n") + "\n\n")
+        text = text[: found.start()] + text[found.end() :]
+    tree.write(path, text.rstrip("\n") + "\n")
+    return "".join(taken)
+
+
+def cut_words(tree, path, words):
+    """Takes definitions with their comments out of a file, and gives their text."""
+    text, taken = tree.read(path), []
+    for word in words:
+        found = re.search(rf"(?m)^(?:--[^\n]*\n)+abbrev pub {word} :(?:[^\n]+\n)+\n?", text)
+        if not found:
+            sys.exit(f"{path} has no {word}")
+        taken.append(found[0].rstrip("\n") + "\n\n")
+        text = text[: found.start()] + text[found.end() :]
+    tree.write(path, text.rstrip("\n") + "\n")
+    return "".join(taken)
+
+
+def split_files(tree, old, new):
+    """The files of the crate of recoveries."""
+    for module in RESTORE:
+        tree.move(f"{old}/src/{module}.rt", f"{new}/src/{module}.rt")
+        if tree.has(old, "proofs", module):
+            tree.move(f"{old}/proofs/{module}", f"{new}/proofs/{module}")
+    tree.move(f"{old}/proofs/run/report", "crates/pc_texts/proofs/files/report")
+    tree.move(f"{old}/proofs/Begun.antt", "crates/pc_texts/proofs/Begun.antt")
+    for part, names in (("specs", RESTORE_SPECS), ("proofs", RESTORE_PROOFS)):
+        for name in names:
+            tree.move(f"{old}/{part}/{name}.antt", f"{new}/{part}/{name}.antt")
+        lines = tree.read(f"{old}/{part}/Lib.antt").splitlines()
+        tree.write(f"{new}/{part}/Lib.antt", "".join(it + "\n" for it in lines if it.split(" ")[-1] in names))
+        tree.write(f"{old}/{part}/Lib.antt", "".join(it + "\n" for it in lines if it.split(" ")[-1] not in (*names, "Begun")))
+    for part, line in (("specs", "pub mod Files"), ("proofs", "pub mod Begun")):
+        path = f"crates/pc_texts/{part}/Lib.antt"
+        tree.write(path, (tree.read(path) if tree.has(path) else "") + line + "\n")
+    for path in tree.files(f"{old}/must-fail/*.edit", f"{old}/tried/*.edit"):
+        if re.search(rf"(?m)^file: src/(?:{'|'.join(RESTORE)})\.rt$", tree.read(path)):
+            tree.move(path, path.replace(old, new))
+
+
+def merged_imports(texts, body):
+    """The imports of these texts, each once, with those of the same module as one."""
+    lines = without_repeats(line for text in texts for line in re.findall(r"(?m)^(?:ghost )?use [^\n]*(?:\{[^{}]*\})?;?\n", text))
+    merged, rest = {}, []
+    for line in lines:
+        found = re.fullmatch(r"((?:ghost )?use [\w.:]+?(?:\.|::))(?:\{([^{}]*)\}|(\w+))(;?)\n", line)
+        if found and (found[2] or found[1].endswith("::")):
+            merged.setdefault((found[1], found[4]), []).extend(it.strip() for it in (found[2] or found[3]).split(","))
+        else:
+            rest.append(line)
+    made = [f"{head}{{{', '.join(without_repeats(words))}}}{end}\n" for (head, end), words in merged.items()] + rest
+    ghosts, uses = [it for it in made if not it.startswith("use ") or "Rattle." in it], [it for it in made if it.startswith("use ") and "Rattle." not in it]
+    text = "".join(ghosts) + ("\n" if ghosts and uses else "") + "".join(uses)
+    return without_unused(text + "\n" + body, ()).split("\n\n" + body.split("\n")[0])[0].rstrip("\n") + "\n" if body.split("\n")[0] in text + body else text
+
+
+def without_unused(text, own):
+    """A text without the imported words that it doesn't name, and without those that it has itself."""
+
+    def rule(found):
+        words = [it.strip() for it in found[2].split(",")]
+        behind = text.replace(found[0], "")
+        kept = [it for it in words if it not in own and is_named(it.split(" as ")[-1], behind)]
+        return f"{found[1]}{{{', '.join(kept)}}}{found[3]}\n" if kept else ""
+
+    text = re.sub(r"(?m)^((?:ghost )?use [\w.:]+?(?:\.|::))\{([^{}]*)\}(;?)\n", rule, text)
+    alone = lambda it: it[0] if is_named(it[1], text.replace(it[0], "")) else ""
+    return re.sub(r"(?m)^(?:ghost )?use [\w.:]+ as (\w+);?\n", alone, text)
+
+
+def is_named(word, text):
+    """Whether a word or an operator is used outside of imports and comments."""
+    body = re.sub(r"(?m)^[ \t]*(?:ghost )?use [^\n]*\n|(?://|--)[^\n]*", "", text)
+    parts = [it for it in word.split("◌") if it]
+    return all(re.search(rf"(?<![\w]){re.escape(it)}(?![\w])" if re.match(r"\w", it) else re.escape(it), body) for it in parts)
+
+
+def roots_of_commands(tree, given):
+    """The root files of the three crates."""
+    items = {name: [] for name in PAGES}
+    for module, words in given:
+        for word in words:
+            name = HOME.get(word, "pc_script")
+            items[name].append(("files" if name == "pc_texts" else module, word))
+    for name, page in PAGES.items():
+        path = f"crates/{name}/src/lib.rt"
+        modules = sorted(it.removesuffix(".rt") for it in os.listdir(tree.path("crates", name, "src")) if it != "lib.rt")
+        had = [] if name != "pc_texts" else page_and_rest(tree.read(path))[2]
+        by_module = {}
+        for module, word in [*items[name], *((module, word) for module, words in had for word in words)]:
+            by_module.setdefault(module, []).append(word)
+        tree.write(path, root_file(page, modules, [*by_module.items()]))
+
+
+def with_new_homes(path, text):
+    """A text in which words of pc_script that stand elsewhere now are named there."""
+    for name, words in SHARED_WORDS.items():
+        for word in words:
+            text = import_moved(text, word, f"pc_script.specs.{name}", "pc_texts.specs.Files")
+    text = re.sub(r"\bRattle\.pc_script\.specs\.declared\.recovery\.NamedFile\b", "Rattle.pc_texts.specs.declared.files.NamedFile", text)
+    text = re.sub(rf"\bRattle\.pc_script\.specs\.(declared\.(?:{'|'.join(RESTORE)})|{'|'.join(RESTORE_SPECS)})\b", r"Rattle.pc_restore.specs.\1", text)
+    text = text.replace("Rattle.pc_script.proofs.run.report.", "Rattle.pc_texts.proofs.files.report.").replace("Rattle.pc_script.proofs.Begun.", "Rattle.pc_texts.proofs.Begun.")
+    text = re.sub(rf"\bRattle\.pc_script\.proofs\.({'|'.join([*RESTORE, *RESTORE_PROOFS])})\b", r"Rattle.pc_restore.proofs.\1", text)
+
+    def rule(found):
+        if found[2] != "pc_script":
+            return found[0]
+        by_home = {}
+        for item in words_in(found[3]):
+            by_home.setdefault(HOME.get(item, "pc_script"), []).append(item)
+        return "".join(f"{found[1]}use {home}::{{{', '.join(items)}}};\n" for home, items in by_home.items())
+
+    return USE.sub(rule, text) if path.endswith((".rt", ".edit")) else text
+
+
+def with_own_items(text):
+    """The sources that had what stands in pc_texts now, or named it by its module."""
+    text = re.sub(r"(?m)^use crate::(?:run|recovery)::(\{[^{}]*\}|\w+);\n", lambda it: it[0] if not {*words_in(it[1])} <= {*HOME} else f"use pc_texts::{{{', '.join(words_in(it[1]))}}};\n", text)
+    shared = [it for it, home in HOME.items() if home == "pc_texts" and not re.search(rf"(?m)^pub (?:fn|struct) {it}\b", text)]
+    missing = [it for it in shared if is_named(it, text) and not re.search(rf"(?m)^use pc_texts::[^;]*\b{it}\b", text)]
+    if missing:
+        text = re.sub(r"(?m)^use pc_types::", f"use pc_texts::{{{', '.join(missing)}}};\nuse pc_types::", text, count=1)
+    return text
+
+
+def rows_of_commands(tree):
+    rows = read_rows(tree)
+    script = next(row for row in rows if name_of(row) == "pc_script")
+    for row in rows:
+        if name_of(row) and "pc_script" in row[1]:
+            text = named_in(tree, name_of(row))
+            homes = [it for it in ("pc_texts", "pc_script", "pc_restore") if re.search(rf"\b{it}\b", text) and (it != "pc_texts" or it not in row[1])]
+            place = row[1].index("pc_script")
+            row[1][place : place + 1] = homes
+    text = {name: named_in(tree, name) for name in ("pc_script", "pc_restore")}
+    put_in_order(rows, ["pc_restore", [it for it in script[1] if re.search(rf"\b{it}\b", text["pc_restore"])]])
+    script[1] = [it for it in script[1] if it != "pc_recover"]
+    write_rows(tree, rows)
 
 
 # Small steps.
