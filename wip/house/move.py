@@ -610,6 +610,8 @@ def commands(tree):
         tree.change(f"crates/{path}", with_own_items)
     for path in ("pc_texts/src/files.rt", "pc_script/src/run.rt", "pc_restore/src/recovery.rt", "pc_texts/specs/Files.antt", "pc_script/specs/Runs.antt", "pc_restore/specs/Recoveries.antt"):
         tree.change(f"crates/{path}", lambda text: without_unused(text, own if "/specs/Files" in path else items if "/files" in path else ()))
+    for path in ("pc_script/specs/Runs.antt", "pc_restore/specs/Recoveries.antt"):
+        tree.change(f"crates/{path}", lambda text: with_import(text, "pc_texts.specs.Files", own))
     rows_of_commands(tree)
     edits(tree, COMMAND_TEXTS)
 
@@ -676,6 +678,13 @@ def merged_imports(texts, body):
     ghosts, uses = [it for it in made if not it.startswith("use ") or "Rattle." in it], [it for it in made if it.startswith("use ") and "Rattle." not in it]
     text = "".join(ghosts) + ("\n" if ghosts and uses else "") + "".join(uses)
     return without_unused(text + "\n" + body, ()).split("\n\n" + body.split("\n")[0])[0].rstrip("\n") + "\n" if body.split("\n")[0] in text + body else text
+
+
+def with_import(text, module, words):
+    """A file of definitions that imports of these words those that it names."""
+    line = f"use Rattle.{module}.{{{', '.join(it for it in words if is_named(it, text))}}}\n"
+    last = [*re.finditer(r"(?m)^use [^\n]*\n", text)][-1].end()
+    return one_import(text[:last] + line + text[last:], module)
 
 
 def without_unused(text, own):
