@@ -677,7 +677,7 @@ def merged_imports(texts, body):
     made = [f"{head}{{{', '.join(without_repeats(words))}}}{end}\n" for (head, end), words in merged.items()] + rest
     ghosts, uses = [it for it in made if not it.startswith("use ") or "Rattle." in it], [it for it in made if it.startswith("use ") and "Rattle." not in it]
     text = "".join(ghosts) + ("\n" if ghosts and uses else "") + "".join(uses)
-    return without_unused(text + "\n" + body, ()).split("\n\n" + body.split("\n")[0])[0].rstrip("\n") + "\n" if body.split("\n")[0] in text + body else text
+    return without_unused(text + "\f\n" + body, ()).partition("\f\n")[0]
 
 
 def with_import(text, module, words):
@@ -846,7 +846,7 @@ def named_in(tree, name):
 
 
 def deps(tree):
-    """crates.txt tells of each crate what its own files name, and what the checker wants beside."""
+    """crates.txt tells of each crate what its own files name."""
     rows = read_rows(tree)
     for row in rows:
         if name_of(row):
