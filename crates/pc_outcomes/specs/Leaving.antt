@@ -84,7 +84,7 @@ pub record AreLeftAfter (st : Setting) (history : History) (base : BaseFile) (lo
 abbrev pub IsMissing : List File → ℕ → Type 0
 IsMissing files point = (1 ≤ point) × IsFalse (has_point files point) × ((later : ℕ) × (point ≤ later) × IsTrue (has_point files later))
 
--- Why nothing is told of such files: memory ran out; there are some, and together they have too many entries; or a point is missing.
+-- Why nothing is told of such files: memory ran out; there are some, and of Full no more is said here; or a point is missing.
 abbrev pub IsUntoldAfter : List File → Refusal → Type 0
 IsUntoldAfter files refusal.OutOfMemory = ⊤
 IsUntoldAfter files refusal.Full = ¬ (files ≡ [])

@@ -79,7 +79,7 @@ HaveWorked st [] given_up [] = given_up ≡ 0
 HaveWorked st (client ∷ clients) given_up (session ∷ sessions) = (own others : ℕ) × (given_up ≡ own + others) × HasWorked st client own session × HaveWorked st clients others sessions
 HaveWorked st clients given_up sessions = ⊥
 
--- why clients have stopped: memory was wanting before the first of them, or one of them has
+-- why clients have stopped: memory was wanting, or one of them has
 abbrev pub HaveStopped : Bool → List Client → Refusal → Type 0
 HaveStopped has_log clients why = (why ≡ OutOfMemory) ⊎ HasStopped has_log (flat_map jobs_of clients) why
 
