@@ -1,12 +1,14 @@
 -- A workload that can be run, and why nothing is printed of it.
 use Rattle.std.proofs.Common.{◌≡◌, ℕ, List, Option, Some, None, Result, Ok, Err, sym, ◌∙◌, inl, inr}
 use Rattle.std.proofs.lemmas.Bool.{false≢true}
-use Rattle.std.specs.Prelude.{IfOk, IfSome, IsOk}
+use Rattle.std.specs.Prelude.{IfOk, IfSome, IsOk, is_some}
 use Rattle.pc_types.specs.declared.refusal.Refusal.{Refusal}
 use Rattle.pc_types.specs.declared.refusal.Refusal.TheVariants.{OutOfMemory}
 use Rattle.pc_model.specs.Replies.{Setting}
 use Rattle.pc_jobs.specs.Workloads.{reading_of}
+use Rattle.pc_jobs.specs.declared.works.Workload.{Workload}
 use Rattle.pc_jobs.specs.declared.workloads.Reading.{Reading}
+use Rattle.pc_jobs.specs.declared.workloads.Reading.TheVariants as reading
 use Rattle.pc_script.specs.Runs.{IsScriptFault}
 use Rattle.pc_threads.specs.declared.fault.Fault.{Fault}
 use Rattle.pc_threads.specs.declared.fault.Fault.TheVariants as fault
@@ -15,6 +17,7 @@ use Rattle.pc_runs.specs.declared.failure.Failure.TheVariants as failure
 use Rattle.pc_runs.specs.declared.files.RunFolder.{RunFolder}
 use Rattle.pc_runs.specs.declared.origin.Start.{Start}
 use Rattle.pc_runs.specs.declared.origin.Start.TheVariants as start
+use Rattle.pc_runs.specs.Faults.{Ends}
 use Rattle.pc_runs.specs.Runs.{Beginning, Begun, NotBegun, Unstarted, CanRun, IsReadAs, IsUnanswered, IsUnstarted, IsUsable}
 
 if_some : {X : Type 0} (o : Option X) (P Q : X → Type 0) → ((x : X) → P x → Q x) → IfSome o P → IfSome o Q
@@ -40,11 +43,11 @@ module _ {R D : Type 0} (remaining : R → Option (List ℕ)) (folder : Option (
   unread opened why fault none = inl (fault, none)
 
   -- the run has begun, and failed
-  pub run_failed : (opened : Result R Refusal) (why : Fault) (st : Setting) → CanRun remaining opened → IsUsable folder → begins (Begun st)
-      → IsUnanswered remaining opened folder begins (failure.Run why)
-  run_failed opened (fault.Refused why) st can usable begun = inr (can, usable, (st, begun))
-  run_failed opened (fault.Unmade name why) st can usable begun = (can, usable, (st, begun))
-  run_failed opened fault.NoThread st can usable begun = (can, usable, (st, begun))
+  pub run_failed : (opened : Result R Refusal) (workload : Workload) (why : Fault) (st : Setting) → IsOk opened → IsReadAs remaining opened (reading.Runs workload) → IsUsable folder → begins (Begun st)
+      → Ends st workload (is_some folder) why → IsUnanswered remaining opened folder begins (failure.Run why)
+  run_failed opened workload (fault.Refused why) st there read usable begun ends = inr (there, usable, (workload, read, (st, begun, ends)))
+  run_failed opened workload (fault.Unmade name why) st there read usable begun ends = (there, usable, (workload, read, (st, begun, ends)))
+  run_failed opened workload fault.NoThread st there read usable begun ends = (there, usable, (workload, read, (st, begun, ends)))
 
   -- it has nothing to start from
   pub not_started : {S : Type 0} (theirs : S → Option (List ℕ)) (opened : Result R Refusal) (first : Start S) (why : Failure) → CanRun remaining opened → IsUsable folder

@@ -3,5 +3,6 @@ mod HistoryLaws
 pub mod NewPasses
 mod CommitLaws
 mod DealingLaws
+mod FaultLaws
 mod WorkLaws
 mod FolderLaws

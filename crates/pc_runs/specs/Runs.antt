@@ -19,6 +19,7 @@ use Rattle.pc_script.specs.Bases.{IsMade, IsUnmade}
 use Rattle.pc_script.specs.Recoveries.{TellsOf}
 use Rattle.pc_script.specs.Recoveries as recoveries
 use Rattle.pc_script.specs.Runs.{IsScriptFault}
+use Rattle.pc_threads.specs.declared.fault.Fault.{Fault}
 use Rattle.pc_threads.specs.declared.fault.Fault.TheVariants as fault
 use Rattle.pc_runs.specs.declared.failure.Failure.{Failure}
 use Rattle.pc_runs.specs.declared.failure.Failure.TheVariants as failure
@@ -33,6 +34,7 @@ use Rattle.pc_outcomes.specs.declared.outcome.Printed.TheVariants as printed
 use Rattle.pc_outcomes.specs.Leaving.{commits_in, IsLegacy}
 use Rattle.pc_outcomes.specs.Outcomes.{printed_text, status_of}
 use Rattle.pc_workers.specs.Covering.{HaveJustTo}
+use Rattle.pc_runs.specs.Faults.{Ends}
 use Rattle.pc_runs.specs.Folders.{LeavesFiles, base_of}
 use Rattle.pc_runs.specs.Worked.{HaveRunBy}
 use Rattle.pc_texts.specs.FileNames.{name_of}
@@ -96,9 +98,12 @@ IsUnusable folder other = ⊥
 abbrev pub CanRun : {R : Type 0} → (R → Option (List ℕ)) → Result R Refusal → Type 0
 CanRun remaining opened = IsOk opened × ((workload : Workload) × IsReadAs remaining opened (reading.Runs workload))
 
--- The workload can be run, the folder is usable, and the run has begun.
-abbrev pub HasBegun : {R D : Type 0} → (R → Option (List ℕ)) → Result R Refusal → Option (RunFolder D) → (Beginning → Type 0) → Type 0
-HasBegun remaining opened folder begins = CanRun remaining opened × IsUsable folder × ((st : Setting) × begins (Begun st))
+-- The workload that the file holds was run, where the folder is usable, over a store with which the run has begun; and this fault has
+-- ended it.
+abbrev pub HasFailed : {R D : Type 0} → (R → Option (List ℕ)) → Result R Refusal → Option (RunFolder D) → (Beginning → Type 0) → Fault → Type 0
+HasFailed remaining opened folder begins why = IsOk opened × IsUsable folder
+    × ((workload : Workload) × IsReadAs remaining opened (reading.Runs workload)
+    × ((st : Setting) × begins (Begun st) × Ends st workload (is_some folder) why))
 
 -- It is printed of the workload that the file holds, and this is left of the folder: of a bad line, before anything is begun; else
 -- the workload was run, of a setting with which it has begun, and only where the folder is usable.
@@ -116,10 +121,10 @@ GoesOut remaining holds contents opened folder begins old new left status = (som
 
 -- Why nothing is printed: where the file wasn't opened, the reason for that; where it was, that it couldn't be read, or that memory
 -- ran out; where its workload can be run, and the folder can't be used, the reason for this; where it can be used, and there is
--- nothing to start from, that; and else one of the run, which has begun.
+-- nothing to start from, that; and else the fault that has ended the run.
 abbrev pub IsUnanswered : {R D : Type 0} → (R → Option (List ℕ)) → Result R Refusal → Option (RunFolder D) → (Beginning → Type 0) → Failure → Type 0
-IsUnanswered remaining opened folder begins (failure.Run (fault.Refused why)) = (IsScriptFault opened why × begins NotBegun) ⊎ HasBegun remaining opened folder begins
-IsUnanswered remaining opened folder begins (failure.Run other) = HasBegun remaining opened folder begins
+IsUnanswered remaining opened folder begins (failure.Run (fault.Refused why)) = (IsScriptFault opened why × begins NotBegun) ⊎ HasFailed remaining opened folder begins (fault.Refused why)
+IsUnanswered remaining opened folder begins (failure.Run other) = HasFailed remaining opened folder begins other
 IsUnanswered remaining opened folder begins (failure.Folder name why) = CanRun remaining opened × IsUnusable folder (failure.Folder name why) × begins NotBegun
 IsUnanswered remaining opened folder begins (failure.Start name why) = CanRun remaining opened × IsUsable folder × begins (Unstarted (failure.Start name why))
 IsUnanswered remaining opened folder begins failure.Output = ⊥

@@ -1,10 +1,11 @@
 //! The files that a run leaves in a folder.
-ghost use Rattle.std.specs.Prelude.{◌≡◌, IfOk, OnOk};
+ghost use Rattle.std.specs.Prelude.{◌≡◌, ◌⊎◌, IfErr, IfOk, OnOk};
 ghost use Rattle.pc_types.specs.Tallies.{Puts, inner_of};
 ghost use Rattle.pc_part.specs.Texts.{base_text};
 ghost use Rattle.pc_script.specs.Runs.{report_text};
 ghost use Rattle.pc_texts.specs.declared.file_names.FileName.TheVariants as file;
 ghost use Rattle.pc_texts.specs.FileNames.{name_of};
+ghost use Rattle.pc_threads.specs.Faults.{IsLost};
 
 use pc_part::Base;
 use pc_script::report;
@@ -51,6 +52,7 @@ pub fn begin_files<F: Write + Drop, D: NewFiles<F>>(
 ) -> Result<Tally<F>, Fault>
     ensures base { OnOk result (D.holds folder.new file.Base (base_text base.now)) }
     ensures log { IfOk result (λ log. F.contents (inner_of log) ≡ D.blank) }
+    ensures lost { IfErr result (λ why. IsLost file.Base why ⊎ IsLost file.Log why) }
 {
     let mut file = make_file(folder, FileName::Base)?;
     base.encode(&mut file)?;

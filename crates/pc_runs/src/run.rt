@@ -1,6 +1,9 @@
 //! A run of a workload, from its reader to the status.
-ghost use Rattle.std.specs.Prelude.{◌≡◌, ◌⊎◌, ◌≤◌, is_some, IsOk, IfOk, IfErr, OnOk};
+ghost use Rattle.std.specs.Prelude.{◌≡◌, ◌⊎◌, ◌≤◌, is_some, IsOk, IsTrue, IfOk, IfErr, OnOk};
 ghost use Rattle.pc_types.specs.declared.limits.TheConstants.{MOST_KEYS};
+ghost use Rattle.pc_texts.specs.declared.file_names.FileName.TheVariants as file;
+ghost use Rattle.pc_threads.specs.Faults.{IsLost};
+ghost use Rattle.pc_runs.specs.Faults.{Ends};
 ghost use Rattle.pc_runs.specs.Folders.{HasBegunFiles};
 ghost use Rattle.pc_runs.specs.Runs.{Begins, GoesOut, IsAnswer, IsCause, IsFailed, IsRun, IsUnanswered, run_setting};
 
@@ -177,6 +180,7 @@ fn run_read<
     requires start { base.point ≡ 0 }
     requires capacity { (1 ≤ capacity) × (capacity ≤ MOST_KEYS) }
     ensures run { IfOk result (λ r. IsRun D.holds (run_setting base capacity) workload (is_some folder) r.1 r.0) }
+    ensures ended { IfErr result (Ends (run_setting base capacity) workload (is_some folder)) }
 {
     if base.pairs().len() > capacity as usize {
         return Err(Fault::Refused(Refusal::Full));
@@ -193,6 +197,7 @@ fn begin<F: Write + Drop, D: NewFiles<F> + Drop>(
 ) -> Result<(Option<D>, Option<Tally<F>>), Fault>
     ensures there { IfOk result (λ r. is_some r.0 ≡ is_some folder) }
     ensures begun { IfOk result (λ r. HasBegunFiles D.holds F.contents D.blank base.now r.0 r.1) }
+    ensures lost { IfErr result (λ why. IsTrue (is_some folder) × (IsLost file.Base why ⊎ IsLost file.Log why)) }
 {
     match folder {
         Some(mut folder) => {

@@ -1,16 +1,22 @@
 //! A store of a workload, from its opening to what it leaves.
-ghost use Rattle.std.specs.Prelude.{◌≡◌, ◌≤◌, ◌<◌, ◌++◌, [], All, List, length, drop, is_some, IfOk};
+ghost use Rattle.std.specs.Prelude.{◌≡◌, ◌≤◌, ◌<◌, ◌||◌, ◌++◌, [], All, List, IsTrue, length, drop, is_some, IfErr, IfOk};
+ghost use Rattle.pc_types.specs.declared.refusal.Refusal.{Refusal};
+ghost use Rattle.pc_types.specs.declared.refusal.Refusal.TheVariants.{OutOfMemory};
 ghost use Rattle.pc_model.specs.History.{History};
 ghost use Rattle.pc_board.specs.declared.limits.TheConstants.{MOST_PASSES};
 ghost use Rattle.pc_board.specs.Passes.{IsOfBoard};
-ghost use Rattle.pc_outcomes.specs.Leaving.{AreLeftAfter, IsLegacy, commits_in};
+ghost use Rattle.pc_outcomes.specs.Leaving.{AreLeftAfter, IsLegacy, IsUntoldAfter, commits_in};
 ghost use Rattle.pc_shared.specs.Sitters.{Sitter};
-ghost use Rattle.pc_threads.specs.Clients.{HaveWorked, clients_in};
+ghost use Rattle.pc_threads.specs.Clients.{HaveWorked, clients_in, transactions_in};
+ghost use Rattle.pc_threads.specs.Faults.{IsEnd, IsLost};
+ghost use Rattle.pc_threads.specs.declared.fault.Fault.TheVariants as Fault;
+ghost use Rattle.pc_texts.specs.declared.file_names.FileName.TheVariants as file;
 ghost use Rattle.pc_workers.specs.Checkpointing.{HasCycled};
 ghost use Rattle.pc_workers.specs.Covering.{HaveOnlyTo, HaveJustTo};
 ghost use Rattle.pc_workers.specs.Logging.{rest_text};
 ghost use Rattle.pc_threads.specs.Files.{HasWritten};
 ghost use Rattle.pc_threads.specs.Logs.{HasLogged};
+ghost use Rattle.pc_runs.specs.Faults.{Ends};
 ghost use Rattle.pc_runs.specs.Folders.{HasBegunFiles, HasFinished, base_of};
 ghost use Rattle.pc_runs.specs.Runs.{IsRun};
 
@@ -65,6 +71,7 @@ fn take_back<N: StoreName, D: Drop, R: Wait>(
     ensures cover { IfOk result (λ ended. HaveJustTo points ended.joined.items) }
     ensures written { IfOk result (λ ended. ended.written.items ≡ rested.worked.written.items) }
     ensures folder { IfOk result (λ ended. ended.folder ≡ rested.worked.folder) }
+    ensures memory { IfErr result (λ why. why ≡ Fault.Refused OutOfMemory) }
 {
     let Rested { worked, held } = rested;
     let Worked {
@@ -116,6 +123,7 @@ fn use_store<
     ensures cover { IfOk result (λ r. HaveJustTo room.now.points r.0.joined.items) }
     ensures written { IfOk result (λ r. HasWritten D.holds room.now.points folder r.0.folder r.0.written.items) }
     ensures logged { IfOk result (λ r. HasLogged F.contents N.name.setting.run logger.out r.1.out r.1.pass) }
+    ensures ended { IfErr result (IsEnd (is_some room.now.lag || is_some folder || is_some logger.out) (transactions_in (clients_in seating.workers.items)) room.now.points) }
 {
     let Seating { workers, idle } = seating;
     let hands = hands_of(room.alloc, board, passes, workers, seat, folder, every)?;
@@ -140,7 +148,7 @@ fn all_tickets<N: StoreName>(
 
 /// Runs the workload over the store, to its close, and tells what it leaves. Where there is a folder, which has the base's file and
 /// that of the log, which is blank, the log is written to it beside the threads, and its rest once the store is closed; and so is
-/// the file of each point, once the point was taken.
+/// the file of each point, once the point was taken. It fails for nothing but what `specs/Faults` names.
 pub fn run_store<
     N: StoreName + Send + Sync,
     F: Write + Drop + Send,
@@ -159,6 +167,7 @@ pub fn run_store<
     requires name { opened ≡ N.name }
     requires begun { HasBegunFiles D.holds F.contents D.blank (base_of N.name.setting) folder log }
     ensures run { IfOk result (λ r. IsRun D.holds N.name.setting workload (is_some folder) r.1 r.0) }
+    ensures ended { IfErr result (Ends N.name.setting workload (is_some folder)) }
 {
     let Workload { points, clients } = workload;
     let (shared, sessions, seat, pass) = opened.named::<N>()?;
@@ -223,6 +232,7 @@ fn leave<N: StoreName, G: Gate + Sync, R: Threads + Wait + Sync>(
     requires after { (history : History) × AreLeftAfter N.name.setting history closed.world.base closed.world.log closed.parts.items }
     ensures commits { IfOk result (λ legacy. legacy.commits ≡ commits_in closed.world.log) }
     ensures files { IfOk result (λ legacy. IsLegacy closed.world.base closed.world.log (drop singles closed.parts.items) legacy.files) }
+    ensures untold { IfErr result (λ fault. (why : Refusal) × (fault ≡ Fault.Refused why) × IsUntoldAfter (drop singles closed.parts.items) why) }
 {
     let mut closed = closed;
     let files = files_of(alloc, &mut closed)?;
@@ -265,7 +275,8 @@ fn finish_log<N: StoreName, F: Write + Drop, D: NewFiles<F> + Drop>(
     log: Option<Tally<F>>,
 ) -> Result<Option<D>, Fault>
     requires { closed.now.logged ≤ length closed.now.world.log }
-    ensures { IfOk result (λ later. HasFinished D.holds F.contents D.blank (rest_text closed.now.logged closed.now.world.log) folder log later) }
+    ensures finished { IfOk result (λ later. HasFinished D.holds F.contents D.blank (rest_text closed.now.logged closed.now.world.log) folder log later) }
+    ensures lost { IfErr result (λ why. IsTrue (is_some folder) × IsLost file.Log why) }
 {
     match (folder, log) {
         (Some(mut folder), Some(mut log)) => {

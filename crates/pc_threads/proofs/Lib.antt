@@ -1,4 +1,5 @@
 mod DoneLaws
+mod FullLaws
 mod StopLaws
 pub mod ClientLaws
 pub mod FileLaws

@@ -1,10 +1,13 @@
 -- What stops some of a client's transactions stops them all, and as many are given up at most as there are.
-use Rattle.std.proofs.Common.{◌≡◌, ℕ, zero, suc, ◌+◌, ◌<◌, ◌≤◌, ◌^◌, ◌++◌, Bool, List, [], ◌∷◌, length, length-append, map, take, drop, get_or, refl, sym, ap, subst, ◌∙◌, inl, inr, arith}
+use Rattle.std.proofs.Common.{◌≡◌, ◌⊎◌, ℕ, zero, suc, ◌+◌, ◌<◌, ◌≤◌, ◌^◌, ◌++◌, Bool, true, false, List, [], ◌∷◌, length, length-append, map, take, drop, get_or, refl, sym, ap, subst, ◌∙◌, inl, inr, arith}
 use Rattle.std.specs.List.{flat_map}
+use Rattle.std.specs.Prelude.{IsTrue, ◌||◌, All, Option, Result, Ok, Err, IfErr}
+use Rattle.std.proofs.lemmas.List.Elements.{All-head}
 use Rattle.std.proofs.lemmas.List.{drop_more, take-append-drop}
 use Rattle.std.proofs.lemmas.List.Concat.{flat_map-append}
 use Rattle.pc_types.specs.declared.refusal.Refusal.{Refusal}
-use Rattle.pc_types.specs.declared.refusal.Refusal.TheVariants.{Full, Device}
+use Rattle.pc_types.specs.declared.refusal.Refusal.TheVariants.{Full, Device, OutOfMemory}
+use Rattle.pc_types.specs.declared.refusal.Refusal.TheVariants as why
 use Rattle.pc_model.specs.History.{History}
 use Rattle.pc_model.specs.Replies.{Setting}
 use Rattle.pc_jobs.specs.declared.works.Client.{Client}
@@ -14,10 +17,15 @@ use Rattle.pc_jobs.specs.declared.works.Work.{Work}
 use Rattle.pc_jobs.specs.Jobs.{job_of}
 use Rattle.pc_shared.specs.Sitters.{Sitter}
 use Rattle.pc_texts.specs.declared.file_names.FileName.{FileName}
+use Rattle.pc_types.specs.declared.tally.Tally.{Tally}
+use Rattle.pc_board.specs.Passes.{Pass}
+use Rattle.pc_workers.specs.Collapsing.{IsShown}
+use Rattle.pc_workers.specs.Collapsing as collapsing
+use Rattle.pc_workers.specs.Logging.{Logged}
 use Rattle.pc_threads.specs.declared.fault.Fault.{Fault}
 use Rattle.pc_threads.specs.declared.fault.Fault.TheVariants as fault
-use Rattle.pc_threads.specs.Clients.{HasDone, HasStopped, HaveStopped, HaveWorked, first_of, jobs_in, jobs_of}
-use Rattle.pc_threads.specs.Faults.{IsLost}
+use Rattle.pc_threads.specs.Clients.{HasDone, HasStopped, HaveStopped, HaveWorked, clients_in, first_of, jobs_in, jobs_of, transactions_in}
+use Rattle.pc_threads.specs.Faults.{IsEnd, IsLost, IsStop}
 
 -- as many are given up at most as there are
 pub at_most : (way : ℕ → List Bool → History → History → Type 0) (jobs : List Job) (given_up : ℕ) (old new : Sitter) → HasDone way jobs given_up old new → given_up ≤ length jobs
@@ -96,7 +104,105 @@ module _ (has_log : Bool) where
     pub clients_count : (given_up more : ℕ) (why : Refusal) → given_up ≤ length (flat_map jobs_of clients) → more ≤ length (jobs_of (f x)) → (why ≡ Full) × (2 ^ 64 ≤ given_up + more) → HaveStopped has_log whole why
     clients_count given_up more why few own full = let part = of_clients clients (f x) (map f rest) whole parted in inr (too_many (flat_map jobs_of whole) given_up more why (omega (arith, part, few, own)) full)
 
--- ---- of a file
+-- ---- of a run
+
+-- what one thread stops for is a cause for more transactions and more points
+pub wider_stop : (a b : Bool) (m n p q : ℕ) (given : Refusal) → (IsTrue a → IsTrue b) → m ≤ n → p ≤ q → IsStop a m p given → IsStop b n q given
+wider_stop a b m n p q why.OutOfMemory on low few stop = tt
+wider_stop a b m n p q why.Device on low few stop = on stop
+wider_stop a b m n p q why.Full on low few (inl many) = inl (omega (arith, low, many))
+wider_stop a b m n p q why.Full on low few (inr past) = inr (omega (arith, few, past))
+wider_stop a b m n p q why.PointsFull on low few stop = omega (arith, few, stop)
+wider_stop a b m n p q why.LogFull on low few stop = omega (arith, few, stop)
+wider_stop a b m n p q why.ShelfFull on low few stop = omega (arith, few, stop)
+wider_stop a b m n p q why.NoFile on low few stop = omega (arith, few, stop)
+wider_stop a b m n p q other on low few stop = absurd stop
+
+pub more_end : (a b : Bool) (m n p q : ℕ) (given : Fault) → (IsTrue a → IsTrue b) → m ≤ n → p ≤ q → IsEnd a m p given → IsEnd b n q given
+more_end a b m n p q (fault.Refused why) on low few end = wider_stop a b m n p q why on low few end
+more_end a b m n p q (fault.Unmade file why) on low few end = on end
+more_end a b m n p q fault.NoThread on low few end = tt
+
+module _ (writes : Bool) (transactions points : ℕ) where
+  pub memory_stops : (given : Refusal) → given ≡ OutOfMemory → IsStop writes transactions points given
+  memory_stops given is = subst (IsStop writes transactions points) (sym is) tt
+
+  pub device_stops : (given : Refusal) → IsTrue writes → given ≡ Device → IsStop writes transactions points given
+  device_stops given there is = subst (IsStop writes transactions points) (sym is) there
+
+-- a file that was lost ends it
+pub lost_ends : (name : FileName) (given : Fault) → IsLost name given → IsEnd true 0 0 given
+lost_ends name (fault.Refused why) lost = device_stops true 0 0 why refl lost
+lost_ends name (fault.Unmade file why) lost = refl
+lost_ends name fault.NoThread lost = absurd lost
 
 pub lost_device : (name : FileName) (given : Fault) (why : Refusal) → given ≡ fault.Refused why → why ≡ Device → IsLost name given
 lost_device name given why is device = subst (IsLost name) (sym is) device
+
+-- what clients stop for
+pub stopped_ends : (has_log : Bool) (clients : List Client) (given : Refusal) → HaveStopped has_log clients given → IsStop has_log (transactions_in clients) 0 given
+stopped_ends has_log clients given (inl memory) = memory_stops has_log (transactions_in clients) 0 given memory
+stopped_ends has_log clients given (inr (inl (device, there))) = device_stops has_log (transactions_in clients) 0 given there device
+stopped_ends has_log clients given (inr (inr (full, many))) = subst (IsStop has_log (transactions_in clients) 0) (sym full) (inl many)
+
+-- the transactions of one worker's clients beside those of the workers before it
+pub of_worker : {X : Type 0} (f : X → List Client) (clients : List Client) (x : X) (rest all : List X) (whole : List Client) → all ≡ x ∷ rest → clients ++ clients_in (map f all) ≡ whole
+    → transactions_in clients + transactions_in (f x) ≤ transactions_in whole
+of_worker f clients x rest all whole is was =
+    let others : List Client = clients_in (map f rest) in
+    let parted : whole ≡ clients ++ (f x ++ others) = sym was ∙ ap (λ xs. clients ++ clients_in (map f xs)) is in
+    let jobs : flat_map jobs_of whole ≡ flat_map jobs_of clients ++ flat_map jobs_of (f x ++ others) = ap (flat_map jobs_of) parted ∙ flat_map-append jobs_of clients (f x ++ others) in
+    let own : flat_map jobs_of (f x ++ others) ≡ flat_map jobs_of (f x) ++ flat_map jobs_of others = flat_map-append jobs_of (f x) others in
+    let all_count = ap length jobs in
+    let own_count = ap length own in
+    omega (arith, all_count, own_count, length-append (flat_map jobs_of clients) (flat_map jobs_of (f x ++ others)), length-append (flat_map jobs_of (f x)) (flat_map jobs_of others))
+
+-- more of two workers' transactions were given up than can be counted
+pub both_stop : (has_log : Bool) (transactions a b : ℕ) (given : Refusal) → a + b ≤ transactions → (given ≡ OutOfMemory) ⊎ ((given ≡ Full) × (2 ^ 64 ≤ a + b)) → IsStop has_log transactions 0 given
+both_stop has_log transactions a b given low (inl memory) = memory_stops has_log transactions 0 given memory
+both_stop has_log transactions a b given low (inr (full, many)) = subst (IsStop has_log transactions 0) (sym full) (inl (omega (arith, low, many)))
+
+pub left_true : (a b : Bool) → IsTrue a → IsTrue (a || b)
+left_true true b is = refl
+left_true false b is = cc (is)
+
+pub right_true : (a b : Bool) → IsTrue b → IsTrue (a || b)
+right_true true b is = refl
+right_true false b is = is
+
+pub from_none : (b : Bool) → IsTrue false → IsTrue b
+from_none b is = absurd (cc (is))
+
+-- ---- what the other threads stop for
+
+-- a logger
+pub log_stops : {T X : Type 0} (contents : T → Option (List ℕ)) (old new : Tally T) (result : Result X Refusal) (text : List ℕ) → Logged contents old new result text → IfErr result (IsStop true 0 0)
+log_stops contents old new (Ok x) text logged = tt
+log_stops contents old new (Err given) text (inl (memory, puts)) = memory_stops true 0 0 given memory
+log_stops contents old new (Err given) text (inr (inl puts)) = device_stops true 0 0 given refl puts.0
+log_stops contents old new (Err given) text (inr (inr behind)) = device_stops true 0 0 given refl behind.0
+
+-- a collapser, which has claimed a number of a point
+some_points : (points : ℕ) (pass : Pass) (earlier : List ℕ) (last : ℕ) → All (IsShown points pass) (earlier ++ last ∷ []) → 0 < points
+some_points points pass [] last shown = let low = (All-head (IsShown points pass) last [] shown).0 in omega (arith, low)
+some_points points pass (n ∷ more) last shown = let low = (All-head (IsShown points pass) n (more ++ last ∷ []) shown).0 in omega (arith, low)
+
+pub collapser_stops : (st : Setting) (points : ℕ) (seen : History) (before after : Pass) (given : Refusal) → collapsing.HasStopped st points seen before after given → (given ≡ why.NoFile) ⊎ (given ≡ OutOfMemory)
+    → IsStop false 0 points given
+collapser_stops st points seen before after given stopped (inr memory) = memory_stops false 0 points given memory
+collapser_stops st points seen before after given stopped (inl none) = elim stopped.cause [
+  | inl memory ↦ memory_stops false 0 points given memory
+  | inr it ↦ subst (IsStop false 0 points) (sym none) (some_points points after it.0 it.1 (subst (All (IsShown points after)) it.2 stopped.shown))
+]
+
+-- what the checkpointer stops for, who takes some of the points
+pub point_ends : (has_log there : Bool) (n some points : ℕ) (given : Fault) → some ≤ points → IsEnd there 0 some given → IsEnd (has_log || there) n points given
+point_ends has_log there n some points given low end = more_end there (has_log || there) 0 n some points given (right_true has_log there) (omega arith) low end
+
+-- what keeps the hands of a run from their end is a cause for the whole run
+pub hands_end : (hands out : Bool) (n points : ℕ) (given : Fault) → IsEnd hands n points given → IsEnd (hands || out) n points given
+hands_end hands out n points given end = more_end hands (hands || out) n n points points given (left_true hands out) (omega arith) (omega arith) end
+
+-- and so is what the logger stops for
+pub logger_ends : (hands out : Bool) (n points : ℕ) (given : Refusal) → IsStop out 0 0 given → IsStop (hands || out) n points given
+logger_ends hands out n points given stop = wider_stop out (hands || out) 0 n 0 points given (right_true hands out) (omega arith) (omega arith) stop

@@ -30,6 +30,10 @@ jobs_in (work.Fill fill) = first_of fill fill.count
 abbrev pub jobs_of : Client → List Job
 jobs_of client = flat_map jobs_in client.works
 
+-- how many transactions the clients have
+abbrev pub transactions_in : List Client → ℕ
+transactions_in clients = length (flat_map jobs_of clients)
+
 -- nothing was asked as the session
 abbrev pub IsFresh : Sitter → Type 0
 IsFresh s = s ≡ sitter s.number [] []

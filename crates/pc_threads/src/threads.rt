@@ -1,11 +1,12 @@
 //! The threads of a run: workers beside the checkpointer, and beside all of them collapsers and the logger.
-ghost use Rattle.std.specs.Prelude.{◌≡◌, ℕ, [], All, Option, IfOk, map};
+ghost use Rattle.std.specs.Prelude.{◌≡◌, ◌||◌, ℕ, Bool, false, [], All, Option, IfErr, IfOk, is_some, map};
 ghost use Rattle.pc_board.specs.Passes.{IsOfBoard};
 ghost use Rattle.pc_types.specs.declared.Phase.TheVariants.{Rest};
 ghost use Rattle.pc_model.specs.History.{phase_of};
 ghost use Rattle.pc_workers.specs.Checkpointing.{HasCycled};
 ghost use Rattle.pc_workers.specs.Covering.{HaveOnlyTo};
-ghost use Rattle.pc_threads.specs.Clients.{HaveWorked, clients_in};
+ghost use Rattle.pc_threads.specs.Clients.{HaveWorked, clients_in, transactions_in};
+ghost use Rattle.pc_threads.specs.Faults.{IsEnd, IsStop};
 ghost use Rattle.pc_threads.specs.Files.{HasWritten};
 ghost use Rattle.pc_threads.specs.Logs.{HasLogged};
 
@@ -61,7 +62,8 @@ pub struct Written<N: StoreName, F: Write> {
 impl<N: StoreName, F: Write + Drop> Logger<N, F> {
     // Writes the log until the end is marked, or its file is lost, and tells the others that no more is written.
     fn run<R: Wait, G: Gate>(self, rt: &R, room: &Room<'_, N, G>) -> Result<Written<N, F>, Refusal>
-        ensures { IfOk result (λ written. HasLogged F.contents N.name.setting.run self.out written.out written.pass) }
+        ensures logged { IfOk result (λ written. HasLogged F.contents N.name.setting.run self.out written.out written.pass) }
+        ensures stopped { IfErr result (IsStop (is_some self.out) 0 0) }
     {
         let Logger { mut pass, out } = self;
         let Some(mut out) = out else {
@@ -79,15 +81,16 @@ impl<N: StoreName, F: Write + Drop> Logger<N, F> {
     }
 }
 
-// The promise of a logger: what its pass has handed out was written to its file.
+// The promise of a logger: what its pass has handed out was written to its file, or memory ran out or the file was lost.
 #[derive(Drop)]
 struct LogOf<N: StoreName, F: Write>(Snapshot<Logger<N, F>>);
 
 impl<N: StoreName, F: Write> Promise<Result<Written<N, F>, Refusal>> for LogOf<N, F> {
-    ghost use Rattle.std.specs.Prelude.{IfOk};
+    ghost use Rattle.std.specs.Prelude.{IfErr, IfOk, is_some};
+    ghost use Rattle.pc_threads.specs.Faults.{IsStop};
     ghost use Rattle.pc_threads.specs.Logs.{HasLogged};
 
-    ghost kept_by = { λ given written. IfOk written (λ w. HasLogged F.contents N.name.setting.run given.0.value.out w.out w.pass) };
+    ghost kept_by = { λ given written. IfOk written (λ w. HasLogged F.contents N.name.setting.run given.0.value.out w.out w.pass) × IfErr written (IsStop (is_some given.0.value.out) 0 0) };
 }
 
 // Joins the files of points as they are published. The tickets that the collapser holds in the end. All that it is given stands
@@ -103,7 +106,8 @@ fn collapse<N: StoreName, R: Wait, G: Gate>(
     gate: &G,
 ) -> Result<Vec<PartTicket<N>>, Refusal>
     requires { IsOfBoard pass board.now }
-    ensures { IfOk result (λ tickets. HaveOnlyTo points tickets.items) }
+    ensures only { IfOk result (λ tickets. HaveOnlyTo points tickets.items) }
+    ensures stopped { IfErr result (IsStop false 0 points) }
 {
     let mut witness = shared.witness(rt);
     collapse_loop(
@@ -119,15 +123,17 @@ fn collapse<N: StoreName, R: Wait, G: Gate>(
     )
 }
 
-// The promise of tickets whose files have no points but those from 1 to this.
+// The promise of tickets whose files have no points but those from 1 to this, or that memory ran out or one of their files isn't
+// there.
 #[derive(Clone, Copy)]
 struct UpTo(u32);
 
 impl<N: StoreName> Promise<Result<Vec<PartTicket<N>>, Refusal>> for UpTo {
-    ghost use Rattle.std.specs.Prelude.{IfOk};
+    ghost use Rattle.std.specs.Prelude.{false, IfErr, IfOk};
     ghost use Rattle.pc_workers.specs.Covering.{HaveOnlyTo};
+    ghost use Rattle.pc_threads.specs.Faults.{IsStop};
 
-    ghost kept_by = { λ most held. IfOk held (λ tickets. HaveOnlyTo most.0 tickets.items) };
+    ghost kept_by = { λ most held. IfOk held (λ tickets. HaveOnlyTo most.0 tickets.items) × IfErr held (IsStop false 0 most.0) };
 }
 
 // The tickets of all collapsers, once their threads have ended.
@@ -136,7 +142,8 @@ fn join_collapsers<N: StoreName, R: Threads>(
     alloc: Global,
     handles: Vec<PromisedHandle<Result<Vec<PartTicket<N>>, Refusal>, UpTo>>,
 ) -> Result<Vec<PartTicket<N>>, Fault>
-    ensures { (points : ℕ) → All (λ handle. handle.promise.0 ≡ points) handles.items → IfOk result (λ held. HaveOnlyTo points held.items) }
+    ensures only { (points : ℕ) → All (λ handle. handle.promise.0 ≡ points) handles.items → IfOk result (λ held. HaveOnlyTo points held.items) }
+    ensures ended { (points : ℕ) → All (λ handle. handle.promise.0 ≡ points) handles.items → IfErr result (IsEnd false 0 points) }
 {
     let mut held = Vec::new(alloc);
     for handle in handles {
@@ -146,15 +153,15 @@ fn join_collapsers<N: StoreName, R: Threads>(
     Ok(held)
 }
 
-// The promise of a worker: its clients have run.
+// The promise of a worker: its clients have run, or have stopped; the log is written to a file, or it isn't.
 #[derive(Drop)]
-struct ClientsOf<N: StoreName>(Snapshot<Worker<N>>);
+struct ClientsOf<N: StoreName>(Snapshot<Worker<N>>, bool);
 
 impl<N: StoreName> Promise<Result<Ran<N>, Refusal>> for ClientsOf<N> {
-    ghost use Rattle.std.specs.Prelude.{IfOk};
-    ghost use Rattle.pc_threads.specs.Clients.{HaveWorked};
+    ghost use Rattle.std.specs.Prelude.{IfErr, IfOk};
+    ghost use Rattle.pc_threads.specs.Clients.{HaveStopped, HaveWorked};
 
-    ghost kept_by = { λ given ended. IfOk ended (λ ran. HaveWorked N.name.setting given.0.value ran.given_up ran.sessions.items) };
+    ghost kept_by = { λ given ended. IfOk ended (λ ran. HaveWorked N.name.setting given.0.value ran.given_up ran.sessions.items) × IfErr ended (HaveStopped given.1 given.0.value) };
 }
 
 // The clients of all workers, once their threads have ended.
@@ -163,7 +170,8 @@ fn join_workers<N: StoreName, R: Threads>(
     alloc: Global,
     handles: Vec<PromisedHandle<Result<Ran<N>, Refusal>, ClientsOf<N>>>,
 ) -> Result<Ran<N>, Fault>
-    ensures { IfOk result (λ ran. HaveWorked N.name.setting (clients_in (map (λ handle. handle.promise.0.value) handles.items)) ran.given_up ran.sessions.items) }
+    ensures clients { IfOk result (λ ran. HaveWorked N.name.setting (clients_in (map (λ handle. handle.promise.0.value) handles.items)) ran.given_up ran.sessions.items) }
+    ensures ended { (has_log : Bool) → All (λ handle. handle.promise.1 ≡ has_log) handles.items → IfErr result (IsEnd has_log (transactions_in (clients_in (map (λ handle. handle.promise.0.value) handles.items))) 0) }
 {
     let mut all = Ran {
         sessions: Vec::new(alloc),
@@ -200,23 +208,26 @@ fn run_workers<
     ensures clients { IfOk result (λ worked. HaveWorked N.name.setting (clients_in workers.items) worked.ran.given_up worked.ran.sessions.items) }
     ensures cycles { IfOk result (λ worked. HasCycled N.name.setting room.now.points checkpointer.entry.at_store worked.seat) }
     ensures points { (first : Option D) → HasWritten D.holds 0 first checkpointer.entry.folder checkpointer.entry.written.items → IfOk result (λ worked. HasWritten D.holds room.now.points first worked.folder worked.written.items) }
+    ensures ended { checkpointer.entry.at_store ≡ [] → IfErr result (IsEnd (is_some room.now.lag || is_some checkpointer.entry.folder) (transactions_in (clients_in workers.items)) room.now.points) }
 {
     let handles = Vec::with_capacity(room.alloc, workers.len())?;
-    let points = room.points;
+    let (points, has_log) = (room.points, room.lag.is_some());
     thread::scope(
         thread::scope_env(),
         rt,
         |scope| -> Result<Worked<N, D>, Fault>
             requires handles { handles.items ≡ [] }
+            requires has_log { has_log ≡ is_some room.now.lag }
             requires rest { phase_of checkpointer.at_store ≡ Rest }
             ensures cycles { IfOk result (λ worked. HasCycled N.name.setting points checkpointer.entry.at_store worked.seat) }
             ensures clients { IfOk result (λ worked. HaveWorked N.name.setting (clients_in workers.items) worked.ran.given_up worked.ran.sessions.items) }
             ensures points { (first : Option D) → HasWritten D.holds 0 first checkpointer.entry.folder checkpointer.entry.written.items → IfOk result (λ worked. HasWritten D.holds points first worked.folder worked.written.items) }
+            ensures ended { checkpointer.entry.at_store ≡ [] → IfErr result (IsEnd (has_log || is_some checkpointer.entry.folder) (transactions_in (clients_in workers.items)) points) }
         {
             let mut handles = handles;
             for worker in workers {
                 let given = Snapshot::of(&worker);
-                match scope.spawn_with(ClientsOf(given), move || worker.run(rt, room)) {
+                match scope.spawn_with(ClientsOf(given, has_log), move || worker.run(rt, room)) {
                     Ok(handle) => handles.push(handle)?,
                     Err(_) => return Err(Fault::NoThread),
                 }
@@ -257,6 +268,7 @@ fn run_hands<
     ensures cycles { IfOk result (λ rested. HasCycled N.name.setting room.now.points hands.entry.checkpointer.at_store rested.worked.seat) }
     ensures points { (first : Option D) → HasWritten D.holds 0 first hands.entry.checkpointer.folder hands.entry.checkpointer.written.items → IfOk result (λ rested. HasWritten D.holds room.now.points first rested.worked.folder rested.worked.written.items) }
     ensures held { IfOk result (λ rested. HaveOnlyTo room.now.points rested.held.items) }
+    ensures ended { hands.entry.checkpointer.at_store ≡ [] → IfErr result (IsEnd (is_some room.now.lag || is_some hands.entry.checkpointer.folder) (transactions_in (clients_in hands.entry.workers.items)) room.now.points) }
 {
     let Hands {
         checkpointer,
@@ -270,11 +282,13 @@ fn run_hands<
         rt,
         |scope| -> Result<Rested<N, D>, Fault>
             requires handles { handles.items ≡ [] }
+            requires points { points ≡ room.now.points }
             requires rest { phase_of checkpointer.at_store ≡ Rest }
             ensures cycles { IfOk result (λ rested. HasCycled N.name.setting room.entry.now.points checkpointer.entry.at_store rested.worked.seat) }
             ensures clients { IfOk result (λ rested. HaveWorked N.name.setting (clients_in workers.items) rested.worked.ran.given_up rested.worked.ran.sessions.items) }
             ensures points { (first : Option D) → HasWritten D.holds 0 first checkpointer.entry.folder checkpointer.entry.written.items → IfOk result (λ rested. HasWritten D.holds room.entry.now.points first rested.worked.folder rested.worked.written.items) }
             ensures held { IfOk result (λ rested. HaveOnlyTo points rested.held.items) }
+            ensures ended { checkpointer.entry.at_store ≡ [] → IfErr result (IsEnd (is_some room.entry.now.lag || is_some checkpointer.entry.folder) (transactions_in (clients_in workers.items)) room.entry.now.points) }
         {
             let mut handles = handles;
             for collapser in collapsers {
@@ -329,6 +343,7 @@ pub fn run_threads<
     ensures points { (first : Option D) → HasWritten D.holds 0 first hands.entry.checkpointer.folder hands.entry.checkpointer.written.items → IfOk result (λ r. HasWritten D.holds room.now.points first r.0.worked.folder r.0.worked.written.items) }
     ensures held { IfOk result (λ r. HaveOnlyTo room.now.points r.0.held.items) }
     ensures logged { IfOk result (λ r. HasLogged F.contents N.name.setting.run logger.out r.1.out r.1.pass) }
+    ensures ended { hands.entry.checkpointer.at_store ≡ [] → IfErr result (IsEnd (is_some room.now.lag || is_some hands.entry.checkpointer.folder || is_some logger.out) (transactions_in (clients_in hands.entry.workers.items)) room.now.points) }
 {
     if logger.out.is_none() {
         let rested = run_hands(rt, room, hands)?;
@@ -344,6 +359,7 @@ pub fn run_threads<
             ensures points { (first : Option D) → HasWritten D.holds 0 first hands.entry.checkpointer.folder hands.entry.checkpointer.written.items → IfOk result (λ r. HasWritten D.holds room.entry.now.points first r.0.worked.folder r.0.worked.written.items) }
             ensures held { IfOk result (λ r. HaveOnlyTo room.entry.now.points r.0.held.items) }
             ensures logged { IfOk result (λ r. HasLogged F.contents N.name.setting.run logger.out r.1.out r.1.pass) }
+            ensures ended { hands.entry.checkpointer.at_store ≡ [] → IfErr result (IsEnd (is_some room.entry.now.lag || is_some hands.entry.checkpointer.folder || is_some logger.out) (transactions_in (clients_in hands.entry.workers.items)) room.entry.now.points) }
         {
             let given = Snapshot::of(&logger);
             let Ok(logging) = scope.spawn_with(LogOf(given), move || logger.run(rt, room)) else {

@@ -1,6 +1,7 @@
 use Rattle.std.proofs.Common.{Bool, refl, subst}
 use Rattle.std.proofs.lemmas.Result.{err_from_is_err_and}
 use Rattle.pc_jobs.specs.declared.workloads.Reading.TheVariants.{Runs}
+use Rattle.pc_runs.specs.Faults.{Ends}
 use Rattle.pc_runs.specs.Runs.{Begins, CanRun, IsRun, run_setting}
 use Rattle.pc_runs.proofs.BeginLaws.{not_started, out_of_memory, read_as, run_failed, unread}
 use Rattle.pc_runs.proofs.run.answer.Goals as goal
@@ -19,11 +20,14 @@ pub returns-in_err-outcome-in-Runs-clause-cause : goal.returns-in_err-outcome-in
 returns-in_err-outcome-in-Runs-clause-cause g c =
     let p = err_from_is_err_and c.from_residual-in_err-outcome-in-Runs.result c.from_residual-in_err-outcome-in-Runs.ensures.1 in
     let text = c.in_ok-text.text.items in
-    let can : CanRun g.R.Read.remaining c.args.opened = (c.in_ok-text.ensures.opened, (c.in-Runs.workload, read_as g.R.Read.remaining c.args.opened text c.deref.result.now c.in_ok-line.field-0 (Runs c.in-Runs.workload) c.in_ok-text.ensures.script c.deref.ensures.value c.in_ok-line.ensures.reading c.in-Runs.is)) in
+    let why = c.in_err-outcome-in-Runs.field-0.0 in
+    let read = read_as g.R.Read.remaining c.args.opened text c.deref.result.now c.in_ok-line.field-0 (Runs c.in-Runs.workload) c.in_ok-text.ensures.script c.deref.ensures.value c.in_ok-line.ensures.reading c.in-Runs.is in
     let base = c.in_ok-base-in-Runs.base in
+    let st = run_setting base c.args.origin.capacity in
+    let ends = subst (λ (there : Bool). Ends st c.in-Runs.workload there why) c.in_ok-folder-in-Runs.ensures.there c.in_err-outcome-in-Runs.ensures.ended in
     rw (p.1, p.2)
     (run_failed g.R.Read.remaining c.args.folder (Begins g.S.Read.remaining g.E.Write.contents c.args.origin c.args.errors.now c.base_of.new.errors) c.args.opened
-    c.in_err-outcome-in-Runs.field-0.0 (run_setting base c.args.origin.capacity) can c.in_ok-folder-in-Runs.ensures.usable (base, c.in_ok-base-in-Runs.ensures.start, refl))
+    c.in-Runs.workload why st c.in_ok-text.ensures.opened read c.in_ok-folder-in-Runs.ensures.usable (base, c.in_ok-base-in-Runs.ensures.start, refl) ends)
 
 pub returns-in_ok-outcome-in-Runs-clause-answer : goal.returns-in_ok-outcome-in-Runs-clause-answer
 returns-in_ok-outcome-in-Runs-clause-answer g c =

@@ -1,5 +1,5 @@
-use Rattle.std.proofs.Common.{◌≡◌, ◌<◌, ◌≤◌, ◌+◌, ◌++◌, List, All, length, length-append, drop, refl, sym, ap, subst, ◌∙◌, arith}
-use Rattle.std.specs.Prelude.{is_some}
+use Rattle.std.proofs.Common.{◌≡◌, ◌<◌, ◌≤◌, ◌+◌, ◌++◌, List, All, length, length-append, drop, refl, sym, ap, subst, ◌∙◌, inr, arith}
+use Rattle.std.specs.Prelude.{IsTrue, is_some}
 use Rattle.pc_types.specs.declared.Entry.{Entry}
 use Rattle.pc_model.specs.Files.{BaseFile}
 use Rattle.pc_model.specs.History.{log_of}
@@ -9,10 +9,14 @@ use Rattle.pc_board.specs.Passes.{Pass}
 use Rattle.pc_jobs.specs.declared.works.Client.{Client}
 use Rattle.pc_outcomes.specs.Leaving.{IsLegacy, commits_in}
 use Rattle.pc_shared.specs.Sitters.{HasAll, IsSettled}
-use Rattle.pc_threads.specs.Clients.{HaveWorked, IsFresh, clients_in}
+use Rattle.pc_threads.specs.Clients.{HaveWorked, IsFresh, clients_in, transactions_in}
 use Rattle.pc_workers.specs.Covering.{HaveJustTo}
 use Rattle.pc_runs.specs.Folders.{LeavesFiles, base_of}
 use Rattle.pc_runs.proofs.HistoryLaws.{behind_first, first_ones, it_is, left_after}
+use Rattle.std.proofs.lemmas.Result.{err_from_is_err_and}
+use Rattle.std.proofs.lemmas.List.Elements.{All-drop}
+use Rattle.pc_texts.specs.declared.file_names.FileName.TheVariants.{Log}
+use Rattle.pc_runs.proofs.FaultLaws.{folder_there, log_there, lost_ends, of_threads, one_there, same_transactions, seatless, untold_ends}
 use Rattle.pc_runs.proofs.NewPasses.{as_many, some_passes}
 use Rattle.pc_runs.proofs.WorkLaws.{all_fresh, have_run}
 use Rattle.pc_runs.proofs.FolderLaws.{files_left}
@@ -44,8 +48,8 @@ leave-requires-clause-after g c κs bounds =
     left_after g.N.StoreName.name.setting closed.world.base closed.world.log closed.logged c.in_ok-ended.ended.sessions.items c.in_ok-ended.ended.seat c.in_ok-tickets.tickets.items closed.parts.items c.in_ok-ended.logged.pass
     c.close-closed.ensures.parts c.close-closed.ensures.left
 
-pub returns : goal.returns
-returns g c =
+pub returns-clause-run : goal.returns-clause-run
+returns-clause-run g c =
     let st = g.N.StoreName.name.setting in
     let closed = c.close-closed.result in
     let left = c.close-closed.ensures.left in
@@ -56,24 +60,81 @@ returns g c =
     let joined : drop c.in_ok-tickets.singles closed.parts.items ≡ ended.joined.items =
     (λ k. drop (c.in_ok-tickets.ensures.1 k) (parts k)) ∙ behind_first ended.written.items ended.joined.items in
     record {
-      run = record {
-        history = left.0;
-        legal = left.1.legal;
-        clients_ran =
-            have_run st left.0 c.args.crew.now.workers c.args.workload.clients c.in_ok-dealt.dealt.items ended.given_up seating.idle.items worked.0 c.args.crew.now.in_range.0 c.in_ok-dealt.ensures
-            (subst (λ (all : List (List Client)). HaveWorked st (clients_in all) ended.given_up worked.0) c.in_ok-seating.ensures.clients worked.2) c.in_ok-seating.ensures.idle
-            (subst (All (IsSettled st left.0)) worked.1 left.1.settled) (subst (HasAll st.sessions) worked.1 (it_is _ _ closed.all c.if-not-closed.false c.close-closed.ensures.all));
-        commits_are = c.in_ok-left.ensures.commits ∙ ap commits_in left.1.log_is;
-        points_are = refl;
-        files = drop c.in_ok-tickets.singles closed.parts.items;
-        cover = subst (HaveJustTo c.args.workload.points) (sym joined) c.in_ok-ended.ensures.cover;
-        legacy =
-            subst (λ (base : BaseFile). IsLegacy base (log_of left.0) (drop c.in_ok-tickets.singles closed.parts.items) c.in_ok-left.left.files) left.1.base
-            (subst (λ (log : List Entry). IsLegacy closed.world.base log (drop c.in_ok-tickets.singles closed.parts.items) c.in_ok-left.left.files) left.1.log_is c.in_ok-left.ensures.files);
-        folder_has =
-            subst (λ (log : List Entry). LeavesFiles g.D.NewFiles.holds (base_of st) log c.args.workload.points (is_some c.args.folder) c.in_ok-folder.folder) left.1.log_is
-            (files_left (base_of st) closed.world.log g.D.NewFiles.holds g.F.Write.contents g.D.NewFiles.blank c.args.workload.points closed.logged c.in_ok-ended.logged.pass ended.written.items left.1.list
-            (first_ones (IsOfItsPoints st.run st.base closed.world.log) ended.written.items ended.joined.items (subst (All (IsOfItsPoints st.run st.base closed.world.log)) c.in_ok-tickets.ensures.0 left.1.worth))
-            c.args.folder ended.folder c.in_ok-folder.folder c.args.log c.in_ok-ended.logged.out c.requires.begun c.in_ok-ended.ensures.written c.in_ok-ended.ensures.logged c.in_ok-folder.ensures);
-      };
+      history = left.0;
+      legal = left.1.legal;
+      clients_ran =
+          have_run st left.0 c.args.crew.now.workers c.args.workload.clients c.in_ok-dealt.dealt.items ended.given_up seating.idle.items worked.0 c.args.crew.now.in_range.0 c.in_ok-dealt.ensures
+          (subst (λ (all : List (List Client)). HaveWorked st (clients_in all) ended.given_up worked.0) c.in_ok-seating.ensures.clients worked.2) c.in_ok-seating.ensures.idle
+          (subst (All (IsSettled st left.0)) worked.1 left.1.settled) (subst (HasAll st.sessions) worked.1 (it_is _ _ closed.all c.if-not-closed.false c.close-closed.ensures.all));
+      commits_are = c.in_ok-left.ensures.commits ∙ ap commits_in left.1.log_is;
+      points_are = refl;
+      files = drop c.in_ok-tickets.singles closed.parts.items;
+      cover = subst (HaveJustTo c.args.workload.points) (sym joined) c.in_ok-ended.ensures.cover;
+      legacy =
+          subst (λ (base : BaseFile). IsLegacy base (log_of left.0) (drop c.in_ok-tickets.singles closed.parts.items) c.in_ok-left.left.files) left.1.base
+          (subst (λ (log : List Entry). IsLegacy closed.world.base log (drop c.in_ok-tickets.singles closed.parts.items) c.in_ok-left.left.files) left.1.log_is c.in_ok-left.ensures.files);
+      folder_has =
+          subst (λ (log : List Entry). LeavesFiles g.D.NewFiles.holds (base_of st) log c.args.workload.points (is_some c.args.folder) c.in_ok-folder.folder) left.1.log_is
+          (files_left (base_of st) closed.world.log g.D.NewFiles.holds g.F.Write.contents g.D.NewFiles.blank c.args.workload.points closed.logged c.in_ok-ended.logged.pass ended.written.items left.1.list
+          (first_ones (IsOfItsPoints st.run st.base closed.world.log) ended.written.items ended.joined.items (subst (All (IsOfItsPoints st.run st.base closed.world.log)) c.in_ok-tickets.ensures.0 left.1.worth))
+          c.args.folder ended.folder c.in_ok-folder.folder c.args.log c.in_ok-ended.logged.out c.requires.begun c.in_ok-ended.ensures.written c.in_ok-ended.ensures.logged c.in_ok-folder.ensures.finished);
     }
+
+pub returns-in_err-shared-clause-ended : goal.returns-in_err-shared-clause-ended
+returns-in_err-shared-clause-ended g c =
+    let p = err_from_is_err_and c.from_residual.result c.from_residual.ensures.1 in
+    rw (p.1, p.2) (seatless g.N.StoreName.name.setting c.args.workload (is_some c.args.folder) c.in_err-shared.field-0.0 (inr c.in_err-shared.ensures.memory))
+
+pub returns-in_err-board-clause-ended : goal.returns-in_err-board-clause-ended
+returns-in_err-board-clause-ended g c =
+    let p = err_from_is_err_and c.from_residual-in_err-board.result c.from_residual-in_err-board.ensures.1 in
+    rw (p.1, p.2) (seatless g.N.StoreName.name.setting c.args.workload (is_some c.args.folder) c.in_err-board.field-0.0 (inr c.in_err-board.ensures.memory))
+
+pub returns-in_err-dealt-clause-ended : goal.returns-in_err-dealt-clause-ended
+returns-in_err-dealt-clause-ended g c =
+    let p = err_from_is_err_and c.from_residual-in_err-dealt.result c.from_residual-in_err-dealt.ensures.1 in
+    rw (p.1, p.2) tt
+
+pub returns-in_err-seating-clause-ended : goal.returns-in_err-seating-clause-ended
+returns-in_err-seating-clause-ended g c =
+    let p = err_from_is_err_and c.from_residual-in_err-seating.result c.from_residual-in_err-seating.ensures.1 in
+    rw (p.1, p.2) (seatless g.N.StoreName.name.setting c.args.workload (is_some c.args.folder) c.in_err-seating.field-0.0 c.in_err-seating.ensures.refused)
+
+pub returns-in_err-ended-clause-ended : goal.returns-in_err-ended-clause-ended
+returns-in_err-ended-clause-ended g c =
+    let p = err_from_is_err_and c.from_residual-in_err-ended.result c.from_residual-in_err-ended.ensures.1 in
+    let st = g.N.StoreName.name.setting in
+    let log = log_there g.D.NewFiles.holds g.F.Write.contents g.D.NewFiles.blank (base_of st) c.args.folder c.args.log c.requires.begun in
+    let count = ap (λ (all : List (List Client)). transactions_in (clients_in all)) c.in_ok-seating.ensures.clients ∙ same_transactions c.args.crew.now.workers c.args.workload.clients c.in_ok-dealt.dealt.items c.args.crew.now.in_range.0 c.in_ok-dealt.ensures in
+    rw (p.1, p.2)
+    (of_threads st c.args.workload (is_some c.args.folder) _ _ _ (one_there _ _ _ (is_some c.args.folder) (c.map.ensures.variant ∙ (c.as_ref.ensures.variant ∙ log)) refl log) count c.in_err-ended.ensures.ended)
+
+pub returns-in_err-tickets-clause-ended : goal.returns-in_err-tickets-clause-ended
+returns-in_err-tickets-clause-ended g c =
+    let p = err_from_is_err_and c.from_residual-in_err-tickets.result c.from_residual-in_err-tickets.ensures.1 in
+    rw (p.1, p.2) tt
+
+pub returns-in_err-folder-clause-ended : goal.returns-in_err-folder-clause-ended
+returns-in_err-folder-clause-ended g c =
+    let p = err_from_is_err_and c.from_residual-in_err-folder.result c.from_residual-in_err-folder.ensures.1 in
+    let ended = c.in_ok-ended.ended in
+    let there = folder_there g.D.NewFiles.holds c.args.workload.points c.args.folder ended.folder ended.written.items c.in_ok-ended.ensures.written in
+    rw (p.1, p.2)
+    (lost_ends g.N.StoreName.name.setting c.args.workload (is_some c.args.folder) Log c.in_err-folder.field-0.0 (subst IsTrue there c.in_err-folder.ensures.lost.0) c.in_err-folder.ensures.lost.1)
+
+pub returns-in_err-left-clause-ended : goal.returns-in_err-left-clause-ended
+returns-in_err-left-clause-ended g c =
+    let p = err_from_is_err_and c.from_residual-in_err-left.result c.from_residual-in_err-left.ensures.1 in
+    let st = g.N.StoreName.name.setting in
+    let closed = c.close-closed.result in
+    let ended = c.in_ok-ended.ended in
+    let left = c.close-closed.ensures.left in
+    let untold = c.in_err-left.ensures.untold in
+    let parts : closed.parts.items ≡ ended.written.items ++ ended.joined.items = c.close-closed.ensures.parts ∙ c.in_ok-tickets.ensures.0 in
+    let joined : drop c.in_ok-tickets.singles closed.parts.items ≡ ended.joined.items =
+    (λ k. drop (c.in_ok-tickets.ensures.1 k) (parts k)) ∙ behind_first ended.written.items ended.joined.items in
+    let worth : All (IsOfItsPoints st.run st.base closed.world.log) (drop c.in_ok-tickets.singles closed.parts.items) =
+    All-drop (IsOfItsPoints st.run st.base closed.world.log) c.in_ok-tickets.singles closed.parts.items (subst (All (IsOfItsPoints st.run st.base closed.world.log)) (sym c.close-closed.ensures.parts) left.1.worth) in
+    rw (p.1, p.2, untold.1)
+    (untold_ends st c.args.workload (is_some c.args.folder) closed.world.log (drop c.in_ok-tickets.singles closed.parts.items) untold.0 worth
+    (subst (HaveJustTo c.args.workload.points) (sym joined) c.in_ok-ended.ensures.cover) untold.2)

@@ -1,7 +1,10 @@
-use Rattle.std.proofs.Common.{rules, subst}
+use Rattle.std.proofs.Common.{◌≡◌, ◌+◌, [], Bool, rules, refl, sym, ap, subst, ◌∙◌, inr, arith}
+use Rattle.std.specs.Prelude.{IsTrue, is_some}
+use Rattle.std.proofs.lemmas.Result.{err_from_is_err_and}
 use Rattle.pc_model.specs.History.{History}
 use Rattle.pc_workers.specs.Checkpointing.{HasCycled}
 use Rattle.pc_workers.proofs.WholeCycles.{cycled_on}
+use Rattle.pc_threads.proofs.StopLaws.{more_end}
 use Rattle.pc_threads.proofs.points.take_points.Goals as goal
 
 pub loop-others-preserved : goal.loop-others-preserved
@@ -11,7 +14,20 @@ loop-others-preserved g c =
     let seat : History = c.in_ok-checkpointer.checkpointer.at_store in
     let one : HasCycled st 1 old.checkpointer.at_store seat = subst (λ (h : History). HasCycled st 1 h seat) c.await_commits.ensures.seat c.in_ok-checkpointer.ensures.cycle in
     record {
+      there = c.in_ok-checkpointer.ensures.there ∙ ap is_some c.await_commits.ensures.folder ∙ old.invariant.there;
       rest = one.in_phase;
       cycles = λ first had. cycled_on st old.others first old.checkpointer.at_store seat (old.invariant.cycles first had) one;
       written = search rules;
     }
+
+pub returns-in_err-checkpointer-clause-ended : goal.returns-in_err-checkpointer-clause-ended
+returns-in_err-checkpointer-clause-ended g c cycled =
+    let st = g.N.StoreName.name.setting in
+    let old = c.loop-others in
+    let p = err_from_is_err_and c.from_residual.result c.from_residual.ensures.1 in
+    let seat : History = c.await_commits.new.self.at_store in
+    let before : HasCycled st old.others [] seat = subst (HasCycled st old.others []) (sym c.await_commits.ensures.seat) (old.invariant.cycles [] cycled) in
+    let there : is_some c.await_commits.new.self.folder ≡ is_some c.args.checkpointer.folder = ap is_some c.await_commits.ensures.folder ∙ old.invariant.there in
+    let next : old.others + 1 ≡ c.in-Ok.point = search rules in
+    rw (p.1, p.2)
+    (more_end _ _ 0 0 c.in-Ok.point c.args.last c.in_err-checkpointer.field-0.0 (subst IsTrue there) (omega arith) (omega (arith, next, c.loop-others-test.true)) (c.in_err-checkpointer.ensures.ended old.others next before))

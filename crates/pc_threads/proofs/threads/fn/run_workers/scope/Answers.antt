@@ -1,9 +1,38 @@
-use Rattle.std.proofs.Common.{◌≡◌, ◌++◌, List, [], map, sym, ap, subst, ◌∙◌}
-use Rattle.std.proofs.lemmas.List.{append-nil, nil_from_length}
+use Rattle.std.proofs.Common.{◌≡◌, ◌≤◌, ◌++◌, All, Bool, List, [], ◌∷◌, map, rules, sym, ap, subst, ◌∙◌, arith}
+use Rattle.std.specs.Prelude.{◌||◌, is_some}
+use Rattle.std.proofs.lemmas.List.Elements.{All-nil, All-cons, All-append}
+use Rattle.std.proofs.lemmas.Result.{err_from_is_err_and}
+use Rattle.std.proofs.lemmas.List.{append_assoc, append-nil, map-append, nil_from_length}
 use Rattle.pc_jobs.specs.declared.works.Client.{Client}
+use Rattle.pc_model.specs.History.{History}
+use Rattle.pc_workers.specs.Checkpointing.{HasCycled}
 use Rattle.pc_workers.proofs.WholeCycles.{cycled_none}
-use Rattle.pc_threads.specs.Clients.{HaveWorked, clients_in}
+use Rattle.pc_threads.specs.Clients.{HaveWorked, clients_in, transactions_in}
+use Rattle.pc_threads.specs.Faults.{IsEnd}
+use Rattle.pc_threads.proofs.StopLaws.{left_true, more_end, point_ends}
 use Rattle.pc_threads.proofs.threads.fn.run_workers.scope.Goals as goal
+
+-- one more is started
+one_more : {H A : Type 0} (f : H → A) (handles new : List H) (handle : H) (x : A) (rest before whole : List A) → new ≡ handles ++ handle ∷ [] → f handle ≡ x → before ≡ x ∷ rest → map f handles ++ before ≡ whole
+    → map f new ++ rest ≡ whole
+one_more f handles new handle x rest before whole made is has was =
+    ap (λ hs. map f hs ++ rest) made
+    ∙ (ap (λ l. l ++ rest) (map-append f handles (handle ∷ []))
+    ∙ (append_assoc (map f handles) (f handle ∷ []) rest ∙ (ap (λ y. map f handles ++ y ∷ rest) is ∙ (ap (λ l. map f handles ++ l) (sym has) ∙ was))))
+
+pub loop-worker-preserved : goal.loop-worker-preserved
+loop-worker-preserved g c =
+    let has_log = c.captures.has_log in
+    let first = c.in-Ok.handle in
+    let its : first.promise.1 ≡ has_log = ap (λ promise. promise.1) c.in-Ok.ensures.ok in
+    let more = All-cons (λ handle. handle.promise.1 ≡ has_log) first [] its (All-nil (λ handle. handle.promise.1 ≡ has_log)) in (
+      tt,
+      tt,
+      one_more (λ handle. handle.promise.0.value) c.loop-worker.handles.items _ first c.in-Some.worker c.next.new.self.rest.items _ _ c.in_ok-push-in-Ok.ensures.items
+          (ap (λ promise. promise.0.value) c.in-Ok.ensures.ok ∙ c.of-given.ensures) c.in-Some.ensures.steps.0 c.loop-worker.invariant.2,
+      subst (All (λ handle. handle.promise.1 ≡ has_log)) (sym c.in_ok-push-in-Ok.ensures.items)
+          (All-append (λ handle. handle.promise.1 ≡ has_log) c.loop-worker.handles.items (first ∷ []) c.loop-worker.invariant.3 more),
+    )
 
 pub returns : goal.returns
 returns g c =
@@ -13,9 +42,68 @@ returns g c =
     let all : promised ≡ c.captures.workers.items =
     sym (append-nil promised) ∙ ap (λ (more : List (List Client)). promised ++ more) (sym none) ∙ c.loop-worker.invariant.2 ∙ c.into_iter-worker-iterator.ensures.into_iter_gives.0 in
     record {
-      clients = subst (λ (workers : List (List Client)). HaveWorked g.N.StoreName.name.setting (clients_in workers) c.in_ok-ran.ran.given_up c.in_ok-ran.ran.sessions.items) all c.in_ok-ran.ensures;
+      clients = subst (λ (workers : List (List Client)). HaveWorked g.N.StoreName.name.setting (clients_in workers) c.in_ok-ran.ran.given_up c.in_ok-ran.ran.sessions.items) all c.in_ok-ran.ensures.clients;
       cycles =
           c.in_ok-checkpointer-2.ensures.cycles c.captures.checkpointer.at_store
           (c.in_ok-checkpointer.ensures.cycles c.captures.checkpointer.at_store (cycled_none g.N.StoreName.name.setting c.captures.checkpointer.at_store c.requires.rest));
       points = λ first had. c.in_ok-checkpointer-2.ensures.written first (c.in_ok-checkpointer.ensures.written first had);
+      ended = λ fresh. tt;
     }
+
+pub returns-in_err-ran : goal.returns-in_err-ran
+returns-in_err-ran g c =
+    let p = err_from_is_err_and c.from_residual-in_err-ran.result c.from_residual-in_err-ran.ensures.1 in
+    let there = is_some c.captures.checkpointer.folder in
+    let has_log = c.captures.has_log in
+    let fault = c.in_err-ran.field-0.0 in
+    let rest = c.loop-worker.worker-iterator.rest in
+    let none : rest.items ≡ [] = nil_from_length rest.items (sym rest.ok.0 ∙ c.in-None.ensures.steps.0) in
+    let promised = map (λ handle. handle.promise.0.value) c.loop-worker.handles.items in
+    let all : promised ≡ c.captures.workers.items =
+    sym (append-nil promised) ∙ ap (λ (more : List (List Client)). promised ++ more) (sym none) ∙ c.loop-worker.invariant.2 ∙ c.into_iter-worker-iterator.ensures.into_iter_gives.0 in
+    let n = transactions_in (clients_in c.captures.workers.items) in
+    rw (p.1, p.2)
+    (record {
+      cycles = tt;
+      clients = tt;
+      points = λ first had. tt;
+      ended = λ fresh.
+          more_end has_log (has_log || there) n n 0 c.captures.points fault (left_true has_log there) (omega arith) (omega arith)
+          (subst (λ (workers : List (List Client)). IsEnd has_log (transactions_in (clients_in workers)) 0 fault) all (c.in_err-ran.ensures.ended has_log c.loop-worker.invariant.3));
+    })
+
+pub returns-in_err-checkpointer : goal.returns-in_err-checkpointer
+returns-in_err-checkpointer g c =
+    let st = g.N.StoreName.name.setting in
+    let p = err_from_is_err_and c.from_residual-in_err-checkpointer.result c.from_residual-in_err-checkpointer.ensures.1 in
+    let seat : History = c.captures.checkpointer.at_store in
+    let points = c.captures.points in
+    let low : c.saturating_sub-beside.result ≤ points = search rules in
+    rw (p.1, p.2)
+    (record {
+      cycles = tt;
+      clients = tt;
+      points = λ first had. tt;
+      ended = λ fresh.
+          let none : HasCycled st 0 [] seat = subst (λ (h : History). HasCycled st 0 h seat) fresh (cycled_none st seat c.requires.rest) in
+          point_ends c.captures.has_log (is_some c.captures.checkpointer.folder) (transactions_in (clients_in c.captures.workers.items)) c.saturating_sub-beside.result points c.in_err-checkpointer.field-0.0 low
+          (c.in_err-checkpointer.ensures.ended none);
+    })
+
+pub returns-in_err-checkpointer-2 : goal.returns-in_err-checkpointer-2
+returns-in_err-checkpointer-2 g c =
+    let st = g.N.StoreName.name.setting in
+    let p = err_from_is_err_and c.from_residual-in_err-checkpointer-2.result c.from_residual-in_err-checkpointer-2.ensures.1 in
+    let seat : History = c.captures.checkpointer.at_store in
+    let points = c.captures.points in
+    let fault = c.in_err-checkpointer-2.field-0.0 in
+    rw (p.1, p.2)
+    (record {
+      cycles = tt;
+      clients = tt;
+      points = λ first had. tt;
+      ended = λ fresh.
+          let none : HasCycled st 0 [] seat = subst (λ (h : History). HasCycled st 0 h seat) fresh (cycled_none st seat c.requires.rest) in
+          point_ends c.captures.has_log (is_some c.captures.checkpointer.folder) (transactions_in (clients_in c.captures.workers.items)) points points fault (omega arith)
+          (subst (λ (b : Bool). IsEnd b 0 points fault) c.in_ok-checkpointer.ensures.there (c.in_err-checkpointer-2.ensures.ended (c.in_ok-checkpointer.ensures.cycles [] none)));
+    })

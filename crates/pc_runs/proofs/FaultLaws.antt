@@ -1,0 +1,146 @@
+-- Which faults end a run that has begun.
+use Rattle.std.proofs.Common.{◌≡◌, ◌⊎◌, inl, inr, ℕ, ◌+◌, ◌<◌, ◌≤◌, ◌++◌, Bool, true, false, List, [], ◌∷◌, Option, Some, None, length, length-append, All, refl, ap, sym, subst, ◌∙◌, arith}
+use Rattle.std.specs.Prelude.{IfErr, IsTrue, Result, Ok, Err, ◌||◌, is_some}
+use Rattle.std.specs.List.{flat_map}
+use Rattle.std.proofs.lemmas.Bool.Decides.{nat_tests}
+use Rattle.std.proofs.lemmas.List.Elements.{All-head}
+use Rattle.pc_types.specs.declared.Entry.{Entry}
+use Rattle.pc_types.specs.declared.refusal.Refusal.{Refusal}
+use Rattle.pc_types.specs.declared.refusal.Refusal.TheVariants as why
+use Rattle.pc_types.specs.declared.tally.Tally.{Tally}
+use Rattle.pc_model.specs.Database.{Database, KeysRise, database_of}
+use Rattle.pc_model.specs.Files.{BaseFile, File}
+use Rattle.pc_model.specs.Maps.{len}
+use Rattle.pc_model.specs.Numbers.{is_one_of}
+use Rattle.pc_model.specs.Replies.{Setting}
+use Rattle.pc_model.specs.Sets as set
+use Rattle.pc_model.specs.Sets.{Set, number_order}
+use Rattle.pc_model.specs.Standing.{IsOfItsPoints}
+use Rattle.pc_model.proofs.ContentLaws.{contains-items}
+use Rattle.pc_jobs.specs.Dealing.{IsDealt}
+use Rattle.pc_jobs.specs.declared.works.Client.{Client}
+use Rattle.pc_jobs.specs.declared.works.Workload.{Workload}
+use Rattle.pc_texts.specs.declared.file_names.FileName.{FileName}
+use Rattle.pc_texts.proofs.StatePairLaws.{pairs_of}
+use Rattle.pc_outcomes.specs.Leaving.{IsMissing, IsUntoldAfter, has_point}
+use Rattle.pc_threads.specs.Clients.{clients_in, jobs_of, transactions_in}
+use Rattle.pc_threads.specs.Faults.{IsEnd, IsLost}
+use Rattle.pc_threads.specs.Files.{HasWritten}
+use Rattle.pc_threads.specs.declared.fault.Fault.{Fault}
+use Rattle.pc_threads.specs.declared.fault.Fault.TheVariants as fault
+use Rattle.pc_workers.specs.Covering.{HaveJustTo, HaveOnlyTo}
+use Rattle.pc_runs.specs.Faults.{Ends, IsRefused}
+use Rattle.pc_runs.specs.Folders.{HasBegunFiles}
+use Rattle.pc_runs.proofs.DealingLaws.{same_total, total}
+
+-- the clients of all workers have as many transactions as all clients
+count_is : (clients : List Client) → transactions_in clients ≡ total (λ (c : Client). length (jobs_of c)) clients
+count_is [] = refl
+count_is (c ∷ clients) = let behind = count_is clients in omega (arith, behind, length-append (jobs_of c) (flat_map jobs_of clients))
+
+pub same_transactions : (workers : ℕ) (clients : List Client) (all : List (List Client)) → 1 ≤ workers → IsDealt workers clients all → transactions_in (clients_in all) ≡ transactions_in clients
+same_transactions workers clients all some dealt = count_is (clients_in all) ∙ (same_total (λ (c : Client). length (jobs_of c)) workers clients all some dealt ∙ sym (count_is clients))
+
+-- there is a file for the log where there is a folder
+pub log_there : {D T : Type 0} (holds : D → FileName → List ℕ → Type 0) (contents : T → Option (List ℕ)) (blank : Option (List ℕ)) (base : BaseFile) (folder : Option D) (log : Option (Tally T))
+    → HasBegunFiles holds contents blank base folder log → is_some log ≡ is_some folder
+log_there holds contents blank base None None begun = refl
+log_there holds contents blank base (Some folder) (Some log) begun = refl
+log_there holds contents blank base None (Some log) begun = absurd begun
+log_there holds contents blank base (Some folder) None begun = absurd begun
+
+-- what is left of the folder is there where the folder was
+pub folder_there : {D : Type 0} (holds : D → FileName → List ℕ → Type 0) (points : ℕ) (first later : Option D) (files : List File) → HasWritten holds points first later files → is_some later ≡ is_some first
+folder_there holds points None None files written = refl
+folder_there holds points (Some old) (Some new) files written = refl
+folder_there holds points None (Some new) files written = absurd written
+folder_there holds points (Some old) None files written = absurd written
+
+-- a file that was lost to the device
+pub device_lost : (name : FileName) (given : Fault) (cause : Refusal) → given ≡ fault.Refused cause → cause ≡ why.Device → IsLost name given
+device_lost name given cause is device = subst (IsLost name) (sym is) device
+
+-- it is one of two
+pub later_lost : {T : Type 0} (result : Result T Fault) (a b : FileName) → IfErr result (IsLost b) → IfErr result (λ given. IsLost a given ⊎ IsLost b given)
+later_lost (Ok made) a b lost = tt
+later_lost (Err given) a b lost = inr lost
+
+-- a file is written only where there is a folder
+pub one_there : (a b c there : Bool) → a ≡ there → b ≡ there → c ≡ there → IsTrue (a || b || c) → IsTrue there
+one_there a b c true x y z is = refl
+one_there true b c false x y z is = cc (x)
+one_there false true c false x y z is = cc (y)
+one_there false false true false x y z is = cc (z)
+one_there false false false false x y z is = cc (is)
+
+module _ (st : Setting) (workload : Workload) (there : Bool) where
+  -- a fault of the threads
+  pub of_threads : (writes : Bool) (count : ℕ) (given : Fault) → (IsTrue writes → IsTrue there) → count ≡ transactions_in workload.clients → IsEnd writes count workload.points given → Ends st workload there given
+  of_threads writes count (fault.Refused why.OutOfMemory) on same end = tt
+  of_threads writes count (fault.Refused why.Device) on same end = on end
+  of_threads writes count (fault.Refused why.Full) on same (inl many) = inr (inl (omega (arith, same, many)))
+  of_threads writes count (fault.Refused why.Full) on same (inr past) = inr (inr (omega (arith, past)))
+  of_threads writes count (fault.Refused why.PointsFull) on same end = end
+  of_threads writes count (fault.Refused why.LogFull) on same end = end
+  of_threads writes count (fault.Refused why.ShelfFull) on same end = end
+  of_threads writes count (fault.Refused why.NoFile) on same end = end
+  of_threads writes count (fault.Refused other) on same end = absurd end
+  of_threads writes count (fault.Unmade file why) on same end = on end
+  of_threads writes count fault.NoThread on same end = tt
+
+  pub memory_ends : (given : Fault) → given ≡ fault.Refused why.OutOfMemory → Ends st workload there given
+  memory_ends given is = subst (Ends st workload there) (sym is) tt
+
+  -- one of a file of the folder
+  pub lost_ends : (name : FileName) (given : Fault) → IsTrue there → IsLost name given → Ends st workload there given
+  lost_ends name (fault.Refused why) is lost = subst (IsRefused st workload there) (sym lost) is
+  lost_ends name (fault.Unmade file why) is lost = is
+  lost_ends name fault.NoThread is lost = absurd lost
+
+  -- the base's file, or that of the log
+  pub begins_badly : (a b : FileName) (given : Fault) → IsTrue there → IsLost a given ⊎ IsLost b given → Ends st workload there given
+  begins_badly a b given is (inl lost) = lost_ends a given is lost
+  begins_badly a b given is (inr lost) = lost_ends b given is lost
+
+  -- a store that can't be opened
+  pub not_opened : (given : Refusal) → ((given ≡ why.Full) × (st.capacity < len st.base)) ⊎ (given ≡ why.OutOfMemory) → IsRefused st workload there given
+  not_opened given (inl (full, few)) = subst (IsRefused st workload there) (sym full) (inl few)
+  not_opened given (inr memory) = subst (IsRefused st workload there) (sym memory) tt
+
+  -- a session that isn't there
+  pub seatless : (given : Refusal) → (given ≡ why.NoSession) ⊎ (given ≡ why.OutOfMemory) → IsRefused st workload there given
+  seatless given (inl none) = subst (IsRefused st workload there) (sym none) tt
+  seatless given (inr memory) = subst (IsRefused st workload there) (sym memory) tt
+
+-- the base has more pairs than there is room for
+pub too_large : (capacity : ℕ) (items : List (List ℕ × List ℕ)) (pairs : Database) → KeysRise items → database_of items ≡ pairs → capacity < length items → capacity < len pairs
+too_large capacity items pairs rise is many = subst (λ (l : List (List ℕ × List ℕ)). capacity < length l) (sym (pairs_of items pairs rise is)) many
+
+-- a file of a log has a point
+some_point : (points : Set number_order) → ¬ (set.items points ≡ []) → (p : ℕ) × (set.contains points p ≡ true)
+some_point points some = by (set.items points) refl
+  where
+    by : (items : List ℕ) → set.items points ≡ items → (p : ℕ) × (set.contains points p ≡ true)
+    by [] is = absurd (some is)
+    by (p ∷ items) is =
+        let first : is_one_of p (p ∷ items) ≡ true = grind (arith, nat_tests) in
+        (p, contains-items points p ∙ ap (is_one_of p) is ∙ first)
+
+some_points : (run : ℕ) (base : Database) (log : List Entry) (points : ℕ) (files : List File) → All (IsOfItsPoints run base log) files → ¬ (files ≡ []) → HaveOnlyTo points files → 0 < points
+some_points run base log points [] worth some only = absurd (some refl)
+some_points run base log points (f ∷ files) worth some only =
+    let p = some_point f.points (All-head (IsOfItsPoints run base log) f files worth).covers_some in
+    let has : has_point (f ∷ files) p.0 ≡ true = ap (λ b. b || has_point files p.0) p.1 in
+    let low = only p.0 has in
+    omega (arith, low.0, low.1)
+
+-- nothing is told of what is left
+pub untold_ends : (st : Setting) (workload : Workload) (there : Bool) (log : List Entry) (files : List File) (given : Refusal) → All (IsOfItsPoints st.run st.base log) files → HaveJustTo workload.points files
+    → IsUntoldAfter files given → IsRefused st workload there given
+untold_ends st workload there log files why.OutOfMemory worth just untold = tt
+untold_ends st workload there log files why.Full worth just untold = inr (inr (some_points st.run st.base log workload.points files worth untold just.1))
+untold_ends st workload there log files (why.Gap point) worth just (some, missing, (later, behind, has)) =
+    let low = just.1 later has in
+    let there : has_point files point ≡ true = just.0 point some (omega (arith, behind, low.1)) in
+    cc (missing, there)
+untold_ends st workload there log files other worth just untold = absurd untold

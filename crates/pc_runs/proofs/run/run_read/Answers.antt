@@ -1,0 +1,21 @@
+use Rattle.std.proofs.Common.{inl}
+use Rattle.std.specs.Prelude.{is_some}
+use Rattle.std.proofs.lemmas.Result.{err_from_is_err_and}
+use Rattle.pc_texts.specs.declared.file_names.FileName.TheVariants.{Base, Log}
+use Rattle.pc_runs.specs.Runs.{run_setting}
+use Rattle.pc_runs.proofs.FaultLaws.{begins_badly, not_opened, too_large}
+use Rattle.pc_runs.proofs.run.run_read.Goals as goal
+
+pub returns-in_err-folder-clause-ended : goal.returns-in_err-folder-clause-ended
+returns-in_err-folder-clause-ended g c =
+    let p = err_from_is_err_and c.from_residual.result c.from_residual.ensures.1 in
+    let lost = c.in_err-folder.ensures.lost in
+    rw (p.1, p.2) (begins_badly (run_setting c.args.base c.args.capacity) c.args.workload (is_some c.args.folder) Base Log c.in_err-folder.field-0.0 lost.0 lost.1)
+
+pub returns-in_err-opened-clause-ended : goal.returns-in_err-opened-clause-ended
+returns-in_err-opened-clause-ended g c =
+    let p = err_from_is_err_and c.from_residual-in_err-opened.result c.from_residual-in_err-opened.ensures.1 in
+    rw (p.1, p.2) (not_opened (run_setting c.args.base c.args.capacity) c.args.workload (is_some c.args.folder) c.in_err-opened.field-0.0 c.in_err-opened.ensures.refusals)
+
+pub returns-then-pairs-capacity-clause-ended : goal.returns-then-pairs-capacity-clause-ended
+returns-then-pairs-capacity-clause-ended g c = inl (too_large c.args.capacity c.pairs.result.now c.args.base.pairs c.pairs.ensures.rise c.pairs.ensures.pairs c.if-pairs-capacity.true)

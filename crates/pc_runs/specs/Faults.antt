@@ -1,0 +1,36 @@
+-- Which fault ends a run that has begun.
+use Rattle.std.specs.Prelude.{◌⊎◌, ◌≤◌, ◌<◌, ◌^◌, ⊤, Bool, IsTrue}
+use Rattle.pc_types.specs.declared.limits.TheConstants.{MOST_POINTS}
+use Rattle.pc_types.specs.declared.refusal.Refusal.{Refusal}
+use Rattle.pc_types.specs.declared.refusal.Refusal.TheVariants as refusal
+use Rattle.pc_model.specs.Maps.{len}
+use Rattle.pc_model.specs.Replies.{Setting}
+use Rattle.pc_jobs.specs.declared.works.Workload.{Workload}
+use Rattle.pc_threads.specs.Clients.{transactions_in}
+use Rattle.pc_threads.specs.declared.fault.Fault.{Fault}
+use Rattle.pc_threads.specs.declared.fault.Fault.TheVariants as fault
+
+-- Why a run of the workload is refused, over a store of this setting, where there is a folder or not:
+-- * memory ran out;
+-- * a file of the folder can't be written;
+-- * the store has no room for all pairs of its base, more transactions were given up than 64 bits can count, or there are points,
+--   and too many of them or too many keys in the file of all;
+-- * there are too many points;
+-- * there are points, and the log or the shelf has no place left, or the file of one of them isn't there;
+-- * a session isn't there.
+abbrev pub IsRefused : Setting → Workload → Bool → Refusal → Type 0
+IsRefused st workload there refusal.OutOfMemory = ⊤
+IsRefused st workload there refusal.Device = IsTrue there
+IsRefused st workload there refusal.Full = (st.capacity < len st.base) ⊎ (2 ^ 64 ≤ transactions_in workload.clients) ⊎ (0 < workload.points)
+IsRefused st workload there refusal.PointsFull = MOST_POINTS < workload.points
+IsRefused st workload there refusal.LogFull = 0 < workload.points
+IsRefused st workload there refusal.ShelfFull = 0 < workload.points
+IsRefused st workload there refusal.NoFile = 0 < workload.points
+IsRefused st workload there refusal.NoSession = ⊤
+IsRefused st workload there other = ⊥
+
+-- The fault ends such a run: it is refused for one of these, a file of the folder can't be made, or a thread can't be started.
+abbrev pub Ends : Setting → Workload → Bool → Fault → Type 0
+Ends st workload there (fault.Refused why) = IsRefused st workload there why
+Ends st workload there (fault.Unmade file why) = IsTrue there
+Ends st workload there fault.NoThread = ⊤

@@ -1,0 +1,25 @@
+use Rattle.std.proofs.Common.{◌≡◌, ◌+◌, ℕ, true, [], refl, sym, ap, subst, ◌∙◌, arith}
+use Rattle.std.specs.Prelude.{is_some}
+use Rattle.std.proofs.lemmas.Result.{err_from_is_err_and}
+use Rattle.pc_model.specs.History.{History, point_of}
+use Rattle.pc_workers.specs.Checkpointing.{HasCycled}
+use Rattle.pc_workers.proofs.WholeCycles.{cycled_on}
+use Rattle.pc_threads.proofs.FullLaws.{full_stops}
+use Rattle.pc_threads.proofs.StopLaws.{more_end}
+use Rattle.pc_threads.proofs.points.Checkpointer.take.Goals as goal
+
+pub returns-in_err-checkpoint_loop-clause-ended : goal.returns-in_err-checkpoint_loop-clause-ended
+returns-in_err-checkpoint_loop-clause-ended g c before next cycled =
+    let p = err_from_is_err_and c.from_residual.result c.from_residual.ensures.1 in
+    let at : point_of c.args.self.at_store ≡ 0 + before = cycled.at_point in
+    rw (p.1, p.2)
+    (full_stops (is_some c.args.self.folder) 0 c.args.point (point_of c.args.self.at_store + 1) _ (omega (arith, at, next)) (omega (arith, next)) c.in_err-checkpoint_loop.ensures.full)
+
+pub returns-in_err-write_point-in-Some-clause-ended : goal.returns-in_err-write_point-in-Some-clause-ended
+returns-in_err-write_point-in-Some-clause-ended g c before next cycled =
+    let st = g.N.StoreName.name.setting in
+    let p = err_from_is_err_and c.from_residual-in_err-write_point-in-Some.result c.from_residual-in_err-write_point-in-Some.ensures.1 in
+    let seat : History = c.checkpoint_loop.new.seat in
+    let one : HasCycled st 1 c.args.self.at_store seat = subst (λ n. HasCycled st n c.args.self.at_store seat) c.in_ok-checkpoint_loop.ensures.points c.in_ok-checkpoint_loop.ensures.cycled in
+    let now : HasCycled st c.args.point [] seat = subst (λ n. HasCycled st n [] seat) next (cycled_on st before [] c.args.self.at_store seat cycled one) in
+    rw (p.1, p.2, c.in-Some.is) (more_end true true 0 0 0 c.args.point _ (λ there. there) (omega arith) (omega arith) (c.in_err-write_point-in-Some.ensures.ended (omega (arith, next)) now))
