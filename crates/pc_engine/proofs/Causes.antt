@@ -6,12 +6,10 @@ use Rattle.pc_types.specs.declared.Reply.TheVariants as told
 use Rattle.pc_types.specs.declared.Refusal.{Refusal}
 use Rattle.pc_types.specs.declared.Refusal.TheVariants as why
 use Rattle.pc_engine.specs.Store.{Store, active}
-use Rattle.pc_types.specs.declared.Mode.TheVariants.{Shared, Exclusive}
+use Rattle.pc_types.specs.declared.Mode.TheVariants.{Exclusive}
 use Rattle.pc_types.specs.declared.Outcome.{Outcome}
-use Rattle.pc_model.specs.Database.{written}
-use Rattle.pc_model.specs.Replies.{first_refusal, by_outcome, read_reply, value_read}
-use Rattle.pc_records.specs.Rows.{record_of, stored}
-use Rattle.pc_engine.specs.Sessions.{with_session, writes_in, after_writing, if_granted}
+use Rattle.pc_model.specs.Replies.{first_refusal, by_outcome}
+use Rattle.pc_engine.specs.Sessions.{with_session, after_writing, if_granted}
 use Rattle.pc_engine.specs.Steps.{OpenCause, WriteCause, Gets, WritesKey, Commits, is_log_full, Owes, why_refused, outcome_in, after_asking}
 use Rattle.pc_records.specs.RowSteps.{is_full_for}
 
@@ -31,15 +29,6 @@ owed_refusal (Some due) e old new Done is same = (sym is, same)
 full_or_memory : (full : Bool) (old : Store) (Done : Type 0) → Owes (first_refusal ((full, why.Full) ∷ [])) old (told.Refused (if full then why.Full else why.OutOfMemory)) old Done
 full_or_memory true old Done = (refl, refl)
 full_or_memory false old Done = inr (refl, refl)
-
--- a read that isn't answered, where the transaction may go on
-pub get_unanswered : (w : Store) (s : ℕ) (key : List ℕ) → OpenCause w s None → Gets w s key (told.Refused (why_refused w.kept key)) w
-get_unanswered w s key may = rw (may.known, may.opened, may.ready, may.alive) (full_or_memory (is_full_for w.kept key) w _)
-
--- a read that is answered
-pub get_answered : (old new : Store) (s : ℕ) (key : List ℕ) (reply : Reply) → OpenCause old s None → is_full_for old.kept key ≡ false → reply ≡ by_outcome (outcome_in old s key Shared) (read_reply (value_read (written (writes_in (active old s)) key) (stored (record_of old.kept.rows key))))
-    → new ≡ after_asking old s key Shared (outcome_in old s key Shared) old.sessions → Gets old s key reply new
-get_answered old new s key reply may room is leaves = rw (may.known, may.opened, may.ready, may.alive, room) (inl (is, leaves))
 
 -- a write that is answered
 pub write_answered : (old new : Store) (s : ℕ) (key : List ℕ) (content : Option (List ℕ)) (reply : Reply) (o : Outcome) → WriteCause old s key None → is_full_for old.kept key ≡ false → o ≡ outcome_in old s key Exclusive → reply ≡ by_outcome o told.Ok

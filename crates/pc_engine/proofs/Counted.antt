@@ -1,6 +1,6 @@
 -- That the phases count the open transactions of the sessions.
-use Rattle.std.proofs.Common.{◌≡◌, ℕ, zero, suc, ◌+◌, ◌-◌, ◌<◌, ◌≤◌, List, [], ◌∷◌, length, set, replicate, Option, Some, None, is_some, is_none, refl, sym, ap, subst, ◌∙◌, arith, Bool, true, false, cond, inl, inr}
-use Rattle.std.specs.Prelude.{◌⊎◌, filter, Result, Ok, Err, IfOk, OnErr}
+use Rattle.std.proofs.Common.{◌≡◌, ℕ, zero, suc, ◌+◌, ◌-◌, ◌<◌, ◌≤◌, List, [], ◌∷◌, length, set, replicate, Option, Some, None, is_some, is_none, refl, sym, ap, ◌∙◌, arith, Bool, true, false, cond}
+use Rattle.std.specs.Prelude.{filter, Result, Ok, Err, IfOk, OnErr}
 use Rattle.pc_types.specs.declared.Class.{Class}
 use Rattle.pc_types.specs.declared.Class.TheVariants.{Before, During, After}
 use Rattle.pc_types.specs.declared.Phase.TheVariants as phase
@@ -9,12 +9,11 @@ use Rattle.pc_types.specs.declared.Outcome.{Outcome}
 use Rattle.pc_types.specs.declared.Outcome.TheVariants.{Granted, Queued, Died}
 use Rattle.pc_types.specs.Phases.{same_class}
 use Rattle.pc_phase.specs.declared.change.Change.{Change}
-use Rattle.pc_phase.specs.declared.change.Change.TheVariants as changes
-use Rattle.pc_phase.specs.Phases.{Phases, active_of, with_active, entered, left, advanced, count_of as in_the_way}
+use Rattle.pc_phase.specs.Phases.{Phases, active_of, with_active, entered, left, advanced}
 use Rattle.pc_engine.specs.Sessions.{class_at, is_of, count_of, after_writing, after_dying, if_died, if_granted}
 use Rattle.pc_engine.specs.Store.{Active}
 use Rattle.pc_engine.specs.InPlace.{at_place}
-use Rattle.pc_engine.specs.Counts.{AreCounted, holders}
+use Rattle.pc_engine.specs.Counts.{AreCounted}
 use Rattle.pc_phase.proofs.PhaseLaws.{phase_stays, point_stays}
 
 -- 1 where it is so, else 0
@@ -183,8 +182,3 @@ advanced_counted phases now change ss is counted c = ap (λ (p : Phases). active
     stays Before = refl
     stays During = refl
     stays After = refl
-
--- where nothing holds the change to capture or to rest back, no transaction of the class that would is open
-pub none_held : (phases : Phases) (ss : List (Option Active)) (change : Change) (left : ℕ) → (change ≡ changes.OpenCapture) ⊎ (change ≡ changes.Rest) → AreCounted phases ss → in_the_way change phases left ≡ 0 → count_of (holders change) ss ≡ 0
-none_held phases ss change left (inl e) counted = subst (λ c. in_the_way c phases left ≡ 0 → count_of (holders c) ss ≡ 0) (sym e) (λ none. sym (counted During) ∙ none)
-none_held phases ss change left (inr e) counted = subst (λ c. in_the_way c phases left ≡ 0 → count_of (holders c) ss ≡ 0) (sym e) (λ none. sym (counted After) ∙ none)

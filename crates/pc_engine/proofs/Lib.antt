@@ -19,3 +19,4 @@ mod Together
 mod Within
 mod Counted
 mod Held
+mod Stands

@@ -1,6 +1,6 @@
 -- What each event keeps of the sessions, the records and the cycle together, and what that gives to each.
 use Rattle.std.proofs.Common.{◌≡◌, ℕ, zero, suc, ◌+◌, ◌<◌, ◌≤◌, List, [], ◌∷◌, ◌++◌, length, map, set, replicate, Option, Some, None, is_some, is_none, refl, sym, ap, subst, ◌∙◌, arith, Bool, true, false, cond, eqb, ◌||◌, inl, inr}
-use Rattle.std.specs.Prelude.{◌⊎◌, filter, option_map, Result, Ok, Err, IfOk, OnErr}
+use Rattle.std.specs.Prelude.{◌⊎◌, filter, option_map}
 use Rattle.pc_types.specs.declared.Mode.TheVariants.{Shared, Exclusive}
 use Rattle.pc_types.specs.declared.Class.{Class}
 use Rattle.pc_types.specs.declared.Class.TheVariants.{Before, During, After}
@@ -28,12 +28,13 @@ use Rattle.pc_records.specs.RowSets.{HaveSameSets}
 use Rattle.pc_records.proofs.ReleaseLaws.{rise_written}
 use Rattle.pc_engine.specs.Sessions.{number_in, class_at, writes_in, after_writing, after_dying, if_died, if_granted, is_of, count_of}
 use Rattle.pc_engine.specs.Store.{Active}
-use Rattle.pc_engine.specs.InPlace.{at_place, write_in, may_be_active, fits, AreListed, is_open_point, HoldTogether, StayTogether, AreOpen}
-use Rattle.pc_phase.specs.declared.change.Change.{Change}
-use Rattle.pc_phase.specs.declared.change.Change.TheVariants as changes
-use Rattle.pc_phase.specs.Phases.{from_of, to_of}
-use Rattle.pc_engine.specs.Counts.{holders}
+use Rattle.pc_engine.specs.InPlace.{at_place, write_in, may_be_active, fits, AreListed, is_open_point, HoldTogether, AreOpen}
 use Rattle.pc_engine.proofs.PlacedWrites.{by_place, number_of, own_write, same_writes, same_places, wrote_in_place, ended_in_place, begun_numbers, same_numbers, values_stand, none_by, reads_right}
+
+-- whatever number was given last, and whatever phase, point and sets these held together with, the others hold together with
+-- the same
+abbrev pub StayTogether : Table → List (Option Active) → Table → List (Option Active) → Type 0
+StayTogether table sessions after then = (begun : ℕ) (phase : Phase) (point : ℕ) (open_keys closed : List (List ℕ)) → HoldTogether table sessions begun phase point open_keys closed → HoldTogether after then begun phase point open_keys closed
 
 all_idle : (n i : ℕ) → at_place (replicate n None) i ≡ None
 all_idle zero i = refl
@@ -463,59 +464,12 @@ pub none_placed : (t middle : Table) (ss : List (Option Active)) (begun j n : �
 none_placed t middle ss begun j n ws placed there mine number pending q p stands =
     ap (eqb p.by) number ∙ none_by t ss begun placed.writes placed.numbers middle j there (λ k. pending k ∙ ap (λ w. pending_without w t k) mine) q p stands
 
--- what a request to write, answered or refused for want of memory, leaves
-pub request_together : {A E : Type 0} (result : Result A E) (told : A → Outcome) (t after : Table) (ss then : List (Option Active)) (j : ℕ) (a : Active) (key : List ℕ) (value : Option (List ℕ)) → j < length ss → at_place ss j ≡ Some a →
-    IfOk result (λ r. then ≡ if_died (told r) (set ss j (after_dying (at_place ss j))) (if_granted (told r) (set ss j (after_writing (at_place ss j) (record { key = key; value = value }))) ss)) → OnErr result (then ≡ ss) →
-    IfOk result (λ r. kept_of after ≡ record (kept_of t) { rows = rows_after t.rows key a.number Exclusive (told r) }) →
-    IfOk result (λ r. (q : List ℕ) → pending_at after q ≡ pending_after (told r) t key (let p : Pending = record { by = a.number; class = a.class; value = value } in p) q) →
-    IfOk result (λ r. told r ≡ Granted → IsClearFor t key a.number) → IfOk result (λ r. after.point ≡ t.point) → OnErr result (after ≡ t) → StayTogether t ss after then
-request_together (Ok r) told t after ss then j a key value inside own done undone rows pending clear still same =
-    let known = by_own (at_place ss j) own (told r) rows pending clear in
-    rw done (written_together t after ss j key value (told r) inside (ap is_some own) known.0 known.1 known.2 still)
-  where
-    by_own : (x : Option Active) → x ≡ Some a → (o : Outcome) → kept_of after ≡ record (kept_of t) { rows = rows_after t.rows key a.number Exclusive o } →
-        ((q : List ℕ) → pending_at after q ≡ pending_after o t key (let p : Pending = record { by = a.number; class = a.class; value = value } in p) q) → (o ≡ Granted → IsClearFor t key a.number) →
-        (kept_of after ≡ record (kept_of t) { rows = rows_after t.rows key (number_in x) Exclusive o })
-        × ((q : List ℕ) → pending_at after q ≡ pending_after o t key (let p : Pending = record { by = number_in x; class = class_at x; value = value } in p) q)
-        × (o ≡ Granted → IsClearFor t key (number_in x))
-    by_own x is o k p c = subst (λ y. (kept_of after ≡ record (kept_of t) { rows = rows_after t.rows key (number_in y) Exclusive o }) × ((q : List ℕ) → pending_at after q ≡ pending_after o t key (let w : Pending = record { by = number_in y; class = class_at y; value = value } in w) q) × (o ≡ Granted → IsClearFor t key (number_in y))) (sym is) (k, p, c)
-request_together (Err e) told t after ss then j a key value inside own done undone rows pending clear still same = λ begun phase point open_keys closed hold. rw (undone, same) hold
-
--- a transaction begins
-pub begun_together : (ss : List (Option Active)) (j : ℕ) (a : Active) → j < length ss → a.writes ≡ [] → is_none (at_place ss j) ≡ true → (t : Table) (begun : ℕ) (phase : Phase) (point : ℕ) (open_keys closed : List (List ℕ)) → begun + 1 ≡ a.number → a.class ≡ class_in phase →
-    HoldTogether t ss begun phase point open_keys closed → HoldTogether t (set ss j (Some a)) a.number phase point open_keys closed
-begun_together ss j a inside bare idle t begun phase point open_keys closed next class hold =
-    subst (λ n. HoldTogether t (set ss j (Some a)) n phase point open_keys closed) next (hold_begun t ss begun phase point open_keys closed hold j a inside (sym next) class bare idle)
-
 -- what is read where the request was granted is what the transaction has written, or else what is committed
 pub read_granted : (t : Table) (ss : List (Option Active)) (begun j n : ℕ) (key : List ℕ) (o : Outcome) (found : Reply) (committed : Option (List ℕ)) → AreOpen t ss begun → is_some (at_place ss j) ≡ true → Granted ≡ o → n ≡ number_in (at_place ss j) → IsClearFor t key n →
     found ≡ read_reply (read_of (pending_at t key) committed) → found ≡ by_outcome o (read_reply (value_read (written (writes_in (at_place ss j)) key) committed))
 read_granted t ss begun j n key o found committed placed there granted number clear is =
     is ∙ ap read_reply (reads_right t ss begun placed.writes placed.numbers j key committed there (subst (λ k. IsClearFor t key k) number clear)) ∙ ap (λ x. by_outcome x (read_reply (value_read (written (writes_in (at_place ss j)) key) committed))) granted
 
--- the open set was closed
-pub sealed_together : (t after : Table) (ss : List (Option Active)) (begun : ℕ) (phase : Phase) (point : ℕ) (open_keys closed opened left : List (List ℕ)) → HoldTogether t ss begun phase point open_keys closed → same_phase phase Prepare ≡ true → count_of Before ss ≡ 0 → after ≡ record t { rows = map closed_row t.rows; point = point; opened = []; shut = t.opened } → opened ≡ [] → left ≡ open_keys →
-    HoldTogether after ss begun Resolve point opened left
-sealed_together t after ss begun phase point open_keys closed opened left hold prepare none is bare all = rw (is, bare, all) (hold_sealed t ss begun phase point open_keys closed hold prepare none)
-
--- the first key was taken
-pub taken_together : (t after : Table) (ss : List (Option Active)) (begun : ℕ) (phase : Phase) (point : ℕ) (open_keys closed : List (List ℕ)) (k : List ℕ) (ks : List (List ℕ)) → HoldTogether t ss begun phase point open_keys closed → after ≡ record t { rows = left_rows t.rows k; shut = ks } → closed ≡ k ∷ ks → HoldTogether after ss begun phase point open_keys ks
-taken_together t after ss begun phase point open_keys closed k ks hold is first = rw is (hold_taken t ss begun phase point open_keys closed hold k ks first)
-
 -- the same lists of both sets
 pub same_sets : (t : Table) (ss : List (Option Active)) (begun : ℕ) (phase : Phase) (point : ℕ) (open_keys now closed left : List (List ℕ)) → now ≡ open_keys → left ≡ closed → HoldTogether t ss begun phase point open_keys closed → HoldTogether t ss begun phase point now left
 same_sets t ss begun phase point open_keys now closed left opened shut hold = rw (opened, shut) hold
-
--- a new world holds together
-pub first_together : (t : Table) (ss : List (Option Active)) (open_keys closed : List (List ℕ)) (capacity n : ℕ) (pairs : List (List ℕ × List ℕ)) → t ≡ (let first : Table = record { capacity = capacity; rows = map committed_row pairs; pending = []; point = 0; opened = []; shut = [] } in first) → ss ≡ replicate n None → open_keys ≡ [] → closed ≡ [] → HoldTogether t ss 0 Rest 0 open_keys closed
-first_together t ss open_keys closed capacity n pairs is idle bare none = rw (is, idle, bare, none) (hold_first capacity n pairs)
-
--- the phase has changed to capture or to rest
-pub changed_together : (t : Table) (ss : List (Option Active)) (begun : ℕ) (phase : Phase) (point : ℕ) (open_keys closed : List (List ℕ)) (change : Change) → (change ≡ changes.OpenCapture) ⊎ (change ≡ changes.Rest) → HoldTogether t ss begun phase point open_keys closed → same_phase phase (from_of change) ≡ true →
-    count_of (holders change) ss ≡ 0 → HoldTogether t ss begun (to_of change) point open_keys closed
-changed_together t ss begun phase point open_keys closed change (inl e) hold =
-    subst (λ c. same_phase phase (from_of c) ≡ true → count_of (holders c) ss ≡ 0 → HoldTogether t ss begun (to_of c) point open_keys closed) (sym e)
-    (λ is none. hold_moved t ss begun phase point open_keys closed hold Resolve Capture During is none opens_capture (λ over. over) refl)
-changed_together t ss begun phase point open_keys closed change (inr e) hold =
-    subst (λ c. same_phase phase (from_of c) ≡ true → count_of (holders c) ss ≡ 0 → HoldTogether t ss begun (to_of c) point open_keys closed) (sym e)
-    (λ is none. hold_moved t ss begun phase point open_keys closed hold Complete Rest After is none goes_to_rest (λ over. refl) refl)

@@ -1,5 +1,5 @@
 -- What the sessions, the records and the cycle keep together: open transactions have their writes in place.
-use Rattle.std.specs.Prelude.{◌≡◌, ℕ, ◌<◌, ◌≤◌, Bool, true, false, List, [], Option, Some, None, is_some, option_map, slice_index_or, ◌⊎◌}
+use Rattle.std.specs.Prelude.{◌≡◌, ℕ, ◌<◌, ◌≤◌, Bool, true, false, List, [], length, Option, Some, None, is_some, option_map, slice_index_or, ◌⊎◌}
 use Rattle.pc_types.specs.declared.Class.{Class}
 use Rattle.pc_types.specs.declared.Class.TheVariants.{Before, During, After}
 use Rattle.pc_types.specs.declared.Phase.{Phase}
@@ -7,10 +7,13 @@ use Rattle.pc_types.specs.declared.Phase.TheVariants.{Rest, Prepare, Resolve, Ca
 use Rattle.pc_model.specs.Database.{written}
 use Rattle.pc_model.specs.Points.{is_among}
 use Rattle.pc_types.specs.Phases.{same_phase}
+use Rattle.pc_types.specs.declared.limits.TheConstants.{MOST_SESSIONS, MOST_TRANSACTIONS}
+use Rattle.pc_phase.specs.Phases.{Phases}
 use Rattle.pc_records.specs.Rows.{Row, record_of, is_in_open_set, is_in_closed_set}
 use Rattle.pc_slots.specs.Slots.{Pending}
 use Rattle.pc_records.specs.Tables.{Table, pending_at}
-use Rattle.pc_engine.specs.Sessions.{number_in}
+use Rattle.pc_engine.specs.Counts.{AreCounted}
+use Rattle.pc_engine.specs.Sessions.{number_in, AreFew}
 use Rattle.pc_engine.specs.Store.{Active}
 
 -- the open transaction at the place, if there is one
@@ -71,10 +74,15 @@ pub record HoldTogether (table : Table) (sessions : List (Option Active)) (begun
   pub within : table.point ≤ point
   pub fresh : same_phase phase Prepare ≡ true → table.point < point
 
--- whatever number was given last, and whatever phase, point and sets these held together with, the others hold together with
--- the same
-abbrev pub StayTogether : Table → List (Option Active) → Table → List (Option Active) → Type 0
-StayTogether table sessions after then = (begun : ℕ) (phase : Phase) (point : ℕ) (open_keys closed : List (List ℕ)) → HoldTogether table sessions begun phase point open_keys closed → HoldTogether after then begun phase point open_keys closed
+-- All that the sessions keep with their records and the phases: that holds together with the keys of both sets; the phases count
+-- the open transactions by class; and counts are within their limits.
+pub record StandTogether (table : Table) (sessions : List (Option Active)) (phases : Phases) (begun : ℕ) : Type 0 where
+  pub hold : HoldTogether table sessions begun phases.phase phases.point table.opened table.shut
+  pub counted : AreCounted phases sessions
+  pub few : AreFew sessions
+  pub most_sessions : length sessions ≤ MOST_SESSIONS
+  pub most_begun : begun ≤ MOST_TRANSACTIONS
+  pub has_point : (same_phase phases.phase Rest ≡ true) ⊎ (1 ≤ phases.point)
 
 -- open transactions, with numbers of their own, have their writes in place
 pub record AreOpen (table : Table) (sessions : List (Option Active)) (begun : ℕ) : Type 0 where

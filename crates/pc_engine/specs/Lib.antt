@@ -5,6 +5,7 @@ pub mod Steps
 pub mod Limits
 pub mod Shelves
 pub mod InPlace
+pub mod Ongoing
 pub mod Stands
 pub mod Runs
 pub mod Checks

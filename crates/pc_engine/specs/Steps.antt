@@ -1,5 +1,5 @@
 -- What one event does to a world.
-use Rattle.std.specs.Prelude.{◌≡◌, ℕ, ◌+◌, ◌-◌, ◌<◌, ◌==◌, not, Bool, false, List, [], ◌∷◌, ◌++◌, length, map, Option, Some, None, ◌⊎◌, is_some, is_none, if◌then◌else◌, MatchOption}
+use Rattle.std.specs.Prelude.{⊤, ◌≡◌, ℕ, ◌+◌, ◌-◌, ◌<◌, ◌==◌, not, Bool, false, List, [], ◌∷◌, ◌++◌, length, map, Option, Some, None, ◌⊎◌, is_some, is_none, if◌then◌else◌, MatchOption}
 use Rattle.std.specs.FinMap.{put as put_entry}
 use Rattle.pc_types.specs.declared.Entry.TheVariants.{Commit, Token}
 use Rattle.pc_types.specs.declared.Phase.{Phase}
@@ -20,7 +20,9 @@ use Rattle.pc_types.specs.declared.Outcome.{Outcome}
 use Rattle.pc_model.specs.Locks.{outcome}
 use Rattle.pc_model.specs.History.{class_in}
 use Rattle.pc_types.specs.declared.Class.{Class}
-use Rattle.pc_types.specs.declared.Class.TheVariants.{Before}
+use Rattle.pc_types.specs.declared.Class.TheVariants.{Before, During, After}
+use Rattle.pc_phase.specs.declared.change.Change.{Change}
+use Rattle.pc_phase.specs.declared.change.Change.TheVariants as change
 use Rattle.pc_records.specs.Rows.{Kept, record_of, stored, at_point, requests_on}
 use Rattle.pc_records.specs.RowSteps.{is_full_for, is_waiting, rows_after, released_rows, written_row, closed_row, left_rows}
 use Rattle.pc_records.specs.NewKeys.{new_keys, is_one_too_many}
@@ -157,6 +159,19 @@ after_sealing w = record w { kept = record w.kept { rows = map closed_row w.kept
 abbrev pub Seals : Store → Reply → Store → Type 0
 Seals old reply new =
     Owes (move_due phase.Prepare Before old) old reply new ((reply ≡ told.Phase phase.Resolve old.cycle.point) × (new ≡ after_sealing (after_moving phase.Resolve old.cycle.point old)))
+
+-- a change at which no part is shelved
+abbrev pub LeavesShelf : Change → Type 0
+LeavesShelf change.Done = ⊥
+LeavesShelf other = ⊤
+
+-- what each change does at which no part is shelved
+abbrev pub Changes : Change → Store → Reply → Store → Type 0
+Changes change.StartPoint old reply new = StartsPoint old reply new
+Changes change.Seal old reply new = Seals old reply new
+Changes change.OpenCapture old reply new = Moves phase.Resolve During phase.Capture old reply new
+Changes change.Done old reply new = ⊥
+Changes change.Rest old reply new = Moves phase.Complete After phase.Rest old reply new
 
 -- what is answered to a Take where no key is taken
 abbrev pub take_due : Store → Option Reply

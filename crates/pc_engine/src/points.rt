@@ -1,63 +1,24 @@
 //! What each event of the checkpointer does.
-ghost use Rattle.std.specs.Prelude.{◌≡◌, IfOk, None, ◌⊎◌, option_copied};
-ghost use Rattle.pc_phase.specs.Phases.{held_back, advanced, from_of, to_of};
+ghost use Rattle.std.specs.Prelude.{◌≡◌, IfOk, option_copied};
 ghost use Rattle.pc_phase.specs.Agreement.{reply_of};
-ghost use Rattle.pc_engine.specs.Counts.{holders};
-ghost use Rattle.pc_engine.specs.Steps.{StartsPoint, Seals, Moves, Takes, Shelves, Joins};
+ghost use Rattle.pc_engine.specs.Steps.{Changes, LeavesShelf, Takes, Shelves, Joins};
 
 use crate::shelving::{Shelvable, joined};
 use crate::world::World;
-use pc_phase::{Change, Held, Phases};
+use pc_phase::{Change, Held};
 use pc_shelf::SharedPart;
 use pc_taken::Taken;
 use pc_types::{Entry, FileNo, Key, MOST_FILES, Phase, Refusal, Reply, Value};
 use std::alloc::{AllocError, Global};
 
 impl World {
-    pub(crate) fn start_point(&mut self) -> Reply
-        ensures { StartsPoint self.old result self.new }
-    {
-        if let Some(held) = self.phases.held_back(Change::StartPoint, 0) {
-            return reply_of(held);
-        }
-        if self.log.is_full() {
-            return Reply::Refused(Refusal::LogFull);
-        }
-        if self.log.reserve().is_err() {
-            return Reply::Refused(Refusal::OutOfMemory);
-        }
-        change_phase(&mut self.phases, Change::StartPoint, 0);
-        let (phase, point) = (self.phases.phase(), self.phases.point());
-        self.log.append_reserved(Entry::Token(phase, point));
-        Reply::Phase(phase, point)
-    }
-
-    pub(crate) fn seal(&mut self) -> Reply
-        ensures { Seals self.old result self.new }
-    {
-        if let Some(held) = self.phases.held_back(Change::Seal, 0) {
-            return reply_of(held);
-        }
-        if self.log.is_full() {
-            return Reply::Refused(Refusal::LogFull);
-        }
-        if self.log.reserve().is_err() {
-            return Reply::Refused(Refusal::OutOfMemory);
-        }
-        change_phase(&mut self.phases, Change::Seal, 0);
-        let (phase, point) = (self.phases.phase(), self.phases.point());
-        self.log.append_reserved(Entry::Token(phase, point));
-        self.taken = Taken::new(self.alloc);
-        self.records.close(point);
-        Reply::Phase(phase, point)
-    }
-
-    // The phase changes to capture or to rest, once no transaction of the class that holds it back is open.
+    // The phase changes by this word of the checkpointer, and its token is logged, once nothing holds that back. Behind the seal
+    // nothing was taken yet.
     pub(crate) fn advance(&mut self, change: Change) -> Reply
-        requires { (change ≡ Change.OpenCapture) ⊎ (change ≡ Change.Rest) }
-        ensures { Moves (from_of change) (holders change) (to_of change) self.old result self.new }
+        requires { LeavesShelf change }
+        ensures { Changes change self.old result self.new }
     {
-        if let Some(held) = self.phases.held_back(change, 0) {
+        if let Some(held) = self.sessions.held_back(change) {
             return reply_of(held);
         }
         if self.log.is_full() {
@@ -66,19 +27,22 @@ impl World {
         if self.log.reserve().is_err() {
             return Reply::Refused(Refusal::OutOfMemory);
         }
-        change_phase(&mut self.phases, change, 0);
-        let (phase, point) = (self.phases.phase(), self.phases.point());
+        self.sessions.change(change);
+        let (phase, point) = (self.sessions.phase(), self.sessions.point());
         self.log.append_reserved(Entry::Token(phase, point));
+        if let Change::Seal = change {
+            self.taken = Taken::new(self.alloc);
+        }
         Reply::Phase(phase, point)
     }
 
     pub(crate) fn take(&mut self) -> Reply
         ensures { Takes self.old result self.new }
     {
-        if !self.phases.phase().is(Phase::Capture) {
+        if !self.sessions.phase().is(Phase::Capture) {
             return Reply::Refused(Refusal::WrongPhase);
         }
-        let Some((first, at_point)) = self.records.first_closed() else {
+        let Some((first, at_point)) = self.sessions.first_closed() else {
             return Reply::NoneLeft;
         };
         let Ok((key, content, kept_key, kept_content)) = copied_twice(self.alloc, first, at_point)
@@ -88,15 +52,14 @@ impl World {
         let Ok(()) = self.taken.put(kept_key, kept_content) else {
             return Reply::Refused(Refusal::OutOfMemory);
         };
-        self.records.take();
+        self.sessions.take();
         Reply::Took(key, content)
     }
 
     pub(crate) fn shelve(&mut self) -> Reply
         ensures { Shelves self.old result self.new }
     {
-        let left = self.records.closed_len();
-        if let Some(held) = self.phases.held_back(Change::Done, left) {
+        if let Some(held) = self.sessions.held_back(Change::Done) {
             return reply_of(held);
         }
         if self.shelf.len() == MOST_FILES {
@@ -108,12 +71,12 @@ impl World {
         if self.shelf.reserve(1).is_err() || self.log.reserve().is_err() {
             return Reply::Refused(Refusal::OutOfMemory);
         }
-        let (run, point) = (self.base.run(), self.phases.point());
+        let (run, point) = (self.base.run(), self.sessions.point());
         let Ok((part, entries)) = SharedPart::of_taken(self.alloc, run, point, &mut self.taken)
         else {
             return Reply::Refused(Refusal::OutOfMemory);
         };
-        change_phase(&mut self.phases, Change::Done, left);
+        self.sessions.change(Change::Done);
         self.log
             .append_reserved(Entry::Token(Phase::Complete, point));
         self.shelf.push_reserved(part);
@@ -150,16 +113,6 @@ fn reply_of(held: Held) -> Reply
         Held::WrongPhase => Reply::Refused(Refusal::WrongPhase),
         Held::PointsFull => Reply::Refused(Refusal::PointsFull),
         Held::NotYet(count) => Reply::NotYet(count),
-    }
-}
-
-// Changes the phase. Nothing holds the change back.
-fn change_phase(phases: &mut Phases, change: Change, left: u32)
-    requires { held_back phases.old change left ≡ None }
-    ensures { phases.new ≡ advanced phases.old change }
-{
-    if phases.advance(change, left).is_err() {
-        unreachable!();
     }
 }
 

@@ -8,7 +8,6 @@ ghost use Rattle.pc_engine.specs.Asking.{AsksOfOpen};
 ghost use Rattle.pc_engine.specs.Stands.{Stands, Follows};
 ghost use Rattle.pc_engine.specs.Steps.{Gets, WritesKey, Commits};
 
-use crate::transactions::why_refused;
 use crate::world::{World, in_limits};
 use pc_types::{Event, Key, Refusal, Reply, SessionNo};
 
@@ -38,7 +37,7 @@ impl World {
         if let Some(why) = self.open_cause(session) {
             return Reply::Refused(why);
         }
-        Reply::Refused(why_refused(&self.records, key))
+        Reply::Refused(self.sessions.why_refused(key))
     }
 
     fn refuse_write(&self, session: SessionNo, key: &Key) -> Reply
@@ -48,7 +47,7 @@ impl World {
         if let Some(why) = self.write_cause(session, key) {
             return Reply::Refused(why);
         }
-        Reply::Refused(why_refused(&self.records, key))
+        Reply::Refused(self.sessions.why_refused(key))
     }
 
     fn refuse_commit(&self, session: SessionNo) -> Reply

@@ -1,29 +1,10 @@
 //! What each event of a session does.
-ghost use Rattle.std.specs.Prelude.{◌≡◌, ◌<◌, ◌==◌, ◌||◌, ◌-◌, nat_lt, ◌++◌, [], ◌∷◌, false, length, map, IfOk, Some, None, is_none, List, ℕ, option_copied};
-ghost use Rattle.pc_model.specs.Maps.{get};
-ghost use Rattle.pc_model.specs.Replies.{read_reply};
-ghost use Rattle.pc_types.specs.Phases.{same_phase};
-ghost use Rattle.pc_types.specs.declared.Entry.TheVariants.{Commit};
-ghost use Rattle.pc_types.specs.declared.Phase.{Phase};
-ghost use Rattle.pc_log.specs.Logs.{entries_of, HasRoom};
-ghost use Rattle.pc_records.specs.RowSteps.{released_rows, written_row};
-ghost use Rattle.pc_engine.specs.InPlace.{AreOpen, HoldTogether, StayTogether};
-ghost use Rattle.pc_records.specs.NewKeys.{new_keys};
-ghost use Rattle.pc_records.specs.Tables.{kept_of};
-ghost use Rattle.pc_engine.specs.Sessions.{actives_of, with_session, number_in, class_at, writes_in};
-ghost use Rattle.pc_engine.specs.Store.{active_in};
-ghost use Rattle.pc_engine.specs.Steps.{OpenCause, WriteCause, why_refused, Begins, Gets, WritesKey, Commits, Aborts};
+ghost use Rattle.std.specs.Prelude.{◌≡◌, ◌==◌, ◌||◌, nat_lt, Some, None, option_copied};
+ghost use Rattle.pc_engine.specs.Steps.{OpenCause, WriteCause, Begins, Gets, WritesKey, Commits, Aborts};
 
-use crate::sessions::{self, Transaction};
 use crate::world::World;
 use crate::writes::write_of;
-use pc_log::Log;
-use pc_records::Records;
-use pc_types::{
-    Class, Entry, Key, Lsn, MOST_LOG_ENTRIES, MOST_TRANSACTIONS, Outcome, Phase, Refusal, Reply,
-    SessionNo, TxnNo, Value, Write,
-};
-use std::alloc::{AllocError, Global};
+use pc_types::{Entry, Key, MOST_TRANSACTIONS, Outcome, Refusal, Reply, SessionNo, Value};
 
 impl World {
     pub(crate) fn begin(&mut self, session: SessionNo) -> Reply
@@ -32,22 +13,13 @@ impl World {
         if is_no_session(self.sessions.len(), session) {
             return Reply::Refused(Refusal::NoSession);
         }
-        if sessions::active(&self.sessions, session).is_some() {
+        if self.sessions.active(session).is_some() {
             return Reply::Refused(Refusal::AlreadyBegun);
         }
-        if self.begun == MOST_TRANSACTIONS {
+        if self.sessions.begun() == MOST_TRANSACTIONS {
             return Reply::Refused(Refusal::LogFull);
         }
-        self.begun += 1;
-        let class = self.phases.enter();
-        sessions::begin(
-            self.alloc,
-            &mut self.sessions,
-            session,
-            TxnNo(self.begun),
-            class,
-        );
-        Reply::Begun(TxnNo(self.begun))
+        Reply::Begun(self.sessions.begin(self.alloc, session))
     }
 
     // Why an event of the session's open transaction is refused, whatever else it asks, if it is.
@@ -57,10 +29,10 @@ impl World {
         if is_no_session(self.sessions.len(), session) {
             return Some(Refusal::NoSession);
         }
-        let Some(transaction) = sessions::active(&self.sessions, session) else {
+        let Some(transaction) = self.sessions.active(session) else {
             return Some(Refusal::NoTransaction);
         };
-        if self.records.is_waiting(transaction.number) {
+        if self.sessions.is_waiting(transaction.number) {
             return Some(Refusal::StillWaiting);
         }
         if transaction.has_died {
@@ -75,13 +47,7 @@ impl World {
         if let Some(why) = self.open_cause(session) {
             return Reply::Refused(why);
         }
-        match sessions::read(
-            self.alloc,
-            &mut self.records,
-            &mut self.sessions,
-            session,
-            key,
-        ) {
+        match self.sessions.read(self.alloc, session, key) {
             Ok(reply) => reply,
             Err(why) => Reply::Refused(why),
         }
@@ -107,15 +73,9 @@ impl World {
             return Reply::Refused(why);
         }
         let Ok(write) = write_of(self.alloc, key, value) else {
-            return Reply::Refused(why_refused(&self.records, key));
+            return Reply::Refused(self.sessions.why_refused(key));
         };
-        match sessions::request(
-            self.alloc,
-            &mut self.records,
-            &mut self.sessions,
-            session,
-            write,
-        ) {
+        match self.sessions.request(self.alloc, session, write) {
             Ok(Outcome::Granted) => Reply::Ok,
             Ok(Outcome::Queued) => Reply::Wait,
             Ok(Outcome::Died) => Reply::Died,
@@ -130,7 +90,7 @@ impl World {
         if let Some(why) = self.open_cause(session) {
             return Some(why);
         }
-        if sessions::is_one_too_many(&self.sessions, session, key) {
+        if self.sessions.is_one_too_many(session, key) {
             return Some(Refusal::TooManyWrites);
         }
         None
@@ -148,14 +108,8 @@ impl World {
         if self.log.reserve().is_err() {
             return Reply::Refused(Refusal::OutOfMemory);
         }
-        let (class, number) = commit_open(
-            &mut self.sessions,
-            &mut self.records,
-            &mut self.log,
-            session,
-        );
-        self.phases.leave(class);
-        Reply::Committed(number)
+        let writes = self.sessions.commit(session);
+        Reply::Committed(self.log.append_reserved(Entry::Commit(session, writes)))
     }
 
     pub(crate) fn abort(&mut self, session: SessionNo) -> Reply
@@ -164,88 +118,11 @@ impl World {
         if is_no_session(self.sessions.len(), session) {
             return Reply::Refused(Refusal::NoSession);
         }
-        if sessions::active(&self.sessions, session).is_none() {
+        if self.sessions.active(session).is_none() {
             return Reply::Refused(Refusal::NoTransaction);
         }
-        let class = abort_open(&mut self.sessions, &mut self.records, session);
-        self.phases.leave(class);
+        self.sessions.abort(session);
         Reply::Aborted
-    }
-}
-
-// The session's transaction is committed and logged, and then over: its writes are committed where they stand, and its
-// locks are released. The entry's list takes no more room than its writes. It gives its class, and the number of its entry.
-fn commit_open(
-    sessions: &mut Vec<Option<Transaction>>,
-    records: &mut Records,
-    log: &mut Log,
-    session: SessionNo,
-) -> (Class, Lsn)
-    requires place { session - 1 < length sessions.old.items }
-    requires opened { is_none (active_in (actives_of sessions.old.items) session) ≡ false }
-    requires room { HasRoom log.old }
-    requires not_full { length (entries_of log.old) < MOST_LOG_ENTRIES }
-    requires placed { (begun : ℕ) × AreOpen records.old (actives_of sessions.old.items) begun }
-    ensures class { result.0 ≡ class_at (active_in (actives_of sessions.old.items) session) }
-    ensures sessions { actives_of sessions.new.items ≡ with_session (actives_of sessions.old.items) session None }
-    ensures records { kept_of records.new ≡ record (kept_of records.old) { rows = released_rows (number_in (active_in (actives_of sessions.old.items) session)) (map (written_row (writes_in (active_in (actives_of sessions.old.items) session))) records.old.rows) } }
-    ensures opened { records.new.opened ≡ records.old.opened ++ new_keys records.old.rows (writes_in (active_in (actives_of sessions.old.items) session)) }
-    ensures shut { records.new.shut ≡ records.old.shut }
-    ensures log { entries_of log.new ≡ entries_of log.old ++ Commit session (writes_in (active_in (actives_of sessions.old.items) session)) ∷ [] }
-    ensures number { result.1 ≡ length (entries_of log.new) }
-    ensures together { (begun : ℕ) (phase : Phase) (point : ℕ) (open_keys closed : List (List ℕ)) → HoldTogether records.old (actives_of sessions.old.items) begun phase point open_keys closed
-        → HoldTogether records.new (actives_of sessions.new.items) begun phase point (open_keys ++ new_keys records.old.rows (writes_in (active_in (actives_of sessions.old.items) session))) closed }
-{
-    let number = sessions::number(sessions, session);
-    let Transaction {
-        class,
-        writes,
-        slots,
-        ..
-    } = sessions::end(sessions, session);
-    records.commit(writes.as_slice(), slots.as_slice());
-    let entry_number = log.append_reserved(Entry::Commit(session, writes.into_writes()));
-    records.release(number);
-    (class, entry_number)
-}
-
-// The session's transaction is undone, and over: what was committed stands where it has written, and its locks are
-// released.
-fn abort_open(
-    sessions: &mut Vec<Option<Transaction>>,
-    records: &mut Records,
-    session: SessionNo,
-) -> Class
-    requires place { session - 1 < length sessions.old.items }
-    requires opened { is_none (active_in (actives_of sessions.old.items) session) ≡ false }
-    requires placed { (begun : ℕ) × AreOpen records.old (actives_of sessions.old.items) begun }
-    ensures class { result ≡ class_at (active_in (actives_of sessions.old.items) session) }
-    ensures sessions { actives_of sessions.new.items ≡ with_session (actives_of sessions.old.items) session None }
-    ensures records { kept_of records.new ≡ record (kept_of records.old) { rows = released_rows (number_in (active_in (actives_of sessions.old.items) session)) records.old.rows } }
-    ensures opened { records.new.opened ≡ records.old.opened }
-    ensures shut { records.new.shut ≡ records.old.shut }
-    ensures together { StayTogether records.old (actives_of sessions.old.items) records.new (actives_of sessions.new.items) }
-{
-    let number = sessions::number(sessions, session);
-    let Transaction {
-        class,
-        writes,
-        slots,
-        ..
-    } = sessions::end(sessions, session);
-    records.undo(writes.as_slice(), slots.as_slice());
-    records.release(number);
-    class
-}
-
-// Why a request of the key is refused where memory ran out: that the key has no record, and can't get one, comes first.
-pub(crate) fn why_refused(records: &Records, key: &Key) -> Refusal
-    ensures { result ≡ why_refused (kept_of records.now) key.now }
-{
-    if records.is_full_for(key) {
-        Refusal::Full
-    } else {
-        Refusal::OutOfMemory
     }
 }
 

@@ -16,12 +16,11 @@ ghost use Rattle.pc_engine.specs.Checks.{IsSound};
 ghost use Rattle.pc_engine.specs.Runs.{starting, IsRun};
 
 use crate::checks::is_sound;
-use crate::sessions::{self, Transaction};
+use crate::sessions::Sessions;
 use crate::shelving::{file_at, shared_at};
 use pc_log::Log;
 use pc_part::{Base, Part};
-use pc_phase::{Change, Phases};
-use pc_records::Records;
+use pc_phase::Change;
 use pc_shelf::SharedPart;
 use pc_taken::Taken;
 use pc_types::{Entry, Event, FileNo, Key, MOST_KEYS, MOST_SESSIONS, Phase, Refusal, Reply, Value};
@@ -34,11 +33,8 @@ use std::marker::Model;
 pub struct World {
     pub(crate) alloc: Global,
     pub(crate) base: Base,
-    pub(crate) sessions: Vec<Option<Transaction>>,
-    pub(crate) records: Records,
+    pub(crate) sessions: Sessions,
     pub(crate) log: Log,
-    pub(crate) begun: u64,
-    pub(crate) phases: Phases,
     pub(crate) taken: Taken,
     pub(crate) shelf: Vec<SharedPart>,
 }
@@ -46,11 +42,7 @@ pub struct World {
 impl Model for World {
     ghost use Rattle.std.specs.Prelude.{◌≤◌, length};
     ghost use Rattle.pc_engine.specs.Limits.{IsWithinLimits};
-    ghost use Rattle.pc_engine.specs.Sessions.{actives_of};
-    ghost use Rattle.pc_engine.specs.InPlace.{HoldTogether};
-    ghost use Rattle.pc_engine.specs.Counts.{AreCounted};
     ghost use Rattle.pc_log.specs.Logs.{entries_of};
-    ghost use Rattle.pc_records.specs.Tables.{kept_of};
     ghost use Rattle.std.specs.Coded.{codes};
     ghost use Rattle.pc_model.specs.Database.{database_code};
     ghost use Rattle.pc_engine.specs.Store.{Store};
@@ -61,17 +53,15 @@ impl Model for World {
 
     ghost view = { λ w. record {
       base = w.base;
-      sessions = actives_of w.sessions.items;
-      kept = kept_of w.records;
+      sessions = w.sessions.sessions;
+      kept = w.sessions.kept;
       log = entries_of w.log;
-      begun = w.begun;
-      cycle = record { phase = w.phases.phase; point = w.phases.point; open_set = w.records.opened; closed_set = w.records.shut; taken = w.taken };
+      begun = w.sessions.begun;
+      cycle = record { phase = w.sessions.phases.phase; point = w.sessions.phases.point; open_set = w.sessions.open_set; closed_set = w.sessions.closed_set; taken = w.taken };
       shelf = w.shelf.items;
     } };
 
-    ghost invariant = { λ w. IsWithinLimits w.begun (entries_of w.log) (actives_of w.sessions.items) w.phases.phase w.phases.point w.records.opened w.records.shut w.taken w.shelf.items
-        × HoldTogether w.records (actives_of w.sessions.items) w.begun w.phases.phase w.phases.point w.records.opened w.records.shut
-        × AreCounted w.phases (actives_of w.sessions.items) };
+    ghost invariant = { λ w. IsWithinLimits (entries_of w.log) w.sessions.open_set w.sessions.closed_set w.taken w.shelf.items };
 }
 
 impl World {
@@ -99,16 +89,12 @@ impl World {
         if pairs.len() > capacity as usize {
             return Err(Refusal::Full);
         }
-        let records = Records::of_pairs(alloc, capacity, pairs, seed)?;
-        let sessions = sessions::idle(alloc, sessions)?;
+        let sessions = Sessions::new(alloc, sessions, capacity, pairs, seed)?;
         Ok(World {
             alloc,
             base,
             sessions,
-            records,
             log: Log::new(alloc),
-            begun: 0,
-            phases: Phases::new(),
             taken: Taken::new(alloc),
             shelf: Vec::new(alloc),
         })
@@ -133,8 +119,8 @@ impl World {
             Event::Del(session, key) => self.delete(*session, key),
             Event::Commit(session) => self.commit(*session),
             Event::Abort(session) => self.abort(*session),
-            Event::StartPoint => self.start_point(),
-            Event::Seal => self.seal(),
+            Event::StartPoint => self.advance(Change::StartPoint),
+            Event::Seal => self.advance(Change::Seal),
             Event::OpenCapture => self.advance(Change::OpenCapture),
             Event::Take => self.take(),
             Event::Done => self.shelve(),
@@ -166,7 +152,7 @@ impl World {
     pub fn phase(&self) -> Phase
         ensures { result ≡ self.now.cycle.phase }
     {
-        self.phases.phase()
+        self.sessions.phase()
     }
 
     /// The shelf's file of this number; the file that was shelved first has number 1.
@@ -205,7 +191,7 @@ impl World {
         ensures replayed { (history : History) → Stands self.now history → IfOk result (λ pairs. database_of pairs.items ≡ after self.now.base.pairs self.now.log) }
         ensures refusals { IfErr result (λ e. e ≡ Refusal.OutOfMemory) }
     {
-        let pairs = self.records.committed(self.alloc)?;
+        let pairs = self.sessions.committed(self.alloc)?;
         Ok(pairs)
     }
 

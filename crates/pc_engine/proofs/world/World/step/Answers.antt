@@ -36,18 +36,18 @@ returns-in-Abort c =
 
 pub returns-in-StartPoint : goal.returns-in-StartPoint
 returns-in-StartPoint c =
-    let kept = starts_keeps _ _ _ c.start_point.ensures in
-    record { follows = λ history stands. rw c.in-StartPoint.is (starts_follows _ _ history _ stands c.start_point.ensures); setting = kept.0; refused = kept.1 }
+    let kept = starts_keeps _ _ _ c.advance.ensures in
+    record { follows = λ history stands. rw c.in-StartPoint.is (starts_follows _ _ history _ stands c.advance.ensures); setting = kept.0; refused = kept.1 }
 
 pub returns-in-Seal : goal.returns-in-Seal
 returns-in-Seal c =
-    let kept = seals_keeps _ _ _ c.seal.ensures in
-    record { follows = λ history stands. rw c.in-Seal.is (seals_follows _ _ history _ stands c.seal.ensures); setting = kept.0; refused = kept.1 }
+    let kept = seals_keeps _ _ _ c.advance-in-Seal.ensures in
+    record { follows = λ history stands. rw c.in-Seal.is (seals_follows _ _ history _ stands c.advance-in-Seal.ensures); setting = kept.0; refused = kept.1 }
 
 pub returns-in-OpenCapture : goal.returns-in-OpenCapture
 returns-in-OpenCapture c =
-    let kept = moves_keeps _ _ _ _ _ _ c.advance.ensures in
-    record { follows = λ history stands. rw c.in-OpenCapture.is (opens_follows _ _ history _ stands c.advance.ensures); setting = kept.0; refused = kept.1 }
+    let kept = moves_keeps _ _ _ _ _ _ c.advance-in-OpenCapture.ensures in
+    record { follows = λ history stands. rw c.in-OpenCapture.is (opens_follows _ _ history _ stands c.advance-in-OpenCapture.ensures); setting = kept.0; refused = kept.1 }
 
 pub returns-in-Take : goal.returns-in-Take
 returns-in-Take c =
