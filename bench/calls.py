@@ -1,11 +1,11 @@
 #!/usr/bin/env python3
-"""Measures library calls by the program `pc_bench`: several runs, the least and the greatest time, and the peak of memory.
+"""Measures library calls by the program `bench_calls`: several runs, the least and the greatest time, and the peak of memory.
 
     bench/calls.py points 100 1000        so many points over so many keys: the time for a key that is taken
     bench/calls.py commits 500000 1000    so many transactions of one write each, over so many keys, without checkpoints and with
                                           checkpoints back to back: committed transactions a second, and the ratio
 
-Build the program first, by `rt run` in the folder crates/pc_bench.
+Build the program first, by `rt run` in the folder crates/bench_calls.
 """
 
 import os
@@ -15,7 +15,7 @@ import tempfile
 import child
 import history
 
-PROGRAM = os.path.join(os.path.dirname(os.path.abspath(__file__)), "..", "crates", "pc_bench", "out", "pc_bench")
+PROGRAM = os.path.join(os.path.dirname(os.path.abspath(__file__)), "..", "crates", "bench_calls", "out", "bench_calls")
 RUNS = 7
 GROUPS = 10
 

@@ -7,9 +7,9 @@
 
 The clients share the keys out among themselves and fill their own again and again. A run's time is that of the whole program, from its start to
 its end, with a store of 64 sessions and all that it prints; where there are several runs the best and the worst are told. One thread that steps a store, and
-a mutex that is locked three times a transaction and holds nothing, are measured by `pc_bench`, as `bench/shared.py` does.
+a mutex that is locked three times a transaction and holds nothing, are measured by `bench_calls`, as `bench/shared.py` does.
 Beside the clients stands what they could reach at most: threads that make the same fills in a store under a bare mutex, which they take twice a
-transaction and which keeps nothing for them (`pc_bench floor`, at most 15,000 keys a thread).
+transaction and which keeps nothing for them (`bench_calls floor`, at most 15,000 keys a thread).
 """
 
 import os
@@ -60,7 +60,7 @@ def rates(folder, commits, clients, keys, points):
 
 def tell(folder, commits):
     for keys, shared.RUNS in RUNS.items():
-        stepped = shared.rates("pc_bench", commits, "commit_us", "commits", commits, keys)
+        stepped = shared.rates("bench_calls", commits, "commit_us", "commits", commits, keys)
         shared.tell(f"{keys} keys, one thread, stepped", stepped)
         for clients in CLIENTS:
             without, beside = (rates(folder, commits, clients, keys, points) for points in POINTS)
@@ -69,11 +69,11 @@ def tell(folder, commits):
             print(f"with points to without: {beside[0] / without[0]:.2f}", flush=True)
             own = keys // clients
             if own <= MOST_OWN_KEYS:
-                floor = shared.rates("pc_bench", commits // clients * clients, "us", "floor", clients, commits // clients, own)
+                floor = shared.rates("bench_calls", commits // clients * clients, "us", "floor", clients, commits // clients, own)
                 shared.tell(f"{keys} keys, {clients} threads that fill under a bare mutex", floor, stepped)
     shared.RUNS = max(RUNS.values())
     for clients in CLIENTS:
-        shared.tell(f"{clients} threads, a bare mutex", shared.rates("pc_bench", commits * clients, "us", "mutex", clients, commits, 1000))
+        shared.tell(f"{clients} threads, a bare mutex", shared.rates("bench_calls", commits * clients, "us", "mutex", clients, commits, 1000))
 
 
 def draw(folder, commits, picture):

@@ -1,5 +1,5 @@
 #!/usr/bin/env python3
-"""Measures a store that threads share, beside one thread that steps a store, by the program `pc_bench`.
+"""Measures a store that threads share, beside one thread that steps a store, by the program `bench_calls`.
 
     bench/shared.py                  500,000 transactions of one put each a thread, over 1,000 keys a thread
     bench/shared.py COMMITS KEYS     so many, over so many
@@ -10,7 +10,7 @@ ones are to each other. Then the calls of a store that one thread shares with no
 the keys: the mean and the longest time of each, which is no less than its hold of the latch. And last the system calls that a transaction of
 one thread makes, counted by `strace` where it is there: those of two runs, one of twice the transactions, the difference for each.
 
-Build the program first, by `rt run` in the folder crates/pc_bench.
+Build the program first, by `rt run` in the folder crates/bench_calls.
 """
 
 import os
@@ -49,15 +49,15 @@ def tell(text, rate, base=None):
 
 
 def tell_rates(commits, keys):
-    stepped = rates("pc_bench", commits, "commit_us", "commits", commits, keys)
+    stepped = rates("bench_calls", commits, "commit_us", "commits", commits, keys)
     tell("one thread, stepped", stepped)
     for threads in THREADS:
-        tell("%d threads, shared" % threads, rates("pc_bench", commits * threads, "us", "shared", threads, commits, keys), stepped)
-        tell("%d threads, a bare mutex" % threads, rates("pc_bench", commits * threads, "us", "mutex", threads, commits, keys), stepped)
+        tell("%d threads, shared" % threads, rates("bench_calls", commits * threads, "us", "shared", threads, commits, keys), stepped)
+        tell("%d threads, a bare mutex" % threads, rates("bench_calls", commits * threads, "us", "mutex", threads, commits, keys), stepped)
 
 
 def tell_calls(commits, keys):
-    runs = [told("pc_bench", "calls", 1, commits, keys) for _ in range(RUNS)]
+    runs = [told("bench_calls", "calls", 1, commits, keys) for _ in range(RUNS)]
     for name in runs[0]:
         count = runs[0][name][0]
         mean = min(int(run[name][2]) for run in runs)
@@ -69,7 +69,7 @@ def tell_calls(commits, keys):
 def system_calls(commits, keys):
     """How often each system call was made, all threads together."""
     with tempfile.NamedTemporaryFile("r") as counts:
-        words = ["strace", "-f", "-qq", "-c", "-U", "calls,name", "-o", counts.name, program("pc_bench"), "shared", "1", str(commits), str(keys)]
+        words = ["strace", "-f", "-qq", "-c", "-U", "calls,name", "-o", counts.name, program("bench_calls"), "shared", "1", str(commits), str(keys)]
         subprocess.run(words, check=True, stdout=subprocess.DEVNULL)
         lines = [line.split() for line in counts]
     return {line[1]: int(line[0]) for line in lines if len(line) == 2 and line[0].isdigit() and line[1] != "total"}

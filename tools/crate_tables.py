@@ -32,7 +32,7 @@ def graph():
         elif ":" in line:
             name, _, names = line.partition(":")
             parts[-1].append(name)
-            below[name] = [it for it in names.split() if it.startswith("pc_")]
+            below[name] = [it for it in names.split() if it in below]
     return dict(zip(PARTS, parts, strict=True)), below
 
 

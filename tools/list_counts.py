@@ -1,11 +1,11 @@
 #!/usr/bin/env python3
-"""Prints what the programs pc_lists and pc_crowds must print, by the slow store of plain_store.py.
+"""Prints what the programs test_lists and test_crowds must print, by the slow store of plain_store.py.
 
-    list_counts.py lists [FAMILY..]     every short list of events, for crates/pc_lists/stdout
-    list_counts.py crowds               crowds of sessions at one key, fresh keys, and a long walk, for crates/pc_crowds/stdout
+    list_counts.py lists [FAMILY..]     every short list of events, for crates/test_lists/stdout
+    list_counts.py crowds               crowds of sessions at one key, fresh keys, and a long walk, for crates/test_crowds/stdout
 
 It goes through the same lists, crowds and walk as the programs, and counts and sums up the replies in the same way (the
-doc comment of `Sums` in crates/pc_asks/src/sums.rt has the sum). It shares no code with them. All lists take about three
+doc comment of `Sums` in crates/test_support/src/sums.rt has the sum). It shares no code with them. All lists take about three
 minutes on four processors.
 """
 

@@ -1,5 +1,5 @@
 #!/usr/bin/env python3
-"""Prints what the program pc_lock_lists has to print, by the six rules of waiting and dying alone: its stored output comes from here.
+"""Prints what the program test_locks has to print, by the six rules of waiting and dying alone: its stored output comes from here.
 
 A queue is a list of (transaction, is exclusive, is granted) in the order of arrival, the oldest transaction is that of the least number. Lists of events
 are gone through depth first; the queues are copied, so that no list is begun anew. It takes some minutes.

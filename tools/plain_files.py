@@ -2,8 +2,8 @@
 """A plain reader of part files, base files and logs, and a slow recovery, which know nothing of the crates: they are written from the formats and
 rules of docs/FORMATS.md alone. Expected outputs of the gate's programs come from them, and are then stored.
 
-    plain_files.py files LINES    prints what the program pc_file_rows is to print of these lines
-    plain_files.py rows ROWS      prints what the program pc_rows is to print of these rows; scripts are run by plain_store.py, beside this file
+    plain_files.py files LINES    prints what the program test_files is to print of these lines
+    plain_files.py rows ROWS      prints what the program test_scripts is to print of these rows; scripts are run by plain_store.py, beside this file
 """
 
 import sys
@@ -366,7 +366,7 @@ def behind(entries, point):
     return [entry for entry in entries if entry[0] == "commit"]
 
 
-# What pc_file_rows prints.
+# What test_files prints.
 
 
 def read(kind, text):
@@ -487,7 +487,7 @@ def print_files(path):
                 print("".join(it + "\n" for it in verb_lines(kind, verb, [bytes.fromhex(it) for it in texts])), end="")
 
 
-# What pc_rows prints.
+# What test_scripts prints.
 
 DIRECTORY = b"d d"
 

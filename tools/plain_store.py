@@ -2,7 +2,7 @@
 """A slow, plain store, which knows nothing of the crates: what the store of `pcalc step` has to answer, written from the rules in
 docs/FORMATS.md and docs/ARCHITECTURE.md alone. Expected outputs of the gate's programs come from it, and are then stored.
 
-    plain_store.py ROWS            prints what each script of ROWS is to print, in the form of the program pc_rows
+    plain_store.py ROWS            prints what each script of ROWS is to print, in the form of the program test_scripts
 
 A row is `== NAME step [--sessions N] [--capacity N] [--run N] [--bare]` and the lines of a script; `--bare` leaves out the script's last byte.
 Rows of another kind are passed over. A key's contents at a point are those that were committed when the point's resolve token was logged, and

@@ -1,5 +1,5 @@
 #!/usr/bin/env python3
-"""Runs a workload into a folder, and each test of pc_growths that is named for it, once for each growth of memory that they ask for, with that growth
+"""Runs a workload into a folder, and each test of test_memory that is named for it, once for each growth of memory that they ask for, with that growth
 refused. `try_programs.py` does so in the gate; by hand this prints what it saw.
 
 The run, `pcalc run --dir`, is to end whichever growth is refused: with the status 1, nothing printed and at most one fault told, or with the status 0,
@@ -7,7 +7,7 @@ and then with all of its transactions, or with one given up and all others. A te
 was wanting, and wants in the end what it would have got with ample memory, so it passes whichever growth is refused. How many growths a run asks for
 goes up and down with its threads.
 
-Both are programs of the gate, in out/ (`rt run` in the folder of pcalc, and `rt test` in that of pc_growths, make them). What refuses is built by the
+Both are programs of the gate, in out/ (`rt run` in the folder of pcalc, and `rt test` in that of test_memory, make them). What refuses is built by the
 compiler of the kit, and needs no header and no library.
 """
 
@@ -22,7 +22,7 @@ from concurrent.futures import ThreadPoolExecutor
 HERE = os.path.dirname(os.path.abspath(__file__))
 CRATES = os.path.join(HERE, "..", "crates")
 PROGRAM = os.path.join(CRATES, "pcalc", "out", "pcalc")
-TESTS = os.path.join(CRATES, "pc_growths", "out", "pc_growths_tests")
+TESTS = os.path.join(CRATES, "test_memory", "out", "test_memory_tests")
 SOURCE = os.path.join(HERE, "refused_growths", "refuse.c")
 FLAGS = ("-shared", "-fPIC", "-O1", "-fno-builtin", "-nostdlib", "-Wall", "-Wextra", "-Werror")
 NAMES = (b"a", b"b", b"c")
@@ -135,7 +135,7 @@ def growths(program=PROGRAM, tests=TESTS):
             yield "growths that are refused", [str(error)]
             return
         yield "pcalc run, each growth refused", runs(library, program, room)
-        yield "pc_growths has tests of growths", [] if names else ["none has a name that ends in %s" % MARK]
+        yield "test_memory has tests of growths", [] if names else ["none has a name that ends in %s" % MARK]
         for name in names:
             yield name, test(library, tests, room, name)
 

@@ -29,7 +29,7 @@ HEADLINES = [
     [("pc_script", "run_script")],
     [("pc_runs", "run_workload")],
 ]
-IMPORT = re.compile(r"^\s*(?:ghost )?use Rattle\.(pc_\w+)\.specs\.([\w.]+?)(?:\.\{(.*?)\}| as (\w+));?\s*$", re.M)
+IMPORT = re.compile(r"^\s*(?:ghost )?use Rattle\.((?:pc|test|bench)_\w+)\.specs\.([\w.]+?)(?:\.\{(.*?)\}| as (\w+));?\s*$", re.M)
 HEAD = re.compile(r"^(?:abbrev |unfoldable )?(?:pub )?(?:(?:record|data) )?([^\s:(){}]+) (?::|\(|\{)|^(?:pub )?(?:record|data) ([^\s:(){}]+)")
 WORD = re.compile(r"[\w◌]+(?:-[\w]+)*|[^\w\s(){}\[\],.;:]+")
 

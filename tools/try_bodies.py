@@ -52,7 +52,7 @@ def text_sum(names):
     for name in sorted(names):
         for part in CODE:
             for file in sorted(glob.glob(os.path.join(ROOT, "crates", name, part, "**", "*.*"), recursive=True)):
-                if "test" not in os.path.relpath(file, ROOT):
+                if "test" not in os.path.relpath(file, os.path.join(ROOT, "crates", name)):
                     with open(file, "rb") as it:
                         found.update(repr((os.path.relpath(file, ROOT), it.read())).encode())
     return found.hexdigest()[:12]

@@ -1,6 +1,6 @@
 #!/usr/bin/env python3
 """Tries bodies that no proof refuses, since nothing is promised of waiting, or since memory may always be wanting: those in
-tools/meetings/*.edit, each of which must be seen in what the threads of crates/pc_meetings leave, in a run of a workload, or by a test.
+tools/meetings/*.edit, each of which must be seen in what the threads of crates/test_threads leave, in a run of a workload, or by a test.
 
     try_meetings.py            tries all of them
     try_meetings.py NAME..     these alone
@@ -58,7 +58,7 @@ def lines_of(name):
 def crate_of(lines):
     """The crate in which the edit is seen: the one with the meetings, that of the test, or the one that runs workloads."""
     given = dict(lines)
-    return "pc_meetings" if "meeting" in given else given["test"].split(" ")[0] if "test" in given else "pcalc"
+    return "test_threads" if "meeting" in given else given["test"].split(" ")[0] if "test" in given else "pcalc"
 
 
 def sums_of(name):
@@ -125,7 +125,7 @@ def seen_in_meeting(lines):
     """What is wrong with the meeting under the edit, or nothing."""
     given = dict(lines)
     meeting, shows = given["meeting"], given.get("shows", MISSED)
-    if shows in line_of(f"{meeting}: ", text_of(os.path.join(ROOT, "crates", "pc_meetings", "stdout")).splitlines()):
+    if shows in line_of(f"{meeting}: ", text_of(os.path.join(ROOT, "crates", "test_threads", "stdout")).splitlines()):
         return f"{meeting} shows it as it stands"
     printed, end = told(lines, crate_of(lines))
     line = line_of(f"{meeting}: ", printed)

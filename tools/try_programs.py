@@ -4,11 +4,11 @@
     examples/NAME.pcs     `pcalc step` prints NAME.out; the status is that of NAME.status, or 0
     examples/NAME.pcw     `pcalc run` prints NAME.out
     examples/NAME/        a folder: `pcalc recover` prints NAME.out, or `pcalc collapse` of its files where it has no base
-    bench/counts.txt      a line `$ WORDS` is a command of pc_bench, and the lines up to the next one what it prints
+    bench/counts.txt      a line `$ WORDS` is a command of bench_calls, and the lines up to the next one what it prints
     program_cases.py      options, files that can't be had, long files, a full output, little memory
     run_cases.py          workloads that are run on threads, and the folders that they leave
     crash_cases.py        runs that are killed, and what is recovered of their folders
-    refused_growths.py    a run and the tests of pc_growths, each growth of memory that they ask for refused in turn
+    refused_growths.py    a run and the tests of test_memory, each growth of memory that they ask for refused in turn
     PAGES                 what tools make of the crates stands in docs/ as they make it, and each wrong body is one
 
 What differs is shown, and what was seen of growths; the last line is 'N passed, M failed'; the status is 1 where one failed.
@@ -75,7 +75,7 @@ def counts():
     for line in [*text_of(os.path.join(ROOT, "bench", "counts.txt")).splitlines(), "$ "]:
         if line.startswith("$ "):
             if command:
-                yield f"pc_bench {command}", (program_of("pc_bench"), *command.split()), 0, wanted
+                yield f"bench_calls {command}", (program_of("bench_calls"), *command.split()), 0, wanted
             command, wanted = line[2:], ""
         elif not line.startswith("#"):
             wanted += line + "\n"

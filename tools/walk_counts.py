@@ -1,5 +1,5 @@
 #!/usr/bin/env python3
-"""Prints what the program pc_walks has to print, by the slow store of plain_store.py and the lengths that docs/FORMATS.md gives: its stored output
+"""Prints what the program test_walks has to print, by the slow store of plain_store.py and the lengths that docs/FORMATS.md gives: its stored output
 comes from here. That all is recovered right is the promise.
 """
 

@@ -1,10 +1,10 @@
 #!/usr/bin/env python3
 """Writes the worked examples of the definitions, as statements and as proofs by computing.
 
-    tools/worked_examples.py        then, in crates/pc_model, rt tidy
+    tools/worked_examples.py        then, in crates/test_model, rt tidy
 
-Each file worked_examples/SUBJECT.txt becomes crates/pc_model/specs/ExamplesOfSubject.antt (the histories, and one record
-of statements) and crates/pc_model/proofs/ExamplesOfSubject.antt (their proofs). A file has a line `about TEXT` and then
+Each file worked_examples/SUBJECT.txt becomes crates/test_model/specs/ExamplesOfSubject.antt (the histories, and one record
+of statements) and crates/test_model/proofs/ExamplesOfSubject.antt (their proofs). A file has a line `about TEXT` and then
 examples, in the words of scripts:
 
     example NAME             a history
@@ -29,7 +29,7 @@ import pathlib
 import sys
 
 TOOLS = pathlib.Path(__file__).resolve().parent
-CRATE = TOOLS.parent / 'crates' / 'pc_model'
+CRATE = TOOLS.parent / 'crates' / 'test_model'
 UNFOLDING = 'unfolding map_of.empty map_of.get map_of.insert map_of.remove\n'
 BY_SESSION = {'begin': 'Begin', 'commit': 'Commit', 'abort': 'Abort'}
 ALONE = {'point': 'StartPoint', 'seal': 'Seal', 'capture': 'OpenCapture', 'take': 'Take', 'done': 'Done', 'rest': 'Rest'}
@@ -225,7 +225,7 @@ use Rattle.pc_types.specs.declared.Event.TheVariants as asked
 use Rattle.pc_types.specs.declared.Reply.TheVariants as told
 use Rattle.pc_types.specs.declared.Refusal.TheVariants as why
 use Rattle.pc_types.specs.declared.Step.{Step}
-use Rattle.pc_model.specs.Examples.{step, plain, holding, with_room_for, with_sessions, has, lacks, RunsTo, LaysTo, Lacks, IsQuietRun, IsNoQuietRun, IsIllegal, a, b, k, x, y, z, v1, v2, v3, v4, v5, v6, v7, v8, v9}
+use Rattle.test_model.specs.Examples.{step, plain, holding, with_room_for, with_sessions, has, lacks, RunsTo, LaysTo, Lacks, IsQuietRun, IsNoQuietRun, IsIllegal, a, b, k, x, y, z, v1, v2, v3, v4, v5, v6, v7, v8, v9}
 '''
 PROOF_USES = '''use Rattle.std.proofs.Common.{◌≡◌, ℕ, Bool, List, [], ◌∷◌, ◌++◌, take, Option, Some, None, refl, ap, inl, inr, true, false}
 use Rattle.pc_types.specs.declared.Phase.TheVariants.{Rest, Prepare, Resolve, Capture}
@@ -234,9 +234,9 @@ use Rattle.pc_types.specs.declared.Reply.TheVariants as told
 use Rattle.pc_types.specs.declared.Refusal.TheVariants as why
 use Rattle.pc_model.specs.Maps as map_of
 use Rattle.pc_model.specs.Database.{same_bytes}
-use Rattle.pc_model.specs.Examples.{plain, holding, with_room_for, with_sessions, has, lacks, RunsTo, LaysTo, Lacks, IsQuietRun, IsNoQuietRun, IsIllegal, a, b, k, x, y, z, v1, v2, v3, v4, v5, v6, v7, v8, v9}
+use Rattle.test_model.specs.Examples.{plain, holding, with_room_for, with_sessions, has, lacks, RunsTo, LaysTo, Lacks, IsQuietRun, IsNoQuietRun, IsIllegal, a, b, k, x, y, z, v1, v2, v3, v4, v5, v6, v7, v8, v9}
 use Rattle.pc_model.proofs.Ample.{legal_run, legal_lean_run}
-use Rattle.pc_model.proofs.Taken.{key_taken}
+use Rattle.test_model.proofs.Taken.{key_taken}
 '''
 
 
@@ -249,7 +249,7 @@ def used(names):
     by_module = {}
     for name, module in names:
         by_module.setdefault(module, []).append(name)
-    return ''.join(f'use Rattle.pc_model.specs.{module}.{{{", ".join(found)}}}\n' for module, found in by_module.items())
+    return ''.join(f'use Rattle.test_model.specs.{module}.{{{", ".join(found)}}}\n' for module, found in by_module.items())
 
 
 def main():

@@ -8,8 +8,8 @@ use Rattle.pc_types.specs.declared.tally.Tally.{Tally}
 use Rattle.pc_model.specs.Files.{File}
 use Rattle.pc_part.specs.Reading.{part_at}
 use Rattle.pc_part.proofs.CutPartLaws.{part_cut}
-use Rattle.pc_script.specs.declared.recovery.NamedFile.{NamedFile}
-use Rattle.pc_script.specs.Recoveries.{AreOpened}
+use Rattle.pc_texts.specs.declared.files.NamedFile.{NamedFile}
+use Rattle.pc_texts.specs.Files.{AreOpened}
 use Rattle.pc_collapse_files.specs.declared.inputs.Fault.{Fault}
 use Rattle.pc_collapse_files.specs.declared.inputs.Fault.TheVariants as fault
 use Rattle.pc_collapse_files.specs.declared.output.Text.{Text}

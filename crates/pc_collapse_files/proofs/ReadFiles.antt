@@ -6,8 +6,8 @@ use Rattle.std.proofs.lemmas.List.Elements.{All-nil, All-push}
 use Rattle.pc_types.proofs.FieldLaws.{bind_ok, ok_is}
 use Rattle.pc_model.specs.Files.{File}
 use Rattle.pc_part.specs.Reading.{part_at}
-use Rattle.pc_script.specs.declared.recovery.NamedFile.{NamedFile}
-use Rattle.pc_script.specs.Recoveries.{AreOpened}
+use Rattle.pc_texts.specs.declared.files.NamedFile.{NamedFile}
+use Rattle.pc_texts.specs.Files.{AreOpened}
 use Rattle.pc_collapse_files.specs.declared.inputs.Fault.{Fault}
 use Rattle.pc_collapse_files.specs.declared.inputs.Fault.TheVariants as fault
 use Rattle.pc_collapse_files.specs.Collapses.{AreReadAs, HoldTexts, IsBadPart, IsInputFault, IsReached, IsReadAs, parts_at}

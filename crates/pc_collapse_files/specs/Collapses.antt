@@ -17,8 +17,8 @@ use Rattle.pc_part.specs.Reading.{part_at}
 use Rattle.pc_part.specs.Texts.{part_text}
 use Rattle.pc_collapse.specs.Folds.{Folds}
 use Rattle.pc_texts.specs.Texts.{joined_line}
-use Rattle.pc_script.specs.declared.recovery.NamedFile.{NamedFile}
-use Rattle.pc_script.specs.Recoveries.{AreOpened, Holds, TellsOf}
+use Rattle.pc_texts.specs.declared.files.NamedFile.{NamedFile}
+use Rattle.pc_texts.specs.Files.{TellsOf, AreOpened, Holds}
 use Rattle.pc_collapse_files.specs.declared.inputs.Fault.{Fault}
 use Rattle.pc_collapse_files.specs.declared.inputs.Fault.TheVariants as fault
 use Rattle.pc_collapse_files.specs.declared.output.Text.{Text}

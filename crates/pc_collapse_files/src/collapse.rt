@@ -4,13 +4,13 @@ ghost use Rattle.std.specs.declared.result.Result.{Result};
 ghost use Rattle.pc_types.specs.declared.refusal.Refusal.{Refusal};
 ghost use Rattle.pc_types.specs.Tallies.{Puts};
 ghost use Rattle.pc_model.specs.Files.{File};
-ghost use Rattle.pc_script.specs.Recoveries.{AreOpened};
+ghost use Rattle.pc_texts.specs.Files.{AreOpened};
 ghost use Rattle.pc_collapse_files.specs.Collapses.{IsCause, IsDone, IsInputFault, IsJoinOf, IsLeft, IsTextOf, IsTold, is_one_of, usage_text};
 ghost use Rattle.pc_collapse_files.specs.declared.inputs.Fault.{Fault};
 
 use crate::inputs::{Fault, Inputs, is_input, join_files};
 use crate::output::{Maker, Text, Unfinished, print, text_of, write_file};
-use pc_script::report;
+use pc_texts::report;
 use pc_types::{Refusal, Tally};
 use std::alloc::Global;
 use std::io::{Read, Write};

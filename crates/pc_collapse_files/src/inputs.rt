@@ -4,13 +4,13 @@ ghost use Rattle.pc_types.specs.declared.refusal.Refusal.{Refusal};
 ghost use Rattle.pc_types.specs.Fields.{Gives};
 ghost use Rattle.pc_collapse.specs.declared.limits.TheConstants.{MOST_COLLAPSERS};
 ghost use Rattle.pc_part.specs.Reading.{part_at};
-ghost use Rattle.pc_script.specs.Recoveries.{AreOpened};
+ghost use Rattle.pc_texts.specs.Files.{AreOpened};
 ghost use Rattle.pc_collapse_files.specs.Collapses.{AreReadAs, IsBadPart, IsInputFault, IsJoinOf, IsReadAs, is_one_of};
 ghost use Rattle.pc_collapse_files.specs.declared.inputs.Fault.{Fault};
 
 use pc_collapse::collapse_bag_owned;
 use pc_part::Part;
-use pc_script::NamedFile;
+use pc_texts::NamedFile;
 use pc_types::{OpenGate, Refusal, Tally, read_all};
 use std::alloc::Global;
 use std::io::Read;

@@ -42,7 +42,7 @@ pub answered_view : (t after : Table) (phases : Phases) (begun : ℕ) (ss then :
     seen_with after phases begun then ≡ after_answer (seen_with t phases begun ss) s write.key Exclusive o (if_granted o (with_session ss s (after_writing (active_in ss s) write)) ss)
 answered_view t after phases begun ss then s j a write o at own gone rows opened shut =
     rw (gone, opened, shut, at) (ap (λ (kept : Kept). seen_kept kept t phases begun (if_died o (set ss (s - 1) (after_dying (at_place ss (s - 1)))) (if_granted o (set ss (s - 1) (after_writing (at_place ss (s - 1)) write)) ss)))
-        (rows ∙ ap (λ n. with_rows (rows_after t.rows write.key n Exclusive o) (kept_of t)) (sym (ap number_in (rw at at own)))))
+    (rows ∙ ap (λ n. with_rows (rows_after t.rows write.key n Exclusive o) (kept_of t)) (sym (ap number_in (rw at at own)))))
   where
     seen_kept : Kept → Table → Phases → ℕ → List (Option Active) → Ongoing
     seen_kept kept t phases begun ss = record { sessions = ss; kept = kept; open_set = t.opened; closed_set = t.shut; phases = phases; begun = begun }
@@ -127,9 +127,9 @@ module _ (t : Table) (ss : List (Option Active)) (phases : Phases) (begun : ℕ)
       after.point ≡ t.point → after.opened ≡ t.opened → after.shut ≡ t.shut → StandTogether after then phases begun
   request_stands after then j a write o inside own one gone rows pending clear still opened shut =
       rw gone (stands_with after _ opened shut
-          (written_together t after ss j write.key write.value o inside (ap is_some own) (rw own rows) (rw own pending) (rw own clear) still begun phases.phase phases.point t.opened t.shut all.hold)
-          (request_counted phases ss all.counted {A = Unit {0}} {E = Unit {0}} (Ok tt) (λ r. o) write _ j refl tt)
-          (few o) (length_died o ss j (after_dying (at_place ss j)) (after_writing (at_place ss j) write)))
+      (written_together t after ss j write.key write.value o inside (ap is_some own) (rw own rows) (rw own pending) (rw own clear) still begun phases.phase phases.point t.opened t.shut all.hold)
+      (request_counted phases ss all.counted {A = Unit {0}} {E = Unit {0}} (Ok tt) (λ r. o) write _ j refl tt)
+      (few o) (length_died o ss j (after_dying (at_place ss j)) (after_writing (at_place ss j) write)))
     where
       few : (o : Outcome) → AreFew (if_died o (set ss j (after_dying (at_place ss j))) (if_granted o (set ss j (after_writing (at_place ss j) write)) ss))
       few Granted = few_set ss j (after_writing (at_place ss j) write) all.few (wrote_few (at_place ss j) write (all.few j) (ap (λ x. is_one_too_many (writes_in x) write.key) own ∙ one))
@@ -158,14 +158,14 @@ module _ (t : Table) (ss : List (Option Active)) (phases : Phases) (begun : ℕ)
       after ≡ record middle { rows = released_rows n middle.rows } → StandTogether after then now begun
   committed_stands middle after then j n ws now inside there rise mine gone is rows pending still opened shut released =
       rw gone (over_stands after j now inside there is
-          (same_sets after (set ss j None) begun phases.phase phases.point _ after.opened t.shut after.shut (ap (λ (a : Table). a.opened) released ∙ opened ∙ ap (λ w. t.opened ++ new_keys t.rows w) mine) (ap (λ (a : Table). a.shut) released ∙ shut) (committed_together t middle after ss j n ws inside rise mine rows pending still released begun phases.phase phases.point t.opened t.shut all.hold)))
+      (same_sets after (set ss j None) begun phases.phase phases.point _ after.opened t.shut after.shut (ap (λ (a : Table). a.opened) released ∙ opened ∙ ap (λ w. t.opened ++ new_keys t.rows w) mine) (ap (λ (a : Table). a.shut) released ∙ shut) (committed_together t middle after ss j n ws inside rise mine rows pending still released begun phases.phase phases.point t.opened t.shut all.hold)))
 
   pub aborted_stands : (middle after : Table) (then : List (Option Active)) (j n : ℕ) (ws : List Write) (now : Phases) → j < length ss → is_some (at_place ss j) ≡ true → KeysRise t.rows → ws ≡ writes_in (at_place ss j) → then ≡ set ss j None → now ≡ left phases (class_at (at_place ss j)) →
       kept_of middle ≡ kept_of t → ((q : List ℕ) → pending_at middle q ≡ pending_without ws t q) → middle.point ≡ t.point → middle.opened ≡ t.opened → middle.shut ≡ t.shut →
       after ≡ record middle { rows = released_rows n middle.rows } → StandTogether after then now begun
   aborted_stands middle after then j n ws now inside there rise mine gone is rows pending still opened shut released =
       rw gone (over_stands after j now inside there is
-          (same_sets after (set ss j None) begun phases.phase phases.point t.opened after.opened t.shut after.shut (ap (λ (a : Table). a.opened) released ∙ opened) (ap (λ (a : Table). a.shut) released ∙ shut) (aborted_together t middle after ss j n ws inside rise mine rows pending still released begun phases.phase phases.point t.opened t.shut all.hold)))
+      (same_sets after (set ss j None) begun phases.phase phases.point t.opened after.opened t.shut after.shut (ap (λ (a : Table). a.opened) released ∙ opened) (ap (λ (a : Table). a.shut) released ∙ shut) (aborted_together t middle after ss j n ws inside rise mine rows pending still released begun phases.phase phases.point t.opened t.shut all.hold)))
 
   -- the phase has changed, and this holds together then
   moved_stands : (after : Table) (c : Change) (now : Phases) → now ≡ advanced phases c → ((same_phase (to_of c) phase.Rest ≡ true) ⊎ (1 ≤ point_after c phases.point)) → HoldTogether after ss begun (to_of c) (point_after c phases.point) after.opened after.shut → StandTogether after ss now begun

@@ -6,9 +6,9 @@ ghost use Rattle.pc_model.specs.Log.{after};
 ghost use Rattle.pc_replay.specs.Audits.{IsRight, TriplesRise};
 ghost use Rattle.pc_engine.specs.Checks.{IsFileRight};
 
+use pc_capture::SharedPart;
 use pc_part::{Base, Part};
 use pc_replay::{CompleteFile, audit, is_replay};
-use pc_shelf::SharedPart;
 use pc_types::{Entry, Key, Triple, Value};
 use std::alloc::{AllocError, Global};
 

@@ -229,9 +229,7 @@ impl Sessions {
             return Err(why_refused(&self.records, &write.key));
         };
         let (number, class) = (transaction.number, transaction.class);
-        let Answer { outcome, slot } =
-            self.records
-                .write(alloc, number, class, &write.key, value)?;
+        let Answer { outcome, slot } = self.records.write(alloc, number, class, &write.key, value)?;
         transaction.answered(outcome, write, slot);
         Ok(outcome)
     }

@@ -3,8 +3,8 @@ ghost use Rattle.std.specs.Prelude.{◌≡◌, IfOk, IfErr, option_copied};
 ghost use Rattle.pc_model.specs.Files.{file_at};
 ghost use Rattle.pc_engine.specs.Shelves.{IsJoin, IsShelvable};
 
+use pc_capture::SharedPart;
 use pc_part::{Part, join};
-use pc_shelf::SharedPart;
 use pc_types::{FileNo, Items, MOST_FILES, Point, Refusal};
 use std::alloc::Global;
 

@@ -7,8 +7,8 @@ ghost use Rattle.pc_model.specs.Standing.{IsOfItsPoints};
 ghost use Rattle.pc_part.specs.Joins.{first_cause, IsRefusedBy};
 ghost use Rattle.pc_latch.specs.Tickets.{BeginsWith, HaveGrown, IsRefusedJoin};
 
+use pc_capture::SharedPart;
 use pc_part::{Part, join};
-use pc_shelf::SharedPart;
 use pc_tie::{Keeper, StoreName, Tie, Witness};
 use pc_types::Refusal;
 use std::alloc::Global;

@@ -10,8 +10,7 @@ pub mod MergeLaws
 pub mod CountLaws
 pub mod KeyTreeLaws
 mod Queues
-mod Ample
-mod Causes
+pub mod Ample
 pub mod EffectCases
 pub mod EffectLaws
 mod CertainReplies
@@ -29,16 +28,6 @@ mod Latest
 pub mod ContentLaws
 mod TakenValues
 pub mod ShelfFileLaws
-mod Taken
-mod ExamplesOfTransactions
-mod ExamplesOfPoints
-mod ExamplesOfFiles
-mod ExamplesOfHeadlines
-mod ExamplesOfLocks
-mod ExamplesOfCapacity
-mod ExamplesOfRefusals
-mod ExamplesOfIllegalReplies
-mod ExamplesOfRules
 pub mod QueueLaws
 mod Holding
 pub mod WrittenKeyLaws

@@ -21,16 +21,6 @@ pub mod Receipts
 pub mod Laws
 pub mod SessionLaws
 pub mod TripleLists
-pub mod Examples
-pub mod ExamplesOfTransactions
-pub mod ExamplesOfPoints
-pub mod ExamplesOfFiles
-pub mod ExamplesOfHeadlines
-pub mod ExamplesOfLocks
-pub mod ExamplesOfCapacity
-pub mod ExamplesOfRefusals
-pub mod ExamplesOfIllegalReplies
-pub mod ExamplesOfRules
 pub mod Queues
 pub mod LegalEffects
 pub mod SessionLocks

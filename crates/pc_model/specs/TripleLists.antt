@@ -1,5 +1,5 @@
 -- Triples in a list.
-use Rattle.std.specs.Prelude.{ℕ, List, map}
+use Rattle.std.specs.Prelude.{ℕ, List, Option, map}
 use Rattle.pc_types.specs.declared.Triple.{Triple}
 use Rattle.pc_model.specs.Points.{AtPoint}
 
@@ -10,3 +10,7 @@ entry_of triple = (triple.key, record { point = triple.point; content = triple.c
 -- the triples as entries of a map
 abbrev pub entries_of : List Triple → List (List ℕ × AtPoint)
 entries_of triples = map entry_of triples
+
+-- a key, and what it had at the point, as a triple of the point
+abbrev pub triple_at : ℕ → List ℕ × Option (List ℕ) → Triple
+triple_at point entry = record { key = entry.0; point = point; content = entry.1 }

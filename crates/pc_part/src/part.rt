@@ -2,13 +2,12 @@
 ghost use Rattle.std.specs.Prelude.{◌≡◌, ◌≤◌, ℕ, map, IfOk, IfErr, MatchOption};
 ghost use Rattle.pc_model.specs.Database.{KeysRise};
 ghost use Rattle.pc_model.specs.Files.{triples_taken};
-ghost use Rattle.pc_model.specs.TripleLists.{entries_of};
+ghost use Rattle.pc_model.specs.TripleLists.{entries_of, triple_at};
 ghost use Rattle.pc_model.specs.Ranges.{ranges_of};
 ghost use Rattle.pc_model.specs.Maps as map_of;
 ghost use Rattle.pc_model.specs.Sets as set;
 ghost use Rattle.pc_part.specs.Bases.{IsWithinLimit};
 ghost use Rattle.pc_part.specs.Parts.{AreCovered, AreRanges, CoversTo, bounds_of, points_of, triples_of};
-ghost use Rattle.pc_taken.specs.Takings.{triple_at};
 
 use crate::ranges::{Range, last_covered, points_in};
 use pc_types::{Items, Key, Point, Refusal, Triple, Value};

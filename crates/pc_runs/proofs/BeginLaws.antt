@@ -9,7 +9,7 @@ use Rattle.pc_jobs.specs.Workloads.{reading_of}
 use Rattle.pc_jobs.specs.declared.works.Workload.{Workload}
 use Rattle.pc_jobs.specs.declared.workloads.Reading.{Reading}
 use Rattle.pc_jobs.specs.declared.workloads.Reading.TheVariants as reading
-use Rattle.pc_script.specs.Runs.{IsScriptFault}
+use Rattle.pc_texts.specs.Files.{IsScriptFault}
 use Rattle.pc_threads.specs.declared.fault.Fault.{Fault}
 use Rattle.pc_threads.specs.declared.fault.Fault.TheVariants as fault
 use Rattle.pc_runs.specs.declared.failure.Failure.{Failure}

@@ -15,10 +15,9 @@ use Rattle.pc_jobs.specs.Workloads.{reading_of}
 use Rattle.pc_jobs.specs.declared.works.Workload.{Workload}
 use Rattle.pc_jobs.specs.declared.workloads.Reading.{Reading}
 use Rattle.pc_jobs.specs.declared.workloads.Reading.TheVariants as reading
-use Rattle.pc_script.specs.Bases.{IsMade, IsUnmade}
-use Rattle.pc_script.specs.Recoveries.{TellsOf}
-use Rattle.pc_script.specs.Recoveries as recoveries
-use Rattle.pc_script.specs.Runs.{IsScriptFault}
+use Rattle.pc_restore.specs.Bases.{IsMade, IsUnmade}
+use Rattle.pc_texts.specs.Files.{TellsOf, IsScriptFault}
+use Rattle.pc_restore.specs.Recoveries as recoveries
 use Rattle.pc_threads.specs.declared.fault.Fault.{Fault}
 use Rattle.pc_threads.specs.declared.fault.Fault.TheVariants as fault
 use Rattle.pc_runs.specs.declared.failure.Failure.{Failure}

@@ -8,7 +8,8 @@ ghost use Rattle.pc_runs.specs.Runs.{IsTold, IsUsable, IsUnusable, reason_text};
 
 use crate::files::{RunFolder, Unusable, report_unmade};
 use pc_outcomes::Printed;
-use pc_script::{Lost, report, tell_lost};
+use pc_restore::{Lost, tell_lost};
+use pc_texts::report;
 use pc_threads::Fault;
 use pc_types::{Refusal, Tally};
 use std::io::Write;

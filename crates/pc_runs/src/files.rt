@@ -2,14 +2,13 @@
 ghost use Rattle.std.specs.Prelude.{◌≡◌, ◌⊎◌, IfErr, IfOk, OnOk};
 ghost use Rattle.pc_types.specs.Tallies.{Puts, inner_of};
 ghost use Rattle.pc_part.specs.Texts.{base_text};
-ghost use Rattle.pc_script.specs.Runs.{report_text};
+ghost use Rattle.pc_texts.specs.Files.{report_text};
 ghost use Rattle.pc_texts.specs.declared.file_names.FileName.TheVariants as file;
 ghost use Rattle.pc_texts.specs.FileNames.{name_of};
 ghost use Rattle.pc_threads.specs.Faults.{IsLost};
 
 use pc_part::Base;
-use pc_script::report;
-use pc_texts::{FileName, part_name};
+use pc_texts::{FileName, part_name, report};
 use pc_threads::{Fault, NewFiles, finish_file, make_file};
 use pc_types::{Refusal, Tally};
 use std::io::Write;

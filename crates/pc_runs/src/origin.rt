@@ -2,7 +2,7 @@
 ghost use Rattle.std.specs.Prelude.{◌≤◌};
 ghost use Rattle.pc_types.specs.declared.limits.TheConstants.{MOST_KEYS};
 
-use pc_script::Folder;
+use pc_restore::Folder;
 
 /// A folder of another run, by its name, with the files that recovery reads.
 #[derive(Drop)]

@@ -5,7 +5,7 @@ ghost use Rattle.pc_runs.specs.Runs.{IsStart, IsUnstarted};
 use crate::failure::Failure;
 use crate::origin::{NamedFolder, Start};
 use pc_part::Base;
-use pc_script::recover_base;
+use pc_restore::recover_base;
 use pc_types::Tally;
 use std::alloc::Global;
 use std::io::{Read, Write};

@@ -23,10 +23,10 @@ ghost use Rattle.pc_runs.specs.Runs.{IsRun};
 use crate::crew::Crew;
 use crate::pace::every_of;
 use pc_board::{Board, BoardPass};
+use pc_capture::SharedPart;
 use pc_jobs::{Workload, deal};
 use pc_outcomes::{Left, Outcome, commits_in, left_by};
 use pc_shared::{CheckpointerSeat, Closed, Opened, PartTicket, Session, Shared};
-use pc_shelf::SharedPart;
 use pc_texts::FileName;
 use pc_threads::{
     Fault, Logger, NewFiles, Ran, Rested, Room, Seating, Worked, Written, finish_file, hands_of,

@@ -1,7 +1,3 @@
 mod BaseLemmas
-mod Begun
-mod FolderBases
-mod FolderParts
-mod FolderRecovery
 mod RunLemmas
 mod ScriptLemmas

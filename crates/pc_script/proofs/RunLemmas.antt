@@ -15,7 +15,7 @@ use Rattle.pc_script.specs.Runs.{AnswersInPart}
 use Rattle.pc_lines.specs.Lines.{lines_in}
 use Rattle.pc_script.specs.Scripts.{IsAnswered, IsAnsweredInPart}
 use Rattle.pc_script.specs.Scripts.Stage.{Reading}
-use Rattle.pc_script.proofs.Begun.{begins_kept, whole_begins}
+use Rattle.pc_texts.proofs.Begun.{begins_kept, whole_begins}
 
 -- a beginning of what some first lines print went out
 abbrev pub BeginsAnswers : Setup → List ℕ → Option (List ℕ) → Option (List ℕ) → Type 0

@@ -27,7 +27,7 @@ use Rattle.pc_lines.specs.Lines.{lines_in, spelled}
 use Rattle.pc_script.specs.Scripts.{Stage, setting, AnswersLine, AnswersFirst, Answers, answer_text, Prints, PrintsFrom, is_malformed, has_bad_line, status_of, IsAnswered, IsAnsweredInPart}
 use Rattle.pc_script.specs.Scripts.Stage.{Reading, Running, Ended}
 use Rattle.pc_script.specs.Holding.{Holds, IsSaid, IsSaidInPart, is_ended}
-use Rattle.pc_script.proofs.Begun.{whole_begins}
+use Rattle.pc_texts.proofs.Begun.{whole_begins}
 
 -- an event that is answered legally
 pub asks : (st : Setting) (history : History) (l : Line) (event : Event) (reply : Reply) → l ≡ line.Asks event → IsLegal st history event reply

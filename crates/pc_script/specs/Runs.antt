@@ -1,9 +1,8 @@
 -- The exit status of a run, and what it tells of a fault.
-use Rattle.std.specs.Prelude.{◌≡◌, ◌⊎◌, ℕ, List, ◌++◌, codes, Option, MatchResult, IfOk, IfSome}
+use Rattle.std.specs.Prelude.{◌≡◌, ◌⊎◌, ℕ, List, Option, IfOk, IfSome}
 use Rattle.std.specs.declared.result.Result.{Result}
-use Rattle.pc_types.specs.Names.{name_of}
 use Rattle.pc_types.specs.declared.refusal.Refusal.{Refusal}
-use Rattle.pc_types.specs.declared.refusal.Refusal.TheVariants.{OutOfMemory, Device}
+use Rattle.pc_types.specs.declared.refusal.Refusal.TheVariants.{OutOfMemory}
 use Rattle.pc_types.specs.Counted.{HasRisen, AppendsBeginning}
 use Rattle.pc_types.specs.Tallies.{inner_of, failures_of}
 use Rattle.pc_types.specs.declared.tally.Tally.{Tally}
@@ -13,20 +12,13 @@ use Rattle.pc_script.specs.declared.run.Fault.TheVariants as fault
 use Rattle.pc_script.specs.declared.script.Status.{Status}
 use Rattle.pc_script.specs.declared.script.Status.TheVariants as status
 use Rattle.pc_script.specs.Scripts.{IsAnsweredInPart}
+use Rattle.pc_texts.specs.Files.{IsScriptFault}
 
 -- the exit status of a script that was answered
 abbrev pub exit_of : Status → ℕ
 exit_of status.Done = 0
 exit_of status.BadLines = 3
 exit_of status.NoStore = 1
-
--- what is told of a script that couldn't be read
-abbrev pub report_text : List ℕ → Refusal → List ℕ
-report_text name why = codes "pcalc: " ++ (name ++ (codes ": " ++ (name_of why ++ codes "\n")))
-
--- why there is no status of the script's own: it isn't there, or else it couldn't be read or memory ran out
-abbrev pub IsScriptFault : {R : Type 0} → Result R Refusal → Refusal → Type 0
-IsScriptFault opened why = MatchResult opened (λ reader. (why ≡ OutOfMemory) ⊎ (why ≡ Device)) (λ absent. why ≡ absent)
 
 -- A script has no status of its own for this reason. Where it isn't there or couldn't be read, the output is as it was; else
 -- memory ran out for a line of it.

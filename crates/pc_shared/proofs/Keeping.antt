@@ -14,12 +14,12 @@ use Rattle.pc_model.specs.Calls.{step_of, Extends}
 use Rattle.pc_model.specs.Receipts.{Read, Own, own, own_of, receipt_of}
 use Rattle.pc_model.proofs.OwnCallLaws.{own_open}
 use Rattle.pc_model.proofs.SessionCallLaws.{begun_own, found_own, absent_own, get_died_own, put_own, put_died_own, del_own, del_died_own, committed_own, aborted_own}
-use Rattle.pc_receipts.specs.declared.got.Got.{Got}
-use Rattle.pc_receipts.specs.declared.got.Got.TheVariants as got
+use Rattle.pc_txn.specs.declared.got.Got.{Got}
+use Rattle.pc_txn.specs.declared.got.Got.TheVariants as got
 use Rattle.pc_shared.specs.Asked.{IsGot, IsMade, write_event}
-use Rattle.pc_receipts.specs.Notes.{reads_after}
+use Rattle.pc_txn.specs.Notes.{reads_after}
 use Rattle.pc_shared.specs.Finds.{found_by, found_in}
-use Rattle.pc_receipts.specs.Notes.{value_of}
+use Rattle.pc_txn.specs.Notes.{value_of}
 use Rattle.pc_shared.specs.Sitters.{Keeps}
 
 -- what a session is left with is all that is asked

@@ -3,8 +3,8 @@ use Rattle.std.specs.Prelude.{◌≡◌, ℕ, Bool, true, false, List}
 use Rattle.pc_types.specs.declared.Event.{Event}
 use Rattle.pc_model.specs.History.{History}
 use Rattle.pc_model.specs.Replies.{Setting}
-use Rattle.pc_receipts.specs.declared.got.Got.{Got}
-use Rattle.pc_receipts.specs.declared.got.Got.TheVariants as got
+use Rattle.pc_txn.specs.declared.got.Got.{Got}
+use Rattle.pc_txn.specs.declared.got.Got.TheVariants as got
 use Rattle.pc_shared.specs.declared.session.Answer.{Answer}
 use Rattle.pc_shared.specs.declared.session.Answer.TheVariants as answer
 use Rattle.pc_shared.specs.Asked.{IsGot, IsMade}

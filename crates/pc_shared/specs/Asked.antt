@@ -8,8 +8,8 @@ use Rattle.pc_types.specs.declared.Reply.TheVariants as told
 use Rattle.pc_model.specs.History.{History}
 use Rattle.pc_model.specs.Replies.{Setting}
 use Rattle.pc_model.specs.Calls.{step_of, Extends}
-use Rattle.pc_receipts.specs.declared.got.Got.{Got}
-use Rattle.pc_receipts.specs.declared.got.Got.TheVariants as got
+use Rattle.pc_txn.specs.declared.got.Got.{Got}
+use Rattle.pc_txn.specs.declared.got.Got.TheVariants as got
 
 -- the reply says that the session's request waits
 abbrev pub is_wait : Reply → Bool

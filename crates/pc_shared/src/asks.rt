@@ -8,8 +8,8 @@ ghost use Rattle.pc_shared.specs.Answers.{answer_of};
 
 use crate::session::Answer;
 use crate::store::Shared;
-use pc_receipts::Got;
 use pc_tie::{SessionSeat, StoreName};
+use pc_txn::Got;
 use pc_types::{Event, Key, Lsn, Refusal, Reply, Step, TxnNo, Value};
 use std::sync::Wait;
 

@@ -11,8 +11,8 @@ ghost use Rattle.pc_shared.specs.Finds.{found_in};
 
 use crate::asks::answer_of;
 use crate::store::Shared;
-use pc_receipts::{Receipts, Work, has_room_for_receipt, has_room_to_read, has_room_to_write};
 use pc_tie::{SessionSeat, StoreName};
+use pc_txn::{Receipts, Work, has_room_for_receipt, has_room_to_read, has_room_to_write};
 use pc_types::{Key, Lsn, Refusal, SessionNo, TxnNo, Value};
 use std::marker::Model;
 use std::sync::Wait;
@@ -39,7 +39,7 @@ pub struct Session<N: StoreName> {
 
 impl<N: StoreName> Model for Session<N> {
     ghost use Rattle.std.specs.Prelude.{◌≡◌};
-    ghost use Rattle.pc_receipts.specs.Notes.{kept_in};
+    ghost use Rattle.pc_txn.specs.Notes.{kept_in};
     ghost use Rattle.pc_shared.specs.Finds.{found_in};
     ghost use Rattle.pc_shared.specs.Sitters.{Sitter, sitter, Keeps};
 

@@ -4,7 +4,7 @@ ghost use Rattle.pc_slots.specs.Slots.{base_cell};
 
 use crate::versions::Aside;
 use crate::words::Mark;
-use pc_dirty::Side;
+use pc_chain::Side;
 use pc_table::Blank;
 use pc_types::{SlotId, Value};
 

@@ -2,7 +2,7 @@
 
 use crate::cells::Cell;
 use crate::versions::{self, Author, Stage, Writing};
-use pc_dirty::Side;
+use pc_chain::Side;
 use pc_table::Blank;
 use pc_types::{Class, Point, Refusal, TxnNo, Value};
 use std::alloc::Global;

@@ -1,3 +1,9 @@
+pub mod Cells
+pub mod SlotLending
+pub mod Slots
+pub mod Hashes
+pub mod Indexes
+pub mod Keys
 pub mod Entries
 pub mod Lending
 pub mod Passing

@@ -1,6 +1,6 @@
 //! Entries: what stands in a slot.
 use crate::blank::Blank;
-use pc_index::Keyed;
+use crate::keyed::Keyed;
 use pc_types::Key;
 use std::alloc::{AllocError, Global};
 

@@ -1,3 +1,4 @@
 mod RangeLemmas
 pub mod SentLaws
 pub mod StatePairLaws
+pub mod Begun

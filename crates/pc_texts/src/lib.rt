@@ -1,10 +1,13 @@
-//! The texts of replies, states and files, and the names of files.
+//! The texts of replies, states and files, and the names of files; files that may have been opened: their bytes, and what is told
+//! where a command fails.
 #![tactic(auto)]
 
 mod file_names;
+mod files;
 mod texts;
 
 pub use file_names::{FileName, part_name};
+pub use files::{NamedFile, read_opened, report};
 pub use texts::{
     put_check, put_collapsed, put_joined, put_pairs, put_reason, put_reply, put_state, put_text,
 };

@@ -1,3 +1,4 @@
 mod Orders
 mod Written
 mod Noting
+mod Filing

@@ -1,2 +1,4 @@
 pub mod Orders
 pub mod Sets
+pub mod Filed
+pub mod Notes

@@ -31,7 +31,7 @@ pub use limits::{
 };
 pub use lists::Items;
 pub use locking::{Mode, Outcome, Request};
-pub use numbers::{FileNo, Lsn, Point, ReqId, SessionNo, SlotId, TxnNo};
+pub use numbers::{FileNo, Lsn, Point, SessionNo, SlotId, TxnNo};
 pub use receipts::Receipt;
 pub use refusal::Refusal;
 pub use tally::{Tally, read_all};

@@ -19,23 +19,6 @@ impl Model for SlotId {
     ghost inverse = { λ d. record { 0 = d } };
 }
 
-/// A lock request's place among the requests of a store, from 0.
-#[derive(Clone, Copy, Debug, PartialEq, Eq)]
-pub struct ReqId(pub u32);
-
-impl Model for ReqId {
-    ghost use Rattle.std.specs.Prelude.{ℕ};
-    ghost use Rattle.std.specs.Coded.{coded_ℕ};
-
-    ghost Value = { ℕ };
-
-    ghost coded = { coded_ℕ };
-
-    ghost view = { λ a. a.0 };
-
-    ghost inverse = { λ d. record { 0 = d } };
-}
-
 /// A transaction's number, from 1 in the order of begins; at most 1,099,511,627,776. The smaller is the older.
 #[derive(Clone, Copy, Debug, PartialEq, Eq)]
 pub struct TxnNo(pub u64);

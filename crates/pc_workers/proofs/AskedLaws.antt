@@ -7,7 +7,7 @@ use Rattle.pc_types.specs.declared.Reply.TheVariants as told
 use Rattle.pc_model.specs.History.{History, is_open}
 use Rattle.pc_model.specs.Replies.{Setting}
 use Rattle.pc_model.specs.Calls.{step_of, Extends, IsAnswered}
-use Rattle.pc_receipts.specs.declared.got.Got.TheVariants as got
+use Rattle.pc_txn.specs.declared.got.Got.TheVariants as got
 use Rattle.pc_jobs.specs.declared.works.Op.{Op}
 use Rattle.pc_jobs.specs.declared.works.Op.TheVariants.{Get, Put, Del}
 use Rattle.pc_shared.specs.declared.session.Answer.{Answer}

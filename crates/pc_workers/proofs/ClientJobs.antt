@@ -14,7 +14,7 @@ use Rattle.pc_model.specs.Replies.{Setting}
 use Rattle.pc_model.specs.Calls.{step_of, Extends}
 use Rattle.pc_model.specs.Receipts.{Own, own_of}
 use Rattle.pc_model.proofs.SessionCallLaws.{makes_own}
-use Rattle.pc_receipts.specs.declared.got.Got.TheVariants as got
+use Rattle.pc_txn.specs.declared.got.Got.TheVariants as got
 use Rattle.pc_jobs.specs.declared.works.Job.{Job}
 use Rattle.pc_jobs.specs.declared.works.Op.{Op}
 use Rattle.pc_shared.specs.declared.session.Answer.{Answer}

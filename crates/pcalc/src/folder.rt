@@ -1,8 +1,8 @@
 //! The files of a folder: those that recovery reads, and those that a run makes.
 use crate::late::LateFile;
+use pc_restore::Folder;
 use pc_runs::{NewFiles, RunFolder, Unusable};
-use pc_script::{Folder, NamedFile, report};
-use pc_texts::{FileName, part_name};
+use pc_texts::{FileName, NamedFile, part_name, report};
 use pc_types::{Refusal, Tally, read_all};
 use std::alloc::{AllocError, Global};
 use std::fs::{File, Files};

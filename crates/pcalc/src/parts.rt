@@ -2,7 +2,7 @@
 use crate::folder::why_not;
 use crate::late::LateFile;
 use pc_collapse_files::Maker;
-use pc_script::NamedFile;
+use pc_texts::NamedFile;
 use pc_types::Refusal;
 use std::alloc::AllocError;
 use std::fs::File;

@@ -6,7 +6,7 @@ use crate::parts::{NewFile, open_named};
 use crate::progress::{Asked, Behind, Progress};
 use pc_collapse_files::Maker;
 use pc_runs::{Crew, NamedFolder, Origin, Start, run_workload};
-use pc_script::{NamedFile, report};
+use pc_texts::{NamedFile, report};
 use pc_types::{Refusal, Tally};
 use std::alloc::AllocError;
 use std::fs::File;

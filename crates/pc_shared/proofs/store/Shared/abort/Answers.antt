@@ -4,7 +4,7 @@ use Rattle.pc_types.specs.declared.Refusal.{Refusal}
 use Rattle.pc_types.specs.declared.Reply.TheVariants.{Aborted, Refused}
 use Rattle.pc_model.specs.Calls.{step_of, IsAnswered}
 use Rattle.pc_model.specs.Calls.AsksOpen.{Aborts}
-use Rattle.pc_receipts.specs.Notes.{kept_in}
+use Rattle.pc_txn.specs.Notes.{kept_in}
 use Rattle.pc_shared.specs.Sitters.{Sitter, Keeps}
 use Rattle.pc_shared.proofs.Keeping.{abort_keeps, step_found}
 use Rattle.pc_shared.proofs.store.Shared.abort.Goals as goal

@@ -2,7 +2,7 @@ use Rattle.std.proofs.Common.{ℕ, sym, ap, ◌∙◌, subst}
 use Rattle.pc_types.specs.declared.Event.TheVariants.{Begin}
 use Rattle.pc_types.specs.declared.Reply.TheVariants.{Begun}
 use Rattle.pc_model.specs.Calls.{step_of}
-use Rattle.pc_receipts.specs.Notes.{kept_in}
+use Rattle.pc_txn.specs.Notes.{kept_in}
 use Rattle.pc_shared.specs.Sitters.{Keeps}
 use Rattle.pc_shared.proofs.Keeping.{begin_keeps, step_found}
 use Rattle.pc_shared.proofs.store.Shared.begin.Goals as goal

@@ -7,7 +7,7 @@ use Rattle.pc_types.specs.declared.Reply.TheVariants.{Committed, Refused}
 use Rattle.pc_model.specs.Calls.{step_of, IsAnswered}
 use Rattle.pc_model.specs.Calls.AsksOpen.{Commits}
 use Rattle.pc_model.specs.Receipts.{own_of}
-use Rattle.pc_receipts.specs.Notes.{kept_in}
+use Rattle.pc_txn.specs.Notes.{kept_in}
 use Rattle.pc_shared.specs.Sitters.{Sitter, Keeps}
 use Rattle.pc_shared.proofs.Keeping.{commit_keeps, step_found}
 use Rattle.pc_shared.proofs.store.Shared.commit.Goals as goal

@@ -1,7 +1,7 @@
 use Rattle.std.proofs.Common.{◌≡◌, ℕ, List, sym, ap, ◌∙◌, subst}
 use Rattle.pc_model.specs.Receipts.{Read}
 use Rattle.pc_shared.specs.Asked.{IsGot}
-use Rattle.pc_receipts.specs.Notes.{reads_after}
+use Rattle.pc_txn.specs.Notes.{reads_after}
 use Rattle.pc_types.specs.declared.Event.TheVariants as asked
 use Rattle.pc_types.specs.declared.Refusal.{Refusal}
 use Rattle.pc_types.specs.declared.Reply.TheVariants.{Refused}

@@ -8,7 +8,7 @@ use Rattle.pc_types.specs.declared.Reply.TheVariants.{Refused}
 use Rattle.pc_model.specs.Calls.{IsAnswered}
 use Rattle.pc_model.specs.Calls.AsksOpen.{Puts}
 use Rattle.pc_shared.specs.Sitters.{Sitter, Keeps}
-use Rattle.pc_receipts.specs.Notes.{kept_in}
+use Rattle.pc_txn.specs.Notes.{kept_in}
 use Rattle.pc_shared.proofs.Keeping.{write_keeps, died_keeps, made_found}
 use Rattle.pc_shared.proofs.store.Shared.put.Goals as goal
 

@@ -1,7 +1,7 @@
 use Rattle.std.proofs.Common.{◌≡◌, Bool, cond, ap, subst, ◌∙◌}
 use Rattle.std.specs.Prelude.{IfErr}
 use Rattle.std.proofs.lemmas.Bool.{eq-eqb}
-use Rattle.pc_arena.specs.Slots.{Slots}
+use Rattle.pc_table.specs.Slots.{Slots}
 use Rattle.pc_types.specs.declared.refusal.Refusal.{Refusal}
 use Rattle.pc_table.specs.declared.entry.Entry.{Entry}
 use Rattle.pc_table.specs.Entries.{contents_of}

@@ -1,0 +1,18 @@
+-- How many events a checkpointer asked.
+use Rattle.std.specs.Prelude.{ℕ, ◌+◌, ◌*◌}
+use Rattle.bench_calls.specs.declared.commits.Asked.{Asked}
+use Rattle.bench_calls.specs.declared.commits.Stage.{Stage}
+use Rattle.bench_calls.specs.declared.commits.Stage.TheVariants as stage
+
+-- how many events a cycle has before this one, those apart that took a key or were put off
+abbrev pub steps_before : Stage → ℕ
+steps_before stage.Point = 0
+steps_before stage.Seal = 1
+steps_before stage.Capture = 2
+steps_before stage.Take = 3
+steps_before stage.Done = 4
+steps_before stage.Rest = 5
+
+-- all events: six for each cycle that came to rest, those of the present one, those that took a key and those put off
+abbrev pub events_of : Asked → ℕ
+events_of asked = 6 * asked.points + steps_before asked.next + asked.taken + asked.delays

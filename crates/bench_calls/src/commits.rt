@@ -1,0 +1,212 @@
+//! Commits of one write each, with and without checkpoints beside them.
+ghost use Rattle.std.specs.Prelude.{◌≡◌, ◌<◌, ◌≤◌, ◌^◌, ◌+◌, true, false, IfOk};
+ghost use Rattle.bench_calls.specs.Commits.{events_of};
+
+use crate::failure::Failure;
+use crate::options::Rounds;
+use crate::pairs::scattered;
+use crate::stepped::{SESSION, ask, put, step};
+use pc_engine::World;
+use pc_part::Base;
+use pc_types::{Event, Refusal, Reply};
+use std::alloc::Global;
+use std::hash::RandomState;
+use std::rt::Clock;
+use std::time::{Duration, Instant};
+
+/// What a checkpointer asks next.
+#[derive(Clone, Copy)]
+pub enum Stage {
+    /// That a cycle begins.
+    Point,
+    /// The point of consistency.
+    Seal,
+    /// That the capture opens.
+    Capture,
+    /// A key of the point.
+    Take,
+    /// That the point's part goes on the shelf.
+    Done,
+    /// That the cycle ends.
+    Rest,
+}
+
+/// What came of the events that a checkpointer asked.
+#[derive(Clone, Copy)]
+pub struct Asked {
+    pub next: Stage,
+    /// How many cycles came to rest.
+    pub points: u32,
+    /// How many keys were taken.
+    pub taken: u32,
+    /// How many changes of the phase were put off.
+    pub delays: u32,
+}
+
+/// What came of commits.
+#[derive(Clone, Copy)]
+pub struct Committed {
+    /// How many transactions were committed.
+    pub committed: u32,
+    /// What the checkpointer did meanwhile.
+    pub asked: Asked,
+    /// How long all of it took.
+    pub time: Duration,
+}
+
+/// Commits so many transactions of one write each, over keys that go round, in a store that has room for just these keys.
+/// Where points are asked for, the checkpointer asks one event after each commit, each cycle right after the one before,
+/// and every event is either one that took a key, one that was put off, or one of a cycle's six others. Else none is asked.
+pub fn measure_commits(
+    alloc: Global,
+    clock: &impl Clock,
+    seed: RandomState,
+    rounds: Rounds,
+) -> Result<Committed, Failure>
+    ensures committed { IfOk result (λ done. done.committed ≡ rounds.commits) }
+    ensures points { rounds.has_points ≡ true → IfOk result (λ done. events_of done.asked ≡ rounds.commits) }
+    ensures none { rounds.has_points ≡ false → IfOk result (λ done. events_of done.asked ≡ 0) }
+{
+    let mut world = World::new(alloc, Base::start(1, Vec::new(alloc)), 1, rounds.keys, seed)?;
+    commit_timed(alloc, clock, &mut world, rounds)
+}
+
+// The same in a store that is there.
+fn commit_timed(
+    alloc: Global,
+    clock: &impl Clock,
+    world: &mut World,
+    rounds: Rounds,
+) -> Result<Committed, Failure>
+    ensures committed { IfOk result (λ done. done.committed ≡ rounds.commits) }
+    ensures points { rounds.has_points ≡ true → IfOk result (λ done. events_of done.asked ≡ rounds.commits) }
+    ensures none { rounds.has_points ≡ false → IfOk result (λ done. events_of done.asked ≡ 0) }
+{
+    let start = Instant::now(clock)?;
+    let (committed, asked) = commit_all(alloc, world, rounds)?;
+    let time = start.elapsed(clock)?;
+    Ok(Committed {
+        committed,
+        asked,
+        time,
+    })
+}
+
+// Commits the transactions, and counts them and what was asked.
+fn commit_all(alloc: Global, world: &mut World, rounds: Rounds) -> Result<(u32, Asked), Refusal>
+    ensures committed { IfOk result (λ done. done.0 ≡ rounds.commits) }
+    ensures points { rounds.has_points ≡ true → IfOk result (λ done. events_of done.1 ≡ rounds.commits) }
+    ensures none { rounds.has_points ≡ false → IfOk result (λ done. events_of done.1 ≡ 0) }
+{
+    let mut committed = 0;
+    let mut asked = none_asked();
+    for number in 0..rounds.commits {
+        commit_one(alloc, world, number % rounds.keys)?;
+        committed += 1;
+        asked = ask_beside(world, asked, rounds.has_points)?;
+    }
+    Ok((committed, asked))
+}
+
+// A checkpointer that asked nothing yet.
+fn none_asked() -> Asked
+    ensures { events_of result ≡ 0 }
+{
+    Asked {
+        next: Stage::Point,
+        points: 0,
+        taken: 0,
+        delays: 0,
+    }
+}
+
+// One transaction, which writes the key of this number.
+fn commit_one(alloc: Global, world: &mut World, number: u32) -> Result<(), Refusal> {
+    step(world, &Event::Begin(SESSION))?;
+    put(alloc, world, scattered(number))?;
+    match ask(world, &Event::Commit(SESSION))? {
+        Reply::Committed(_) => Ok(()),
+        _ => Err(Refusal::MustAbort),
+    }
+}
+
+// Asks the next event where points are asked for.
+fn ask_beside(world: &mut World, asked: Asked, has_points: bool) -> Result<Asked, Refusal>
+    requires room { events_of asked + 1 < 2 ^ 32 }
+    ensures points { has_points ≡ true → IfOk result (λ now. events_of now ≡ events_of asked + 1) }
+    ensures none { has_points ≡ false → IfOk result (λ now. events_of now ≡ events_of asked) }
+    ensures most { IfOk result (λ now. events_of now ≤ events_of asked + 1) }
+{
+    if has_points {
+        ask_next(world, asked)
+    } else {
+        Ok(asked)
+    }
+}
+
+// Asks the next event.
+fn ask_next(world: &mut World, asked: Asked) -> Result<Asked, Refusal>
+    requires room { events_of asked + 1 < 2 ^ 32 }
+    ensures { IfOk result (λ now. events_of now ≡ events_of asked + 1) }
+{
+    let reply = ask(world, &event_at(asked.next))?;
+    Ok(match reply {
+        Reply::Took(_, _) => with_taken(asked),
+        Reply::NotYet(_) => with_delay(asked),
+        _ => with_change(asked),
+    })
+}
+
+// The event of this stage.
+fn event_at(stage: Stage) -> Event {
+    match stage {
+        Stage::Point => Event::StartPoint,
+        Stage::Seal => Event::Seal,
+        Stage::Capture => Event::OpenCapture,
+        Stage::Take => Event::Take,
+        Stage::Done => Event::Done,
+        Stage::Rest => Event::Rest,
+    }
+}
+
+// Once a key was taken.
+fn with_taken(asked: Asked) -> Asked
+    requires room { events_of asked + 1 < 2 ^ 32 }
+    ensures { events_of result ≡ events_of asked + 1 }
+{
+    Asked {
+        taken: asked.taken + 1,
+        ..asked
+    }
+}
+
+// Once a change was put off.
+fn with_delay(asked: Asked) -> Asked
+    requires room { events_of asked + 1 < 2 ^ 32 }
+    ensures { events_of result ≡ events_of asked + 1 }
+{
+    Asked {
+        delays: asked.delays + 1,
+        ..asked
+    }
+}
+
+// Once the phase was changed, or no key was left.
+fn with_change(asked: Asked) -> Asked
+    requires room { events_of asked + 1 < 2 ^ 32 }
+    ensures { events_of result ≡ events_of asked + 1 }
+{
+    let mut now = asked;
+    match asked.next {
+        Stage::Point => now.next = Stage::Seal,
+        Stage::Seal => now.next = Stage::Capture,
+        Stage::Capture => now.next = Stage::Take,
+        Stage::Take => now.next = Stage::Done,
+        Stage::Done => now.next = Stage::Rest,
+        Stage::Rest => {
+            now.next = Stage::Point;
+            now.points += 1;
+        }
+    }
+    now
+}

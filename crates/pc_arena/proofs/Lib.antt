@@ -1,5 +1,0 @@
-mod Columns
-mod FreeLists
-mod Keeping
-mod Padding
-pub mod SlotLaws

@@ -1,5 +1,0 @@
-use Rattle.pc_bench.proofs.runs.run_calls.Given as goal
-
--- the name of the store that was just opened
-abbrev pub ghosts-call_by_one : goal.ghosts-call_by_one
-ghosts-call_by_one g a = record { name = a.opened }

@@ -1,0 +1,3 @@
+mod HeadedLaws
+mod TakenLaws
+mod MovedEntries

@@ -1,0 +1,93 @@
+//! Parts that are shared by reference count.
+ghost use Rattle.std.specs.Prelude.{◌≡◌, ◌≤◌, [], length, IfOk, IfErr, OnOk, OnErr};
+ghost use Rattle.pc_model.specs.Sets as set;
+ghost use Rattle.pc_model.specs.Files.{triples_taken};
+ghost use Rattle.pc_part.specs.Bases.{IsWithinLimit};
+
+use crate::taken::Taken;
+use pc_part::Part;
+use pc_types::{Point, Refusal};
+use std::alloc::Global;
+use std::marker::Model;
+use std::sync::Arc;
+
+/// An owner of a part that others may own too, in any threads: at most 9,223,372,036,854,775,807 of one part. The part
+/// goes with its last owner. A contract sees the part's file.
+#[derive(Drop)]
+pub struct SharedPart {
+    part: Arc<Part>,
+}
+
+impl Model for SharedPart {
+    ghost use Rattle.std.specs.Arc.{arc_value};
+    ghost use Rattle.pc_model.specs.Files.{File};
+    ghost use Rattle.pc_part.specs.Parts.{file_code};
+
+    ghost Value = { File };
+
+    ghost coded = { file_code };
+
+    ghost view = { λ s. arc_value s.part };
+}
+
+impl SharedPart {
+    /// The part, with one owner. Refuses with `OutOfMemory` alone; the part is let go then, so whoever may have to ask
+    /// again keeps what it was made of.
+    pub fn new(alloc: Global, part: Part) -> Result<SharedPart, Refusal>
+        ensures part { IfOk result (λ shared. shared ≡ part) }
+        ensures memory { IfErr result (λ e. e ≡ Refusal.OutOfMemory) }
+    {
+        match Arc::new(alloc, part) {
+            Ok(part) => Ok(SharedPart { part }),
+            Err(_) => Err(Refusal::OutOfMemory),
+        }
+    }
+
+    /// The part of the point, of what was taken of it, with one owner, and how many entries it has: what was taken is moved
+    /// into it, and nothing is copied; then nothing is left of it where it was. It is at most as much as a file may have. All
+    /// memory is made before anything is moved. Refuses with `OutOfMemory` alone; what was taken is then as it was.
+    pub fn of_taken(
+        alloc: Global,
+        run: u64,
+        point: Point,
+        taken: &mut Taken,
+    ) -> Result<(SharedPart, u32), Refusal>
+        requires point { 1 ≤ point }
+        requires limit { IsWithinLimit taken.old }
+        ensures part { IfOk result (λ made. made.0 ≡ record { run = run; points = set.insert set.empty point; triples = triples_taken point taken.old }) }
+        ensures count { IfOk result (λ made. made.1 ≡ length taken.old) }
+        ensures moved { OnOk result (taken.new ≡ []) }
+        ensures kept { OnErr result (taken.new ≡ taken.old) }
+        ensures memory { IfErr result (λ e. e ≡ Refusal.OutOfMemory) }
+    {
+        let room = Vec::with_capacity(alloc, taken.room())?;
+        let part = Part::empty(alloc, run, point)?;
+        let mut shared = SharedPart::new(alloc, part)?;
+        let Some(part) = Arc::get_mut(&mut shared.part) else {
+            return Err(Refusal::OutOfMemory);
+        };
+        let entries = taken.move_into(room, point);
+        let count = entries.len() as u32;
+        part.set_entries(entries);
+        Ok((shared, count))
+    }
+
+    /// One more owner of the same part. It takes a constant time and no memory, and copies nothing. Refuses with
+    /// `OutOfMemory` alone, which stands for the greatest number of owners.
+    pub fn again(&self) -> Result<SharedPart, Refusal>
+        ensures same { IfOk result (λ shared. shared ≡ self.now) }
+        ensures owners { IfErr result (λ e. e ≡ Refusal.OutOfMemory) }
+    {
+        match Arc::try_clone(&self.part) {
+            Ok(part) => Ok(SharedPart { part }),
+            Err(_) => Err(Refusal::OutOfMemory),
+        }
+    }
+
+    /// The part.
+    pub fn part(&self) -> &Part
+        ensures { result.now ≡ self.now }
+    {
+        &*self.part
+    }
+}

@@ -1,0 +1,116 @@
+//! The two sets.
+ghost use Rattle.std.specs.Prelude.{◌≡◌, ◌<◌, ◌+◌, ◌^◌, ◌∷◌, ◌++◌, ◌↔◌, [], ℕ, List, length, IsTrue};
+ghost use Rattle.pc_chain.specs.Chains.{first_of, rest_of, Avoids};
+ghost use Rattle.pc_chain.specs.Sets.{other_side, place_of, AreSets, AreEmpty};
+
+use crate::chain::Chain;
+use crate::links::Links;
+use crate::side::{Place, Side};
+use pc_types::SlotId;
+
+/// Two sets of slots, the open one and the closed one; a slot can be in both. Each is a list without repeats, in the order of
+/// first addition. The sets have their ends alone: each slot's links, one on either side, are kept by whoever is given at each
+/// call, in the words that the call's marker `K` names, and so is whether a slot is in a set. No call takes memory, none goes
+/// over the slots, and each succeeds.
+#[derive(Clone, Copy)]
+pub struct Dirty {
+    opened: Chain<Place>,
+    closed: Chain<Place>,
+    side: Side,
+    open_count: u32,
+    closed_count: u32,
+}
+
+impl Dirty {
+    /// Two empty sets, over any links.
+    pub fn new() -> Self
+        ensures { AreEmpty result }
+    {
+        Dirty {
+            opened: Chain::new(),
+            closed: Chain::new(),
+            side: Side::First,
+            open_count: 0,
+            closed_count: 0,
+        }
+    }
+
+    /// The side of the open set; the closed one is on the other.
+    pub fn open_side(&self) -> Side
+        ensures { result ≡ self.now.side }
+    {
+        let Dirty { side, .. } = *self;
+        side
+    }
+
+    /// Adds a slot, which isn't in the open set, at its end.
+    pub fn add<K, L: Links<K, Id = Place>>(&mut self, links: &mut L, slot: SlotId)
+        requires has { L.has links.old (place_of self.old.side slot) }
+        requires stands { (opened closed : List ℕ) × AreSets (L.has links.old) (L.next_of links.old) self.old opened closed × Avoids slot opened × (length opened + 1 < 2 ^ 32) }
+        ensures sets { (opened closed : List ℕ) → AreSets (L.has links.old) (L.next_of links.old) self.old opened closed → Avoids slot opened → AreSets (L.has links.new) (L.next_of links.new) self.new (opened ++ slot ∷ []) closed }
+        ensures side { self.new.side ≡ self.old.side }
+        ensures has { (other : Place) → L.has links.old other → L.has links.new other }
+        ensures beside { L.beside links.old links.new }
+    {
+        let side = self.side;
+        self.open_count += 1;
+        self.opened.push_back(links, Place { slot, side });
+    }
+
+    /// Makes the open set the closed one, which has to be empty. The open set is then empty. The sides are turned, and no
+    /// slot is looked at.
+    pub fn close<K, L: Links<K, Id = Place>>(&mut self, links: &L)
+        requires { (opened : List ℕ) × AreSets (L.has links.now) (L.next_of links.now) self.old opened [] }
+        ensures sets { (opened : List ℕ) → AreSets (L.has links.now) (L.next_of links.now) self.old opened [] → AreSets (L.has links.now) (L.next_of links.now) self.new [] opened }
+        ensures side { self.new.side ≡ other_side self.old.side }
+    {
+        self.closed = self.opened;
+        self.opened = Chain::new();
+        self.closed_count = self.open_count;
+        self.open_count = 0;
+        self.side = self.side.other();
+    }
+
+    /// The first slot of the closed set; None where the set is empty.
+    pub fn first_closed<K, L: Links<K, Id = Place>>(&self, links: &L) -> Option<SlotId>
+        ensures { (opened closed : List ℕ) → AreSets (L.has links.now) (L.next_of links.now) self.now opened closed → result ≡ first_of closed }
+    {
+        let place = self.closed.first(links)?;
+        Some(place.slot)
+    }
+
+    /// Takes the first slot out of the closed set and gives it; None where the set is empty. No link changes.
+    pub fn pop_closed<K, L: Links<K, Id = Place>>(&mut self, links: &L) -> Option<SlotId>
+        requires { (opened closed : List ℕ) × AreSets (L.has links.now) (L.next_of links.now) self.old opened closed }
+        ensures given { (opened closed : List ℕ) → AreSets (L.has links.now) (L.next_of links.now) self.old opened closed → result ≡ first_of closed }
+        ensures sets { (opened closed : List ℕ) → AreSets (L.has links.now) (L.next_of links.now) self.old opened closed → AreSets (L.has links.now) (L.next_of links.now) self.new opened (rest_of closed) }
+        ensures side { self.new.side ≡ self.old.side }
+    {
+        let place = self.closed.pop_front(links)?;
+        self.closed_count -= 1;
+        Some(place.slot)
+    }
+
+    /// Whether the closed set has no slot.
+    pub fn closed_is_empty<K, L: Links<K, Id = Place>>(&self, links: &L) -> bool
+        ensures { (opened closed : List ℕ) → AreSets (L.has links.now) (L.next_of links.now) self.now opened closed → IsTrue result ↔ (closed ≡ []) }
+    {
+        self.closed_len(links) == 0
+    }
+
+    /// How many slots are in the closed set; a count that is kept.
+    pub fn closed_len<K, L: Links<K, Id = Place>>(&self, _links: &L) -> u32
+        ensures { (opened closed : List ℕ) → AreSets (L.has _links.now) (L.next_of _links.now) self.now opened closed → result ≡ length closed }
+    {
+        let Dirty { closed_count, .. } = *self;
+        closed_count
+    }
+
+    /// How many slots are in the open set; a count that is kept.
+    pub fn open_len<K, L: Links<K, Id = Place>>(&self, _links: &L) -> u32
+        ensures { (opened closed : List ℕ) → AreSets (L.has _links.now) (L.next_of _links.now) self.now opened closed → result ≡ length opened }
+    {
+        let Dirty { open_count, .. } = *self;
+        open_count
+    }
+}

@@ -1,8 +1,0 @@
-//! Which slots changed: an open set, which takes more, and a closed one, which is emptied from the front.
-#![tactic(auto)]
-
-mod dirty;
-mod side;
-
-pub use dirty::Dirty;
-pub use side::{Place, Side};

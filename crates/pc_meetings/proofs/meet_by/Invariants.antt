@@ -1,5 +1,0 @@
-use Rattle.pc_meetings.proofs.meet_by.Given as goal
-
--- the name of the store that was just opened
-abbrev pub ghosts-meet : goal.ghosts-meet
-ghosts-meet g a = record { name = a.opened }

@@ -1,5 +1,0 @@
-use Rattle.pc_meetings.proofs.run_example.Given as goal
-
--- the name of the store that was just opened
-abbrev pub ghosts-use_store : goal.ghosts-use_store
-ghosts-use_store g a = record { name = a.opened }

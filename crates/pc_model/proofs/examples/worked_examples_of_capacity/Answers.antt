@@ -1,5 +1,0 @@
-use Rattle.pc_model.proofs.ExamplesOfCapacity.{examples_of_capacity}
-use Rattle.pc_model.proofs.examples.worked_examples_of_capacity.Goals as goal
-
-pub returns : goal.returns
-returns c = examples_of_capacity

@@ -1,5 +1,0 @@
-use Rattle.pc_model.proofs.ExamplesOfFiles.{examples_of_files}
-use Rattle.pc_model.proofs.examples.worked_examples_of_files.Goals as goal
-
-pub returns : goal.returns
-returns c = examples_of_files

@@ -1,5 +1,0 @@
-use Rattle.pc_model.proofs.ExamplesOfHeadlines.{examples_of_headlines}
-use Rattle.pc_model.proofs.examples.worked_examples_of_headlines.Goals as goal
-
-pub returns : goal.returns
-returns c = examples_of_headlines

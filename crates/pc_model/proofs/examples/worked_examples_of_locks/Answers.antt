@@ -1,5 +1,0 @@
-use Rattle.pc_model.proofs.ExamplesOfLocks.{examples_of_locks}
-use Rattle.pc_model.proofs.examples.worked_examples_of_locks.Goals as goal
-
-pub returns : goal.returns
-returns c = examples_of_locks

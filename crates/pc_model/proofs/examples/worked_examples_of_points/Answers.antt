@@ -1,5 +1,0 @@
-use Rattle.pc_model.proofs.ExamplesOfPoints.{examples_of_points}
-use Rattle.pc_model.proofs.examples.worked_examples_of_points.Goals as goal
-
-pub returns : goal.returns
-returns c = examples_of_points

@@ -1,5 +1,0 @@
-use Rattle.pc_model.proofs.ExamplesOfRefusals.{examples_of_refusals}
-use Rattle.pc_model.proofs.examples.worked_examples_of_refusals.Goals as goal
-
-pub returns : goal.returns
-returns c = examples_of_refusals

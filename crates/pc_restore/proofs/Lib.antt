@@ -1,0 +1,3 @@
+mod FolderBases
+mod FolderParts
+mod FolderRecovery

@@ -1,0 +1,26 @@
+use Rattle.std.proofs.Common.{inl, inr, subst}
+use Rattle.pc_recover.specs.Recovery.{IsOfRun}
+use Rattle.pc_restore.proofs.FolderRecovery.{memory_or, same_recovery}
+use Rattle.pc_restore.proofs.recovery.recover_read.Goals as goal
+
+pub returns-in-Err-clause-cause : goal.returns-in-Err-clause-cause
+returns-in-Err-clause-cause g c = (
+  inr (
+    c.in_ok-files.ensures.opened,
+    elim (memory_or c.in-Err.why) [
+      | inl memory ↦ inl memory
+      | inr other ↦ inr (λ base names parts log holds.
+          let held = c.in_ok-files.ensures.held base names parts log holds in
+          same_recovery _ _ _ _ _ _ _ held.0 held.2 held.3 (c.in-Err.ensures.rules other))
+    ],
+  ),
+  λ e. cc,
+)
+
+pub returns-clause-worth : goal.returns-clause-worth
+returns-clause-worth g c base names parts log holds =
+    let held = c.in_ok-files.ensures.held base names parts log holds in (
+      held.1,
+      same_recovery _ _ _ _ _ _ _ held.0 held.2 held.3 c.in-Ok.ensures.rules,
+      subst (λ bytes. IsOfRun bytes c.in-Ok.recovered.run) held.0 c.in-Ok.ensures.run,
+    )

@@ -1,0 +1,49 @@
+-- A base for a run that goes on from a folder: what it is, what is told of what the folder lacks, and why there may be none.
+use Rattle.std.specs.Prelude.{◌≡◌, ◌≢◌, ◌⊎◌, ◌+◌, ◌≤◌, ◌<◌, ◌^◌, ℕ, List, Option, Result, Ok}
+use Rattle.pc_types.specs.declared.limits.TheConstants.{MOST_FILE_ENTRIES}
+use Rattle.pc_types.specs.declared.refusal.Refusal.{Refusal}
+use Rattle.pc_types.specs.declared.refusal.Refusal.TheVariants.{Full}
+use Rattle.pc_types.specs.declared.tally.Tally.{Tally}
+use Rattle.pc_types.specs.Tallies.{Puts}
+use Rattle.pc_model.specs.Files.{BaseFile}
+use Rattle.pc_model.specs.Maps.{len}
+use Rattle.pc_recover.specs.Recovery.{IsOfRun, Recovery, recovery}
+use Rattle.pc_restore.specs.declared.recovery.Folder.{Folder}
+use Rattle.pc_restore.specs.declared.recovery.Lost.{Lost}
+use Rattle.pc_restore.specs.declared.recovery.Lost.TheVariants as lost
+use Rattle.pc_restore.specs.Reports.{damage_text}
+use Rattle.pc_restore.specs.Recoveries.{AreAllOpened, HoldsAll, IsLost}
+
+-- what the bytes of a base, of parts and of a log are worth, and of which run they are
+pub record IsWorth (base : List ℕ) (parts : List (List ℕ)) (log : List ℕ) (run : ℕ) (found : Recovery) : Type 0 where
+  pub recovered : recovery base parts log ≡ Ok found
+  pub of_run : IsOfRun base run
+
+-- what was found of a run, as the base of the next one, which stands at point 0
+abbrev pub next_base : ℕ → Recovery → BaseFile
+next_base run found = record { run = run + 1; point = 0; pairs = found.pairs }
+
+-- it is told what of the parts with these names and of the log is damaged or was skipped, as far as the writer takes it
+abbrev pub TellsDamage : {T : Type 0} → (T → Option (List ℕ)) → Tally T → Tally T → List (List ℕ) → Recovery → Type 0
+TellsDamage contents old new names found = (told : Result (Unit {0}) Refusal) × Puts contents old new told (damage_text names found)
+
+-- The base was made of a folder of which every file was opened, and stands at point 0. Where the files' bytes are known it is what
+-- they are worth, as the next run's base, and what is damaged was told.
+pub record IsMade {R T : Type 0} (remaining : R → Option (List ℕ)) (contents : T → Option (List ℕ)) (folder : Folder R) (old new : Tally T) (made : BaseFile) : Type 0 where
+  pub opened : AreAllOpened folder
+  pub start : made.point ≡ 0
+  pub worth : (base : List ℕ) (names parts : List (List ℕ)) (log : List ℕ) → HoldsAll remaining folder base names parts log →
+      (run : ℕ) × (found : Recovery) × IsWorth base parts log run found × (made ≡ next_base run found) × TellsDamage contents old new names found
+
+-- the next run's number, or the count of the pairs, is more than a base may have
+abbrev pub HasNoNext : ℕ → Recovery → Type 0
+HasNoNext run found = (2 ^ 64 ≤ run + 1) ⊎ (MOST_FILE_ENTRIES < len found.pairs)
+
+-- something was recovered, but there is no base of it; said where the files' bytes are known
+abbrev pub IsPastLimits : {R : Type 0} → (R → Option (List ℕ)) → Folder R → Type 0
+IsPastLimits remaining folder = (base : List ℕ) (names parts : List (List ℕ)) (log : List ℕ) → HoldsAll remaining folder base names parts log →
+    (run : ℕ) × (found : Recovery) × IsWorth base parts log run found × HasNoNext run found
+
+-- why no base is made of a folder: nothing is recovered, or there is no base of it
+abbrev pub IsUnmade : {R : Type 0} → (R → Option (List ℕ)) → Folder R → Lost → Type 0
+IsUnmade remaining folder cause = (IsLost remaining folder cause × (cause ≢ lost.Output)) ⊎ ((cause ≡ lost.Folder Full) × AreAllOpened folder × IsPastLimits remaining folder)

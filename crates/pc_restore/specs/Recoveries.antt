@@ -1,0 +1,115 @@
+-- A recovery of a folder: what its files hold, what it prints, and why it may fail.
+use Rattle.std.specs.Prelude.{◌≡◌, ◌≢◌, ◌⊎◌, ℕ, List, [], ◌∷◌, ◌++◌, Option, Some, map, codes, Ok, Err, IsOk, IfErr, ⊤}
+use Rattle.std.specs.declared.result.Result.{Result}
+use Rattle.std.specs.Global.{Vec}
+use Rattle.pc_types.specs.declared.refusal.Refusal.{Refusal}
+use Rattle.pc_types.specs.declared.refusal.Refusal.TheVariants.{OutOfMemory, NoFile}
+use Rattle.pc_types.specs.Counted.{HasRisen, AppendsBeginning}
+use Rattle.pc_types.specs.Tallies.{inner_of, failures_of}
+use Rattle.pc_types.specs.declared.tally.Tally.{Tally}
+use Rattle.pc_recover.specs.Recovery.{Recovery, recovery}
+use Rattle.pc_restore.specs.declared.recovery.Folder.{Folder}
+use Rattle.pc_texts.specs.declared.files.NamedFile.{NamedFile}
+use Rattle.pc_restore.specs.declared.recovery.PartBytes.{PartBytes}
+use Rattle.pc_restore.specs.declared.recovery.Lost.{Lost}
+use Rattle.pc_restore.specs.declared.recovery.Lost.TheVariants as lost
+use Rattle.pc_restore.specs.Reports.{recovery_text}
+use Rattle.pc_texts.specs.Files.{IsScriptFault, Holds, AreOpened, TellsOf}
+
+-- the names of the parts, in their order
+abbrev pub names_of : List PartBytes → List (List ℕ)
+names_of parts = map (λ (part : PartBytes). part.name.items) parts
+
+-- the bytes of the parts, in their order
+abbrev pub bytes_of : List PartBytes → List (List ℕ)
+bytes_of parts = map (λ (part : PartBytes). part.bytes.items) parts
+
+-- a log holds these bytes; one that isn't there holds none
+abbrev pub HoldsLog : {R : Type 0} → (R → Option (List ℕ)) → Result R Refusal → List ℕ → Type 0
+HoldsLog remaining (Ok reader) bytes = remaining reader ≡ Some bytes
+HoldsLog remaining (Err why) bytes = (why ≡ NoFile) × (bytes ≡ [])
+
+-- files of these names hold these bytes, each its own
+abbrev pub HoldEach : {R : Type 0} → (R → Option (List ℕ)) → List (NamedFile R) → List (List ℕ) → List (List ℕ) → Type 0
+HoldEach remaining [] [] [] = ⊤
+HoldEach remaining (file ∷ files) (name ∷ names) (bytes ∷ parts) = (file.name.items ≡ name) × Holds remaining file.opened bytes × HoldEach remaining files names parts
+HoldEach remaining files names parts = ⊥
+
+-- the parts of a folder that could be listed
+abbrev pub HoldParts : {R : Type 0} → (R → Option (List ℕ)) → Result (Vec (NamedFile R)) Refusal → List (List ℕ) → List (List ℕ) → Type 0
+HoldParts remaining (Ok files) names parts = HoldEach remaining files.items names parts
+HoldParts remaining (Err why) names parts = ⊥
+
+-- the folder holds this base, these parts by their names, and this log
+pub record HoldsAll {R : Type 0} (remaining : R → Option (List ℕ)) (folder : Folder R) (base : List ℕ) (names parts : List (List ℕ)) (log : List ℕ) : Type 0 where
+  pub base_holds : Holds remaining folder.base base
+  pub parts_hold : HoldParts remaining folder.parts names parts
+  pub log_holds : HoldsLog remaining folder.log log
+
+-- the parts were listed, and each of them was opened
+abbrev pub ArePartsOpened : {R : Type 0} → Result (Vec (NamedFile R)) Refusal → Type 0
+ArePartsOpened (Ok files) = AreOpened files.items
+ArePartsOpened (Err why) = ⊥
+
+-- the log was opened, or isn't there
+abbrev pub IsLogOpened : {R : Type 0} → Result R Refusal → Type 0
+IsLogOpened opened = IfErr opened (λ why. why ≡ NoFile)
+
+-- every file of the folder was opened
+abbrev pub AreAllOpened : {R : Type 0} → Folder R → Type 0
+AreAllOpened folder = IsOk folder.base × ArePartsOpened folder.parts × IsLogOpened folder.log
+
+-- why a log can't be had: it can't be opened or read; that it isn't there is no fault
+abbrev pub IsLogFault : {R : Type 0} → Result R Refusal → Refusal → Type 0
+IsLogFault opened why = IsScriptFault opened why × (why ≢ NoFile)
+
+-- the first of the files that can't be had has this name: each before it was opened, and it can't be opened or read
+abbrev pub IsFirstLost : {R : Type 0} → List (NamedFile R) → List ℕ → Refusal → Type 0
+IsFirstLost {R} files name why =
+    (before : List (NamedFile R)) × (file : NamedFile R) × (behind : List (NamedFile R))
+    × (files ≡ before ++ file ∷ behind) × AreOpened before × (file.name.items ≡ name) × IsScriptFault file.opened why
+
+-- reading the files fails at one of them, or for want of memory
+abbrev pub IsEachLost : {R : Type 0} → List (NamedFile R) → Lost → Type 0
+IsEachLost files (lost.Part name why) = IsFirstLost files name.items why
+IsEachLost files (lost.Folder why) = why ≡ OutOfMemory
+IsEachLost files other = ⊥
+
+-- the same of files that may not have been listed
+abbrev pub IsListLost : {R : Type 0} → Result (Vec (NamedFile R)) Refusal → Lost → Type 0
+IsListLost (Ok files) cause = IsEachLost files.items cause
+IsListLost (Err why) cause = cause ≡ lost.Folder why
+
+-- the rules refuse what the files hold, or memory ran out
+abbrev pub IsRefused : {R : Type 0} → (R → Option (List ℕ)) → Folder R → Refusal → Type 0
+IsRefused remaining folder why =
+    (why ≡ OutOfMemory) ⊎ ((base : List ℕ) (names parts : List (List ℕ)) (log : List ℕ) → HoldsAll remaining folder base names parts log → recovery base parts log ≡ Err why)
+
+-- Why nothing was recovered. The files are read in order, and a fault is told only where all before it were opened: first the
+-- base can't be had; then the parts can't be listed, or one of them can't be had; then the log; then the rules refuse what all of
+-- them hold; and last the output fails.
+abbrev pub IsLost : {R : Type 0} → (R → Option (List ℕ)) → Folder R → Lost → Type 0
+IsLost remaining folder (lost.Base why) = IsScriptFault folder.base why
+IsLost remaining folder (lost.Part name why) = IsOk folder.base × IsListLost folder.parts (lost.Part name why)
+IsLost remaining folder (lost.Log why) = IsOk folder.base × ArePartsOpened folder.parts × IsLogFault folder.log why
+IsLost remaining folder (lost.Folder why) = (IsOk folder.base × IsListLost folder.parts (lost.Folder why)) ⊎ (AreAllOpened folder × IsRefused remaining folder why)
+IsLost remaining folder lost.Output = AreAllOpened folder
+
+-- a beginning of what is printed of what is recovered went out, and nothing else; said where the files' bytes are known
+abbrev pub PrintsInPart : {R T : Type 0} → (R → Option (List ℕ)) → (T → Option (List ℕ)) → Folder R → Tally T → Tally T → Type 0
+PrintsInPart remaining contents folder old new = (base : List ℕ) (names parts : List (List ℕ)) (log : List ℕ) → HoldsAll remaining folder base names parts log →
+    (found : Recovery) × (recovery base parts log ≡ Ok found) × AppendsBeginning (contents (inner_of old)) (contents (inner_of new)) (recovery_text names found)
+
+-- what went out where nothing was recovered: a beginning where the output failed, which was counted, and else nothing
+abbrev pub GoesOut : {R T : Type 0} → (R → Option (List ℕ)) → (T → Option (List ℕ)) → Folder R → Tally T → Tally T → Lost → Type 0
+GoesOut remaining contents folder old new lost.Output = HasRisen (failures_of old) (failures_of new) × PrintsInPart remaining contents folder old new
+GoesOut remaining contents folder old new other = new ≡ old
+
+-- what is told on the error writer, where the folder has this name: the name of the file or the folder, and the reason; of a
+-- fault of the output nothing
+abbrev pub IsTold : {T : Type 0} → (T → Option (List ℕ)) → Tally T → Tally T → List ℕ → Lost → Type 0
+IsTold contents old new dir (lost.Base why) = TellsOf contents old new (codes "base.pcb") why
+IsTold contents old new dir (lost.Part name why) = TellsOf contents old new name.items why
+IsTold contents old new dir (lost.Log why) = TellsOf contents old new (codes "log.pcl") why
+IsTold contents old new dir (lost.Folder why) = TellsOf contents old new dir why
+IsTold contents old new dir lost.Output = new ≡ old

@@ -1,0 +1,68 @@
+//! A base for a run that goes on from what a folder's files are worth.
+ghost use Rattle.std.specs.Prelude.{◌≡◌, ◌⊎◌, ◌+◌, ◌≤◌, ◌<◌, ◌^◌, None, length, IfErr, IfOk, IfSome};
+ghost use Rattle.pc_types.specs.declared.limits.TheConstants.{MOST_FILE_ENTRIES};
+ghost use Rattle.pc_model.specs.Database.{KeysRise, database_of};
+ghost use Rattle.pc_part.specs.Bases.{IsWithinLimit};
+ghost use Rattle.pc_restore.specs.Bases.{IsMade, IsUnmade};
+
+use crate::recovery::{Folder, Lost, Worth, recover_read};
+use crate::reports::put_damage;
+use pc_part::Base;
+use pc_recover::Recovered;
+use pc_types::{MOST_FILE_ENTRIES, Refusal, Tally};
+use std::alloc::Global;
+use std::io::{Read, Write};
+
+/// A base for a run that goes on from what a folder's files are worth: it has the pairs that are recovered of them, stands at
+/// point 0, and its run has the number behind that of the folder's base. What the folder's files lack is told on the error writer,
+/// as far as it takes that: a line of the fault of the log's rest, where it was not only cut off, and one of each part that was
+/// skipped.
+///
+/// Where nothing is recovered nothing is told, and it is said why. Nor is there a base where the folder's run has the number
+/// 2^64 - 1, behind which there is none, or the pairs are more than the 4,294,967,295 that a base may have: then the folder is
+/// refused with `Full`.
+pub fn recover_base<R: Read + Drop, E: Write>(
+    alloc: Global,
+    folder: Folder<R>,
+    errors: &mut Tally<E>,
+) -> Result<Base, Lost>
+    ensures made { IfOk result (IsMade R.remaining E.contents folder errors.old errors.new) }
+    ensures cause { IfErr result (λ lost. IsUnmade R.remaining folder lost × (errors.new ≡ errors.old)) }
+{
+    let Worth { parts, recovered } = recover_read(alloc, folder)?;
+    match next_run(&recovered) {
+        Some(run) => {
+            let _ = put_damage(errors, &parts, &recovered);
+            Ok(start(run, recovered))
+        }
+        None => Err(Lost::Folder(Refusal::Full)),
+    }
+}
+
+// The number of the run behind the one of which something was recovered; none where it has none, or a base can't have the pairs.
+fn next_run(recovered: &Recovered) -> Option<u64>
+    ensures next { IfSome result (λ run. (run ≡ recovered.now.run + 1) × IsWithinLimit recovered.now.pairs.items) }
+    ensures none { result ≡ None → (2 ^ 64 ≤ recovered.now.run + 1) ⊎ (MOST_FILE_ENTRIES < length recovered.now.pairs.items) }
+{
+    if recovered.pairs.len() > MOST_FILE_ENTRIES {
+        return None;
+    }
+    recovered.run.checked_add(1)
+}
+
+// What was recovered, as the base of a run of this number.
+fn start(run: u64, recovered: Recovered) -> Base
+    requires rise { KeysRise recovered.pairs.items }
+    requires limit { IsWithinLimit recovered.pairs.items }
+    ensures { result ≡ record { run = run; point = 0; pairs = database_of recovered.pairs.items } }
+{
+    let Recovered {
+        run: _,
+        pairs,
+        point: _,
+        entries: _,
+        skipped: _,
+        fault: _,
+    } = recovered;
+    Base::start(run, pairs)
+}

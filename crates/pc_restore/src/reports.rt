@@ -1,0 +1,150 @@
+//! What `pcalc recover` prints. It goes out piece by piece and takes no memory.
+ghost use Rattle.std.specs.Prelude.{◌≡◌, ◌++◌, codes, length, slice_get};
+ghost use Rattle.std.specs.List.{flat_map};
+ghost use Rattle.pc_types.specs.Tallies.{Puts};
+ghost use Rattle.pc_model.specs.Database.{KeysRise};
+ghost use Rattle.pc_recover.specs.Recovery.{recovery_of};
+ghost use Rattle.pc_texts.specs.Texts.{refusal_text};
+ghost use Rattle.pc_restore.specs.Reports.{count_line, counts_text, damage_text, details_text, is_cut, log_line, name_at, pairs_text, recovery_text, skipped_line};
+ghost use Rattle.pc_restore.specs.Recoveries.{names_of};
+
+use crate::recovery::PartBytes;
+use itoa::Buffer;
+use pc_recover::{Recovered, Skipped};
+use pc_texts::{put_pairs, put_reason};
+use pc_types::{Key, Point, Refusal, Tally, Value};
+use std::io::Write;
+
+/// Writes what was recovered of parts with these names.
+pub(crate) fn put_recovered<W: Write>(
+    out: &mut Tally<W>,
+    parts: &[PartBytes],
+    recovered: &Recovered,
+) -> Result<(), Refusal>
+    requires rise { KeysRise recovered.now.pairs.items }
+    ensures { Puts W.contents out.old out.new result (recovery_text (names_of parts.now) (recovery_of recovered.now)) }
+{
+    put_counts(out, recovered.point, recovered.entries)?;
+    put_details(out, parts, recovered)
+}
+
+// What stands behind the counts: what is damaged or was skipped, and the pairs.
+fn put_details<W: Write>(
+    out: &mut Tally<W>,
+    parts: &[PartBytes],
+    recovered: &Recovered,
+) -> Result<(), Refusal>
+    requires rise { KeysRise recovered.now.pairs.items }
+    ensures { Puts W.contents out.old out.new result (details_text (names_of parts.now) (recovery_of recovered.now)) }
+{
+    put_damage(out, parts, recovered)?;
+    put_all_pairs(out, &recovered.pairs)
+}
+
+/// Writes what was damaged or skipped of parts with these names and of the log: the line of the log's fault, where it has one
+/// and was not only cut off, and one of each part that was skipped.
+pub(crate) fn put_damage<W: Write>(
+    out: &mut Tally<W>,
+    parts: &[PartBytes],
+    recovered: &Recovered,
+) -> Result<(), Refusal>
+    ensures { Puts W.contents out.old out.new result (damage_text (names_of parts.now) (recovery_of recovered.now)) }
+{
+    put_log(out, recovered.fault)?;
+    put_all_skipped(out, parts, &recovered.skipped)
+}
+
+fn put_counts<W: Write>(out: &mut Tally<W>, point: Point, entries: usize) -> Result<(), Refusal>
+    ensures { Puts W.contents out.old out.new result (counts_text point entries) }
+{
+    put_point(out, point)?;
+    put_count(out, b"entries ", entries as u64)
+}
+
+fn put_point<W: Write>(out: &mut Tally<W>, point: Point) -> Result<(), Refusal>
+    ensures { Puts W.contents out.old out.new result (count_line (codes "point ") point) }
+{
+    let mut buffer = Buffer::new();
+    out.put_all(&[b"point ", buffer.format(point.0).as_bytes(), b"\n"])
+}
+
+// A line of a word and a number.
+fn put_count<W: Write>(out: &mut Tally<W>, word: &[u8], number: u64) -> Result<(), Refusal>
+    ensures { Puts W.contents out.old out.new result (count_line word.now number) }
+{
+    let mut buffer = Buffer::new();
+    out.put_all(&[word, buffer.format(number).as_bytes(), b"\n"])
+}
+
+// The fault of the log's rest, where it was not only cut off.
+fn put_log<W: Write>(out: &mut Tally<W>, fault: Option<Refusal>) -> Result<(), Refusal>
+    ensures { Puts W.contents out.old out.new result (log_line fault) }
+{
+    match fault {
+        Some(why) if !is_cut(why) => out.put_all(&[b"log ", why.name().as_bytes(), b"\n"]),
+        _ => Ok(()),
+    }
+}
+
+fn is_cut(fault: Refusal) -> bool
+    ensures { result ≡ is_cut fault }
+{
+    match fault {
+        Refusal::Short => true,
+        _ => false,
+    }
+}
+
+fn put_all_skipped<W: Write>(
+    out: &mut Tally<W>,
+    parts: &[PartBytes],
+    skipped: &[Skipped],
+) -> Result<(), Refusal>
+    ensures { Puts W.contents out.old out.new result (flat_map (skipped_line (names_of parts.now)) skipped.now) }
+{
+    for one in skipped {
+        put_skipped(out, parts, one)?;
+    }
+    Ok(())
+}
+
+fn put_skipped<W: Write>(
+    out: &mut Tally<W>,
+    parts: &[PartBytes],
+    skipped: &Skipped,
+) -> Result<(), Refusal>
+    ensures { Puts W.contents out.old out.new result (skipped_line (names_of parts.now) skipped.now) }
+{
+    put_place(out, name_at(parts, skipped.place))?;
+    put_reason_line(out, skipped.reason)
+}
+
+fn put_place<W: Write>(out: &mut Tally<W>, name: &[u8]) -> Result<(), Refusal>
+    ensures { Puts W.contents out.old out.new result (codes "skipped " ++ (name.now ++ codes " ")) }
+{
+    out.put_all(&[b"skipped ", name, b" "])
+}
+
+fn put_reason_line<W: Write>(out: &mut Tally<W>, reason: Refusal) -> Result<(), Refusal>
+    ensures { Puts W.contents out.old out.new result (refusal_text reason ++ codes "\n") }
+{
+    put_reason(out, reason)?;
+    out.put(b"\n")
+}
+
+// The name of the part at a place.
+fn name_at<'a>(parts: &'a [PartBytes], place: usize) -> &'a [u8]
+    ensures { result.now ≡ name_at (slice_get (names_of parts.now) place) }
+{
+    match parts.get(place) {
+        Some(part) => part.name.as_slice(),
+        None => b"",
+    }
+}
+
+fn put_all_pairs<W: Write>(out: &mut Tally<W>, pairs: &[(Key, Value)]) -> Result<(), Refusal>
+    ensures { Puts W.contents out.old out.new result (pairs_text pairs.now (length pairs.now)) }
+{
+    put_count(out, b"pairs ", pairs.len() as u64)?;
+    put_pairs(out, pairs)
+}

@@ -1,2 +1,0 @@
-mod HeadedLaws
-mod TakenLaws

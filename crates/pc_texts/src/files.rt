@@ -1,0 +1,58 @@
+//! Files that may have been opened: their bytes, and the line that tells why a command failed.
+ghost use Rattle.std.specs.Prelude.{◌≡◌, ◌++◌, codes, IsOk, IfOk, IfErr, IfSome, OnOk};
+ghost use Rattle.std.specs.declared.result.Result.{Result};
+ghost use Rattle.pc_types.specs.declared.refusal.Refusal.{Refusal};
+ghost use Rattle.pc_types.specs.Names.{name_of};
+ghost use Rattle.pc_types.specs.Tallies.{Puts};
+ghost use Rattle.pc_texts.specs.Files.{IsScriptFault, report_text};
+
+use pc_types::{Refusal, Tally, read_all};
+use std::alloc::Global;
+use std::io::{Read, Write};
+
+/// A file of a folder: its name in the folder, and its reader, or why it can't be opened.
+#[derive(Drop)]
+pub struct NamedFile<R> {
+    pub name: Vec<u8>,
+    pub opened: Result<R, Refusal>,
+}
+
+/// All bytes of a file, or why they can't be had: it can't be opened or read, or memory ran out.
+pub fn read_opened<R: Read + Drop>(
+    alloc: Global,
+    opened: Result<R, Refusal>,
+) -> Result<Vec<u8>, Refusal>
+    ensures opened { OnOk result (IsOk opened) }
+    ensures script { IfOk result (λ bytes. IfOk opened (λ reader. IfSome (R.remaining reader) (λ script. bytes.items ≡ script))) }
+    ensures unopened { IfErr opened (λ why. result ≡ Err why) }
+    ensures cause { IfErr result (IsScriptFault opened) }
+{
+    match opened {
+        Ok(reader) => {
+            let mut reader = Tally::new(reader);
+            read_all(alloc, &mut reader)
+        }
+        Err(why) => Err(why),
+    }
+}
+
+/// Writes the line that tells why a command failed, by the name of a file or a word of the command line. `Device` is answered
+/// exactly where the device failed in this call.
+pub fn report<E: Write>(name: &[u8], why: Refusal, errors: &mut Tally<E>) -> Result<(), Refusal>
+    ensures { Puts E.contents errors.old errors.new result (report_text name.now why) }
+{
+    put_name(name, errors)?;
+    put_why(why, errors)
+}
+
+fn put_name<E: Write>(name: &[u8], errors: &mut Tally<E>) -> Result<(), Refusal>
+    ensures { Puts E.contents errors.old errors.new result (codes "pcalc: " ++ name.now) }
+{
+    errors.put_all(&[b"pcalc: ", name])
+}
+
+fn put_why<E: Write>(why: Refusal, errors: &mut Tally<E>) -> Result<(), Refusal>
+    ensures { Puts E.contents errors.old errors.new result (codes ": " ++ (name_of why ++ codes "\n")) }
+{
+    errors.put_all(&[b": ", why.name().as_bytes(), b"\n"])
+}

@@ -1,0 +1,72 @@
+//! The locks of sixteen slots, with the ends of their queues.
+ghost use Rattle.std.specs.Prelude.{◌≡◌};
+
+use crate::row::Row;
+use pc_locks::Locks;
+use pc_types::{Mode, Outcome, SlotId, TxnNo};
+use std::alloc::{AllocError, Global};
+use std::marker::Model;
+
+/// How many slots there are. A greater number is that of a slot by its remainder.
+pub const SLOTS: u32 = 16;
+
+/// Locks, and who keeps the ends of their queues.
+#[derive(Drop)]
+pub struct Slots {
+    locks: Locks,
+    row: Row,
+}
+
+impl Model for Slots {
+    ghost use Rattle.std.specs.Prelude.{ℕ, ◌<◌, ◌≤◌, length};
+    ghost use Rattle.std.specs.Coded.{coded_ℕ};
+    ghost use Rattle.pc_locks.specs.Keepers.{AreSound};
+    ghost use Rattle.test_lock_slots.specs.Rows.{ends_at};
+
+    ghost Value = { ℕ };
+
+    ghost coded = { coded_ℕ };
+
+    ghost view = { λ a. length a.row.ends.items };
+
+    ghost invariant = { λ a. (16 ≤ length a.row.ends.items) × AreSound (λ slot. slot < length a.row.ends.items) (ends_at a.row.ends.items) a.locks };
+}
+
+impl Slots {
+    /// No request stands.
+    pub fn new(alloc: Global) -> Result<Slots, AllocError> {
+        let row = Row::new(alloc)?;
+        let locks = Locks::new(alloc);
+        Ok(Slots { locks, row })
+    }
+
+    /// Whether a request of the transaction waits.
+    pub fn is_waiting(&self, transaction: TxnNo) -> bool {
+        self.locks.is_waiting(transaction)
+    }
+
+    /// Whether a request of the slot stands.
+    pub fn has_request(&self, slot: u32) -> bool {
+        self.locks.has_request(&self.row, SlotId(slot % SLOTS))
+    }
+
+    /// How a request of the slot is answered; None where the transaction waits. Where memory ran out nothing changed.
+    pub fn request(
+        &mut self,
+        transaction: TxnNo,
+        slot: u32,
+        mode: Mode,
+    ) -> Result<Option<Outcome>, AllocError> {
+        if self.locks.is_waiting(transaction) {
+            return Ok(None);
+        }
+        let slot = SlotId(slot % SLOTS);
+        let answer = self.locks.request(&mut self.row, transaction, slot, mode)?;
+        Ok(Some(answer))
+    }
+
+    /// Releases the transaction's first request.
+    pub fn release_one(&mut self, transaction: TxnNo) -> Option<SlotId> {
+        self.locks.release_one(&mut self.row, transaction)
+    }
+}

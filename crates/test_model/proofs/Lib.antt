@@ -1,0 +1,11 @@
+mod Causes
+mod Taken
+mod ExamplesOfTransactions
+mod ExamplesOfPoints
+mod ExamplesOfFiles
+mod ExamplesOfHeadlines
+mod ExamplesOfLocks
+mod ExamplesOfCapacity
+mod ExamplesOfRefusals
+mod ExamplesOfIllegalReplies
+mod ExamplesOfRules

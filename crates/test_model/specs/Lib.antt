@@ -1,0 +1,10 @@
+pub mod Examples
+pub mod ExamplesOfTransactions
+pub mod ExamplesOfPoints
+pub mod ExamplesOfFiles
+pub mod ExamplesOfHeadlines
+pub mod ExamplesOfLocks
+pub mod ExamplesOfCapacity
+pub mod ExamplesOfRefusals
+pub mod ExamplesOfIllegalReplies
+pub mod ExamplesOfRules

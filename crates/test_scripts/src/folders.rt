@@ -1,0 +1,154 @@
+//! Folders of files, and what their recovery prints.
+ghost use Rattle.std.specs.Prelude.{◌≤◌};
+
+use bstr::ByteSlice;
+use pc_restore::{Folder, run_recover};
+use pc_texts::NamedFile;
+use pc_types::{Refusal, Tally};
+use std::alloc::Global;
+use std::io::Write;
+
+/// A file of a folder: its name, and its bytes or why it can't be opened.
+#[derive(Drop)]
+pub struct File {
+    name: Vec<u8>,
+    bytes: Vec<u8>,
+    fault: Option<Refusal>,
+}
+
+/// The files that the lines name; `None` where a line doesn't have a name and bytes or a fault.
+pub fn files_of(alloc: Global, lines: &[u8]) -> Result<Option<Vec<File>>, Refusal> {
+    let mut files = Vec::new(alloc);
+    for line in lines.lines() {
+        match file_of(alloc, line)? {
+            Some(file) => files.push(file)?,
+            None => return Ok(None),
+        }
+    }
+    Ok(Some(files))
+}
+
+fn file_of(alloc: Global, line: &[u8]) -> Result<Option<File>, Refusal> {
+    let Some((name, text)) = line.split_once_str(b" ") else {
+        return Ok(None);
+    };
+    let fault = fault_of(text);
+    let digits = if fault.is_some() { b"" } else { text };
+    let Ok(bytes) = hex::decode(alloc, digits) else {
+        return Ok(None);
+    };
+    let name = Vec::from_slice(alloc, name)?;
+    Ok(Some(File { name, bytes, fault }))
+}
+
+fn fault_of(word: &[u8]) -> Option<Refusal> {
+    match word {
+        b"NoFile" => Some(Refusal::NoFile),
+        b"Device" => Some(Refusal::Device),
+        _ => None,
+    }
+}
+
+/// Prints what a recovery of the folder prints, and its status.
+pub fn put_recovery<W: Write>(
+    alloc: Global,
+    files: &[File],
+    out: &mut Tally<W>,
+) -> Result<(), Refusal> {
+    let text = recovered(alloc, files, usize::MAX)?;
+    out.put(&text)
+}
+
+/// Prints the same for each beginning of the log, where it is another than that of the one before, behind its length.
+pub fn put_cuts<W: Write>(
+    alloc: Global,
+    files: &[File],
+    out: &mut Tally<W>,
+) -> Result<(), Refusal> {
+    let mut last = Vec::new(alloc);
+    for cut in 0..=len_of_log(files) {
+        let text = recovered(alloc, files, cut)?;
+        if text.as_slice() != last.as_slice() {
+            let head = format!(in alloc; "-- {cut}\n")?;
+            out.put(head.as_bytes())?;
+            out.put(&text)?;
+        }
+        last = text;
+    }
+    Ok(())
+}
+
+fn len_of_log(files: &[File]) -> usize {
+    match opened(files, b"log.pcl") {
+        Ok(bytes) => bytes.len(),
+        Err(_) => 0,
+    }
+}
+
+// What a recovery prints, on either of its outputs, where the log is cut at the length.
+fn recovered(alloc: Global, files: &[File], cut: usize) -> Result<Vec<u8>, Refusal> {
+    let folder = folder_of(alloc, files, cut)?;
+    let mut out = Tally::new(Vec::new(alloc));
+    let mut errors = Tally::new(Vec::new(alloc));
+    let status = run_recover(alloc, "d d", folder, &mut out, &mut errors);
+    let mut text = out.into_inner();
+    text.extend_from_slice(&errors.into_inner())?;
+    text.extend_from_slice(if status == 0 {
+        b"status 0\n"
+    } else {
+        b"status 1\n"
+    })?;
+    Ok(text)
+}
+
+fn folder_of(alloc: Global, files: &[File], cut: usize) -> Result<Folder<&[u8]>, Refusal> {
+    let log = match opened(files, b"log.pcl") {
+        Ok(bytes) => Ok(&bytes[..cut.min(bytes.len())]),
+        Err(why) => Err(why),
+    };
+    let parts = match listing_fault(files) {
+        Some(why) => Err(why),
+        None => Ok(parts_of(alloc, files)?),
+    };
+    let base = opened(files, b"base.pcb");
+    Ok(Folder { base, parts, log })
+}
+
+// The bytes of the file of the name, or why it can't be opened.
+fn opened<'a>(files: &'a [File], name: &[u8]) -> Result<&'a [u8], Refusal> {
+    for file in files {
+        if file.name.as_slice() == name {
+            return content(file);
+        }
+    }
+    Err(Refusal::NoFile)
+}
+
+// Why the folder can't be listed, if it can't.
+fn listing_fault(files: &[File]) -> Option<Refusal> {
+    for file in files {
+        if file.name.as_slice() == b".".as_slice() {
+            return file.fault;
+        }
+    }
+    None
+}
+
+fn content(file: &File) -> Result<&[u8], Refusal> {
+    match file.fault {
+        Some(why) => Err(why),
+        None => Ok(file.bytes.as_slice()),
+    }
+}
+
+fn parts_of(alloc: Global, files: &[File]) -> Result<Vec<NamedFile<&[u8]>>, Refusal> {
+    let mut parts = Vec::new(alloc);
+    for file in files {
+        if file.name.ends_with(b".pcp") {
+            let name = Vec::from_slice(alloc, &file.name)?;
+            let opened = content(file);
+            parts.push(NamedFile { name, opened })?;
+        }
+    }
+    Ok(parts)
+}
