@@ -1,6 +1,6 @@
 //! The chain itself: its two ends.
-ghost use Rattle.std.specs.Prelude.{◌≡◌, ◌≢◌, [], ◌∷◌, ◌++◌, List, Some, None, IfSome};
-ghost use Rattle.pc_chain.specs.Chains.{first_of, last_of, rest_of, Avoids, AreApart, IsChain, IsEmpty, SetsLink};
+ghost use Rattle.std.specs.Prelude.{◌≡◌, ◌≢◌, ◌++◌, List, Some, None, IfSome};
+ghost use Rattle.pc_chain.specs.Chains.{first_of, last_of, rest_of, Avoids, IsChain, IsEmpty, SetsLink, AddsLast, TakesBehind};
 
 use crate::links::Links;
 
@@ -54,9 +54,7 @@ impl<I: Copy> Chain<I> {
     pub fn push_back<K, L: Links<K, Id = I>>(&mut self, links: &mut L, id: I)
         requires has { L.has links.old id }
         requires stands { (xs : List I) × IsChain (L.has links.old) (L.next_of links.old) self.old xs × Avoids id xs }
-        ensures list { (xs : List I) → IsChain (L.has links.old) (L.next_of links.old) self.old xs → Avoids id xs → IsChain (L.has links.new) (L.next_of links.new) self.new (xs ++ id ∷ []) }
-        ensures links { (xs : List I) (other : I) → IsChain (L.has links.old) (L.next_of links.old) self.old xs → Avoids other xs → other ≢ id → L.next_of links.new other ≡ L.next_of links.old other }
-        ensures others { (xs ys : List I) (other : Chain I) → IsChain (L.has links.old) (L.next_of links.old) self.old xs → IsChain (L.has links.old) (L.next_of links.old) other ys → AreApart xs ys → Avoids id ys → IsChain (L.has links.new) (L.next_of links.new) other ys }
+        ensures added { AddsLast (L.has links.old) (L.has links.new) (L.next_of links.old) (L.next_of links.new) self.old self.new id }
         ensures has { (other : I) → L.has links.old other → L.has links.new other }
         ensures beside { L.beside links.old links.new }
     {
@@ -88,10 +86,7 @@ impl<I: Copy> Chain<I> {
         previous: Option<I>,
     ) -> Option<I>
         requires { (before rest : List I) × IsChain (L.has links.old) (L.next_of links.old) self.old (before ++ rest) × (previous ≡ last_of before) }
-        ensures given { (before rest : List I) → IsChain (L.has links.old) (L.next_of links.old) self.old (before ++ rest) → previous ≡ last_of before → result ≡ first_of rest }
-        ensures list { (before rest : List I) → IsChain (L.has links.old) (L.next_of links.old) self.old (before ++ rest) → previous ≡ last_of before → IsChain (L.has links.new) (L.next_of links.new) self.new (before ++ rest_of rest) }
-        ensures links { (other : I) → previous ≢ Some other → L.next_of links.new other ≡ L.next_of links.old other }
-        ensures others { (before rest ys : List I) (other : Chain I) → IsChain (L.has links.old) (L.next_of links.old) self.old (before ++ rest) → previous ≡ last_of before → IsChain (L.has links.old) (L.next_of links.old) other ys → AreApart (before ++ rest) ys → IsChain (L.has links.new) (L.next_of links.new) other ys }
+        ensures taken { TakesBehind (L.has links.old) (L.has links.new) (L.next_of links.old) (L.next_of links.new) self.old self.new previous result }
         ensures has { (other : I) → L.has links.old other → L.has links.new other }
         ensures beside { L.beside links.old links.new }
     {

@@ -1,7 +1,7 @@
 //! The stack: a list that has its first id alone.
 ghost use Rattle.std.specs.Prelude.{◌≡◌, ◌≢◌, ◌↔◌, ◌<◌, ◌^◌, IsTrue, ◌∷◌, ◌++◌, List, length, None};
-ghost use Rattle.pc_chain.specs.Chains.{first_of, last_of, Avoids, AreApart};
-ghost use Rattle.pc_chain.specs.Stacks.{IsStack};
+ghost use Rattle.pc_chain.specs.Chains.{first_of, last_of, Avoids};
+ghost use Rattle.pc_chain.specs.Stacks.{IsStack, TakesOut};
 
 use crate::links::Links;
 
@@ -52,9 +52,7 @@ impl<I: Copy + PartialEq> Stack<I> {
     pub fn unlink<K, L: Links<K, Id = I>>(&mut self, links: &mut L, id: I)
         requires told { (x y : I) → IsTrue (I.eq x y) ↔ (x ≡ y) }
         requires stands { (before rest : List I) × IsStack (L.has links.old) (L.next_of links.old) self.old (before ++ id ∷ rest) × (length (before ++ id ∷ rest) < 2 ^ 64) }
-        ensures list { (before rest : List I) → IsStack (L.has links.old) (L.next_of links.old) self.old (before ++ id ∷ rest) → IsStack (L.has links.new) (L.next_of links.new) self.new (before ++ rest) }
-        ensures links { (before rest : List I) (other : I) → IsStack (L.has links.old) (L.next_of links.old) self.old (before ++ id ∷ rest) → Avoids other before → L.next_of links.new other ≡ L.next_of links.old other }
-        ensures others { (before rest ys : List I) (other : Stack I) → IsStack (L.has links.old) (L.next_of links.old) self.old (before ++ id ∷ rest) → IsStack (L.has links.old) (L.next_of links.old) other ys → AreApart (before ++ id ∷ rest) ys → IsStack (L.has links.new) (L.next_of links.new) other ys }
+        ensures taken { TakesOut (L.has links.old) (L.has links.new) (L.next_of links.old) (L.next_of links.new) self.old self.new id }
         ensures has { (other : I) → L.has links.old other → L.has links.new other }
         ensures beside { L.beside links.old links.new }
     {

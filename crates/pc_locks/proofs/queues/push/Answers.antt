@@ -14,4 +14,4 @@ pub returns-clause-pushed : goal.returns-clause-pushed
 returns-clause-pushed g c =
     let n : length c.push_back.new.links.links.items < 2 ^ 64 = omega (arith, c.push_back.new.links.links.ok.0) in
     slot_push c.args.links.now.links.items c.push_back.new.links.links.items (g.E.QueueEnds.ends_of c.args.keeper.now) (g.E.QueueEnds.ends_of c.set_ends.new.self) c.args.slot c.args.id c.ends-ends.result c.push_back.new.self (row_fits (length c.push_back.new.links.links.items) n)
-    c.requires.lines c.ends-ends.ensures c.requires.fresh c.push_back.ensures.list c.push_back.ensures.others c.set_ends.ensures.set c.set_ends.ensures.others
+    c.requires.lines c.ends-ends.ensures c.requires.fresh c.push_back.ensures.added.list c.push_back.ensures.added.others c.set_ends.ensures.set c.set_ends.ensures.others

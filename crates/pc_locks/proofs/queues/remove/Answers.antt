@@ -14,4 +14,4 @@ pub returns-clause-removed : goal.returns-clause-removed
 returns-clause-removed g c = λ before rest split p.
     let n : length c.unlink_after.new.links.links.items < 2 ^ 64 = omega (arith, c.unlink_after.new.links.links.ok.0) in
     slot_remove c.args.links.now.links.items c.unlink_after.new.links.links.items (g.E.QueueEnds.ends_of c.args.keeper.now) (g.E.QueueEnds.ends_of c.set_ends.new.self) c.args.slot c.ends-ends.result c.unlink_after.new.self c.args.previous before rest (row_fits (length c.unlink_after.new.links.links.items) n)
-    c.requires.lines c.ends-ends.ensures split p c.unlink_after.ensures.list c.unlink_after.ensures.others c.set_ends.ensures.set c.set_ends.ensures.others
+    c.requires.lines c.ends-ends.ensures split p c.unlink_after.ensures.taken.list c.unlink_after.ensures.taken.others c.set_ends.ensures.set c.set_ends.ensures.others

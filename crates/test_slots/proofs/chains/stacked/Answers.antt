@@ -31,5 +31,5 @@ unlink-requires-2-clause-stands c =
     let s1 = c.push_front.ensures.list [] s0 tt in
     let s2 = c.push_front-2.ensures.list (0 ∷ []) s1 (zero_one, tt) in
     let s3 = c.push_front-3.ensures.list (1 ∷ 0 ∷ []) s2 (one_two, (zero_two, tt)) in
-    let s4 = c.unlink.ensures.list (2 ∷ []) (0 ∷ []) s3 in
+    let s4 = c.unlink.ensures.taken.list (2 ∷ []) (0 ∷ []) s3 in
     ([], 0 ∷ [], s4, two)

@@ -10,5 +10,5 @@ push_back-requires-clause-stands g c =
 pub returns-clause-sets : goal.returns-clause-sets
 returns-clause-sets g c = λ opened closed d a.
     let side = c.args.self.now.side in
-    set_added _ _ _ _ c.args.self.now c.push_back.new.self opened closed c.args.slot d (c.push_back.ensures.list (places_of side opened) d.open_chain (avoids_places side c.args.slot opened a))
-    (c.push_back.ensures.others (places_of side opened) (places_of (other_side side) closed) c.args.self.now.closed d.open_chain d.closed_chain (sides_apart side opened closed) (avoids_other side c.args.slot closed))
+    set_added _ _ _ _ c.args.self.now c.push_back.new.self opened closed c.args.slot d (c.push_back.ensures.added.list (places_of side opened) d.open_chain (avoids_places side c.args.slot opened a))
+    (c.push_back.ensures.added.others (places_of side opened) (places_of (other_side side) closed) c.args.self.now.closed d.open_chain d.closed_chain (sides_apart side opened closed) (avoids_other side c.args.slot closed))

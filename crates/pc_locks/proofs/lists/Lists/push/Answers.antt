@@ -36,7 +36,7 @@ done c =
     let beside = beside_same c.self.inside.links.links.items c.reserve.new.self.links.items c.self.inside.ends c.keep.new.self c.args.transaction c.reserve.ensures.links c.keep.ensures.ends c.keep.ensures.others c.self.invariant in
     changed_push _ _ _ _ _ _ c.ends_of-ends.result _ h was beside c.ends_of-ends.ensures
     (λ u. ap (λ xs. is_listed xs c.args.id) (slots_same _ _ _ _ u c.reserve.ensures.links c.keep.ensures.ends ∙ ap (λ (v : Listed). slots_of v.entries u) c.self.view_is) ∙ c.requires u)
-    c.push_back.ensures.list c.push_back.ensures.others refl c.put.ensures.this c.put.ensures.others
+    c.push_back.ensures.added.list c.push_back.ensures.added.others refl c.put.ensures.this c.put.ensures.others
 
 pub invariant_of-self-2 : goal.invariant_of-self-2
 invariant_of-self-2 c = (done c).lists

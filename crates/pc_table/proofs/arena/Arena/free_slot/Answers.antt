@@ -17,7 +17,7 @@ invariant_of-self g c =
     let taken = taken_seen _ _ _ c.args.id c.self.view_is c.requires in
     let apart = taken_avoids _ k.ids c.args.id k.list.bare taken in (
       kept_given _ _ _ _ _ _ c.args.id _ c.id.view_is c.take_item-item.ensures.item taken c.push_back.ensures.beside.0 k apart
-          (c.push_back.ensures.list k.ids (line_set _ _ k.ids _ c.index_mut.result.now _ (search rules) c.take_item-item.ensures.link k.list.line) apart),
+          (c.push_back.ensures.added.list k.ids (line_set _ _ k.ids _ c.index_mut.result.now _ (search rules) c.take_item-item.ensures.link k.list.line) apart),
       (search rules),
     )
 
@@ -30,5 +30,5 @@ returns-clause-links g c = λ other n h.
     let k = c.self.invariant.0 in
     let taken = taken_seen _ _ _ other c.self.view_is h in
     seen_link _ _ _ other refl
-    ∙ (c.push_back.ensures.links k.ids other (line_set _ _ k.ids _ c.index_mut.result.now _ (search rules) c.take_item-item.ensures.link k.list.line) (taken_avoids _ k.ids other k.list.bare taken) n
+    ∙ (c.push_back.ensures.added.links k.ids other (line_set _ _ k.ids _ c.index_mut.result.now _ (search rules) c.take_item-item.ensures.link k.list.line) (taken_avoids _ k.ids other k.list.bare taken) n
     ∙ (ap (λ (ls : _). at ls other) (map_same link_of _ _ c.index_mut.result.now _ (search rules) c.take_item-item.ensures.link) ∙ sym (seen_link _ _ _ other c.self.view_is)))

@@ -33,8 +33,8 @@ returns-clause-index g c =
     let s = standing g.T.Keyed.key_of old t i c.args.id item c.index.result.now c.get.ensures.value here.0 here.1 in
     subst (IsIndex g.T.Keyed.key_of c.free_slot.new.self) (sym (table_written _ t c.place-place.result p c.unlink.new.self c.self.view_is placed))
     (index_removed g.T.Keyed.key_of old c.unlink.new.links c.free_slot.new.self t i c.args.id item c.index.result.now c.unlink.new.self s (record {
-      list = c.unlink.ensures.list s.before s.rest s.line;
-      others = λ b v n. c.unlink.ensures.others s.before s.rest (i.ids b) (chain_at t b) s.line (i.chains b v) (others_apart g.T.Keyed.key_of old t i c.args.id item c.index.result.now s b v n);
+      list = c.unlink.ensures.taken.list s.before s.rest s.line;
+      others = λ b v n. c.unlink.ensures.taken.others s.before s.rest (i.ids b) (chain_at t b) s.line (i.chains b v) (others_apart g.T.Keyed.key_of old t i c.args.id item c.index.result.now s b v n);
       same = c.unlink.ensures.beside;
       items = c.free_slot.ensures.items;
       links = c.free_slot.ensures.links;
