@@ -1,10 +1,10 @@
 //! Slots: what the table's rows have, each with its number and its key. The requests of a slot are those of the locks' queue
 //! at its number, whose ends the slot keeps.
-ghost use Rattle.std.specs.Prelude.{◌≡◌, ◌==◌, ◌≤◌, ◌++◌, [], false, map, length, IfOk, IfErr, OnOk, OnErr, None, Some, Ok, if◌then◌else◌, List, ℕ};
+ghost use Rattle.std.specs.Prelude.{◌≡◌, ◌==◌, ◌≤◌, ◌++◌, [], false, map, length, IfOk, IfErr, OnOk, OnErr, None, Some, List, ℕ};
 ghost use Rattle.pc_model.specs.Maps.{get};
 ghost use Rattle.pc_model.specs.Database.{KeysRise, database_of};
 ghost use Rattle.pc_locks.specs.States.{Queues};
-ghost use Rattle.pc_table.specs.Rows.{slot_of, in_slot, HasRow, IsNewSlot, AreInSlots, with_row, with_record};
+ghost use Rattle.pc_table.specs.Rows.{slot_of, in_slot, why_refused, HasRow, IsNewSlot, AreInSlots, with_row, with_record};
 ghost use Rattle.pc_chain.specs.declared.side.Side.{Side};
 ghost use Rattle.pc_chain.specs.declared.side.Side.TheVariants.{First};
 ghost use Rattle.pc_records.specs.Rows.{record_of, stored};
@@ -49,7 +49,7 @@ fn add(alloc: Global, table: &mut Table<Cell>, key: &Key, value: &Value) -> Resu
     ensures { OnOk result ((id : ℕ) × (table.new ≡ with_row table.old key.now id (base_cell (Some value.now)))) }
 {
     let value = value.copy(alloc)?;
-    match table.find_or_make(alloc, key) {
+    match table.make(alloc, key) {
         Ok(id) => {
             let cell = table.get_mut(id);
             *cell = cell_with(Some(value));
@@ -69,7 +69,7 @@ pub(crate) fn make(alloc: Global, table: &mut Table<Cell>, key: &Key) -> Result<
     ensures row { IfOk result (HasRow table.new.rows) }
     ensures changed { IfOk result (λ id. (cell : Cell) → with_record table.new id cell ≡ with_row table.old key.now id cell) }
     ensures room { IfOk result (λ id. (length table.old.rows == table.old.capacity) ≡ false) }
-    ensures refusal { IfErr result (λ e. e ≡ (if length table.old.rows == table.old.capacity then Refusal.Full else Refusal.OutOfMemory)) }
+    ensures refusal { IfErr result (λ e. e ≡ why_refused table.old) }
     ensures err { OnErr result (table.new ≡ table.old) }
     ensures before { AreInSlots table.old }
     ensures after { AreInSlots table.new }

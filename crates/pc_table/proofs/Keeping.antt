@@ -14,8 +14,8 @@ use Rattle.pc_table.proofs.IndexLaws.{index_kept, keys_set}
 use Rattle.pc_table.specs.declared.entry.Entry.{Entry}
 use Rattle.pc_table.specs.Rows.{Contents, slot_of, in_slot, with_record, with_row, without_slot, HasRow, IsNewSlot, AreInSlots}
 use Rattle.pc_table.specs.Entries.{key_in, entry_of, rows_from, contents_of, IsKept}
-use Rattle.pc_table.proofs.RowLaws.{no_row, same_some, placed, record_put, put_again}
-use Rattle.pc_table.proofs.Seen.{found_looked, none_looked, at_found, found_at, seen_at, pair_in, in_slots}
+use Rattle.pc_table.proofs.RowLaws.{no_row, same_some, record_put, put_again}
+use Rattle.pc_table.proofs.Seen.{found_looked, none_looked, at_found, seen_at, pair_in, in_slots}
 use Rattle.pc_table.proofs.Changing.{contents_set, contents_cleared, full_rows}
 
 -- an entry whose key is known
@@ -56,11 +56,6 @@ module _ {T : Type 0} (slots : Slots (Entry T)) (by_key : Table) (table : Conten
   key_slot key id e =
       let h = key_entry key (at slots.items id) e in
       ap (λ (t : Contents T). slot_of t.rows key) (sym seen) ∙ (ap (slot_of (rows_from 0 slots.items)) (sym h.2) ∙ ap (option_map (λ (place : ℕ × T). place.0)) (at_found slots.items k.index.distinct id h.0 h.1))
-
-  pub slot_key : (key : List ℕ) (id : ℕ) → slot_of table.rows key ≡ Some id → key_at key_in slots.items id ≡ Some key
-  slot_key key id e =
-      let h = placed (rows_from 0 slots.items) key id (ap (λ (t : Contents T). slot_of t.rows key) seen ∙ e) in
-      ap (option_map key_in) (found_at slots.items k.index.distinct id key h.0 h.1)
 
   pub slot_absent : (key : List ℕ) → slot_of table.rows key ≡ None → IsAbsent key_in slots.items key
   slot_absent key e id h = no_row (sym e ∙ key_slot key id h)
@@ -103,45 +98,32 @@ module _ {T : Type 0} (slots : Slots (Entry T)) (by_key : Table) (table : Conten
   pub slot_made : (items : List (Option (Entry T))) (id : ℕ) (entry : Entry T) → IsMade entry slots.items items id → IsNewSlot table id
   slot_made items id entry m = (subst (λ (t : Contents T). id < t.capacity) seen m.0.0, no_row_of id m.0.1)
 
-  -- after a call that finds a slot of the key or makes one: nothing has changed, or a record has been made
+  -- after a call that makes a slot of the key, which had none: nothing has changed, or a record has been made
   data Outcome (x : T) (key : List ℕ) (new : Slots (Entry T)) (result : Result ℕ Refusal) : Type 0 where
-    same : new ≡ slots → ((id : ℕ) → result ≡ Ok id → slot_of table.rows key ≡ Some id) → Outcome x key new result
+    same : (why : Refusal) → result ≡ Err why → new ≡ slots → Outcome x key new result
     made : (id : ℕ) → result ≡ Ok id → slot_of table.rows key ≡ None → IsMade (entry_of key x) slots.items new.items id → Outcome x key new result
 
   module _ (x : T) (key : List ℕ) (new : Slots (Entry T)) (new_key : Table) (result : Result ℕ Refusal) where
-    outcome : ((id : ℕ) → key_at key_in slots.items id ≡ Some key → (result ≡ Ok id) × (new ≡ slots)) → (IsAbsent key_in slots.items key → IfOk result (λ id. IsMade (entry_of key x) slots.items new.items id)) →
-        OnErr result ((new ≡ slots) × (new_key ≡ by_key)) → Outcome x key new result
-    outcome f m e = by (slot_of table.rows key) refl result refl
+    outcome : IsAbsent key_in slots.items key → IfOk result (λ id. IsMade (entry_of key x) slots.items new.items id) → OnErr result ((new ≡ slots) × (new_key ≡ by_key)) → Outcome x key new result
+    outcome gone m e = by result refl
       where
-        found_there : (id other : ℕ) → slot_of table.rows key ≡ Some id → result ≡ Ok id → result ≡ Ok other → slot_of table.rows key ≡ Some other
-        found_there id other s r t = let i : id ≡ other = cc in s ∙ ap Some i
-
-        by : (o : Option ℕ) → slot_of table.rows key ≡ o → (r : Result ℕ Refusal) → result ≡ r → Outcome x key new result
-        by (Some id) s r t = let h = f id (slot_key key id s) in same h.1 (λ other. found_there id other s h.0)
-        by None s (Ok id) t = made id t s (subst (λ (r : Result ℕ Refusal). IfOk r (λ id. IsMade (entry_of key x) slots.items new.items id)) t (m (slot_absent key s)))
-        by None s (Err why) t = same (subst (λ (r : Result ℕ Refusal). OnErr r ((new ≡ slots) × (new_key ≡ by_key))) t e).0 (λ other u. absurd (let v : Err why ≡ Ok other = sym t ∙ u in cc))
+        by : (r : Result ℕ Refusal) → result ≡ r → Outcome x key new result
+        by (Ok id) t = made id t (absent_slot key gone) (subst (λ (r : Result ℕ Refusal). IfOk r (λ id. IsMade (entry_of key x) slots.items new.items id)) t m)
+        by (Err why) t = same why t (subst (λ (r : Result ℕ Refusal). OnErr r ((new ≡ slots) × (new_key ≡ by_key))) t e).0
 
     same_length : Outcome x key new result → length new.items ≡ length slots.items
-    same_length (same e f) = ap (λ (s : Slots (Entry T)). length s.items) e
+    same_length (same why r e) = ap (λ (s : Slots (Entry T)). length s.items) e
     same_length (made id r s m) = ap length m.1 ∙ length-set slots.items id (Some (entry_of key x))
 
-    still_found : new ≡ slots → (r : Result ℕ Refusal) → ((id : ℕ) → r ≡ Ok id → slot_of table.rows key ≡ Some id) → IfOk r (λ id. slot_of (contents_of new.items).rows key ≡ Some id)
-    still_found e (Err why) f = tt
-    still_found e (Ok id) f = ap (λ (t : Contents T). slot_of t.rows key) (ap (λ (s : Slots (Entry T)). contents_of s.items) e ∙ seen) ∙ f id refl
-
     slot_after : IsKept new new_key → Outcome x key new result → IfOk result (λ id. slot_of (contents_of new.items).rows key ≡ Some id)
-    slot_after n (same e f) = still_found e result f
+    slot_after n (same why r e) = subst (λ (r : Result ℕ Refusal). IfOk r (λ id. slot_of (contents_of new.items).rows key ≡ Some id)) (sym r) tt
     slot_after n (made id r s m) =
         let here : at new.items id ≡ Some (entry_of key x) = ap (λ (is : List (Option (Entry T))). at is id) m.1 ∙ at_here slots.items id (Some (entry_of key x)) m.0.0 in
         subst (λ (r : Result ℕ Refusal). IfOk r (λ id. slot_of (contents_of new.items).rows key ≡ Some id)) (sym r) (ap (option_map (λ (place : ℕ × T). place.0)) (at_found new.items n.index.distinct id (entry_of key x) here))
 
     -- whatever record the slot then gets, it is that of the key
-    still_changed : new ≡ slots → (r : Result ℕ Refusal) → ((id : ℕ) → r ≡ Ok id → slot_of table.rows key ≡ Some id) → IfOk r (λ id. (y : T) → with_record (contents_of new.items) id y ≡ with_row table key id y)
-    still_changed e (Err why) f = tt
-    still_changed e (Ok id) f = λ y. ap (λ (t : Contents T). with_record t id y) (ap (λ (s : Slots (Entry T)). contents_of s.items) e ∙ seen) ∙ record_put table key id kept_slots (f id refl) y
-
     changed_after : IsKept new new_key → Outcome x key new result → IfOk result (λ id. slot_of (contents_of new.items).rows key ≡ Some id) → IfOk result (λ id. (y : T) → with_record (contents_of new.items) id y ≡ with_row table key id y)
-    changed_after n (same e f) there = still_changed e result f
+    changed_after n (same why r e) there = subst (λ (r : Result ℕ Refusal). IfOk r (λ id. (y : T) → with_record (contents_of new.items) id y ≡ with_row table key id y)) (sym r) tt
     changed_after n (made id r s m) there =
         let slot : slot_of (contents_of new.items).rows key ≡ Some id = subst (λ (r : Result ℕ Refusal). IfOk r (λ id. slot_of (contents_of new.items).rows key ≡ Some id)) r there in
         subst (λ (r : Result ℕ Refusal). IfOk r (λ id. (y : T) → with_record (contents_of new.items) id y ≡ with_row table key id y)) (sym r)
@@ -153,17 +135,12 @@ module _ {T : Type 0} (slots : Slots (Entry T)) (by_key : Table) (table : Conten
       pub slot : IfOk result (λ id. slot_of (contents_of new.items).rows key ≡ Some id)
       pub changed : IfOk result (λ id. (y : T) → with_record (contents_of new.items) id y ≡ with_row table key id y)
 
-    pub after_call : ((id : ℕ) → key_at key_in slots.items id ≡ Some key → (result ≡ Ok id) × (new ≡ slots)) → (IsAbsent key_in slots.items key → IfOk result (λ id. IsMade (entry_of key x) slots.items new.items id)) →
-        OnErr result ((new ≡ slots) × (new_key ≡ by_key)) → IsIndex key_in new new_key → AfterCall
-    after_call f m e i =
-        let o = outcome f m e in
+    pub after_made : IsAbsent key_in slots.items key → IfOk result (λ id. IsMade (entry_of key x) slots.items new.items id) → OnErr result ((new ≡ slots) × (new_key ≡ by_key)) → IsIndex key_in new new_key → AfterCall
+    after_made gone m e i =
+        let o = outcome gone m e in
         let n : IsKept new new_key = record { index = i; most = subst (λ (l : ℕ). l ≤ MOST_KEYS) (sym (same_length o)) k.most } in
         let there = slot_after n o in
         record { kept = n; slot = there; changed = changed_after n o there }
-
-    -- the same where no record had the key
-    pub after_made : IsAbsent key_in slots.items key → IfOk result (λ id. IsMade (entry_of key x) slots.items new.items id) → OnErr result ((new ≡ slots) × (new_key ≡ by_key)) → IsIndex key_in new new_key → AfterCall
-    after_made gone m e i = after_call (λ id there. absurd (gone id there)) (λ absent. m) e i
 
   pub kept_removed : (id : ℕ) (new : Slots (Entry T)) (new_key : Table) → new.items ≡ set slots.items id None → IsIndex key_in new new_key → IsKept new new_key
   kept_removed id new new_key e i = record { index = i; most = subst (λ (n : ℕ). n ≤ MOST_KEYS) (sym (ap length e ∙ length-set slots.items id None)) k.most }

@@ -1,8 +1,10 @@
 -- What is seen of a table: rows that rise by key, each with its slot and its record.
-use Rattle.std.specs.Prelude.{◌≡◌, ◌↔◌, ℕ, ◌<◌, ◌≤◌, ◌==◌, not, List, [], ◌∷◌, map, filter, Option, Some, None, IsSome, option_map, if◌then◌else◌}
+use Rattle.std.specs.Prelude.{◌≡◌, ◌↔◌, ℕ, ◌<◌, ◌≤◌, ◌==◌, not, List, [], ◌∷◌, length, map, filter, Option, Some, None, IsSome, option_map, if◌then◌else◌}
 use Rattle.std.specs.FinMap.{find, put}
 use denote.Ref.{Bor}
 use Rattle.pc_types.specs.declared.limits.TheConstants.{MOST_KEYS}
+use Rattle.pc_types.specs.declared.refusal.Refusal.{Refusal}
+use Rattle.pc_types.specs.declared.refusal.Refusal.TheVariants.{Full, OutOfMemory}
 use Rattle.pc_model.specs.Database.{KeysRise, key_cmp}
 
 -- a row: the key, and its slot with its record
@@ -43,6 +45,14 @@ module _ {T : Type 0} where
   -- without the row in the slot
   abbrev pub without_slot : Contents T → ℕ → Contents T
   without_slot table id = record table { rows = filter (λ row. not (row.1.0 == id)) table.rows }
+
+  -- as many keys have a row as may have one
+  abbrev pub IsFull : Contents T → Type 0
+  IsFull table = length table.rows ≡ table.capacity
+
+  -- why a key gets no row: the table is full, or else memory ran out
+  abbrev pub why_refused : Contents T → Refusal
+  why_refused table = if length table.rows == table.capacity then Full else OutOfMemory
 
   -- there is such a slot, and it has no row
   abbrev pub IsNewSlot : Contents T → ℕ → Type 0

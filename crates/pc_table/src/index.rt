@@ -1,9 +1,9 @@
 //! The index itself.
-ghost use Rattle.std.specs.Prelude.{◌≡◌, ◌<◌, ℕ, true, length, IfOk, IfErr, OnErr, Ok, Err, Some, None, if◌then◌else◌, slice_set};
+ghost use Rattle.std.specs.Prelude.{◌≡◌, ◌<◌, true, length, IfOk, IfErr, OnErr, Err, Some, None, if◌then◌else◌, slice_set};
 ghost use Rattle.std.specs.Int.{IsNextPowerOfTwo};
 ghost use Rattle.pc_table.specs.Slots.{at, is_full, IsTaken, AllFree};
 ghost use Rattle.pc_table.specs.Indexes.{place_of, IsIndex};
-ghost use Rattle.pc_table.specs.Keys.{key_at, IsSlotOf, IsAbsent, KeepsOthers, IsMade};
+ghost use Rattle.pc_table.specs.Keys.{IsSlotOf, IsAbsent, KeepsOthers, IsMade};
 
 use crate::arena::Arena;
 use crate::cells::ByLink;
@@ -84,32 +84,9 @@ impl Index {
         None
     }
 
-    /// The slot of the record that has the key; where no record has it, its blank record goes into a free slot, and each other
-    /// key keeps its slot. Refuses with `Full` exactly where no record has the key and no slot is free, and else only with
-    /// `OutOfMemory`, where the blank record can't be made; arena and index are then as they were.
-    pub fn find_or_make<T: Keyed>(
-        &mut self,
-        arena: &mut Arena<T>,
-        alloc: Global,
-        key: &Key,
-    ) -> Result<SlotId, Refusal>
-        requires { IsIndex T.key_of arena.old self.old }
-        ensures index { IsIndex T.key_of arena.new self.new }
-        ensures found { (id : ℕ) → key_at T.key_of arena.old.items id ≡ Some key.now → (result ≡ Ok id) × (arena.new ≡ arena.old) }
-        ensures made { IsAbsent T.key_of arena.old.items key.now → IfOk result (λ id. IsMade (T.blank_of key.now) arena.old.items arena.new.items id) }
-        ensures others { KeepsOthers T.key_of key.now arena.old.items arena.new.items }
-        ensures full { IsAbsent T.key_of arena.old.items key.now → is_full arena.old.items ≡ true → result ≡ Err Refusal.Full }
-        ensures refusal { IfErr result (λ e. e ≡ (if is_full arena.old.items then Refusal.Full else Refusal.OutOfMemory)) }
-        ensures err { OnErr result ((arena.new ≡ arena.old) × (self.new ≡ self.old)) }
-    {
-        match self.find(&*arena, key) {
-            Some(id) => Ok(id),
-            None => self.make(arena, alloc, key),
-        }
-    }
-
     /// The slot of the blank record of a key that no record has, which goes into a free slot; each other key keeps its slot.
-    /// Refuses as `find_or_make` does.
+    /// Refuses with `Full` exactly where no slot is free, and else only with `OutOfMemory`, where the blank record can't be made;
+    /// arena and index are then as they were.
     pub fn make<T: Keyed>(
         &mut self,
         arena: &mut Arena<T>,

@@ -1,7 +1,7 @@
 //! The table itself.
-ghost use Rattle.std.specs.Prelude.{◌≡◌, ◌≤◌, ◌==◌, ℕ, [], true, length, IfOk, IfErr, IfSome, OnErr, Ok, Err, Some, None, option_map, if◌then◌else◌};
+ghost use Rattle.std.specs.Prelude.{◌≡◌, ◌≤◌, ◌==◌, [], true, length, IfOk, IfErr, IfSome, OnErr, Err, Some, None, option_map};
 ghost use Rattle.std.specs.Borrow.{sem};
-ghost use Rattle.pc_table.specs.Rows.{slot_of, in_slot, without_slot, pair_behind, with_record, with_row, HasRow, IsNewSlot, AreInSlots};
+ghost use Rattle.pc_table.specs.Rows.{slot_of, in_slot, without_slot, pair_behind, with_record, with_row, why_refused, HasRow, IsNewSlot, IsFull, AreInSlots};
 ghost use Rattle.pc_table.specs.Lending.{LendsRow};
 
 use crate::arena::Arena;
@@ -137,27 +137,9 @@ impl<T: Blank> Table<T> {
         }
     }
 
-    /// The slot of the key; a key that has no row gets one in a free slot, with a blank record. Refuses with `Full` exactly
-    /// where the key has no row and as many keys have one as may, and else only with `OutOfMemory`, where a new key of more
-    /// than 16 bytes can't be copied; the table is then as it was.
-    pub fn find_or_make(&mut self, alloc: Global, key: &Key) -> Result<SlotId, Refusal>
-        ensures found { (id : ℕ) → slot_of self.old.rows key.now ≡ Some id → (result ≡ Ok id) × (self.new ≡ self.old) }
-        ensures made { slot_of self.old.rows key.now ≡ None → IfOk result (λ id. self.new ≡ with_row self.old key.now id T.blank) }
-        ensures fresh { slot_of self.old.rows key.now ≡ None → IfOk result (IsNewSlot self.old) }
-        ensures slot { IfOk result (λ id. slot_of self.new.rows key.now ≡ Some id) }
-        ensures row { IfOk result (HasRow self.new.rows) }
-        ensures changed { IfOk result (λ id. (x : T) → with_record self.new id x ≡ with_row self.old key.now id x) }
-        ensures full { slot_of self.old.rows key.now ≡ None → length self.old.rows ≡ self.old.capacity → result ≡ Err Refusal.Full }
-        ensures refusal { IfErr result (λ e. e ≡ (if length self.old.rows == self.old.capacity then Refusal.Full else Refusal.OutOfMemory)) }
-        ensures err { OnErr result (self.new ≡ self.old) }
-        ensures before { AreInSlots self.old }
-        ensures after { AreInSlots self.new }
-    {
-        self.index.find_or_make(&mut self.entries, alloc, key)
-    }
-
-    /// The slot of a key that has no row and gets one, in a free slot, with a blank record: what `find_or_make` does, without a
-    /// search. Refuses as that does, and the table is then as it was.
+    /// The slot of a key that has no row and gets one, in a free slot, with a blank record. Refuses with `Full` exactly where as
+    /// many keys have a row as may, and else only with `OutOfMemory`, where a key of more than 16 bytes can't be copied; the
+    /// table is then as it was.
     pub fn make(&mut self, alloc: Global, key: &Key) -> Result<SlotId, Refusal>
         requires { slot_of self.old.rows key.now ≡ None }
         ensures made { IfOk result (λ id. self.new ≡ with_row self.old key.now id T.blank) }
@@ -165,8 +147,8 @@ impl<T: Blank> Table<T> {
         ensures slot { IfOk result (λ id. slot_of self.new.rows key.now ≡ Some id) }
         ensures row { IfOk result (HasRow self.new.rows) }
         ensures changed { IfOk result (λ id. (x : T) → with_record self.new id x ≡ with_row self.old key.now id x) }
-        ensures full { length self.old.rows ≡ self.old.capacity → result ≡ Err Refusal.Full }
-        ensures refusal { IfErr result (λ e. e ≡ (if length self.old.rows == self.old.capacity then Refusal.Full else Refusal.OutOfMemory)) }
+        ensures full { IsFull self.old → result ≡ Err Refusal.Full }
+        ensures refusal { IfErr result (λ e. e ≡ why_refused self.old) }
         ensures err { OnErr result (self.new ≡ self.old) }
         ensures before { AreInSlots self.old }
         ensures after { AreInSlots self.new }

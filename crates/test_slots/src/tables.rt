@@ -1,6 +1,6 @@
 //! Keys that get rows, are found, and lose them.
 ghost use Rattle.std.specs.Prelude.{◌≡◌, ℕ, IfOk, OnErr};
-ghost use Rattle.pc_table.specs.Rows.{with_row};
+ghost use Rattle.pc_table.specs.Rows.{with_record, with_row, HasRow};
 
 use pc_table::{Blank, Table};
 use pc_types::{Key, Refusal, SlotId};
@@ -31,12 +31,24 @@ enum Ask {
     Sum,
 }
 
+// The slot of the key, which gets a row where it has none.
+fn slot_made(alloc: Global, table: &mut Table<Times>, key: &Key) -> Result<SlotId, Refusal>
+    ensures row { IfOk result (HasRow table.new.rows) }
+    ensures changed { IfOk result (λ id. (x : Times) → with_record table.new id x ≡ with_row table.old key.now id x) }
+    ensures err { OnErr result (table.new ≡ table.old) }
+{
+    match table.find(key) {
+        Some(id) => Ok(id),
+        None => table.make(alloc, key),
+    }
+}
+
 // Counts the key once more; no other row changes.
 fn count(alloc: Global, table: &mut Table<Times>, key: &Key) -> Result<u64, Refusal>
     ensures row { IfOk result (λ n. (id : ℕ) × (table.new ≡ with_row table.old key.now id (record { count = n }))) }
     ensures err { OnErr result (table.new ≡ table.old) }
 {
-    let id = table.find_or_make(alloc, key)?;
+    let id = slot_made(alloc, table, key)?;
     let times = table.get_mut(id);
     times.count = times.count.saturating_add(1);
     Ok(times.count)
