@@ -13,5 +13,6 @@ pub mod SlotLaws
 mod Soundness
 pub mod StateLaws
 mod TableLemmas
+pub mod Turns
 mod Upgrades
 mod Walks

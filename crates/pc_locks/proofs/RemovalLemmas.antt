@@ -250,7 +250,3 @@ none_given nodes entries t e = by (slots_of entries t) e ∙ sym (ap first_of (f
     by : (xs : List ℕ) → None ≡ first_of xs → None ≡ first_of (slots nodes xs)
     by [] f = refl
     by (x ∷ xs) f = absurd cc
-
-pub rest_none : (xs : List ℕ) → None ≡ first_of xs → xs ≡ rest_of xs
-rest_none [] e = refl
-rest_none (x ∷ xs) e = absurd cc

@@ -1,5 +1,5 @@
 -- Locks and a keeper of ends stay sound together.
-use Rattle.std.proofs.Common.{◌≡◌, ◌≢◌, ℕ, ◌==◌, inl, inr, List, [], Option, Some, true, false, not, sym, ◌∙◌, ap, subst}
+use Rattle.std.proofs.Common.{◌≡◌, ◌≢◌, ℕ, ◌==◌, inl, inr, List, [], Option, Some, false, not, sym, ◌∙◌, ap, subst}
 use Rattle.std.specs.Prelude.{Result, Ok, Err, IfOk, OnErr, filter}
 use Rattle.pc_types.specs.declared.Mode.{Mode}
 use Rattle.pc_types.specs.declared.Outcome.{Outcome}
@@ -10,7 +10,7 @@ use Rattle.pc_model.specs.Queues.{stands_in}
 use Rattle.pc_locks.specs.declared.row.LinkRow.{LinkRow}
 use Rattle.pc_locks.specs.declared.table.RequestTable.{RequestTable}
 use Rattle.pc_locks.specs.Lines.{Listed, most, follow, ids_by}
-use Rattle.pc_locks.specs.States.{Queues, State, queue_at, slots_of, slots_after, first_of, rest_of, is_listed, is_waiting, SetsAt, AreAlike}
+use Rattle.pc_locks.specs.States.{Queues, State, queue_at, slots_of, slots_after, first_of, rest_of, is_listed, is_waiting, SetsAt, AreAlike, AreAmong}
 use Rattle.pc_locks.specs.Tables.{Nodes, node_at, request_at, place_of, requests, IsOwn}
 use Rattle.pc_locks.specs.Keepers.{Kept, kept_of, queues_of, lists_of, state_of, AreTied, AreEnds, AreSound}
 use Rattle.pc_locks.proofs.SlotLaws.{sets_cases}
@@ -36,10 +36,6 @@ ends_new ends kept g f e =
 
 pub queues_new : (ends : ℕ → Chain ℕ) (kept : Kept) → ((u : ℕ) → IsEmpty (ends u)) → (u : ℕ) → queue_at (queues_of ends kept) u ≡ []
 queues_new ends kept e u = ap (requests kept.nodes) (ids_none kept.links ends e u)
-
--- each slot of which a transaction has a request is one of these
-abbrev pub AreAmong : (ℕ → Type 0) → Queues → Type 0
-AreAmong has queues = (u t : ℕ) → stands_in (queue_at queues u) t ≡ true → has u
 
 among_set : (has new_has : ℕ → Type 0) (queues new_queues : Queues) (s : ℕ) (q : Queue) → SetsAt queues new_queues s q → new_has s → ((u : ℕ) → has u → new_has u) → AreAmong has queues → AreAmong new_has new_queues
 among_set has new_has queues new_queues s q h n f k = λ u t e. elim (sets_cases queues new_queues s q h u) [

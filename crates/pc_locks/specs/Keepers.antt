@@ -1,12 +1,12 @@
 -- What locks keep, what they are seen as beside the ends of the slots' queues, and what both keep together.
-use Rattle.std.specs.Prelude.{◌≡◌, ◌⊎◌, ℕ, List, [], Option, true}
+use Rattle.std.specs.Prelude.{◌≡◌, ◌⊎◌, ℕ, List, [], Option}
 use Rattle.pc_chain.specs.declared.chain.Chain.{Chain}
 use Rattle.pc_chain.specs.Chains.{IsEmpty}
-use Rattle.pc_model.specs.Queues.{stands_in}
+use Rattle.pc_model.specs.Locks.{Queue}
 use Rattle.pc_locks.specs.declared.table.RequestTable.{RequestTable}
-use Rattle.pc_locks.specs.Lines.{ids_by, AreLines}
-use Rattle.pc_locks.specs.States.{Lists, Queues, State, queue_at, AreSettled}
-use Rattle.pc_locks.specs.Tables.{Nodes, queues_in, lists_in, IsTable}
+use Rattle.pc_locks.specs.Lines.{ids_of, ids_by, AreLines}
+use Rattle.pc_locks.specs.States.{Lists, Queues, State, queue_at, AreAmong, AreSettled}
+use Rattle.pc_locks.specs.Tables.{Nodes, requests, queues_in, lists_in, IsTable}
 
 -- the requests by id, the link of each id to the next one of its slot, and the ids of each transaction
 pub record Kept : Type 0 where
@@ -17,6 +17,13 @@ pub record Kept : Type 0 where
 -- what a table keeps
 abbrev pub kept_of : RequestTable → Kept
 kept_of table = record { nodes = table.nodes.slots; links = table.links.links.items; entries = table.lists.entries }
+
+-- the ids to which the links of a table lead along a chain, and their requests
+abbrev pub ids_along : RequestTable → Chain ℕ → List ℕ
+ids_along table chain = ids_of table.links.links.items chain
+
+abbrev pub queue_along : RequestTable → Chain ℕ → Queue
+queue_along table chain = requests table.nodes.slots (ids_along table chain)
 
 -- the queue of each slot: the requests that the links lead to from its ends
 abbrev pub queues_of : (ℕ → Chain ℕ) → Kept → Queues
@@ -43,7 +50,7 @@ pub record AreEnds (ends : ℕ → Chain ℕ) (kept : Kept) : Type 0 where
 -- what locks and a keeper of ends keep together; a slot of which a transaction has a request has ends
 pub record AreSound (has : ℕ → Type 0) (ends : ℕ → Chain ℕ) (kept : Kept) : Type 0 where
   pub ends_are : AreEnds ends kept
-  pub held : (slot t : ℕ) → stands_in (queue_at (queues_of ends kept) slot) t ≡ true → has slot
+  pub held : AreAmong has (queues_of ends kept)
 
 -- each slot has the same ends still, or has no request, and then those of an empty queue
 abbrev pub DifferWhereNone : (ℕ → Chain ℕ) → (ℕ → Chain ℕ) → Kept → Type 0

@@ -1,11 +1,13 @@
 -- What locks are seen as: each slot's queue, and the slots of each transaction.
-use Rattle.std.specs.Prelude.{◌≡◌, ◌≢◌, ⊤, ℕ, ◌==◌, Bool, true, false, List, [], ◌∷◌, ◌++◌, Option, Some, None, is_some, unwrap_or, if◌then◌else◌}
+use Rattle.std.specs.Prelude.{◌≡◌, ◌≢◌, ⊤, ℕ, ◌==◌, Bool, true, false, not, filter, List, [], ◌∷◌, ◌++◌, Option, Some, None, is_some, unwrap_or, if◌then◌else◌}
 use Rattle.std.specs.List.{list_any}
 use Rattle.std.specs.Ordering.{nat_cmp}
 use Rattle.std.specs.Map.{lookup}
 use Rattle.std.specs.BTreeMap.{is_at}
+use Rattle.pc_types.specs.declared.Mode.{Mode}
 use Rattle.pc_types.specs.declared.Outcome.{Outcome}
-use Rattle.pc_model.specs.Locks.{Queue, request_in, is_ungranted}
+use Rattle.pc_types.specs.declared.Request.{Request}
+use Rattle.pc_model.specs.Locks.{Queue, request_in, is_ungranted, outcome, queue_after, queue_without}
 use Rattle.pc_types.specs.declared.Outcome.TheVariants.{Granted, Queued, Died}
 use Rattle.pc_model.specs.Queues.{stands_in, IsSettled}
 
@@ -40,6 +42,10 @@ pub record AreAlike (a b : State) : Type 0 where
   pub queues : (slot : ℕ) → queue_at a.queues slot ≡ queue_at b.queues slot
   pub lists : a.lists ≡ b.lists
 
+-- each slot of which a transaction has a request is one of these
+abbrev pub AreAmong : (ℕ → Type 0) → Queues → Type 0
+AreAmong has queues = (slot t : ℕ) → stands_in (queue_at queues slot) t ≡ true → has slot
+
 -- the first of the list
 abbrev pub first_of : List ℕ → Option ℕ
 first_of [] = None
@@ -70,6 +76,29 @@ abbrev pub slots_after : List ℕ → ℕ → Bool → Outcome → List ℕ
 slots_after slots slot stood Granted = if stood then slots else slots ++ slot ∷ []
 slots_after slots slot stood Queued = slots ++ slot ∷ []
 slots_after slots slot stood Died = slots
+
+-- the queue of the slot and the slots of the transaction are these now, and all others are as they were
+pub record TurnsInto (old new : State) (slot t : ℕ) (queue : Queue) (slots : List ℕ) : Type 0 where
+  pub queues : SetsAt old.queues new.queues slot queue
+  pub list : slots_of new.lists t ≡ slots
+  pub others : (other : ℕ) → other ≢ t → slots_of new.lists other ≡ slots_of old.lists other
+
+-- the request stands at the end of the slot's queue, and the slot at the end of its transaction's
+abbrev pub IsEntered : State → State → ℕ → Request → Type 0
+IsEntered old new slot request = TurnsInto old new slot request.transaction (queue_at old.queues slot ++ request ∷ []) (slots_of old.lists request.transaction ++ slot ∷ [])
+
+-- the transaction's request of the slot, the first of its slots, is gone from both
+abbrev pub IsTakenOut : State → State → ℕ → ℕ → Type 0
+IsTakenOut old new t slot = TurnsInto old new slot t (filter (λ r. not (r.transaction == t)) (queue_at old.queues slot)) (rest_of (slots_of old.lists t))
+
+-- the same, and what waited for it is granted
+abbrev pub IsReleased : State → State → ℕ → ℕ → Type 0
+IsReleased old new t slot = TurnsInto old new slot t (queue_without (queue_at old.queues slot) t) (rest_of (slots_of old.lists t))
+
+-- the transaction's request of the slot was so answered, and stands where it didn't die
+pub record IsAnswered (old new : State) (t slot : ℕ) (mode : Mode) (answer : Outcome) : Type 0 where
+  pub told : answer ≡ outcome (queue_at old.queues slot) t mode
+  pub turned : TurnsInto old new slot t (queue_after (queue_at old.queues slot) t mode answer) (slots_after (slots_of old.lists t) slot (stands_in (queue_at old.queues slot) t) answer)
 
 -- at one of the transaction's slots its request waits
 abbrev pub is_waiting : State → ℕ → Bool

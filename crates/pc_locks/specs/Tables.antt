@@ -105,6 +105,14 @@ pub record IsUnlinked (nodes : Nodes) (ids new_ids : ℕ → List ℕ) (slot t :
   pub passed : ((request_at nodes id).transaction == t) ≡ true
   pub new : SetsAt ids new_ids slot (before ++ behind)
 
+-- each id has its slot and its transaction still
+abbrev pub KeepPlaces : Nodes → Nodes → Type 0
+KeepPlaces nodes new_nodes = (id : ℕ) → place_of (node_at new_nodes id) ≡ place_of (node_at nodes id)
+
+-- each id outside of the list has its request still
+abbrev pub KeepOutside : List ℕ → Nodes → Nodes → Type 0
+KeepOutside ids nodes new_nodes = (id : ℕ) → is_listed ids id ≡ false → node_at new_nodes id ≡ node_at nodes id
+
 -- each of the ids has a request
 abbrev pub AreHeld : Nodes → List ℕ → Type 0
 AreHeld nodes ids = (id : ℕ) → is_listed ids id ≡ true → is_some (place_of (node_at nodes id)) ≡ true

@@ -1,10 +1,8 @@
 //! The locks of all slots.
-ghost use Rattle.std.specs.Prelude.{◌≡◌, ◌≢◌, ◌==◌, [], not, true, false, ℕ, length, IfOk, OnErr, IfSome, IfNone};
+ghost use Rattle.std.specs.Prelude.{◌≡◌, ◌==◌, [], not, true, false, ℕ, length, IfOk, OnErr, IfSome, IfNone};
 ghost use Rattle.pc_chain.specs.declared.chain.Chain.{Chain};
 ghost use Rattle.pc_chain.specs.Chains.{IsEmpty};
-ghost use Rattle.pc_model.specs.Locks.{outcome, queue_after, queue_without};
-ghost use Rattle.pc_model.specs.Queues.{stands_in};
-ghost use Rattle.pc_locks.specs.States.{queue_at, slots_of, slots_after, first_of, rest_of, is_waiting, SetsAt, AreAlike};
+ghost use Rattle.pc_locks.specs.States.{queue_at, slots_of, first_of, is_waiting, IsAnswered, IsReleased, AreAlike};
 ghost use Rattle.pc_locks.specs.Keepers.{queues_of, lists_of, state_of, AreEnds, AreSound};
 
 use crate::keeper::QueueEnds;
@@ -60,10 +58,7 @@ impl Locks {
         requires has { E.has keeper.old slot }
         requires ready { is_waiting (state_of (E.ends_of keeper.old) self.old) transaction ≡ false }
         ensures sound { AreSound (E.has keeper.new) (E.ends_of keeper.new) self.new }
-        ensures told { IfOk result (λ answer. answer ≡ outcome (queue_at (queues_of (E.ends_of keeper.old) self.old) slot) transaction mode) }
-        ensures queues { IfOk result (λ answer. SetsAt (queues_of (E.ends_of keeper.old) self.old) (queues_of (E.ends_of keeper.new) self.new) slot (queue_after (queue_at (queues_of (E.ends_of keeper.old) self.old) slot) transaction mode answer)) }
-        ensures list { IfOk result (λ answer. slots_of (lists_of self.new) transaction ≡ slots_after (slots_of (lists_of self.old) transaction) slot (stands_in (queue_at (queues_of (E.ends_of keeper.old) self.old) slot) transaction) answer) }
-        ensures others { (other : ℕ) → other ≢ transaction → slots_of (lists_of self.new) other ≡ slots_of (lists_of self.old) other }
+        ensures answered { IfOk result (IsAnswered (state_of (E.ends_of keeper.old) self.old) (state_of (E.ends_of keeper.new) self.new) transaction slot mode) }
         ensures err { OnErr result (AreAlike (state_of (E.ends_of keeper.new) self.new) (state_of (E.ends_of keeper.old) self.old)) }
         ensures keeper { OnErr result (keeper.new ≡ keeper.old) }
         ensures beside { E.beside keeper.old keeper.new }
@@ -86,9 +81,7 @@ impl Locks {
         requires sound { AreSound (E.has keeper.old) (E.ends_of keeper.old) self.old }
         ensures sound { AreSound (E.has keeper.new) (E.ends_of keeper.new) self.new }
         ensures given { result ≡ first_of (slots_of (lists_of self.old) transaction) }
-        ensures list { slots_of (lists_of self.new) transaction ≡ rest_of (slots_of (lists_of self.old) transaction) }
-        ensures others { (other : ℕ) → other ≢ transaction → slots_of (lists_of self.new) other ≡ slots_of (lists_of self.old) other }
-        ensures queues { IfSome result (λ slot. SetsAt (queues_of (E.ends_of keeper.old) self.old) (queues_of (E.ends_of keeper.new) self.new) slot (queue_without (queue_at (queues_of (E.ends_of keeper.old) self.old) slot) transaction)) }
+        ensures released { IfSome result (IsReleased (state_of (E.ends_of keeper.old) self.old) (state_of (E.ends_of keeper.new) self.new) transaction) }
         ensures none { IfNone result ((self.new ≡ self.old) × (keeper.new ≡ keeper.old)) }
         ensures beside { E.beside keeper.old keeper.new }
     {

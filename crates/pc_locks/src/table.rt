@@ -1,13 +1,13 @@
 //! The requests of all slots, each linked into its slot's list and into its transaction's.
-ghost use Rattle.std.specs.Prelude.{◌&&◌, ◌||◌, ◌==◌, not, filter, ◌≡◌, ◌≢◌, ◌<◌, ◌≤◌, ◌++◌, ◌∷◌, [], ℕ, true, false, length, option_map, IfOk, OnOk, OnErr, IfSome, IfNone, IsOk, None, Some};
+ghost use Rattle.std.specs.Prelude.{◌&&◌, ◌||◌, ◌==◌, not, ◌≡◌, ◌≢◌, ◌<◌, ◌≤◌, [], ℕ, true, false, length, option_map, IfOk, OnOk, OnErr, IfSome, IfNone, IsOk, None, Some};
 ghost use Rattle.std.specs.List.{list_any};
 ghost use Rattle.pc_model.specs.Locks.{is_exclusive, outcome_of_new, outcome_beside, queue_after, granted_behind};
 ghost use Rattle.pc_model.specs.Queues.{stands_in, AreOnce};
 ghost use Rattle.pc_locks.specs.declared.node.Node.{Node};
-ghost use Rattle.pc_locks.specs.Lines.{ids_of, ids_by, IsQueue, AreLines};
-ghost use Rattle.pc_locks.specs.States.{slots_of, slots_after, first_of, rest_of, last_of, queue_at, is_listed, SetsAt, AreAlike, AreDifferent};
-ghost use Rattle.pc_locks.specs.Tables.{passes, node_at, request_at, slot_at, place_of, requests, HasRoom, IsFound, IsOwn, IsUnlinked, AreHeld};
-ghost use Rattle.pc_locks.specs.Keepers.{kept_of, queues_of, lists_of, state_of, AreTied};
+ghost use Rattle.pc_locks.specs.Lines.{ids_by, IsQueue, AreLines};
+ghost use Rattle.pc_locks.specs.States.{slots_of, first_of, last_of, queue_at, IsEntered, IsTakenOut, IsAnswered, AreAlike, AreAmong, AreDifferent};
+ghost use Rattle.pc_locks.specs.Tables.{passes, node_at, request_at, slot_at, requests, HasRoom, IsFound, IsOwn, IsUnlinked, KeepPlaces, KeepOutside, AreHeld};
+ghost use Rattle.pc_locks.specs.Keepers.{kept_of, ids_along, queue_along, queues_of, lists_of, state_of, AreTied};
 
 use crate::keeper::QueueEnds;
 use crate::lists::Lists;
@@ -67,8 +67,8 @@ impl RequestTable {
     /// The first id of the queue whose request passes the test.
     pub(crate) fn find(&self, queue: Chain<usize>, test: Test) -> Option<Found>
         requires { IsQueue self.now.links.links.items queue }
-        ensures none { IfNone result (list_any (passes test) (requests self.now.nodes.slots (ids_of self.now.links.links.items queue)) ≡ false) }
-        ensures some { IfSome result (λ f. IsFound self.now.nodes.slots (ids_of self.now.links.links.items queue) test f.previous f.id) }
+        ensures none { IfNone result (list_any (passes test) (queue_along self.now queue) ≡ false) }
+        ensures some { IfSome result (λ f. IsFound self.now.nodes.slots (ids_along self.now queue) test f.previous f.id) }
     {
         let mut previous = None;
         let mut at = queue.first(&self.links);
@@ -88,7 +88,7 @@ impl RequestTable {
     /// Whether a request of the queue passes the test.
     pub(crate) fn has(&self, queue: Chain<usize>, test: Test) -> bool
         requires { IsQueue self.now.links.links.items queue }
-        ensures { result ≡ list_any (passes test) (requests self.now.nodes.slots (ids_of self.now.links.links.items queue)) }
+        ensures { result ≡ list_any (passes test) (queue_along self.now queue) }
     {
         self.find(queue, test).is_some()
     }
@@ -101,7 +101,7 @@ impl RequestTable {
         mode: Mode,
     ) -> Outcome
         requires { IsQueue self.now.links.links.items queue }
-        ensures { result ≡ outcome_of_new (requests self.now.nodes.slots (ids_of self.now.links.links.items queue)) transaction mode }
+        ensures { result ≡ outcome_of_new (queue_along self.now queue) transaction mode }
     {
         let request = Request {
             transaction,
@@ -130,9 +130,7 @@ impl RequestTable {
         requires tied { AreTied (E.ends_of keeper.old) (kept_of self.old) }
         requires has { E.has keeper.old slot }
         ensures tied { AreTied (E.ends_of keeper.new) (kept_of self.new) }
-        ensures queues { OnOk result (SetsAt (queues_of (E.ends_of keeper.old) (kept_of self.old)) (queues_of (E.ends_of keeper.new) (kept_of self.new)) slot (queue_at (queues_of (E.ends_of keeper.old) (kept_of self.old)) slot ++ record { transaction = transaction; mode = mode; granted = granted } ∷ [])) }
-        ensures list { OnOk result (slots_of (lists_of (kept_of self.new)) transaction ≡ slots_of (lists_of (kept_of self.old)) transaction ++ slot ∷ []) }
-        ensures others { (other : ℕ) → other ≢ transaction → slots_of (lists_of (kept_of self.new)) other ≡ slots_of (lists_of (kept_of self.old)) other }
+        ensures entered { OnOk result (IsEntered (state_of (E.ends_of keeper.old) (kept_of self.old)) (state_of (E.ends_of keeper.new) (kept_of self.new)) slot (record { transaction = transaction; mode = mode; granted = granted })) }
         ensures room { HasRoom self.old.nodes self.old.links.links.items self.old.lists transaction → IsOk result }
         ensures err { OnErr result (AreAlike (state_of (E.ends_of keeper.new) (kept_of self.new)) (state_of (E.ends_of keeper.old) (kept_of self.old))) }
         ensures keeper { OnErr result (keeper.new ≡ keeper.old) }
@@ -167,10 +165,7 @@ impl RequestTable {
         requires queue { queue ≡ E.ends_of keeper.old slot }
         requires fresh { stands_in (queue_at (queues_of (E.ends_of keeper.old) (kept_of self.old)) slot) transaction ≡ false }
         ensures tied { AreTied (E.ends_of keeper.new) (kept_of self.new) }
-        ensures told { IfOk result (λ answer. answer ≡ outcome_of_new (queue_at (queues_of (E.ends_of keeper.old) (kept_of self.old)) slot) transaction mode) }
-        ensures queues { IfOk result (λ answer. SetsAt (queues_of (E.ends_of keeper.old) (kept_of self.old)) (queues_of (E.ends_of keeper.new) (kept_of self.new)) slot (queue_after (queue_at (queues_of (E.ends_of keeper.old) (kept_of self.old)) slot) transaction mode answer)) }
-        ensures list { IfOk result (λ answer. slots_of (lists_of (kept_of self.new)) transaction ≡ slots_after (slots_of (lists_of (kept_of self.old)) transaction) slot false answer) }
-        ensures others { (other : ℕ) → other ≢ transaction → slots_of (lists_of (kept_of self.new)) other ≡ slots_of (lists_of (kept_of self.old)) other }
+        ensures answered { IfOk result (IsAnswered (state_of (E.ends_of keeper.old) (kept_of self.old)) (state_of (E.ends_of keeper.new) (kept_of self.new)) transaction slot mode) }
         ensures err { OnErr result (AreAlike (state_of (E.ends_of keeper.new) (kept_of self.new)) (state_of (E.ends_of keeper.old) (kept_of self.old))) }
         ensures keeper { OnErr result (keeper.new ≡ keeper.old) }
         ensures beside { E.beside keeper.old keeper.new }
@@ -198,13 +193,13 @@ impl RequestTable {
         mode: Mode,
     ) -> Outcome
         requires line { IsQueue self.old.links.links.items queue }
-        requires held { AreHeld self.old.nodes.slots (ids_of self.old.links.links.items queue) }
-        requires once { AreOnce (requests self.old.nodes.slots (ids_of self.old.links.links.items queue)) }
-        requires own { IsOwn self.old.nodes.slots (ids_of self.old.links.links.items queue) transaction found.previous found.id }
-        ensures told { result ≡ outcome_beside (requests self.old.nodes.slots (ids_of self.old.links.links.items queue)) transaction mode (Some (request_at self.old.nodes.slots found.id)) }
-        ensures queue { requests self.new.nodes.slots (ids_of self.old.links.links.items queue) ≡ queue_after (requests self.old.nodes.slots (ids_of self.old.links.links.items queue)) transaction mode result }
-        ensures places { (id : ℕ) → place_of (node_at self.new.nodes.slots id) ≡ place_of (node_at self.old.nodes.slots id) }
-        ensures others { (id : ℕ) → is_listed (ids_of self.old.links.links.items queue) id ≡ false → node_at self.new.nodes.slots id ≡ node_at self.old.nodes.slots id }
+        requires held { AreHeld self.old.nodes.slots (ids_along self.old queue) }
+        requires once { AreOnce (queue_along self.old queue) }
+        requires own { IsOwn self.old.nodes.slots (ids_along self.old queue) transaction found.previous found.id }
+        ensures told { result ≡ outcome_beside (queue_along self.old queue) transaction mode (Some (request_at self.old.nodes.slots found.id)) }
+        ensures queue { requests self.new.nodes.slots (ids_along self.old queue) ≡ queue_after (queue_along self.old queue) transaction mode result }
+        ensures places { KeepPlaces self.old.nodes.slots self.new.nodes.slots }
+        ensures others { KeepOutside (ids_along self.old queue) self.old.nodes.slots self.new.nodes.slots }
         ensures links { self.new.links ≡ self.old.links }
         ensures lists { self.new.lists ≡ self.old.lists }
     {
@@ -233,7 +228,7 @@ impl RequestTable {
     /// Whether the queue has no request.
     pub(crate) fn is_empty(&self, queue: Chain<usize>) -> bool
         requires { IsQueue self.now.links.links.items queue }
-        ensures { result ≡ (length (ids_of self.now.links.links.items queue) == 0) }
+        ensures { result ≡ (length (ids_along self.now queue) == 0) }
     {
         queue.first(&self.links).is_none()
     }
@@ -253,11 +248,11 @@ impl RequestTable {
     /// Grants requests from the front of the queue, up to the first that conflicts with one before it.
     pub(crate) fn grant(&mut self, queue: Chain<usize>)
         requires line { IsQueue self.old.links.links.items queue }
-        requires held { AreHeld self.old.nodes.slots (ids_of self.old.links.links.items queue) }
-        requires once { AreOnce (requests self.old.nodes.slots (ids_of self.old.links.links.items queue)) }
-        ensures granted { requests self.new.nodes.slots (ids_of self.old.links.links.items queue) ≡ granted_behind [] (requests self.old.nodes.slots (ids_of self.old.links.links.items queue)) }
-        ensures places { (id : ℕ) → place_of (node_at self.new.nodes.slots id) ≡ place_of (node_at self.old.nodes.slots id) }
-        ensures others { (id : ℕ) → is_listed (ids_of self.old.links.links.items queue) id ≡ false → node_at self.new.nodes.slots id ≡ node_at self.old.nodes.slots id }
+        requires held { AreHeld self.old.nodes.slots (ids_along self.old queue) }
+        requires once { AreOnce (queue_along self.old queue) }
+        ensures granted { requests self.new.nodes.slots (ids_along self.old queue) ≡ granted_behind [] (queue_along self.old queue) }
+        ensures places { KeepPlaces self.old.nodes.slots self.new.nodes.slots }
+        ensures others { KeepOutside (ids_along self.old queue) self.old.nodes.slots self.new.nodes.slots }
         ensures links { self.new.links ≡ self.old.links }
         ensures lists { self.new.lists ≡ self.old.lists }
     {
@@ -311,14 +306,12 @@ impl RequestTable {
         transaction: TxnNo,
     ) -> Option<SlotId>
         requires tied { AreTied (E.ends_of keeper.old) (kept_of self.old) }
-        requires held { (slot t : ℕ) → stands_in (queue_at (queues_of (E.ends_of keeper.old) (kept_of self.old)) slot) t ≡ true → E.has keeper.old slot }
+        requires held { AreAmong (E.has keeper.old) (queues_of (E.ends_of keeper.old) (kept_of self.old)) }
         requires once { (slot : ℕ) → AreOnce (queue_at (queues_of (E.ends_of keeper.old) (kept_of self.old)) slot) }
         requires different { AreDifferent (slots_of (lists_of (kept_of self.old)) transaction) }
         ensures tied { AreTied (E.ends_of keeper.new) (kept_of self.new) }
         ensures given { result ≡ first_of (slots_of (lists_of (kept_of self.old)) transaction) }
-        ensures list { slots_of (lists_of (kept_of self.new)) transaction ≡ rest_of (slots_of (lists_of (kept_of self.old)) transaction) }
-        ensures others { (other : ℕ) → other ≢ transaction → slots_of (lists_of (kept_of self.new)) other ≡ slots_of (lists_of (kept_of self.old)) other }
-        ensures queues { IfSome result (λ slot. SetsAt (queues_of (E.ends_of keeper.old) (kept_of self.old)) (queues_of (E.ends_of keeper.new) (kept_of self.new)) slot (filter (λ r. not (r.transaction == transaction)) (queue_at (queues_of (E.ends_of keeper.old) (kept_of self.old)) slot))) }
+        ensures taken { IfSome result (IsTakenOut (state_of (E.ends_of keeper.old) (kept_of self.old)) (state_of (E.ends_of keeper.new) (kept_of self.new)) transaction) }
         ensures has { IfSome result (λ slot. E.has keeper.new slot) }
         ensures none { IfNone result ((self.new ≡ self.old) × (keeper.new ≡ keeper.old)) }
         ensures beside { E.beside keeper.old keeper.new }

@@ -19,7 +19,7 @@ grant-requires-clause-once g c =
     let taken = kept_of c.take.new.self in
     let a = subst (AreSound (g.E.QueueEnds.has c.args.keeper.now) ends) (sym c.self.view_is) c.requires.sound in
     subst (λ x. AreOnce (requests taken.nodes (ids_of taken.links x))) (sym c.ends.ensures)
-    (once_left kept.nodes taken.nodes (ids_by kept.links ends) (ids_by taken.links new_ends) c.in_ok-slot.slot c.args.transaction (a.ends_are.settled.settled c.in_ok-slot.slot).1 c.in_ok-slot.ensures.queues)
+    (once_left kept.nodes taken.nodes (ids_by kept.links ends) (ids_by taken.links new_ends) c.in_ok-slot.slot c.args.transaction (a.ends_are.settled.settled c.in_ok-slot.slot).1 c.in_ok-slot.ensures.taken.queues)
 
 done : (g : given.Over) (c : After-grant g) → Released c.self.inside.table.nodes.slots c.take.new.self.nodes.slots c.grant.new.self.nodes.slots
     (ids_by c.self.inside.table.links.links.items (g.E.QueueEnds.ends_of c.args.keeper.now)) (ids_by c.take.new.self.links.links.items (g.E.QueueEnds.ends_of c.take.new.keeper))
@@ -29,7 +29,7 @@ done g c =
     let taken = kept_of c.take.new.self in
     let a = subst (AreSound (g.E.QueueEnds.has c.args.keeper.now) ends) (sym c.self.view_is) c.requires.sound in
     released_in ends (g.E.QueueEnds.ends_of c.take.new.keeper) (kept_of c.self.inside.table) taken c.grant.new.self.nodes.slots (ids_of taken.links c.ends.result) c.in_ok-slot.slot c.args.transaction a.ends_are c.in_ok-slot.ensures.tied (ap (ids_of taken.links) c.ends.ensures)
-    c.in_ok-slot.ensures.given c.in_ok-slot.ensures.list c.in_ok-slot.ensures.others c.in_ok-slot.ensures.queues c.grant.ensures.granted c.grant.ensures.places c.grant.ensures.others
+    c.in_ok-slot.ensures.given c.in_ok-slot.ensures.taken.list c.in_ok-slot.ensures.taken.others c.in_ok-slot.ensures.taken.queues c.grant.ensures.granted c.grant.ensures.places c.grant.ensures.others
 
 pub returns-clause-sound : goal.returns-clause-sound
 returns-clause-sound g c =
@@ -42,21 +42,19 @@ returns-clause-sound g c =
     (sound_released has new_has ends new_ends (kept_of c.self.inside.table) (kept_of c.take.new.self) c.grant.new.self.nodes.slots c.in_ok-slot.slot c.args.transaction a c.in_ok-slot.ensures.tied c.in_ok-slot.ensures.has
     (λ u h. (g.met.E.QueueEnds.beside_has c.args.keeper.now c.take.new.keeper u c.in_ok-slot.ensures.beside).0 h) (done g c))
 
-pub returns-clause-list : goal.returns-clause-list
-returns-clause-list g c =
-    ap (λ (k : Kept). slots_of (lists_of k) c.args.transaction) (kept_is c.take.new.self c.grant.new.self c.grant.ensures.links c.grant.ensures.lists)
-    ∙ (ap (λ x. slots_of x c.args.transaction) (done g c).lists ∙ (c.in_ok-slot.ensures.list ∙ ap (λ (k : Kept). rest_of (slots_of (lists_of k) c.args.transaction)) c.self.view_is))
-
-pub returns-clause-others : goal.returns-clause-others
-returns-clause-others g c = λ u n.
-    ap (λ (k : Kept). slots_of (lists_of k) u) (kept_is c.take.new.self c.grant.new.self c.grant.ensures.links c.grant.ensures.lists)
-    ∙ (ap (λ x. slots_of x u) (done g c).lists ∙ (c.in_ok-slot.ensures.others u n ∙ ap (λ (k : Kept). slots_of (lists_of k) u) c.self.view_is))
-
-pub returns-clause-queues : goal.returns-clause-queues
-returns-clause-queues g c =
-    let ends = g.E.QueueEnds.ends_of c.args.keeper.now in
-    let new_ends = g.E.QueueEnds.ends_of c.take.new.keeper in
-    subst (λ (k : Kept). SetsAt (queues_of ends c.args.self.now) (queues_of new_ends k) c.in_ok-slot.slot (queue_without (queue_at (queues_of ends c.args.self.now) c.in_ok-slot.slot) c.args.transaction))
-    (sym (kept_is c.take.new.self c.grant.new.self c.grant.ensures.links c.grant.ensures.lists))
-    (subst (λ (k : Kept). SetsAt (queues_of ends k) (queues_of new_ends (record { nodes = c.grant.new.self.nodes.slots; links = c.take.new.self.links.links.items; entries = c.take.new.self.lists.entries })) c.in_ok-slot.slot
-    (queue_without (queue_at (queues_of ends k) c.in_ok-slot.slot) c.args.transaction)) c.self.view_is (done g c).queues)
+pub returns-clause-released : goal.returns-clause-released
+returns-clause-released g c = record {
+  queues =
+      let ends = g.E.QueueEnds.ends_of c.args.keeper.now in
+      let new_ends = g.E.QueueEnds.ends_of c.take.new.keeper in
+      subst (λ (k : Kept). SetsAt (queues_of ends c.args.self.now) (queues_of new_ends k) c.in_ok-slot.slot (queue_without (queue_at (queues_of ends c.args.self.now) c.in_ok-slot.slot) c.args.transaction))
+      (sym (kept_is c.take.new.self c.grant.new.self c.grant.ensures.links c.grant.ensures.lists))
+      (subst (λ (k : Kept). SetsAt (queues_of ends k) (queues_of new_ends (record { nodes = c.grant.new.self.nodes.slots; links = c.take.new.self.links.links.items; entries = c.take.new.self.lists.entries })) c.in_ok-slot.slot
+      (queue_without (queue_at (queues_of ends k) c.in_ok-slot.slot) c.args.transaction)) c.self.view_is (done g c).queues);
+  list =
+      ap (λ (k : Kept). slots_of (lists_of k) c.args.transaction) (kept_is c.take.new.self c.grant.new.self c.grant.ensures.links c.grant.ensures.lists)
+      ∙ (ap (λ x. slots_of x c.args.transaction) (done g c).lists ∙ (c.in_ok-slot.ensures.taken.list ∙ ap (λ (k : Kept). rest_of (slots_of (lists_of k) c.args.transaction)) c.self.view_is));
+  others = λ u n.
+      ap (λ (k : Kept). slots_of (lists_of k) u) (kept_is c.take.new.self c.grant.new.self c.grant.ensures.links c.grant.ensures.lists)
+      ∙ (ap (λ x. slots_of x u) (done g c).lists ∙ (c.in_ok-slot.ensures.taken.others u n ∙ ap (λ (k : Kept). slots_of (lists_of k) u) c.self.view_is));
+}

@@ -79,11 +79,9 @@ added g c =
 pub returns-clause-tied : goal.returns-clause-tied
 returns-clause-tied g c = record { lines = c.push-2.ensures.pushed.kept; table = added_table _ _ _ _ _ _ _ _ _ (added g c) }
 
-pub returns-clause-queues : goal.returns-clause-queues
-returns-clause-queues g c = added_queues _ _ _ _ _ _ _ _ _ (added g c)
-
-pub returns-clause-list : goal.returns-clause-list
-returns-clause-list g c = added_list _ _ _ _ _ _ _ _ _ (added g c)
-
-pub returns-clause-others : goal.returns-clause-others
-returns-clause-others g c = added_others _ _ _ _ _ _ _ _ _ (added g c)
+pub returns-clause-entered : goal.returns-clause-entered
+returns-clause-entered g c = record {
+  queues = added_queues _ _ _ _ _ _ _ _ _ (added g c);
+  list = added_list _ _ _ _ _ _ _ _ _ (added g c);
+  others = added_others _ _ _ _ _ _ _ _ _ (added g c);
+}

@@ -3,8 +3,8 @@ use Rattle.slab.specs.Slab.{Slab}
 use Rattle.pc_locks.specs.declared.node.Node.{Node}
 use Rattle.pc_locks.specs.Lines.{Listed, ids_by}
 use Rattle.pc_locks.specs.States.{slots_of, first_of, rest_of, AreDifferent, AreFilled}
-use Rattle.pc_locks.specs.Tables.{node_at, lists_in}
-use Rattle.pc_locks.proofs.RemovalLemmas.{Removed, first_stands, none_given, rest_none, removed_table, removed_queues, removed_list, removed_others, removed_given}
+use Rattle.pc_locks.specs.Tables.{node_at}
+use Rattle.pc_locks.proofs.RemovalLemmas.{Removed, first_stands, none_given, removed_table, removed_queues, removed_list, removed_others, removed_given}
 use Rattle.pc_locks.proofs.TableLemmas.{found_slots}
 use Rattle.pc_locks.proofs.table.RequestTable.take.Goals as goal
 use Rattle.pc_locks.proofs.table.RequestTable.take.Goals.{After-try_remove}
@@ -14,12 +14,6 @@ pub returns-in_err-id-clause-given : goal.returns-in_err-id-clause-given
 returns-in_err-id-clause-given g c =
     let e = c.in_err-id.ensures.given ∙ ap (λ t. first_of (slots_of c.args.self.now.lists.entries t)) c.transaction.view_is in
     c.from_residual.ensures ∙ none_given c.args.self.now.nodes.slots c.args.self.now.lists.entries c.args.transaction e
-
-pub returns-in_err-id-clause-list : goal.returns-in_err-id-clause-list
-returns-in_err-id-clause-list g c =
-    let e = c.in_err-id.ensures.given ∙ ap (λ t. first_of (slots_of c.args.self.now.lists.entries t)) c.transaction.view_is in
-    ap (λ (v : Listed). slots_of (lists_in c.args.self.now.nodes.slots v.entries) c.args.transaction) c.in_err-id.ensures.none
-    ∙ rest_none (slots_of (lists_in c.args.self.now.nodes.slots c.args.self.now.lists.entries) c.args.transaction) (none_given c.args.self.now.nodes.slots c.args.self.now.lists.entries c.args.transaction e)
 
 pub unlink-requires-clause-has : goal.unlink-requires-clause-has
 unlink-requires-clause-has g c =
@@ -53,14 +47,12 @@ returns-clause-tied g c = record { lines = c.unlink.ensures.lines; table = remov
 pub returns-clause-given : goal.returns-clause-given
 returns-clause-given g c = removed_given _ _ _ _ _ _ _ _ _ (removed g c)
 
-pub returns-clause-list : goal.returns-clause-list
-returns-clause-list g c = removed_list _ _ _ _ _ _ _ _ _ (removed g c)
-
-pub returns-clause-others : goal.returns-clause-others
-returns-clause-others g c = removed_others _ _ _ _ _ _ _ _ _ (removed g c)
-
-pub returns-clause-queues : goal.returns-clause-queues
-returns-clause-queues g c = removed_queues _ _ _ _ _ _ _ _ _ (removed g c)
+pub returns-clause-taken : goal.returns-clause-taken
+returns-clause-taken g c = record {
+  queues = removed_queues _ _ _ _ _ _ _ _ _ (removed g c);
+  list = removed_list _ _ _ _ _ _ _ _ _ (removed g c);
+  others = removed_others _ _ _ _ _ _ _ _ _ (removed g c);
+}
 
 pub returns-clause-has : goal.returns-clause-has
 returns-clause-has g c =

@@ -1,4 +1,5 @@
 use Rattle.std.proofs.Common.{◌∙◌, ap}
+use Rattle.pc_locks.proofs.Turns.{answer_told, answer_queues}
 use Rattle.pc_records.specs.Ends.{queues_in}
 use Rattle.pc_records.specs.Floor.{Floor, has_spot, waits_anywhere}
 use Rattle.pc_records.proofs.FloorLaws.{asked_floor, asked_kept, asked_told, spot_row, unasked_floor, waits_there}
@@ -17,7 +18,7 @@ request-requires-clause-ready c =
 pub invariant_of-self : goal.invariant_of-self
 invariant_of-self c =
     let i = c.self.inside in (
-      asked_kept c.args.transaction c.args.id c.args.mode i.table c.request.new.keeper i.locks c.request.new.self i.sets c.self.invariant.0 c.self.invariant.2 c.request.ensures.beside (ap (λ (f : Floor). has_spot f.spots c.args.id) c.self.view_is ∙ c.requires.there) c.request.result c.request.ensures.queues c.request.ensures.err,
+      asked_kept c.args.transaction c.args.id c.args.mode i.table c.request.new.keeper i.locks c.request.new.self i.sets c.self.invariant.0 c.self.invariant.2 c.request.ensures.beside (ap (λ (f : Floor). has_spot f.spots c.args.id) c.self.view_is ∙ c.requires.there) c.request.result (answer_queues _ _ c.args.transaction c.args.id c.args.mode c.request.result c.request.ensures.answered) c.request.ensures.err,
       c.request.ensures.sound.ends_are,
       kept_listed i.table.rows c.request.new.keeper.rows i.sets c.request.ensures.beside.sets c.self.invariant.2,
     )
@@ -25,12 +26,12 @@ invariant_of-self c =
 pub returns-clause-told : goal.returns-clause-told
 returns-clause-told c =
     let i = c.self.inside in
-    rw (← c.self.view_is) (asked_told c.args.transaction c.args.id c.args.mode i.table c.request.new.keeper i.locks c.request.new.self i.sets c.self.invariant.0 c.self.invariant.2 c.request.ensures.beside (ap (λ (f : Floor). has_spot f.spots c.args.id) c.self.view_is ∙ c.requires.there) c.request.result c.request.ensures.told)
+    rw (← c.self.view_is) (asked_told c.args.transaction c.args.id c.args.mode i.table c.request.new.keeper i.locks c.request.new.self i.sets c.self.invariant.0 c.self.invariant.2 c.request.ensures.beside (ap (λ (f : Floor). has_spot f.spots c.args.id) c.self.view_is ∙ c.requires.there) c.request.result (answer_told _ _ c.args.transaction c.args.id c.args.mode c.request.result c.request.ensures.answered))
 
 pub returns-clause-asked : goal.returns-clause-asked
 returns-clause-asked c =
     let i = c.self.inside in
-    rw (← c.self.view_is) (asked_floor c.args.transaction c.args.id c.args.mode i.table c.request.new.keeper i.locks c.request.new.self i.sets c.self.invariant.0 c.self.invariant.2 c.request.ensures.beside (ap (λ (f : Floor). has_spot f.spots c.args.id) c.self.view_is ∙ c.requires.there) c.request.result c.request.ensures.queues)
+    rw (← c.self.view_is) (asked_floor c.args.transaction c.args.id c.args.mode i.table c.request.new.keeper i.locks c.request.new.self i.sets c.self.invariant.0 c.self.invariant.2 c.request.ensures.beside (ap (λ (f : Floor). has_spot f.spots c.args.id) c.self.view_is ∙ c.requires.there) c.request.result (answer_queues _ _ c.args.transaction c.args.id c.args.mode c.request.result c.request.ensures.answered))
 
 pub returns-clause-same : goal.returns-clause-same
 returns-clause-same c =
