@@ -1,12 +1,9 @@
 //! Who runs a workload.
 ghost use Rattle.std.specs.Prelude.{◌≤◌};
 ghost use Rattle.pc_collapse.specs.declared.limits.TheConstants.{MOST_COLLAPSERS};
-ghost use Rattle.pc_runs.specs.declared.crew.TheConstants.{MOST_WORKERS};
+ghost use Rattle.pc_jobs.specs.declared.dealing.TheConstants.{MOST_WORKERS};
 
 use pc_types::Gate;
-
-/// The greatest number of workers.
-pub const MOST_WORKERS: u8 = 64;
 
 /// How many threads run a workload, and the gate that their loops pass.
 #[derive(Drop)]

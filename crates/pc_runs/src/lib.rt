@@ -10,7 +10,7 @@ mod run;
 mod starting;
 mod store;
 
-pub use crew::{Crew, MOST_WORKERS};
+pub use crew::Crew;
 pub use files::{RunFolder, Unusable};
 pub use origin::{NamedFolder, Origin, Start};
 pub use pc_threads::NewFiles;

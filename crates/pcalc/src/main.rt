@@ -2,22 +2,18 @@
 //! are worth.
 #![tactic(auto)]
 
-mod counts;
 mod folder;
 mod late;
-mod options;
 mod parts;
-mod progress;
 mod running;
 mod standard;
-mod times;
 
 use clap::Error;
 use clap::error::ErrorKind;
 use folder::{Found, open_folder, tell_unopened};
-use options::{CollapseOptions, StepOptions, Task, task_of, unreadable};
 use parts::{NewFile, open_named, open_parts};
 use pc_collapse_files::{Inputs, run_collapse};
+use pc_options::{CollapseOptions, StepOptions, Task, task_of, unreadable};
 use pc_restore::run_recover;
 use pc_script::run_script;
 use pc_types::Tally;

@@ -1,10 +1,10 @@
 //! A run of a workload: its files, what is shown of it, and what is told of it in the end.
 use crate::folder::{Found, open_folder, run_folder, tell_unopened};
 use crate::late::LateFile;
-use crate::options::RunOptions;
 use crate::parts::{NewFile, open_named};
-use crate::progress::{Asked, Behind, Progress};
 use pc_collapse_files::Maker;
+use pc_options::RunOptions;
+use pc_progress::{Asked, Behind, Progress};
 use pc_runs::{Crew, NamedFolder, Origin, Start, run_workload};
 use pc_texts::{NamedFile, report};
 use pc_types::{Refusal, Tally};

@@ -2,13 +2,13 @@
 ghost use Rattle.std.specs.Prelude.{◌≤◌};
 ghost use Rattle.pc_types.specs.declared.limits.TheConstants.{MOST_KEYS};
 ghost use Rattle.pc_collapse.specs.declared.limits.TheConstants.{MOST_COLLAPSERS};
-ghost use Rattle.pc_runs.specs.declared.crew.TheConstants.{MOST_WORKERS};
+ghost use Rattle.pc_jobs.specs.declared.dealing.TheConstants.{MOST_WORKERS};
 
 use clap::builder::ValueParser;
 use clap::error::ErrorKind;
 use clap::{Arg, ArgAction, ArgMatches, Command, Error};
 use pc_collapse::MOST_COLLAPSERS;
-use pc_runs::MOST_WORKERS;
+use pc_jobs::MOST_WORKERS;
 use pc_script::Setup;
 use pc_types::{MOST_KEYS, MOST_SESSIONS};
 use std::alloc::{AllocError, Global};

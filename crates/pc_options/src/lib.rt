@@ -1,0 +1,6 @@
+//! The words of a command line, and what they ask for.
+#![tactic(auto)]
+
+mod options;
+
+pub use options::{CollapseOptions, RunOptions, StepOptions, Task, task_of, unreadable};

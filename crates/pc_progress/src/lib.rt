@@ -1,0 +1,8 @@
+//! How far a run is, and what is counted of it.
+#![tactic(auto)]
+
+mod counts;
+mod progress;
+mod times;
+
+pub use progress::{Asked, Behind, Progress};
