@@ -42,7 +42,7 @@ def contract_at(lines, start, indent):
         if line == indent + "{" or line == indent + "{}":
             break
         found.append(line.strip())
-        if line.rstrip().endswith((";", "{", "{}")) and not line.lstrip().startswith(("requires", "ensures")):
+        if line.rstrip().endswith(";") or line.rstrip().endswith(("{", "{}")) and not line.lstrip().startswith(("requires", "ensures")):
             break
     return "\n".join(found).rstrip("{").rstrip()
 

@@ -105,4 +105,5 @@ def main():
         print(f"checksum {counts.checksum:016x}")
 
 
-main()
+if __name__ == "__main__":
+    main()

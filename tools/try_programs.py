@@ -10,6 +10,7 @@
     crash_cases.py        runs that are killed, and what is recovered of their folders
     refused_growths.py    a run and the tests of test_memory, each growth of memory that they ask for refused in turn
     PAGES                 what tools make of the crates stands in docs/ as they make it, and each wrong body is one
+    tests/                the tests of these tools, on what is made up
 
 What differs is shown, and what was seen of growths; the last line is 'N passed, M failed'; the status is 1 where one failed.
 """
@@ -23,6 +24,7 @@ import shutil
 import subprocess
 import sys
 import tempfile
+import unittest
 
 import crash_cases
 import program_cases
@@ -33,6 +35,7 @@ ROOT = os.path.join(os.path.dirname(os.path.abspath(__file__)), "..")
 SECONDS = 60
 NOBODY = 65_534
 PAGES = ("check_edits.py",), ("crate_tables.py",), ("spec_guide.py", "--check")
+TESTS = os.path.join(ROOT, "tools", "tests")
 
 
 def program_of(crate):
@@ -138,6 +141,26 @@ def pages():
         yield f"tools/{tool}", (out + err).decode().splitlines() if status else []
 
 
+def tests_in(found):
+    for it in found:
+        if isinstance(it, unittest.TestSuite):
+            yield from tests_in(it)
+        else:
+            yield it
+
+
+def tests():
+    """What each test of the tools tells, by its name. That there are none is told too."""
+    count = 0
+    for count, test in enumerate(tests_in(unittest.TestLoader().discover(TESTS)), 1):
+        result = unittest.TestResult()
+        result.buffer = True
+        test(result)
+        yield f"tools/tests: {test.id()}", [line for _, text in result.failures + result.errors for line in text.splitlines()]
+    if count == 0:
+        yield "tools/tests", ["none is found"]
+
+
 def content_of(folder, name):
     """What a file has, or None where it isn't there."""
     try:
@@ -166,7 +189,7 @@ def differences(told, status, out, err):
 
 def main():
     passed = failed = 0
-    for some in (stored, cases, crashes, refused_growths.growths, pages):
+    for some in (stored, cases, crashes, refused_growths.growths, pages, tests):
         for name, lines in some():
             if lines:
                 failed += 1

@@ -74,4 +74,5 @@ def main():
     print("recovered right", sums["choices"])
 
 
-main()
+if __name__ == "__main__":
+    main()

@@ -1,0 +1,206 @@
+"""Which bodies `try_bodies.py` and `try_meetings.py` try again: those whose text, or that of their crates, is another one than when they were tried."""
+
+import os
+import subprocess
+import unittest
+from unittest import mock
+
+from support import InFolder
+
+import gate_times
+import try_bodies
+import try_meetings
+
+EDIT = "file: src/lib.rt\nold: a\nnew: b\npromise: one\n"
+
+
+class Bodies(InFolder):
+    """Two crates, each with a body that is tried on demand, and one with none."""
+
+    def setUp(self):
+        super().setUp()
+        self.move(gate_times, try_bodies)
+        self.write("crates.txt", "pc_low: std\npc_mid: pc_low\npc_high: pc_mid\n")
+        for name in ("pc_low", "pc_mid", "pc_high"):
+            self.write(f"crates/{name}/src/lib.rt", "a\n")
+        self.write("crates/pc_low/tried/one.edit", EDIT)
+        self.write("crates/pc_high/tried/one.edit", EDIT)
+        self.write("crates/pc_high/tried/two.edit", EDIT)
+        os.makedirs(os.path.join(self.folder, "tools"))
+
+    def sums(self):
+        return {name: try_bodies.text_sum(below) for name, below in try_bodies.crates().items()}
+
+    def changed(self, name, text):
+        """The crates whose text's checksum is another one with this file."""
+        before = self.sums()
+        self.write(name, text)
+        after = self.sums()
+        return [name for name in before if after[name] != before[name]]
+
+    def noted(self, *bodies):
+        record = try_bodies.Record()
+        for name, body in bodies:
+            record.note(name, body, self.sums()[name])
+        record.write()
+
+    def test_a_text_is_that_of_a_crate_and_of_all_below_it(self):
+        self.assertEqual(self.changed("crates/pc_low/src/lib.rt", "b\n"), ["pc_low", "pc_high"])
+        self.assertEqual(self.changed("crates/pc_mid/proofs/Laws.antt", "b\n"), ["pc_high"])
+        self.assertEqual(self.changed("crates/pc_high/specs/deep/Words.antt", "b\n"), ["pc_high"])
+
+    def test_tests_and_other_bodies_are_no_part_of_it(self):
+        for name in ("src/more_tests.rt", "src/tests/all.rt", "must-fail/three.edit", "tried/three.edit", "stdout", "src/lib.rt"):
+            self.assertEqual(self.changed(f"crates/pc_low/{name}", "a\n"), [])
+
+    def test_a_body_is_what_it_changes(self):
+        before = try_bodies.body_sum("pc_low", "one")
+        self.write("crates/pc_low/tried/one.edit", EDIT.replace("one", "two"))
+        self.assertEqual(try_bodies.body_sum("pc_low", "one"), before)
+        self.write("crates/pc_low/tried/one.edit", EDIT.replace("new: b", "new: c"))
+        self.assertNotEqual(try_bodies.body_sum("pc_low", "one"), before)
+
+    def test_what_was_refused_is_not_tried_again(self):
+        self.assertEqual(try_bodies.chosen_of([], True), {"pc_low": ["one"], "pc_high": ["one", "two"]})
+        self.noted(("pc_low", "one"), ("pc_high", "two"))
+        self.assertEqual(try_bodies.chosen_of([], True), {"pc_high": ["one"]})
+        self.assertEqual(try_bodies.chosen_of([], False), {"pc_low": ["one"], "pc_high": ["one", "two"]})
+        told = "pc_low: 1 of 1 bodies were refused on this text\npc_high: 1 of 2 bodies were refused on this text\n"
+        self.assertEqual(self.printed(try_bodies.tell), (0, told))
+
+    def test_what_was_refused_on_another_text_is_tried_again(self):
+        self.noted(("pc_low", "one"), ("pc_high", "one"), ("pc_high", "two"))
+        self.write("crates/pc_high/tried/two.edit", EDIT.replace("new: b", "new: c"))
+        self.assertEqual(try_bodies.chosen_of([], True), {"pc_high": ["two"]})
+        self.write("crates/pc_mid/src/lib.rt", "b\n")
+        self.assertEqual(try_bodies.chosen_of([], True), {"pc_high": ["one", "two"]})
+
+    def test_the_record_has_a_body_once_and_none_that_is_gone(self):
+        self.noted(("pc_low", "one"), ("pc_high", "one"))
+        self.write("crates/pc_low/src/lib.rt", "b\n")
+        os.remove(os.path.join(self.folder, "crates/pc_high/tried/one.edit"))
+        self.noted(("pc_low", "one"))
+        lines = self.read("tools/tried").splitlines()
+        self.assertEqual(len(lines), 2)
+        self.assertRegex(lines[1], r"^pc_low %s \d{4}-\d\d-\d\d: one:%s$" % (self.sums()["pc_low"], try_bodies.body_sum("pc_low", "one")))
+
+    def test_chosen_by_name(self):
+        self.assertEqual(try_bodies.chosen_of(["pc_high/two"], False), {"pc_high": ["two"]})
+        self.assertEqual(try_bodies.chosen_of(["pc_high"], False), {"pc_high": ["one", "two"]})
+        self.assertEqual(self.ended(try_bodies.chosen_of, ["pc_high/three"], False), "no such body in tried/: pc_high/three")
+        self.assertEqual(try_bodies.needed_by(["pc_high"]), ["pc_low", "pc_mid"])
+
+    def test_the_copy_in_which_they_are_tried(self):
+        """It has the chosen bodies in the place of those of the gate, and shares no file with the repository that may be written."""
+        self.write("repository/crates.txt", "pc_low: std\n")
+        self.write("repository/crates/pc_low/must-fail/old.edit", EDIT)
+        self.write("repository/crates/pc_low/tried/one.edit", EDIT)
+        self.write("repository/.git/HEAD", "")
+        self.write("repository/crates/pc_low/out/pc_low.rlib/a", "")
+        here, copy = os.path.join(self.folder, "repository"), os.path.join(self.folder, "copy")
+        for module in (gate_times, try_bodies):
+            self.replace(module, ROOT=here)
+        try_bodies.copy_with(copy, {"pc_low": ["one"]})
+        self.assertEqual(os.listdir(os.path.join(copy, "crates/pc_low/must-fail")), ["one.edit"])
+        self.assertFalse(os.path.exists(os.path.join(copy, ".git")))
+        self.assertFalse(os.path.samefile(os.path.join(copy, "crates.txt"), os.path.join(here, "crates.txt")))
+
+    def test_which_bodies_were_refused(self):
+        for body in ("one", "two"):
+            self.write(f"crates/pc_high/must-fail/{body}.edit", EDIT)
+        refused, other = "must-fail pc_high/one.edit: refused, as it must be\n", "must-fail pc_high/two.edit: NOT REFUSED: x\n"
+        for said, wanted, begin in (
+            (refused + other, [None, "one"], "pc_high: 1 of 2 refused\nmust-fail pc_high/two.edit: NOT REFUSED: x\n"),
+            (refused + refused.replace("one", "two"), ["one", "two"], "pc_high: 2 of 2 refused\n"),
+            ("broken\n", [None], "pc_high: 0 of 2 refused\nbroken\n"),
+        ):
+            with mock.patch.object(subprocess, "run", return_value=subprocess.CompletedProcess([], 0, said, "")):
+                found, told = self.printed(try_bodies.try_crate, self.folder, "pc_high")
+            self.assertEqual(sorted(found, key=str), sorted(wanted, key=str))
+            self.assertTrue(told.startswith(begin), told)
+
+
+class Meetings(InFolder):
+    """A body that is seen in a meeting, one that a workload shows, and one that a test sees."""
+
+    def setUp(self):
+        super().setUp()
+        self.move(try_meetings)
+        self.write("crates/pc_low/src/lib.rt", "let a = 1;\nlet b = 2;\n")
+        self.write("crates/test_threads/src/main.rt", "a\n")
+        self.write("crates/pcalc/src/main.rt", "a\n")
+        self.write("crates/test_threads/stdout", "two meet: met true, commits 2\n")
+        self.write("examples/small.out", "commits 2\npoints 0\n")
+        change = "file: pc_low/src/lib.rt\nold: a = 1\nnew: a = 3\nold: a = 3\nnew: a = 4\n"
+        self.write("tools/meetings/meet.edit", "meeting: two meet\n" + change)
+        self.write("tools/meetings/work.edit", "workload: small --lag 0\n" + change)
+        self.write("tools/meetings/test.edit", "test: test_units it_is_one\n" + change)
+
+    def wrong(self, name, *printed):
+        """What is wrong with the body where the copies print these lines, one after the other."""
+        with mock.patch.object(try_meetings, "told", side_effect=[(lines, "the end") for lines in printed]):
+            return try_meetings.wrong_with(try_meetings.lines_of(name))
+
+    def test_the_changes_of_a_body(self):
+        try_meetings.applied(try_meetings.lines_of("meet"), os.path.join(self.folder, "crates"))
+        self.assertEqual(self.read("crates/pc_low/src/lib.rt"), "let a = 4;\nlet b = 2;\n")
+        self.assertIn("the old text stands 0 times: a = 1", self.ended(try_meetings.applied, try_meetings.lines_of("meet"), os.path.join(self.folder, "crates")))
+
+    def test_where_a_body_is_seen(self):
+        self.assertEqual([try_meetings.crate_of(try_meetings.lines_of(name)) for name in ("meet", "work", "test")], ["test_threads", "pcalc", "test_units"])
+
+    def test_a_meeting(self):
+        self.assertEqual(self.wrong("meet", ["two meet: met false, commits 2"]), "")
+        self.assertEqual(self.wrong("meet", ["two meet: met true, commits 2"]), "two meet: met true, commits 2")
+        self.assertEqual(self.wrong("meet", ["three meet: met false"]), "no line: the end")
+        self.write("crates/test_threads/stdout", "two meet: met false\n")
+        self.assertEqual(self.wrong("meet", ["two meet: met false"]), "two meet shows it as it stands")
+
+    def test_a_workload(self):
+        self.assertEqual(self.wrong("work", ["commits 1", "points 0"]), "")
+        self.assertEqual(self.wrong("work", ["commits 2", "points 0", "report"]), "the run prints what it is to")
+        self.assertEqual(self.wrong("work", ["broken"]), "no run: the end")
+
+    def test_a_test(self):
+        passes, fails = ["test it_is_one ... ok"], ["test it_is_one ... FAILED"]
+        self.assertEqual(self.wrong("test", passes, fails), "")
+        self.assertEqual(self.wrong("test", passes, passes), "with the edit: test it_is_one ... ok")
+        self.assertEqual(self.wrong("test", fails), "as it stands: test it_is_one ... FAILED")
+        self.assertEqual(self.wrong("test", []), "as it stands: the end")
+
+    def test_what_was_seen_is_noted_with_its_text(self):
+        self.assertFalse(try_meetings.is_tried("meet"))
+        for name in ("meet", "work"):
+            try_meetings.note(name)
+        self.assertEqual([name for name in try_meetings.bodies() if try_meetings.is_tried(name)], ["meet", "work"])
+        self.write("crates/test_threads/src/main.rt", "b\n")
+        self.assertEqual([name for name in try_meetings.bodies() if try_meetings.is_tried(name)], ["work"])
+        self.write("crates/pc_low/src/lib.rt", "let a = 1;\n")
+        self.assertEqual([name for name in try_meetings.bodies() if try_meetings.is_tried(name)], [])
+        self.assertEqual(self.printed(try_meetings.tell)[0], 1)
+
+    def test_the_record_has_none_that_is_gone(self):
+        for name in ("meet", "work", "test"):
+            try_meetings.note(name)
+        self.assertEqual(self.printed(try_meetings.tell)[0], 0)
+        os.remove(os.path.join(self.folder, "tools/meetings/work.edit"))
+        try_meetings.note("meet")
+        self.assertEqual([*try_meetings.record()], ["meet", "test"])
+
+
+class Stored(InFolder):
+    """The bodies of the repository."""
+
+    def test_each_of_the_meetings_changes_what_stands(self):
+        self.assertTrue(try_meetings.bodies())
+        for name in try_meetings.bodies():
+            lines = try_meetings.lines_of(name)
+            for word, path in lines:
+                if word == "file":
+                    self.write(path, try_meetings.text_of(os.path.join(try_meetings.ROOT, "crates", path)))
+            with self.subTest(body=name):
+                try_meetings.applied(lines, self.folder)
+
+
+if __name__ == "__main__":
+    unittest.main()

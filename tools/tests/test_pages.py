@@ -1,0 +1,153 @@
+"""What `crate_tables.py` and `spec_guide.py` write into pages, and what they tell of a page that has something else."""
+
+import unittest
+
+from support import InFolder
+
+import crate_tables
+import spec_guide
+
+CRATES = "# The store.\npc_low: std\npc_mid: pc_low\npc_high: pc_low pc_mid\n# What the gate runs.\ntest_low: pc_low\n"
+TABLES = """\
+<!-- crates store -->
+| crate | what it has | stands on |
+|---|---|---|
+| `pc_low` | What is low. |  |
+| `pc_mid` | What is in the middle. | `pc_low` |
+| `pc_high` | What is high. | `pc_mid` |
+
+Between them.
+
+<!-- crates gate -->
+| crate | what it has | stands on |
+|---|---|---|
+| `test_low` | Tests of what is low. | `pc_low` |
+
+Behind them.
+"""
+
+
+class Tables(InFolder):
+    def setUp(self):
+        super().setUp()
+        self.move(crate_tables)
+        self.write("crates.txt", CRATES)
+        for name, text in (("pc_low", "is low"), ("pc_mid", "is in the\n//! middle"), ("pc_high", "is high")):
+            self.write(f"crates/{name}/src/lib.rt", f"//! What {text}.\n//!\n//! More of it.\nmod a;\n")
+        self.write("crates/test_low/src/main.rt", "//! Tests of what is low.\n")
+        self.write("docs/ARCHITECTURE.md", TABLES)
+
+    def test_tables_that_are_as_they_are_to_be(self):
+        self.assertEqual(self.printed(crate_tables.main, []), (0, ""))
+
+    def test_tables_that_are_not(self):
+        told = "docs/ARCHITECTURE.md: the tables of crates are not as they are to be: tools/crate_tables.py --mark\n"
+        self.write("docs/ARCHITECTURE.md", TABLES.replace("What is high.", "What was high."))
+        self.assertEqual(self.printed(crate_tables.main, []), (1, told))
+        self.assertEqual(self.printed(crate_tables.main, ["--mark"]), (0, ""))
+        self.assertEqual(self.read("docs/ARCHITECTURE.md"), TABLES)
+
+    def test_a_table_that_is_not_marked(self):
+        self.write("docs/ARCHITECTURE.md", TABLES.replace("<!-- crates gate -->\n", ""))
+        self.assertEqual(self.printed(crate_tables.main, [])[0], 1)
+
+    def test_a_crate_that_is_new(self):
+        self.write("crates.txt", CRATES + "test_high: pc_high\n")
+        self.write("crates/test_high/src/lib.rt", "//! Tests of what is high.\n")
+        self.assertEqual(self.printed(crate_tables.main, [])[0], 1)
+
+
+LOW = """\
+-- What is small.
+use Rattle.std.specs.Prelude.{ℕ, ◌≤◌}
+
+abbrev pub least : ℕ
+least = 1
+
+abbrev pub IsSmall : ℕ → Type 0
+IsSmall n = n ≤ least
+"""
+HIGH = """\
+-- What is shut.
+use Rattle.pc_low.specs.Small.{IsSmall as Tiny}
+use Rattle.pc_low.specs.Other as other
+
+abbrev pub IsShut : ℕ → Type 0
+IsShut n = Tiny n
+"""
+SOURCE = """\
+ghost use Rattle.pc_high.specs.Shut.{IsShut};
+
+impl Lid {
+    pub fn open(&self) -> u64
+    {
+        1
+    }
+}
+
+impl Chest {
+    pub fn open(&self) -> u64
+        requires { IsShut self }
+    {
+        1
+    }
+}
+"""
+PAGE = """\
+# Architecture
+
+## What has to be believed
+
+These lists are made.
+
+%s
+## What is to be bettered
+
+Nothing.
+"""
+LIST = "- **`pc_high` `Chest::open`**: 14 lines in 2 files. `pc_low` `Small` (8); `pc_high` `Shut` (6).\n"
+
+
+class Guide(InFolder):
+    def setUp(self):
+        super().setUp()
+        self.move(spec_guide)
+        self.replace(spec_guide, HEADLINES=[[("pc_high", "Chest::open")]])
+        self.write("crates.txt", CRATES)
+        self.write("crates/pc_low/specs/Small.antt", LOW)
+        self.write("crates/pc_low/specs/Other.antt", "abbrev pub other : ℕ\nother = 2\n")
+        self.write("crates/pc_high/specs/Shut.antt", HIGH)
+        self.write("crates/pc_high/src/lib.rt", SOURCE)
+        self.write("docs/ARCHITECTURE.md", PAGE % LIST)
+
+    def test_the_files_that_a_contract_reaches(self):
+        self.assertEqual(self.printed(spec_guide.tell_one, "pc_high", "Chest::open")[1], "    8  `pc_low` `Small`: IsSmall least\n    6  `pc_high` `Shut`: IsShut\n   14  in all\n")
+        self.assertEqual(self.printed(spec_guide.tell_one, "pc_high", "Lid::open")[1], "    0  in all\n")
+
+    def test_a_word_behind_a_module(self):
+        self.write("crates/pc_high/specs/Shut.antt", HIGH.replace("Tiny n", "other.other ≡ n"))
+        self.assertEqual(self.printed(spec_guide.tell_one, "pc_high", "Chest::open")[1], "    2  `pc_low` `Other`: other\n    6  `pc_high` `Shut`: IsShut\n    8  in all\n")
+
+    def test_the_way_to_a_word(self):
+        told = "`pc_low` `Small` least < `pc_low` `Small` IsSmall < `pc_high` `Shut` IsShut\n"
+        self.assertEqual(self.printed(spec_guide.tell_way, "pc_high", "Chest::open", "least")[1], told)
+
+    def test_a_page_that_is_as_it_is_to_be(self):
+        spec_guide.check()
+
+    def test_a_page_that_is_not(self):
+        self.write("docs/ARCHITECTURE.md", PAGE % LIST.replace("14", "15"))
+        self.assertIn("isn't listed as it is", self.ended(spec_guide.check))
+        spec_guide.mark()
+        self.assertEqual(self.read("docs/ARCHITECTURE.md"), PAGE % LIST)
+
+    def test_a_definition_that_is_longer(self):
+        self.write("crates/pc_low/specs/Small.antt", LOW + "\n-- one line more\n")
+        self.assertIn("isn't listed as it is", self.ended(spec_guide.check))
+
+    def test_a_function_that_is_not_there(self):
+        self.assertEqual(self.ended(spec_guide.reach, [("pc_high", "gone")]), "spec_guide: pc_high has no public function gone")
+
+
+if __name__ == "__main__":
+    unittest.main()

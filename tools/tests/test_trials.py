@@ -1,0 +1,153 @@
+"""What runs that are killed, and growths that are refused, are held to: `crash_cases.py`, `refused_growths.py`, and the pipes of `program_cases.py`."""
+
+import os
+import subprocess
+import unittest
+from unittest import mock
+
+from support import InFolder
+
+import crash_cases
+import plain_files
+import program_cases
+import refused_growths
+
+
+class Crashes(InFolder):
+    """Folders of two clients, of whom the first has committed three transactions and the second two."""
+
+    def setUp(self):
+        super().setUp()
+        self.replace(crash_cases, CLIENTS=2, KEYS=2)
+        self.commits = [("commit", client, [self.put(client, number)]) for client, number in ((1, 0), (2, 0), (1, 1), (1, 2), (2, 1))]
+        self.pairs = {key: value for _, _, writes in self.commits for key, value in writes}
+
+    def put(self, client, number):
+        return crash_cases.key_of(b"a", client, number), b"%d" % number
+
+    def faults(self, least=0):
+        log = plain_files.Log(1)
+        log.entries = self.commits
+        program_cases.written(self.folder, "log.pcl", log.text())
+        return crash_cases.faults_of(self.folder, b"a", self.pairs, least)
+
+    def test_what_is_right(self):
+        self.assertEqual(self.pairs, {b"a1k00": b"2", b"a1k01": b"1", b"a2k00": b"0", b"a2k01": b"1"})
+        self.assertEqual(self.faults(5), [])
+
+    def test_what_is_lost(self):
+        self.assertEqual(self.faults(6), ["the log has 5 commits, of at least 6 that it is to have", "5 commits are recovered, of at least 6"])
+
+    def test_a_log_that_leaves_one_out(self):
+        del self.commits[2]
+        self.assertEqual(self.faults(), ["the log hasn't the first transactions of client 1"])
+
+    def test_pairs_that_are_no_state(self):
+        self.pairs[b"a1k01"] = b"0"
+        self.assertEqual(self.faults(), ["what is recovered of client 1 is no state that it has made"])
+
+    def test_pairs_behind_the_log(self):
+        self.pairs[b"a1k00"] = b"0"
+        del self.pairs[b"a2k01"]
+        told = ["what is recovered of client %d is no state that it has made" % client for client in (1, 2)]
+        self.assertEqual(self.faults(), told)
+
+    def test_a_workload_is_each_clients(self):
+        text = crash_cases.workload(b"a")
+        self.assertEqual(text.count(b"client "), crash_cases.CLIENTS)
+        self.assertEqual(text.count(b"\nput "), crash_cases.CLIENTS * crash_cases.COUNT)
+        self.assertIn(b"put a2k01 999\n", text)
+
+    def test_the_lines_of_a_terminal(self):
+        end, other = os.pipe()
+        line = b"\r%d commits, point 1, 0 joins, lag 0, given up 0\x1b[K"
+        os.write(other, b"other\n" + line % 3 + line % 12 + b"\r13 comm")
+        os.close(other)
+        self.assertEqual([*crash_cases.lines_of(end)], [3, 12])
+        os.close(end)
+
+    def test_what_a_program_recovers(self):
+        """It is right where the program prints what the files are worth, and nothing else."""
+        for name, text in (("base.pcb", plain_files.Base(1, 0, {}).text()), ("log.pcl", plain_files.Log(1).text())):
+            program_cases.written(self.folder, name, text)
+        ended = lambda status, out, err=b"": mock.patch.object(subprocess, "run", return_value=subprocess.CompletedProcess([], status, out, err))
+        right = b"point 0\nentries 0\npairs 0\n"
+        for told, lines in (((0, right), 0), ((1, right), 1), ((0, right + b"a 1\n"), 1), ((0, right, b"skipped"), 1)):
+            with ended(*told):
+                self.assertEqual(len(crash_cases.recovered("pcalc", self.folder)[0]), lines, told)
+        os.remove(os.path.join(self.folder, "base.pcb"))
+        self.assertEqual(len(crash_cases.recovered("pcalc", self.folder)[0]), 1)
+
+
+class Growths(InFolder):
+    def calls(self, growths, end=0):
+        """A call that asks for so many growths."""
+        return lambda number: (end, b"", b"", number <= growths)
+
+    def test_each_growth_is_refused_once(self):
+        for growths in (0, 1, 3, 4, 5, 9):
+            self.replace(refused_growths, LANES=4)
+            self.assertEqual([number for number, _ in refused_growths.refused_each(self.calls(growths))], [*range(1, growths + 1)])
+
+    def test_a_call_without_an_end_is_the_last(self):
+        self.replace(refused_growths, LANES=2)
+        found = [*refused_growths.refused_each(self.calls(9, None))]
+        self.assertEqual([number for number, _ in found], [1, 2])
+
+    def test_growths_without_an_end_are_told(self):
+        self.replace(refused_growths, LANES=2, MOST_GROWTHS=5)
+        self.assertEqual([*refused_growths.refused_each(self.calls(100))][-1], (5, (None, b"", b"no end of growths", True)))
+
+    def test_how_a_run_may_end(self):
+        whole, less = refused_growths.printed_with(0), refused_growths.printed_with(1)
+        for right in ((0, whole, b""), (0, less, b""), (1, b"", b""), (1, b"", b"pcalc: growths.pcw: OutOfMemory\n"), (1, b"", b"pcalc: growths.pcw: NoThread\n")):
+            self.assertTrue(refused_growths.is_right(*right), right)
+        for wrong in (
+            (0, refused_growths.printed_with(2), b""),
+            (0, whole, b"pcalc: growths.pcw: OutOfMemory\n"),
+            (1, whole, b""),
+            (1, b"", b"pcalc: growths.pcw: Full\n"),
+            (1, b"", b"pcalc: growths.pcw: OutOfMemory\n" * 2),
+            (101, b"", b""),
+            (None, b"", b""),
+        ):
+            self.assertFalse(refused_growths.is_right(*wrong), wrong)
+
+    def test_what_is_wrong_with_runs(self):
+        """Some are to end with each of both statuses."""
+        ended, lost = (0, refused_growths.printed_with(0), b"", True), (1, b"", b"", True)
+        for ends, wrong in (([ended, lost], 0), ([ended, ended], 1), ([ended, lost, (2, b"", b"", True)], 1)):
+            with mock.patch.object(refused_growths, "refused_each", return_value=enumerate(ends, 1)):
+                self.assertEqual(len(self.printed(refused_growths.runs, "library", "pcalc", self.folder)[0]), wrong)
+
+    def test_what_is_wrong_with_a_test(self):
+        for ends, wrong in (([(0,), (0,)], []), ([(0,), (101,)], ["growth 2: status 101"]), ([], ["it asked for no growth"])):
+            with mock.patch.object(refused_growths, "refused_each", return_value=enumerate(ends, 1)):
+                self.assertEqual(self.printed(refused_growths.test, "library", "tests", self.folder, "one")[0], wrong)
+
+    def test_tests_are_found_by_their_names(self):
+        listed = "one_at_each_refused_growth: test\nother: test\nat_each_refused_growth_no: test\n2 tests\n"
+        with mock.patch.object(subprocess, "run", return_value=subprocess.CompletedProcess([], 0, listed, "")):
+            self.assertEqual(refused_growths.tests_of("tests"), ["one_at_each_refused_growth"])
+
+    def test_the_growth_that_is_refused_is_seen_by_its_number(self):
+        """A program that tells which one was refused is not itself the one that tells."""
+        script = self.write("told.sh", "echo $REFUSED_GROWTH $LD_PRELOAD; echo a growth was refused >&2; echo other >&2; exit 1\n")
+        self.assertEqual(refused_growths.refused("", 7, ("sh", script), self.folder), (1, b"7\n", b"other\n", True))
+
+
+class Pipes(InFolder):
+    def test_a_pipe_is_fed_once_it_is_read(self):
+        path, done = program_cases.piped(self.folder, "pipe"), []
+        with program_cases.beside(lambda: program_cases.feed(path, b"text", lambda: done.append(1))):
+            with open(path, "rb") as it:
+                self.assertEqual(it.read(), b"text")
+        self.assertEqual(done, [1])
+
+    def test_a_pipe_that_nobody_reads(self):
+        self.replace(program_cases, PATIENCE=0)
+        program_cases.feed(program_cases.piped(self.folder, "pipe"), b"text", self.fail)
+
+
+if __name__ == "__main__":
+    unittest.main()
