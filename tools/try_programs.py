@@ -24,6 +24,7 @@ import shutil
 import subprocess
 import sys
 import tempfile
+import traceback
 import unittest
 
 import crash_cases
@@ -187,15 +188,24 @@ def differences(told, status, out, err):
     return lines
 
 
-def main():
+def counted(parts):
+    """How many cases passed and how many failed; what failed is shown. A part that breaks off has failed, and the next one is gone on with."""
     passed = failed = 0
-    for some in (stored, cases, crashes, refused_growths.growths, pages, tests):
-        for name, lines in some():
-            if lines:
-                failed += 1
-                print(f"{name}:", *lines, sep="\n")
-            else:
-                passed += 1
+    for some in parts:
+        try:
+            for name, lines in some():
+                passed += not lines
+                failed += bool(lines)
+                if lines:
+                    print(f"{name}:", *lines, sep="\n")
+        except Exception:
+            failed += 1
+            print(f"{some.__name__} broke off:", traceback.format_exc(), sep="\n")
+    return passed, failed
+
+
+def main():
+    passed, failed = counted((stored, cases, crashes, refused_growths.growths, pages, tests))
     print(f"{passed} passed, {failed} failed")
     return 1 if failed else 0
 

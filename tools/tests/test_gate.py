@@ -204,6 +204,24 @@ class Programs(InFolder):
         self.assertEqual([words[0] for _, (_, *words), *_ in try_programs.examples()], ["step", "run", "collapse", "recover"])
 
 
+    def test_cases_are_counted(self):
+        """What breaks off has failed, and all behind it is counted still."""
+
+        def one():
+            yield "a", []
+            yield "b", ["differs"]
+            yield "c", []
+
+        def broken():
+            yield "d", []
+            raise OSError("gone")
+
+        found, told = self.printed(try_programs.counted, (one, broken, one))
+        self.assertEqual(found, (5, 3))
+        self.assertEqual(told.splitlines()[:3], ["b:", "differs", "broken broke off:"])
+        self.assertIn("OSError: gone", told)
+
+
 class Gate(InFolder):
     """A gate whose two parts say what they are told to."""
 
@@ -236,7 +254,7 @@ class Gate(InFolder):
     def test_a_body_that_was_not_read(self):
         checks = "must-fail pc_low/a.edit: BAD EDIT: b\nmust-fail pc_low/a.edit: BAD EDIT: b\n600 passed, 0 failed\n"
         status, told = self.run_with(checks, "7 passed, 0 failed\n")
-        self.assertEqual((status, told[-1]), (1, "607 passed, 1 failed"))
+        self.assertEqual((status, told[0], told[-1]), (1, "must-fail pc_low/a.edit: BAD EDIT: b", "607 passed, 1 failed"))
 
 
 if __name__ == "__main__":

@@ -149,10 +149,11 @@ class Locks(unittest.TestCase):
         asked = lock_counts.step(lock_counts.step(NOTHING_YET, (1, 0, False))[2], (2, 0, True))
         self.assertEqual(asked[0], lock_counts.DIED)
         self.assertEqual(lock_counts.step(asked[2], (2, 1, False)), (lock_counts.NOT_ASKED, 0, asked[2]))
-        counts = lock_counts.Counts(10, 3)
+        counts = lock_counts.Counts(10, 4)
         counts.go_through(NOTHING_YET, 1)
-        shorter = lock_counts.Counts(10, 2)
+        shorter = lock_counts.Counts(10, 3)
         shorter.go_through(NOTHING_YET, 1)
+        self.assertGreater(shorter.counts["not asked"], 0)
         self.assertEqual(counts.counts["lists"], 10 + 10 * (shorter.counts["lists"] - shorter.counts["not asked"]))
 
     def test_the_checksum_of_one_list(self):
