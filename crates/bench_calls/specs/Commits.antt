@@ -1,11 +1,11 @@
 -- How many events a checkpointer asked.
 use Rattle.std.specs.Prelude.{ℕ, ◌+◌, ◌*◌}
-use Rattle.bench_calls.specs.declared.commits.Asked.{Asked}
-use Rattle.bench_calls.specs.declared.commits.Stage.{Stage}
-use Rattle.bench_calls.specs.declared.commits.Stage.TheVariants as stage
+use Rattle.bench_calls.specs.declared.commits.CycleProgress.{CycleProgress}
+use Rattle.bench_calls.specs.declared.commits.NextStage.{NextStage}
+use Rattle.bench_calls.specs.declared.commits.NextStage.TheVariants as stage
 
 -- how many events a cycle has before this one, those apart that took a key or were put off
-abbrev pub steps_before : Stage → ℕ
+abbrev pub steps_before : NextStage → ℕ
 steps_before stage.Point = 0
 steps_before stage.Seal = 1
 steps_before stage.Capture = 2
@@ -14,5 +14,5 @@ steps_before stage.Done = 4
 steps_before stage.Rest = 5
 
 -- all events: six for each cycle that came to rest, those of the present one, those that took a key and those put off
-abbrev pub events_of : Asked → ℕ
+abbrev pub events_of : CycleProgress → ℕ
 events_of asked = 6 * asked.points + steps_before asked.next + asked.taken + asked.delays

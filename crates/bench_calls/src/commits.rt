@@ -16,7 +16,7 @@ use std::time::{Duration, Instant};
 
 /// What a checkpointer asks next.
 #[derive(Clone, Copy)]
-pub enum Stage {
+pub enum NextStage {
     /// That a cycle begins.
     Point,
     /// The point of consistency.
@@ -33,8 +33,8 @@ pub enum Stage {
 
 /// What came of the events that a checkpointer asked.
 #[derive(Clone, Copy)]
-pub struct Asked {
-    pub next: Stage,
+pub struct CycleProgress {
+    pub next: NextStage,
     /// How many cycles came to rest.
     pub points: u32,
     /// How many keys were taken.
@@ -49,7 +49,7 @@ pub struct Committed {
     /// How many transactions were committed.
     pub committed: u32,
     /// What the checkpointer did meanwhile.
-    pub asked: Asked,
+    pub asked: CycleProgress,
     /// How long all of it took.
     pub time: Duration,
 }
@@ -93,7 +93,11 @@ fn commit_timed(
 }
 
 // Commits the transactions, and counts them and what was asked.
-fn commit_all(alloc: Global, world: &mut World, rounds: Rounds) -> Result<(u32, Asked), Refusal>
+fn commit_all(
+    alloc: Global,
+    world: &mut World,
+    rounds: Rounds,
+) -> Result<(u32, CycleProgress), Refusal>
     ensures committed { IfOk result (λ done. done.0 ≡ rounds.commits) }
     ensures points { rounds.has_points ≡ true → IfOk result (λ done. events_of done.1 ≡ rounds.commits) }
     ensures none { rounds.has_points ≡ false → IfOk result (λ done. events_of done.1 ≡ 0) }
@@ -109,11 +113,11 @@ fn commit_all(alloc: Global, world: &mut World, rounds: Rounds) -> Result<(u32, 
 }
 
 // A checkpointer that asked nothing yet.
-fn none_asked() -> Asked
+fn none_asked() -> CycleProgress
     ensures { events_of result ≡ 0 }
 {
-    Asked {
-        next: Stage::Point,
+    CycleProgress {
+        next: NextStage::Point,
         points: 0,
         taken: 0,
         delays: 0,
@@ -131,7 +135,11 @@ fn commit_one(alloc: Global, world: &mut World, number: u32) -> Result<(), Refus
 }
 
 // Asks the next event where points are asked for.
-fn ask_beside(world: &mut World, asked: Asked, has_points: bool) -> Result<Asked, Refusal>
+fn ask_beside(
+    world: &mut World,
+    asked: CycleProgress,
+    has_points: bool,
+) -> Result<CycleProgress, Refusal>
     requires room { events_of asked + 1 < 2 ^ 32 }
     ensures points { has_points ≡ true → IfOk result (λ now. events_of now ≡ events_of asked + 1) }
     ensures none { has_points ≡ false → IfOk result (λ now. events_of now ≡ events_of asked) }
@@ -145,7 +153,7 @@ fn ask_beside(world: &mut World, asked: Asked, has_points: bool) -> Result<Asked
 }
 
 // Asks the next event.
-fn ask_next(world: &mut World, asked: Asked) -> Result<Asked, Refusal>
+fn ask_next(world: &mut World, asked: CycleProgress) -> Result<CycleProgress, Refusal>
     requires room { events_of asked + 1 < 2 ^ 32 }
     ensures { IfOk result (λ now. events_of now ≡ events_of asked + 1) }
 {
@@ -158,53 +166,53 @@ fn ask_next(world: &mut World, asked: Asked) -> Result<Asked, Refusal>
 }
 
 // The event of this stage.
-fn event_at(stage: Stage) -> Event {
+fn event_at(stage: NextStage) -> Event {
     match stage {
-        Stage::Point => Event::StartPoint,
-        Stage::Seal => Event::Seal,
-        Stage::Capture => Event::OpenCapture,
-        Stage::Take => Event::Take,
-        Stage::Done => Event::Done,
-        Stage::Rest => Event::Rest,
+        NextStage::Point => Event::StartPoint,
+        NextStage::Seal => Event::Seal,
+        NextStage::Capture => Event::OpenCapture,
+        NextStage::Take => Event::Take,
+        NextStage::Done => Event::Done,
+        NextStage::Rest => Event::Rest,
     }
 }
 
 // Once a key was taken.
-fn with_taken(asked: Asked) -> Asked
+fn with_taken(asked: CycleProgress) -> CycleProgress
     requires room { events_of asked + 1 < 2 ^ 32 }
     ensures { events_of result ≡ events_of asked + 1 }
 {
-    Asked {
+    CycleProgress {
         taken: asked.taken + 1,
         ..asked
     }
 }
 
 // Once a change was put off.
-fn with_delay(asked: Asked) -> Asked
+fn with_delay(asked: CycleProgress) -> CycleProgress
     requires room { events_of asked + 1 < 2 ^ 32 }
     ensures { events_of result ≡ events_of asked + 1 }
 {
-    Asked {
+    CycleProgress {
         delays: asked.delays + 1,
         ..asked
     }
 }
 
 // Once the phase was changed, or no key was left.
-fn with_change(asked: Asked) -> Asked
+fn with_change(asked: CycleProgress) -> CycleProgress
     requires room { events_of asked + 1 < 2 ^ 32 }
     ensures { events_of result ≡ events_of asked + 1 }
 {
     let mut now = asked;
     match asked.next {
-        Stage::Point => now.next = Stage::Seal,
-        Stage::Seal => now.next = Stage::Capture,
-        Stage::Capture => now.next = Stage::Take,
-        Stage::Take => now.next = Stage::Done,
-        Stage::Done => now.next = Stage::Rest,
-        Stage::Rest => {
-            now.next = Stage::Point;
+        NextStage::Point => now.next = NextStage::Seal,
+        NextStage::Seal => now.next = NextStage::Capture,
+        NextStage::Capture => now.next = NextStage::Take,
+        NextStage::Take => now.next = NextStage::Done,
+        NextStage::Done => now.next = NextStage::Rest,
+        NextStage::Rest => {
+            now.next = NextStage::Point;
             now.points += 1;
         }
     }

@@ -17,7 +17,7 @@ const WRITES: u32 = 250;
 
 /// What came of a cycle.
 #[derive(Clone, Copy)]
-pub struct Cycle {
+pub struct TimedCycle {
     /// How many keys were taken.
     pub taken: u32,
     /// How long the seal took, which closes the set of the keys that were written.
@@ -34,7 +34,7 @@ pub fn measure_points(
     clock: &impl Clock,
     seed: RandomState,
     cycles: Cycles,
-) -> Result<Vec<Cycle>, Failure>
+) -> Result<Vec<TimedCycle>, Failure>
     ensures cycles { IfOk result (λ done. length done.items ≡ cycles.points) }
     ensures taken { IfOk result (λ done. All (λ cycle. cycle.taken ≤ cycles.keys) done.items) }
 {
@@ -48,7 +48,7 @@ fn take_points(
     clock: &impl Clock,
     world: &mut World,
     cycles: Cycles,
-) -> Result<Vec<Cycle>, Failure>
+) -> Result<Vec<TimedCycle>, Failure>
     ensures cycles { IfOk result (λ done. length done.items ≡ cycles.points) }
     ensures taken { IfOk result (λ done. All (λ cycle. cycle.taken ≤ cycles.keys) done.items) }
 {
@@ -75,7 +75,7 @@ fn write_all(alloc: Global, world: &mut World, keys: u32) -> Result<(), Refusal>
 }
 
 // A cycle, from its start to rest.
-fn take_point(clock: &impl Clock, world: &mut World, keys: u32) -> Result<Cycle, Failure>
+fn take_point(clock: &impl Clock, world: &mut World, keys: u32) -> Result<TimedCycle, Failure>
     ensures { IfOk result (λ cycle. cycle.taken ≤ keys) }
 {
     step(world, &Event::StartPoint)?;
@@ -86,7 +86,7 @@ fn take_point(clock: &impl Clock, world: &mut World, keys: u32) -> Result<Cycle,
     let taking = start.elapsed(clock)?;
     let finishing = time_of(clock, world, &Event::Done)?;
     step(world, &Event::Rest)?;
-    Ok(Cycle {
+    Ok(TimedCycle {
         taken,
         sealing,
         taking,

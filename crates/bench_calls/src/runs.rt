@@ -5,7 +5,7 @@ use crate::commits::{Committed, measure_commits};
 use crate::failure::Failure;
 use crate::floor::{fill_bare, world_of};
 use crate::options::{Crowd, Cycles, Rounds};
-use crate::points::{Cycle, measure_points};
+use crate::points::{TimedCycle, measure_points};
 use crate::shared::{open, share};
 use std::hash::RandomState;
 use std::io;
@@ -21,7 +21,7 @@ pub fn run_points(rt: &HostRuntime, cycles: Cycles, is_timed: bool) -> Result<()
     Ok(())
 }
 
-fn tell_points(rt: &HostRuntime, done: &[Cycle], is_timed: bool) -> io::Result<()> {
+fn tell_points(rt: &HostRuntime, done: &[TimedCycle], is_timed: bool) -> io::Result<()> {
     for (i, cycle) in done.iter().enumerate() {
         print!(rt; "point {} taken {}", i + 1, cycle.taken)?;
         if is_timed {

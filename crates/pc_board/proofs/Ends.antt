@@ -7,11 +7,11 @@ use Rattle.atomic_table.specs.Table.{Final, Seen}
 use Rattle.pc_types.specs.declared.limits.TheConstants.{MOST_POINTS}
 use Rattle.pc_board.specs.declared.calls.Call.{Call}
 use Rattle.pc_board.specs.declared.sight.Account.{Account}
-use Rattle.pc_board.specs.declared.sight.Sight.{Sight}
-use Rattle.pc_board.specs.declared.sight.Sight.TheVariants.{Closer}
+use Rattle.pc_board.specs.declared.sight.PassSight.{PassSight}
+use Rattle.pc_board.specs.declared.sight.PassSight.TheVariants.{Closer}
 use Rattle.pc_board.specs.Calls.{claims_of, greatest_of}
-use Rattle.pc_board.specs.Passes.{Board, Pass, IsOfBoard, new_passes, HasCallsOf, IsEnd}
-use Rattle.pc_board.specs.Rules.{SpeaksFor, Fits, HasOneHistory, account}
+use Rattle.pc_board.specs.Passes.{Board, Pass, IsOfBoard, new_passes, HasCallsOfPass, IsBoardEnd}
+use Rattle.pc_board.specs.Rules.{SpeaksFor, FitsPass, HasOneCallHistory, account}
 
 abbrev pub account_of : Pass → Account
 account_of pass = account pass.number pass.seen
@@ -34,12 +34,12 @@ new_passes_are_ours board (suc count) =
 
 -- each pass whose account is there has its calls in the history
 told_by : (history : List Call) (owner : ℕ → ℕ) (seat : ℕ) (passes : List Pass)
-    → ((k : ℕ) (x : Account) → get_elem? (map account_of passes) k ≡ some x → SpeaksFor history owner seat x.by x.seen) → All (HasCallsOf history) passes
+    → ((k : ℕ) (x : Account) → get_elem? (map account_of passes) k ≡ some x → SpeaksFor history owner seat x.by x.seen) → All (HasCallsOfPass history) passes
 told_by history owner seat [] f = λ k d lt. absurd (omega arith)
 told_by history owner seat (pass ∷ rest) f =
-    All-cons (HasCallsOf history) pass rest (let s = f 0 (account_of pass) refl in (s.1, s.2)) (told_by history owner seat rest (λ k x e. f (suc k) x e))
+    All-cons (HasCallsOfPass history) pass rest (let s = f 0 (account_of pass) refl in (s.1, s.2)) (told_by history owner seat rest (λ k x e. f (suc k) x e))
 
-module _ {S : Type 0} (board : Board) (seat : ℕ) (sight : Sight) (words : List ℕ) (slots : List S) (claims horizon : ℕ) (final : Final (Seen (HasOneHistory {S = S} board.passes) seat sight) words slots)
+module _ {S : Type 0} (board : Board) (seat : ℕ) (sight : PassSight) (words : List ℕ) (slots : List S) (claims horizon : ℕ) (final : Final (Seen (HasOneCallHistory {S = S} board.passes) seat sight) words slots)
     (zeroth : get_elem? words 0 ≡ some claims) (first : get_elem? words 1 ≡ some horizon) where
   are : words ≡ claims_of final.1.0.history ∷ greatest_of final.1.0.history ∷ []
   are = sym final.2 ∙ final.1.0.words
@@ -51,10 +51,10 @@ module _ {S : Type 0} (board : Board) (seat : ℕ) (sight : Sight) (words : List
   pub is_point : horizon ≤ MOST_POINTS
   is_point = omega (arith, final.1.0.most_points, horizon_is)
 
-  pub ends : (passes : List Pass) → sight ≡ Closer (map account_of passes) → IsEnd board claims horizon passes
+  pub ends : (passes : List Pass) → sight ≡ Closer (map account_of passes) → IsBoardEnd board claims horizon passes
   ends passes is =
       let r = final.1.0 in
-      let told : Fits board.passes r.history r.owner seat (Closer (map account_of passes)) = r.each seat (Closer (map account_of passes)) (final.1.1 ∙ ap some is) in record {
+      let told : FitsPass board.passes r.history r.owner seat (Closer (map account_of passes)) = r.each seat (Closer (map account_of passes)) (final.1.1 ∙ ap some is) in record {
         history = r.history;
         legal = r.legal;
         ours = r.ours;

@@ -3,22 +3,22 @@ use Rattle.std.proofs.Common.{◌≡◌, ℕ, ◌+◌, List, [], ◌++◌, ap, s
 use Rattle.std.proofs.lemmas.List.{append-nil}
 use Rattle.atomic_table.specs.Seated.{TableId}
 use Rattle.atomic_table.specs.Table.{Me}
-use Rattle.pc_board.specs.declared.calls.Kind.{Kind}
-use Rattle.pc_board.specs.declared.calls.Kind.TheVariants.{Look}
+use Rattle.pc_board.specs.declared.calls.CallKind.{CallKind}
+use Rattle.pc_board.specs.declared.calls.CallKind.TheVariants.{Look}
 use Rattle.pc_board.specs.declared.calls.Call.{Call}
-use Rattle.pc_board.specs.declared.sight.Sight.{Sight}
-use Rattle.pc_board.specs.declared.sight.Sight.TheVariants.{Holder}
-use Rattle.pc_board.specs.Calls.{call, claims_in, calls_by, claims_of, greatest_of, IsLegal, NoneAbove}
+use Rattle.pc_board.specs.declared.sight.PassSight.{PassSight}
+use Rattle.pc_board.specs.declared.sight.PassSight.TheVariants.{Holder}
+use Rattle.pc_board.specs.Calls.{call, claims_in, calls_by, claims_of, greatest_of, AreLegalCalls, NoneAbove}
 use Rattle.pc_board.specs.Passes.{Pass, EndsWith, MakesCall, claims_made}
 use Rattle.pc_board.specs.Rules.{number_of, seen_of, Makes}
 use Rattle.pc_board.proofs.Histories.{none_above_greatest}
 use Rattle.pc_board.proofs.Sums.{calls_by-append, claims_of-own, greatest_of-append}
 
 -- the pass whose seat is at this board
-abbrev pub pass_at : {S : Type 0} → TableId → Me S Sight → Pass
+abbrev pub pass_at : {S : Type 0} → TableId → Me S PassSight → Pass
 pass_at board me = record { board = board; number = number_of me.0; seen = seen_of me.0 }
 
-abbrev pub IsHolder : {S : Type 0} → Me S Sight → Type 0
+abbrev pub IsHolder : {S : Type 0} → Me S PassSight → Type 0
 IsHolder me = me ≡ (Holder (number_of me.0) (seen_of me.0), [])
 
 -- how many claims the pass has made after a call
@@ -29,20 +29,20 @@ claims_after before after c e =
     let none : calls_by c.by (before ++ between) ≡ calls_by c.by before = calls_by-append c.by before between ∙ (ap (λ cs. calls_by c.by before ++ cs) e.2 ∙ append-nil (calls_by c.by before)) in
     omega (arith, ap claims_of none)
 
-module _ {S : Type 0} (board board' : TableId) (same : board' ≡ board) (kind : Kind) (value : ℕ) (before after : Me S Sight) (is : IsHolder before) (told : Makes (call (number_of before.0) kind value) before after) where
+module _ {S : Type 0} (board board' : TableId) (same : board' ≡ board) (kind : CallKind) (value : ℕ) (before after : Me S PassSight) (is : IsHolder before) (told : Makes (call (number_of before.0) kind value) before after) where
   still_seen : seen_of after.0 ≡ told.0
-  still_seen = ap (λ (m : Me S Sight). seen_of m.0) told.1
+  still_seen = ap (λ (m : Me S PassSight). seen_of m.0) told.1
 
   still_number : number_of after.0 ≡ number_of before.0
-  still_number = ap (λ (m : Me S Sight). number_of m.0) told.1
+  still_number = ap (λ (m : Me S PassSight). number_of m.0) told.1
 
   pub still_holder : IsHolder after
-  still_holder = told.1 ∙ (λ i. (Holder (sym still_number i) (sym still_seen i), ap (λ (m : Me S Sight). m.1) is i))
+  still_holder = told.1 ∙ (λ i. (Holder (sym still_number i) (sym still_seen i), ap (λ (m : Me S PassSight). m.1) is i))
 
   pub makes_call : MakesCall (pass_at board before) kind value (pass_at board' after)
   makes_call = record {
     same = (same, still_number);
-    legal = subst IsLegal (sym still_seen) told.2;
+    legal = subst AreLegalCalls (sym still_seen) told.2;
     last = subst (EndsWith (seen_of before.0) (call (number_of before.0) kind value)) (sym still_seen) told.3;
   }
 

@@ -11,13 +11,13 @@ use Rattle.atomic_table.specs.Table.{State, Me, step, keeps, Allows}
 use Rattle.atomic_table.proofs.Lists.{at_set}
 use Rattle.pc_types.specs.declared.limits.TheConstants.{MOST_POINTS}
 use Rattle.pc_board.specs.declared.limits.TheConstants.{MOST_CLAIMS}
-use Rattle.pc_board.specs.declared.calls.Kind.TheVariants.{Claim, Publish, Look}
+use Rattle.pc_board.specs.declared.calls.CallKind.TheVariants.{Claim, Publish, Look}
 use Rattle.pc_board.specs.declared.calls.Call.{Call}
-use Rattle.pc_board.specs.declared.sight.Sight.{Sight}
-use Rattle.pc_board.specs.declared.sight.Sight.TheVariants.{Dealer, Holder, Closer, Nobody}
-use Rattle.pc_board.specs.Calls.{call, claims_in, calls_by, claims_of, greatest_of, Answers, IsLegal}
+use Rattle.pc_board.specs.declared.sight.PassSight.{PassSight}
+use Rattle.pc_board.specs.declared.sight.PassSight.TheVariants.{Dealer, Holder, Closer, Nobody}
+use Rattle.pc_board.specs.Calls.{call, claims_in, calls_by, claims_of, greatest_of, AnswersCall, AreLegalCalls}
 use Rattle.pc_board.specs.Passes.{EndsWith}
-use Rattle.pc_board.specs.Rules.{SpeaksFor, Fits, HasOneHistory, Claims, Publishes, Looks}
+use Rattle.pc_board.specs.Rules.{SpeaksFor, FitsPass, HasOneCallHistory, Claims, Publishes, Looks}
 use Rattle.pc_board.proofs.Histories.{longer_is_legal, prefix_self, prefix_more, rest_none}
 use Rattle.pc_board.proofs.Sums.{claims_of-append, greatest_of-append, calls_by-append, calls_by-other, claims_of-own, claims_bound}
 
@@ -33,18 +33,18 @@ module _ (history : List Call) (owner : ℕ → ℕ) (seat other : ℕ) (c : Cal
   speaks_still : (number : ℕ) (seen : List Call) → SpeaksFor history owner other number seen → SpeaksFor (history ++ c ∷ []) owner other number seen
   speaks_still number seen s = (s.0, prefix_more seen history (c ∷ []) s.1, calls_by-more history c number (not_by number s.0) ∙ s.2)
 
-  fits_still : (passes : ℕ) (sight : Sight) → Fits passes history owner other sight → Fits passes (history ++ c ∷ []) owner other sight
+  fits_still : (passes : ℕ) (sight : PassSight) → FitsPass passes history owner other sight → FitsPass passes (history ++ c ∷ []) owner other sight
   fits_still passes (Dealer next) f = λ number le lt. let g = f number le lt in (g.0, calls_by-more history c number (not_by number g.0) ∙ g.1)
   fits_still passes (Holder number seen) f = (f.0, speaks_still number seen f.1)
   fits_still passes (Closer accounts) f = λ k x e. speaks_still x.by x.seen (f k x e)
   fits_still passes Nobody f = tt
 
 -- where one seat's sight is set, what each seat knows fits if that one's does, and if the others' did
-pub fits_set : (passes : ℕ) (history : List Call) (owner : ℕ → ℕ) (sights : List Sight) (seat : ℕ) (sight : Sight)
-    → ((other : ℕ) (u : Sight) → other ≢ seat → get_elem? sights other ≡ some u → Fits passes history owner other u) → Fits passes history owner seat sight
-    → (other : ℕ) (u : Sight) → get_elem? (set sights seat sight) other ≡ some u → Fits passes history owner other u
+pub fits_set : (passes : ℕ) (history : List Call) (owner : ℕ → ℕ) (sights : List PassSight) (seat : ℕ) (sight : PassSight)
+    → ((other : ℕ) (u : PassSight) → other ≢ seat → get_elem? sights other ≡ some u → FitsPass passes history owner other u) → FitsPass passes history owner seat sight
+    → (other : ℕ) (u : PassSight) → get_elem? (set sights seat sight) other ≡ some u → FitsPass passes history owner other u
 fits_set passes history owner sights seat sight others mine other u e =
-    ⊎_elim (λ (x : (other ≡ seat) × (sight ≡ u)). subst (λ (y : ℕ × Sight). Fits passes history owner y.0 y.1) (λ i. (sym x.0 i, x.1 i)) mine)
+    ⊎_elim (λ (x : (other ≡ seat) × (sight ≡ u)). subst (λ (y : ℕ × PassSight). FitsPass passes history owner y.0 y.1) (λ i. (sym x.0 i, x.1 i)) mine)
     (λ (x : (other ≢ seat) × (get_elem? sights other ≡ some u)). others other u x.0 x.1) (at_set sights seat other sight u e)
 
 -- no pass is past its limit after a call for which its pass had room
@@ -58,10 +58,10 @@ limits_still history c most room number = by_case (ℕ_discrete c.by number)
 
 module _ {S : Type 0} (passes seat number : ℕ) (seen : List Call) where
   -- the pass at the seat adds a call to the history
-  adds : (s : State S Sight) (r : HasOneHistory passes s) (c : Call) (words : List ℕ) → get_elem? s.views seat ≡ some (Holder number seen) → c.by ≡ number → Answers c.kind r.history c.value
+  adds : (s : State S PassSight) (r : HasOneCallHistory passes s) (c : Call) (words : List ℕ) → get_elem? s.views seat ≡ some (Holder number seen) → c.by ≡ number → AnswersCall c.kind r.history c.value
       → claims_of (calls_by number r.history) + claims_in c.kind ≤ MOST_CLAIMS → greatest_of (r.history ++ c ∷ []) ≤ MOST_POINTS
       → words ≡ claims_of (r.history ++ c ∷ []) ∷ greatest_of (r.history ++ c ∷ []) ∷ []
-      → HasOneHistory passes (record { words = words; homes = s.homes; views = set s.views seat (Holder number (r.history ++ c ∷ [])) })
+      → HasOneCallHistory passes (record { words = words; homes = s.homes; views = set s.views seat (Holder number (r.history ++ c ∷ [])) })
   adds s r c words at by right room points are =
       let mine = r.each seat (Holder number seen) at in
       let own : r.owner c.by ≡ seat = ap r.owner by ∙ mine.1.0 in
@@ -78,8 +78,8 @@ module _ {S : Type 0} (passes seat number : ℕ) (seen : List Call) where
       }
 
   -- what it tells of the call
-  makes : (s : State S Sight) (r : HasOneHistory passes s) (c : Call) → get_elem? s.views seat ≡ some (Holder number seen) → c.by ≡ number → Answers c.kind r.history c.value
-      → IsLegal (r.history ++ c ∷ []) × EndsWith seen c (r.history ++ c ∷ [])
+  makes : (s : State S PassSight) (r : HasOneCallHistory passes s) (c : Call) → get_elem? s.views seat ≡ some (Holder number seen) → c.by ≡ number → AnswersCall c.kind r.history c.value
+      → AreLegalCalls (r.history ++ c ∷ []) × EndsWith seen c (r.history ++ c ∷ [])
   makes s r c at by right =
       let mine = (r.each seat (Holder number seen) at).1 in
       let between = mine.1.0 in
@@ -87,7 +87,7 @@ module _ {S : Type 0} (passes seat number : ℕ) (seen : List Call) where
       let same : calls_by number seen ++ calls_by number between ≡ calls_by number seen = sym (calls_by-append number seen between) ∙ (ap (calls_by number) whole ∙ mine.2) in
       (longer_is_legal r.history c r.legal right, (between, ap (λ cs. cs ++ c ∷ []) (sym whole), subst (λ (n : ℕ). calls_by n between ≡ []) (sym by) (rest_none (calls_by number seen) (calls_by number between) same)))
 
-  claims : (slots : ℕ) → claims_of (calls_by number seen) < MOST_CLAIMS → Allows (HasOneHistory {S = S} passes) slots seat (Holder number seen, []) 0 (λ x. (x + 1) % 2 ^ 64) (Claims (step slots 0 1 0 none) (Holder number seen, []))
+  claims : (slots : ℕ) → claims_of (calls_by number seen) < MOST_CLAIMS → Allows (HasOneCallHistory {S = S} passes) slots seat (Holder number seen, []) 0 (λ x. (x + 1) % 2 ^ 64) (Claims (step slots 0 1 0 none) (Holder number seen, []))
   claims slots room s r _ at _ =
       let found = slice_index s.words 0 in
       let first : found ≡ claims_of r.history = ap (λ ws. slice_index ws 0) r.words in
@@ -107,7 +107,7 @@ module _ {S : Type 0} (passes seat number : ℕ) (seen : List Call) where
         (let m = makes s r c at refl first in (after, refl, m.0, m.1)),
       )
 
-  publishes : (slots point : ℕ) → point ≤ MOST_POINTS → Allows (HasOneHistory {S = S} passes) slots seat (Holder number seen, []) 1 (λ x. max x point) (Publishes (step slots 1 point 0 none) (Holder number seen, []))
+  publishes : (slots point : ℕ) → point ≤ MOST_POINTS → Allows (HasOneCallHistory {S = S} passes) slots seat (Holder number seen, []) 1 (λ x. max x point) (Publishes (step slots 1 point 0 none) (Holder number seen, []))
   publishes slots point lawful s r _ at _ =
       let found = slice_index s.words 1 in
       let second : found ≡ greatest_of r.history = ap (λ ws. slice_index ws 1) r.words in
@@ -123,7 +123,7 @@ module _ {S : Type 0} (passes seat number : ℕ) (seen : List Call) where
         (let m = makes s r c at refl tt in (after, refl, m.0, m.1)),
       )
 
-  looks : (slots : ℕ) → Allows (HasOneHistory {S = S} passes) slots seat (Holder number seen, []) 1 (λ x. x) (Looks (step slots 1 0 0 none) (Holder number seen, []))
+  looks : (slots : ℕ) → Allows (HasOneCallHistory {S = S} passes) slots seat (Holder number seen, []) 1 (λ x. x) (Looks (step slots 1 0 0 none) (Holder number seen, []))
   looks slots s r _ at _ =
       let found = slice_index s.words 1 in
       let second : found ≡ greatest_of r.history = ap (λ ws. slice_index ws 1) r.words in
@@ -140,13 +140,13 @@ module _ {S : Type 0} (passes seat number : ℕ) (seen : List Call) where
       )
 
 -- the same at a seat that is known to be a pass's
-module _ {S : Type 0} (passes seat number slots : ℕ) (seen : List Call) (me : Me S Sight) (is : me ≡ (Holder number seen, [])) where
-  pub claims_as : claims_of (calls_by number seen) < MOST_CLAIMS → Allows (HasOneHistory {S = S} passes) slots seat me 0 (λ x. (x + 1) % 2 ^ 64) (Claims (step slots 0 1 0 none) me)
-  claims_as room = subst (λ (m : Me S Sight). Allows (HasOneHistory {S = S} passes) slots seat m 0 (λ x. (x + 1) % 2 ^ 64) (Claims (step slots 0 1 0 none) m)) (sym is) (claims passes seat number seen slots room)
+module _ {S : Type 0} (passes seat number slots : ℕ) (seen : List Call) (me : Me S PassSight) (is : me ≡ (Holder number seen, [])) where
+  pub claims_as : claims_of (calls_by number seen) < MOST_CLAIMS → Allows (HasOneCallHistory {S = S} passes) slots seat me 0 (λ x. (x + 1) % 2 ^ 64) (Claims (step slots 0 1 0 none) me)
+  claims_as room = subst (λ (m : Me S PassSight). Allows (HasOneCallHistory {S = S} passes) slots seat m 0 (λ x. (x + 1) % 2 ^ 64) (Claims (step slots 0 1 0 none) m)) (sym is) (claims passes seat number seen slots room)
 
-  pub publishes_as : (point : ℕ) → point ≤ MOST_POINTS → Allows (HasOneHistory {S = S} passes) slots seat me 1 (λ x. max x point) (Publishes (step slots 1 point 0 none) me)
+  pub publishes_as : (point : ℕ) → point ≤ MOST_POINTS → Allows (HasOneCallHistory {S = S} passes) slots seat me 1 (λ x. max x point) (Publishes (step slots 1 point 0 none) me)
   publishes_as point lawful =
-      subst (λ (m : Me S Sight). Allows (HasOneHistory {S = S} passes) slots seat m 1 (λ x. max x point) (Publishes (step slots 1 point 0 none) m)) (sym is) (publishes passes seat number seen slots point lawful)
+      subst (λ (m : Me S PassSight). Allows (HasOneCallHistory {S = S} passes) slots seat m 1 (λ x. max x point) (Publishes (step slots 1 point 0 none) m)) (sym is) (publishes passes seat number seen slots point lawful)
 
-  pub looks_as : Allows (HasOneHistory {S = S} passes) slots seat me 1 (λ x. x) (Looks (step slots 1 0 0 none) me)
-  looks_as = subst (λ (m : Me S Sight). Allows (HasOneHistory {S = S} passes) slots seat m 1 (λ x. x) (Looks (step slots 1 0 0 none) m)) (sym is) (looks passes seat number seen slots)
+  pub looks_as : Allows (HasOneCallHistory {S = S} passes) slots seat me 1 (λ x. x) (Looks (step slots 1 0 0 none) me)
+  looks_as = subst (λ (m : Me S PassSight). Allows (HasOneCallHistory {S = S} passes) slots seat m 1 (λ x. x) (Looks (step slots 1 0 0 none) m)) (sym is) (looks passes seat number seen slots)

@@ -1,8 +1,8 @@
 -- What follows for callers from a legal history.
 use Rattle.std.specs.Prelude.{◌≡◌, ◌⊎◌, ◌<◌, ◌≤◌, List, ◌∷◌, ◌++◌}
-use Rattle.pc_board.specs.declared.calls.Kind.TheVariants.{Claim, Publish, Look}
+use Rattle.pc_board.specs.declared.calls.CallKind.TheVariants.{Claim, Publish, Look}
 use Rattle.pc_board.specs.declared.calls.Call.{Call}
-use Rattle.pc_board.specs.Calls.{IsLegal}
+use Rattle.pc_board.specs.Calls.{AreLegalCalls}
 
 -- the two calls stand among the calls in this order
 abbrev pub StandIn : List Call → Call → Call → Type 0
@@ -10,10 +10,10 @@ StandIn calls earlier later = (before : List Call) × (between : List Call) × (
 
 -- of two claims the later one gave the greater number
 abbrev pub ClaimsRise : Type 0
-ClaimsRise = (calls : List Call) (earlier later : Call) → IsLegal calls → StandIn calls earlier later → earlier.kind ≡ Claim → later.kind ≡ Claim → earlier.value < later.value
+ClaimsRise = (calls : List Call) (earlier later : Call) → AreLegalCalls calls → StandIn calls earlier later → earlier.kind ≡ Claim → later.kind ≡ Claim → earlier.value < later.value
 
 -- a look gives no less than what was published or seen before it
 abbrev pub LooksNeverFall : Type 0
 LooksNeverFall =
-    (calls : List Call) (earlier later : Call) → IsLegal calls → StandIn calls earlier later → (earlier.kind ≡ Publish) ⊎ (earlier.kind ≡ Look) → later.kind ≡ Look →
+    (calls : List Call) (earlier later : Call) → AreLegalCalls calls → StandIn calls earlier later → (earlier.kind ≡ Publish) ⊎ (earlier.kind ≡ Look) → later.kind ≡ Look →
     earlier.value ≤ later.value

@@ -2,9 +2,9 @@
 use Rattle.std.specs.Prelude.{◌≡◌, ℕ, zero, suc, ◌<◌, List, [], ◌∷◌, ◌++◌, All}
 use mathlib.Core.List.{IsPrefix}
 use Rattle.atomic_table.specs.Seated.{TableId}
-use Rattle.pc_board.specs.declared.calls.Kind.{Kind}
+use Rattle.pc_board.specs.declared.calls.CallKind.{CallKind}
 use Rattle.pc_board.specs.declared.calls.Call.{Call}
-use Rattle.pc_board.specs.Calls.{call, claims_of, greatest_of, calls_by, IsLegal}
+use Rattle.pc_board.specs.Calls.{call, claims_of, greatest_of, calls_by, AreLegalCalls}
 
 -- which board it is, and how many passes it has
 pub record Board : Type 0 where
@@ -39,21 +39,21 @@ IsSamePass before after = (after.board ≡ before.board) × (after.number ≡ be
 
 -- By a call that gave or published the value the pass stays the same one, and what it has seen is a legal history: all that
 -- it had seen, then calls of other passes, and then this call
-pub record MakesCall (before : Pass) (kind : Kind) (value : ℕ) (after : Pass) : Type 0 where
+pub record MakesCall (before : Pass) (kind : CallKind) (value : ℕ) (after : Pass) : Type 0 where
   pub same : IsSamePass before after
-  pub legal : IsLegal after.seen
+  pub legal : AreLegalCalls after.seen
   pub last : EndsWith before.seen (call before.number kind value) after.seen
 
 -- the history begins with what the pass has seen, and has no other call of it
-abbrev pub HasCallsOf : List Call → Pass → Type 0
-HasCallsOf calls pass = IsPrefix pass.seen calls × (calls_by pass.number calls ≡ calls_by pass.number pass.seen)
+abbrev pub HasCallsOfPass : List Call → Pass → Type 0
+HasCallsOfPass calls pass = IsPrefix pass.seen calls × (calls_by pass.number calls ≡ calls_by pass.number pass.seen)
 
 -- There is a legal history of calls by the board's passes, with so many claims and this greatest point, which begins with
 -- what each of these passes has seen, and has no other call of it
-pub record IsEnd (board : Board) (claims horizon : ℕ) (handed_in : List Pass) : Type 0 where
+pub record IsBoardEnd (board : Board) (claims horizon : ℕ) (handed_in : List Pass) : Type 0 where
   pub history : List Call
-  pub legal : IsLegal history
+  pub legal : AreLegalCalls history
   pub ours : All (λ (call : Call). call.by < board.passes) history
   pub claims_are : claims ≡ claims_of history
   pub horizon_is : horizon ≡ greatest_of history
-  pub each : All (HasCallsOf history) handed_in
+  pub each : All (HasCallsOfPass history) handed_in

@@ -1,14 +1,14 @@
 //! The board and its passes.
 ghost use Rattle.std.specs.Prelude.{◌≡◌, ◌≤◌, ◌↔◌, All, IfErr, IfOk, IfNone, IfSome, IsNone};
-ghost use Rattle.pc_board.specs.declared.calls.Kind.TheVariants.{Claim, Publish, Look};
+ghost use Rattle.pc_board.specs.declared.calls.CallKind.TheVariants.{Claim, Publish, Look};
 ghost use Rattle.pc_board.specs.Calls.{NoneAbove};
-ghost use Rattle.pc_board.specs.Passes.{IsOfBoard, IsSamePass, MakesCall, IsEnd, new_passes, claims_made};
+ghost use Rattle.pc_board.specs.Passes.{IsOfBoard, IsSamePass, MakesCall, IsBoardEnd, new_passes, claims_made};
 
 use crate::limits::{MOST_CLAIMS, MOST_PASSES};
 use crate::rule::{
-    CLAIM_COUNT, ClaimStep, Deal, HORIZON, HandIn, LookStep, OneHistory, PublishStep,
+    CLAIM_COUNT, ClaimStep, DealPass, HORIZON, HandIn, LookStep, OneCallHistory, PublishStep,
 };
-use crate::sight::Sight;
+use crate::sight::PassSight;
 use atomic_table::{Seat, Table};
 use pc_types::{Point, Refusal};
 use std::alloc::Global;
@@ -18,7 +18,7 @@ use std::marker::Model;
 /// step, which takes no memory and no handle to wait with.
 #[derive(Drop)]
 pub struct Board {
-    table: Table<(), Sight, u8, OneHistory, Global>,
+    table: Table<(), PassSight, u8, OneCallHistory, Global>,
 }
 
 impl Model for Board {
@@ -37,12 +37,12 @@ impl Model for Board {
 #[derive(Drop)]
 pub struct BoardPass {
     claims: u32,
-    seat: Seat<(), Sight>,
+    seat: Seat<(), PassSight>,
 }
 
 impl Model for BoardPass {
     ghost use Rattle.std.specs.Prelude.{◌≡◌, []};
-    ghost use Rattle.pc_board.specs.declared.sight.Sight.TheVariants.{Holder};
+    ghost use Rattle.pc_board.specs.declared.sight.PassSight.TheVariants.{Holder};
     ghost use Rattle.pc_board.specs.Calls.{calls_by, claims_of};
     ghost use Rattle.pc_board.specs.Passes.{Pass};
     ghost use Rattle.pc_board.specs.Rules.{number_of, seen_of};
@@ -76,7 +76,7 @@ impl Board {
         let mut all = Vec::with_capacity(alloc, usize::from(passes))?;
         let (table, mut dealer) = Table::of_words(alloc, &[0, 0], &passes)?;
         for _ in 0..passes {
-            let seat = table.shared.split_seat::<Deal>(&mut dealer);
+            let seat = table.shared.split_seat::<DealPass>(&mut dealer);
             all.push_reserved(BoardPass { claims: 0, seat });
         }
         Ok((Board { table }, all))
@@ -129,7 +129,7 @@ impl Board {
     /// this board; what each of them has seen is a beginning of the one history that this is read off.
     pub fn close(self, passes: Vec<BoardPass>) -> BoardTotals
         requires { All (λ pass. IsOfBoard pass self) passes.items }
-        ensures { IsEnd self result.claims result.horizon passes.items }
+        ensures { IsBoardEnd self result.claims result.horizon passes.items }
     {
         let Board { table } = self;
         let (_, mut closer) = table.shared.load_new_seat::<HandIn>(CLAIM_COUNT);

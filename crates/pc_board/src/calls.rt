@@ -1,7 +1,7 @@
 //! The calls of a board, of which contracts speak. No value of these types is made.
 
 /// What a call asks of the board.
-pub enum Kind {
+pub enum CallKind {
     /// The next number.
     Claim,
     /// That a point be published.
@@ -14,7 +14,7 @@ pub enum Kind {
 pub struct Call {
     /// The number of the pass.
     pub by: u64,
-    pub kind: Kind,
+    pub kind: CallKind,
     /// The number that was claimed, the point that was published, or the point that the look gave.
     pub value: u64,
 }

@@ -10,6 +10,6 @@ mod rule;
 mod sight;
 
 pub use board::{Board, BoardPass, BoardTotals};
-pub use calls::{Call, Kind};
+pub use calls::{Call, CallKind};
 pub use laws::{claims_rise, looks_never_fall};
 pub use limits::{MOST_CLAIMS, MOST_PASSES};

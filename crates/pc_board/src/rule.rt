@@ -1,5 +1,5 @@
 //! The rule that every atomic step on the board's two words keeps, and what each step tells.
-use crate::sight::Sight;
+use crate::sight::PassSight;
 use atomic_table::{Join, Play, Split, TableRule};
 
 /// The word that counts the claims.
@@ -9,13 +9,13 @@ pub(crate) const CLAIM_COUNT: usize = 0;
 pub(crate) const HORIZON: usize = 1;
 
 /// Both words are read off one legal history, of which every pass has seen a beginning with all of its own calls.
-pub struct OneHistory;
+pub struct OneCallHistory;
 
-impl<S> TableRule<S, Sight, u8> for OneHistory {
-    ghost use Rattle.pc_board.specs.declared.sight.Sight.TheVariants.{Dealer};
-    ghost use Rattle.pc_board.specs.Rules.{HasOneHistory};
+impl<S> TableRule<S, PassSight, u8> for OneCallHistory {
+    ghost use Rattle.pc_board.specs.declared.sight.PassSight.TheVariants.{Dealer};
+    ghost use Rattle.pc_board.specs.Rules.{HasOneCallHistory};
 
-    ghost holds = { λ passes state. HasOneHistory passes state };
+    ghost holds = { λ passes state. HasOneCallHistory passes state };
 
     ghost first = { λ passes. Dealer 0 };
 }
@@ -23,7 +23,7 @@ impl<S> TableRule<S, Sight, u8> for OneHistory {
 /// The step of a claim.
 pub struct ClaimStep;
 
-impl<S> Play<S, Sight> for ClaimStep {
+impl<S> Play<S, PassSight> for ClaimStep {
     ghost use Rattle.pc_board.specs.Rules.{Claims};
 
     ghost then = { Claims };
@@ -32,7 +32,7 @@ impl<S> Play<S, Sight> for ClaimStep {
 /// The step of a publication.
 pub struct PublishStep;
 
-impl<S> Play<S, Sight> for PublishStep {
+impl<S> Play<S, PassSight> for PublishStep {
     ghost use Rattle.pc_board.specs.Rules.{Publishes};
 
     ghost then = { Publishes };
@@ -41,16 +41,16 @@ impl<S> Play<S, Sight> for PublishStep {
 /// The step of a look.
 pub struct LookStep;
 
-impl<S> Play<S, Sight> for LookStep {
+impl<S> Play<S, PassSight> for LookStep {
     ghost use Rattle.pc_board.specs.Rules.{Looks};
 
     ghost then = { Looks };
 }
 
 /// The dealer gives out the next pass.
-pub struct Deal;
+pub struct DealPass;
 
-impl Split<Sight> for Deal {
+impl Split<PassSight> for DealPass {
     ghost use Rattle.pc_board.specs.Rules.{dealer_after, next_holder};
 
     ghost left = { dealer_after };
@@ -61,15 +61,15 @@ impl Split<Sight> for Deal {
 /// Passes are handed in to a closer, who begins with none.
 pub struct HandIn;
 
-impl<S> Play<S, Sight> for HandIn {
+impl<S> Play<S, PassSight> for HandIn {
     ghost use Rattle.std.specs.Prelude.{◌≡◌, []};
-    ghost use Rattle.pc_board.specs.declared.sight.Sight.TheVariants.{Closer};
+    ghost use Rattle.pc_board.specs.declared.sight.PassSight.TheVariants.{Closer};
 
     ghost then = { λ step before found after. after.0 ≡ Closer [] };
 }
 
-impl Join<Sight> for HandIn {
-    ghost use Rattle.pc_board.specs.declared.sight.Sight.TheVariants.{Nobody};
+impl Join<PassSight> for HandIn {
+    ghost use Rattle.pc_board.specs.declared.sight.PassSight.TheVariants.{Nobody};
     ghost use Rattle.pc_board.specs.Rules.{closer_after};
 
     ghost both = { closer_after };

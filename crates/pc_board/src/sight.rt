@@ -9,7 +9,7 @@ pub struct Account {
 }
 
 /// What a seat knows.
-pub enum Sight {
+pub enum PassSight {
     /// That of the passes those from this number on are still to be dealt.
     Dealer(u64),
     /// As the pass of this number, the calls up to its last one.

@@ -20,21 +20,21 @@ use Rattle.pc_model.proofs.MergeItemLaws.{items, items_len}
 use Rattle.itertools.specs.declared.either_or_both.EitherOrBoth.{EitherOrBoth}
 use Rattle.itertools.specs.declared.either_or_both.EitherOrBoth.TheVariants.{Both, Left, Right}
 use Rattle.pc_types.specs.declared.Triple.{Triple}
-use Rattle.pc_capture.specs.Takings.{Entry, newest, as_one, IsAbove, AreTaken}
+use Rattle.pc_capture.specs.Takings.{Captured, newest, as_one, IsAbove, AreTaken}
 use Rattle.pc_model.specs.TripleLists.{triple_at}
 
 -- a key above all is the last one: to put it is to add it behind them
-put_above : (key : List ℕ) (x : Option (List ℕ)) (es : List Entry) → IsAbove key es → put key_cmp key x es ≡ es ++ (key, x) ∷ []
+put_above : (key : List ℕ) (x : Option (List ℕ)) (es : List Captured) → IsAbove key es → put key_cmp key x es ≡ es ++ (key, x) ∷ []
 put_above key x [] above = refl
 put_above key x (e ∷ es) above = ap (λ o. by_order o ((key, x) ∷ e ∷ es) ((e.0, x) ∷ es) (e ∷ put key_cmp key x es)) above.0 ∙ ap (λ l. e ∷ l) (put_above key x es above.1)
 
 -- how the last entry stands to a key tells whether the key is above all
-same_entry : (x e : Entry) → Some x ≡ Some e → x ≡ e
+same_entry : (x e : Captured) → Some x ≡ Some e → x ≡ e
 same_entry x e is = cc
 
-above_by : (key : List ℕ) (es : List Entry) (i : ℕ) (e : Entry) → KeysRise es → suc i ≡ length es → slice_get es i ≡ Some e → key_cmp key e.0 ≡ Greater → IsAbove key es
+above_by : (key : List ℕ) (es : List Captured) (i : ℕ) (e : Captured) → KeysRise es → suc i ≡ length es → slice_get es i ≡ Some e → key_cmp key e.0 ≡ Greater → IsAbove key es
 above_by key [] i e rise at_end is above = absurd (omega (arith, at_end))
-above_by key (x ∷ []) zero e rise at_end is above = (ap (λ (y : Entry). key_cmp key y.0) (same_entry x e is) ∙ above, tt)
+above_by key (x ∷ []) zero e rise at_end is above = (ap (λ (y : Captured). key_cmp key y.0) (same_entry x e is) ∙ above, tt)
 above_by key (x ∷ []) (suc i) e rise at_end is above = absurd (omega (arith, at_end))
 above_by key (x ∷ y ∷ ys) zero e rise at_end is above = absurd (omega (arith, at_end))
 above_by key (x ∷ y ∷ ys) (suc i) e rise at_end is above =
@@ -43,18 +43,18 @@ above_by key (x ∷ y ∷ ys) (suc i) e rise at_end is above =
     let next : key_cmp x.0 y.0 ≡ Less = is_less (key_cmp x.0 y.0) (both (is_lt (key_cmp x.0 y.0)) (below_all key_cmp x.0 ys) parts.0).0 in
     (turned x.0 key Less (key_order.total.trans x.0 y.0 key next (turned key y.0 Greater rest.0)), rest)
 
-above_at : (key : List ℕ) (es : List Entry) (i : ℕ) (e : Entry) → slice_get es i ≡ Some e → IsAbove key es → key_cmp key e.0 ≡ Greater
+above_at : (key : List ℕ) (es : List Captured) (i : ℕ) (e : Captured) → slice_get es i ≡ Some e → IsAbove key es → key_cmp key e.0 ≡ Greater
 above_at key [] i e is above = absurd (none e is)
   where
-    none : (e : Entry) → None ≡ Some e → ⊥
+    none : (e : Captured) → None ≡ Some e → ⊥
     none e is = cc
-above_at key (x ∷ xs) zero e is above = ap (λ (y : Entry). key_cmp key y.0) (sym (same_entry x e is)) ∙ above.0
+above_at key (x ∷ xs) zero e is above = ap (λ (y : Captured). key_cmp key y.0) (sym (same_entry x e is)) ∙ above.0
 above_at key (x ∷ xs) (suc i) e is above = above_at key xs i e is above.1
 
-pub above_last : (key : List ℕ) (es : List Entry) (e : Entry) (b : Bool) → KeysRise es → Some e ≡ slice_get es (length es - 1) → b ≡ is_lt (key_cmp e.0 key) → IsTrue b ↔ IsAbove key es
+pub above_last : (key : List ℕ) (es : List Captured) (e : Captured) (b : Bool) → KeysRise es → Some e ≡ slice_get es (length es - 1) → b ≡ is_lt (key_cmp e.0 key) → IsTrue b ↔ IsAbove key es
 above_last key [] e b rise is test = absurd (none e is)
   where
-    none : (e : Entry) → Some e ≡ None → ⊥
+    none : (e : Captured) → Some e ≡ None → ⊥
     none e is = cc
 above_last key (x ∷ xs) e b rise is test = (
   λ holds. above_by key (x ∷ xs) (length xs) e rise refl at (turned e.0 key Less (is_less (key_cmp e.0 key) (sym test ∙ holds))),
@@ -68,12 +68,12 @@ above_last key (x ∷ xs) e b rise is test = (
     at = ap (slice_get (x ∷ xs)) (sym place) ∙ sym is
 
 -- a key above a longer list is above its beginning
-above_less : (q : List ℕ) (es more : List Entry) → IsAbove q (es ++ more) → IsAbove q es
+above_less : (q : List ℕ) (es more : List Captured) → IsAbove q (es ++ more) → IsAbove q es
 above_less q [] more above = tt
 above_less q (e ∷ es) more above = (above.0, above_less q es more above.1)
 
 -- both lists as one have at each key what the second has, or else the first
-module _ (rising others : List Entry) (rise : KeysRise rising) (others_rise : KeysRise others) where
+module _ (rising others : List Captured) (rise : KeysRise rising) (others_rise : KeysRise others) where
   as_merge : Merges newest rising others (as_one rising others)
   as_merge = merges newest refl rising others rise others_rise
 
@@ -84,7 +84,7 @@ module _ (rising others : List Entry) (rise : KeysRise rising) (others_rise : Ke
   find_one = as_merge.finds
 
 -- a key that is above all goes behind the first list
-module _ (rising others new : List Entry) (key : List ℕ) (x : Option (List ℕ)) (taken : AreTaken rising others) (above : IsAbove key rising) (is : new ≡ rising ++ (key, x) ∷ []) where
+module _ (rising others new : List Captured) (key : List ℕ) (x : Option (List ℕ)) (taken : AreTaken rising others) (above : IsAbove key rising) (is : new ≡ rising ++ (key, x) ∷ []) where
   is_put : put key_cmp key x rising ≡ new
   is_put = put_above key x rising above ∙ sym is
 
@@ -108,7 +108,7 @@ module _ (rising others new : List Entry) (key : List ℕ) (x : Option (List ℕ
   }
 
 -- any other key goes into the second
-module _ (rising others new : List Entry) (key : List ℕ) (x : Option (List ℕ)) (taken : AreTaken rising others) (not_above : IsAbove key rising → ⊥) (is : new ≡ put key_cmp key x others) where
+module _ (rising others new : List Captured) (key : List ℕ) (x : Option (List ℕ)) (taken : AreTaken rising others) (not_above : IsAbove key rising → ⊥) (is : new ≡ put key_cmp key x others) where
   others_rise_still : KeysRise new
   others_rise_still = subst KeysRise (sym is) (tested (is_sorted-put key_cmp key_order.total key x others (computes taken.others_rise)))
 
@@ -136,26 +136,26 @@ module _ (rising others new : List Entry) (key : List ℕ) (x : Option (List ℕ
   }
 
 -- as many entries as items
-one_each : (all : List (EitherOrBoth Entry Entry)) → length (gathered newest all) ≡ length all
+one_each : (all : List (EitherOrBoth Captured Captured)) → length (gathered newest all) ≡ length all
 one_each [] = refl
 one_each (Left a ∷ all) = ap suc (one_each all)
 one_each (Right b ∷ all) = ap suc (one_each all)
 one_each (Both a b ∷ all) = ap suc (one_each all)
 
 -- no more than both lists have
-pub few_taken : (rising others : List Entry) (n m : ℕ) → n ≡ length rising → m ≡ length others → length (as_one rising others) ≤ n + m
+pub few_taken : (rising others : List Captured) (n m : ℕ) → n ≡ length rising → m ≡ length others → length (as_one rising others) ≤ n + m
 few_taken rising others n m first second =
     let same : length (as_one rising others) ≡ length (items rising others) = ap length (sym (merged_items newest rising others)) ∙ one_each (items rising others) in
     omega (arith, first, second, same, items_len rising others)
 
 -- each list has no more than both of them as one
-abbrev BothWithin : List Entry → List Entry → Type 0
+abbrev BothWithin : List Captured → List Captured → Type 0
 BothWithin xs ys = (length xs ≤ length (items xs ys)) × (length ys ≤ length (items xs ys))
 
-within_at : (x : Entry) (xs : List Entry) → ((ys : List Entry) → BothWithin xs ys) → (ys : List Entry) → BothWithin (x ∷ xs) ys
-within_at x xs again [] = let same = length-map xs (λ (e : Entry). left_of e) in (omega (arith, same), omega arith)
+within_at : (x : Captured) (xs : List Captured) → ((ys : List Captured) → BothWithin xs ys) → (ys : List Captured) → BothWithin (x ∷ xs) ys
+within_at x xs again [] = let same = length-map xs (λ (e : Captured). left_of e) in (omega (arith, same), omega arith)
   where
-    left_of : Entry → EitherOrBoth Entry Entry
+    left_of : Captured → EitherOrBoth Captured Captured
     left_of e = Left e
 within_at x xs again (y ∷ ys) = by (key_cmp x.0 y.0) (again (y ∷ ys)) (again ys) (within_at x xs again ys)
   where
@@ -166,56 +166,56 @@ within_at x xs again (y ∷ ys) = by (key_cmp x.0 y.0) (again (y ∷ ys)) (again
     by Equal first both second = (omega (arith, both.0), omega (arith, both.1))
     by Greater first both second = (omega (arith, second.0), omega (arith, second.1))
 
-both_within : (xs ys : List Entry) → BothWithin xs ys
-both_within [] ys = let same = length-map ys (λ (e : Entry). right_of e) in (omega arith, omega (arith, same))
+both_within : (xs ys : List Captured) → BothWithin xs ys
+both_within [] ys = let same = length-map ys (λ (e : Captured). right_of e) in (omega arith, omega (arith, same))
   where
-    right_of : Entry → EitherOrBoth Entry Entry
+    right_of : Captured → EitherOrBoth Captured Captured
     right_of e = Right e
 both_within (x ∷ xs) ys = within_at x xs (both_within xs) ys
 
 -- both lists have no more than twice that
-pub twice_taken : (rising others : List Entry) (n m : ℕ) → n ≡ length rising → m ≡ length others → n + m ≤ 2 * length (as_one rising others)
+pub twice_taken : (rising others : List Captured) (n m : ℕ) → n ≡ length rising → m ≡ length others → n + m ≤ 2 * length (as_one rising others)
 twice_taken rising others n m first second =
     let same : length (as_one rising others) ≡ length (items rising others) = ap length (sym (merged_items newest rising others)) ∙ one_each (items rising others) in
     let within = both_within rising others in
     omega (arith, first, second, same, within.0, within.1)
 
 -- what is moved so far, before what the items to come make
-abbrev pub moves_from : List Entry → List Entry → ℕ → List Entry
+abbrev pub moves_from : List Captured → List Captured → ℕ → List Captured
 moves_from rising others n = gathered newest (drop n (items rising others))
 
-pub moves_on : (rising others : List Entry) (n m : ℕ) (item : EitherOrBoth Entry Entry) (e : Entry) → (n < length (items rising others)) × (item ≡ get_or (items rising others) n item) → m ≡ n + 1 → with_item newest item [] ≡ e ∷ [] → moves_from rising others n ≡ e ∷ moves_from rising others m
+pub moves_on : (rising others : List Captured) (n m : ℕ) (item : EitherOrBoth Captured Captured) (e : Captured) → (n < length (items rising others)) × (item ≡ get_or (items rising others) n item) → m ≡ n + 1 → with_item newest item [] ≡ e ∷ [] → moves_from rising others n ≡ e ∷ moves_from rising others m
 moves_on rising others n m item e at next made = one_more newest (items rising others) n m item (e ∷ []) at next made
 
-pub moved_on : (point : ℕ) (e : Entry) (left rest : List Entry) (out new total : List Triple) → left ≡ e ∷ rest → out ++ map (triple_at point) left ≡ total → new ≡ out ++ triple_at point e ∷ [] → new ++ map (triple_at point) rest ≡ total
+pub moved_on : (point : ℕ) (e : Captured) (left rest : List Captured) (out new total : List Triple) → left ≡ e ∷ rest → out ++ map (triple_at point) left ≡ total → new ≡ out ++ triple_at point e ∷ [] → new ++ map (triple_at point) rest ≡ total
 moved_on point e left rest out new total next so_far put =
     ap (λ ts. ts ++ map (triple_at point) rest) put ∙ append_assoc out (triple_at point e ∷ []) (map (triple_at point) rest) ∙ ap (λ es. out ++ map (triple_at point) es) (sym next) ∙ so_far
 
 -- from the first item on, all is moved, and behind the last nothing more
-pub moves_all : (rising others : List Entry) → moves_from rising others 0 ≡ as_one rising others
+pub moves_all : (rising others : List Captured) → moves_from rising others 0 ≡ as_one rising others
 moves_all rising others = merged_items newest rising others
 
-pub moved_all : (point : ℕ) (rising others : List Entry) (n : ℕ) (out total : List Triple) → n ≡ length (items rising others) → out ++ map (triple_at point) (moves_from rising others n) ≡ total → out ≡ total
+pub moved_all : (point : ℕ) (rising others : List Captured) (n : ℕ) (out total : List Triple) → n ≡ length (items rising others) → out ++ map (triple_at point) (moves_from rising others n) ≡ total → out ≡ total
 moved_all point rising others n out total end so_far = sym (append-nil out) ∙ ap (λ es. out ++ map (triple_at point) es) (sym (none_left newest (items rising others) n end)) ∙ so_far
 
 -- the room for what is to come
 pub no_items : (out : List Triple) (len left all cap : ℕ) → len ≡ length out → out ≡ [] → left ≡ all → all ≤ cap → len + left ≤ cap
 no_items out len left all cap is none same room = let zero : length out ≡ 0 = ap length none in omega (arith, is, zero, same, room)
 
-pub room_for : (e : Entry) (left rest : List Entry) (len cap : ℕ) → left ≡ e ∷ rest → len + length left ≤ cap → len < cap
+pub room_for : (e : Captured) (left rest : List Captured) (len cap : ℕ) → left ≡ e ∷ rest → len + length left ≤ cap → len < cap
 room_for e left rest len cap next room = let one : length left ≡ suc (length rest) = ap length next in omega (arith, one, room)
 
-pub room_left : (e : Entry) (left rest : List Entry) (len more cap after : ℕ) → left ≡ e ∷ rest → len + length left ≤ cap → more ≡ len + 1 → after ≡ cap → more + length rest ≤ after
+pub room_left : (e : Captured) (left rest : List Captured) (len more cap after : ℕ) → left ≡ e ∷ rest → len + length left ≤ cap → more ≡ len + 1 → after ≡ cap → more + length rest ≤ after
 room_left e left rest len more cap after next room one same = let less : length left ≡ suc (length rest) = ap length next in omega (arith, less, room, one, same)
 
 pub refuted : {A : Type 0} (b : Bool) → IsTrue b ↔ A → b ≡ false → A → ⊥
 refuted b tests is a = cc (tests.1 a, is)
 
 -- at first nothing is taken
-pub first_one : (rising others : List Entry) → rising ≡ [] → others ≡ [] → as_one rising others ≡ []
+pub first_one : (rising others : List Captured) → rising ≡ [] → others ≡ [] → as_one rising others ≡ []
 first_one rising others none nothing = rw (none, nothing) (sym (merged_items newest [] []))
 
-pub first_taken : (rising others : List Entry) → rising ≡ [] → others ≡ [] → AreTaken rising others
+pub first_taken : (rising others : List Captured) → rising ≡ [] → others ≡ [] → AreTaken rising others
 first_taken rising others none nothing = record {
   rise = rw none refl;
   others_rise = rw nothing refl;

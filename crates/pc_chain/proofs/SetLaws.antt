@@ -3,13 +3,13 @@ use Rattle.std.proofs.Common.{◌≡◌, ℕ, zero, suc, List, [], ◌∷◌, le
 use Rattle.pc_chain.specs.declared.chain.Chain.{Chain}
 use Rattle.pc_chain.specs.Chains.{first_of, Avoids, AllHave, Leads, IsChain}
 use Rattle.pc_chain.proofs.ChainLaws.{empty_chain}
-use Rattle.pc_chain.specs.declared.side.Place.{Place}
+use Rattle.pc_chain.specs.declared.side.SideSlot.{SideSlot}
 use Rattle.pc_chain.specs.declared.side.Side.{Side}
 use Rattle.pc_chain.specs.declared.dirty.Dirty.{Dirty}
 use Rattle.pc_chain.specs.Sets.{other_side, place_of, places_of, AreSets, AreEmpty, HasNoRepeats, follow, opened_of, closed_of}
 
 -- two empty sets, over any links
-pub empty_sets : (has : Place → Type 0) (next : Place → Option Place) (dirty : Dirty) → AreEmpty dirty → AreSets has next dirty [] []
+pub empty_sets : (has : SideSlot → Type 0) (next : SideSlot → Option SideSlot) (dirty : Dirty) → AreEmpty dirty → AreSets has next dirty [] []
 empty_sets has next dirty e = record {
   open_chain = empty_chain has next dirty.opened e.opened;
   closed_chain = empty_chain has next dirty.closed e.closed;
@@ -17,19 +17,19 @@ empty_sets has next dirty e = record {
   closed_count = e.closed_count;
 }
 
-slots_have : (P : Place → Type 0) (side : Side) (slots : List ℕ) → AllHave P (places_of side slots) → AllHave (λ slot. P (place_of side slot)) slots
+slots_have : (P : SideSlot → Type 0) (side : Side) (slots : List ℕ) → AllHave P (places_of side slots) → AllHave (λ slot. P (place_of side slot)) slots
 slots_have P side [] h = tt
 slots_have P side (x ∷ xs) h = (h.0, slots_have P side xs h.1)
 
-places_have : (P : Place → Type 0) (side : Side) (slots : List ℕ) → AllHave (λ slot. P (place_of side slot)) slots → AllHave P (places_of side slots)
+places_have : (P : SideSlot → Type 0) (side : Side) (slots : List ℕ) → AllHave (λ slot. P (place_of side slot)) slots → AllHave P (places_of side slots)
 places_have P side [] h = tt
 places_have P side (x ∷ xs) h = (h.0, places_have P side xs h.1)
 
-leads_still : (next next' : Place → Option Place) (side : Side) (slots : List ℕ) → AllHave (λ slot. next' (place_of side slot) ≡ next (place_of side slot)) slots → Leads next (places_of side slots) → Leads next' (places_of side slots)
+leads_still : (next next' : SideSlot → Option SideSlot) (side : Side) (slots : List ℕ) → AllHave (λ slot. next' (place_of side slot) ≡ next (place_of side slot)) slots → Leads next (places_of side slots) → Leads next' (places_of side slots)
 leads_still next next' side [] s l = tt
 leads_still next next' side (x ∷ xs) s l = (s.0 ∙ l.0, l.1, leads_still next next' side xs s.1 l.2)
 
-chain_stays : (has has' : Place → Type 0) (next next' : Place → Option Place) (side : Side) (slots : List ℕ) (chain : Chain Place) → AllHave (λ slot. has' (place_of side slot)) slots → AllHave (λ slot. next' (place_of side slot) ≡ next (place_of side slot)) slots → IsChain has next chain (places_of side slots) →
+chain_stays : (has has' : SideSlot → Type 0) (next next' : SideSlot → Option SideSlot) (side : Side) (slots : List ℕ) (chain : Chain SideSlot) → AllHave (λ slot. has' (place_of side slot)) slots → AllHave (λ slot. next' (place_of side slot) ≡ next (place_of side slot)) slots → IsChain has next chain (places_of side slots) →
     IsChain has' next' chain (places_of side slots)
 chain_stays has has' next next' side slots chain h s c = record {
   first = c.first;
@@ -39,7 +39,7 @@ chain_stays has has' next next' side slots chain h s c = record {
 }
 
 -- sets of which each slot has its links still, and they lead where they led
-pub sets_stay : (has has' : Place → Type 0) (next next' : Place → Option Place) (dirty : Dirty) (opened closed : List ℕ) → AllHave (λ slot. has' (place_of dirty.side slot)) opened → AllHave (λ slot. next' (place_of dirty.side slot) ≡ next (place_of dirty.side slot)) opened →
+pub sets_stay : (has has' : SideSlot → Type 0) (next next' : SideSlot → Option SideSlot) (dirty : Dirty) (opened closed : List ℕ) → AllHave (λ slot. has' (place_of dirty.side slot)) opened → AllHave (λ slot. next' (place_of dirty.side slot) ≡ next (place_of dirty.side slot)) opened →
     AllHave (λ slot. has' (place_of (other_side dirty.side) slot)) closed → AllHave (λ slot. next' (place_of (other_side dirty.side) slot) ≡ next (place_of (other_side dirty.side) slot)) closed → AreSets has next dirty opened closed → AreSets has' next' dirty opened closed
 sets_stay has has' next next' dirty opened closed h s k t d = record {
   open_chain = chain_stays has has' next next' dirty.side opened dirty.opened h s d.open_chain;
@@ -52,17 +52,17 @@ apart : (side : Side) (slot : ℕ) (slots : List ℕ) → Avoids (place_of side 
 apart side slot [] a = tt
 apart side slot (x ∷ xs) a = ((λ e. a.0 (ap (place_of side) e)), apart side slot xs a.1)
 
-once : (next : Place → Option Place) (side : Side) (slots : List ℕ) → Leads next (places_of side slots) → HasNoRepeats slots
+once : (next : SideSlot → Option SideSlot) (side : Side) (slots : List ℕ) → Leads next (places_of side slots) → HasNoRepeats slots
 once next side [] l = tt
 once next side (x ∷ xs) l = (apart side x xs l.1, once next side xs l.2)
 
-follow_is : (next : Place → Option Place) (side : Side) (n : ℕ) (slots : List ℕ) → Leads next (places_of side slots) → n ≡ length slots → follow next n (first_of (places_of side slots)) ≡ slots
+follow_is : (next : SideSlot → Option SideSlot) (side : Side) (n : ℕ) (slots : List ℕ) → Leads next (places_of side slots) → n ≡ length slots → follow next n (first_of (places_of side slots)) ≡ slots
 follow_is next side n [] l h = refl
 follow_is next side zero (x ∷ xs) l h = absurd (omega (arith, h))
 follow_is next side (suc n) (x ∷ xs) l h = ap (λ ys. x ∷ ys) (ap (follow next n) l.0 ∙ follow_is next side n xs l.2 (omega (arith, h)))
 
 -- what is known of the two lists: none has a slot twice, each slot has its link, and the links lead along them
-module _ (has : Place → Type 0) (next : Place → Option Place) (dirty : Dirty) (opened closed : List ℕ) (d : AreSets has next dirty opened closed) where
+module _ (has : SideSlot → Type 0) (next : SideSlot → Option SideSlot) (dirty : Dirty) (opened closed : List ℕ) (d : AreSets has next dirty opened closed) where
   pub opened_once : HasNoRepeats opened
   opened_once = once next dirty.side opened d.open_chain.leads
 

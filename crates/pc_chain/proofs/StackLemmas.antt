@@ -1,7 +1,7 @@
 -- What setting links makes of stacks.
 use Rattle.std.proofs.Common.{◌≡◌, ◌≢◌, List, ◌∷◌, ◌++◌, Option, Some, None, sym, ◌∙◌, ap, subst}
 use Rattle.pc_chain.specs.declared.stack.Stack.{Stack}
-use Rattle.pc_chain.specs.Chains.{last_of, Avoids, AreApart}
+use Rattle.pc_chain.specs.Chains.{last_of, Avoids, AreDisjoint}
 use Rattle.pc_chain.specs.Stacks.{IsStack}
 use Rattle.pc_chain.proofs.ChainLaws.{have_still, have_others, have_without, leads_still}
 use Rattle.pc_chain.proofs.ChainLemmas.{none_before, first_without, leads_unlinked, next_of_it, still_apart}
@@ -44,5 +44,5 @@ module _ {I : Type 0} where
 
   -- and another stack stays
   pub stack_apart : (has has' : I → Type 0) (next next' : I → Option I) (other : Stack I) (before rest ys : List I) (previous : I) → Some previous ≡ last_of before → ((x : I) → has x → has' x) →
-      ((x : I) → x ≢ previous → next' x ≡ next x) → IsStack has next other ys → AreApart (before ++ rest) ys → IsStack has' next' other ys
+      ((x : I) → x ≢ previous → next' x ≡ next x) → IsStack has next other ys → AreDisjoint (before ++ rest) ys → IsStack has' next' other ys
   stack_apart has has' next next' other before rest ys previous p k o d a = stack_still has has' next next' other ys k (still_apart next next' previous before rest ys p o a) d

@@ -1,7 +1,7 @@
 -- Two sets of slots, each a list in the order of first addition, over the links that someone keeps.
 use Rattle.std.specs.Prelude.{◌≡◌, ⊤, ℕ, zero, suc, List, [], ◌∷◌, length, map, Option, Some, None}
 use Rattle.pc_chain.specs.Chains.{Avoids, IsChain, IsEmpty}
-use Rattle.pc_chain.specs.declared.side.Place.{Place}
+use Rattle.pc_chain.specs.declared.side.SideSlot.{SideSlot}
 use Rattle.pc_chain.specs.declared.side.Side.{Side}
 use Rattle.pc_chain.specs.declared.side.Side.TheVariants.{First, Second}
 use Rattle.pc_chain.specs.declared.dirty.Dirty.{Dirty}
@@ -12,15 +12,15 @@ other_side First = Second
 other_side Second = First
 
 -- the slot's place on the side
-abbrev pub place_of : Side → ℕ → Place
+abbrev pub place_of : Side → ℕ → SideSlot
 place_of side slot = record { slot = slot; side = side }
 
 -- the places of the slots on the side
-abbrev pub places_of : Side → List ℕ → List Place
+abbrev pub places_of : Side → List ℕ → List SideSlot
 places_of side slots = map (place_of side) slots
 
 -- over these links the open set is the one list, and the closed set the other
-pub record AreSets (has : Place → Type 0) (next : Place → Option Place) (dirty : Dirty) (opened closed : List ℕ) : Type 0 where
+pub record AreSets (has : SideSlot → Type 0) (next : SideSlot → Option SideSlot) (dirty : Dirty) (opened closed : List ℕ) : Type 0 where
   pub open_chain : IsChain has next dirty.opened (places_of dirty.side opened)
   pub closed_chain : IsChain has next dirty.closed (places_of (other_side dirty.side) closed)
   pub open_count : dirty.open_count ≡ length opened
@@ -34,17 +34,17 @@ pub record AreEmpty (dirty : Dirty) : Type 0 where
   pub closed_count : dirty.closed_count ≡ 0
 
 -- so many slots at most, along the links from this place on
-abbrev pub follow : (Place → Option Place) → ℕ → Option Place → List ℕ
+abbrev pub follow : (SideSlot → Option SideSlot) → ℕ → Option SideSlot → List ℕ
 follow next n None = []
 follow next zero (Some place) = []
 follow next (suc n) (Some place) = place.slot ∷ follow next n (next place)
 
 -- the slots of the open set, by the links
-abbrev pub opened_of : (Place → Option Place) → Dirty → List ℕ
+abbrev pub opened_of : (SideSlot → Option SideSlot) → Dirty → List ℕ
 opened_of next dirty = follow next dirty.open_count dirty.opened.first
 
 -- the slots of the closed set, by the links
-abbrev pub closed_of : (Place → Option Place) → Dirty → List ℕ
+abbrev pub closed_of : (SideSlot → Option SideSlot) → Dirty → List ℕ
 closed_of next dirty = follow next dirty.closed_count dirty.closed.first
 
 -- no slot stands twice

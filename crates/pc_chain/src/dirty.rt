@@ -5,7 +5,7 @@ ghost use Rattle.pc_chain.specs.Sets.{other_side, place_of, AreSets, AreEmpty};
 
 use crate::chain::Chain;
 use crate::links::Links;
-use crate::side::{Place, Side};
+use crate::side::{Side, SideSlot};
 use pc_types::SlotId;
 
 /// Two sets of slots, the open one and the closed one; a slot can be in both. Each is a list without repeats, in the order of
@@ -14,8 +14,8 @@ use pc_types::SlotId;
 /// over the slots, and each succeeds.
 #[derive(Clone, Copy)]
 pub struct Dirty {
-    opened: Chain<Place>,
-    closed: Chain<Place>,
+    opened: Chain<SideSlot>,
+    closed: Chain<SideSlot>,
     side: Side,
     open_count: u32,
     closed_count: u32,
@@ -44,22 +44,22 @@ impl Dirty {
     }
 
     /// Adds a slot, which isn't in the open set, at its end.
-    pub fn add<K, L: Links<K, Id = Place>>(&mut self, links: &mut L, slot: SlotId)
+    pub fn add<K, L: Links<K, Id = SideSlot>>(&mut self, links: &mut L, slot: SlotId)
         requires has { L.has links.old (place_of self.old.side slot) }
         requires stands { (opened closed : List ℕ) × AreSets (L.has links.old) (L.next_of links.old) self.old opened closed × Avoids slot opened × (length opened + 1 < 2 ^ 32) }
         ensures sets { (opened closed : List ℕ) → AreSets (L.has links.old) (L.next_of links.old) self.old opened closed → Avoids slot opened → AreSets (L.has links.new) (L.next_of links.new) self.new (opened ++ slot ∷ []) closed }
         ensures side { self.new.side ≡ self.old.side }
-        ensures has { (other : Place) → L.has links.old other → L.has links.new other }
+        ensures has { (other : SideSlot) → L.has links.old other → L.has links.new other }
         ensures beside { L.beside links.old links.new }
     {
         let side = self.side;
         self.open_count += 1;
-        self.opened.push_back(links, Place { slot, side });
+        self.opened.push_back(links, SideSlot { slot, side });
     }
 
     /// Makes the open set the closed one, which has to be empty. The open set is then empty. The sides are turned, and no
     /// slot is looked at.
-    pub fn close<K, L: Links<K, Id = Place>>(&mut self, links: &L)
+    pub fn close<K, L: Links<K, Id = SideSlot>>(&mut self, links: &L)
         requires { (opened : List ℕ) × AreSets (L.has links.now) (L.next_of links.now) self.old opened [] }
         ensures sets { (opened : List ℕ) → AreSets (L.has links.now) (L.next_of links.now) self.old opened [] → AreSets (L.has links.now) (L.next_of links.now) self.new [] opened }
         ensures side { self.new.side ≡ other_side self.old.side }
@@ -72,7 +72,7 @@ impl Dirty {
     }
 
     /// The first slot of the closed set; None where the set is empty.
-    pub fn first_closed<K, L: Links<K, Id = Place>>(&self, links: &L) -> Option<SlotId>
+    pub fn first_closed<K, L: Links<K, Id = SideSlot>>(&self, links: &L) -> Option<SlotId>
         ensures { (opened closed : List ℕ) → AreSets (L.has links.now) (L.next_of links.now) self.now opened closed → result ≡ first_of closed }
     {
         let place = self.closed.first(links)?;
@@ -80,7 +80,7 @@ impl Dirty {
     }
 
     /// Takes the first slot out of the closed set and gives it; None where the set is empty. No link changes.
-    pub fn pop_closed<K, L: Links<K, Id = Place>>(&mut self, links: &L) -> Option<SlotId>
+    pub fn pop_closed<K, L: Links<K, Id = SideSlot>>(&mut self, links: &L) -> Option<SlotId>
         requires { (opened closed : List ℕ) × AreSets (L.has links.now) (L.next_of links.now) self.old opened closed }
         ensures given { (opened closed : List ℕ) → AreSets (L.has links.now) (L.next_of links.now) self.old opened closed → result ≡ first_of closed }
         ensures sets { (opened closed : List ℕ) → AreSets (L.has links.now) (L.next_of links.now) self.old opened closed → AreSets (L.has links.now) (L.next_of links.now) self.new opened (rest_of closed) }
@@ -92,14 +92,14 @@ impl Dirty {
     }
 
     /// Whether the closed set has no slot.
-    pub fn closed_is_empty<K, L: Links<K, Id = Place>>(&self, links: &L) -> bool
+    pub fn closed_is_empty<K, L: Links<K, Id = SideSlot>>(&self, links: &L) -> bool
         ensures { (opened closed : List ℕ) → AreSets (L.has links.now) (L.next_of links.now) self.now opened closed → IsTrue result ↔ (closed ≡ []) }
     {
         self.closed_len(links) == 0
     }
 
     /// How many slots are in the closed set; a count that is kept.
-    pub fn closed_len<K, L: Links<K, Id = Place>>(&self, _links: &L) -> u32
+    pub fn closed_len<K, L: Links<K, Id = SideSlot>>(&self, _links: &L) -> u32
         ensures { (opened closed : List ℕ) → AreSets (L.has _links.now) (L.next_of _links.now) self.now opened closed → result ≡ length closed }
     {
         let Dirty { closed_count, .. } = *self;
@@ -107,7 +107,7 @@ impl Dirty {
     }
 
     /// How many slots are in the open set; a count that is kept.
-    pub fn open_len<K, L: Links<K, Id = Place>>(&self, _links: &L) -> u32
+    pub fn open_len<K, L: Links<K, Id = SideSlot>>(&self, _links: &L) -> u32
         ensures { (opened closed : List ℕ) → AreSets (L.has _links.now) (L.next_of _links.now) self.now opened closed → result ≡ length opened }
     {
         let Dirty { open_count, .. } = *self;

@@ -11,5 +11,5 @@ mod stack;
 pub use chain::Chain;
 pub use dirty::Dirty;
 pub use links::Links;
-pub use side::{Place, Side};
+pub use side::{Side, SideSlot};
 pub use stack::Stack;

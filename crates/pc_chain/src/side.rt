@@ -25,7 +25,7 @@ impl Side {
 
 /// What names a link: a slot, and a side.
 #[derive(Clone, Copy)]
-pub struct Place {
+pub struct SideSlot {
     pub slot: SlotId,
     pub side: Side,
 }

@@ -7,7 +7,7 @@ use Rattle.crossbeam_queue.proofs.Lists.{at_set, at_snoc}
 use Rattle.pc_model.specs.Files.{File}
 use Rattle.pc_collapse.specs.declared.rule.Hand.{Hand}
 use Rattle.pc_collapse.specs.Bags.{hand, all_parts, held_by, parts_of, Bagged, rest_of}
-use Rattle.pc_collapse.specs.Worth.{Fact, Holds, Among, Stays, AreSound, AreWorth}
+use Rattle.pc_collapse.specs.Worth.{Fact, FactHolds, Among, Stays, AreFactsGiven, AreWorth}
 use Rattle.pc_collapse.proofs.FactLists.{among_front, among_back, among_split, stays_among, worth_itself}
 
 -- ---- hands
@@ -71,7 +71,7 @@ module _ (given : List File) where
   worth_after old new h sub keep = record { sound = λ w a. h.sound w (sub w a); whole = λ w stays a. keep w stays (h.whole w stays a) }
 
   module _ (pass : ℕ) (v : Hand) where
-    takes_to : (held : File → List File) → ((x : File) (w : Fact) → Among w (held x) → Holds w x ⊎ Among w v.held) → ((x : File) (w : Fact) → Holds w x ⊎ Among w v.held → Among w (held x)) →
+    takes_to : (held : File → List File) → ((x : File) (w : Fact) → Among w (held x) → FactHolds w x ⊎ Among w v.held) → ((x : File) (w : Fact) → FactHolds w x ⊎ Among w v.held → Among w (held x)) →
         ((x : File) → length (held x) ≡ length v.held + 1) → 0 < v.parts → Pops (Bagged given) pass v (λ x w. w ≡ hand v.parts (held x))
     takes_to held from to count own x items views b at = let w : Hand = hand v.parts (held x) in (
       w,
@@ -92,7 +92,7 @@ module _ (given : List File) where
     )
 
     -- what is held once a file is taken is of the given files
-    pub takes : 0 < v.parts → Pops (Bagged given) pass v (λ x w. (w ≡ hand v.parts (x ∷ v.held)) × AreSound given (x ∷ v.held))
+    pub takes : 0 < v.parts → Pops (Bagged given) pass v (λ x w. (w ≡ hand v.parts (x ∷ v.held)) × AreFactsGiven given (x ∷ v.held))
     takes own x items views b at = let taken = takes_to (λ x. x ∷ v.held) (λ x w a. a) (λ x w a. a) (λ x. omega arith) own x items views b at in (
       taken.0,
       taken.1,
@@ -150,8 +150,8 @@ module _ (given : List File) where
 pub took_two : (v0 v1 v2 : Hand) (a b c : File) → v0 ≡ hand 1 [] → v1 ≡ hand v0.parts (a ∷ v0.held) → v2 ≡ hand v1.parts (b ∷ v1.held) → c ≡ b → (v2.held ≡ c ∷ a ∷ []) × (0 < v2.parts)
 took_two v0 v1 v2 a b c e0 e1 e2 e3 = rw (e2, e1, e0, e3) (refl, omega arith)
 
-pub sound_two : (given : List File) (v0 v1 : Hand) (a b : File) → v0 ≡ hand 1 [] → v1 ≡ hand v0.parts (a ∷ v0.held) → AreSound given (b ∷ v1.held) → AreSound given (b ∷ a ∷ [])
-sound_two given v0 v1 a b e0 e1 = subst (λ (held : List File). AreSound given (b ∷ held)) (ap (λ (h : Hand). h.held) e1 ∙ ap (λ (h : Hand). a ∷ h.held) e0)
+pub sound_two : (given : List File) (v0 v1 : Hand) (a b : File) → v0 ≡ hand 1 [] → v1 ≡ hand v0.parts (a ∷ v0.held) → AreFactsGiven given (b ∷ v1.held) → AreFactsGiven given (b ∷ a ∷ [])
+sound_two given v0 v1 a b e0 e1 = subst (λ (held : List File). AreFactsGiven given (b ∷ held)) (ap (λ (h : Hand). h.held) e1 ∙ ap (λ (h : Hand). a ∷ h.held) e0)
 
 held_same : (l : List Hand) (i : ℕ) (a b : Hand) → get_elem? l i ≡ some a → b.held ≡ a.held → held_by (set l i b) ≡ held_by l
 held_same [] i a b e s = absurd (some-ne-none a (sym e))

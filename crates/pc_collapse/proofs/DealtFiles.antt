@@ -9,14 +9,14 @@ use Rattle.pc_types.specs.declared.Refusal.{Refusal}
 use Rattle.pc_model.specs.Files.{File}
 use Rattle.pc_collapse.specs.declared.rounds.Dealt.{Dealt}
 use Rattle.pc_collapse.specs.declared.rounds.Neighbours.{Neighbours}
-use Rattle.pc_collapse.specs.Worth.{AreSound, AreWorth, IsCauseFor}
+use Rattle.pc_collapse.specs.Worth.{AreFactsGiven, AreWorth, IsCauseFor}
 use Rattle.pc_collapse.specs.Rounds.{files_of, hand_files, dealt_files, together, Become, AllBecome}
 use Rattle.pc_collapse.proofs.FactLists.{among_front, among_back, among_split, sound_trans, sound_front, sound_back, worth_same, worth_itself, worth_trans, worth_append}
 use Rattle.pc_collapse.proofs.FoldedFiles.{cause_for}
 
 -- ---- lists in another order
 
-sound_move : (a b c : List File) → AreSound (a ++ (b ++ c)) (b ++ (a ++ c))
+sound_move : (a b c : List File) → AreFactsGiven (a ++ (b ++ c)) (b ++ (a ++ c))
 sound_move a b c = λ w h. ⊎_elim
     (λ i. among_back w a (b ++ c) (among_front w b c i))
     (λ r. ⊎_elim (λ i. among_front w a (b ++ c) i) (λ i. among_back w a (b ++ c) (among_back w b c i)) (among_split w a c r))

@@ -4,7 +4,7 @@ use Rattle.std.specs.List.{Contains}
 use Rattle.std.proofs.lemmas.List.{take-append-drop}
 use Rattle.std.proofs.lemmas.List.Elements.{Contains-append_right, Contains-append_cases, Contains-push_cases}
 use Rattle.pc_model.specs.Files.{File}
-use Rattle.pc_collapse.specs.Worth.{Fact, Holds, Among, Stays, AreSound, AreWorth}
+use Rattle.pc_collapse.specs.Worth.{Fact, FactHolds, Among, Stays, AreFactsGiven, AreWorth}
 use Rattle.pc_collapse.specs.Worth.Fact.{HasTriple, HasPoint, HasRun}
 
 -- ---- facts of a list and of its parts
@@ -24,35 +24,35 @@ among_split w (x ∷ xs) ys (inl i) = inl (inl i)
 among_split w (x ∷ xs) ys (inr r) = ⊎_elim (λ p. inl (inr p)) (λ q. inr q) (among_split w xs ys r)
 
 -- what stays among many stays among some of them
-pub stays_among : (w : Fact) (many few : List File) → AreSound many few → Stays w many → Stays w few
+pub stays_among : (w : Fact) (many few : List File) → AreFactsGiven many few → Stays w many → Stays w few
 stays_among (HasTriple key x) many few sub stays = λ u a. stays u (sub (HasTriple key u) a)
 stays_among (HasPoint p) many few sub stays = tt
 stays_among (HasRun r) many few sub stays = tt
 
 -- a fact of a list is one of a file of it, and back
-pub among_file : (w : Fact) (fs : List File) → Among w fs → (one : File) × Contains fs one × Holds w one
+pub among_file : (w : Fact) (fs : List File) → Among w fs → (one : File) × Contains fs one × FactHolds w one
 among_file w [] h = absurd h
 among_file w (f ∷ fs) (inl i) = (f, (0, omega arith, refl), i)
 among_file w (f ∷ fs) (inr r) = let there = among_file w fs r in (there.0, Contains-append_right (f ∷ []) fs there.0 there.1, there.2)
 
-pub file_among : (w : Fact) (fs : List File) (h : File) → Contains fs h → Holds w h → Among w fs
+pub file_among : (w : Fact) (fs : List File) (h : File) → Contains fs h → FactHolds w h → Among w fs
 file_among w [] h there i = absurd (let bound = there.1 in omega arith)
-file_among w (f ∷ fs) h there i = ⊎_elim (λ (same : Contains (f ∷ []) h). ⊎_elim (λ (none : Contains [] h). absurd (let bound = none.1 in omega arith)) (λ (is : f ≡ h). inl (subst (Holds w) (sym is) i)) (Contains-push_cases [] f h same))
+file_among w (f ∷ fs) h there i = ⊎_elim (λ (same : Contains (f ∷ []) h). ⊎_elim (λ (none : Contains [] h). absurd (let bound = none.1 in omega arith)) (λ (is : f ≡ h). inl (subst (FactHolds w) (sym is) i)) (Contains-push_cases [] f h same))
     (λ (rest : Contains fs h). inr (file_among w fs h rest i)) (Contains-append_cases (f ∷ []) fs h there)
 
 -- ---- what lists are worth
 
-pub sound_trans : (a b c : List File) → AreSound a b → AreSound b c → AreSound a c
+pub sound_trans : (a b c : List File) → AreFactsGiven a b → AreFactsGiven b c → AreFactsGiven a c
 sound_trans a b c p q = λ w h. p w (q w h)
 
-pub sound_front : (xs ys : List File) → AreSound (xs ++ ys) xs
+pub sound_front : (xs ys : List File) → AreFactsGiven (xs ++ ys) xs
 sound_front xs ys = λ w h. among_front w xs ys h
 
-pub sound_back : (xs ys : List File) → AreSound (xs ++ ys) ys
+pub sound_back : (xs ys : List File) → AreFactsGiven (xs ++ ys) ys
 sound_back xs ys = λ w h. among_back w xs ys h
 
 -- lists with the same facts
-pub worth_same : (a b : List File) → AreSound a b → AreSound b a → AreWorth a b
+pub worth_same : (a b : List File) → AreFactsGiven a b → AreFactsGiven b a → AreWorth a b
 worth_same a b there back = record { sound = there; whole = λ w stays h. back w h }
 
 pub worth_itself : (a : List File) → AreWorth a a
@@ -76,10 +76,10 @@ worth_some (f ∷ fs) [] some worth = absurd (worth.whole (HasRun f.run) tt (inl
 worth_some (f ∷ fs) (x ∷ xs) some worth = omega arith
 
 -- the two halves of a list
-pub sound_halves : (half : ℕ) (all front back : List File) → front ≡ take half all → back ≡ drop half all → AreSound all front × AreSound all back × (all ≡ front ++ back)
+pub sound_halves : (half : ℕ) (all front back : List File) → front ≡ take half all → back ≡ drop half all → AreFactsGiven all front × AreFactsGiven all back × (all ≡ front ++ back)
 sound_halves half all front back is_front is_back =
     let whole : all ≡ front ++ back = sym (ap (λ l. l ++ back) is_front ∙ ap (λ l. take half all ++ l) is_back ∙ take-append-drop half all) in (
-      subst (λ (l : List File). AreSound l front) (sym whole) (sound_front front back),
-      subst (λ (l : List File). AreSound l back) (sym whole) (sound_back front back),
+      subst (λ (l : List File). AreFactsGiven l front) (sym whole) (sound_front front back),
+      subst (λ (l : List File). AreFactsGiven l back) (sym whole) (sound_back front back),
       whole,
     )

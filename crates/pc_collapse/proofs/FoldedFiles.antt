@@ -23,8 +23,8 @@ use Rattle.pc_model.proofs.CountLaws.{length_of_set}
 use Rattle.pc_model.proofs.ContentLaws.{contains-union}
 use Rattle.pc_model.proofs.JoinLaws.{get-joined}
 use Rattle.pc_part.specs.Joins.{first_cause, IsRefusedBy}
-use Rattle.pc_collapse.specs.Folds.{folded, has_other_run, IsUnderAt, NoneConflict, IsFold, IsCause, Folds}
-use Rattle.pc_collapse.specs.Worth.{Fact, Holds, Among, AreSound, AreWorth, AreOfOneRun, IsCauseFor, Joins}
+use Rattle.pc_collapse.specs.Folds.{folded, has_other_run, IsUnderAt, NoneConflict, IsFold, IsFoldCause, Folds}
+use Rattle.pc_collapse.specs.Worth.{Fact, FactHolds, Among, AreFactsGiven, AreWorth, AreOfOneRun, IsCauseFor, JoinsToOne}
 use Rattle.pc_collapse.specs.Worth.Fact.{HasTriple, HasPoint, HasRun}
 use Rattle.pc_collapse.proofs.FactLists.{among_file, file_among, sound_trans, worth_same, worth_trans, worth_append}
 use Rattle.pc_collapse.proofs.JoinedFacts.{joined_from, join_worth, or_left, or_right}
@@ -32,7 +32,7 @@ use Rattle.pc_collapse.proofs.KeyConflicts.{one_triple, no_conflict}
 
 -- ---- what folds have
 
-pub folded_from : (f : File) (fs : List File) (w : Fact) → Holds w (folded f fs) → Among w (f ∷ fs)
+pub folded_from : (f : File) (fs : List File) (w : Fact) → FactHolds w (folded f fs) → Among w (f ∷ fs)
 folded_from f [] w h = inl h
 folded_from f (g ∷ fs) w h = ⊎_elim (λ q. inl q) (λ p. inr (folded_from g fs w p)) (joined_from f (folded g fs) w h)
 
@@ -126,7 +126,7 @@ module _ (f : File) (fs : List File) where
   given_run one r h = ⊎_elim (λ (i : f.run ≡ r). sym i) (λ q. run_is fs one r q) h
 
   -- two files whose triples are those of files without conflict have none
-  apart_by : (a b : File) → AreSound (f ∷ fs) (a ∷ b ∷ []) → NoneConflict (f ∷ fs) → conflict a.triples b.triples ≡ false
+  apart_by : (a b : File) → AreFactsGiven (f ∷ fs) (a ∷ b ∷ []) → NoneConflict (f ∷ fs) → conflict a.triples b.triples ≡ false
   apart_by a b sound none = no_conflict a.triples b.triples (λ q s t p r.
       let one = among_file (HasTriple q s) (f ∷ fs) (sound (HasTriple q s) (inl p)) in
       let other = among_file (HasTriple q t) (f ∷ fs) (sound (HasTriple q t) (inr (inl r))) in
@@ -146,14 +146,14 @@ err_is a b same = ap (λ (r : Result File Refusal). MatchResultOr r) same
 pub cause_of : (a b : File) (why : Refusal) → IsRefusedBy (first_cause (join_causes (Some a) (Some b))) (refused why) → IsCauseFor (a ∷ b ∷ []) why
 cause_of a b why is given sound f fs given_is one = by (eqb a.run b.run) (conflict a.triples b.triples) (nat_lt MOST_FILE_ENTRIES (len (joined_file a b).triples)) refl refl refl is
   where
-    of : AreSound (f ∷ fs) (a ∷ b ∷ [])
-    of = subst (λ (g : List File). AreSound g (a ∷ b ∷ [])) given_is sound
+    of : AreFactsGiven (f ∷ fs) (a ∷ b ∷ [])
+    of = subst (λ (g : List File). AreFactsGiven g (a ∷ b ∷ [])) given_is sound
 
     same : a.run ≡ b.run
     same = given_run f fs one a.run (of (HasRun a.run) (inl refl)) ∙ sym (given_run f fs one b.run (of (HasRun b.run) (inr (inl refl))))
 
     by : (s t u : Bool) → eqb a.run b.run ≡ s → conflict a.triples b.triples ≡ t → nat_lt MOST_FILE_ENTRIES (len (joined_file a b).triples) ≡ u
-        → IsRefusedBy (cond (not s) (Some OtherRun) (cond t (Some Conflict) (cond u (Some Full) None))) (refused why) → IsCause f fs why
+        → IsRefusedBy (cond (not s) (Some OtherRun) (cond t (Some Conflict) (cond u (Some Full) None))) (refused why) → IsFoldCause f fs why
     by false t u p q r h = let yes : eqb a.run b.run ≡ true = grind (arith, nat_tests, same) in let bad : true ≡ false = sym yes ∙ p in absurd cc
     by true true u p q r h = inr (inl (err_is why Conflict h, λ none. let no = apart_by f fs a b of none in let bad : true ≡ false = sym q ∙ no in absurd cc))
     by true false true p q r h = inr (inr (err_is why Full h, full_by f fs (joined a.triples b.triples) (λ key x e. of (HasTriple key x) (⊎_elim (λ i. inl i) (λ i. inr (inl i)) (joined_from a b (HasTriple key x) e))) (ltb-true MOST_FILE_ENTRIES (len (joined_file a b).triples) r)))
@@ -174,19 +174,19 @@ answered a b file = by (eqb a.run b.run) (conflict a.triples b.triples) refl ref
     by false t p q h = cc
 
 -- what `join` answers
-pub join_joins : (a b : File) (r : Result File Refusal) → IfOk r (λ file. file ≡ joined_file a b) → IsRefusedBy (first_cause (join_causes (Some a) (Some b))) r → Joins (a ∷ b ∷ []) r
+pub join_joins : (a b : File) (r : Result File Refusal) → IfOk r (λ file. file ≡ joined_file a b) → IsRefusedBy (first_cause (join_causes (Some a) (Some b))) r → JoinsToOne (a ∷ b ∷ []) r
 join_joins a b (Ok file) is due = let well = answered a b file due in subst (λ (x : File). AreWorth (a ∷ b ∷ []) (x ∷ [])) (sym is) (join_worth a b well.0 well.1)
 join_joins a b (Err why) is due = cause_of a b why due
 
 -- a cause of some of the files is one of all
-pub cause_for : (all some : List File) (why : Refusal) → AreSound all some → IsCauseFor some why → IsCauseFor all why
+pub cause_for : (all some : List File) (why : Refusal) → AreFactsGiven all some → IsCauseFor some why → IsCauseFor all why
 cause_for all some why sub cause = λ given sound. cause given (sound_trans given all some sound sub)
 
 pub no_memory : (files : List File) → IsCauseFor files OutOfMemory
 no_memory files = λ given sound f fs is one. inl refl
 
 -- some files stand for the given ones, and are joined
-pub joins_worth : (given files : List File) (r : Result File Refusal) → AreWorth given files → Joins files r → Joins given r
+pub joins_worth : (given files : List File) (r : Result File Refusal) → AreWorth given files → JoinsToOne files r → JoinsToOne given r
 joins_worth given files (Ok file) worth joins = worth_trans given files (file ∷ []) worth joins
 joins_worth given files (Err why) worth cause = cause_for given files why worth.sound cause
 
@@ -198,10 +198,10 @@ bool_is false true p q = q refl
 bool_is false false p q = refl
 
 module _ (f : File) (fs : List File) (file : File) (one : has_other_run f fs ≡ false) (worth : AreWorth (f ∷ fs) (file ∷ [])) where
-  own : (w : Fact) → Among w (file ∷ []) → Holds w file
+  own : (w : Fact) → Among w (file ∷ []) → FactHolds w file
   own w h = ⊎_elim (λ i. i) (λ e. absurd e) h
 
-  of_given : (w : Fact) → Holds w file → Among w (f ∷ fs)
+  of_given : (w : Fact) → FactHolds w file → Among w (f ∷ fs)
   of_given w h = worth.sound w (inl h)
 
   run_of_folded : (g : File) (gs : List File) → (folded g gs).run ≡ g.run
@@ -248,11 +248,11 @@ module _ (f : File) (fs : List File) (file : File) (one : has_other_run f fs ≡
 
 -- ---- the clause
 
-folds_by : (f : File) (fs : List File) (r : Result File Refusal) → has_other_run f fs ≡ false → MatchResult r (IsFold f fs) (IsCause f fs) → Folds (f ∷ fs) r
-folds_by f fs r one is = subst (λ t. MatchBool t (r ≡ Err OtherRun) (MatchResult r (IsFold f fs) (IsCause f fs))) (sym one) is
+folds_by : (f : File) (fs : List File) (r : Result File Refusal) → has_other_run f fs ≡ false → MatchResult r (IsFold f fs) (IsFoldCause f fs) → Folds (f ∷ fs) r
+folds_by f fs r one is = subst (λ t. MatchBool t (r ≡ Err OtherRun) (MatchResult r (IsFold f fs) (IsFoldCause f fs))) (sym one) is
 
 -- the join of all files is their fold
-pub joins_fold : (files : List File) (r : Result File Refusal) → AreOfOneRun files → Joins files r → Folds files r
+pub joins_fold : (files : List File) (r : Result File Refusal) → AreOfOneRun files → JoinsToOne files r → Folds files r
 joins_fold [] r one joins = absurd one
 joins_fold (f ∷ fs) (Ok file) one joins = folds_by f fs (Ok file) one (worth_fold f fs file one joins)
 joins_fold (f ∷ fs) (Err why) one joins = folds_by f fs (Err why) one (joins (f ∷ fs) (λ w h. h) f fs refl one)
@@ -260,19 +260,19 @@ joins_fold (f ∷ fs) (Err why) one joins = folds_by f fs (Err why) one (joins (
 -- ---- what calls answer
 
 -- a refusal is handed on
-pub handed_on : (files : List File) (why : Refusal) (r : Result File Refusal) → IsErr r × IsErrAnd r (λ e. e ≡ why) → IsCauseFor files why → Joins files r
+pub handed_on : (files : List File) (why : Refusal) (r : Result File Refusal) → IsErr r × IsErrAnd r (λ e. e ≡ why) → IsCauseFor files why → JoinsToOne files r
 handed_on files why (Ok file) is cause = let bad : false ≡ true = is.0 in absurd cc
 handed_on files why (Err e) is cause = subst (IsCauseFor files) (sym is.1) cause
 
 -- the same where a call joins only some of the files
-pub some_handed_on : (all some : List File) (why : Refusal) (r : Result File Refusal) → AreSound all some → IsErr r × IsErrAnd r (λ e. e ≡ why) → IsCauseFor some why → Joins all r
+pub some_handed_on : (all some : List File) (why : Refusal) (r : Result File Refusal) → AreFactsGiven all some → IsErr r × IsErrAnd r (λ e. e ≡ why) → IsCauseFor some why → JoinsToOne all r
 some_handed_on all some why r sub is cause = handed_on all why r is (cause_for all some why sub cause)
 
 -- two halves are joined, and then their joins
-pub halves_join : (all front back : List File) (a b : File) (r : Result File Refusal) → all ≡ front ++ back → AreWorth front (a ∷ []) → AreWorth back (b ∷ []) → Joins (a ∷ b ∷ []) r → Joins all r
+pub halves_join : (all front back : List File) (a b : File) (r : Result File Refusal) → all ≡ front ++ back → AreWorth front (a ∷ []) → AreWorth back (b ∷ []) → JoinsToOne (a ∷ b ∷ []) r → JoinsToOne all r
 halves_join all front back a b r is left right joins = joins_worth all (a ∷ b ∷ []) r (subst (λ (l : List File). AreWorth l (a ∷ b ∷ [])) (sym is) (worth_append front (a ∷ []) back (b ∷ []) left right)) joins
 
 -- a copy is a join with itself
-pub copy_joins : (a b : File) (r : Result File Refusal) → IfOk r (λ file. file ≡ joined_file b b) → IsRefusedBy (first_cause (join_causes (Some b) (Some b))) r → b ≡ a → Joins (a ∷ []) r
-copy_joins a b r is due same = subst (λ (file : File). Joins (file ∷ []) r) same
+pub copy_joins : (a b : File) (r : Result File Refusal) → IfOk r (λ file. file ≡ joined_file b b) → IsRefusedBy (first_cause (join_causes (Some b) (Some b))) r → b ≡ a → JoinsToOne (a ∷ []) r
+copy_joins a b r is due same = subst (λ (file : File). JoinsToOne (file ∷ []) r) same
     (joins_worth (b ∷ []) (b ∷ b ∷ []) r (worth_same (b ∷ []) (b ∷ b ∷ []) (λ w h. ⊎_elim (λ i. inl i) (λ i. i) h) (λ w h. inr h)) (join_joins b b r is due))

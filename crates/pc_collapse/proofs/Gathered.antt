@@ -4,7 +4,7 @@ use Rattle.std.specs.Prelude.{All, IfSome}
 use Rattle.std.specs.Option.{option_or}
 use Rattle.std.proofs.lemmas.List.Elements.{All-head, All-tail}
 use Rattle.pc_types.specs.declared.Refusal.{Refusal}
-use Rattle.pc_collapse.specs.declared.bag.Collapser.{Collapser}
+use Rattle.pc_collapse.specs.declared.bag.BagCollapser.{BagCollapser}
 use Rattle.pc_collapse.specs.Bags.{first_kept}
 
 module _ {C : Type 0} (P : C → Type 0) (xs : List C) (c : C) (ys : List C) (all : All P xs) (is : xs ≡ c ∷ ys) where
@@ -27,11 +27,11 @@ or_none None = refl
 or_none (Some x) = refl
 
 -- what was kept so far, and by those that are left
-pub kept_on : {G : Type 0} (kept later first : Option Refusal) (xs ys : List (Collapser G)) (c : Collapser G) → option_or kept (first_kept xs) ≡ first → xs ≡ c ∷ ys → later ≡ option_or kept c.refused → option_or later (first_kept ys) ≡ first
+pub kept_on : {G : Type 0} (kept later first : Option Refusal) (xs ys : List (BagCollapser G)) (c : BagCollapser G) → option_or kept (first_kept xs) ≡ first → xs ≡ c ∷ ys → later ≡ option_or kept c.refused → option_or later (first_kept ys) ≡ first
 kept_on kept later first xs ys c was is next =
     ap (λ (o : Option Refusal). option_or o (first_kept ys)) next ∙ (or_assoc kept c.refused (first_kept ys) ∙ (ap (λ l. option_or kept (first_kept l)) (sym is) ∙ was))
 
-pub kept_all : {G : Type 0} (kept first : Option Refusal) (xs : List (Collapser G)) → option_or kept (first_kept xs) ≡ first → xs ≡ [] → kept ≡ first
+pub kept_all : {G : Type 0} (kept first : Option Refusal) (xs : List (BagCollapser G)) → option_or kept (first_kept xs) ≡ first → xs ≡ [] → kept ≡ first
 kept_all kept first xs was none = sym (or_none kept) ∙ (ap (λ l. option_or kept (first_kept l)) (sym none) ∙ was)
 
 -- what is said of the one that was kept, if one was

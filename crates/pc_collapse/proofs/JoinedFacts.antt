@@ -7,7 +7,7 @@ use Rattle.pc_model.specs.Points.{AtPoint, later}
 use Rattle.pc_model.specs.Files.{File, joined_file, conflict}
 use Rattle.pc_model.proofs.ContentLaws.{contains-union}
 use Rattle.pc_model.proofs.JoinLaws.{get-joined}
-use Rattle.pc_collapse.specs.Worth.{Fact, Holds, Stays, AreWorth}
+use Rattle.pc_collapse.specs.Worth.{Fact, FactHolds, Stays, AreWorth}
 use Rattle.pc_collapse.specs.Worth.Fact.{HasTriple, HasPoint, HasRun}
 use Rattle.pc_collapse.proofs.KeyConflicts.{one_triple}
 
@@ -58,7 +58,7 @@ or_left false t e = cc
 
 -- ---- the join
 
-pub joined_from : (a b : File) (w : Fact) → Holds w (joined_file a b) → Holds w a ⊎ Holds w b
+pub joined_from : (a b : File) (w : Fact) → FactHolds w (joined_file a b) → FactHolds w a ⊎ FactHolds w b
 joined_from a b (HasTriple key x) h = later_from (get a.triples key) (get b.triples key) x (sym (get-joined a.triples b.triples key) ∙ h)
 joined_from a b (HasPoint p) h = or_from (set.contains a.points p) (set.contains b.points p) (sym (contains-union a.points b.points p) ∙ h)
 joined_from a b (HasRun r) h = inl h
@@ -69,7 +69,7 @@ join_worth a b run none = record {
   whole = λ w stays h. inl (whole w stays (⊎_elim (λ p. inl p) (λ r. ⊎_elim (λ q. inr q) (λ e. absurd e) r) h));
 }
   where
-    whole : (w : Fact) → Stays w (a ∷ b ∷ []) → Holds w a ⊎ Holds w b → Holds w (joined_file a b)
+    whole : (w : Fact) → Stays w (a ∷ b ∷ []) → FactHolds w a ⊎ FactHolds w b → FactHolds w (joined_file a b)
     whole (HasTriple key x) stays (inl i) = get-joined a.triples b.triples key ∙ ap (λ y. later y (get b.triples key)) i ∙ later_left x (get b.triples key) (λ c e. stays c (inr (inl e)))
     whole (HasTriple key x) stays (inr i) = get-joined a.triples b.triples key ∙ ap (later (get a.triples key)) i
         ∙ later_right (get a.triples key) x (λ c e. stays c (inl e)) (λ c e. one_triple a.triples b.triples none key c x e i)

@@ -17,7 +17,7 @@ use Rattle.pc_model.specs.Headline.{TakesPointValue, IsMade}
 use Rattle.pc_model.specs.Headline.IsMade.{Joined}
 use Rattle.pc_model.proofs.ContentLaws.{contains-union}
 use Rattle.pc_model.proofs.ShelfFileLaws.{join_well, joined_of_points, run_is, made_join_well, headline}
-use Rattle.pc_collapse.specs.Folds.{folded, has_other_run, IsFold, IsCause, Folds}
+use Rattle.pc_collapse.specs.Folds.{folded, has_other_run, IsFold, IsFoldCause, Folds}
 use Rattle.pc_collapse.specs.Laws.{IsOfAllPoints, IsStateOfItsPoints, FilesFoldWell, FoldsAreStates}
 
 -- what holds of all files holds of the first, and of the others
@@ -38,8 +38,8 @@ one_run run f fs all = others fs (of_others (λ g. g.run ≡ run) f fs all)
         ap (λ t. not t || has_other_run f gs) same ∙ others gs (of_others (λ g. g.run ≡ run) g gs is)
 
 -- the fold of files of one run
-runs_fold : (f : File) (fs : List File) (r : Result File Refusal) → has_other_run f fs ≡ false → Folds (f ∷ fs) r → MatchResult r (IsFold f fs) (IsCause f fs)
-runs_fold f fs r one folds = subst (λ t. MatchBool t (r ≡ Err OtherRun) (MatchResult r (IsFold f fs) (IsCause f fs))) one folds
+runs_fold : (f : File) (fs : List File) (r : Result File Refusal) → has_other_run f fs ≡ false → Folds (f ∷ fs) r → MatchResult r (IsFold f fs) (IsFoldCause f fs)
+runs_fold f fs r one folds = subst (λ t. MatchBool t (r ≡ Err OtherRun) (MatchResult r (IsFold f fs) (IsFoldCause f fs))) one folds
 
 module _ (run : ℕ) (base : Database) (log : List Entry) where
   abbrev Of : File → Type 0
@@ -57,7 +57,7 @@ module _ (run : ℕ) (base : Database) (log : List Entry) where
   fold_points f [] p = or_false (set.contains f.points p)
   fold_points f (g ∷ fs) p = contains-union f.points (folded g fs).points p ∙ ap (λ t. set.contains f.points p || t) (fold_points g fs p)
 
-  fold_well : (f : File) (fs : List File) (r : Result File Refusal) → ((g : File) → Contains (f ∷ fs) g → Of g) → MatchResult r (IsFold f fs) (IsCause f fs) →
+  fold_well : (f : File) (fs : List File) (r : Result File Refusal) → ((g : File) → Contains (f ∷ fs) g → Of g) → MatchResult r (IsFold f fs) (IsFoldCause f fs) →
       MatchResult r (IsOfAllPoints run base log (f ∷ fs)) (λ why. (why ≡ OutOfMemory) ⊎ (why ≡ Full))
   fold_well f fs (Ok file) all fold = subst (IsOfAllPoints run base log (f ∷ fs)) (sym fold.is) (record { of_its_points = fold_of_points f fs all; points_of_all = fold_points f fs })
   fold_well f fs (Err why) all (inl memory) = inl memory
@@ -82,7 +82,7 @@ module _ (st : Setting) (h : History) (legal : HasLegalEffects st h) (values : T
     is_the_state = λ n covers. all.is_the_state f n made covers;
   }
 
-  fold_state : (f : File) (fs : List File) (r : Result File Refusal) → ((g : File) → Contains (f ∷ fs) g → Made g) → MatchResult r (IsFold f fs) (IsCause f fs) → IfOk r (IsStateOfItsPoints st h)
+  fold_state : (f : File) (fs : List File) (r : Result File Refusal) → ((g : File) → Contains (f ∷ fs) g → Made g) → MatchResult r (IsFold f fs) (IsFoldCause f fs) → IfOk r (IsStateOfItsPoints st h)
   fold_state f fs (Ok file) all fold = subst (IsStateOfItsPoints st h) (sym fold.is) (made_state (folded f fs) (fold_made f fs all))
   fold_state f fs (Err why) all cause = tt
 

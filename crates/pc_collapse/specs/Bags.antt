@@ -10,7 +10,7 @@ use Rattle.crossbeam_queue.specs.declared.array_queue.Doing.{Doing}
 use Rattle.crossbeam_queue.specs.declared.array_queue.Slotted.{Slotted}
 use Rattle.pc_collapse.specs.Worth.{AreWorth, IsCauseFor}
 use Rattle.pc_collapse.specs.declared.limits.TheConstants.{MOST_COLLAPSERS}
-use Rattle.pc_collapse.specs.declared.bag.Collapser.{Collapser}
+use Rattle.pc_collapse.specs.declared.bag.BagCollapser.{BagCollapser}
 use Rattle.pc_collapse.specs.declared.rule.Hand.{Hand}
 
 -- a hand with so many parts of the right to know the whole
@@ -46,14 +46,14 @@ rest_of (f ∷ fs) = fs
 
 module _ {G Q A : Type 0} (bag : Slotted (Option File) (Doing File Hand) Q A) where
   -- a collapser that holds nothing
-  abbrev pub IsReady : Collapser G → Type 0
+  abbrev pub IsReady : BagCollapser G → Type 0
   IsReady c = IsPassOf bag c.pass × (view c.pass ≡ hand 1 [])
 
 -- the same, and where a join was refused, the fold of the given files may be refused for it
-abbrev pub IsDone : {G Q A : Type 0} → List File → Slotted (Option File) (Doing File Hand) Q A → Collapser G → Type 0
-IsDone given bag c = IsReady bag c × IfSome c.refused (IsCauseFor given)
+abbrev pub IsBagDone : {G Q A : Type 0} → List File → Slotted (Option File) (Doing File Hand) Q A → BagCollapser G → Type 0
+IsBagDone given bag c = IsReady bag c × IfSome c.refused (IsCauseFor given)
 
 -- the first refusal that a collapser kept, if one did
-abbrev pub first_kept : {G : Type 0} → List (Collapser G) → Option Refusal
+abbrev pub first_kept : {G : Type 0} → List (BagCollapser G) → Option Refusal
 first_kept [] = None
 first_kept (c ∷ cs) = option_or c.refused (first_kept cs)

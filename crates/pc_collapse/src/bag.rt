@@ -1,16 +1,16 @@
 //! Collapsers that join files out of one bag.
 ghost use Rattle.std.specs.Prelude.{◌≡◌, ◌<◌, ◌≤◌, ◌+◌, [], ◌∷◌, ◌++◌, length, Err, IfSome, IfOk, IfErr, All, vec_len, MatchResult};
 ghost use Rattle.crossbeam_queue.specs.Passes.{view, IsPassOf, ruled_capacity};
-ghost use Rattle.pc_collapse.specs.Bags.{hand, all_parts, first_kept, IsReady, IsDone};
+ghost use Rattle.pc_collapse.specs.Bags.{hand, all_parts, first_kept, IsReady, IsBagDone};
 ghost use Rattle.pc_collapse.specs.Folds.{Folds};
-ghost use Rattle.pc_collapse.specs.Worth.{AreWorth, IsCauseFor, Joins};
+ghost use Rattle.pc_collapse.specs.Worth.{AreWorth, IsCauseFor, JoinsToOne};
 
 use crate::folding::{check_runs, fold_pieces, join_pieces, pieces_of};
 use crate::limits::MOST_COLLAPSERS;
 use crate::piece::{Given, Piece};
-use crate::rule::{Bag, BagPass, Drains, Puts, PutsBack, Shares, Takes};
+use crate::rule::{Bag, BagPass, Drains, PutsBack, PutsFile, Shares, TakesFile};
 use pc_part::Part;
-use pc_types::{Gate, Place, Refusal};
+use pc_types::{Gate, GatePlace, Refusal};
 use std::alloc::{AllocError, Global};
 use std::marker::Brand;
 use std::sync::Wait;
@@ -62,7 +62,7 @@ fn collapse<G: Given + Send + Sync, E: Gate + Sync, R: Threads + Wait + Sync>(
     requires workers { (1 ≤ workers) × (workers ≤ MOST_COLLAPSERS) }
     requires parts { parts.now ≡ G.parts }
     requires files { (G.files ≡ parts.now ++ own.items) × (0 < length G.files) }
-    ensures { Joins G.files result }
+    ensures { JoinsToOne G.files result }
 {
     let pieces = pieces_of::<G>(alloc, parts, own)?;
     let (bag, mut pass) = Bag::<G>::ruled(alloc, pieces.len())?;
@@ -80,13 +80,13 @@ fn left_by<G: Given, R: Wait>(
     parts: &[Part],
     bag: &Bag<G>,
     pass: &mut BagPass<G>,
-    all: Vec<Collapser<G>>,
+    all: Vec<BagCollapser<G>>,
 ) -> Result<Part, Refusal>
     requires files { (parts.now ≡ G.parts) × (0 < length G.files) }
     requires queue { IsPassOf bag.now pass.old }
     requires parts { ((view pass.old).parts + vec_len all ≡ all_parts) × ((view pass.old).held ≡ []) }
-    requires done { All (IsDone G.files bag.now) all.items }
-    ensures joined { Joins G.files result }
+    requires done { All (IsBagDone G.files bag.now) all.items }
+    ensures joined { JoinsToOne G.files result }
     ensures kept { IfSome (first_kept all.items) (λ why. result ≡ Err why) }
 {
     if let Some(why) = gather(bag, pass, all) {
@@ -98,7 +98,7 @@ fn left_by<G: Given, R: Wait>(
 
 // A collapser: its number, its hand, and why it stopped, if a join was refused.
 #[derive(Drop)]
-pub(crate) struct Collapser<G: Given> {
+pub(crate) struct BagCollapser<G: Given> {
     number: u8,
     pass: BagPass<G>,
     refused: Option<Refusal>,
@@ -123,7 +123,7 @@ fn hands<G: Given>(
     bag: &Bag<G>,
     pass: &mut BagPass<G>,
     workers: u8,
-) -> Result<Vec<Collapser<G>>, AllocError>
+) -> Result<Vec<BagCollapser<G>>, AllocError>
     requires workers { workers ≤ MOST_COLLAPSERS }
     requires queue { IsPassOf bag.now pass.old × (view pass.old ≡ hand all_parts []) }
     ensures queue { IsPassOf bag.now pass.new }
@@ -134,7 +134,7 @@ fn hands<G: Given>(
     let mut all = Vec::with_capacity(alloc, workers as usize)?;
     for number in 0..workers {
         let pass = bag.another::<Shares>(pass);
-        all.push_reserved(Collapser {
+        all.push_reserved(BagCollapser {
             number,
             pass,
             refused: None,
@@ -149,7 +149,7 @@ fn work_all<G: Given + Send + Sync, E: Gate + Sync, R: Threads + Wait + Sync>(
     alloc: Global,
     parts: &[Part],
     bag: &Bag<G>,
-    all: &mut Vec<Collapser<G>>,
+    all: &mut Vec<BagCollapser<G>>,
     workers: u8,
     gate: &E,
 )
@@ -157,7 +157,7 @@ fn work_all<G: Given + Send + Sync, E: Gate + Sync, R: Threads + Wait + Sync>(
     requires given { (parts.now ≡ G.parts) × (ruled_capacity bag.now ≡ length G.files) }
     requires ready { All (IsReady bag.now) all.old.items }
     ensures len { vec_len all.new ≡ vec_len all.old }
-    ensures done { All (IsDone G.files bag.now) all.new.items }
+    ensures done { All (IsBagDone G.files bag.now) all.new.items }
 {
     thread::for_each_mut(
         rt,
@@ -165,7 +165,7 @@ fn work_all<G: Given + Send + Sync, E: Gate + Sync, R: Threads + Wait + Sync>(
         workers as usize,
         &|_, collapser|
             requires { (parts.now ≡ G.parts) × (ruled_capacity bag.now ≡ length G.files) × IsReady bag.now collapser.now }
-            ensures { IsDone G.files bag.entry.now collapser.exit.now }
+            ensures { IsBagDone G.files bag.entry.now collapser.exit.now }
         { work(rt, alloc, parts, bag, collapser, gate) },
     );
 }
@@ -176,7 +176,7 @@ fn work<G: Given, E: Gate, R: Wait>(
     alloc: Global,
     parts: &[Part],
     bag: &Bag<G>,
-    collapser: &mut Collapser<G>,
+    collapser: &mut BagCollapser<G>,
     gate: &E,
 )
     requires given { (parts.now ≡ G.parts) × (ruled_capacity bag.now ≡ length G.files) }
@@ -235,14 +235,14 @@ fn turn<G: Given, E: Gate, R: Wait>(
     ensures idle { IsPassOf bag.now pass.new × (view pass.new ≡ hand 1 []) }
     ensures refused { IfErr result (IsCauseFor G.files) }
 {
-    let Some(first) = bag.pop_as::<Takes<G>, R>(rt, pass) else {
+    let Some(first) = bag.pop_as::<TakesFile<G>, R>(rt, pass) else {
         return Ok(false);
     };
-    let Some(second) = bag.pop_as::<Takes<G>, R>(rt, pass) else {
+    let Some(second) = bag.pop_as::<TakesFile<G>, R>(rt, pass) else {
         put(rt, bag, pass, first);
         return Ok(false);
     };
-    gate.pass(Place::Pair(number));
+    gate.pass(GatePlace::Pair(number));
     match joined(alloc, parts, first, second) {
         Ok(file) => {
             put(rt, bag, pass, file);
@@ -280,16 +280,20 @@ fn put<G: Given, R: Wait>(rt: &R, bag: &Bag<G>, pass: &mut BagPass<G>, file: Pie
     requires held { (0 < (view pass.old).parts) × (0 < length (view pass.old).held) × AreWorth (view pass.old).held (file ∷ []) }
     ensures { IsPassOf bag.now pass.new × (view pass.new ≡ hand (view pass.old).parts []) }
 {
-    let Ok(()) = bag.push_as::<Puts<G>, R>(rt, pass, file) else {
+    let Ok(()) = bag.push_as::<PutsFile<G>, R>(rt, pass, file) else {
         unreachable!()
     };
 }
 
 // The collapsers give their hands back. Answers why a join was refused: the first cause that one of them kept, if one did.
-fn gather<G: Given>(bag: &Bag<G>, pass: &mut BagPass<G>, all: Vec<Collapser<G>>) -> Option<Refusal>
+fn gather<G: Given>(
+    bag: &Bag<G>,
+    pass: &mut BagPass<G>,
+    all: Vec<BagCollapser<G>>,
+) -> Option<Refusal>
     requires queue { IsPassOf bag.now pass.old }
     requires parts { ((view pass.old).parts + vec_len all ≡ all_parts) × ((view pass.old).held ≡ []) }
-    requires done { All (IsDone G.files bag.now) all.items }
+    requires done { All (IsBagDone G.files bag.now) all.items }
     ensures queue { IsPassOf bag.now pass.new × (view pass.new ≡ hand all_parts []) }
     ensures refused { IfSome result (IsCauseFor G.files) }
     ensures kept { result ≡ first_kept all.items }

@@ -1,7 +1,7 @@
 //! The fold of many files, by halves.
 ghost use Rattle.std.specs.Prelude.{◌≡◌, ◌<◌, ◌++◌, ◌∷◌, [], length, IfOk, MatchResult, vec_len};
 ghost use Rattle.pc_collapse.specs.Folds.{Folds, has_other_run};
-ghost use Rattle.pc_collapse.specs.Worth.{AreOfOneRun, Joins};
+ghost use Rattle.pc_collapse.specs.Worth.{AreOfOneRun, JoinsToOne};
 
 use crate::piece::{Given, Piece};
 use pc_part::{Part, join};
@@ -59,7 +59,7 @@ fn is_other_run(first: &Part, others: &[Part]) -> bool
 fn fold_all<G: Given>(alloc: Global, lent: &[Part], own: Vec<Part>) -> Result<Part, Refusal>
     requires lent { lent.now ≡ G.parts }
     requires some { 0 < length (lent.now ++ own.items) }
-    ensures { Joins (lent.now ++ own.items) result }
+    ensures { JoinsToOne (lent.now ++ own.items) result }
 {
     let pieces = pieces_of::<G>(alloc, lent, own)?;
     fold_pieces(alloc, lent, pieces)
@@ -101,7 +101,7 @@ pub(crate) fn fold_pieces<G: Given>(
 ) -> Result<Part, Refusal>
     requires parts { parts.now ≡ G.parts }
     requires some { 0 < vec_len pieces }
-    ensures { Joins pieces.items result }
+    ensures { JoinsToOne pieces.items result }
 {
     let piece = fold_halves(alloc, parts, pieces)?;
     piece.into_part(alloc, parts)
@@ -115,7 +115,7 @@ fn fold_halves<G: Given>(
 ) -> Result<Piece<G>, Refusal>
     requires parts { parts.now ≡ G.parts }
     requires some { 0 < vec_len pieces }
-    ensures { Joins pieces.items result }
+    ensures { JoinsToOne pieces.items result }
 {
     let half = pieces.len() / 2;
     if half == 0 {
@@ -146,7 +146,7 @@ pub(crate) fn join_pieces<G: Given>(
     second: &Piece<G>,
 ) -> Result<Piece<G>, Refusal>
     requires { parts.now ≡ G.parts }
-    ensures { Joins (first.now ∷ second.now ∷ []) result }
+    ensures { JoinsToOne (first.now ∷ second.now ∷ []) result }
 {
     let part = join(alloc, first.part(parts), second.part(parts))?;
     Ok(Piece::own(part))

@@ -2,7 +2,7 @@
 //! joined.
 ghost use Rattle.std.specs.Prelude.{◌≡◌, ◌<◌, [], ◌∷◌, length};
 ghost use Rattle.pc_collapse.specs.Pieces.{file_at};
-ghost use Rattle.pc_collapse.specs.Worth.{Joins};
+ghost use Rattle.pc_collapse.specs.Worth.{JoinsToOne};
 
 use pc_part::{Part, join};
 use pc_types::Refusal;
@@ -92,7 +92,7 @@ impl<G: Given> Piece<G> {
     // The part, to be kept. One that is lent is copied, which is to join it with itself.
     pub(crate) fn into_part(self, alloc: Global, parts: &[Part]) -> Result<Part, Refusal>
         requires { parts.now ≡ G.parts }
-        ensures { Joins (self ∷ []) result }
+        ensures { JoinsToOne (self ∷ []) result }
     {
         match self.source {
             Source::Lent(number) => {

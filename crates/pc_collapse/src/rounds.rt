@@ -3,13 +3,13 @@ ghost use Rattle.std.specs.Prelude.{◌≡◌, ◌<◌, ◌≤◌, List, [], ◌
 ghost use Rattle.pc_model.specs.Files.{File};
 ghost use Rattle.pc_collapse.specs.Folds.{Folds};
 ghost use Rattle.pc_collapse.specs.Rounds.{AllBecome, Become, EachBecomes, dealt_files, files_of, hand_files, together};
-ghost use Rattle.pc_collapse.specs.Worth.{AreWorth, Joins};
+ghost use Rattle.pc_collapse.specs.Worth.{AreWorth, JoinsToOne};
 
 use crate::folding::{check_runs, fold_pieces, join_pieces, pieces_of};
 use crate::limits::MOST_COLLAPSERS;
 use crate::piece::{Given, Piece};
 use pc_part::Part;
-use pc_types::{Gate, Place, Refusal};
+use pc_types::{Gate, GatePlace, Refusal};
 use std::alloc::{AllocError, Global};
 use std::marker::Brand;
 use std::sync::Wait;
@@ -64,7 +64,7 @@ fn rounds<G: Given + Send + Sync, E: Gate + Sync, R: Threads + Wait + Sync>(
     requires workers { 1 ≤ workers }
     requires parts { parts.now ≡ G.parts }
     requires some { 0 < length (parts.now ++ own.items) }
-    ensures { Joins (parts.now ++ own.items) result }
+    ensures { JoinsToOne (parts.now ++ own.items) result }
 {
     let pieces = pieces_of::<G>(alloc, parts, own)?;
     let mut left = pieces;
@@ -206,12 +206,12 @@ fn join_pair<G: Given, E: Gate>(
     gate: &E,
 ) -> Result<Piece<G>, Refusal>
     requires { parts.now ≡ G.parts }
-    ensures { Joins (files_of pair) result }
+    ensures { JoinsToOne (files_of pair) result }
 {
     let Neighbours { first, second } = pair;
     match second {
         Some(second) => {
-            gate.pass(Place::Pair(number));
+            gate.pass(GatePlace::Pair(number));
             join_pieces(alloc, parts, &first, &second)
         }
         None => Ok(first),

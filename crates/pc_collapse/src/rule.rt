@@ -47,19 +47,19 @@ impl Join<Hand> for Shares {
 }
 
 // A file is taken: what is held then is of the given files.
-pub(crate) struct Takes<G> {
+pub(crate) struct TakesFile<G> {
     of: PhantomData<G>,
 }
 
-impl<G: Given> Outcome<Piece<G>, Hand> for Takes<G> {
+impl<G: Given> Outcome<Piece<G>, Hand> for TakesFile<G> {
     ghost use Rattle.std.specs.Prelude.{◌≡◌, ◌∷◌};
     ghost use Rattle.pc_collapse.specs.Bags.{hand};
-    ghost use Rattle.pc_collapse.specs.Worth.{AreSound};
+    ghost use Rattle.pc_collapse.specs.Worth.{AreFactsGiven};
 
-    ghost then = { λ v x w. (w ≡ hand v.parts (x ∷ v.held)) × AreSound G.files (x ∷ v.held) };
+    ghost then = { λ v x w. (w ≡ hand v.parts (x ∷ v.held)) × AreFactsGiven G.files (x ∷ v.held) };
 }
 
-impl<G: Given> Lesson<Piece<G>, Hand> for Takes<G> {
+impl<G: Given> Lesson<Piece<G>, Hand> for TakesFile<G> {
     ghost fact = { λ v items. Unit {0} };
 }
 
@@ -83,18 +83,18 @@ impl<G: Given> Lesson<Piece<G>, Hand> for Drains<G> {
 }
 
 // What is held is put in as one file.
-pub(crate) struct Puts<G> {
+pub(crate) struct PutsFile<G> {
     of: PhantomData<G>,
 }
 
-impl<G: Given> Outcome<Piece<G>, Hand> for Puts<G> {
+impl<G: Given> Outcome<Piece<G>, Hand> for PutsFile<G> {
     ghost use Rattle.std.specs.Prelude.{◌≡◌, []};
     ghost use Rattle.pc_collapse.specs.Bags.{hand};
 
     ghost then = { λ v x w. w ≡ hand v.parts [] };
 }
 
-impl<G: Given> Lesson<Piece<G>, Hand> for Puts<G> {
+impl<G: Given> Lesson<Piece<G>, Hand> for PutsFile<G> {
     ghost use Rattle.std.specs.Prelude.{◌<◌, length};
 
     ghost fact = { λ v items. length items < length G.files };

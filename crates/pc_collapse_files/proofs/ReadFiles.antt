@@ -10,7 +10,7 @@ use Rattle.pc_texts.specs.declared.files.NamedFile.{NamedFile}
 use Rattle.pc_texts.specs.Files.{AreOpened}
 use Rattle.pc_collapse_files.specs.declared.inputs.Fault.{Fault}
 use Rattle.pc_collapse_files.specs.declared.inputs.Fault.TheVariants as fault
-use Rattle.pc_collapse_files.specs.Collapses.{AreReadAs, HoldTexts, IsBadPart, IsInputFault, IsReached, IsReadAs, parts_at}
+use Rattle.pc_collapse_files.specs.Collapses.{AreReadAs, HoldTexts, IsBadPart, IsInputFault, IsFileReached, IsReadAs, parts_at}
 
 -- the files left are the last ones; those before them were opened, and are read as these parts
 abbrev pub AreLeft : {R : Type 0} → (R → Option (List ℕ)) → List (NamedFile R) → List (NamedFile R) → List File → Type 0
@@ -83,7 +83,7 @@ module _ {R : Type 0} (remaining : R → Option (List ℕ)) where
     all_read left parts none are = subst (λ xs. AreReadAs remaining xs parts) (sym (are.1 ∙ ap (λ xs. are.0 ++ xs) none ∙ append-nil are.0)) are.3
 
     -- the first one that is left is reached
-    pub is_reached : (left : List (NamedFile R)) (file : NamedFile R) (parts : List File) → AreLeft remaining files (file ∷ left) parts → IsReached remaining files file
+    pub is_reached : (left : List (NamedFile R)) (file : NamedFile R) (parts : List File) → AreLeft remaining files (file ∷ left) parts → IsFileReached remaining files file
     is_reached left file parts are = record { before = are.0; behind = left; split = are.1; opened = are.2; parts = parts; read = are.3 }
 
 -- of a file that is reached no part was read: so no join comes of all

@@ -18,7 +18,7 @@ use Rattle.pc_part.specs.Texts.{part_text}
 use Rattle.pc_collapse.specs.Folds.{Folds}
 use Rattle.pc_texts.specs.Texts.{joined_line}
 use Rattle.pc_texts.specs.declared.files.NamedFile.{NamedFile}
-use Rattle.pc_texts.specs.Files.{TellsOf, AreOpened, Holds}
+use Rattle.pc_texts.specs.Files.{TellsOf, AreOpened, HoldsBytes}
 use Rattle.pc_collapse_files.specs.declared.inputs.Fault.{Fault}
 use Rattle.pc_collapse_files.specs.declared.inputs.Fault.TheVariants as fault
 use Rattle.pc_collapse_files.specs.declared.output.Text.{Text}
@@ -34,7 +34,7 @@ usage_text name = codes "pcalc: " ++ (name ++ codes ": an input has this name\n"
 -- files that were opened hold these texts, each its own
 abbrev pub HoldTexts : {R : Type 0} → (R → Option (List ℕ)) → List (NamedFile R) → List (List ℕ) → Type 0
 HoldTexts remaining [] [] = ⊤
-HoldTexts remaining (file ∷ files) (text ∷ texts) = Holds remaining file.opened text × HoldTexts remaining files texts
+HoldTexts remaining (file ∷ files) (text ∷ texts) = HoldsBytes remaining file.opened text × HoldTexts remaining files texts
 HoldTexts remaining files texts = ⊥
 
 -- the parts whose texts these are, in their order, or the first fault
@@ -51,14 +51,14 @@ AreReadAs remaining files parts = (texts : List (List ℕ)) → HoldTexts remain
 
 -- the same of one file and one part
 abbrev pub IsReadAs : {R : Type 0} → (R → Option (List ℕ)) → NamedFile R → File → Type 0
-IsReadAs remaining file part = (text : List ℕ) → Holds remaining file.opened text → part_at text ≡ Ok part
+IsReadAs remaining file part = (text : List ℕ) → HoldsBytes remaining file.opened text → part_at text ≡ Ok part
 
 -- the fold of the parts that the files hold
 abbrev pub IsJoinOf : {R : Type 0} → (R → Option (List ℕ)) → List (NamedFile R) → File → Type 0
 IsJoinOf remaining files file = (parts : List File) × AreReadAs remaining files parts × Folds parts (Ok file)
 
 -- it is one of the files, and each before it was opened and read as a part
-pub record IsReached {R : Type 0} (remaining : R → Option (List ℕ)) (files : List (NamedFile R)) (file : NamedFile R) : Type 0 where
+pub record IsFileReached {R : Type 0} (remaining : R → Option (List ℕ)) (files : List (NamedFile R)) (file : NamedFile R) : Type 0 where
   pub before : List (NamedFile R)
   pub behind : List (NamedFile R)
   pub split : files ≡ before ++ file ∷ behind
@@ -68,7 +68,7 @@ pub record IsReached {R : Type 0} (remaining : R → Option (List ℕ)) (files :
 
 -- a file can't be read, or it holds the text of no part, for this reason; said where its bytes are known
 abbrev pub IsRefusedText : {R : Type 0} → (R → Option (List ℕ)) → NamedFile R → Refusal → Type 0
-IsRefusedText remaining file why = IsOk file.opened × ((why ≡ OutOfMemory) ⊎ (why ≡ Device) ⊎ ((text : List ℕ) → Holds remaining file.opened text → part_at text ≡ Err why))
+IsRefusedText remaining file why = IsOk file.opened × ((why ≡ OutOfMemory) ⊎ (why ≡ Device) ⊎ ((text : List ℕ) → HoldsBytes remaining file.opened text → part_at text ≡ Err why))
 
 -- no part was read of the file: it can't be opened, or else not read as one
 abbrev pub IsBadPart : {R : Type 0} → (R → Option (List ℕ)) → NamedFile R → Fault → Type 0
@@ -82,16 +82,16 @@ IsUnjoined remaining files why = AreOpened files × ((parts : List File) × AreR
 
 -- the files give no join: of one of them no part was read, memory ran out, or the fold is refused
 abbrev pub IsInputFault : {R : Type 0} → (R → Option (List ℕ)) → List (NamedFile R) → Fault → Type 0
-IsInputFault {R} remaining files (fault.Unopened name why) = (file : NamedFile R) × IsReached remaining files file × IsBadPart remaining file (fault.Unopened name why)
+IsInputFault {R} remaining files (fault.Unopened name why) = (file : NamedFile R) × IsFileReached remaining files file × IsBadPart remaining file (fault.Unopened name why)
 IsInputFault {R} remaining files (fault.Refused why) =
-    (why ≡ OutOfMemory) ⊎ ((file : NamedFile R) × IsReached remaining files file × IsRefusedText remaining file why) ⊎ IsUnjoined remaining files why
+    (why ≡ OutOfMemory) ⊎ ((file : NamedFile R) × IsFileReached remaining files file × IsRefusedText remaining file why) ⊎ IsUnjoined remaining files why
 IsInputFault remaining files other = ⊥
 
 -- Why a collapse failed: the files give no join, or else, since they did, what is to be made of it failed.
-abbrev pub IsCause : {R : Type 0} → (R → Option (List ℕ)) → List (NamedFile R) → Fault → Type 0
-IsCause remaining files (fault.Unopened name why) = IsInputFault remaining files (fault.Unopened name why)
-IsCause remaining files (fault.Refused why) = IsInputFault remaining files (fault.Refused why)
-IsCause remaining files other = AreOpened files × ((file : File) × IsJoinOf remaining files file)
+abbrev pub IsCollapseCause : {R : Type 0} → (R → Option (List ℕ)) → List (NamedFile R) → Fault → Type 0
+IsCollapseCause remaining files (fault.Unopened name why) = IsInputFault remaining files (fault.Unopened name why)
+IsCollapseCause remaining files (fault.Refused why) = IsInputFault remaining files (fault.Refused why)
+IsCollapseCause remaining files other = AreOpened files × ((file : File) × IsJoinOf remaining files file)
 
 -- a text as it goes out is that of the file, which has one
 pub record IsTextOf (file : File) (text : Text) : Type 0 where
@@ -131,7 +131,7 @@ abbrev pub line_of : File → List ℕ
 line_of file = joined_line (set.items file.points) (map_of.len file.triples)
 
 -- the fold of the parts that the files hold was written whole to a file that was made, and told of
-pub record IsDone {R F W : Type 0} (remaining : R → Option (List ℕ)) (contents : F → Option (List ℕ)) (printed : W → Option (List ℕ)) (files : List (NamedFile R)) (made : Option (Tally F)) (old new : Tally W) : Type 0 where
+pub record IsCollapseDone {R F W : Type 0} (remaining : R → Option (List ℕ)) (contents : F → Option (List ℕ)) (printed : W → Option (List ℕ)) (files : List (NamedFile R)) (made : Option (Tally F)) (old new : Tally W) : Type 0 where
   pub opened : AreOpened files
   pub file : File
   pub join : IsJoinOf remaining files file
@@ -140,7 +140,7 @@ pub record IsDone {R F W : Type 0} (remaining : R → Option (List ℕ)) (conten
   pub sound : failures_of new ≡ failures_of old
 
 -- the same, but that the output failed: a beginning of the line went out
-pub record IsUntold {R F W : Type 0} (remaining : R → Option (List ℕ)) (contents : F → Option (List ℕ)) (printed : W → Option (List ℕ)) (files : List (NamedFile R)) (made : Option (Tally F)) (old new : Tally W) : Type 0 where
+pub record IsCollapseUntold {R F W : Type 0} (remaining : R → Option (List ℕ)) (contents : F → Option (List ℕ)) (printed : W → Option (List ℕ)) (files : List (NamedFile R)) (made : Option (Tally F)) (old new : Tally W) : Type 0 where
   pub file : File
   pub join : IsJoinOf remaining files file
   pub written : MatchOption made ⊥ (IsWholeIn contents (part_text file))
@@ -149,15 +149,15 @@ pub record IsUntold {R F W : Type 0} (remaining : R → Option (List ℕ)) (cont
 
 -- What a fault leaves: a file only where it was begun, which failed and is read as Short unless it was the output that failed;
 -- and nothing printed but a beginning of the line where it was.
-abbrev pub IsLeft : {R F W : Type 0} → (R → Option (List ℕ)) → (F → Option (List ℕ)) → (W → Option (List ℕ)) → List (NamedFile R) → Fault → Option (Tally F) → Tally W → Tally W → Type 0
-IsLeft remaining contents printed files fault.Unwritten made old new = MatchOption made ⊥ (λ f. HasFailed f × IsShortIn contents f) × (new ≡ old)
-IsLeft remaining contents printed files fault.Output made old new = IsUntold remaining contents printed files made old new
-IsLeft remaining contents printed files other made old new = (made ≡ None) × (new ≡ old)
+abbrev pub IsLeftByCollapse : {R F W : Type 0} → (R → Option (List ℕ)) → (F → Option (List ℕ)) → (W → Option (List ℕ)) → List (NamedFile R) → Fault → Option (Tally F) → Tally W → Tally W → Type 0
+IsLeftByCollapse remaining contents printed files fault.Unwritten made old new = MatchOption made ⊥ (λ f. HasFailed f × IsShortIn contents f) × (new ≡ old)
+IsLeftByCollapse remaining contents printed files fault.Output made old new = IsCollapseUntold remaining contents printed files made old new
+IsLeftByCollapse remaining contents printed files other made old new = (made ≡ None) × (new ≡ old)
 
 -- what is told of a fault, where the file that is to be written has this name; of an output that failed nothing
-abbrev pub IsTold : {T : Type 0} → (T → Option (List ℕ)) → Tally T → Tally T → List ℕ → Fault → Type 0
-IsTold contents old new name (fault.Unopened input why) = TellsOf contents old new input.items why
-IsTold contents old new name (fault.Refused why) = TellsOf contents old new name why
-IsTold contents old new name (fault.Unmade why) = TellsOf contents old new name why
-IsTold contents old new name fault.Unwritten = TellsOf contents old new name Device
-IsTold contents old new name fault.Output = new ≡ old
+abbrev pub IsCollapseTold : {T : Type 0} → (T → Option (List ℕ)) → Tally T → Tally T → List ℕ → Fault → Type 0
+IsCollapseTold contents old new name (fault.Unopened input why) = TellsOf contents old new input.items why
+IsCollapseTold contents old new name (fault.Refused why) = TellsOf contents old new name why
+IsCollapseTold contents old new name (fault.Unmade why) = TellsOf contents old new name why
+IsCollapseTold contents old new name fault.Unwritten = TellsOf contents old new name Device
+IsCollapseTold contents old new name fault.Output = new ≡ old

@@ -5,7 +5,7 @@ ghost use Rattle.pc_types.specs.declared.refusal.Refusal.{Refusal};
 ghost use Rattle.pc_types.specs.Tallies.{Puts};
 ghost use Rattle.pc_model.specs.Files.{File};
 ghost use Rattle.pc_texts.specs.Files.{AreOpened};
-ghost use Rattle.pc_collapse_files.specs.Collapses.{IsCause, IsDone, IsInputFault, IsJoinOf, IsLeft, IsTextOf, IsTold, is_one_of, usage_text};
+ghost use Rattle.pc_collapse_files.specs.Collapses.{IsCollapseCause, IsCollapseDone, IsInputFault, IsJoinOf, IsLeftByCollapse, IsTextOf, IsCollapseTold, is_one_of, usage_text};
 ghost use Rattle.pc_collapse_files.specs.declared.inputs.Fault.{Fault};
 
 use crate::inputs::{Fault, Inputs, is_input, join_files};
@@ -19,7 +19,7 @@ use std::thread::Threads;
 
 /// How a collapse ended: its exit status, and the file that was made, where one was, with how many of its calls failed.
 #[derive(Drop)]
-pub struct Ended<F> {
+pub struct EndedCollapse<F> {
     pub status: u8,
     pub file: Option<Tally<F>>,
 }
@@ -51,28 +51,28 @@ pub fn run_collapse<
     maker: M,
     out: &mut Tally<W>,
     errors: &mut Tally<E>,
-) -> Ended<F>
+) -> EndedCollapse<F>
     ensures status { (result.status ≡ 0) ⊎ (result.status ≡ 1) ⊎ (result.status ≡ 2) }
     ensures usage { MatchBool (is_one_of inputs.files.items name.now)
         ((result.status ≡ 2) × (result.file ≡ None) × (out.new ≡ out.old) × ((told : Result (Unit {0}) Refusal) × Puts E.contents errors.old errors.new told (usage_text name.now)))
         (¬ (result.status ≡ 2)) }
-    ensures done { result.status ≡ 0 → IsDone R.remaining F.contents W.contents inputs.files.items result.file out.old out.new × (errors.new ≡ errors.old) }
-    ensures cause { result.status ≡ 1 → (fault : Fault) × IsCause R.remaining inputs.files.items fault
-        × IsLeft R.remaining F.contents W.contents inputs.files.items fault result.file out.old out.new × IsTold E.contents errors.old errors.new name.now fault }
+    ensures done { result.status ≡ 0 → IsCollapseDone R.remaining F.contents W.contents inputs.files.items result.file out.old out.new × (errors.new ≡ errors.old) }
+    ensures cause { result.status ≡ 1 → (fault : Fault) × IsCollapseCause R.remaining inputs.files.items fault
+        × IsLeftByCollapse R.remaining F.contents W.contents inputs.files.items fault result.file out.old out.new × IsCollapseTold E.contents errors.old errors.new name.now fault }
 {
     if is_input(&inputs.files, name.as_bytes()) {
         let _ = put_usage(name, errors);
         let (status, file) = (2, None);
-        return Ended { status, file };
+        return EndedCollapse { status, file };
     }
     match collapse(rt, alloc, inputs, maker, out) {
         Ok(file) => {
             let (status, file) = (0, Some(file));
-            Ended { status, file }
+            EndedCollapse { status, file }
         }
         Err(Unfinished { file, fault }) => {
             tell(name, &fault, errors);
-            Ended { status: 1, file }
+            EndedCollapse { status: 1, file }
         }
     }
 }
@@ -86,7 +86,7 @@ fn put_usage<E: Write>(name: &str, errors: &mut Tally<E>) -> Result<(), Refusal>
 
 // Tells of the fault.
 fn tell<E: Write>(name: &str, fault: &Fault, errors: &mut Tally<E>)
-    ensures { IsTold E.contents errors.old errors.new name.now fault.now }
+    ensures { IsCollapseTold E.contents errors.old errors.new name.now fault.now }
 {
     let _ = match fault {
         Fault::Unopened(input, why) => report(input, *why, errors),
@@ -111,9 +111,9 @@ fn collapse<
     maker: M,
     out: &mut Tally<W>,
 ) -> Result<Tally<F>, Unfinished<F>>
-    ensures done { IfOk result (λ file. IsDone R.remaining F.contents W.contents inputs.files.items (Some file) out.old out.new) }
-    ensures cause { IfErr result (λ unfinished. IsCause R.remaining inputs.files.items unfinished.fault) }
-    ensures left { IfErr result (λ unfinished. IsLeft R.remaining F.contents W.contents inputs.files.items unfinished.fault unfinished.file out.old out.new) }
+    ensures done { IfOk result (λ file. IsCollapseDone R.remaining F.contents W.contents inputs.files.items (Some file) out.old out.new) }
+    ensures cause { IfErr result (λ unfinished. IsCollapseCause R.remaining inputs.files.items unfinished.fault) }
+    ensures left { IfErr result (λ unfinished. IsLeftByCollapse R.remaining F.contents W.contents inputs.files.items unfinished.fault unfinished.file out.old out.new) }
 {
     let text = match join_text(rt, alloc, inputs) {
         Ok(text) => text,

@@ -5,6 +5,6 @@ mod collapse;
 mod inputs;
 mod output;
 
-pub use collapse::{Ended, run_collapse};
+pub use collapse::{EndedCollapse, run_collapse};
 pub use inputs::{Fault, Inputs};
 pub use output::Maker;

@@ -34,7 +34,7 @@ use Rattle.pc_model.proofs.PointStateLaws.{sealed_state}
 use Rattle.pc_model.proofs.StandingLaws.{closed_stays, each_key_once, none_left, past_token, seal_closes, take_leaves}
 use Rattle.pc_model.specs.LegalEffects.{changes_closed}
 use Rattle.pc_engine.specs.Store.{Store, setting_of}
-use Rattle.pc_engine.specs.Steps.{after_moving, after_sealing, start_causes, move_due, take_due, done_due, part_taken, StartsPoint, Moves as MovesOn, Seals, TakesFirst, Takes, Shelves, Joins}
+use Rattle.pc_engine.specs.Steps.{after_moving, after_sealing, start_causes, move_due, take_due, done_due, part_taken, StartsPoint, Moves as MovesOn, Seals, TakesFirstKey, Takes, Shelves, Joins}
 use Rattle.pc_engine.specs.Stands.{IsReadOff, Stands, Follows, by_key}
 use Rattle.pc_records.proofs.FollowingLaws.{same_records}
 use Rattle.pc_records.proofs.CycleLaws.{closed_records, left_records, taken_value}
@@ -213,11 +213,11 @@ module _ (old new : Store) (h : History) (reply : Reply) (stands : Stands old h)
       none_idle true = refl
       none_idle false = tt
 
-      answers : (keys : List (List ℕ)) → keys ≡ closed_set h → TakesFirst keys old reply new → AnswersFirst (closed_set h) reply
+      answers : (keys : List (List ℕ)) → keys ≡ closed_set h → TakesFirstKey keys old reply new → AnswersFirst (closed_set h) reply
       answers [] is d = absurd d
       answers (k ∷ ks) is d = subst (λ keys. AnswersFirst keys reply) is (at_point (record_of old.kept.rows k), d.0)
 
-      leaves : (keys : List (List ℕ)) → keys ≡ closed_set h → phase_of h ≡ Capture → TakesFirst keys old reply new → HasLegalEffects st (with_step h asked.Take reply) → IsLeft old new h asked.Take reply
+      leaves : (keys : List (List ℕ)) → keys ≡ closed_set h → phase_of h ≡ Capture → TakesFirstKey keys old reply new → HasLegalEffects st (with_step h asked.Take reply) → IsLeft old new h asked.Take reply
       leaves [] is captures d legal = absurd d
       leaves (k ∷ ks) is captures d legal =
           let content = at_point (record_of old.kept.rows k) in

@@ -8,7 +8,7 @@ use Rattle.pc_model.specs.Database.{same_bytes, with_write, written}
 use Rattle.pc_model.specs.Replies.{value_read}
 use Rattle.pc_model.proofs.JoinLaws.{one_key}
 use Rattle.pc_slots.specs.Slots.{Pending}
-use Rattle.pc_records.specs.Tables.{Table, pending_at, pending_without, value_of, read_of, IsClearFor}
+use Rattle.pc_records.specs.Tables.{RecordsView, pending_at, pending_without, value_of, read_of, IsClearFor}
 use Rattle.pc_engine.specs.Sessions.{number_in, class_at, writes_in, after_writing}
 use Rattle.pc_engine.specs.Store.{Active}
 use Rattle.pc_engine.specs.InPlace.{at_place, write_in, AreInPlace, AreNumbered}
@@ -83,7 +83,7 @@ written_with (w ∷ ws) key value q = by_match (same_bytes w.key key) refl (writ
     by_match true e later = rw (one_key w.key key e) (twice (same_bytes key q))
     by_match false e later = ap (cond (same_bytes w.key q) (Some w.value)) later ∙ over (same_bytes w.key q) (same_bytes key q) (λ a b. let both : same_bytes w.key key ≡ true = ap (λ k. same_bytes w.key k) (one_key key q b) ∙ a in let no : true ≡ false = sym both ∙ e in cc)
 
-module _ (t : Table) (ss : List (Option Active)) (begun : ℕ) (writes : AreInPlace t ss) (numbers : AreNumbered begun ss) where
+module _ (t : RecordsView) (ss : List (Option Active)) (begun : ℕ) (writes : AreInPlace t ss) (numbers : AreNumbered begun ss) where
   -- two transactions that have written one key are one
   pub one_writer : (i j : ℕ) (q : List ℕ) → is_some (write_in (at_place ss i) q) ≡ true → is_some (write_in (at_place ss j) q) ≡ true → i ≡ j
   one_writer i j q a b =
@@ -105,7 +105,7 @@ module _ (t : Table) (ss : List (Option Active)) (begun : ℕ) (writes : AreInPl
           subst (λ i. write_in (at_place ss i) q ≡ Some p) one is
 
   -- a session whose transaction has the same writes changes nothing
-  pub same_writes : (after : Table) (j : ℕ) (x : Option Active) → j < length ss → ((q : List ℕ) → pending_at after q ≡ pending_at t q) → ((q : List ℕ) → write_in x q ≡ write_in (at_place ss j) q) → AreInPlace after (set ss j x)
+  pub same_writes : (after : RecordsView) (j : ℕ) (x : Option Active) → j < length ss → ((q : List ℕ) → pending_at after q ≡ pending_at t q) → ((q : List ℕ) → write_in x q ≡ write_in (at_place ss j) q) → AreInPlace after (set ss j x)
   same_writes after j x inside stays same = record {
     placed = λ i q. by_place ss j x (λ k a. is_some (write_in a q) ≡ true → pending_at after q ≡ write_in a q) inside (λ some. stays q ∙ writes.placed j q (ap is_some (sym (same q)) ∙ some) ∙ sym (same q)) (λ k other some. stays q ∙ writes.placed k q some) i;
     owned = λ q. by_owner q (writes.owned q);
@@ -119,7 +119,7 @@ module _ (t : Table) (ss : List (Option Active)) (begun : ℕ) (writes : AreInPl
       by_owner q (inr owner) = inr (owner.0, stays q ∙ owner.1 ∙ sym (still owner.0 q))
 
   -- where what stands in each place stays, the sessions' writes do
-  pub same_places : (after : Table) → ((q : List ℕ) → pending_at after q ≡ pending_at t q) → AreInPlace after ss
+  pub same_places : (after : RecordsView) → ((q : List ℕ) → pending_at after q ≡ pending_at t q) → AreInPlace after ss
   same_places after stays = record { placed = λ i q some. stays q ∙ writes.placed i q some; owned = λ q. by_owner q (writes.owned q) }
     where
       by_owner : (q : List ℕ) → (pending_at t q ≡ None) ⊎ ((i : ℕ) × (pending_at t q ≡ write_in (at_place ss i) q)) → (pending_at after q ≡ None) ⊎ ((i : ℕ) × (pending_at after q ≡ write_in (at_place ss i) q))
@@ -127,7 +127,7 @@ module _ (t : Table) (ss : List (Option Active)) (begun : ℕ) (writes : AreInPl
       by_owner q (inr owner) = inr (owner.0, stays q ∙ owner.1)
 
   -- a write goes into a place where no other transaction has one
-  pub wrote_in_place : (after : Table) (j : ℕ) (key : List ℕ) (value : Option (List ℕ)) → j < length ss → is_some (at_place ss j) ≡ true → IsClearFor t key (number_in (at_place ss j)) →
+  pub wrote_in_place : (after : RecordsView) (j : ℕ) (key : List ℕ) (value : Option (List ℕ)) → j < length ss → is_some (at_place ss j) ≡ true → IsClearFor t key (number_in (at_place ss j)) →
       ((q : List ℕ) → pending_at after q ≡ cond (same_bytes key q) (Some (let p : Pending = record { by = number_in (at_place ss j); class = class_at (at_place ss j); value = value } in p)) (pending_at t q)) →
       AreInPlace after (set ss j (after_writing (at_place ss j) (record { key = key; value = value })))
   wrote_in_place after j key value inside there clear is = record {
@@ -186,7 +186,7 @@ module _ (t : Table) (ss : List (Option Active)) (begun : ℕ) (writes : AreInPl
           still i = by_place ss j (after_writing (at_place ss j) (record { key = key; value = value })) (λ k a. write_in a q ≡ write_in (at_place ss k) q) inside (now q ∙ ap (λ b. cond b (Some mine) (write_in (at_place ss j) q)) e) (λ k other. refl) i
 
   -- once a transaction is over, none of its writes stands in a place
-  pub ended_in_place : (after : Table) (j : ℕ) → j < length ss → ((q : List ℕ) → pending_at after q ≡ pending_without (writes_in (at_place ss j)) t q) → AreInPlace after (set ss j None)
+  pub ended_in_place : (after : RecordsView) (j : ℕ) → j < length ss → ((q : List ℕ) → pending_at after q ≡ pending_without (writes_in (at_place ss j)) t q) → AreInPlace after (set ss j None)
   ended_in_place after j inside is = record {
     placed = λ i q. by_place ss j None (λ k a. is_some (write_in a q) ≡ true → pending_at after q ≡ write_in a q) inside (λ some. absurd (let no : false ≡ true = some in cc))
         (λ k other some. is q ∙ other_by k q other some (is_some (written (writes_in (at_place ss j)) q)) refl) i;
@@ -210,7 +210,7 @@ module _ (t : Table) (ss : List (Option Active)) (begun : ℕ) (writes : AreInPl
           still i = by_place ss j None (λ k a. write_in a q ≡ write_in (at_place ss k) q) inside (sym (none_of (write_in (at_place ss j) q) (is_written (at_place ss j) q ∙ e))) (λ k other. refl) i
 
   -- then no write has the transaction's number
-  pub none_by : (after : Table) (j : ℕ) → is_some (at_place ss j) ≡ true → ((q : List ℕ) → pending_at after q ≡ pending_without (writes_in (at_place ss j)) t q) → (q : List ℕ) (p : Pending) → pending_at after q ≡ Some p → eqb p.by (number_in (at_place ss j)) ≡ false
+  pub none_by : (after : RecordsView) (j : ℕ) → is_some (at_place ss j) ≡ true → ((q : List ℕ) → pending_at after q ≡ pending_without (writes_in (at_place ss j)) t q) → (q : List ℕ) (p : Pending) → pending_at after q ≡ Some p → eqb p.by (number_in (at_place ss j)) ≡ false
   none_by after j there is q p stands = by_test (is_some (written (writes_in (at_place ss j)) q)) refl (eqb p.by (number_in (at_place ss j))) refl
     where
       by_test : (b : Bool) → is_some (written (writes_in (at_place ss j)) q) ≡ b → (c : Bool) → eqb p.by (number_in (at_place ss j)) ≡ c → eqb p.by (number_in (at_place ss j)) ≡ false

@@ -31,7 +31,7 @@ use Rattle.pc_model.proofs.ShelfFileLaws.{is_ordered}
 use Rattle.pc_records.specs.Rows.{record_of, stored}
 use Rattle.pc_engine.specs.Store.{Store}
 use Rattle.pc_engine.specs.Stands.{Stands}
-use Rattle.pc_engine.specs.Checks.{IsStateOf, IsFileRight, IsSound}
+use Rattle.pc_engine.specs.Checks.{IsStateOf, IsFileRight, IsStoreSound}
 use Rattle.pc_engine.proofs.Owing.{keeps_points}
 use Rattle.pc_engine.proofs.Serial.{is_serial}
 
@@ -95,7 +95,7 @@ one_more base log copies more files i file lt is step before =
 
 -- what a world's contents and files are compared with is what makes it sound
 pub sound_is : (w : Store) (pairs : List (List ℕ × List ℕ)) (b : Bool) → ((key : List ℕ) → map_of.get (database_of pairs) key ≡ stored (record_of w.kept.rows key)) →
-    IsTrue b ↔ ((database_of pairs ≡ after w.base.pairs w.log) × All (IsFileRight w.base.pairs w.log) w.shelf) → IsTrue b ↔ IsSound w
+    IsTrue b ↔ ((database_of pairs ≡ after w.base.pairs w.log) × All (IsFileRight w.base.pairs w.log) w.shelf) → IsTrue b ↔ IsStoreSound w
 sound_is w pairs b own compared = (
   λ yes. let both = compared.0 yes in record { contents = λ key. sym (own key) ∙ ap (λ db. map_of.get db key) both.0; files = both.1 },
   λ sound. compared.1 (same_database (database_of pairs) (after w.base.pairs w.log) (λ key. own key ∙ sound.contents key), sound.files),
@@ -121,7 +121,7 @@ right_of_points st h file legal of n covers = (
 -- the same of what the calls give
 pub sound_by : (w : Store) (pairs given : List (List ℕ × List ℕ)) (b : Bool) (base : BaseFile) (log : List Entry) (files : List File) → ((key : List ℕ) → map_of.get (database_of pairs) key ≡ stored (record_of w.kept.rows key)) →
     base ≡ w.base → log ≡ w.log → files ≡ w.shelf → given ≡ pairs →
-    IsTrue b ↔ ((database_of given ≡ after base.pairs log) × All (IsFileRight base.pairs log) files) → IsTrue b ↔ IsSound w
+    IsTrue b ↔ ((database_of given ≡ after base.pairs log) × All (IsFileRight base.pairs log) files) → IsTrue b ↔ IsStoreSound w
 sound_by w pairs given b base log files own is_base is_log is_files is_given compared =
     let A : BaseFile → Type 0 = λ base. IsTrue b ↔ ((database_of given ≡ after base.pairs log) × All (IsFileRight base.pairs log) files) in
     let B : List Entry → Type 0 = λ log. IsTrue b ↔ ((database_of given ≡ after w.base.pairs log) × All (IsFileRight w.base.pairs log) files) in
@@ -130,7 +130,7 @@ sound_by w pairs given b base log files own is_base is_log is_files is_given com
     sound_is w pairs b own (subst D is_given (subst C is_files (subst B is_log (subst A is_base compared))))
 
 -- every world that stands after a history is sound
-pub stands_sound : (w : Store) (history : History) → Stands w history → IsSound w
+pub stands_sound : (w : Store) (history : History) → Stands w history → IsStoreSound w
 stands_sound w history stands = record {
   contents = (is_serial w history stands).contents;
   files = λ k d below n covers.
@@ -142,5 +142,5 @@ stands_sound w history stands = record {
 }
 
 -- so a check of it answers that it is
-pub always : (w : Store) (history : History) (b : Bool) → IsTrue b ↔ IsSound w → Stands w history → b ≡ true
+pub always : (w : Store) (history : History) (b : Bool) → IsTrue b ↔ IsStoreSound w → Stands w history → b ≡ true
 always w history b sound stands = sound.1 (stands_sound w history stands)

@@ -17,7 +17,7 @@ use Rattle.pc_records.proofs.FirstKeyLaws.{first_records}
 use Rattle.pc_engine.specs.Sessions.{with_session, after_writing, after_dying, if_died, if_granted}
 use Rattle.pc_engine.specs.Store.{Active, active_in, Store, setting_of, active}
 use Rattle.pc_types.specs.declared.Class.{Class}
-use Rattle.pc_engine.specs.Steps.{outcome_in, abort_causes, Owes, Begins, Gets, WritesKey, Commits, Aborts, StartsPoint, Seals, Moves, TakesFirst, Takes, Shelves, Joins}
+use Rattle.pc_engine.specs.Steps.{outcome_in, abort_causes, Owes, Begins, Gets, WritesKey, Commits, Aborts, StartsPoint, Seals, Moves, TakesFirstKey, Takes, Shelves, Joins}
 use Rattle.pc_engine.specs.Stands.{Stands, IfRefused}
 use Rattle.pc_engine.proofs.LocalSteps.{same_setting}
 
@@ -96,7 +96,7 @@ moves_keeps from class to old reply new = owes_keeps _ old reply new _ (λ d. (a
 pub takes_keeps : (old : Store) (reply : Reply) (new : Store) → Takes old reply new → Keeps old reply new
 takes_keeps old reply new = owes_keeps _ old reply new _ (by_keys old.cycle.closed_set)
   where
-    by_keys : (keys : List (List ℕ)) → TakesFirst keys old reply new → Keeps old reply new
+    by_keys : (keys : List (List ℕ)) → TakesFirstKey keys old reply new → Keeps old reply new
     by_keys [] d = absurd d
     by_keys (k ∷ ks) d = (ap setting_of d.1, rw d.0 tt)
 

@@ -20,7 +20,7 @@ use Rattle.pc_records.specs.RowSteps.{committed_row, rows_after, released_rows, 
 use Rattle.pc_records.specs.NewKeys.{new_keys, is_one_too_many}
 use Rattle.pc_records.proofs.NewKeyLaws.{few_enough}
 use Rattle.pc_slots.specs.Slots.{Pending}
-use Rattle.pc_records.specs.Tables.{Table, pending_at, pending_without, pending_after, kept_of, IsClearFor}
+use Rattle.pc_records.specs.Tables.{RecordsView, pending_at, pending_without, pending_after, kept_of, IsClearFor}
 use Rattle.pc_engine.specs.Sessions.{number_in, class_at, writes_in, after_writing, after_dying, if_died, if_granted, with_session, AreFew}
 use Rattle.pc_engine.specs.Store.{Active, active_in}
 use Rattle.pc_engine.specs.Counts.{AreCounted}
@@ -32,11 +32,11 @@ use Rattle.pc_engine.proofs.Held.{is_free, none_left}
 use Rattle.pc_engine.proofs.Together.{hold_begun, hold_first, hold_started, hold_moved, hold_shelved, hold_sealed, hold_taken, shared_together, shared_dead, written_together, committed_together, aborted_together, opens_capture, goes_to_rest, is_this, same_sets, same_again, all_during}
 
 -- what these sessions are seen as over the records and the phases
-abbrev pub seen_with : Table → Phases → ℕ → List (Option Active) → Ongoing
+abbrev pub seen_with : RecordsView → Phases → ℕ → List (Option Active) → Ongoing
 seen_with t phases begun ss = record { sessions = ss; kept = kept_of t; open_set = t.opened; closed_set = t.shut; phases = phases; begun = begun }
 
 -- what these sessions are seen as once a request to write was answered
-pub answered_view : (t after : Table) (phases : Phases) (begun : ℕ) (ss then : List (Option Active)) (s j : ℕ) (a : Active) (write : Write) (o : Outcome) → j ≡ s - 1 → at_place ss j ≡ Some a →
+pub answered_view : (t after : RecordsView) (phases : Phases) (begun : ℕ) (ss then : List (Option Active)) (s j : ℕ) (a : Active) (write : Write) (o : Outcome) → j ≡ s - 1 → at_place ss j ≡ Some a →
     then ≡ if_died o (set ss j (after_dying (at_place ss j))) (if_granted o (set ss j (after_writing (at_place ss j) write)) ss) →
     kept_of after ≡ record (kept_of t) { rows = rows_after t.rows write.key a.number Exclusive o } → after.opened ≡ t.opened → after.shut ≡ t.shut →
     seen_with after phases begun then ≡ after_answer (seen_with t phases begun ss) s write.key Exclusive o (if_granted o (with_session ss s (after_writing (active_in ss s) write)) ss)
@@ -44,7 +44,7 @@ answered_view t after phases begun ss then s j a write o at own gone rows opened
     rw (gone, opened, shut, at) (ap (λ (kept : Kept). seen_kept kept t phases begun (if_died o (set ss (s - 1) (after_dying (at_place ss (s - 1)))) (if_granted o (set ss (s - 1) (after_writing (at_place ss (s - 1)) write)) ss)))
     (rows ∙ ap (λ n. with_rows (rows_after t.rows write.key n Exclusive o) (kept_of t)) (sym (ap number_in (rw at at own)))))
   where
-    seen_kept : Kept → Table → Phases → ℕ → List (Option Active) → Ongoing
+    seen_kept : Kept → RecordsView → Phases → ℕ → List (Option Active) → Ongoing
     seen_kept kept t phases begun ss = record { sessions = ss; kept = kept; open_set = t.opened; closed_set = t.shut; phases = phases; begun = begun }
 
 few_idle : (n : ℕ) → AreFew (replicate n None)
@@ -56,7 +56,7 @@ abbrev no_transaction : Option Active
 no_transaction = None
 
 -- at the start
-pub first_stands : (t : Table) (ss : List (Option Active)) (phases : Phases) (capacity n : ℕ) (pairs : List (List ℕ × List ℕ)) → t ≡ (let first : Table = record { capacity = capacity; rows = map committed_row pairs; pending = []; point = 0; opened = []; shut = [] } in first) → ss ≡ replicate n None →
+pub first_stands : (t : RecordsView) (ss : List (Option Active)) (phases : Phases) (capacity n : ℕ) (pairs : List (List ℕ × List ℕ)) → t ≡ (let first : RecordsView = record { capacity = capacity; rows = map committed_row pairs; pending = []; point = 0; opened = []; shut = [] } in first) → ss ≡ replicate n None →
     phases ≡ (let first : Phases = record { phase = phase.Rest; point = 0; before = 0; during = 0; after = 0 } in first) → n ≤ 64 → StandTogether t ss phases 0
 first_stands t ss phases capacity n pairs is idle new few = rw (is, idle, new) (record {
   hold = hold_first capacity n pairs;
@@ -80,9 +80,9 @@ length_died Granted ss j x y = length-set ss j y
 length_died Queued ss j x y = refl
 length_died Died ss j x y = length-set ss j x
 
-module _ (t : Table) (ss : List (Option Active)) (phases : Phases) (begun : ℕ) (all : StandTogether t ss phases begun) where
+module _ (t : RecordsView) (ss : List (Option Active)) (phases : Phases) (begun : ℕ) (all : StandTogether t ss phases begun) where
   -- other records and as many sessions, which hold together as these do
-  stands_with : (after : Table) (then : List (Option Active)) → after.opened ≡ t.opened → after.shut ≡ t.shut → HoldTogether after then begun phases.phase phases.point t.opened t.shut → AreCounted phases then → AreFew then → length then ≡ length ss → StandTogether after then phases begun
+  stands_with : (after : RecordsView) (then : List (Option Active)) → after.opened ≡ t.opened → after.shut ≡ t.shut → HoldTogether after then begun phases.phase phases.point t.opened t.shut → AreCounted phases then → AreFew then → length then ≡ length ss → StandTogether after then phases begun
   stands_with after then opened shut hold counted few many = record {
     hold = same_sets after then begun phases.phase phases.point t.opened after.opened t.shut after.shut opened shut hold;
     counted = counted;
@@ -110,17 +110,17 @@ module _ (t : Table) (ss : List (Option Active)) (phases : Phases) (begun : ℕ)
       at_point = entered_point phases now (class_in phases.phase) is
 
   -- a request to read was answered, and has not died
-  pub read_stands : (after : Table) (key : List ℕ) (n : ℕ) (o : Outcome) → after ≡ record t { rows = rows_after t.rows key n Shared o } → StandTogether after ss phases begun
-  read_stands after key n o is = stands_with after ss (ap (λ (a : Table). a.opened) is) (ap (λ (a : Table). a.shut) is) (shared_together t after ss key n o is begun phases.phase phases.point t.opened t.shut all.hold) all.counted all.few refl
+  pub read_stands : (after : RecordsView) (key : List ℕ) (n : ℕ) (o : Outcome) → after ≡ record t { rows = rows_after t.rows key n Shared o } → StandTogether after ss phases begun
+  read_stands after key n o is = stands_with after ss (ap (λ (a : RecordsView). a.opened) is) (ap (λ (a : RecordsView). a.shut) is) (shared_together t after ss key n o is begun phases.phase phases.point t.opened t.shut all.hold) all.counted all.few refl
 
   -- it has died
-  pub dead_stands : (after : Table) (then : List (Option Active)) (j : ℕ) (key : List ℕ) (n : ℕ) (o : Outcome) → j < length ss → then ≡ set ss j (after_dying (at_place ss j)) → after ≡ record t { rows = rows_after t.rows key n Shared o } → StandTogether after then phases begun
-  dead_stands after then j key n o inside gone is = rw gone (stands_with after (set ss j (after_dying (at_place ss j))) (ap (λ (a : Table). a.opened) is) (ap (λ (a : Table). a.shut) is) (shared_dead t after ss j key n o inside is begun phases.phase phases.point t.opened t.shut all.hold)
+  pub dead_stands : (after : RecordsView) (then : List (Option Active)) (j : ℕ) (key : List ℕ) (n : ℕ) (o : Outcome) → j < length ss → then ≡ set ss j (after_dying (at_place ss j)) → after ≡ record t { rows = rows_after t.rows key n Shared o } → StandTogether after then phases begun
+  dead_stands after then j key n o inside gone is = rw gone (stands_with after (set ss j (after_dying (at_place ss j))) (ap (λ (a : RecordsView). a.opened) is) (ap (λ (a : RecordsView). a.shut) is) (shared_dead t after ss j key n o inside is begun phases.phase phases.point t.opened t.shut all.hold)
       (read_counted phases ss all.counted {A = Unit {0}} {E = Unit {0}} (Ok tt) Died (set ss j (after_dying (at_place ss j))) j refl tt)
       (few_set ss j (after_dying (at_place ss j)) all.few (died_few (at_place ss j) (all.few j))) (length-set ss j (after_dying (at_place ss j))))
 
   -- a request to write was answered
-  pub request_stands : (after : Table) (then : List (Option Active)) (j : ℕ) (a : Active) (write : Write) (o : Outcome) → j < length ss → at_place ss j ≡ Some a → is_one_too_many a.writes write.key ≡ false →
+  pub request_stands : (after : RecordsView) (then : List (Option Active)) (j : ℕ) (a : Active) (write : Write) (o : Outcome) → j < length ss → at_place ss j ≡ Some a → is_one_too_many a.writes write.key ≡ false →
       then ≡ if_died o (set ss j (after_dying (at_place ss j))) (if_granted o (set ss j (after_writing (at_place ss j) write)) ss) →
       kept_of after ≡ record (kept_of t) { rows = rows_after t.rows write.key a.number Exclusive o } →
       ((q : List ℕ) → pending_at after q ≡ pending_after o t write.key (let p : Pending = record { by = a.number; class = a.class; value = write.value } in p) q) → (o ≡ Granted → IsClearFor t write.key a.number) →
@@ -137,7 +137,7 @@ module _ (t : Table) (ss : List (Option Active)) (phases : Phases) (begun : ℕ)
       few Died = few_set ss j (after_dying (at_place ss j)) all.few (died_few (at_place ss j) (all.few j))
 
   -- a transaction is over, with the keys of its commit, if it has committed, in the open set
-  over_stands : (after : Table) (j : ℕ) (now : Phases) → j < length ss → is_some (at_place ss j) ≡ true → now ≡ left phases (class_at (at_place ss j)) → HoldTogether after (set ss j None) begun phases.phase phases.point after.opened after.shut → StandTogether after (set ss j None) now begun
+  over_stands : (after : RecordsView) (j : ℕ) (now : Phases) → j < length ss → is_some (at_place ss j) ≡ true → now ≡ left phases (class_at (at_place ss j)) → HoldTogether after (set ss j None) begun phases.phase phases.point after.opened after.shut → StandTogether after (set ss j None) now begun
   over_stands after j now inside there is hold = record {
     hold = rw (at_phase, at_point) hold;
     counted = left_counted phases ss all.counted now j (class_at (at_place ss j)) inside there refl is;
@@ -153,22 +153,22 @@ module _ (t : Table) (ss : List (Option Active)) (phases : Phases) (begun : ℕ)
       at_point : now.point ≡ phases.point
       at_point = left_point phases now (class_at (at_place ss j)) is
 
-  pub committed_stands : (middle after : Table) (then : List (Option Active)) (j n : ℕ) (ws : List Write) (now : Phases) → j < length ss → is_some (at_place ss j) ≡ true → KeysRise t.rows → ws ≡ writes_in (at_place ss j) → then ≡ set ss j None → now ≡ left phases (class_at (at_place ss j)) →
+  pub committed_stands : (middle after : RecordsView) (then : List (Option Active)) (j n : ℕ) (ws : List Write) (now : Phases) → j < length ss → is_some (at_place ss j) ≡ true → KeysRise t.rows → ws ≡ writes_in (at_place ss j) → then ≡ set ss j None → now ≡ left phases (class_at (at_place ss j)) →
       kept_of middle ≡ record (kept_of t) { rows = map (written_row ws) t.rows } → ((q : List ℕ) → pending_at middle q ≡ pending_without ws t q) → middle.point ≡ t.point → middle.opened ≡ t.opened ++ new_keys t.rows ws → middle.shut ≡ t.shut →
       after ≡ record middle { rows = released_rows n middle.rows } → StandTogether after then now begun
   committed_stands middle after then j n ws now inside there rise mine gone is rows pending still opened shut released =
       rw gone (over_stands after j now inside there is
-      (same_sets after (set ss j None) begun phases.phase phases.point _ after.opened t.shut after.shut (ap (λ (a : Table). a.opened) released ∙ opened ∙ ap (λ w. t.opened ++ new_keys t.rows w) mine) (ap (λ (a : Table). a.shut) released ∙ shut) (committed_together t middle after ss j n ws inside rise mine rows pending still released begun phases.phase phases.point t.opened t.shut all.hold)))
+      (same_sets after (set ss j None) begun phases.phase phases.point _ after.opened t.shut after.shut (ap (λ (a : RecordsView). a.opened) released ∙ opened ∙ ap (λ w. t.opened ++ new_keys t.rows w) mine) (ap (λ (a : RecordsView). a.shut) released ∙ shut) (committed_together t middle after ss j n ws inside rise mine rows pending still released begun phases.phase phases.point t.opened t.shut all.hold)))
 
-  pub aborted_stands : (middle after : Table) (then : List (Option Active)) (j n : ℕ) (ws : List Write) (now : Phases) → j < length ss → is_some (at_place ss j) ≡ true → KeysRise t.rows → ws ≡ writes_in (at_place ss j) → then ≡ set ss j None → now ≡ left phases (class_at (at_place ss j)) →
+  pub aborted_stands : (middle after : RecordsView) (then : List (Option Active)) (j n : ℕ) (ws : List Write) (now : Phases) → j < length ss → is_some (at_place ss j) ≡ true → KeysRise t.rows → ws ≡ writes_in (at_place ss j) → then ≡ set ss j None → now ≡ left phases (class_at (at_place ss j)) →
       kept_of middle ≡ kept_of t → ((q : List ℕ) → pending_at middle q ≡ pending_without ws t q) → middle.point ≡ t.point → middle.opened ≡ t.opened → middle.shut ≡ t.shut →
       after ≡ record middle { rows = released_rows n middle.rows } → StandTogether after then now begun
   aborted_stands middle after then j n ws now inside there rise mine gone is rows pending still opened shut released =
       rw gone (over_stands after j now inside there is
-      (same_sets after (set ss j None) begun phases.phase phases.point t.opened after.opened t.shut after.shut (ap (λ (a : Table). a.opened) released ∙ opened) (ap (λ (a : Table). a.shut) released ∙ shut) (aborted_together t middle after ss j n ws inside rise mine rows pending still released begun phases.phase phases.point t.opened t.shut all.hold)))
+      (same_sets after (set ss j None) begun phases.phase phases.point t.opened after.opened t.shut after.shut (ap (λ (a : RecordsView). a.opened) released ∙ opened) (ap (λ (a : RecordsView). a.shut) released ∙ shut) (aborted_together t middle after ss j n ws inside rise mine rows pending still released begun phases.phase phases.point t.opened t.shut all.hold)))
 
   -- the phase has changed, and this holds together then
-  moved_stands : (after : Table) (c : Change) (now : Phases) → now ≡ advanced phases c → ((same_phase (to_of c) phase.Rest ≡ true) ⊎ (1 ≤ point_after c phases.point)) → HoldTogether after ss begun (to_of c) (point_after c phases.point) after.opened after.shut → StandTogether after ss now begun
+  moved_stands : (after : RecordsView) (c : Change) (now : Phases) → now ≡ advanced phases c → ((same_phase (to_of c) phase.Rest ≡ true) ⊎ (1 ≤ point_after c phases.point)) → HoldTogether after ss begun (to_of c) (point_after c phases.point) after.opened after.shut → StandTogether after ss now begun
   moved_stands after c now is has hold = record {
     hold = rw is hold;
     counted = advanced_counted phases now c ss is all.counted;
@@ -201,13 +201,13 @@ module _ (t : Table) (ss : List (Option Active)) (phases : Phases) (begun : ℕ)
       moved_stands t change.Rest now is (inl refl) (hold_moved t ss begun phases.phase phases.point t.opened t.shut all.hold phase.Complete phase.Rest After free.in_phase (sym (all.counted After) ∙ free.none) goes_to_rest (λ over. refl) refl)
 
   -- the open set was closed
-  pub sealed_stands : (after : Table) (now : Phases) → held_back phases change.Seal (length t.shut) ≡ None → now ≡ advanced phases change.Seal → after ≡ record t { rows = map closed_row t.rows; point = phases.point; opened = []; shut = t.opened } → StandTogether after ss now begun
+  pub sealed_stands : (after : RecordsView) (now : Phases) → held_back phases change.Seal (length t.shut) ≡ None → now ≡ advanced phases change.Seal → after ≡ record t { rows = map closed_row t.rows; point = phases.point; opened = []; shut = t.opened } → StandTogether after ss now begun
   sealed_stands after now none is closed =
       let free = is_free phases change.Seal (length t.shut) none in
       rw closed (moved_stands (record t { rows = map closed_row t.rows; point = phases.point; opened = []; shut = t.opened }) change.Seal now is (inr (point_in phase.Prepare free.in_phase refl)) (hold_sealed t ss begun phases.phase phases.point t.opened t.shut all.hold free.in_phase (sym (all.counted Before) ∙ free.none)))
 
   -- the first key of the closed set was taken
-  pub taken_stands : (after : Table) (k : List ℕ) (ks : List (List ℕ)) → t.shut ≡ k ∷ ks → after ≡ record t { rows = left_rows t.rows k; shut = ks } → StandTogether after ss phases begun
+  pub taken_stands : (after : RecordsView) (k : List ℕ) (ks : List (List ℕ)) → t.shut ≡ k ∷ ks → after ≡ record t { rows = left_rows t.rows k; shut = ks } → StandTogether after ss phases begun
   taken_stands after k ks first is = rw is (record { hold = hold_taken t ss begun phases.phase phases.point t.opened t.shut all.hold k ks first; counted = all.counted; few = all.few; most_sessions = all.most_sessions; most_begun = all.most_begun; has_point = all.has_point })
 
   -- what a transaction writes again is of the class that it had

@@ -22,18 +22,18 @@ use Rattle.pc_records.specs.Rows.{Row, Kept, record_of, is_in_open_set, is_in_cl
 use Rattle.pc_records.specs.RowSteps.{rows_after, released_rows, written_row, closed_row, left_rows, committed_row}
 use Rattle.pc_records.specs.NewKeys.{new_keys, with_new}
 use Rattle.pc_slots.specs.Slots.{Pending}
-use Rattle.pc_records.specs.Tables.{Table, pending_at, pending_without, kept_of, pending_after, value_of, read_of, IsClearFor}
+use Rattle.pc_records.specs.Tables.{RecordsView, pending_at, pending_without, kept_of, pending_after, value_of, read_of, IsClearFor}
 use Rattle.pc_records.proofs.SetFlagLaws.{asked_sets, released_sets, written_open, written_closed, closed_sets, left_open, left_closed}
 use Rattle.pc_records.specs.RowSets.{HaveSameSets}
 use Rattle.pc_records.proofs.ReleaseLaws.{rise_written}
 use Rattle.pc_engine.specs.Sessions.{number_in, class_at, writes_in, after_writing, after_dying, if_died, if_granted, is_of, count_of}
 use Rattle.pc_engine.specs.Store.{Active}
-use Rattle.pc_engine.specs.InPlace.{at_place, write_in, may_be_active, fits, AreListed, is_open_point, HoldTogether, AreOpen}
+use Rattle.pc_engine.specs.InPlace.{at_place, write_in, may_be_active, fits, AreSetsListed, is_open_point, HoldTogether, AreOpen}
 use Rattle.pc_engine.proofs.PlacedWrites.{by_place, number_of, own_write, same_writes, same_places, wrote_in_place, ended_in_place, begun_numbers, same_numbers, values_stand, none_by, reads_right}
 
 -- whatever number was given last, and whatever phase, point and sets these held together with, the others hold together with
 -- the same
-abbrev pub StayTogether : Table → List (Option Active) → Table → List (Option Active) → Type 0
+abbrev pub StayTogether : RecordsView → List (Option Active) → RecordsView → List (Option Active) → Type 0
 StayTogether table sessions after then = (begun : ℕ) (phase : Phase) (point : ℕ) (open_keys closed : List (List ℕ)) → HoldTogether table sessions begun phase point open_keys closed → HoldTogether after then begun phase point open_keys closed
 
 all_idle : (n i : ℕ) → at_place (replicate n None) i ≡ None
@@ -142,7 +142,7 @@ is_this Complete Prepare e = absurd (let no : false ≡ true = e in cc)
 is_this Complete Resolve e = absurd (let no : false ≡ true = e in cc)
 is_this Complete Capture e = absurd (let no : false ≡ true = e in cc)
 
-module _ (t : Table) (ss : List (Option Active)) (begun : ℕ) (phase : Phase) (point : ℕ) (open_keys closed : List (List ℕ)) (hold : HoldTogether t ss begun phase point open_keys closed) where
+module _ (t : RecordsView) (ss : List (Option Active)) (begun : ℕ) (phase : Phase) (point : ℕ) (open_keys closed : List (List ℕ)) (hold : HoldTogether t ss begun phase point open_keys closed) where
   -- no key of a closed set is left where the point is over
   pub none_closed : is_open_point phase ≡ false → (q : List ℕ) → is_in_closed_set (record_of t.rows q) ≡ false
   none_closed over q = by_flag (is_in_closed_set (record_of t.rows q)) refl
@@ -224,11 +224,11 @@ module _ (t : Table) (ss : List (Option Active)) (begun : ℕ) (phase : Phase) (
       nothing None q e = refl
       nothing (Some x) q e = absurd (let no : false ≡ true = e in cc)
 
-  listed : (rows : List Row) → HaveSameSets t.rows rows → AreListed rows open_keys closed
+  listed : (rows : List Row) → HaveSameSets t.rows rows → AreSetsListed rows open_keys closed
   listed rows same = record { open_set = λ q e. hold.sets.open_set q (sym (same.open_set q) ∙ e); closed_set = λ q e. hold.sets.closed_set q (sym (same.closed_set q) ∙ e) }
 
   -- a request was answered
-  pub hold_asked : (after : Table) → HaveSameSets t.rows after.rows → ((q : List ℕ) → pending_at after q ≡ pending_at t q) → after.point ≡ t.point → HoldTogether after ss begun phase point open_keys closed
+  pub hold_asked : (after : RecordsView) → HaveSameSets t.rows after.rows → ((q : List ℕ) → pending_at after q ≡ pending_at t q) → after.point ≡ t.point → HoldTogether after ss begun phase point open_keys closed
   hold_asked after same stays still = record {
     writes = same_places t ss begun hold.writes hold.numbers after stays;
     numbers = hold.numbers;
@@ -268,7 +268,7 @@ module _ (t : Table) (ss : List (Option Active)) (begun : ℕ) (phase : Phase) (
       class (Some a) e = e
 
   -- a write was made
-  pub hold_wrote : (after : Table) (j : ℕ) (key : List ℕ) (value : Option (List ℕ)) → j < length ss → is_some (at_place ss j) ≡ true → HaveSameSets t.rows after.rows → after.point ≡ t.point → IsClearFor t key (number_in (at_place ss j)) →
+  pub hold_wrote : (after : RecordsView) (j : ℕ) (key : List ℕ) (value : Option (List ℕ)) → j < length ss → is_some (at_place ss j) ≡ true → HaveSameSets t.rows after.rows → after.point ≡ t.point → IsClearFor t key (number_in (at_place ss j)) →
       ((q : List ℕ) → pending_at after q ≡ cond (same_bytes key q) (Some (let p : Pending = record { by = number_in (at_place ss j); class = class_at (at_place ss j); value = value } in p)) (pending_at t q)) →
       HoldTogether after (set ss j (after_writing (at_place ss j) (record { key = key; value = value }))) begun phase point open_keys closed
   hold_wrote after j key value inside there same still clear is = record {
@@ -292,7 +292,7 @@ module _ (t : Table) (ss : List (Option Active)) (begun : ℕ) (phase : Phase) (
       class None e = e
       class (Some a) e = e
 
-  over : (after : Table) (keys : List (List ℕ)) (j : ℕ) → j < length ss → ((q : List ℕ) → pending_at after q ≡ pending_without (writes_in (at_place ss j)) t q) → after.point ≡ t.point → AreListed after.rows keys closed → HoldTogether after (set ss j None) begun phase point keys closed
+  over : (after : RecordsView) (keys : List (List ℕ)) (j : ℕ) → j < length ss → ((q : List ℕ) → pending_at after q ≡ pending_without (writes_in (at_place ss j)) t q) → after.point ≡ t.point → AreSetsListed after.rows keys closed → HoldTogether after (set ss j None) begun phase point keys closed
   over after keys j inside is still sets = record {
     writes = ended_in_place t ss begun hold.writes hold.numbers after j inside is;
     numbers = same_numbers t ss begun hold.writes hold.numbers j None inside (λ e. absurd (let no : false ≡ true = e in cc)) (λ e. absurd (let no : false ≡ true = e in cc)) (omega arith);
@@ -304,9 +304,9 @@ module _ (t : Table) (ss : List (Option Active)) (begun : ℕ) (phase : Phase) (
   }
 
   -- a transaction is committed
-  pub hold_committed : (after : Table) (j n : ℕ) → j < length ss → KeysRise t.rows → after.rows ≡ released_rows n (map (written_row (writes_in (at_place ss j))) t.rows) → ((q : List ℕ) → pending_at after q ≡ pending_without (writes_in (at_place ss j)) t q) → after.point ≡ t.point →
+  pub hold_committed : (after : RecordsView) (j n : ℕ) → j < length ss → KeysRise t.rows → after.rows ≡ released_rows n (map (written_row (writes_in (at_place ss j))) t.rows) → ((q : List ℕ) → pending_at after q ≡ pending_without (writes_in (at_place ss j)) t q) → after.point ≡ t.point →
       HoldTogether after (set ss j None) begun phase point (open_keys ++ new_keys t.rows (writes_in (at_place ss j))) closed
-  hold_committed after j n inside rise rows is still = over after (open_keys ++ new_keys t.rows ws) j inside is still (subst (λ rs. AreListed rs (open_keys ++ new_keys t.rows ws) closed) (sym rows) (record { open_set = λ q e. by_open q (written_open ws t.rows q (sym (same.open_set q) ∙ e)); closed_set = λ q e. hold.sets.closed_set q (sym (written_closed ws t.rows q) ∙ sym (same.closed_set q) ∙ e) }))
+  hold_committed after j n inside rise rows is still = over after (open_keys ++ new_keys t.rows ws) j inside is still (subst (λ rs. AreSetsListed rs (open_keys ++ new_keys t.rows ws) closed) (sym rows) (record { open_set = λ q e. by_open q (written_open ws t.rows q (sym (same.open_set q) ∙ e)); closed_set = λ q e. hold.sets.closed_set q (sym (written_closed ws t.rows q) ∙ sym (same.closed_set q) ∙ e) }))
     where
       ws : List Write
       ws = writes_in (at_place ss j)
@@ -323,8 +323,8 @@ module _ (t : Table) (ss : List (Option Active)) (begun : ℕ) (phase : Phase) (
       by_open q (inr e) = by_new q (new_or_open t.rows ws q e)
 
   -- a transaction is undone
-  pub hold_aborted : (after : Table) (j n : ℕ) → j < length ss → KeysRise t.rows → after.rows ≡ released_rows n t.rows → ((q : List ℕ) → pending_at after q ≡ pending_without (writes_in (at_place ss j)) t q) → after.point ≡ t.point → HoldTogether after (set ss j None) begun phase point open_keys closed
-  hold_aborted after j n inside rise rows is still = over after open_keys j inside is still (subst (λ rs. AreListed rs open_keys closed) (sym rows) (listed (released_rows n t.rows) (released_sets n t.rows rise)))
+  pub hold_aborted : (after : RecordsView) (j n : ℕ) → j < length ss → KeysRise t.rows → after.rows ≡ released_rows n t.rows → ((q : List ℕ) → pending_at after q ≡ pending_without (writes_in (at_place ss j)) t q) → after.point ≡ t.point → HoldTogether after (set ss j None) begun phase point open_keys closed
+  hold_aborted after j n inside rise rows is still = over after open_keys j inside is still (subst (λ rs. AreSetsListed rs open_keys closed) (sym rows) (listed (released_rows n t.rows) (released_sets n t.rows rise)))
 
   -- the phase has changed to one in which the same transactions may be active
   after_moving : (to : Phase) (next : ℕ) → ((i : ℕ) → fits to (at_place ss i) ≡ true) → (is_open_point to ≡ false → closed ≡ []) → t.point ≤ next → (same_phase to Prepare ≡ true → t.point < next) → HoldTogether t ss begun to next open_keys closed
@@ -401,17 +401,17 @@ module _ (t : Table) (ss : List (Option Active)) (begun : ℕ) (phase : Phase) (
       by_rest q was = sym (ap (λ b. b || is_among ks q) was.1) ∙ ap (λ keys. is_among keys q) (sym is) ∙ hold.sets.closed_set q was.0
 
 -- a request to read was answered
-pub shared_together : (t after : Table) (ss : List (Option Active)) (key : List ℕ) (n : ℕ) (o : Outcome) → after ≡ record t { rows = rows_after t.rows key n Shared o } → StayTogether t ss after ss
+pub shared_together : (t after : RecordsView) (ss : List (Option Active)) (key : List ℕ) (n : ℕ) (o : Outcome) → after ≡ record t { rows = rows_after t.rows key n Shared o } → StayTogether t ss after ss
 shared_together t after ss key n o is begun phase point open_keys closed hold =
-    hold_asked t ss begun phase point open_keys closed hold after (subst (λ rows. HaveSameSets t.rows rows) (sym (ap (λ (a : Table). a.rows) is)) (asked_sets t.rows key n Shared o)) (λ q. ap (λ (a : Table). pending_at a q) is) (ap (λ (a : Table). a.point) is)
+    hold_asked t ss begun phase point open_keys closed hold after (subst (λ rows. HaveSameSets t.rows rows) (sym (ap (λ (a : RecordsView). a.rows) is)) (asked_sets t.rows key n Shared o)) (λ q. ap (λ (a : RecordsView). pending_at a q) is) (ap (λ (a : RecordsView). a.point) is)
 
 -- a request to read has died
-pub shared_dead : (t after : Table) (ss : List (Option Active)) (j : ℕ) (key : List ℕ) (n : ℕ) (o : Outcome) → j < length ss → after ≡ record t { rows = rows_after t.rows key n Shared o } → StayTogether t ss after (set ss j (after_dying (at_place ss j)))
+pub shared_dead : (t after : RecordsView) (ss : List (Option Active)) (j : ℕ) (key : List ℕ) (n : ℕ) (o : Outcome) → j < length ss → after ≡ record t { rows = rows_after t.rows key n Shared o } → StayTogether t ss after (set ss j (after_dying (at_place ss j)))
 shared_dead t after ss j key n o inside is begun phase point open_keys closed hold =
     hold_died after ss begun phase point open_keys closed (shared_together t after ss key n o is begun phase point open_keys closed hold) j inside
 
 -- a request to write was answered
-pub written_together : (t after : Table) (ss : List (Option Active)) (j : ℕ) (key : List ℕ) (value : Option (List ℕ)) (o : Outcome) → j < length ss → is_some (at_place ss j) ≡ true →
+pub written_together : (t after : RecordsView) (ss : List (Option Active)) (j : ℕ) (key : List ℕ) (value : Option (List ℕ)) (o : Outcome) → j < length ss → is_some (at_place ss j) ≡ true →
     kept_of after ≡ record (kept_of t) { rows = rows_after t.rows key (number_in (at_place ss j)) Exclusive o } →
     ((q : List ℕ) → pending_at after q ≡ pending_after o t key (let p : Pending = record { by = number_in (at_place ss j); class = class_at (at_place ss j); value = value } in p) q) → (o ≡ Granted → IsClearFor t key (number_in (at_place ss j))) → after.point ≡ t.point →
     StayTogether t ss after (if_died o (set ss j (after_dying (at_place ss j))) (if_granted o (set ss j (after_writing (at_place ss j) (record { key = key; value = value }))) ss))
@@ -438,38 +438,38 @@ goes_to_rest During e f = e
 goes_to_rest After e f = absurd (let no : true ≡ false = f in cc)
 
 -- a transaction's writes are committed where they stand, and its requests released
-pub committed_together : (t middle after : Table) (ss : List (Option Active)) (j n : ℕ) (ws : List Write) → j < length ss → KeysRise t.rows → ws ≡ writes_in (at_place ss j) → kept_of middle ≡ record (kept_of t) { rows = map (written_row ws) t.rows } → ((q : List ℕ) → pending_at middle q ≡ pending_without ws t q) →
+pub committed_together : (t middle after : RecordsView) (ss : List (Option Active)) (j n : ℕ) (ws : List Write) → j < length ss → KeysRise t.rows → ws ≡ writes_in (at_place ss j) → kept_of middle ≡ record (kept_of t) { rows = map (written_row ws) t.rows } → ((q : List ℕ) → pending_at middle q ≡ pending_without ws t q) →
     middle.point ≡ t.point → after ≡ record middle { rows = released_rows n middle.rows } → (begun : ℕ) (phase : Phase) (point : ℕ) (open_keys closed : List (List ℕ)) → HoldTogether t ss begun phase point open_keys closed →
     HoldTogether after (set ss j None) begun phase point (open_keys ++ new_keys t.rows (writes_in (at_place ss j))) closed
 committed_together t middle after ss j n ws inside rise mine rows pending still left begun phase point open_keys closed hold =
     hold_committed t ss begun phase point open_keys closed hold after j n inside rise
-    (ap (λ (a : Table). a.rows) left ∙ ap (released_rows n) (ap (λ (k : Kept). k.rows) rows ∙ ap (λ w. map (written_row w) t.rows) mine))
-    (λ q. ap (λ (a : Table). pending_at a q) left ∙ pending q ∙ ap (λ w. pending_without w t q) mine) (ap (λ (a : Table). a.point) left ∙ still)
+    (ap (λ (a : RecordsView). a.rows) left ∙ ap (released_rows n) (ap (λ (k : Kept). k.rows) rows ∙ ap (λ w. map (written_row w) t.rows) mine))
+    (λ q. ap (λ (a : RecordsView). pending_at a q) left ∙ pending q ∙ ap (λ w. pending_without w t q) mine) (ap (λ (a : RecordsView). a.point) left ∙ still)
 
 -- a transaction's writes are undone, and its requests released
-pub aborted_together : (t middle after : Table) (ss : List (Option Active)) (j n : ℕ) (ws : List Write) → j < length ss → KeysRise t.rows → ws ≡ writes_in (at_place ss j) → kept_of middle ≡ kept_of t → ((q : List ℕ) → pending_at middle q ≡ pending_without ws t q) →
+pub aborted_together : (t middle after : RecordsView) (ss : List (Option Active)) (j n : ℕ) (ws : List Write) → j < length ss → KeysRise t.rows → ws ≡ writes_in (at_place ss j) → kept_of middle ≡ kept_of t → ((q : List ℕ) → pending_at middle q ≡ pending_without ws t q) →
     middle.point ≡ t.point → after ≡ record middle { rows = released_rows n middle.rows } → StayTogether t ss after (set ss j None)
 aborted_together t middle after ss j n ws inside rise mine rows pending still left begun phase point open_keys closed hold =
     hold_aborted t ss begun phase point open_keys closed hold after j n inside rise
-    (ap (λ (a : Table). a.rows) left ∙ ap (released_rows n) (ap (λ (k : Kept). k.rows) rows))
-    (λ q. ap (λ (a : Table). pending_at a q) left ∙ pending q ∙ ap (λ w. pending_without w t q) mine) (ap (λ (a : Table). a.point) left ∙ still)
+    (ap (λ (a : RecordsView). a.rows) left ∙ ap (released_rows n) (ap (λ (k : Kept). k.rows) rows))
+    (λ q. ap (λ (a : RecordsView). pending_at a q) left ∙ pending q ∙ ap (λ w. pending_without w t q) mine) (ap (λ (a : RecordsView). a.point) left ∙ still)
 
 -- the values of its writes stand in their places until then
-pub values_placed : (t : Table) (ss : List (Option Active)) (begun j : ℕ) (ws : List Write) → AreOpen t ss begun → is_some (at_place ss j) ≡ true → ws ≡ writes_in (at_place ss j) → (q : List ℕ) → is_some (written ws q) ≡ true → option_map value_of (pending_at t q) ≡ written ws q
+pub values_placed : (t : RecordsView) (ss : List (Option Active)) (begun j : ℕ) (ws : List Write) → AreOpen t ss begun → is_some (at_place ss j) ≡ true → ws ≡ writes_in (at_place ss j) → (q : List ℕ) → is_some (written ws q) ≡ true → option_map value_of (pending_at t q) ≡ written ws q
 values_placed t ss begun j ws placed there mine = subst (λ w. (q : List ℕ) → is_some (written w q) ≡ true → option_map value_of (pending_at t q) ≡ written w q) (sym mine) (values_stand t ss begun placed.writes placed.numbers j there)
 
 -- and then none stands
-pub none_placed : (t middle : Table) (ss : List (Option Active)) (begun j n : ℕ) (ws : List Write) → AreOpen t ss begun → is_some (at_place ss j) ≡ true → ws ≡ writes_in (at_place ss j) → n ≡ number_in (at_place ss j) → ((q : List ℕ) → pending_at middle q ≡ pending_without ws t q) →
+pub none_placed : (t middle : RecordsView) (ss : List (Option Active)) (begun j n : ℕ) (ws : List Write) → AreOpen t ss begun → is_some (at_place ss j) ≡ true → ws ≡ writes_in (at_place ss j) → n ≡ number_in (at_place ss j) → ((q : List ℕ) → pending_at middle q ≡ pending_without ws t q) →
     (q : List ℕ) (p : Pending) → pending_at middle q ≡ Some p → eqb p.by n ≡ false
 none_placed t middle ss begun j n ws placed there mine number pending q p stands =
     ap (eqb p.by) number ∙ none_by t ss begun placed.writes placed.numbers middle j there (λ k. pending k ∙ ap (λ w. pending_without w t k) mine) q p stands
 
 -- what is read where the request was granted is what the transaction has written, or else what is committed
-pub read_granted : (t : Table) (ss : List (Option Active)) (begun j n : ℕ) (key : List ℕ) (o : Outcome) (found : Reply) (committed : Option (List ℕ)) → AreOpen t ss begun → is_some (at_place ss j) ≡ true → Granted ≡ o → n ≡ number_in (at_place ss j) → IsClearFor t key n →
+pub read_granted : (t : RecordsView) (ss : List (Option Active)) (begun j n : ℕ) (key : List ℕ) (o : Outcome) (found : Reply) (committed : Option (List ℕ)) → AreOpen t ss begun → is_some (at_place ss j) ≡ true → Granted ≡ o → n ≡ number_in (at_place ss j) → IsClearFor t key n →
     found ≡ read_reply (read_of (pending_at t key) committed) → found ≡ by_outcome o (read_reply (value_read (written (writes_in (at_place ss j)) key) committed))
 read_granted t ss begun j n key o found committed placed there granted number clear is =
     is ∙ ap read_reply (reads_right t ss begun placed.writes placed.numbers j key committed there (subst (λ k. IsClearFor t key k) number clear)) ∙ ap (λ x. by_outcome x (read_reply (value_read (written (writes_in (at_place ss j)) key) committed))) granted
 
 -- the same lists of both sets
-pub same_sets : (t : Table) (ss : List (Option Active)) (begun : ℕ) (phase : Phase) (point : ℕ) (open_keys now closed left : List (List ℕ)) → now ≡ open_keys → left ≡ closed → HoldTogether t ss begun phase point open_keys closed → HoldTogether t ss begun phase point now left
+pub same_sets : (t : RecordsView) (ss : List (Option Active)) (begun : ℕ) (phase : Phase) (point : ℕ) (open_keys now closed left : List (List ℕ)) → now ≡ open_keys → left ≡ closed → HoldTogether t ss begun phase point open_keys closed → HoldTogether t ss begun phase point now left
 same_sets t ss begun phase point open_keys now closed left opened shut hold = rw (opened, shut) hold

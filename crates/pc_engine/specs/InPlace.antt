@@ -11,7 +11,7 @@ use Rattle.pc_types.specs.declared.limits.TheConstants.{MOST_SESSIONS, MOST_TRAN
 use Rattle.pc_phase.specs.Phases.{Phases}
 use Rattle.pc_records.specs.Rows.{Row, record_of, is_in_open_set, is_in_closed_set}
 use Rattle.pc_slots.specs.Slots.{Pending}
-use Rattle.pc_records.specs.Tables.{Table, pending_at}
+use Rattle.pc_records.specs.Tables.{RecordsView, pending_at}
 use Rattle.pc_engine.specs.Counts.{AreCounted}
 use Rattle.pc_engine.specs.Sessions.{number_in, AreFew}
 use Rattle.pc_engine.specs.Store.{Active}
@@ -26,7 +26,7 @@ write_in None key = None
 write_in (Some t) key = option_map (λ value. record { by = t.number; class = t.class; value = value }) (written t.writes key)
 
 -- each write of an open transaction stands in its key's place, and what stands there is such a write
-pub record AreInPlace (table : Table) (sessions : List (Option Active)) : Type 0 where
+pub record AreInPlace (table : RecordsView) (sessions : List (Option Active)) : Type 0 where
   pub placed : (i : ℕ) (q : List ℕ) → is_some (write_in (at_place sessions i) q) ≡ true → pending_at table q ≡ write_in (at_place sessions i) q
   pub owned : (q : List ℕ) → (pending_at table q ≡ None) ⊎ ((i : ℕ) × (pending_at table q ≡ write_in (at_place sessions i) q))
 
@@ -53,7 +53,7 @@ fits phase None = true
 fits phase (Some t) = may_be_active phase t.class
 
 -- each key of the open set, and each of the closed set, is in its list
-pub record AreListed (rows : List Row) (open_keys closed_keys : List (List ℕ)) : Type 0 where
+pub record AreSetsListed (rows : List Row) (open_keys closed_keys : List (List ℕ)) : Type 0 where
   pub open_set : (q : List ℕ) → is_in_open_set (record_of rows q) ≡ true → is_among open_keys q ≡ true
   pub closed_set : (q : List ℕ) → is_in_closed_set (record_of rows q) ≡ true → is_among closed_keys q ≡ true
 
@@ -65,18 +65,18 @@ is_open_point phase = false
 
 -- All this together; in other phases no key is left to take, the last closed set is of no later point than the cycle, and in
 -- prepare of an earlier one.
-pub record HoldTogether (table : Table) (sessions : List (Option Active)) (begun : ℕ) (phase : Phase) (point : ℕ) (open_keys closed : List (List ℕ)) : Type 0 where
+pub record HoldTogether (table : RecordsView) (sessions : List (Option Active)) (begun : ℕ) (phase : Phase) (point : ℕ) (open_keys closed : List (List ℕ)) : Type 0 where
   pub writes : AreInPlace table sessions
   pub numbers : AreNumbered begun sessions
   pub classes : (i : ℕ) → fits phase (at_place sessions i) ≡ true
-  pub sets : AreListed table.rows open_keys closed
+  pub sets : AreSetsListed table.rows open_keys closed
   pub idle : is_open_point phase ≡ false → closed ≡ []
   pub within : table.point ≤ point
   pub fresh : same_phase phase Prepare ≡ true → table.point < point
 
 -- All that the sessions keep with their records and the phases: that holds together with the keys of both sets; the phases count
 -- the open transactions by class; and counts are within their limits.
-pub record StandTogether (table : Table) (sessions : List (Option Active)) (phases : Phases) (begun : ℕ) : Type 0 where
+pub record StandTogether (table : RecordsView) (sessions : List (Option Active)) (phases : Phases) (begun : ℕ) : Type 0 where
   pub hold : HoldTogether table sessions begun phases.phase phases.point table.opened table.shut
   pub counted : AreCounted phases sessions
   pub few : AreFew sessions
@@ -85,6 +85,6 @@ pub record StandTogether (table : Table) (sessions : List (Option Active)) (phas
   pub has_point : (same_phase phases.phase Rest ≡ true) ⊎ (1 ≤ phases.point)
 
 -- open transactions, with numbers of their own, have their writes in place
-pub record AreOpen (table : Table) (sessions : List (Option Active)) (begun : ℕ) : Type 0 where
+pub record AreOpen (table : RecordsView) (sessions : List (Option Active)) (begun : ℕ) : Type 0 where
   pub writes : AreInPlace table sessions
   pub numbers : AreNumbered begun sessions

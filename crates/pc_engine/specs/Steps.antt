@@ -178,16 +178,16 @@ abbrev pub take_due : Store → Option Reply
 take_due w = or_else (first_refusal ((not (is_in phase.Capture w), why.WrongPhase) ∷ [])) (if is_empty w.cycle.closed_set then Some told.NoneLeft else None)
 
 -- the first of these keys is taken with what it has at the point, and stands at its place among those that were taken
-abbrev pub TakesFirst : List (List ℕ) → Store → Reply → Store → Type 0
-TakesFirst [] old reply new = ⊥
-TakesFirst (key ∷ keys) old reply new =
+abbrev pub TakesFirstKey : List (List ℕ) → Store → Reply → Store → Type 0
+TakesFirstKey [] old reply new = ⊥
+TakesFirstKey (key ∷ keys) old reply new =
     let content = at_point (record_of old.kept.rows key) in
     (reply ≡ told.Took key content)
     × (new ≡ record old { kept = record old.kept { rows = left_rows old.kept.rows key }; cycle = record old.cycle { closed_set = keys; taken = put_entry key_cmp key content old.cycle.taken } })
 
 -- a key of the closed set is taken
 abbrev pub Takes : Store → Reply → Store → Type 0
-Takes old reply new = Owes (take_due old) old reply new (TakesFirst old.cycle.closed_set old reply new)
+Takes old reply new = Owes (take_due old) old reply new (TakesFirstKey old.cycle.closed_set old reply new)
 
 -- what is answered to a Done where no part is shelved
 abbrev pub done_due : Store → Option Reply

@@ -21,7 +21,7 @@ ghost use Rattle.pc_engine.specs.Store.{active_in};
 ghost use Rattle.pc_engine.specs.Steps.{why_refused};
 
 use pc_phase::{Change, Held, Phases};
-use pc_records::{Answer, Reading, Records};
+use pc_records::{Reading, Records, Requested};
 use pc_txn::WriteSet;
 use pc_types::{
     Class, Items, Key, Outcome, Phase, Point, Refusal, Reply, SessionNo, SlotId, TxnNo, Value,
@@ -229,7 +229,9 @@ impl Sessions {
             return Err(why_refused(&self.records, &write.key));
         };
         let (number, class) = (transaction.number, transaction.class);
-        let Answer { outcome, slot } = self.records.write(alloc, number, class, &write.key, value)?;
+        let Requested { outcome, slot } = self
+            .records
+            .write(alloc, number, class, &write.key, value)?;
         transaction.answered(outcome, write, slot);
         Ok(outcome)
     }

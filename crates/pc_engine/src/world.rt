@@ -12,7 +12,7 @@ ghost use Rattle.pc_log.specs.Laws.{IsLog};
 ghost use Rattle.pc_records.specs.Rows.{record_of, stored};
 ghost use Rattle.pc_engine.specs.Store.{setting_of};
 ghost use Rattle.pc_engine.specs.Stands.{Stands, Follows, IfRefused};
-ghost use Rattle.pc_engine.specs.Checks.{IsSound};
+ghost use Rattle.pc_engine.specs.Checks.{IsStoreSound};
 ghost use Rattle.pc_engine.specs.Runs.{starting, IsRun};
 
 use crate::checks::is_sound;
@@ -198,7 +198,7 @@ impl World {
     /// replayed on the base, and each file of the shelf whose points are those from 1 to some n, laid on the base, is the
     /// state of n. It is so after every history. It fails only where memory ran out.
     pub fn check(&self) -> Result<bool, Refusal>
-        ensures sound { IfOk result (λ sound. IsTrue sound ↔ IsSound self.now) }
+        ensures sound { IfOk result (λ sound. IsTrue sound ↔ IsStoreSound self.now) }
         ensures always { (history : History) → Stands self.now history → IfOk result (λ sound. sound ≡ true) }
         ensures refusals { IfErr result (λ e. e ≡ Refusal.OutOfMemory) }
     {

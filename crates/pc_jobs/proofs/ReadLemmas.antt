@@ -8,9 +8,9 @@ use Rattle.pc_jobs.specs.declared.works.Client.{Client}
 use Rattle.pc_jobs.specs.declared.works.Workload.{Workload}
 use Rattle.pc_jobs.specs.declared.phrases.Phrase.{Phrase}
 use Rattle.pc_jobs.specs.declared.phrases.Phrase.TheVariants as phrase
-use Rattle.pc_jobs.specs.declared.workloads.Reading.TheVariants as reading
+use Rattle.pc_jobs.specs.declared.workloads.WorkloadReading.TheVariants as reading
 use Rattle.pc_jobs.specs.Workloads.{is_points, is_client, is_client_of, is_open_behind, is_open, closes, is_bad, first_bad, ops_in, works_in, clients_in, points_in, workload_of, outcome, worth}
-use Rattle.pc_jobs.specs.Written.{says, work_lines, clients_lines, IsWritten}
+use Rattle.pc_jobs.specs.Written.{says, work_lines, clients_lines, IsWorkloadWritten}
 use Rattle.pc_jobs.proofs.WorkloadLemmas.{any_more}
 
 pick : (b : Bool) (n : ℕ) (later : Option ℕ) → (if b then Some n else later) ≡ None → (b ≡ false) × (later ≡ None)
@@ -173,7 +173,7 @@ runs (Some n) v w e = absurd cc
 runs None v w e = (refl, cc)
 
 -- lines that are worth a workload write it
-pub read_written : (lines : List Phrase) (w : Workload) → worth lines ≡ reading.Runs w → IsWritten lines w
+pub read_written : (lines : List Phrase) (w : Workload) → worth lines ≡ reading.Runs w → IsWorkloadWritten lines w
 read_written lines w e =
     let k = runs (first_bad [] lines) (workload_of lines) w e in
-    subst (λ (z : Workload). IsWritten lines z) k.1 (distinct [] lines k.0, head [] lines refl refl k.0)
+    subst (λ (z : Workload). IsWorkloadWritten lines z) k.1 (distinct [] lines k.0, head [] lines refl refl k.0)

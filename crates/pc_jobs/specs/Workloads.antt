@@ -4,14 +4,14 @@ use Rattle.std.specs.Prelude.{◌+◌, ◌==◌, ◌||◌, not, ℕ, Bool, true,
 use Rattle.std.specs.List.{list_any}
 use Rattle.pc_lines.specs.Lines.{lines_in}
 use Rattle.pc_jobs.specs.declared.works.Op.{Op}
-use Rattle.pc_jobs.specs.declared.works.Work.{Work}
-use Rattle.pc_jobs.specs.declared.works.Work.TheVariants as work
+use Rattle.pc_jobs.specs.declared.works.ClientTask.{ClientTask}
+use Rattle.pc_jobs.specs.declared.works.ClientTask.TheVariants as work
 use Rattle.pc_jobs.specs.declared.works.Client.{Client}
 use Rattle.pc_jobs.specs.declared.works.Workload.{Workload}
 use Rattle.pc_jobs.specs.declared.phrases.Phrase.{Phrase}
 use Rattle.pc_jobs.specs.declared.phrases.Phrase.TheVariants as phrase
-use Rattle.pc_jobs.specs.declared.workloads.Reading.{Reading}
-use Rattle.pc_jobs.specs.declared.workloads.Reading.TheVariants as reading
+use Rattle.pc_jobs.specs.declared.workloads.WorkloadReading.{WorkloadReading}
+use Rattle.pc_jobs.specs.declared.workloads.WorkloadReading.TheVariants as reading
 use Rattle.pc_jobs.specs.Phrases.{spelled}
 
 -- a line that gives the points
@@ -73,7 +73,7 @@ ops_in (phrase.Does op ∷ lines) = op ∷ ops_in lines
 ops_in (line ∷ lines) = []
 
 -- the work of the client whose line stands before these lines
-abbrev pub works_in : List Phrase → List Work
+abbrev pub works_in : List Phrase → List ClientTask
 works_in [] = []
 works_in (phrase.Begin ∷ lines) = work.Once (record { ops = ops_in lines }) ∷ works_in lines
 works_in (phrase.Fill fill ∷ lines) = work.Fill fill ∷ works_in lines
@@ -97,12 +97,12 @@ abbrev pub workload_of : List Phrase → Workload
 workload_of lines = record { points = points_in lines; clients = clients_in lines }
 
 -- a bad line, if there is one, and else the workload
-abbrev pub outcome : Option ℕ → Workload → Reading
+abbrev pub outcome : Option ℕ → Workload → WorkloadReading
 outcome (Some line) workload = reading.BadLine line
 outcome None workload = reading.Runs workload
 
 -- what some lines are worth
-abbrev pub worth : List Phrase → Reading
+abbrev pub worth : List Phrase → WorkloadReading
 worth lines = outcome (first_bad [] lines) (workload_of lines)
 
 -- what the lines of a text spell
@@ -110,5 +110,5 @@ abbrev pub phrases_in : List ℕ → List Phrase
 phrases_in text = map spelled (lines_in text)
 
 -- what a text is worth
-abbrev pub reading_of : List ℕ → Reading
+abbrev pub reading_of : List ℕ → WorkloadReading
 reading_of text = worth (phrases_in text)

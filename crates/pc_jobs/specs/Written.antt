@@ -1,8 +1,8 @@
 -- How a workload is written, line by line. This is said of a workload, with no word of how its lines are read.
 use Rattle.std.specs.Prelude.{◌≡◌, ◌⊎◌, Bool, true, false, List, [], ◌∷◌, ◌++◌, map, filter, nat_eq}
 use Rattle.std.specs.List.{flat_map, IsDistinct}
-use Rattle.pc_jobs.specs.declared.works.Work.{Work}
-use Rattle.pc_jobs.specs.declared.works.Work.TheVariants as work
+use Rattle.pc_jobs.specs.declared.works.ClientTask.{ClientTask}
+use Rattle.pc_jobs.specs.declared.works.ClientTask.TheVariants as work
 use Rattle.pc_jobs.specs.declared.works.Client.{Client}
 use Rattle.pc_jobs.specs.declared.works.Workload.{Workload}
 use Rattle.pc_jobs.specs.declared.phrases.Phrase.{Phrase}
@@ -14,7 +14,7 @@ says phrase.Silent = false
 says line = true
 
 -- the lines of a piece of work
-abbrev pub work_lines : Work → List Phrase
+abbrev pub work_lines : ClientTask → List Phrase
 work_lines (work.Once job) = phrase.Begin ∷ map phrase.Does job.ops ++ phrase.End ∷ []
 work_lines (work.Fill fill) = phrase.Fill fill ∷ []
 
@@ -28,7 +28,7 @@ clients_lines clients = flat_map client_lines clients
 
 -- the lines write the workload: no session is named twice, and the lines that say something are the number of points and then
 -- the clients; the first of them may be left out where there are no points
-abbrev pub IsWritten : List Phrase → Workload → Type 0
-IsWritten lines workload =
+abbrev pub IsWorkloadWritten : List Phrase → Workload → Type 0
+IsWorkloadWritten lines workload =
     IsDistinct nat_eq (map (λ (client : Client). client.session) workload.clients)
     × ((filter says lines ≡ phrase.Points workload.points ∷ clients_lines workload.clients) ⊎ ((workload.points ≡ 0) × (filter says lines ≡ clients_lines workload.clients)))

@@ -12,5 +12,5 @@ pub use dealing::{MOST_WORKERS, deal};
 pub use fills::FillJob;
 pub use phrases::{MOST_FILL, MOST_RUN_POINTS, Phrase};
 pub use prefixes::Prefix;
-pub use workloads::{Reading, read_workload};
-pub use works::{Client, Fill, Job, Op, Work, Workload};
+pub use workloads::{WorkloadReading, read_workload};
+pub use works::{Client, ClientTask, Fill, Job, Op, Workload};

@@ -4,19 +4,19 @@ ghost use Rattle.std.specs.List.{list_any};
 ghost use Rattle.pc_jobs.specs.declared.phrases.Phrase.{Phrase};
 ghost use Rattle.pc_jobs.specs.declared.works.Workload.{Workload};
 ghost use Rattle.pc_jobs.specs.Workloads.{is_points, is_client, is_client_of, is_open_behind, closes, is_bad, first_bad, workload_of, phrases_in, reading_of};
-ghost use Rattle.pc_jobs.specs.Written.{IsWritten};
+ghost use Rattle.pc_jobs.specs.Written.{IsWorkloadWritten};
 ghost use Rattle.pc_jobs.specs.Seeing.{seen_in, seen_behind};
 ghost use Rattle.pc_jobs.specs.Gathering.{gathered_of, closing};
 
 use crate::phrases::{Phrase, spelled};
-use crate::works::{Client, Job, Op, Work, Workload};
+use crate::works::{Client, ClientTask, Job, Op, Workload};
 use bstr::ByteSlice;
 use pc_types::{Items, Refusal, SessionNo};
 use std::alloc::{AllocError, Global};
 
 /// What the text of a workload is worth.
 #[derive(Drop)]
-pub enum Reading {
+pub enum WorkloadReading {
     /// No line is bad: this is to be run.
     Runs(Workload),
     /// The number of the first bad line, from 1. Nothing is to be run.
@@ -24,15 +24,15 @@ pub enum Reading {
 }
 
 /// Reads the text of a workload. Refuses only with `OutOfMemory`.
-pub fn read_workload(alloc: Global, text: &[u8]) -> Result<Reading, Refusal>
+pub fn read_workload(alloc: Global, text: &[u8]) -> Result<WorkloadReading, Refusal>
     ensures reading { IfOk result (λ reading. reading ≡ reading_of text.now) }
-    ensures written { IfOk result (λ reading. (workload : Workload) → reading ≡ Reading.Runs workload → IsWritten (phrases_in text.now) workload) }
+    ensures written { IfOk result (λ reading. (workload : Workload) → reading ≡ WorkloadReading.Runs workload → IsWorkloadWritten (phrases_in text.now) workload) }
     ensures refusals { IfErr result (λ e. e ≡ Refusal.OutOfMemory) }
 {
     let phrases = phrases_in(alloc, text)?;
     match first_bad(&phrases) {
-        Some(line) => Ok(Reading::BadLine(line)),
-        None => Ok(Reading::Runs(workload_of(alloc, phrases)?)),
+        Some(line) => Ok(WorkloadReading::BadLine(line)),
+        None => Ok(WorkloadReading::Runs(workload_of(alloc, phrases)?)),
     }
 }
 
@@ -166,7 +166,7 @@ struct Gathered {
     points: u32,
     clients: Items<Client>,
     // Of the client whose line comes next.
-    works: Items<Work>,
+    works: Items<ClientTask>,
     // Of the transaction whose begin comes next.
     ops: Items<Op>,
 }
@@ -222,11 +222,11 @@ fn with_line(alloc: Global, line: Phrase, behind: Gathered) -> Result<Gathered, 
             ops = Items::new(alloc);
         }
         Phrase::Begin => {
-            works.push(Work::Once(Job { ops: in_order(ops) }))?;
+            works.push(ClientTask::Once(Job { ops: in_order(ops) }))?;
             ops = Items::new(alloc);
         }
         Phrase::Fill(fill) => {
-            works.push(Work::Fill(fill))?;
+            works.push(ClientTask::Fill(fill))?;
             ops = Items::new(alloc);
         }
         Phrase::End | Phrase::Malformed => ops = Items::new(alloc),

@@ -31,7 +31,7 @@ pub struct Fill {
 
 /// A piece of a client's work.
 #[derive(Drop)]
-pub enum Work {
+pub enum ClientTask {
     /// One transaction.
     Once(Job),
     /// Many transactions, which are made one by one.
@@ -43,7 +43,7 @@ pub enum Work {
 pub struct Client {
     /// In a workload that was read, 1 to 64, and that of no other client.
     pub session: SessionNo,
-    pub works: Items<Work>,
+    pub works: Items<ClientTask>,
 }
 
 /// What all clients are to do, and how many points of consistency are to be taken meanwhile.

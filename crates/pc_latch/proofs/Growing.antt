@@ -7,7 +7,7 @@ use Rattle.pc_model.specs.Files.{File}
 use Rattle.pc_model.specs.Replies.{Setting}
 use Rattle.pc_model.specs.Calls.{IsBeginning}
 use Rattle.pc_model.proofs.BeginningLaws.{beginning_self, beginning_trans}
-use Rattle.pc_latch.specs.Tickets.{IsWorth, HaveGrown}
+use Rattle.pc_latch.specs.Tickets.{IsFileWorth, HaveGrown}
 
 pub grown_self : (hs : List History) → HaveGrown hs hs
 grown_self hs = (refl, λ k d lt. beginning_self (get_or hs k d))
@@ -25,7 +25,7 @@ grown_set old new i h g lt more = (length-set new i h ∙ g.0, at)
         (cases_eq k i)
 
 -- what the file is worth stays
-pub worth_grown : (st : Setting) (old new : List History) (file : File) → HaveGrown old new → IsWorth st old file → IsWorth st new file
+pub worth_grown : (st : Setting) (old new : List History) (file : File) → HaveGrown old new → IsFileWorth st old file → IsFileWorth st new file
 worth_grown st old new file g worth h legal begins =
     worth h legal (λ k d lt. beginning_trans (get_or old k d) (get_or new k d) h (g.1 k d lt) (begins k d (let e = g.0 in omega (arith, e, lt))))
 

@@ -20,7 +20,7 @@ use Rattle.pc_model.proofs.FileNumberLaws.{files_numbered}
 use Rattle.pc_engine.specs.Store.{Store, setting_of}
 use Rattle.pc_engine.specs.Stands.{Stands}
 use Rattle.pc_types.specs.declared.Refusal.{Refusal}
-use Rattle.pc_latch.specs.Tickets.{IsWorth, HasNoFile, IsNoTicket}
+use Rattle.pc_latch.specs.Tickets.{IsFileWorth, HasNoFile, IsNoTicket}
 
 all_left : {X : Type 0} (P : X → Type 0) (xs ys : List X) → All P (xs ++ ys) → All P xs
 all_left P xs ys all k d lt = subst P (get_or_append_left xs ys d k lt) (all k d (omega (arith, length-append xs ys, lt)))
@@ -28,15 +28,15 @@ all_left P xs ys all k d lt = subst P (get_or_append_left xs ys d k lt) (all k d
 all_right : {X : Type 0} (P : X → Type 0) (xs ys : List X) → All P (xs ++ ys) → All P ys
 all_right P xs ys all k d lt = subst P (get_or-append-add xs ys k d) (all (length xs + k) d (omega (arith, length-append xs ys, lt)))
 
-pub worth_same : (st : Setting) (xs ys : List History) (file : File) → ys ≡ xs → IsWorth st xs file → IsWorth st ys file
-worth_same st xs ys file is worth = subst (λ (hs : List History). IsWorth st hs file) (sym is) worth
+pub worth_same : (st : Setting) (xs ys : List History) (file : File) → ys ≡ xs → IsFileWorth st xs file → IsFileWorth st ys file
+worth_same st xs ys file is worth = subst (λ (hs : List History). IsFileWorth st hs file) (sym is) worth
 
-pub worth_joined : (st : Setting) (xs ys zs : List History) (a b file : File) → zs ≡ xs ++ ys → file ≡ joined_file a b → IsWorth st xs a → IsWorth st ys b → IsWorth st zs file
-worth_joined st xs ys zs a b file is of k m = subst (λ (y : List History × File). IsWorth st y.0 y.1) (λ i. (sym is i, sym of i))
+pub worth_joined : (st : Setting) (xs ys zs : List History) (a b file : File) → zs ≡ xs ++ ys → file ≡ joined_file a b → IsFileWorth st xs a → IsFileWorth st ys b → IsFileWorth st zs file
+worth_joined st xs ys zs a b file is of k m = subst (λ (y : List History × File). IsFileWorth st y.0 y.1) (λ i. (sym is i, sym of i))
     (λ h legal begins. joined_of_points st.run st.base (log_of h) a b (k h legal (all_left (λ (d : History). IsBeginning d h) xs ys begins)) (m h legal (all_right (λ (d : History). IsBeginning d h) xs ys begins)))
 
 -- a witness of the history, and a file that is that of its points by it
-pub worth_new : (st : Setting) (h w : History) (ws : List History) (file : File) → ws ≡ w ∷ [] → w ≡ h → IsOfItsPoints st.run st.base (log_of h) file → IsWorth st ws file
+pub worth_new : (st : Setting) (h w : History) (ws : List History) (file : File) → ws ≡ w ∷ [] → w ≡ h → IsOfItsPoints st.run st.base (log_of h) file → IsFileWorth st ws file
 worth_new st h w ws file is sees of = worth_same st (w ∷ []) ws file is
     (λ g legal begins. files_stay st h g file legal (subst (λ (l : History). IsBeginning l g) sees (All-head (λ (d : History). IsBeginning d g) w [] begins)) of)
 

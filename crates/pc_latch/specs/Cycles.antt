@@ -33,8 +33,8 @@ abbrev pub IsAdvance : Setting → History → Reply → History → Type 0
 IsAdvance st before reply after = IsCalled st before (next_event (phase_of before)) reply after
 
 -- it asked for a key of the point
-abbrev pub IsTaken : Setting → History → Reply → History → Type 0
-IsTaken st before reply after = IsCalled st before asked.Take reply after
+abbrev pub IsTakeCalled : Setting → History → Reply → History → Type 0
+IsTakeCalled st before reply after = IsCalled st before asked.Take reply after
 
 -- the phase that an effect enters, with its point, if it enters one
 abbrev pub entered_by : Effect → List (Phase × ℕ)

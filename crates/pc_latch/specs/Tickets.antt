@@ -13,8 +13,8 @@ abbrev pub BeginsWith : History → List History → Type 0
 BeginsWith history seen = All (λ h. IsBeginning h history) seen
 
 -- by whatever legal history begins with all of these the file is that of its points
-abbrev pub IsWorth : Setting → List History → File → Type 0
-IsWorth st seen file = (h : History) → IsLegalHistory st h → BeginsWith h seen → IsOfItsPoints st.run st.base (log_of h) file
+abbrev pub IsFileWorth : Setting → List History → File → Type 0
+IsFileWorth st seen file = (h : History) → IsLegalHistory st h → BeginsWith h seen → IsOfItsPoints st.run st.base (log_of h) file
 
 -- each is what it was, or has grown
 abbrev pub HaveGrown : List History → List History → Type 0

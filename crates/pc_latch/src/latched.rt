@@ -14,7 +14,7 @@ ghost use Rattle.pc_engine.specs.Store.{setting_of};
 ghost use Rattle.pc_engine.specs.Stands.{Stands, Follows};
 ghost use Rattle.pc_tie.specs.Seats.{MovesOn};
 ghost use Rattle.pc_latch.specs.Batches.{batch};
-ghost use Rattle.pc_latch.specs.Cycles.{next_event, IsCalled, IsAdvance, IsTaken};
+ghost use Rattle.pc_latch.specs.Cycles.{next_event, IsCalled, IsAdvance, IsTakeCalled};
 ghost use Rattle.pc_model.specs.Sets as set;
 ghost use Rattle.pc_latch.specs.Tickets.{HasNoFile, IsNoTicket};
 
@@ -147,7 +147,7 @@ impl<N: StoreName> Latched<N> {
     /// The checkpointer takes one key of the point.
     pub fn take(&mut self, tie: &Tie<N>, checkpointer: &mut CheckpointerSeat<N>) -> Reply
         ensures history { self.new ≡ step_of Take result ∷ self.old }
-        ensures called { IsTaken N.name.setting checkpointer.old result checkpointer.new }
+        ensures called { IsTakeCalled N.name.setting checkpointer.old result checkpointer.new }
     {
         self.call_own(tie, checkpointer, Event::Take)
     }

@@ -26,7 +26,7 @@ pub struct PartTicket<N: StoreName> {
 impl<N: StoreName> Model for PartTicket<N> {
     ghost use Rattle.pc_model.specs.Files.{File};
     ghost use Rattle.pc_part.specs.Parts.{file_code};
-    ghost use Rattle.pc_latch.specs.Tickets.{IsWorth};
+    ghost use Rattle.pc_latch.specs.Tickets.{IsFileWorth};
 
     ghost Value = { File };
 
@@ -34,7 +34,7 @@ impl<N: StoreName> Model for PartTicket<N> {
 
     ghost view = { λ t. t.part };
 
-    ghost invariant = { λ t. IsWorth N.name.setting t.witnesses.items t.part };
+    ghost invariant = { λ t. IsFileWorth N.name.setting t.witnesses.items t.part };
 }
 
 // The join of both parts.

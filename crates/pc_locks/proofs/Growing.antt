@@ -1,7 +1,7 @@
 -- The row of links grows, and an id is linked in.
 use Rattle.std.proofs.Common.{◌≡◌, ℕ, ◌≤◌, List, [], ◌∷◌, ◌++◌, length, Option, refl, sym, ◌∙◌, ap}
 use Rattle.pc_chain.specs.declared.chain.Chain.{Chain}
-use Rattle.pc_locks.specs.Lines.{next_in, ids_by, Become}
+use Rattle.pc_locks.specs.Lines.{next_in, ids_by, LineBecomes}
 use Rattle.pc_locks.specs.States.{SetsAt, AreAlike, is_listed}
 use Rattle.pc_locks.specs.Tables.{Nodes, requests, IsTable}
 use Rattle.pc_locks.specs.Keepers.{state_of, AreTied}
@@ -25,7 +25,7 @@ module _ (ends : ℕ → Chain ℕ) (nodes : Nodes) (links room : List (Option �
   pub alike_grown : AreAlike (state_of ends (record { nodes = nodes; links = room; entries = entries })) (state_of ends (record { nodes = nodes; links = links; entries = entries }))
   alike_grown = record { queues = λ u. ap (requests nodes) (ids_grown u); lists = refl }
 
-  pub pushed_ids : (new_links : List (Option ℕ)) (new_ends : ℕ → Chain ℕ) (s id : ℕ) → Become room new_links ends new_ends s (ids_by room ends s ++ id ∷ []) → SetsAt (ids_by links ends) (ids_by new_links new_ends) s (ids_by links ends s ++ id ∷ [])
+  pub pushed_ids : (new_links : List (Option ℕ)) (new_ends : ℕ → Chain ℕ) (s id : ℕ) → LineBecomes room new_links ends new_ends s (ids_by room ends s ++ id ∷ []) → SetsAt (ids_by links ends) (ids_by new_links new_ends) s (ids_by links ends s ++ id ∷ [])
   pushed_ids new_links new_ends s id b = record {
     this = b.this ∙ ap (λ xs. xs ++ id ∷ []) (ids_grown s);
     others = λ u n. b.others u n ∙ ids_grown u;

@@ -8,7 +8,7 @@ use Rattle.pc_model.specs.Queues.{stands_in, IsSettled}
 use Rattle.pc_locks.specs.Lines.{most, follow, ids_of, ids_by, IsLine, IsQueue, AreLines}
 use Rattle.pc_locks.specs.States.{State, queue_at, slots_of, is_listed, is_waiting, AreAlike}
 use Rattle.pc_locks.specs.Tables.{Nodes, requests}
-use Rattle.pc_locks.specs.Keepers.{Kept, queues_of, lists_of, state_of, AreEnds, AreSound, DifferWhereNone}
+use Rattle.pc_locks.specs.Keepers.{KeptRequests, queues_of, lists_of, state_of, AreEnds, AreLocksSound, DifferWhereNone}
 use Rattle.pc_locks.proofs.StateLaws.{linked_alike}
 use Rattle.pc_locks.proofs.Growing.{table_alike}
 
@@ -17,19 +17,19 @@ no_ids nodes [] e = refl
 no_ids nodes (x ∷ xs) e = absurd cc
 
 -- a slot without a request has ends of an empty queue
-pub empty_ends : (ends : ℕ → Chain ℕ) (kept : Kept) (slot : ℕ) → AreEnds ends kept → queue_at (queues_of ends kept) slot ≡ [] → IsEmpty (ends slot)
+pub empty_ends : (ends : ℕ → Chain ℕ) (kept : KeptRequests) (slot : ℕ) → AreEnds ends kept → queue_at (queues_of ends kept) slot ≡ [] → IsEmpty (ends slot)
 empty_ends ends kept slot a e =
     let line = subst (IsLine kept.links (ends slot)) (no_ids kept.nodes (ids_by kept.links ends slot) e) (a.tied.lines.line slot) in
     (line.first, line.last)
 
 -- where no slot has a request, any slots may have ends
-pub sound_none : (has : ℕ → Type 0) (ends : ℕ → Chain ℕ) (kept : Kept) → AreEnds ends kept → ((slot : ℕ) → queue_at (queues_of ends kept) slot ≡ []) → AreSound has ends kept
+pub sound_none : (has : ℕ → Type 0) (ends : ℕ → Chain ℕ) (kept : KeptRequests) → AreEnds ends kept → ((slot : ℕ) → queue_at (queues_of ends kept) slot ≡ []) → AreLocksSound has ends kept
 sound_none has ends kept a e = record {
   ends_are = a;
   held = λ slot t g. absurd (let f : false ≡ true = sym (ap (λ q. stands_in q t) (e slot)) ∙ g in cc);
 }
 
-module _ (ends new_ends : ℕ → Chain ℕ) (kept : Kept) (d : DifferWhereNone ends new_ends kept) where
+module _ (ends new_ends : ℕ → Chain ℕ) (kept : KeptRequests) (d : DifferWhereNone ends new_ends kept) where
   ids_stay : (slot : ℕ) → ids_by kept.links new_ends slot ≡ ids_by kept.links ends slot
   ids_stay slot = elim (d slot) [
     | inl e ↦ ap (ids_of kept.links) e
@@ -60,7 +60,7 @@ module _ (ends new_ends : ℕ → Chain ℕ) (kept : Kept) (d : DifferWhereNone 
   }
 
   -- where each slot that has a request has its ends still
-  pub other_sound : (has new_has : ℕ → Type 0) → ((slot t : ℕ) → stands_in (queue_at (queues_of ends kept) slot) t ≡ true → has slot → new_has slot) → AreSound has ends kept → AreSound new_has new_ends kept
+  pub other_sound : (has new_has : ℕ → Type 0) → ((slot t : ℕ) → stands_in (queue_at (queues_of ends kept) slot) t ≡ true → has slot → new_has slot) → AreLocksSound has ends kept → AreLocksSound new_has new_ends kept
   other_sound has new_has f a = record {
     ends_are = other_ends a.ends_are;
     held = λ slot t e. let h = ap (λ q. stands_in q t) (sym (other_state.queues slot)) ∙ e in f slot t h (a.held slot t h);

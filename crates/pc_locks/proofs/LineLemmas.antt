@@ -4,9 +4,9 @@ use Rattle.std.proofs.lemmas.Bool.{eqb-true, eq-eqb, ne_eqb, cases_eq, or_cases,
 use Rattle.std.proofs.lemmas.List.Folds.{list_any-append}
 use Rattle.pc_chain.specs.declared.chain.Chain.{Chain}
 use Rattle.pc_chain.specs.Chains as chains
-use Rattle.pc_chain.specs.Chains.{IsChain, Leads, AllHave, Avoids, AreApart}
+use Rattle.pc_chain.specs.Chains.{IsChain, Leads, AllHave, Avoids, AreDisjoint}
 use Rattle.pc_chain.proofs.ChainLaws.{have_from, chain_still, chain_fits}
-use Rattle.pc_locks.specs.Lines.{most, next_in, follow, ids_of, IsLine, AreLines, Become}
+use Rattle.pc_locks.specs.Lines.{most, next_in, follow, ids_of, IsLine, AreLines, LineBecomes}
 use Rattle.pc_locks.specs.States.{is_listed, first_of, rest_of, last_of}
 
 pub row_fits : (n : ℕ) → n < 2 ^ 64 → n ≤ most
@@ -39,7 +39,7 @@ pub unlisted_avoids : (id : ℕ) (xs : List ℕ) → Avoids id xs → is_listed 
 unlisted_avoids id [] a = refl
 unlisted_avoids id (x ∷ xs) a = rw (ne_eqb x id a.0) (unlisted_avoids id xs a.1)
 
-pub apart_lists : (xs ys : List ℕ) → ((id : ℕ) → is_listed ys id ≡ true → is_listed xs id ≡ false) → AreApart xs ys
+pub apart_lists : (xs ys : List ℕ) → ((id : ℕ) → is_listed ys id ≡ true → is_listed xs id ≡ false) → AreDisjoint xs ys
 apart_lists xs [] f = tt
 apart_lists xs (y ∷ ys) f =
     (avoids_unlisted y xs (f y (ap (λ b. b || is_listed ys y) (eq-eqb y y refl))), apart_lists xs ys (λ id e. f id (or_right (y == id) (is_listed ys id) e)))
@@ -50,7 +50,7 @@ others_lack links lines j k id a n e = false_from_ne_true (is_listed (ids_of lin
 
 pub become : (links new_links : List (Option ℕ)) (lines new_lines : ℕ → Chain ℕ) (k : ℕ) (new : List ℕ) → length new_links ≤ most → AreLines links lines → IsLine new_links (new_lines k) new →
     ((j : ℕ) → j ≢ k → IsLine new_links (new_lines j) (ids_of links (lines j))) →
-    ((id j : ℕ) → j ≢ k → is_listed new id ≡ true → is_listed (ids_of links (lines j)) id ≡ false) → Become links new_links lines new_lines k new
+    ((id j : ℕ) → j ≢ k → is_listed new id ≡ true → is_listed (ids_of links (lines j)) id ≡ false) → LineBecomes links new_links lines new_lines k new
 become links new_links lines new_lines k new h a l o s =
     let this = line_is new_links (new_lines k) new h l in
     let others : (j : ℕ) → j ≢ k → ids_of new_links (new_lines j) ≡ ids_of links (lines j) = λ j n. line_is new_links (new_lines j) (ids_of links (lines j)) h (o j n) in
@@ -89,8 +89,8 @@ no_end false e = absurd cc
 -- an id at the end of one
 pub become_pushed : (links new_links : List (Option ℕ)) (lines new_lines : ℕ → Chain ℕ) (k id : ℕ) → length new_links ≤ most → AreLines links lines → ((j : ℕ) → is_listed (ids_of links (lines j)) id ≡ false) →
     IsLine new_links (new_lines k) (ids_of links (lines k) ++ id ∷ []) →
-    ((ys : List ℕ) (other : Chain ℕ) → IsLine links other ys → AreApart (ids_of links (lines k)) ys → Avoids id ys → IsLine new_links other ys) →
-    ((j : ℕ) → j ≢ k → new_lines j ≡ lines j) → Become links new_links lines new_lines k (ids_of links (lines k) ++ id ∷ [])
+    ((ys : List ℕ) (other : Chain ℕ) → IsLine links other ys → AreDisjoint (ids_of links (lines k)) ys → Avoids id ys → IsLine new_links other ys) →
+    ((j : ℕ) → j ≢ k → new_lines j ≡ lines j) → LineBecomes links new_links lines new_lines k (ids_of links (lines k) ++ id ∷ [])
 become_pushed links new_links lines new_lines k id h a f l o same =
     become links new_links lines new_lines k (ids_of links (lines k) ++ id ∷ []) h a l
     (λ j n. subst (λ c. IsLine new_links c (ids_of links (lines j))) (sym (same j n))
@@ -103,8 +103,8 @@ become_pushed links new_links lines new_lines k id h a f l o same =
 -- fewer ids in one
 pub become_fewer : (links new_links : List (Option ℕ)) (lines new_lines : ℕ → Chain ℕ) (k : ℕ) (new : List ℕ) → length new_links ≤ most → AreLines links lines →
     ((id : ℕ) → is_listed new id ≡ true → is_listed (ids_of links (lines k)) id ≡ true) → IsLine new_links (new_lines k) new →
-    ((ys : List ℕ) (other : Chain ℕ) → IsLine links other ys → AreApart (ids_of links (lines k)) ys → IsLine new_links other ys) →
-    ((j : ℕ) → j ≢ k → new_lines j ≡ lines j) → Become links new_links lines new_lines k new
+    ((ys : List ℕ) (other : Chain ℕ) → IsLine links other ys → AreDisjoint (ids_of links (lines k)) ys → IsLine new_links other ys) →
+    ((j : ℕ) → j ≢ k → new_lines j ≡ lines j) → LineBecomes links new_links lines new_lines k new
 become_fewer links new_links lines new_lines k new h a f l o same =
     become links new_links lines new_lines k new h a l
     (λ j n. subst (λ c. IsLine new_links c (ids_of links (lines j))) (sym (same j n))

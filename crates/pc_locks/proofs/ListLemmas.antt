@@ -7,9 +7,9 @@ use Rattle.std.specs.BTreeMap.{is_at}
 use Rattle.std.specs.Ordering.{nat_cmp}
 use Rattle.pc_chain.specs.declared.chain.Chain.{Chain}
 use Rattle.pc_chain.specs.Chains as chains
-use Rattle.pc_chain.specs.Chains.{Avoids, AreApart}
+use Rattle.pc_chain.specs.Chains.{Avoids, AreDisjoint}
 use Rattle.pc_locks.specs.declared.ends.Ends.{Ends}
-use Rattle.pc_locks.specs.Lines.{most, next_in, ids_of, IsLine, AreLines, AreLists, Become, ends_at, no_ends, entry_ids}
+use Rattle.pc_locks.specs.Lines.{most, next_in, ids_of, IsLine, AreLines, AreIdLists, LineBecomes, ends_at, no_ends, entry_ids}
 use Rattle.pc_locks.specs.States.{slots_of, is_listed, first_of, rest_of, last_of, AreFilled}
 use Rattle.pc_locks.proofs.LineLemmas.{become_pushed, become_fewer, avoids_unlisted, ids_same, lines_same, lines_none, rest_listed, same_first, same_rest}
 
@@ -32,7 +32,7 @@ found_known links (e ∷ es) t = by (is_at (nat_cmp t) e.0) (found_known links e
     by true h = refl
     by false h = h
 
-pub lists_last : (links : List (Option ℕ)) (entries : List (ℕ × Ends)) (t : ℕ) (ends : Ends) → AreLists links entries → ends ≡ ends_at entries t → ends.last ≡ last_of (slots_of (entry_ids links entries) t)
+pub lists_last : (links : List (Option ℕ)) (entries : List (ℕ × Ends)) (t : ℕ) (ends : Ends) → AreIdLists links entries → ends ≡ ends_at entries t → ends.last ≡ last_of (slots_of (entry_ids links entries) t)
 lists_last links entries t ends a e = ap (λ (x : Ends). x.last) e ∙ (a.lasts t ∙ ap last_of (sym (found_ids links entries t)))
 
 -- the lists are chains and have their last ids, whether they are empty or not
@@ -40,31 +40,31 @@ pub record AreEnded (links : List (Option ℕ)) (entries : List (ℕ × Ends)) :
   pub lines : AreLines links (λ t. (ends_at entries t).chain)
   pub lasts : (t : ℕ) → (ends_at entries t).last ≡ last_of (ids_of links (ends_at entries t).chain)
 
-pub lists_ended : (links : List (Option ℕ)) (entries : List (ℕ × Ends)) → AreLists links entries → AreEnded links entries
+pub lists_ended : (links : List (Option ℕ)) (entries : List (ℕ × Ends)) → AreIdLists links entries → AreEnded links entries
 lists_ended links entries a = record { lines = a.lines; lasts = a.lasts }
 
 pub ended_line : (links : List (Option ℕ)) (entries : List (ℕ × Ends)) (t : ℕ) (ends : Ends) → AreEnded links entries → ends ≡ ends_at entries t → IsLine links ends.chain (slots_of (entry_ids links entries) t)
 ended_line links entries t ends a e =
     subst (IsLine links ends.chain) (sym (found_ids links entries t)) (subst (λ (x : Ends). IsLine links x.chain (ids_of links (ends_at entries t).chain)) (sym e) (a.lines.line t))
 
-pub lists_line : (links : List (Option ℕ)) (entries : List (ℕ × Ends)) (t : ℕ) (ends : Ends) → AreLists links entries → ends ≡ ends_at entries t → IsLine links ends.chain (slots_of (entry_ids links entries) t)
+pub lists_line : (links : List (Option ℕ)) (entries : List (ℕ × Ends)) (t : ℕ) (ends : Ends) → AreIdLists links entries → ends ≡ ends_at entries t → IsLine links ends.chain (slots_of (entry_ids links entries) t)
 lists_line links entries t ends a e = ended_line links entries t ends (lists_ended links entries a) e
 
 -- the entries of all others have ids
 abbrev pub AreFilledBeside : List (Option ℕ) → List (ℕ × Ends) → ℕ → Type 0
 AreFilledBeside links entries t = (u : ℕ) → u ≢ t → is_some (lookup (is_at (nat_cmp u)) entries) ≡ true → is_some (first_of (slots_of (entry_ids links entries) u)) ≡ true
 
-pub filled_beside : (links : List (Option ℕ)) (entries : List (ℕ × Ends)) (t : ℕ) → AreLists links entries → AreFilledBeside links entries t
+pub filled_beside : (links : List (Option ℕ)) (entries : List (ℕ × Ends)) (t : ℕ) → AreIdLists links entries → AreFilledBeside links entries t
 filled_beside links entries t a = λ u n k. a.filled u (found_known links entries u ∙ k)
 
 -- one transaction's list became this one, and the others stayed
 pub record Changed (links new_links : List (Option ℕ)) (entries new_entries : List (ℕ × Ends)) (t : ℕ) (new : List ℕ) : Type 0 where
-  pub lists : AreLists new_links new_entries
+  pub lists : AreIdLists new_links new_entries
   pub this : slots_of (entry_ids new_links new_entries) t ≡ new
   pub others : (u : ℕ) → u ≢ t → slots_of (entry_ids new_links new_entries) u ≡ slots_of (entry_ids links entries) u
 
 changed : (links new_links : List (Option ℕ)) (entries new_entries : List (ℕ × Ends)) (t : ℕ) (ends : Ends) (new : List ℕ) → AreEnded links entries → AreFilledBeside links entries t →
-    Become links new_links (λ u. (ends_at entries u).chain) (λ u. (ends_at new_entries u).chain) t new → ends_at new_entries t ≡ ends → ends.last ≡ last_of new →
+    LineBecomes links new_links (λ u. (ends_at entries u).chain) (λ u. (ends_at new_entries u).chain) t new → ends_at new_entries t ≡ ends → ends.last ≡ last_of new →
     (is_some (lookup (is_at (nat_cmp t)) new_entries) ≡ true → is_some (first_of new) ≡ true) →
     ((u : ℕ) → u ≢ t → lookup (is_at (nat_cmp u)) new_entries ≡ lookup (is_at (nat_cmp u)) entries) → Changed links new_links entries new_entries t new
 changed links new_links entries new_entries t ends new a g b e l f o =
@@ -101,7 +101,7 @@ some_end (x ∷ xs) id = refl
 pub changed_push : (links new_links : List (Option ℕ)) (entries new_entries : List (ℕ × Ends)) (t id : ℕ) (ends new_ends : Ends) → length new_links ≤ most → AreEnded links entries → AreFilledBeside links entries t → ends ≡ ends_at entries t →
     ((u : ℕ) → is_listed (slots_of (entry_ids links entries) u) id ≡ false) →
     ((xs : List ℕ) → IsLine links ends.chain xs → Avoids id xs → IsLine new_links new_ends.chain (xs ++ id ∷ [])) →
-    ((xs ys : List ℕ) (other : Chain ℕ) → IsLine links ends.chain xs → IsLine links other ys → AreApart xs ys → Avoids id ys → IsLine new_links other ys) →
+    ((xs ys : List ℕ) (other : Chain ℕ) → IsLine links ends.chain xs → IsLine links other ys → AreDisjoint xs ys → Avoids id ys → IsLine new_links other ys) →
     new_ends.last ≡ Some id → ends_at new_entries t ≡ new_ends → ((u : ℕ) → u ≢ t → lookup (is_at (nat_cmp u)) new_entries ≡ lookup (is_at (nat_cmp u)) entries) →
     Changed links new_links entries new_entries t (slots_of (entry_ids links entries) t ++ id ∷ [])
 changed_push links new_links entries new_entries t id ends new_ends h a g e f l o last this others =
@@ -124,7 +124,7 @@ none_left : (xs : List ℕ) → is_some (first_of xs) ≡ false → xs ≡ []
 none_left [] e = refl
 none_left (x ∷ xs) e = absurd cc
 
-changed_rest : (links : List (Option ℕ)) (entries new_entries : List (ℕ × Ends)) (t : ℕ) (ends : Ends) → length links ≤ most → AreLists links entries →
+changed_rest : (links : List (Option ℕ)) (entries new_entries : List (ℕ × Ends)) (t : ℕ) (ends : Ends) → length links ≤ most → AreIdLists links entries →
     IsLine links ends.chain (rest_of (ids_of links (ends_at entries t).chain)) → ends.last ≡ last_of (rest_of (ids_of links (ends_at entries t).chain)) →
     ends_at new_entries t ≡ ends → (is_some (lookup (is_at (nat_cmp t)) new_entries) ≡ true → is_some (first_of (rest_of (ids_of links (ends_at entries t).chain))) ≡ true) →
     ((u : ℕ) → u ≢ t → lookup (is_at (nat_cmp u)) new_entries ≡ lookup (is_at (nat_cmp u)) entries) →
@@ -138,7 +138,7 @@ changed_rest links entries new_entries t ends h a line last this fill others =
     this last fill others)
 
 -- the chain without its first, where some are left
-pub changed_pop : (links : List (Option ℕ)) (entries new_entries : List (ℕ × Ends)) (t : ℕ) (ends new_ends : Ends) (first : Option ℕ) → length links ≤ most → AreLists links entries → ends ≡ ends_at entries t →
+pub changed_pop : (links : List (Option ℕ)) (entries new_entries : List (ℕ × Ends)) (t : ℕ) (ends new_ends : Ends) (first : Option ℕ) → length links ≤ most → AreIdLists links entries → ends ≡ ends_at entries t →
     ((xs : List ℕ) → IsLine links ends.chain xs → IsLine links new_ends.chain (chains.rest_of xs)) → ((xs : List ℕ) → IsLine links new_ends.chain xs → first ≡ chains.first_of xs) →
     is_some first ≡ true → new_ends.last ≡ ends.last →
     ends_at new_entries t ≡ new_ends → ((u : ℕ) → u ≢ t → lookup (is_at (nat_cmp u)) new_entries ≡ lookup (is_at (nat_cmp u)) entries) →
@@ -151,7 +151,7 @@ changed_pop links entries new_entries t ends new_ends first h a e l f s last thi
     changed_rest links entries new_entries t new_ends h a new_line (last ∙ (ap (λ (x : Ends). x.last) e ∙ (a.lasts t ∙ last_left xs some))) this (λ k. some) others
 
 -- and where none is
-pub changed_away : (links : List (Option ℕ)) (entries new_entries : List (ℕ × Ends)) (t : ℕ) (ends new_ends : Ends) (first : Option ℕ) → length links ≤ most → AreLists links entries → ends ≡ ends_at entries t →
+pub changed_away : (links : List (Option ℕ)) (entries new_entries : List (ℕ × Ends)) (t : ℕ) (ends new_ends : Ends) (first : Option ℕ) → length links ≤ most → AreIdLists links entries → ends ≡ ends_at entries t →
     ((xs : List ℕ) → IsLine links ends.chain xs → IsLine links new_ends.chain (chains.rest_of xs)) → ((xs : List ℕ) → IsLine links new_ends.chain xs → first ≡ chains.first_of xs) →
     is_some first ≡ false →
     lookup (is_at (nat_cmp t)) new_entries ≡ None → ((u : ℕ) → u ≢ t → lookup (is_at (nat_cmp u)) new_entries ≡ lookup (is_at (nat_cmp u)) entries) →
@@ -170,7 +170,7 @@ entries_same links new_links [] f = refl
 entries_same links new_links (e ∷ es) f = rw (ids_same links new_links e.1.chain f, entries_same links new_links es f)
 
 pub ended_same : (links new_links : List (Option ℕ)) (entries new_entries : List (ℕ × Ends)) → ((id : ℕ) → next_in new_links id ≡ next_in links id) → length links ≤ length new_links →
-    ((t : ℕ) → ends_at new_entries t ≡ ends_at entries t) → AreLists links entries → AreEnded new_links new_entries
+    ((t : ℕ) → ends_at new_entries t ≡ ends_at entries t) → AreIdLists links entries → AreEnded new_links new_entries
 ended_same links new_links entries new_entries f h s a =
     let moved : AreLines links (λ t. (ends_at new_entries t).chain) = record {
       line = λ t. subst (λ (x : Ends). IsLine links x.chain (ids_of links x.chain)) (sym (s t)) (a.lines.line t);
@@ -187,12 +187,12 @@ slots_same links new_links entries new_entries t f s =
     found_ids new_links new_entries t ∙ (ids_same links new_links (ends_at new_entries t).chain f ∙ (ap (λ (x : Ends). ids_of links x.chain) (s t) ∙ sym (found_ids links entries t)))
 
 pub beside_same : (links new_links : List (Option ℕ)) (entries new_entries : List (ℕ × Ends)) (t : ℕ) → ((id : ℕ) → next_in new_links id ≡ next_in links id) → ((u : ℕ) → ends_at new_entries u ≡ ends_at entries u) →
-    ((u : ℕ) → u ≢ t → lookup (is_at (nat_cmp u)) new_entries ≡ lookup (is_at (nat_cmp u)) entries) → AreLists links entries → AreFilledBeside new_links new_entries t
+    ((u : ℕ) → u ≢ t → lookup (is_at (nat_cmp u)) new_entries ≡ lookup (is_at (nat_cmp u)) entries) → AreIdLists links entries → AreFilledBeside new_links new_entries t
 beside_same links new_links entries new_entries t f s o a = λ u n k.
     ap (λ xs. is_some (first_of xs)) (slots_same links new_links entries new_entries u f s) ∙ filled_beside links entries t a u n (ap is_some (sym (o u n)) ∙ k)
 
 pub lists_same : (links new_links : List (Option ℕ)) (entries new_entries : List (ℕ × Ends)) → ((id : ℕ) → next_in new_links id ≡ next_in links id) → length links ≤ length new_links →
-    new_entries ≡ entries → AreLists links entries → AreLists new_links new_entries
+    new_entries ≡ entries → AreIdLists links entries → AreIdLists new_links new_entries
 lists_same links new_links entries new_entries f h s a =
     let same : (t : ℕ) → ends_at new_entries t ≡ ends_at entries t = λ t. ap (λ es. ends_at es t) s in
     let ended = ended_same links new_links entries new_entries f h same a in
@@ -210,8 +210,8 @@ known_listed links entries t id e = by (lookup (is_at (nat_cmp t)) entries) (e �
     by None f = absurd cc
     by (Some ends) f = refl
 
-pub lists_new : (links : List (Option ℕ)) (entries : List (ℕ × Ends)) → entries ≡ [] → AreLists links entries
-lists_new links entries e = subst (AreLists links) (sym e) (record { lines = lines_none links (λ t. no_ends.chain) (λ k. refl) (λ k. refl); lasts = λ t. refl; filled = λ t k. absurd (let z : false ≡ true = k in cc) })
+pub lists_new : (links : List (Option ℕ)) (entries : List (ℕ × Ends)) → entries ≡ [] → AreIdLists links entries
+lists_new links entries e = subst (AreIdLists links) (sym e) (record { lines = lines_none links (λ t. no_ends.chain) (λ k. refl) (λ k. refl); lasts = λ t. refl; filled = λ t k. absurd (let z : false ≡ true = k in cc) })
 
 -- what a first id tells of the rest
 pub given_none : (xs : List ℕ) → None ≡ first_of xs → xs ≡ rest_of xs

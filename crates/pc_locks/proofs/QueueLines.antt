@@ -3,16 +3,16 @@ use Rattle.std.proofs.Common.{◌≡◌, ◌≢◌, ℕ, ◌<◌, ◌≤◌, Lis
 use Rattle.std.proofs.lemmas.Bool.{or_cases, or_right}
 use Rattle.pc_chain.specs.declared.chain.Chain.{Chain}
 use Rattle.pc_chain.specs.Chains as chains
-use Rattle.pc_chain.specs.Chains.{Avoids, AreApart, Leads}
-use Rattle.pc_locks.specs.Lines.{most, next_in, ids_of, ids_by, IsLine, IsQueue, AreLines, Become}
+use Rattle.pc_chain.specs.Chains.{Avoids, AreDisjoint, Leads}
+use Rattle.pc_locks.specs.Lines.{most, next_in, ids_of, ids_by, IsLine, IsQueue, AreLines, LineBecomes}
 use Rattle.pc_locks.specs.States.{is_listed, first_of, rest_of, last_of}
 use Rattle.pc_locks.proofs.LineLemmas.{become_pushed, become_fewer, avoids_unlisted, same_first, same_rest, same_last}
 
 -- an id at the end of the slot's list
 pub slot_push : (links new_links : List (Option ℕ)) (ends new_ends : ℕ → Chain ℕ) (s id : ℕ) (old chain : Chain ℕ) → length new_links ≤ most → AreLines links ends → old ≡ ends s → ((u : ℕ) → is_listed (ids_by links ends u) id ≡ false) →
     ((xs : List ℕ) → IsLine links old xs → Avoids id xs → IsLine new_links chain (xs ++ id ∷ [])) →
-    ((xs ys : List ℕ) (other : Chain ℕ) → IsLine links old xs → IsLine links other ys → AreApart xs ys → Avoids id ys → IsLine new_links other ys) →
-    new_ends s ≡ chain → ((u : ℕ) → u ≢ s → new_ends u ≡ ends u) → Become links new_links ends new_ends s (ids_by links ends s ++ id ∷ [])
+    ((xs ys : List ℕ) (other : Chain ℕ) → IsLine links old xs → IsLine links other ys → AreDisjoint xs ys → Avoids id ys → IsLine new_links other ys) →
+    new_ends s ≡ chain → ((u : ℕ) → u ≢ s → new_ends u ≡ ends u) → LineBecomes links new_links ends new_ends s (ids_by links ends s ++ id ∷ [])
 slot_push links new_links ends new_ends s id old chain h a e f l o n m =
     let xs = ids_of links (ends s) in
     let line : IsLine links old xs = subst (λ c. IsLine links c xs) (sym e) (a.line s) in
@@ -32,15 +32,15 @@ fewer_listed (x ∷ xs) rest id e = elim (or_cases (x == id) (is_listed (xs ++ r
 pub slot_remove : (links new_links : List (Option ℕ)) (ends new_ends : ℕ → Chain ℕ) (s : ℕ) (old chain : Chain ℕ) (previous : Option ℕ) (before rest : List ℕ) → length new_links ≤ most → AreLines links ends → old ≡ ends s →
     ids_by links ends s ≡ before ++ rest → previous ≡ last_of before →
     ((b r : List ℕ) → IsLine links old (b ++ r) → previous ≡ chains.last_of b → IsLine new_links chain (b ++ chains.rest_of r)) →
-    ((b r ys : List ℕ) (other : Chain ℕ) → IsLine links old (b ++ r) → previous ≡ chains.last_of b → IsLine links other ys → AreApart (b ++ r) ys → IsLine new_links other ys) →
-    new_ends s ≡ chain → ((u : ℕ) → u ≢ s → new_ends u ≡ ends u) → Become links new_links ends new_ends s (before ++ rest_of rest)
+    ((b r ys : List ℕ) (other : Chain ℕ) → IsLine links old (b ++ r) → previous ≡ chains.last_of b → IsLine links other ys → AreDisjoint (b ++ r) ys → IsLine new_links other ys) →
+    new_ends s ≡ chain → ((u : ℕ) → u ≢ s → new_ends u ≡ ends u) → LineBecomes links new_links ends new_ends s (before ++ rest_of rest)
 slot_remove links new_links ends new_ends s old chain previous before rest h a e parts p l o n m =
     let line : IsLine links old (before ++ rest) = subst (IsLine links old) parts (subst (λ c. IsLine links c (ids_of links (ends s))) (sym e) (a.line s)) in
     let q : previous ≡ chains.last_of before = p ∙ sym (same_last before) in
     become_fewer links new_links ends new_ends s (before ++ rest_of rest) h a
     (λ id f. ap (λ ys. is_listed ys id) parts ∙ fewer_listed before rest id f)
     (subst (λ c. IsLine new_links c (before ++ rest_of rest)) (sym n) (subst (λ ys. IsLine new_links chain (before ++ ys)) (same_rest rest) (l before rest line q)))
-    (λ ys other c ap_. o before rest ys other line q c (subst (λ zs. AreApart zs ys) parts ap_)) m
+    (λ ys other c ap_. o before rest ys other line q c (subst (λ zs. AreDisjoint zs ys) parts ap_)) m
 
 next_of_listed : (next : ℕ → Option ℕ) (before rest : List ℕ) (id : ℕ) → Leads next (before ++ id ∷ rest) → next id ≡ chains.first_of rest
 next_of_listed next [] rest id l = l.0

@@ -12,7 +12,7 @@ use Rattle.pc_locks.specs.declared.table.RequestTable.{RequestTable}
 use Rattle.pc_locks.specs.Lines.{Listed, most, follow, ids_by}
 use Rattle.pc_locks.specs.States.{Queues, State, queue_at, slots_of, slots_after, first_of, rest_of, is_listed, is_waiting, SetsAt, AreAlike, AreAmong}
 use Rattle.pc_locks.specs.Tables.{Nodes, node_at, request_at, place_of, requests, IsOwn}
-use Rattle.pc_locks.specs.Keepers.{Kept, kept_of, queues_of, lists_of, state_of, AreTied, AreEnds, AreSound}
+use Rattle.pc_locks.specs.Keepers.{KeptRequests, kept_of, queues_of, lists_of, state_of, AreTied, AreEnds, AreLocksSound}
 use Rattle.pc_locks.proofs.SlotLaws.{sets_cases}
 use Rattle.pc_locks.proofs.StateLaws.{ready_at}
 use Rattle.pc_locks.proofs.LineLemmas.{lines_none}
@@ -28,13 +28,13 @@ ids_none : (links : List (Option ℕ)) (ends : ℕ → Chain ℕ) → ((u : ℕ)
 ids_none links ends e u = ap (follow links most) (e u).0
 
 -- beside any ends of empty queues
-pub ends_new : (ends : ℕ → Chain ℕ) (kept : Kept) → kept.nodes ≡ [] → kept.entries ≡ [] → ((u : ℕ) → IsEmpty (ends u)) → AreEnds ends kept
+pub ends_new : (ends : ℕ → Chain ℕ) (kept : KeptRequests) → kept.nodes ≡ [] → kept.entries ≡ [] → ((u : ℕ) → IsEmpty (ends u)) → AreEnds ends kept
 ends_new ends kept g f e =
     let ids = ids_by kept.links ends in
     keep_ends ends kept (lines_none kept.links ends (λ u. (e u).0) (λ u. (e u).1))
     (subst (λ ns. Keeps ns ids kept.entries) (sym g) (subst (λ es. Keeps [] ids es) (sym f) (keeps_new ids (ids_none kept.links ends e))))
 
-pub queues_new : (ends : ℕ → Chain ℕ) (kept : Kept) → ((u : ℕ) → IsEmpty (ends u)) → (u : ℕ) → queue_at (queues_of ends kept) u ≡ []
+pub queues_new : (ends : ℕ → Chain ℕ) (kept : KeptRequests) → ((u : ℕ) → IsEmpty (ends u)) → (u : ℕ) → queue_at (queues_of ends kept) u ≡ []
 queues_new ends kept e u = ap (requests kept.nodes) (ids_none kept.links ends e u)
 
 among_set : (has new_has : ℕ → Type 0) (queues new_queues : Queues) (s : ℕ) (q : Queue) → SetsAt queues new_queues s q → new_has s → ((u : ℕ) → has u → new_has u) → AreAmong has queues → AreAmong new_has new_queues
@@ -49,11 +49,11 @@ among_result (Ok x) new has new_has a b s h e n f k = among_set has new_has a.qu
 among_result (Err x) new has new_has a b s h e n f k = λ u t g. f u (k u t (ap (λ q. stands_in q t) (sym (e.queues u)) ∙ g))
 
 -- the transaction waits nowhere
-pub ready_of : (ends : ℕ → Chain ℕ) (kept : Kept) (t : ℕ) → AreEnds ends kept → is_waiting (state_of ends kept) t ≡ false → (u : ℕ) → is_ungranted (request_in (queue_at (queues_of ends kept) u) t) ≡ false
+pub ready_of : (ends : ℕ → Chain ℕ) (kept : KeptRequests) (t : ℕ) → AreEnds ends kept → is_waiting (state_of ends kept) t ≡ false → (u : ℕ) → is_ungranted (request_in (queue_at (queues_of ends kept) u) t) ≡ false
 ready_of ends kept t a e = ready_at (queues_of ends kept) (lists_of kept) t a.settled.linked e
 
 -- the own request answered again, in a queue with these ids
-pub answered_in : (ends : ℕ → Chain ℕ) (kept : Kept) (new_nodes : Nodes) (xs : List ℕ) (s t : ℕ) (previous : Option ℕ) (id : ℕ) (mode : Mode) (o : Outcome) → AreEnds ends kept → xs ≡ ids_by kept.links ends s →
+pub answered_in : (ends : ℕ → Chain ℕ) (kept : KeptRequests) (new_nodes : Nodes) (xs : List ℕ) (s t : ℕ) (previous : Option ℕ) (id : ℕ) (mode : Mode) (o : Outcome) → AreEnds ends kept → xs ≡ ids_by kept.links ends s →
     is_waiting (state_of ends kept) t ≡ false → IsOwn kept.nodes xs t previous id →
     o ≡ outcome_beside (requests kept.nodes xs) t mode (Some (request_at kept.nodes id)) → requests new_nodes xs ≡ queue_after (requests kept.nodes xs) t mode o →
     ((x : ℕ) → place_of (node_at new_nodes x) ≡ place_of (node_at kept.nodes x)) → ((x : ℕ) → is_listed xs x ≡ false → node_at new_nodes x ≡ node_at kept.nodes x) →
@@ -65,21 +65,21 @@ answered_in ends kept new_nodes xs s t previous id mode o a e w own told queue p
     (subst (λ ys. requests new_nodes ys ≡ queue_after (requests kept.nodes ys) t mode o) e queue)
     places (subst (λ ys. (x : ℕ) → is_listed ys x ≡ false → node_at new_nodes x ≡ node_at kept.nodes x) e others)
 
-pub sound_answered : (has : ℕ → Type 0) (ends : ℕ → Chain ℕ) (kept : Kept) (new_nodes : Nodes) (s t : ℕ) (mode : Mode) (o : Outcome) → AreSound has ends kept → has s → Answered kept.nodes new_nodes (ids_by kept.links ends) kept.entries s t mode o →
-    AreSound has ends (record { nodes = new_nodes; links = kept.links; entries = kept.entries })
+pub sound_answered : (has : ℕ → Type 0) (ends : ℕ → Chain ℕ) (kept : KeptRequests) (new_nodes : Nodes) (s t : ℕ) (mode : Mode) (o : Outcome) → AreLocksSound has ends kept → has s → Answered kept.nodes new_nodes (ids_by kept.links ends) kept.entries s t mode o →
+    AreLocksSound has ends (record { nodes = new_nodes; links = kept.links; entries = kept.entries })
 sound_answered has ends kept new_nodes s t mode o a n d = record {
   ends_are = keep_ends ends (record { nodes = new_nodes; links = kept.links; entries = kept.entries }) a.ends_are.tied.lines d.keeps;
   held = among_set has has _ _ s _ d.queues n (λ u h. h) a.held;
 }
 
 -- the first request answered
-pub sound_first : {A E : Type 0} (result : Result A E) (told : A → Outcome) (has new_has : ℕ → Type 0) (ends new_ends : ℕ → Chain ℕ) (kept new_kept : Kept) (s t : ℕ) (mode : Mode) → AreSound has ends kept → new_has s → ((u : ℕ) → has u → new_has u) →
+pub sound_first : {A E : Type 0} (result : Result A E) (told : A → Outcome) (has new_has : ℕ → Type 0) (ends new_ends : ℕ → Chain ℕ) (kept new_kept : KeptRequests) (s t : ℕ) (mode : Mode) → AreLocksSound has ends kept → new_has s → ((u : ℕ) → has u → new_has u) →
     stands_in (queue_at (queues_of ends kept) s) t ≡ false → is_waiting (state_of ends kept) t ≡ false → AreTied new_ends new_kept →
     IfOk result (λ a. told a ≡ outcome_of_new (queue_at (queues_of ends kept) s) t mode) →
     IfOk result (λ a. SetsAt (queues_of ends kept) (queues_of new_ends new_kept) s (queue_after (queue_at (queues_of ends kept) s) t mode (told a))) →
     IfOk result (λ a. slots_of (lists_of new_kept) t ≡ slots_after (slots_of (lists_of kept) t) s false (told a)) →
     ((u : ℕ) → u ≢ t → slots_of (lists_of new_kept) u ≡ slots_of (lists_of kept) u) →
-    OnErr result (AreAlike (state_of new_ends new_kept) (state_of ends kept)) → AreSound new_has new_ends new_kept
+    OnErr result (AreAlike (state_of new_ends new_kept) (state_of ends kept)) → AreLocksSound new_has new_ends new_kept
 sound_first result told has new_has ends new_ends kept new_kept s t mode a n f fresh w tied o q l others err = record {
   ends_are = keep_ends new_ends new_kept tied.lines
       (keeps_first result told kept.nodes new_kept.nodes (ids_by kept.links ends) (ids_by new_kept.links new_ends) kept.entries new_kept.entries s t mode
@@ -88,7 +88,7 @@ sound_first result told has new_has ends new_ends kept new_kept s t mode a n f f
 }
 
 -- a request taken out, and others granted, in a queue with these ids
-pub released_in : (ends new_ends : ℕ → Chain ℕ) (kept taken : Kept) (new_nodes : Nodes) (xs : List ℕ) (s t : ℕ) → AreEnds ends kept → AreTied new_ends taken → xs ≡ ids_by taken.links new_ends s →
+pub released_in : (ends new_ends : ℕ → Chain ℕ) (kept taken : KeptRequests) (new_nodes : Nodes) (xs : List ℕ) (s t : ℕ) → AreEnds ends kept → AreTied new_ends taken → xs ≡ ids_by taken.links new_ends s →
     Some s ≡ first_of (slots_of (lists_of kept) t) → slots_of (lists_of taken) t ≡ rest_of (slots_of (lists_of kept) t) → ((u : ℕ) → u ≢ t → slots_of (lists_of taken) u ≡ slots_of (lists_of kept) u) →
     SetsAt (queues_of ends kept) (queues_of new_ends taken) s (filter (λ r. not (r.transaction == t)) (queue_at (queues_of ends kept) s)) →
     requests new_nodes xs ≡ granted_behind [] (requests taken.nodes xs) →
@@ -99,9 +99,9 @@ released_in ends new_ends kept taken new_nodes xs s t a tied e given list lists 
     (subst (λ ys. requests new_nodes ys ≡ granted_behind [] (requests taken.nodes ys)) e granted)
     places (subst (λ ys. (x : ℕ) → is_listed ys x ≡ false → node_at new_nodes x ≡ node_at taken.nodes x) e others)
 
-pub sound_released : (has new_has : ℕ → Type 0) (ends new_ends : ℕ → Chain ℕ) (kept taken : Kept) (new_nodes : Nodes) (s t : ℕ) → AreSound has ends kept → AreTied new_ends taken → new_has s → ((u : ℕ) → has u → new_has u) →
+pub sound_released : (has new_has : ℕ → Type 0) (ends new_ends : ℕ → Chain ℕ) (kept taken : KeptRequests) (new_nodes : Nodes) (s t : ℕ) → AreLocksSound has ends kept → AreTied new_ends taken → new_has s → ((u : ℕ) → has u → new_has u) →
     Released kept.nodes taken.nodes new_nodes (ids_by kept.links ends) (ids_by taken.links new_ends) kept.entries taken.entries s t →
-    AreSound new_has new_ends (record { nodes = new_nodes; links = taken.links; entries = taken.entries })
+    AreLocksSound new_has new_ends (record { nodes = new_nodes; links = taken.links; entries = taken.entries })
 sound_released has new_has ends new_ends kept taken new_nodes s t a tied n f r = record {
   ends_are = keep_ends new_ends (record { nodes = new_nodes; links = taken.links; entries = taken.entries }) tied.lines r.keeps;
   held = among_set has new_has _ _ s _ r.queues n f a.held;

@@ -10,7 +10,7 @@ use Rattle.pc_types.specs.declared.Request.{Request}
 use Rattle.pc_model.specs.Locks.{Queue, are_compatible, request_in, granted_behind, with_request, queue_after, queue_without, outcome_beside, is_ungranted, is_exclusive, stronger}
 use Rattle.pc_types.specs.declared.Outcome.TheVariants.{Granted, Queued, Died}
 use Rattle.pc_model.specs.Queues.{stands_in, grant}
-use Rattle.pc_locks.specs.States.{Lists, Queues, slots_of, queue_at, first_of, rest_of, last_of, is_listed, is_waiting, slots_after, SetsAt, AreAlike, AreDifferent, AreLinked}
+use Rattle.pc_locks.specs.States.{SlotLists, Queues, slots_of, queue_at, first_of, rest_of, last_of, is_listed, is_waiting, slots_after, SetsAt, AreAlike, AreDifferent, AreLinked}
 use Rattle.pc_locks.proofs.SlotLaws.{sets_cases, sets_same}
 use Rattle.pc_model.proofs.QueueLaws.{stands_granted, stands_is, with_new}
 
@@ -50,7 +50,7 @@ linked_new queues f = record {
 }
 
 -- where each queue and each list is what it was
-pub linked_alike : (queues new_queues : Queues) (lists new_lists : Lists) → ((u : ℕ) → queue_at new_queues u ≡ queue_at queues u) → ((u : ℕ) → slots_of new_lists u ≡ slots_of lists u) → AreLinked queues lists → AreLinked new_queues new_lists
+pub linked_alike : (queues new_queues : Queues) (lists new_lists : SlotLists) → ((u : ℕ) → queue_at new_queues u ≡ queue_at queues u) → ((u : ℕ) → slots_of new_lists u ≡ slots_of lists u) → AreLinked queues lists → AreLinked new_queues new_lists
 linked_alike queues new_queues lists new_lists e f k = record {
   listed = λ t slot. ap (λ xs. is_listed xs slot) (f t) ∙ (k.listed t slot ∙ ap (λ q. stands_in q t) (sym (e slot)));
   once = λ t. subst AreDifferent (sym (f t)) (k.once t);
@@ -85,7 +85,7 @@ ungranted_with (r ∷ rs) n u e = by (r.transaction == n.transaction) e (ungrant
         behind false g = g
 
 -- where nobody's place changes
-pub linked_same : (queues new_queues : Queues) (lists : Lists) (s : ℕ) (q : Queue) → SetsAt queues new_queues s q → ((u : ℕ) → stands_in q u ≡ stands_in (queue_at queues s) u) →
+pub linked_same : (queues new_queues : Queues) (lists : SlotLists) (s : ℕ) (q : Queue) → SetsAt queues new_queues s q → ((u : ℕ) → stands_in q u ≡ stands_in (queue_at queues s) u) →
     ((u : ℕ) → is_ungranted (request_in q u) ≡ true → is_ungranted (request_in (queue_at queues s) u) ≡ true) → AreLinked queues lists → AreLinked new_queues lists
 linked_same queues new_queues lists s q h e w k = record {
   listed = λ t slot. k.listed t slot ∙ elim (sets_cases queues new_queues s q h slot) [
@@ -99,7 +99,7 @@ linked_same queues new_queues lists s q h e w k = record {
   ];
 }
 
-pub linked_with : (queues new_queues : Queues) (lists : Lists) (s : ℕ) (n : Request) → SetsAt queues new_queues s (with_request (queue_at queues s) n) → stands_in (queue_at queues s) n.transaction ≡ true → AreLinked queues lists → AreLinked new_queues lists
+pub linked_with : (queues new_queues : Queues) (lists : SlotLists) (s : ℕ) (n : Request) → SetsAt queues new_queues s (with_request (queue_at queues s) n) → stands_in (queue_at queues s) n.transaction ≡ true → AreLinked queues lists → AreLinked new_queues lists
 linked_with queues new_queues lists s n h e k =
     linked_same queues new_queues lists s (with_request (queue_at queues s) n) h (λ u. stands_with (queue_at queues s) n u e) (λ u g. sym (ungranted_with (queue_at queues s) n u e) ∙ g) k
 
@@ -137,7 +137,7 @@ last_push (x ∷ []) s = refl
 last_push (x ∷ y ∷ ys) s = last_push (y ∷ ys) s
 
 -- where a transaction's first request of a slot is added
-pub linked_push : (queues new_queues : Queues) (lists new_lists : Lists) (s : ℕ) (n : Request) → SetsAt queues new_queues s (queue_at queues s ++ n ∷ []) → stands_in (queue_at queues s) n.transaction ≡ false →
+pub linked_push : (queues new_queues : Queues) (lists new_lists : SlotLists) (s : ℕ) (n : Request) → SetsAt queues new_queues s (queue_at queues s ++ n ∷ []) → stands_in (queue_at queues s) n.transaction ≡ false →
     ((slot : ℕ) → is_ungranted (request_in (queue_at queues slot) n.transaction) ≡ false) →
     slots_of new_lists n.transaction ≡ slots_of lists n.transaction ++ s ∷ [] → ((u : ℕ) → u ≢ n.transaction → slots_of new_lists u ≡ slots_of lists u) →
     AreLinked queues lists → AreLinked new_queues new_lists
@@ -231,7 +231,7 @@ last_rest s x [] e n = absurd (n (let f : x ≡ s = cc in f))
 last_rest s x (y ∷ ys) e n = e
 
 -- where a transaction's first request is removed
-pub linked_pop : (queues new_queues : Queues) (lists new_lists : Lists) (s t : ℕ) → SetsAt queues new_queues s (queue_without (queue_at queues s) t) → Some s ≡ first_of (slots_of lists t) →
+pub linked_pop : (queues new_queues : Queues) (lists new_lists : SlotLists) (s t : ℕ) → SetsAt queues new_queues s (queue_without (queue_at queues s) t) → Some s ≡ first_of (slots_of lists t) →
     slots_of new_lists t ≡ rest_of (slots_of lists t) → ((u : ℕ) → u ≢ t → slots_of new_lists u ≡ slots_of lists u) →
     AreLinked queues lists → AreLinked new_queues new_lists
 linked_pop queues new_queues lists new_lists s t h f e o k =
@@ -296,15 +296,15 @@ last_listed (x ∷ []) s e = let f : s ≡ x = cc in rw (same_test x s (sym f))
 last_listed (x ∷ y ∷ ys) s e = rw (last_listed (y ∷ ys) s e) (or_true (x == s))
 
 -- where a transaction waits anywhere, it waits at one of its slots
-pub waits_anywhere : (queues : Queues) (lists : Lists) (t s : ℕ) → AreLinked queues lists → waits_for t (queue_at queues s) ≡ true → is_waiting (record { queues = queues; lists = lists }) t ≡ true
+pub waits_anywhere : (queues : Queues) (lists : SlotLists) (t s : ℕ) → AreLinked queues lists → waits_for t (queue_at queues s) ≡ true → is_waiting (record { queues = queues; lists = lists }) t ≡ true
 waits_anywhere queues lists t s k e = some_any (λ x. waits_for t (queue_at queues x)) (slots_of lists t) s (last_listed (slots_of lists t) s (sym (k.waits t s e))) e
 
 -- where it waits at none of its slots, it waits nowhere
-pub ready_at : (queues : Queues) (lists : Lists) (t : ℕ) → AreLinked queues lists → is_waiting (record { queues = queues; lists = lists }) t ≡ false → (s : ℕ) → waits_for t (queue_at queues s) ≡ false
+pub ready_at : (queues : Queues) (lists : SlotLists) (t : ℕ) → AreLinked queues lists → is_waiting (record { queues = queues; lists = lists }) t ≡ false → (s : ℕ) → waits_for t (queue_at queues s) ≡ false
 ready_at queues lists t k e s = not_true (waits_for t (queue_at queues s)) (λ f. let g : false ≡ true = sym e ∙ waits_anywhere queues lists t s k f in cc)
 
 -- only the last of a transaction's slots may have it wait
-pub any_waits : (queues : Queues) (lists : Lists) (t s : ℕ) → AreLinked queues lists → Some s ≡ last_of (slots_of lists t) → waits_for t (queue_at queues s) ≡ is_waiting (record { queues = queues; lists = lists }) t
+pub any_waits : (queues : Queues) (lists : SlotLists) (t s : ℕ) → AreLinked queues lists → Some s ≡ last_of (slots_of lists t) → waits_for t (queue_at queues s) ≡ is_waiting (record { queues = queues; lists = lists }) t
 any_waits queues lists t s k e = by (waits_for t (queue_at queues s)) refl
   where
     by : (b : Bool) → waits_for t (queue_at queues s) ≡ b → b ≡ is_waiting (record { queues = queues; lists = lists }) t
@@ -315,7 +315,7 @@ any_waits queues lists t s k e = by (waits_for t (queue_at queues s)) refl
         let j : waits_for t (queue_at queues s) ≡ true = ap (λ y. waits_for t (queue_at queues y)) i ∙ g in
         cc)))
 
-pub none_waiting : (queues : Queues) (lists : Lists) (t : ℕ) → AreLinked queues lists → None ≡ last_of (slots_of lists t) → false ≡ is_waiting (record { queues = queues; lists = lists }) t
+pub none_waiting : (queues : Queues) (lists : SlotLists) (t : ℕ) → AreLinked queues lists → None ≡ last_of (slots_of lists t) → false ≡ is_waiting (record { queues = queues; lists = lists }) t
 none_waiting queues lists t k e = sym (none_any (λ x. waits_for t (queue_at queues x)) (slots_of lists t) (λ x. not_true (waits_for t (queue_at queues x)) (λ g. let h : None ≡ Some x = e ∙ k.waits t x g in cc)))
 
 pub found_is : (q : Queue) (t : ℕ) (own : Request) → request_in q t ≡ Some own → own.transaction ≡ t
@@ -341,7 +341,7 @@ again_kind q t mode own o e = by (is_exclusive own.mode || not (is_exclusive mod
     by false true f = inr f
     by false false f = inl f
 
-pub linked_again : (queues new_queues : Queues) (lists : Lists) (s t : ℕ) (mode : Mode) (own : Request) (o : Outcome) → SetsAt queues new_queues s (queue_after (queue_at queues s) t mode o) → (o ≡ Granted) ⊎ (o ≡ Died) → request_in (queue_at queues s) t ≡ Some own →
+pub linked_again : (queues new_queues : Queues) (lists : SlotLists) (s t : ℕ) (mode : Mode) (own : Request) (o : Outcome) → SetsAt queues new_queues s (queue_after (queue_at queues s) t mode o) → (o ≡ Granted) ⊎ (o ≡ Died) → request_in (queue_at queues s) t ≡ Some own →
     AreLinked queues lists → AreLinked new_queues lists
 linked_again queues new_queues lists s t mode own o h c f k = elim c [
   | inl e ↦ linked_with queues new_queues lists s (record { transaction = t; mode = mode; granted = true }) (subst (λ x. SetsAt queues new_queues s (queue_after (queue_at queues s) t mode x)) e h)
@@ -352,13 +352,13 @@ linked_again queues new_queues lists s t mode own o h c f k = elim c [
 pub list_again : (slots : List ℕ) (s : ℕ) (b : Bool) (o : Outcome) → (o ≡ Granted) ⊎ (o ≡ Died) → b ≡ true → slots ≡ slots_after slots s b o
 list_again slots s b o c e = elim c [ inl f ↦ rw (f, e) | inr f ↦ rw f ]
 
-every : (t : ℕ) (lists new_lists : Lists) → slots_of new_lists t ≡ slots_of lists t → ((u : ℕ) → u ≢ t → slots_of new_lists u ≡ slots_of lists u) → (u : ℕ) → slots_of new_lists u ≡ slots_of lists u
+every : (t : ℕ) (lists new_lists : SlotLists) → slots_of new_lists t ≡ slots_of lists t → ((u : ℕ) → u ≢ t → slots_of new_lists u ≡ slots_of lists u) → (u : ℕ) → slots_of new_lists u ≡ slots_of lists u
 every t lists new_lists e o u = elim (same_or_other u t) [
   | inl a ↦ subst (λ x. slots_of new_lists x ≡ slots_of lists x) (sym a) e
   | inr a ↦ o u a
 ]
 
-pub linked_first : (queues new_queues : Queues) (lists new_lists : Lists) (s t : ℕ) (mode : Mode) (o : Outcome) → SetsAt queues new_queues s (queue_after (queue_at queues s) t mode o) → stands_in (queue_at queues s) t ≡ false →
+pub linked_first : (queues new_queues : Queues) (lists new_lists : SlotLists) (s t : ℕ) (mode : Mode) (o : Outcome) → SetsAt queues new_queues s (queue_after (queue_at queues s) t mode o) → stands_in (queue_at queues s) t ≡ false →
     ((slot : ℕ) → is_ungranted (request_in (queue_at queues slot) t) ≡ false) →
     slots_of new_lists t ≡ slots_after (slots_of lists t) s false o → ((u : ℕ) → u ≢ t → slots_of new_lists u ≡ slots_of lists u) →
     AreLinked queues lists → AreLinked new_queues new_lists
@@ -370,7 +370,7 @@ linked_first queues new_queues lists new_lists s t mode Queued h f w e others k 
 linked_first queues new_queues lists new_lists s t mode Died h f w e others k =
     linked_alike queues new_queues lists new_lists (sets_same queues new_queues s (queue_at queues s) h refl) (every t lists new_lists e others) k
 
-pub linked_result : {A E : Type 0} (result : Result A E) (told : A → Outcome) (queues new_queues : Queues) (lists new_lists : Lists) (s t : ℕ) (mode : Mode) → stands_in (queue_at queues s) t ≡ false →
+pub linked_result : {A E : Type 0} (result : Result A E) (told : A → Outcome) (queues new_queues : Queues) (lists new_lists : SlotLists) (s t : ℕ) (mode : Mode) → stands_in (queue_at queues s) t ≡ false →
     ((slot : ℕ) → is_ungranted (request_in (queue_at queues slot) t) ≡ false) →
     IfOk result (λ a. SetsAt queues new_queues s (queue_after (queue_at queues s) t mode (told a))) →
     IfOk result (λ a. slots_of new_lists t ≡ slots_after (slots_of lists t) s false (told a)) → ((u : ℕ) → u ≢ t → slots_of new_lists u ≡ slots_of lists u) →

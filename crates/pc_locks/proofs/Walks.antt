@@ -5,7 +5,7 @@ use Rattle.std.proofs.lemmas.List.Folds.{list_any-append}
 use Rattle.std.proofs.lemmas.List.{append_assoc, map-append, length-append}
 use Rattle.pc_locks.specs.declared.node.Test.{Test}
 use Rattle.pc_locks.specs.States.{first_of, last_of}
-use Rattle.pc_locks.specs.Tables.{Nodes, passes, request_at, requests, IsFound}
+use Rattle.pc_locks.specs.Tables.{Nodes, passes, request_at, requests, IsIdFound}
 
 -- what was passed, none of which passes the test, and what is left
 pub record Walked (nodes : Nodes) (ids : List ℕ) (asked : Test) (previous at : Option ℕ) (count : ℕ) : Type 0 where
@@ -34,7 +34,7 @@ walk_at nodes ids asked previous at count id w e = by w.behind w.split (sym w.at
     by [] s f = absurd cc
     by (x ∷ xs) s f = let g : x ≡ id = cc in record { behind = xs; split = s ∙ ap (λ y. w.before ++ y ∷ xs) g }
 
-pub walk_found : (nodes : Nodes) (ids : List ℕ) (asked : Test) (previous at : Option ℕ) (count id : ℕ) → Walked nodes ids asked previous at count → at ≡ Some id → passes asked (request_at nodes id) ≡ true → IsFound nodes ids asked previous id
+pub walk_found : (nodes : Nodes) (ids : List ℕ) (asked : Test) (previous at : Option ℕ) (count id : ℕ) → Walked nodes ids asked previous at count → at ≡ Some id → passes asked (request_at nodes id) ≡ true → IsIdFound nodes ids asked previous id
 walk_found nodes ids asked previous at count id w e p =
     let a = walk_at nodes ids asked previous at count id w e in
     record { before = w.before; behind = a.behind; split = a.split; previous_is = w.previous_is; none_before = w.none_before; passed = p }
@@ -71,7 +71,7 @@ pub walk_start : (nodes : Nodes) (ids : List ℕ) (asked : Test) (at : Option �
 walk_start nodes ids asked at e = record { before = []; behind = ids; split = refl; previous_is = refl; at_is = e; none_before = refl; counted = refl }
 
 -- what was found passes
-pub found_any : (nodes : Nodes) (ids : List ℕ) (asked : Test) (previous : Option ℕ) (id : ℕ) → IsFound nodes ids asked previous id → list_any (passes asked) (requests nodes ids) ≡ true
+pub found_any : (nodes : Nodes) (ids : List ℕ) (asked : Test) (previous : Option ℕ) (id : ℕ) → IsIdFound nodes ids asked previous id → list_any (passes asked) (requests nodes ids) ≡ true
 found_any nodes ids asked previous id f =
     ap (λ xs. list_any (passes asked) (requests nodes xs)) f.split ∙ (ap (list_any (passes asked)) (map-append (request_at nodes) f.before (id ∷ f.behind))
     ∙ (list_any-append (passes asked) (requests nodes f.before) (requests nodes (id ∷ f.behind)) ∙ rw (f.none_before, f.passed)))

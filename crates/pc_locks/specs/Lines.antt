@@ -46,7 +46,7 @@ pub record AreLines (links : List (Option ℕ)) (chains : ℕ → Chain ℕ) : T
   pub apart : (j k id : ℕ) → is_listed (ids_of links (chains j)) id ≡ true → is_listed (ids_of links (chains k)) id ≡ true → j ≡ k
 
 -- one of the chains became this list, and the others stayed
-pub record Become (links new_links : List (Option ℕ)) (lines new_lines : ℕ → Chain ℕ) (k : ℕ) (new : List ℕ) : Type 0 where
+pub record LineBecomes (links new_links : List (Option ℕ)) (lines new_lines : ℕ → Chain ℕ) (k : ℕ) (new : List ℕ) : Type 0 where
   pub kept : AreLines new_links new_lines
   pub this : ids_of new_links (new_lines k) ≡ new
   pub others : (j : ℕ) → j ≢ k → ids_of new_links (new_lines j) ≡ ids_of links (lines j)
@@ -83,7 +83,7 @@ abbrev pub entry_ids : List (Option ℕ) → List (ℕ × Ends) → List (ℕ ×
 entry_ids links entries = map (λ e. (e.0, ids_of links e.1.chain)) entries
 
 -- what the transactions' lists keep; an entry whose list became empty is not kept
-pub record AreLists (links : List (Option ℕ)) (entries : List (ℕ × Ends)) : Type 0 where
+pub record AreIdLists (links : List (Option ℕ)) (entries : List (ℕ × Ends)) : Type 0 where
   pub lines : AreLines links (λ t. (ends_at entries t).chain)
   pub lasts : (t : ℕ) → (ends_at entries t).last ≡ last_of (ids_of links (ends_at entries t).chain)
   pub filled : AreFilled (entry_ids links entries)

@@ -12,11 +12,11 @@ use Rattle.pc_types.specs.declared.Outcome.TheVariants.{Granted, Queued, Died}
 use Rattle.pc_model.specs.Queues.{stands_in, IsSettled}
 
 -- the slots of the transactions, by number, in the order of first request
-abbrev pub Lists : Type 0
-Lists = List (ℕ × List ℕ)
+abbrev pub SlotLists : Type 0
+SlotLists = List (ℕ × List ℕ)
 
 -- the slots of which the transaction has a request, in the order of first request
-abbrev pub slots_of : Lists → ℕ → List ℕ
+abbrev pub slots_of : SlotLists → ℕ → List ℕ
 slots_of lists t = unwrap_or (lookup (is_at (nat_cmp t)) lists) []
 
 -- the queue of each slot
@@ -26,7 +26,7 @@ Queues = ℕ → Queue
 -- the queue of each slot, and the slots of each transaction
 pub record State : Type 0 where
   pub queues : Queues
-  pub lists : Lists
+  pub lists : SlotLists
 
 -- the queue of a slot
 abbrev pub queue_at : Queues → ℕ → Queue
@@ -106,13 +106,13 @@ is_waiting state t = list_any (λ slot. is_ungranted (request_in (queue_at state
 
 -- a slot stands in the transaction's list exactly where the transaction has a request in its queue, and none twice; only
 -- the last may wait
-pub record AreLinked (queues : Queues) (lists : Lists) : Type 0 where
+pub record AreLinked (queues : Queues) (lists : SlotLists) : Type 0 where
   pub listed : (t slot : ℕ) → is_listed (slots_of lists t) slot ≡ stands_in (queue_at queues slot) t
   pub once : (t : ℕ) → AreDifferent (slots_of lists t)
   pub waits : (t slot : ℕ) → is_ungranted (request_in (queue_at queues slot) t) ≡ true → last_of (slots_of lists t) ≡ Some slot
 
 -- no transaction without a slot has a list
-abbrev pub AreFilled : Lists → Type 0
+abbrev pub AreFilled : SlotLists → Type 0
 AreFilled lists = (t : ℕ) → is_some (lookup (is_at (nat_cmp t)) lists) ≡ true → is_some (first_of (slots_of lists t)) ≡ true
 
 -- what is so of locks at all times: in each queue the granted requests stand in front and fit together, and only waiting

@@ -13,7 +13,7 @@ use Rattle.pc_model.specs.Queues.{stands_in}
 use Rattle.pc_locks.specs.declared.node.Node.{Node}
 use Rattle.pc_locks.specs.declared.node.Test.{Test}
 use Rattle.pc_locks.specs.declared.node.Test.TheVariants as test
-use Rattle.pc_locks.specs.States.{Lists, Queues, SetsAt, AreFilled, slots_of, is_listed, last_of}
+use Rattle.pc_locks.specs.States.{SlotLists, Queues, SetsAt, AreFilled, slots_of, is_listed, last_of}
 
 -- what a test asks of a request
 abbrev pub passes : Test → Request → Bool
@@ -63,7 +63,7 @@ abbrev pub queues_in : Nodes → (ℕ → List ℕ) → Queues
 queues_in nodes ids slot = requests nodes (ids slot)
 
 -- the slots of each transaction
-abbrev pub lists_in : Nodes → List (ℕ × List ℕ) → Lists
+abbrev pub lists_in : Nodes → List (ℕ × List ℕ) → SlotLists
 lists_in nodes entries = map (λ e. (e.0, slots nodes e.1)) entries
 
 -- each id of a slot has a request of it, each id of a transaction has a request of it, which stands with its slot, and each
@@ -75,7 +75,7 @@ pub record IsTable (nodes : Nodes) (ids : ℕ → List ℕ) (entries : List (ℕ
   pub filled : AreFilled entries
 
 -- the first id of the list whose request passes the test, and the one before it
-pub record IsFound (nodes : Nodes) (ids : List ℕ) (asked : Test) (previous : Option ℕ) (id : ℕ) : Type 0 where
+pub record IsIdFound (nodes : Nodes) (ids : List ℕ) (asked : Test) (previous : Option ℕ) (id : ℕ) : Type 0 where
   pub before : List ℕ
   pub behind : List ℕ
   pub split : ids ≡ before ++ id ∷ behind
@@ -85,11 +85,11 @@ pub record IsFound (nodes : Nodes) (ids : List ℕ) (asked : Test) (previous : O
 
 -- the first of the list whose request is the transaction's
 abbrev pub IsOwn : Nodes → List ℕ → ℕ → Option ℕ → ℕ → Type 0
-IsOwn nodes ids t previous id = IsFound nodes ids (test.Of t) previous id
+IsOwn nodes ids t previous id = IsIdFound nodes ids (test.Of t) previous id
 
 -- one more request of the transaction fits without memory: there is a free place, which has a link in each of the two
 -- rows, and the transaction has an entry
-pub record HasRoom (nodes : Slab Node) (links : List (Option ℕ)) (lists : Listed) (t : ℕ) : Type 0 where
+pub record HasRoomForRequest (nodes : Slab Node) (links : List (Option ℕ)) (lists : Listed) (t : ℕ) : Type 0 where
   pub nodes_fit : HasRoomFor nodes 1
   pub links_fit : nodes.vacant_key < length links
   pub lists_fit : nodes.vacant_key < lists.room

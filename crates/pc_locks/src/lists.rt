@@ -19,13 +19,13 @@ pub(crate) struct Lists {
 
 impl Model for Lists {
     ghost use Rattle.std.specs.Prelude.{length};
-    ghost use Rattle.pc_locks.specs.Lines.{Listed, entry_ids, AreLists};
+    ghost use Rattle.pc_locks.specs.Lines.{Listed, entry_ids, AreIdLists};
 
     ghost Value = { Listed };
 
     ghost view = { λ a. record { entries = entry_ids a.links.links.items a.ends; room = length a.links.links.items } };
 
-    ghost invariant = { λ a. AreLists a.links.links.items a.ends };
+    ghost invariant = { λ a. AreIdLists a.links.links.items a.ends };
 }
 
 impl Lists {

@@ -3,7 +3,7 @@ ghost use Rattle.std.specs.Prelude.{◌≡◌, ◌==◌, [], not, true, false, �
 ghost use Rattle.pc_chain.specs.declared.chain.Chain.{Chain};
 ghost use Rattle.pc_chain.specs.Chains.{IsEmpty};
 ghost use Rattle.pc_locks.specs.States.{queue_at, slots_of, first_of, is_waiting, IsAnswered, IsReleased, AreAlike};
-ghost use Rattle.pc_locks.specs.Keepers.{queues_of, lists_of, state_of, AreEnds, AreSound};
+ghost use Rattle.pc_locks.specs.Keepers.{queues_of, lists_of, state_of, AreEnds, AreLocksSound};
 
 use crate::keeper::QueueEnds;
 use crate::node::Test;
@@ -24,9 +24,9 @@ pub struct Locks {
 }
 
 impl Model for Locks {
-    ghost use Rattle.pc_locks.specs.Keepers.{Kept, kept_of};
+    ghost use Rattle.pc_locks.specs.Keepers.{KeptRequests, kept_of};
 
-    ghost Value = { Kept };
+    ghost Value = { KeptRequests };
 
     ghost view = { λ a. kept_of a.table };
 }
@@ -54,10 +54,10 @@ impl Locks {
         slot: SlotId,
         mode: Mode,
     ) -> Result<Outcome, AllocError>
-        requires sound { AreSound (E.has keeper.old) (E.ends_of keeper.old) self.old }
+        requires sound { AreLocksSound (E.has keeper.old) (E.ends_of keeper.old) self.old }
         requires has { E.has keeper.old slot }
         requires ready { is_waiting (state_of (E.ends_of keeper.old) self.old) transaction ≡ false }
-        ensures sound { AreSound (E.has keeper.new) (E.ends_of keeper.new) self.new }
+        ensures sound { AreLocksSound (E.has keeper.new) (E.ends_of keeper.new) self.new }
         ensures answered { IfOk result (IsAnswered (state_of (E.ends_of keeper.old) self.old) (state_of (E.ends_of keeper.new) self.new) transaction slot mode) }
         ensures err { OnErr result (AreAlike (state_of (E.ends_of keeper.new) self.new) (state_of (E.ends_of keeper.old) self.old)) }
         ensures keeper { OnErr result (keeper.new ≡ keeper.old) }
@@ -78,8 +78,8 @@ impl Locks {
         keeper: &mut E,
         transaction: TxnNo,
     ) -> Option<SlotId>
-        requires sound { AreSound (E.has keeper.old) (E.ends_of keeper.old) self.old }
-        ensures sound { AreSound (E.has keeper.new) (E.ends_of keeper.new) self.new }
+        requires sound { AreLocksSound (E.has keeper.old) (E.ends_of keeper.old) self.old }
+        ensures sound { AreLocksSound (E.has keeper.new) (E.ends_of keeper.new) self.new }
         ensures given { result ≡ first_of (slots_of (lists_of self.old) transaction) }
         ensures released { IfSome result (IsReleased (state_of (E.ends_of keeper.old) self.old) (state_of (E.ends_of keeper.new) self.new) transaction) }
         ensures none { IfNone result ((self.new ≡ self.old) × (keeper.new ≡ keeper.old)) }

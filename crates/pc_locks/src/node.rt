@@ -65,7 +65,7 @@ pub(crate) fn covers(own: Mode, mode: Mode) -> bool
 
 /// An id of a list, and the one before it.
 #[derive(Clone, Copy)]
-pub(crate) struct Found {
+pub(crate) struct FoundId {
     pub(crate) previous: Option<usize>,
     pub(crate) id: usize,
 }

@@ -1,7 +1,7 @@
 //! Lists of ids, one for each slot, over one row of links. The ends of each are its keeper's.
 ghost use Rattle.std.specs.Prelude.{◌≡◌, ◌<◌, ◌++◌, ◌∷◌, [], ℕ, List, false, length};
 ghost use Rattle.pc_chain.specs.declared.chain.Chain.{Chain};
-ghost use Rattle.pc_locks.specs.Lines.{ids_of, ids_by, IsQueue, AreLines, Become};
+ghost use Rattle.pc_locks.specs.Lines.{ids_of, ids_by, IsQueue, AreLines, LineBecomes};
 ghost use Rattle.pc_locks.specs.States.{first_of, rest_of, last_of, is_listed};
 
 use crate::keeper::QueueEnds;
@@ -15,7 +15,7 @@ pub(crate) fn push<K, E: QueueEnds<K>>(links: &mut LinkRow, keeper: &mut E, slot
     requires room { id < length links.old.links.items }
     requires lines { AreLines links.old.links.items (E.ends_of keeper.old) }
     requires fresh { (other : ℕ) → is_listed (ids_by links.old.links.items (E.ends_of keeper.old) other) id ≡ false }
-    ensures pushed { Become links.old.links.items links.new.links.items (E.ends_of keeper.old) (E.ends_of keeper.new) slot (ids_by links.old.links.items (E.ends_of keeper.old) slot ++ id ∷ []) }
+    ensures pushed { LineBecomes links.old.links.items links.new.links.items (E.ends_of keeper.old) (E.ends_of keeper.new) slot (ids_by links.old.links.items (E.ends_of keeper.old) slot ++ id ∷ []) }
     ensures beside { E.beside keeper.old keeper.new }
 {
     let mut ends = keeper.ends(slot);
@@ -33,7 +33,7 @@ pub(crate) fn remove<K, E: QueueEnds<K>>(
     requires has { E.has keeper.old slot }
     requires lines { AreLines links.old.links.items (E.ends_of keeper.old) }
     requires stands { (before rest : List ℕ) × (ids_by links.old.links.items (E.ends_of keeper.old) slot ≡ before ++ rest) × (previous ≡ last_of before) }
-    ensures removed { (before rest : List ℕ) → ids_by links.old.links.items (E.ends_of keeper.old) slot ≡ before ++ rest → previous ≡ last_of before → Become links.old.links.items links.new.links.items (E.ends_of keeper.old) (E.ends_of keeper.new) slot (before ++ rest_of rest) }
+    ensures removed { (before rest : List ℕ) → ids_by links.old.links.items (E.ends_of keeper.old) slot ≡ before ++ rest → previous ≡ last_of before → LineBecomes links.old.links.items links.new.links.items (E.ends_of keeper.old) (E.ends_of keeper.new) slot (before ++ rest_of rest) }
     ensures beside { E.beside keeper.old keeper.new }
 {
     let mut ends = keeper.ends(slot);

@@ -6,12 +6,12 @@ ghost use Rattle.pc_model.specs.Queues.{stands_in, AreOnce};
 ghost use Rattle.pc_locks.specs.declared.node.Node.{Node};
 ghost use Rattle.pc_locks.specs.Lines.{ids_by, IsQueue, AreLines};
 ghost use Rattle.pc_locks.specs.States.{slots_of, first_of, last_of, queue_at, IsEntered, IsTakenOut, IsAnswered, AreAlike, AreAmong, AreDifferent};
-ghost use Rattle.pc_locks.specs.Tables.{passes, node_at, request_at, slot_at, requests, HasRoom, IsFound, IsOwn, IsUnlinked, KeepPlaces, KeepOutside, AreHeld};
+ghost use Rattle.pc_locks.specs.Tables.{passes, node_at, request_at, slot_at, requests, HasRoomForRequest, IsIdFound, IsOwn, IsUnlinked, KeepPlaces, KeepOutside, AreHeld};
 ghost use Rattle.pc_locks.specs.Keepers.{kept_of, ids_along, queue_along, queues_of, lists_of, state_of, AreTied};
 
 use crate::keeper::QueueEnds;
 use crate::lists::Lists;
-use crate::node::{Found, Node, Test, covers, is_exclusive};
+use crate::node::{FoundId, Node, Test, covers, is_exclusive};
 use crate::queues;
 use crate::row::LinkRow;
 use pc_chain::Chain;
@@ -65,10 +65,10 @@ impl RequestTable {
     }
 
     /// The first id of the queue whose request passes the test.
-    pub(crate) fn find(&self, queue: Chain<usize>, test: Test) -> Option<Found>
+    pub(crate) fn find(&self, queue: Chain<usize>, test: Test) -> Option<FoundId>
         requires { IsQueue self.now.links.links.items queue }
         ensures none { IfNone result (list_any (passes test) (queue_along self.now queue) ≡ false) }
-        ensures some { IfSome result (λ f. IsFound self.now.nodes.slots (ids_along self.now queue) test f.previous f.id) }
+        ensures some { IfSome result (λ f. IsIdFound self.now.nodes.slots (ids_along self.now queue) test f.previous f.id) }
     {
         let mut previous = None;
         let mut at = queue.first(&self.links);
@@ -77,7 +77,7 @@ impl RequestTable {
                 return None;
             };
             if test.passes(&self.request(id)) {
-                return Some(Found { previous, id });
+                return Some(FoundId { previous, id });
             }
             previous = Some(id);
             at = queues::next(&self.links, id);
@@ -131,7 +131,7 @@ impl RequestTable {
         requires has { E.has keeper.old slot }
         ensures tied { AreTied (E.ends_of keeper.new) (kept_of self.new) }
         ensures entered { OnOk result (IsEntered (state_of (E.ends_of keeper.old) (kept_of self.old)) (state_of (E.ends_of keeper.new) (kept_of self.new)) slot (record { transaction = transaction; mode = mode; granted = granted })) }
-        ensures room { HasRoom self.old.nodes self.old.links.links.items self.old.lists transaction → IsOk result }
+        ensures room { HasRoomForRequest self.old.nodes self.old.links.links.items self.old.lists transaction → IsOk result }
         ensures err { OnErr result (AreAlike (state_of (E.ends_of keeper.new) (kept_of self.new)) (state_of (E.ends_of keeper.old) (kept_of self.old))) }
         ensures keeper { OnErr result (keeper.new ≡ keeper.old) }
         ensures beside { E.beside keeper.old keeper.new }
@@ -188,7 +188,7 @@ impl RequestTable {
     pub(crate) fn again(
         &mut self,
         queue: Chain<usize>,
-        found: Found,
+        found: FoundId,
         transaction: TxnNo,
         mode: Mode,
     ) -> Outcome

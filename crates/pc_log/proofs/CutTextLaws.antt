@@ -16,7 +16,7 @@ use Rattle.pc_types.proofs.FieldLaws.{wide32, wide64, number_again, magic_again}
 use Rattle.pc_log.specs.declared.order.LastToken.{LastToken}
 use Rattle.pc_log.specs.Texts.{log_magic, header_text, body_text, entry_text, log_text, IsEntry}
 use Rattle.pc_log.specs.Orders.{token_after, no_token, FollowFrom, InOrder}
-use Rattle.pc_log.specs.Reading.{entry_at, entries_at, header_at, log_at, Found, none_more, with_entry, all_at}
+use Rattle.pc_log.specs.Reading.{entry_at, entries_at, header_at, log_at, LogReading, none_more, with_entry, all_at}
 use Rattle.pc_log.specs.Laws.{AreCut, cut_read, left_behind}
 use Rattle.pc_log.proofs.TokenOrders.{ComesNext, follow_first}
 use Rattle.pc_log.proofs.EntriesAgain.{body_length, body_lawful, entry_again, header_parts, header_again}
@@ -57,7 +57,7 @@ entry_cut last entry more c lawful cut =
 -- ---- entries that are cut off
 
 -- so many bytes are left behind these entries
-abbrev left_over : List Entry → ℕ → Found
+abbrev left_over : List Entry → ℕ → LogReading
 left_over entries rest = record { entries = entries; rest = rest; fault = cond (eqb rest 0) None (Some Short) }
 
 record CutFound (last : LastToken) (entries : List Entry) (c p : ℕ) : Type 0 where

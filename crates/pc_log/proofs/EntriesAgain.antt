@@ -15,7 +15,7 @@ use Rattle.pc_types.specs.Limits.{IsValue}
 use Rattle.pc_types.specs.Fields.{◌>>=◌, where_true, number_at, key_text, content_text}
 use Rattle.pc_types.proofs.FieldLaws.{wide16, wide32, wide64, bytes_again, number_again, magic_again, key_again, content_again}
 use Rattle.pc_log.specs.declared.order.LastToken.{LastToken}
-use Rattle.pc_log.specs.Texts.{log_magic, header_text, write_text, phase_number, body_text, entry_text, same_key, keys_of, IsWrite, IsEntry, IsCommit, IsPoint}
+use Rattle.pc_log.specs.Texts.{log_magic, header_text, write_text, phase_number, body_text, entry_text, same_key, keys_of, IsWrite, IsEntry, IsCommit, IsTokenPoint}
 use Rattle.pc_log.specs.Orders.{comes_next, token_after, no_token, FollowFrom}
 use Rattle.pc_log.specs.Reading.{is_written, write_at, writes_at, commit_at, token_at, kind_at, body_at, entry_at, header_at, log_at, with_entry, of_run, all_at}
 use Rattle.pc_log.proofs.TokenOrders.{ComesNext, next_holds, numbered_is, follow_first}
@@ -76,7 +76,7 @@ commit_again session writes lawful =
     ap (λ (t : List ℕ). commit_at (t ++ (to_be_bytes w16 (length writes) ++ flat_map write_text writes))) (one_byte session (omega (arith, lawful.last_session)))
     ∙ rw (in_limits, number_again BadLength w16 (2 ^ 16) wide16 (length writes) (flat_map write_text writes) (omega (arith, lawful.count)), few, texts) refl
 
-token_again : (last : LastToken) (phase : Phase) (point : ℕ) → ComesNext last (Token phase point) → IsPoint point → token_at last (phase_number phase ∷ to_be_bytes w32 point) ≡ Ok (Token phase point, [])
+token_again : (last : LastToken) (phase : Phase) (point : ℕ) → ComesNext last (Token phase point) → IsTokenPoint point → token_at last (phase_number phase ∷ to_be_bytes w32 point) ≡ Ok (Token phase point, [])
 unfolding token_at
 token_again last phase point next lawful =
     let number : number_at BadLength w32 (to_be_bytes w32 point) ≡ Ok (point, []) = number_again BadLength w32 (2 ^ 32) wide32 point [] (omega (arith, lawful.last)) in

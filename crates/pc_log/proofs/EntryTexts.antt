@@ -16,8 +16,8 @@ use Rattle.pc_types.specs.declared.Entry.{Entry}
 use Rattle.pc_types.specs.declared.Entry.TheVariants.{Commit, Token}
 use Rattle.pc_types.specs.declared.Write.{Write}
 use Rattle.pc_types.specs.Fields.{◌>>=◌, where_true, bytes_at, number_at, key_at, content_at, key_text, content_text}
-use Rattle.pc_types.proofs.FieldLaws.{IsBytes-take, IsBytes-rest, bind_ok, guard_ok, where_ok, ok_is, Takes-then, bytes_take, wide16, wide32, number_takes, key_takes, content_takes}
-use Rattle.pc_types.specs.FieldForms.{IsBytes, Takes}
+use Rattle.pc_types.proofs.FieldLaws.{IsBytes-take, IsBytes-rest, bind_ok, guard_ok, where_ok, ok_is, TakesText-then, bytes_take, wide16, wide32, number_takes, key_takes, content_takes}
+use Rattle.pc_types.specs.FieldForms.{IsBytes, TakesText}
 use Rattle.pc_log.specs.declared.order.LastToken.{LastToken}
 use Rattle.pc_model.specs.FewWrites.{HasFewWrites}
 use Rattle.pc_log.specs.Texts.{write_text, phase_number, body_text, entry_text, same_key, keys_of, IsWrite, IsEntry}
@@ -27,16 +27,16 @@ use Rattle.pc_log.proofs.TokenOrders.{ComesNext, HasBegun, next_is, number_is}
 use Rattle.pc_log.proofs.StepLaws.{where_then, made_ok}
 use Rattle.pc_log.proofs.TurnLaws.{entry_parts}
 
-pub byte_takes : (bytes : List ℕ) (byte : ℕ) (rest : List ℕ) → IsBytes bytes → byte_at bytes ≡ Ok (byte, rest) → Takes bytes (byte ∷ []) rest × (byte < 256)
+pub byte_takes : (bytes : List ℕ) (byte : ℕ) (rest : List ℕ) → IsBytes bytes → byte_at bytes ≡ Ok (byte, rest) → TakesText bytes (byte ∷ []) rest × (byte < 256)
 byte_takes [] byte rest fits e = absurd cc
 byte_takes (b ∷ bs) byte rest fits e =
-    subst (λ (p : ℕ × List ℕ). Takes (b ∷ bs) (p.0 ∷ []) p.1 × (p.0 < 256)) (ok_is (b, bs) (byte, rest) e) (record { parts = refl; rest_fits = IsBytes-rest b bs fits }, fits 0)
+    subst (λ (p : ℕ × List ℕ). TakesText (b ∷ bs) (p.0 ∷ []) p.1 × (p.0 < 256)) (ok_is (b, bs) (byte, rest) e) (record { parts = refl; rest_fits = IsBytes-rest b bs fits }, fits 0)
 
 pub one_byte : (n : ℕ) → n < 256 → to_be_bytes w8 n ≡ n ∷ []
 one_byte n lt = ap (λ (b : ℕ). b ∷ []) (omega arith)
 
-Takes-front : (b : ℕ) (bytes text rest : List ℕ) → Takes bytes text rest → Takes (b ∷ bytes) (b ∷ text) rest
-Takes-front b bytes text rest t = record { parts = ap (λ (bs : List ℕ). b ∷ bs) t.parts; rest_fits = t.rest_fits }
+TakesText-front : (b : ℕ) (bytes text rest : List ℕ) → TakesText bytes text rest → TakesText (b ∷ bytes) (b ∷ text) rest
+TakesText-front b bytes text rest t = record { parts = ap (λ (bs : List ℕ). b ∷ bs) t.parts; rest_fits = t.rest_fits }
 
 -- ---- writes
 
@@ -52,7 +52,7 @@ abbrev write_of : List ℕ → Option (List ℕ) × List ℕ → Write × List �
 write_of key content = (record { key = key; value = content.0 }, content.1)
 
 record WriteTakes (earlier : List Write) (bytes : List ℕ) (write : Write) (rest : List ℕ) : Type 0 where
-  taken : Takes bytes (write_text write) rest
+  taken : TakesText bytes (write_text write) rest
   in_limits : IsWrite write
   new : is_written earlier write.key ≡ false
 
@@ -65,7 +65,7 @@ write_takes earlier bytes write rest fits e =
     let k = key_takes BadLength bytes a.0.0 a.0.1 fits a.1 in
     let v = content_takes BadLength a.0.1 c.0.0 c.0.1 k.0.rest_fits c.1 in
     subst (λ (p : Write × List ℕ). WriteTakes earlier bytes p.0 p.1) c.2 (record {
-      taken = Takes-then bytes (key_text a.0.0) a.0.1 (content_text c.0.0) c.0.1 k.0 v.0;
+      taken = TakesText-then bytes (key_text a.0.0) a.0.1 (content_text c.0.0) c.0.1 k.0 v.0;
       in_limits = (k.1, v.1);
       new = not-true (is_written earlier a.0.0) g.0;
     })
@@ -75,7 +75,7 @@ record WritesTake (earlier : List Write) (count : ℕ) (bytes : List ℕ) (all :
   more : List Write
   all_is : all ≡ earlier ++ more
   counted : length more ≡ count
-  taken : Takes bytes (flat_map write_text more) rest
+  taken : TakesText bytes (flat_map write_text more) rest
   in_limits : AllByRecursion IsWrite more
   once : IsDistinct same_key (keys_of earlier) → IsDistinct same_key (keys_of all)
 
@@ -103,7 +103,7 @@ writes_take (suc count) earlier bytes x fits e =
       more = a.0.0 ∷ others.more;
       all_is = others.all_is ∙ append_assoc earlier (a.0.0 ∷ []) others.more;
       counted = ap suc others.counted;
-      taken = Takes-then bytes (write_text a.0.0) a.0.1 (flat_map write_text others.more) x.1 first.taken others.taken;
+      taken = TakesText-then bytes (write_text a.0.0) a.0.1 (flat_map write_text others.more) x.1 first.taken others.taken;
       in_limits = (first.in_limits, others.in_limits);
       once = λ once. others.once (keys_push earlier a.0.0 first.new once);
     }
@@ -112,7 +112,7 @@ writes_take (suc count) earlier bytes x fits e =
 
 -- a body, and what it is of
 pub record BodyTakes (last : LastToken) (bytes : List ℕ) (entry : Entry) (rest : List ℕ) : Type 0 where
-  pub taken : Takes bytes (body_text entry) rest
+  pub taken : TakesText bytes (body_text entry) rest
   pub lawful : IsEntry entry
   pub next : ComesNext last entry
 
@@ -133,13 +133,13 @@ commit_takes last bytes entry rest fits e =
     let counted : length ws.0.0 ≡ n.0.0 = ap length w.all_is ∙ w.counted in
     let few : length ws.0.0 ≤ 256 = grind (arith, nat_tests, counted, h.0) in
     let sessions : (1 ≤ a.0.0) × (a.0.0 ≤ 64) = grind (arith, nat_tests, g.0) in
-    let texts : Takes n.0.1 (flat_map write_text ws.0.0) ws.0.1 = subst (λ (l : List Write). Takes n.0.1 (flat_map write_text l) ws.0.1) (sym w.all_is) w.taken in
-    let count_and : Takes a.0.1 (to_be_bytes w16 (length ws.0.0) ++ flat_map write_text ws.0.0) ws.0.1 =
-    subst (λ (k : ℕ). Takes a.0.1 (to_be_bytes w16 k ++ flat_map write_text ws.0.0) ws.0.1) (sym counted) (Takes-then a.0.1 (to_be_bytes w16 n.0.0) n.0.1 (flat_map write_text ws.0.0) ws.0.1 c.0 texts) in
-    let session_and : Takes bytes (to_be_bytes w8 a.0.0 ++ (to_be_bytes w16 (length ws.0.0) ++ flat_map write_text ws.0.0)) ws.0.1 =
-    subst (λ (t : List ℕ). Takes bytes (t ++ (to_be_bytes w16 (length ws.0.0) ++ flat_map write_text ws.0.0)) ws.0.1) (sym (one_byte a.0.0 s.1)) (Takes-then bytes (a.0.0 ∷ []) a.0.1 (to_be_bytes w16 (length ws.0.0) ++ flat_map write_text ws.0.0) ws.0.1 s.0 count_and) in
+    let texts : TakesText n.0.1 (flat_map write_text ws.0.0) ws.0.1 = subst (λ (l : List Write). TakesText n.0.1 (flat_map write_text l) ws.0.1) (sym w.all_is) w.taken in
+    let count_and : TakesText a.0.1 (to_be_bytes w16 (length ws.0.0) ++ flat_map write_text ws.0.0) ws.0.1 =
+    subst (λ (k : ℕ). TakesText a.0.1 (to_be_bytes w16 k ++ flat_map write_text ws.0.0) ws.0.1) (sym counted) (TakesText-then a.0.1 (to_be_bytes w16 n.0.0) n.0.1 (flat_map write_text ws.0.0) ws.0.1 c.0 texts) in
+    let session_and : TakesText bytes (to_be_bytes w8 a.0.0 ++ (to_be_bytes w16 (length ws.0.0) ++ flat_map write_text ws.0.0)) ws.0.1 =
+    subst (λ (t : List ℕ). TakesText bytes (t ++ (to_be_bytes w16 (length ws.0.0) ++ flat_map write_text ws.0.0)) ws.0.1) (sym (one_byte a.0.0 s.1)) (TakesText-then bytes (a.0.0 ∷ []) a.0.1 (to_be_bytes w16 (length ws.0.0) ++ flat_map write_text ws.0.0) ws.0.1 s.0 count_and) in
     subst (λ (p : Entry × List ℕ). BodyTakes last (1 ∷ bytes) p.0 p.1) ws.2 (record {
-      taken = Takes-front 1 bytes (to_be_bytes w8 a.0.0 ++ (to_be_bytes w16 (length ws.0.0) ++ flat_map write_text ws.0.0)) ws.0.1 session_and;
+      taken = TakesText-front 1 bytes (to_be_bytes w8 a.0.0 ++ (to_be_bytes w16 (length ws.0.0) ++ flat_map write_text ws.0.0)) ws.0.1 session_and;
       lawful = record {
         first_session = sessions.0;
         last_session = sessions.1;
@@ -160,9 +160,9 @@ token_takes last bytes entry rest fits begun e =
     let s = byte_takes bytes a.0.0 a.0.1 fits a.1 in
     let c = number_takes BadLength w32 (2 ^ 32) wide32 a.0.1 n.0.0 n.0.1 s.0.rest_fits n.1 in
     let next = next_is last p.0 n.0.0 begun g.0 in
-    let both = subst (λ (k : ℕ). Takes bytes (k ∷ to_be_bytes w32 n.0.0) n.0.1) (sym (number_is a.0.0 p.0 p.1)) (Takes-then bytes (a.0.0 ∷ []) a.0.1 (to_be_bytes w32 n.0.0) n.0.1 s.0 c.0) in
+    let both = subst (λ (k : ℕ). TakesText bytes (k ∷ to_be_bytes w32 n.0.0) n.0.1) (sym (number_is a.0.0 p.0 p.1)) (TakesText-then bytes (a.0.0 ∷ []) a.0.1 (to_be_bytes w32 n.0.0) n.0.1 s.0 c.0) in
     subst (λ (x : Entry × List ℕ). BodyTakes last (2 ∷ bytes) x.0 x.1) g.1 (record {
-      taken = Takes-front 2 bytes (phase_number p.0 ∷ to_be_bytes w32 n.0.0) n.0.1 both;
+      taken = TakesText-front 2 bytes (phase_number p.0 ∷ to_be_bytes w32 n.0.0) n.0.1 both;
       lawful = next.1;
       next = next.0;
     })
@@ -183,7 +183,7 @@ few_writes (Token phase point) lawful = tt
 
 -- an entry that was read in front of the bytes
 pub record EntryTakes (last : LastToken) (bytes : List ℕ) (entry : Entry) (rest : List ℕ) : Type 0 where
-  pub taken : Takes bytes (entry_text entry) rest
+  pub taken : TakesText bytes (entry_text entry) rest
   pub lawful : IsEntry entry
   pub next : ComesNext last entry
 
@@ -211,10 +211,10 @@ entry_takes last bytes entry rest fits begun e =
     let body_fits = bytes_fit Short parts.size parts.behind parts.body rest n.0.rest_fits parts.body_there in
     let t = body_takes last parts.body entry body_fits begun parts.body_read in
     let body_is : parts.body ≡ body_text entry = t.taken.parts ∙ append-nil (body_text entry) in
-    let both = Takes-then bytes (to_be_bytes w32 parts.size) parts.behind parts.body rest n.0 b.0 in
-    let sized : Takes bytes (to_be_bytes w32 (length parts.body) ++ parts.body) rest = subst (λ (k : ℕ). Takes bytes (to_be_bytes w32 k ++ parts.body) rest) (sym b.1) both in
+    let both = TakesText-then bytes (to_be_bytes w32 parts.size) parts.behind parts.body rest n.0 b.0 in
+    let sized : TakesText bytes (to_be_bytes w32 (length parts.body) ++ parts.body) rest = subst (λ (k : ℕ). TakesText bytes (to_be_bytes w32 k ++ parts.body) rest) (sym b.1) both in
     record {
-      taken = subst (λ (t : List ℕ). Takes bytes (to_be_bytes w32 (length t) ++ t) rest) body_is sized;
+      taken = subst (λ (t : List ℕ). TakesText bytes (to_be_bytes w32 (length t) ++ t) rest) body_is sized;
       lawful = t.lawful;
       next = t.next;
     }

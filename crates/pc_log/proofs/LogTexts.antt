@@ -10,14 +10,14 @@ use Rattle.pc_types.specs.declared.refusal.Refusal.{Refusal}
 use Rattle.pc_types.specs.declared.refusal.Refusal.TheVariants.{Short, BadRanges}
 use Rattle.pc_types.specs.declared.Entry.{Entry}
 use Rattle.pc_types.specs.Fields.{◌>>=◌, where_true, number_at, magic_at, Gives}
-use Rattle.pc_types.proofs.FieldLaws.{bind_ok, ok_is, where_ok, Takes-then, wide32, wide64, number_takes, magic_takes}
-use Rattle.pc_types.specs.FieldForms.{IsBytes, Takes}
+use Rattle.pc_types.proofs.FieldLaws.{bind_ok, ok_is, where_ok, TakesText-then, wide32, wide64, number_takes, magic_takes}
+use Rattle.pc_types.specs.FieldForms.{IsBytes, TakesText}
 use Rattle.pc_log.specs.declared.order.LastToken.{LastToken}
 use Rattle.pc_log.specs.Texts.{log_magic, header_text, entry_text, log_text, IsEntry}
 use Rattle.pc_log.specs.Orders.{token_after, no_token, FollowFrom, InOrder}
-use Rattle.pc_log.specs.Reading.{entry_at, entries_at, header_at, log_at, Found, none_more, with_entry, of_run, text_of, LogRead, all_at}
+use Rattle.pc_log.specs.Reading.{entry_at, entries_at, header_at, log_at, LogReading, none_more, with_entry, of_run, text_of, LogRead, all_at}
 use Rattle.pc_log.specs.declared.reading.LogText.{LogText}
-use Rattle.pc_log.specs.Laws.{IsWhole}
+use Rattle.pc_log.specs.Laws.{AreWholeEntries}
 use Rattle.pc_log.proofs.TokenOrders.{HasBegun, begun_after, follow_more}
 use Rattle.pc_log.proofs.EntryTexts.{EntryTakes, entry_takes}
 use Rattle.pc_log.proofs.StepLaws.{made_ok}
@@ -25,7 +25,7 @@ use Rattle.pc_log.proofs.EntriesAgain.{last_after, all_again, header_again}
 use Rattle.pc_log.proofs.TurnLaws.{turn_is, with_front, read_as}
 
 -- what was found in the bytes, behind the last token
-record FoundTakes (last : LastToken) (bytes : List ℕ) (found : Found) : Type 0 where
+record FoundTakes (last : LastToken) (bytes : List ℕ) (found : LogReading) : Type 0 where
   left : List ℕ
   parts : bytes ≡ flat_map entry_text found.entries ++ left
   counted : length left ≡ found.rest
@@ -35,7 +35,7 @@ record FoundTakes (last : LastToken) (bytes : List ℕ) (found : Found) : Type 0
 none_take : (last : LastToken) (bytes : List ℕ) (fault : Refusal) → FoundTakes last bytes (none_more bytes fault)
 none_take last bytes fault = record { left = bytes; parts = refl; counted = refl; lawful = tt; order = tt }
 
-one_takes : (last : LastToken) (bytes : List ℕ) (entry : Entry) (rest : List ℕ) (found : Found) → EntryTakes last bytes entry rest → FoundTakes (token_after last entry) rest found → FoundTakes last bytes (with_entry entry found)
+one_takes : (last : LastToken) (bytes : List ℕ) (entry : Entry) (rest : List ℕ) (found : LogReading) → EntryTakes last bytes entry rest → FoundTakes (token_after last entry) rest found → FoundTakes last bytes (with_entry entry found)
 one_takes last bytes entry rest found first others = record {
   left = others.left;
   parts = first.taken.parts ∙ ap (λ (t : List ℕ). entry_text entry ++ t) others.parts ∙ sym (append_assoc (entry_text entry) (flat_map entry_text found.entries) others.left);
@@ -54,14 +54,14 @@ entries_take (suc turns) last bytes fits begun = by_read (entry_at last bytes) r
         → FoundTakes last bytes (entries_at (suc turns) last bytes)
     by_read (Ok x) e others =
         let first = entry_takes last bytes x.0 x.1 fits begun e in
-        subst (λ (found : Found). FoundTakes last bytes found) (sym (turn_is turns last bytes (Ok x) e))
+        subst (λ (found : LogReading). FoundTakes last bytes found) (sym (turn_is turns last bytes (Ok x) e))
         (one_takes last bytes x.0 x.1 (entries_at turns (token_after last x.0) x.1) first (others x.0 x.1 first.taken.rest_fits (begun_after last x.0 begun first.lawful)))
-    by_read (Err fault) e others = subst (λ (found : Found). FoundTakes last bytes found) (sym (turn_is turns last bytes (Err fault) e)) (none_take last bytes fault)
+    by_read (Err fault) e others = subst (λ (found : LogReading). FoundTakes last bytes found) (sym (turn_is turns last bytes (Err fault) e)) (none_take last bytes fault)
 
 -- ---- the header
 
 record HeaderTakes (bytes : List ℕ) (run : ℕ) (rest : List ℕ) : Type 0 where
-  taken : Takes bytes (header_text run) rest
+  taken : TakesText bytes (header_text run) rest
   run_fits : run < 2 ^ 64
 
 header_takes : (bytes : List ℕ) (run : ℕ) (rest : List ℕ) → IsBytes bytes → header_at bytes ≡ Ok (run, rest) → HeaderTakes bytes run rest
@@ -74,15 +74,15 @@ header_takes bytes run rest fits e =
     let m = magic_takes log_magic bytes a.0 fits a.1 in
     let n = number_takes Short w64 (2 ^ 64) wide64 a.0 r.0.0 r.0.1 m.rest_fits r.1 in
     let z = number_takes Short w32 (2 ^ 32) wide32 r.0.1 b.0.0 b.0.1 n.0.rest_fits b.1 in
-    let base : Takes r.0.1 (to_be_bytes w32 0) b.0.1 = subst (λ (k : ℕ). Takes r.0.1 (to_be_bytes w32 k) b.0.1) (eqb-true _ _ g.0) z.0 in
-    let numbers = Takes-then a.0 (to_be_bytes w64 r.0.0) r.0.1 (to_be_bytes w32 0) b.0.1 n.0 base in
-    let taken = Takes-then bytes log_magic a.0 (to_be_bytes w64 r.0.0 ++ to_be_bytes w32 0) b.0.1 m numbers in
+    let base : TakesText r.0.1 (to_be_bytes w32 0) b.0.1 = subst (λ (k : ℕ). TakesText r.0.1 (to_be_bytes w32 k) b.0.1) (eqb-true _ _ g.0) z.0 in
+    let numbers = TakesText-then a.0 (to_be_bytes w64 r.0.0) r.0.1 (to_be_bytes w32 0) b.0.1 n.0 base in
+    let taken = TakesText-then bytes log_magic a.0 (to_be_bytes w64 r.0.0 ++ to_be_bytes w32 0) b.0.1 m numbers in
     subst (λ (x : ℕ × List ℕ). HeaderTakes bytes x.0 x.1) g.1 (record { taken = taken; run_fits = n.1 })
 
 -- the header, and what is found behind it
 record LogTakes (bytes : List ℕ) (read : LogRead) : Type 0 where
   rest : List ℕ
-  taken : Takes bytes (header_text read.run) rest
+  taken : TakesText bytes (header_text read.run) rest
   run_fits : read.run < 2 ^ 64
   read_is : read ≡ of_run read.run (all_at no_token rest)
 
@@ -96,10 +96,10 @@ log_takes bytes read fits e =
 -- ---- whole entries
 
 -- the beginning of what was put together
-front_of : (front : List Entry) (found : Found) (entries : List Entry) → entries ≡ (with_front front found).entries → front ≡ take (length front) entries
+front_of : (front : List Entry) (found : LogReading) (entries : List Entry) → entries ≡ (with_front front found).entries → front ≡ take (length front) entries
 front_of front found entries e = sym (ap (take (length front)) e ∙ take_at front found.entries (length front) refl)
 
-pub whole_entries : (bytes : List ℕ) (read : LogRead) → IsBytes bytes → log_at bytes ≡ Ok read → IsWhole bytes read.run read.entries read.rest
+pub whole_entries : (bytes : List ℕ) (read : LogRead) → IsBytes bytes → log_at bytes ≡ Ok read → AreWholeEntries bytes read.run read.entries read.rest
 whole_entries bytes read fits e =
     let h = log_takes bytes read fits e in
     let found = entries_take (length h.rest) no_token h.rest h.taken.rest_fits (omega arith) in
@@ -123,11 +123,11 @@ whole_entries bytes read fits e =
           ap log_at (begins.1 ∙ append_assoc (header_text read.run) (flat_map entry_text others) begins.0) ∙ header_again read.run behind h.run_fits in
           let same : read ≡ of_run read.run (all_at no_token behind) = ok_is read (of_run read.run (all_at no_token behind)) (sym e ∙ again) in
           front_of others (all_at (last_after no_token others) begins.0) read.entries
-          (ap (λ (x : LogRead). x.entries) same ∙ ap (λ (f : Found). f.entries) (all_again others no_token begins.0 (recursion_from_All IsEntry others is_log.lawful) is_log.in_order));
+          (ap (λ (x : LogRead). x.entries) same ∙ ap (λ (f : LogReading). f.entries) (all_again others no_token begins.0 (recursion_from_All IsEntry others is_log.lawful) is_log.in_order));
     }
 
 -- what a call has read are the whole entries
-pub is_whole : (bytes : List ℕ) (result : Result LogText Refusal) → IsBytes bytes → Gives text_of result (log_at bytes) → IfOk result (λ text. IsWhole bytes text.run text.entries.items text.rest)
+pub is_whole : (bytes : List ℕ) (result : Result LogText Refusal) → IsBytes bytes → Gives text_of result (log_at bytes) → IfOk result (λ text. AreWholeEntries bytes text.run text.entries.items text.rest)
 is_whole bytes (Ok text) fits given = whole_entries bytes (text_of text) fits given
 is_whole bytes (Err e) fits given = tt
 

@@ -9,7 +9,7 @@ use Rattle.pc_types.specs.declared.Phase.{Phase}
 use Rattle.pc_types.specs.declared.Phase.TheVariants.{Rest, Prepare, Resolve, Capture, Complete}
 use Rattle.pc_types.proofs.FieldLaws.{ok_is}
 use Rattle.pc_log.specs.declared.order.LastToken.{LastToken}
-use Rattle.pc_log.specs.Texts.{phase_number, IsEntry, IsPoint}
+use Rattle.pc_log.specs.Texts.{phase_number, IsEntry, IsTokenPoint}
 use Rattle.pc_log.specs.Orders.{next_phase, next_point, FollowFrom, comes_next, token_after}
 use Rattle.pc_types.specs.Phases.{same_phase}
 use Rattle.pc_log.specs.Reading.{phase_numbered}
@@ -79,14 +79,14 @@ same_itself Resolve = refl
 same_itself Capture = refl
 same_itself Complete = refl
 
-pub next_is : (last : LastToken) (phase : Phase) (point : ℕ) → HasBegun last → comes_next last phase point ≡ true → ComesNext last (Token phase point) × IsPoint point
+pub next_is : (last : LastToken) (phase : Phase) (point : ℕ) → HasBegun last → comes_next last phase point ≡ true → ComesNext last (Token phase point) × IsTokenPoint point
 next_is last phase point begun e =
     let a = and_parts (same_phase phase (next_phase last.phase) && eqb point (next_point last.phase last.point)) (nat_le point 65535) e in
     let b = and_parts (same_phase phase (next_phase last.phase)) (eqb point (next_point last.phase last.point)) a.0 in
     let point_is : point ≡ next_point last.phase last.point = eqb-true _ _ b.1 in
     ((same_true phase (next_phase last.phase) b.0, point_is), record { first = omega arith; last = grind (arith, nat_tests, a.1) })
 
-pub next_holds : (last : LastToken) (phase : Phase) (point : ℕ) → ComesNext last (Token phase point) → IsPoint point → comes_next last phase point ≡ true
+pub next_holds : (last : LastToken) (phase : Phase) (point : ℕ) → ComesNext last (Token phase point) → IsTokenPoint point → comes_next last phase point ≡ true
 next_holds last phase point next lawful =
     let a : same_phase phase (next_phase last.phase) ≡ true = rw next.0 (same_itself (next_phase last.phase)) in
     let b : eqb point (next_point last.phase last.point) ≡ true = grind (arith, nat_tests, next.1) in

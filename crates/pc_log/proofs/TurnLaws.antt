@@ -13,7 +13,7 @@ use Rattle.pc_types.proofs.FieldLaws.{bind_ok, guard_ok}
 use Rattle.pc_log.proofs.StepLaws.{where_then, made_ok}
 use Rattle.pc_log.specs.declared.order.LastToken.{LastToken}
 use Rattle.pc_log.specs.Orders.{token_after}
-use Rattle.pc_log.specs.Reading.{body_at, entry_at, entries_at, Found, none_more, with_entry, found_by, of_run, text_of, LogRead, all_at}
+use Rattle.pc_log.specs.Reading.{body_at, entry_at, entries_at, LogReading, none_more, with_entry, found_by, of_run, text_of, LogRead, all_at}
 use Rattle.pc_log.specs.declared.reading.LogText.{LogText}
 
 -- ---- the parts of an entry that was read
@@ -97,13 +97,13 @@ all_stop last (b ∷ bytes) fault e = turn_is (length bytes) last (b ∷ bytes) 
 -- ---- the loop
 
 -- what was read before, and what is still read
-abbrev pub with_front : List Entry → Found → Found
+abbrev pub with_front : List Entry → LogReading → LogReading
 with_front front found = record found { entries = front ++ found.entries }
 
-regroup : (front : List Entry) (entry : Entry) (found : Found) → with_front front (with_entry entry found) ≡ with_front (front ++ entry ∷ []) found
+regroup : (front : List Entry) (entry : Entry) (found : LogReading) → with_front front (with_entry entry found) ≡ with_front (front ++ entry ∷ []) found
 regroup front entry found = ap (λ (es : List Entry). record found { entries = es }) (sym (append_assoc front (entry ∷ []) found.entries))
 
-module _ (front : List Entry) (last : LastToken) (bytes : List ℕ) (total : Found) (so_far : with_front front (all_at last bytes) ≡ total) where
+module _ (front : List Entry) (last : LastToken) (bytes : List ℕ) (total : LogReading) (so_far : with_front front (all_at last bytes) ≡ total) where
   pub entry_goes_on : (entry : Entry) (after : List ℕ) → entry_at last bytes ≡ Ok (entry, after) → with_front (front ++ entry ∷ []) (all_at (token_after last entry) after) ≡ total
   entry_goes_on entry after e = sym (ap (with_front front) (all_go_on last bytes entry after e) ∙ regroup front entry (all_at (token_after last entry) after)) ∙ so_far
 
@@ -125,11 +125,11 @@ pub is_empty : (b : Bool) (bytes : List ℕ) → b ≡ eqb (length bytes) 0 → 
 is_empty b bytes e t = nil_from_length bytes (eqb-true (length bytes) 0 (sym e ∙ t))
 
 -- what is read where this was found
-abbrev pub read_as : ℕ → Found → Result LogRead Refusal
+abbrev pub read_as : ℕ → LogReading → Result LogRead Refusal
 read_as run found = Ok (of_run run found)
 
 -- what a stopped loop gives: what was read, unless memory ran out
-pub stopped_gives : (run : ℕ) (result : Result LogText Refusal) (fault : Refusal) (total : Found) (entries : List Entry) (rest : ℕ)
+pub stopped_gives : (run : ℕ) (result : Result LogText Refusal) (fault : Refusal) (total : LogReading) (entries : List Entry) (rest : ℕ)
     → Gives text_of result (Ok (record { run = run; entries = entries; rest = rest; fault = Some fault })) → (fault ≡ OutOfMemory → result ≡ Err OutOfMemory)
     → (fault ≢ OutOfMemory → total ≡ record { entries = entries; rest = rest; fault = Some fault }) → Gives text_of result (Ok (of_run run total))
 stopped_gives run (Ok text) fault total entries rest given memory read =

@@ -21,20 +21,20 @@ pub record IsLog (entries : List Entry) : Type 0 where
   pub in_order : InOrder entries
 
 -- the bytes begin with the text of these entries
-abbrev pub BeginsWith : List ℕ → ℕ → List Entry → Type 0
-BeginsWith bytes run entries = (left : List ℕ) × (bytes ≡ log_text run entries ++ left)
+abbrev pub BeginsWithText : List ℕ → ℕ → List Entry → Type 0
+BeginsWithText bytes run entries = (left : List ℕ) × (bytes ≡ log_text run entries ++ left)
 
 -- The whole entries of the bytes: their text and so many bytes more are the bytes, and any other log whose text begins the
 -- bytes is a beginning of theirs.
-pub record IsWhole (bytes : List ℕ) (run : ℕ) (entries : List Entry) (rest : ℕ) : Type 0 where
+pub record AreWholeEntries (bytes : List ℕ) (run : ℕ) (entries : List Entry) (rest : ℕ) : Type 0 where
   pub run_fits : run < 2 ^ 64
   pub is_log : IsLog entries
   pub parts : (left : List ℕ) × (bytes ≡ log_text run entries ++ left) × (length left ≡ rest)
-  pub longest : (others : List Entry) → IsLog others → BeginsWith bytes run others → others ≡ take (length others) entries
+  pub longest : (others : List Entry) → IsLog others → BeginsWithText bytes run others → others ≡ take (length others) entries
 
 -- what is read of bytes are their whole entries
 abbrev pub WholeEntriesAreLongest : Type 0
-WholeEntriesAreLongest = (bytes : List ℕ) (read : LogRead) → AreBytes bytes → log_at bytes ≡ Ok read → IsWhole bytes read.run read.entries read.rest
+WholeEntriesAreLongest = (bytes : List ℕ) (read : LogRead) → AreBytes bytes → log_at bytes ≡ Ok read → AreWholeEntries bytes read.run read.entries read.rest
 
 -- a log's text is read as its entries, and nothing is left
 abbrev pub LogTextsAreRead : Type 0

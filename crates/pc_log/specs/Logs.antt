@@ -8,5 +8,5 @@ abbrev pub entries_of : Log → List Entry
 entries_of log = log.entries.items
 
 -- there is memory for one more entry
-abbrev pub HasRoom : Log → Type 0
-HasRoom log = vec_len log.entries < vec_capacity log.entries
+abbrev pub HasRoomForEntry : Log → Type 0
+HasRoomForEntry log = vec_len log.entries < vec_capacity log.entries

@@ -93,7 +93,7 @@ entry_at last bytes = do
   Ok (entry, body.1)
 
 -- the entries that can be read one after the other, how many bytes are left, and the fault that stopped the reading
-pub record Found : Type 0 where
+pub record LogReading : Type 0 where
   pub entries : List Entry
   pub rest : ℕ
   pub fault : Option Refusal
@@ -104,20 +104,20 @@ fault_of [] fault = None
 fault_of (byte ∷ bytes) fault = Some fault
 
 -- no entry can be read: the bytes are left
-abbrev pub none_more : List ℕ → Refusal → Found
+abbrev pub none_more : List ℕ → Refusal → LogReading
 none_more bytes fault = record { entries = []; rest = length bytes; fault = fault_of bytes fault }
 
 -- one entry more, in front
-abbrev pub with_entry : Entry → Found → Found
+abbrev pub with_entry : Entry → LogReading → LogReading
 with_entry entry found = record found { entries = entry ∷ found.entries }
 
 -- the entry that was read and what is found behind it, or none more
-abbrev pub found_by : List ℕ → Result (Entry × List ℕ) Refusal → (Entry × List ℕ → Found) → Found
+abbrev pub found_by : List ℕ → Result (Entry × List ℕ) Refusal → (Entry × List ℕ → LogReading) → LogReading
 found_by bytes (Ok entry) behind = with_entry entry.0 (behind entry)
 found_by bytes (Err fault) behind = none_more bytes fault
 
 -- As many entries as can be read. Each takes some of the bytes, so that as many turns as there are bytes are enough.
-unfoldable pub entries_at : ℕ → LastToken → List ℕ → Found
+unfoldable pub entries_at : ℕ → LastToken → List ℕ → LogReading
 entries_at zero last bytes = none_more bytes Short
 entries_at (suc turns) last bytes = found_by bytes (entry_at last bytes) (λ entry. entries_at turns (token_after last entry.0) entry.1)
 
@@ -129,7 +129,7 @@ pub record LogRead : Type 0 where
   pub fault : Option Refusal
 
 -- the same with its run
-abbrev pub of_run : ℕ → Found → LogRead
+abbrev pub of_run : ℕ → LogReading → LogRead
 of_run run found = record { run = run; entries = found.entries; rest = found.rest; fault = found.fault }
 
 -- the header: the run, and the bytes behind it
@@ -151,5 +151,5 @@ abbrev pub text_of : LogText → LogRead
 text_of text = record { run = text.run; entries = text.entries.items; rest = text.rest; fault = text.fault }
 
 -- all that can be read
-abbrev pub all_at : LastToken → List ℕ → Found
+abbrev pub all_at : LastToken → List ℕ → LogReading
 all_at last bytes = entries_at (length bytes) last bytes

@@ -72,11 +72,11 @@ pub record IsCommit (session : ℕ) (writes : List Write) : Type 0 where
   pub once : IsDistinct same_key (keys_of writes)
 
 -- a token's point is 1 to 65,535
-pub record IsPoint (point : ℕ) : Type 0 where
+pub record IsTokenPoint (point : ℕ) : Type 0 where
   pub first : 1 ≤ point
   pub last : point ≤ MOST_POINTS
 
 -- what has a text
 abbrev pub IsEntry : Entry → Type 0
 IsEntry (Commit session writes) = IsCommit session writes
-IsEntry (Token phase point) = IsPoint point
+IsEntry (Token phase point) = IsTokenPoint point

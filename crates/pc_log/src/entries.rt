@@ -1,6 +1,6 @@
 //! The entries of a log.
 ghost use Rattle.std.specs.Prelude.{◌≡◌, ◌==◌, ◌<◌, ◌≤◌, [], ◌∷◌, ◌++◌, ◌↔◌, ◌⊎◌, length, Err, IfOk, IfErr, OnOk, OnErr};
-ghost use Rattle.pc_log.specs.Logs.{entries_of, HasRoom};
+ghost use Rattle.pc_log.specs.Logs.{entries_of, HasRoomForEntry};
 
 use crate::log::Log;
 use pc_types::{Entry, Lsn, MOST_LOG_ENTRIES, Refusal};
@@ -43,9 +43,9 @@ impl Log {
     /// Whether the log is full is not looked at.
     pub fn reserve(&mut self) -> Result<(), Refusal>
         ensures entries { entries_of self.new ≡ entries_of self.old }
-        ensures room { OnOk result (HasRoom self.new) }
+        ensures room { OnOk result (HasRoomForEntry self.new) }
         ensures memory { IfErr result (λ e. e ≡ Refusal.OutOfMemory) }
-        ensures needed { OnErr result (¬ HasRoom self.old) }
+        ensures needed { OnErr result (¬ HasRoomForEntry self.old) }
     {
         self.entries.reserve(1)?;
         Ok(())
@@ -53,7 +53,7 @@ impl Log {
 
     /// Adds the entry at the end, where room was made for it. Answers its number: the first entry has number 1.
     pub fn append_reserved(&mut self, entry: Entry) -> Lsn
-        requires room { HasRoom self.old }
+        requires room { HasRoomForEntry self.old }
         requires not_full { length (entries_of self.old) < MOST_LOG_ENTRIES }
         ensures entries { entries_of self.new ≡ entries_of self.old ++ entry ∷ [] }
         ensures number { result ≡ length (entries_of self.new) }
@@ -69,7 +69,7 @@ impl Log {
         ensures number { IfOk result (λ number. number ≡ length (entries_of self.new)) }
         ensures full { (result ≡ Err Refusal.LogFull) ↔ (length (entries_of self.old) ≡ MOST_LOG_ENTRIES) }
         ensures refusals { IfErr result (λ e. (e ≡ Refusal.LogFull) ⊎ (e ≡ Refusal.OutOfMemory)) }
-        ensures needed { result ≡ Err Refusal.OutOfMemory → ¬ HasRoom self.old }
+        ensures needed { result ≡ Err Refusal.OutOfMemory → ¬ HasRoomForEntry self.old }
         ensures kept { OnErr result (entries_of self.new ≡ entries_of self.old) }
     {
         if self.is_full() {

@@ -3,7 +3,7 @@ ghost use Rattle.std.specs.Prelude.{◌≡◌, ◌<◌, [], length, IfOk, Ok, Er
 ghost use Rattle.pc_types.specs.Fields.{Gives, Reads};
 ghost use Rattle.pc_log.specs.Reading.{byte_at, write_at, writes_at, commit_at, token_at, kind_at, body_at, entry_at, entries_at, header_at, log_at, text_of, of_run, is_written};
 ghost use Rattle.pc_log.specs.Orders.{no_token};
-ghost use Rattle.pc_log.specs.Laws.{IsWhole};
+ghost use Rattle.pc_log.specs.Laws.{AreWholeEntries};
 
 use crate::order::LastToken;
 use crate::phases;
@@ -38,7 +38,7 @@ pub struct LogText {
 /// `OutOfMemory` only where a growth was refused. It takes memory for the entries alone.
 pub fn read_log(alloc: Global, bytes: &[u8]) -> Result<LogText, Refusal>
     ensures exact { Gives text_of result (log_at bytes.now) }
-    ensures whole { IfOk result (λ text. IsWhole bytes.now text.run text.entries.items text.rest) }
+    ensures whole { IfOk result (λ text. AreWholeEntries bytes.now text.run text.entries.items text.rest) }
 {
     read_text(alloc, bytes)
 }

@@ -19,7 +19,7 @@ use Rattle.pc_model.proofs.LegalEffectLaws.{effect_fits}
 use Rattle.pc_model.specs.LegalEffects.{Fits, changes_closed}
 use Rattle.pc_model.proofs.LogPieceLaws.{front_whole, cycle_open}
 use Rattle.pc_model.proofs.TouchedKeyLaws.{touched_distinct}
-use Rattle.pc_model.proofs.Tokens.{Stands, left_of, at_first, stands_commit, stands_token, stands_start, stands_seal, stands_take, none_next, left_kept, no_token, left_after_take, sealed_keys, sealed_left}
+use Rattle.pc_model.proofs.Tokens.{TokensStand, left_of, at_first, stands_commit, stands_token, stands_start, stands_seal, stands_take, none_next, left_kept, no_token, left_after_take, sealed_keys, sealed_left}
 
 -- the keys taken since the last point's token, in order
 abbrev pub keys_taken : History → List (List ℕ)
@@ -27,18 +27,18 @@ keys_taken h = map (λ t. t.0) (taken h)
 
 -- what stands after a history
 abbrev pub HasStanding : History → Type 0
-HasStanding h = Stands (phase_of h) (point_of h) (log_of h) (open_set h) (keys_taken h)
+HasStanding h = TokensStand (phase_of h) (point_of h) (log_of h) (open_set h) (keys_taken h)
 
 -- the same after one more effect
 abbrev StandsBy : History → Effect → Type 0
-StandsBy h e = Stands (phase_by e (phase_of h)) (point_by e (point_of h)) (log_of h ++ entries_by e h) (written_by e h (open_set h)) (map (λ t. t.0) (taken_by e (taken h)))
+StandsBy h e = TokensStand (phase_by e (phase_of h)) (point_by e (point_of h)) (log_of h ++ entries_by e h) (written_by e h (open_set h)) (map (λ t. t.0) (taken_by e (taken h)))
 
 module _ (h : History) (s : HasStanding h) where
-  same_log : Stands (phase_of h) (point_of h) (log_of h ++ []) (open_set h) (keys_taken h)
-  same_log = subst (λ log. Stands (phase_of h) (point_of h) log (open_set h) (keys_taken h)) (sym (append-nil (log_of h))) s
+  same_log : TokensStand (phase_of h) (point_of h) (log_of h ++ []) (open_set h) (keys_taken h)
+  same_log = subst (λ log. TokensStand (phase_of h) (point_of h) log (open_set h) (keys_taken h)) (sym (append-nil (log_of h))) s
 
-  pub in_phase : (phase : Phase) → phase_of h ≡ phase → Stands phase (point_of h) (log_of h) (open_set h) (keys_taken h)
-  in_phase phase is = subst (λ (ph : Phase). Stands ph (point_of h) (log_of h) (open_set h) (keys_taken h)) is s
+  pub in_phase : (phase : Phase) → phase_of h ≡ phase → TokensStand phase (point_of h) (log_of h) (open_set h) (keys_taken h)
+  in_phase phase is = subst (λ (ph : Phase). TokensStand ph (point_of h) (log_of h) (open_set h) (keys_taken h)) is s
 
   by_rest : phase_of h ≡ Complete → StandsBy h (Moves Rest (point_of h))
   by_rest is = stands_token Complete (point_of h) (log_of h) (open_set h) (keys_taken h) (in_phase Complete is) Rest refl refl (λ e. cc) (λ e. (in_phase Complete is).idle refl)
@@ -59,8 +59,8 @@ module _ (h : History) (s : HasStanding h) where
   by_take key content keys is first =
       let taking : is_taking (phase_of h) ≡ true = ap is_taking is in
       let after = stands_take (phase_of h) (point_of h) (log_of h) (open_set h) (keys_taken h) s key keys first taking in
-      subst (λ gone. Stands (phase_of h) (point_of h) (log_of h ++ []) (open_set h) gone) (sym (map-append (λ t. t.0) (taken h) ((key, content) ∷ [])))
-      (subst (λ log. Stands (phase_of h) (point_of h) log (open_set h) (keys_taken h ++ key ∷ [])) (sym (append-nil (log_of h))) after)
+      subst (λ gone. TokensStand (phase_of h) (point_of h) (log_of h ++ []) (open_set h) gone) (sym (map-append (λ t. t.0) (taken h) ((key, content) ∷ [])))
+      (subst (λ log. TokensStand (phase_of h) (point_of h) log (open_set h) (keys_taken h ++ key ∷ [])) (sym (append-nil (log_of h))) after)
 
   stands_by : (st : Setting) (e : Effect) → Fits st h e → StandsBy h e
   stands_by st (Commits session) fits = stands_commit (phase_of h) (point_of h) (log_of h) (open_set h) (keys_taken h) s session (writes_of session h)
@@ -107,7 +107,7 @@ past_token st h legal past = by_phase (phase_of h) past (has_standing st h legal
         both : (n : ℕ) → 1 ≤ n → (nat_lt 0 n && nat_le n n) ≡ true
         both n low = grind (arith, nat_tests)
 
-    by_phase : (phase : Phase) → is_past_token phase ≡ true → Stands phase (point_of h) (log_of h) (open_set h) (keys_taken h) → has_token (point_of h) (log_of h) ≡ true
+    by_phase : (phase : Phase) → is_past_token phase ≡ true → TokensStand phase (point_of h) (log_of h) (open_set h) (keys_taken h) → has_token (point_of h) (log_of h) ≡ true
     by_phase Resolve past s = has_own (point_of h) (s.begun refl) (s.has (point_of h))
     by_phase Capture past s = has_own (point_of h) (s.begun refl) (s.has (point_of h))
     by_phase Complete past s = has_own (point_of h) (s.begun refl) (s.has (point_of h))

@@ -38,7 +38,7 @@ token_writes_none keys p to n = elim (is_token_of p to n) as (λ b. with_written
 
 -- What stands after a history: the log has the tokens of 1 to the last sealed point, in this order; the keys written since
 -- are those of the next point's cycle; the keys taken and those left are the touched ones, and none is left where none may be.
-pub record Stands (phase : Phase) (point : ℕ) (log : List Entry) (written gone : List (List ℕ)) : Type 0 where
+pub record TokensStand (phase : Phase) (point : ℕ) (log : List Entry) (written gone : List (List ℕ)) : Type 0 where
   pub has : (p : ℕ) → has_token p log ≡ (nat_lt 0 p && nat_le p (sealed_in phase point))
   pub in_order : (p : ℕ) → has_token (p + 1) log ≡ true → PrecedesNext p log
   pub begun : is_rest phase ≡ false → 1 ≤ point
@@ -47,7 +47,7 @@ pub record Stands (phase : Phase) (point : ℕ) (log : List Entry) (written gone
   pub idle : is_taking phase ≡ false → left_of point log gone ≡ []
 
 -- at first
-pub at_first : Stands Rest 0 [] [] []
+pub at_first : TokensStand Rest 0 [] [] []
 at_first = record {
   has = λ p. no_point p;
   in_order = λ p there. cc;
@@ -60,7 +60,7 @@ at_first = record {
     no_point : (p : ℕ) → false ≡ (nat_lt 0 p && nat_le p 0)
     no_point p = grind (arith, nat_tests)
 
-module _ (phase : Phase) (point : ℕ) (log : List Entry) (written gone : List (List ℕ)) (s : Stands phase point log written gone) where
+module _ (phase : Phase) (point : ℕ) (log : List Entry) (written gone : List (List ℕ)) (s : TokensStand phase point log written gone) where
   -- the last sealed point has its token, or is 0
   pub reached : IsReached (sealed_in phase point) log
   reached = by_point (sealed_in phase point) (s.has (sealed_in phase point))
@@ -117,7 +117,7 @@ module _ (phase : Phase) (point : ℕ) (log : List Entry) (written gone : List (
   open_after to n = s.open_keys ∙ sym (touched_more (sealed_in phase point) log (Token to n ∷ []) reached none_next ∙ token_writes_none (touched (sealed_in phase point + 1) log) (sealed_in phase point + 1) to n)
 
   -- a commit
-  pub stands_commit : (session : ℕ) (ws : List Write) → Stands phase point (log ++ Commit session ws ∷ []) (with_keys written ws) gone
+  pub stands_commit : (session : ℕ) (ws : List Write) → TokensStand phase point (log ++ Commit session ws ∷ []) (with_keys written ws) gone
   stands_commit session ws = record {
     has = λ p. same_tokens (Commit session ws ∷ []) (λ q. refl) p ∙ s.has p;
     in_order = order_after (Commit session ws ∷ []) (λ q. refl);
@@ -129,7 +129,7 @@ module _ (phase : Phase) (point : ℕ) (log : List Entry) (written gone : List (
 
   -- another token than a point's, at the same last sealed point
   pub stands_token : (to : Phase) → is_resolve to ≡ false → sealed_in to point ≡ sealed_in phase point → (is_rest to ≡ false → is_rest phase ≡ false) → (is_taking to ≡ false → left_of point log gone ≡ []) →
-      Stands to point (log ++ Token to point ∷ []) written gone
+      TokensStand to point (log ++ Token to point ∷ []) written gone
   stands_token to plain same past empty = record {
     has = λ p. same_tokens (Token to point ∷ []) (no_token to point plain) p ∙ s.has p ∙ ap (λ n. nat_lt 0 p && nat_le p n) (sym same);
     in_order = order_after (Token to point ∷ []) (no_token to point plain);
@@ -143,7 +143,7 @@ one_less : (n : ℕ) → n + 1 - 1 ≡ n
 one_less n = omega arith
 
 -- the next point is begun, from rest
-pub stands_start : (point : ℕ) (log : List Entry) (written gone : List (List ℕ)) → Stands Rest point log written gone → Stands Prepare (point + 1) (log ++ Token Prepare (point + 1) ∷ []) written gone
+pub stands_start : (point : ℕ) (log : List Entry) (written gone : List (List ℕ)) → TokensStand Rest point log written gone → TokensStand Prepare (point + 1) (log ++ Token Prepare (point + 1) ∷ []) written gone
 stands_start point log written gone s = record {
   has = λ p. same p ∙ s.has p ∙ ap (λ n. nat_lt 0 p && nat_le p n) (sym (one_less point));
   in_order = order_after Rest point log written gone s more none;
@@ -171,7 +171,7 @@ own_token n = let is : eqb n n ≡ true = grind (arith, nat_tests) in rw is refl
 other_token : (p n : ℕ) → has_token p (Token Resolve n ∷ []) ≡ eqb n p
 other_token p n = elim (eqb n p) as (λ b. (if b then true else false) ≡ b) [ true ↦ refl | false ↦ refl ]
 
-module _ (point : ℕ) (log : List Entry) (written gone : List (List ℕ)) (s : Stands Prepare point log written gone) where
+module _ (point : ℕ) (log : List Entry) (written gone : List (List ℕ)) (s : TokensStand Prepare point log written gone) where
   abbrev sealed_log : List Entry
   sealed_log = log ++ Token Resolve point ∷ []
 
@@ -232,7 +232,7 @@ module _ (point : ℕ) (log : List Entry) (written gone : List (List ℕ)) (s : 
   sealed_left = ap (λ b. if b then without (touched point sealed_log) [] else []) has_own ∙ without_none (touched point sealed_log)
 
   -- the point's token
-  pub stands_seal : Stands Resolve point sealed_log [] []
+  pub stands_seal : TokensStand Resolve point sealed_log [] []
   stands_seal = record {
     has = has_at;
     in_order = order_at;
@@ -246,7 +246,7 @@ module _ (point : ℕ) (log : List Entry) (written gone : List (List ℕ)) (s : 
 some_left : (point : ℕ) (log : List Entry) (gone : List (List ℕ)) (key : List ℕ) (keys : List (List ℕ)) → left_of point log gone ≡ key ∷ keys → has_token point log ≡ true
 some_left point log gone key keys = elim (has_token point log) as (λ b. (if b then without (touched point log) gone else []) ≡ key ∷ keys → b ≡ true) [ true ↦ λ is. refl | false ↦ λ is. cc ]
 
-module _ (phase : Phase) (point : ℕ) (log : List Entry) (written gone : List (List ℕ)) (s : Stands phase point log written gone) (key : List ℕ) (keys : List (List ℕ)) (is : left_of point log gone ≡ key ∷ keys) where
+module _ (phase : Phase) (point : ℕ) (log : List Entry) (written gone : List (List ℕ)) (s : TokensStand phase point log written gone) (key : List ℕ) (keys : List (List ℕ)) (is : left_of point log gone ≡ key ∷ keys) where
   all_taken : (gone ++ key ∷ []) ++ keys ≡ touched point log
   all_taken = append_assoc gone (key ∷ []) keys ∙ ap (λ left. gone ++ left) (sym is) ∙ s.all_keys (some_left point log gone key keys is)
 
@@ -257,7 +257,7 @@ module _ (phase : Phase) (point : ℕ) (log : List Entry) (written gone : List (
       ∙ without_first (gone ++ key ∷ []) keys (subst (IsDistinct same_bytes) (sym all_taken) (touched_distinct point log))
 
   -- a Take
-  pub stands_take : is_taking phase ≡ true → Stands phase point log written (gone ++ key ∷ [])
+  pub stands_take : is_taking phase ≡ true → TokensStand phase point log written (gone ++ key ∷ [])
   stands_take holds = record {
     has = s.has;
     in_order = s.in_order;

@@ -9,8 +9,8 @@ use Rattle.pc_model.specs.Standing.{IsOfItsPoints}
 use Rattle.pc_collapse.specs.Laws.{FilesFoldWell}
 use Rattle.pc_engine.specs.Checks.{IsFileRight}
 use Rattle.pc_engine.specs.Laws.{FilesOfTheirPointsAreRight}
-use Rattle.pc_outcomes.specs.Leaving.{with_file, Folded, IsLeft, AreLeftAfter, IsOfAll, IsLegacy}
-use Rattle.pc_outcomes.specs.declared.outcome.Left.{Left}
+use Rattle.pc_outcomes.specs.Leaving.{with_file, Folded, IsStoreReport, AreLeftAfter, IsOfAll, IsLegacy}
+use Rattle.pc_outcomes.specs.declared.outcome.StoreReport.{StoreReport}
 
 -- the fold of files of a log is the file of the points of all
 pub of_all : FilesFoldWell → (base : BaseFile) (log : List Entry) (files : List File) (collapsed : Option File) → All (IsOfItsPoints base.run base.pairs log) files → Folded files collapsed → IsOfAll base log files collapsed
@@ -36,11 +36,11 @@ module _ (well : FilesFoldWell) (are_right : FilesOfTheirPointsAreRight) (st : S
   right_with some (Some file) of = All-push (IsFileRight base.pairs log) files file right_files (right_file file of.of_its_points)
 
   -- so is all that is left
-  pub legacy : (some : List File) (left : Left) → All (IsOfItsPoints base.run base.pairs log) some → IsLeft base log files some left → IsLegacy base log some left
+  pub legacy : (some : List File) (left : StoreReport) → All (IsOfItsPoints base.run base.pairs log) some → IsStoreReport base log files some left → IsLegacy base log some left
   legacy some left parts is =
       let of = of_all well base log some is.collapsed parts is.folded in
       record { collapsed = is.collapsed; of_all = of; summary = is.summary; right = is.right.1 (right_with some is.collapsed of) }
 
   -- where some of the files were folded
-  pub legacy_of : (n : ℕ) (left : Left) → IsLeft base log files (drop n files) left → IsLegacy base log (drop n files) left
+  pub legacy_of : (n : ℕ) (left : StoreReport) → IsStoreReport base log files (drop n files) left → IsLegacy base log (drop n files) left
   legacy_of n left = legacy (drop n files) left (All-drop (IsOfItsPoints base.run base.pairs log) n files worth)

@@ -19,7 +19,7 @@ use Rattle.pc_collapse.specs.Folds.{Folds}
 use Rattle.pc_collapse.specs.Laws.{IsOfAllPoints}
 use Rattle.pc_engine.specs.Checks.{IsFileRight}
 use Rattle.pc_outcomes.specs.declared.outcome.Collapsed.{Collapsed}
-use Rattle.pc_outcomes.specs.declared.outcome.Left.{Left}
+use Rattle.pc_outcomes.specs.declared.outcome.StoreReport.{StoreReport}
 
 -- whether the entry is a commit
 abbrev pub is_commit : Entry → Bool
@@ -54,7 +54,7 @@ with_file files None = files
 with_file files (Some file) = files ++ file ∷ []
 
 -- Some of a store's files were folded to one, of which this is told; and this is whether they and it are right by the log.
-pub record IsLeft (base : BaseFile) (log : List Entry) (files some : List File) (left : Left) : Type 0 where
+pub record IsStoreReport (base : BaseFile) (log : List Entry) (files some : List File) (left : StoreReport) : Type 0 where
   pub collapsed : Option File
   pub folded : Folded some collapsed
   pub summary : left.collapsed ≡ summary_if_any base collapsed
@@ -70,8 +70,8 @@ IsUnlaid base None why = ⊥
 IsUnlaid base (Some file) why = first_cause (lay_causes base file) ≡ Some why
 
 -- Why nothing is told of what is left: memory ran out, or the files have no fold, or the base can't have it laid on it.
-abbrev pub IsUntold : BaseFile → List File → Refusal → Type 0
-IsUntold base files why = (why ≡ OutOfMemory) ⊎ IsUnfolded files why ⊎ ((file : Option File) × Folded files file × IsUnlaid base file why)
+abbrev pub IsReportUntold : BaseFile → List File → Refusal → Type 0
+IsReportUntold base files why = (why ≡ OutOfMemory) ⊎ IsUnfolded files why ⊎ ((file : Option File) × Folded files file × IsUnlaid base file why)
 
 -- A legal history leaves this: the base is that of the start, the log that of the history, and each file that of its points.
 pub record AreLeftAfter (st : Setting) (history : History) (base : BaseFile) (log : List Entry) (files : List File) : Type 0 where
@@ -97,7 +97,7 @@ IsOfAll base log files None = files ≡ []
 IsOfAll base log files (Some file) = IsOfAllPoints base.run base.pairs log files file
 
 -- What is told of a store that a legal history left: of one file of the points of all these, and that everything is right.
-pub record IsLegacy (base : BaseFile) (log : List Entry) (files : List File) (left : Left) : Type 0 where
+pub record IsLegacy (base : BaseFile) (log : List Entry) (files : List File) (left : StoreReport) : Type 0 where
   pub collapsed : Option File
   pub of_all : IsOfAll base log files collapsed
   pub summary : left.collapsed ≡ summary_if_any base collapsed

@@ -2,8 +2,8 @@
 use Rattle.std.specs.Prelude.{ℕ, List, ◌++◌, Option, Some, None, codes, decimal}
 use Rattle.pc_texts.specs.Texts.{collapsed_line, check_line}
 use Rattle.pc_outcomes.specs.declared.outcome.Collapsed.{Collapsed}
-use Rattle.pc_outcomes.specs.declared.outcome.Left.{Left}
-use Rattle.pc_outcomes.specs.declared.outcome.Outcome.{Outcome}
+use Rattle.pc_outcomes.specs.declared.outcome.StoreReport.{StoreReport}
+use Rattle.pc_outcomes.specs.declared.outcome.RunReport.{RunReport}
 use Rattle.pc_outcomes.specs.declared.outcome.Printed.{Printed}
 use Rattle.pc_outcomes.specs.declared.outcome.Printed.TheVariants as printed
 
@@ -21,15 +21,15 @@ file_lines None = codes "collapsed none\n"
 file_lines (Some file) = collapsed_lines file
 
 -- what is printed of what a closed store left
-abbrev pub left_text : Left → List ℕ
+abbrev pub left_text : StoreReport → List ℕ
 left_text left = file_lines left.collapsed ++ check_line left.is_right
 
 -- how many jobs were committed, and how many given up, and how many points were taken
-abbrev pub counts_text : Outcome → List ℕ
+abbrev pub counts_text : RunReport → List ℕ
 counts_text o = codes "commits " ++ (decimal o.commits ++ (codes "\ngave up " ++ (decimal o.given_up ++ (codes "\npoints " ++ (decimal o.points ++ codes "\n")))))
 
 -- the lines of a run
-abbrev pub outcome_text : Outcome → List ℕ
+abbrev pub outcome_text : RunReport → List ℕ
 outcome_text o = counts_text o ++ left_text o.left
 
 -- what is printed of a workload: the number of its first bad line, or the lines of its run

@@ -6,9 +6,9 @@ ghost use Rattle.pc_model.specs.History.{History};
 ghost use Rattle.pc_model.specs.LaidFiles.{laid_file};
 ghost use Rattle.pc_model.specs.Replies.{Setting};
 ghost use Rattle.pc_collapse.specs.declared.limits.TheConstants.{MOST_COLLAPSERS};
-ghost use Rattle.pc_outcomes.specs.Leaving.{is_commit, commits_in, summary_if_any, summary_of, with_file, Folded, AreLeftAfter, IsLeft, IsLegacy, IsUnfolded, IsUnlaid, IsUntold, IsUntoldAfter};
+ghost use Rattle.pc_outcomes.specs.Leaving.{is_commit, commits_in, summary_if_any, summary_of, with_file, Folded, AreLeftAfter, IsStoreReport, IsLegacy, IsUnfolded, IsUnlaid, IsReportUntold, IsUntoldAfter};
 
-use crate::outcome::{Collapsed, Left};
+use crate::outcome::{Collapsed, StoreReport};
 use pc_capture::SharedPart;
 use pc_collapse::{collapse_bag_owned, files_fold_well};
 use pc_engine::{are_files_right, files_of_their_points_are_right};
@@ -153,12 +153,12 @@ pub fn left_by<G: Gate + Sync, R: Threads + Wait + Sync>(
     singles: usize,
     collapsers: u8,
     gate: &G,
-) -> Result<Left, Refusal>
+) -> Result<StoreReport, Refusal>
     requires singles { singles ≤ length files.items }
     requires collapsers { (1 ≤ collapsers) × (collapsers ≤ MOST_COLLAPSERS) }
-    ensures left { IfOk result (IsLeft base.now log.now files.items (drop singles files.items)) }
+    ensures left { IfOk result (IsStoreReport base.now log.now files.items (drop singles files.items)) }
     ensures legacy { (st : Setting) (history : History) → AreLeftAfter st history base.now log.now files.items → IfOk result (IsLegacy base.now log.now (drop singles files.items)) }
-    ensures refused { IfErr result (IsUntold base.now (drop singles files.items)) }
+    ensures refused { IfErr result (IsReportUntold base.now (drop singles files.items)) }
     ensures untold { (st : Setting) (history : History) → AreLeftAfter st history base.now log.now files.items → IfErr result (IsUntoldAfter (drop singles files.items)) }
 {
     files_fold_well();
@@ -167,7 +167,7 @@ pub fn left_by<G: Gate + Sync, R: Threads + Wait + Sync>(
     let collapsed = summary_if_any(alloc, base, &part)?;
     let files = with_file(alloc, files, part)?;
     let is_right = are_files_right(alloc, base, log, &files)?;
-    Ok(Left {
+    Ok(StoreReport {
         collapsed,
         is_right,
     })

@@ -5,4 +5,4 @@ mod leaving;
 mod outcome;
 
 pub use leaving::{commits_in, left_by};
-pub use outcome::{Collapsed, Left, Outcome, Printed};
+pub use outcome::{Collapsed, Printed, RunReport, StoreReport};

@@ -10,7 +10,7 @@ use std::io::Write;
 
 /// What a run left.
 #[derive(Drop)]
-pub struct Outcome {
+pub struct RunReport {
     /// How many transactions were committed.
     pub commits: u64,
     /// How many were given up.
@@ -18,12 +18,12 @@ pub struct Outcome {
     /// How many points were taken.
     pub points: u32,
     /// What the store left.
-    pub left: Left,
+    pub left: StoreReport,
 }
 
 /// What a closed store left.
 #[derive(Drop)]
-pub struct Left {
+pub struct StoreReport {
     /// The file of all points, where there are any.
     pub collapsed: Option<Collapsed>,
     /// Whether each file of all points from the first on is right by the log.
@@ -47,7 +47,7 @@ pub enum Printed {
     /// The number of its first bad line, from 1.
     BadLine(usize),
     /// What its run left.
-    Whole(Outcome),
+    Whole(RunReport),
 }
 
 // A word and a number, alone in a line.
@@ -78,7 +78,7 @@ fn put_file<W: Write>(out: &mut Tally<W>, collapsed: &Option<Collapsed>) -> Resu
     }
 }
 
-impl Left {
+impl StoreReport {
     // Writes the lines of the file of all points, and what the check found.
     fn put<W: Write>(&self, out: &mut Tally<W>) -> Result<(), Refusal>
         ensures { Puts W.contents out.old out.new result (left_text self.now) }
@@ -88,7 +88,7 @@ impl Left {
     }
 }
 
-impl Outcome {
+impl RunReport {
     // Writes how many jobs were committed and given up, and how many points were taken.
     fn put_counts<W: Write>(&self, out: &mut Tally<W>) -> Result<(), Refusal>
         ensures { Puts W.contents out.old out.new result (counts_text self.now) }

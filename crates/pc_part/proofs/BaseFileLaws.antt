@@ -11,8 +11,8 @@ use Rattle.pc_types.specs.declared.Refusal.{Refusal}
 use Rattle.pc_types.specs.declared.Refusal.TheVariants.{Short, BadRanges, Trailing}
 use Rattle.pc_types.specs.Limits.{IsKey}
 use Rattle.pc_types.specs.Fields.{◌>>=◌, Gives, where_true, number_at, magic_at}
-use Rattle.pc_types.proofs.FieldLaws.{bind_ok, where_ok, ok_is, Takes-then, wide32, wide64, number_takes, number_again, magic_takes, magic_again}
-use Rattle.pc_types.specs.FieldForms.{IsBytes, Takes}
+use Rattle.pc_types.proofs.FieldLaws.{bind_ok, where_ok, ok_is, TakesText-then, wide32, wide64, number_takes, number_again, magic_takes, magic_again}
+use Rattle.pc_types.specs.FieldForms.{IsBytes, TakesText}
 use Rattle.pc_model.specs.Maps as map_of
 use Rattle.pc_model.specs.Database.{KeysRise, database_of}
 use Rattle.pc_model.specs.Files.{BaseFile}
@@ -64,17 +64,17 @@ grouped : (m r p c ps : List ℕ) → (m ++ (r ++ (p ++ (c ++ ps)))) ≡ (m ++ (
 grouped m r p c ps = simp append_assoc
 
 -- the pieces of the text, as they are taken
-whole : (x : BaseFields) (bytes r0 r1 r2 r3 : List ℕ) → Takes bytes base_magic r0 → Takes r0 (to_be_bytes w64 x.run) r1 → Takes r1 (to_be_bytes w32 x.point) r2 → Takes r2 (to_be_bytes w32 (length x.pairs)) r3
-    → Takes r3 (flat_map pair_text x.pairs) [] → bytes ≡ fields_text x
+whole : (x : BaseFields) (bytes r0 r1 r2 r3 : List ℕ) → TakesText bytes base_magic r0 → TakesText r0 (to_be_bytes w64 x.run) r1 → TakesText r1 (to_be_bytes w32 x.point) r2 → TakesText r2 (to_be_bytes w32 (length x.pairs)) r3
+    → TakesText r3 (flat_map pair_text x.pairs) [] → bytes ≡ fields_text x
 whole x bytes r0 r1 r2 r3 t0 t1 t2 t3 t4 =
     let run = to_be_bytes w64 x.run in
     let point = to_be_bytes w32 x.point in
     let count = to_be_bytes w32 (length x.pairs) in
     let pairs = flat_map pair_text x.pairs in
-    let all = Takes-then bytes base_magic r0 (run ++ (point ++ (count ++ pairs))) [] t0
-    (Takes-then r0 run r1 (point ++ (count ++ pairs)) [] t1
-    (Takes-then r1 point r2 (count ++ pairs) [] t2
-    (Takes-then r2 count r3 pairs [] t3 t4))) in
+    let all = TakesText-then bytes base_magic r0 (run ++ (point ++ (count ++ pairs))) [] t0
+    (TakesText-then r0 run r1 (point ++ (count ++ pairs)) [] t1
+    (TakesText-then r1 point r2 (count ++ pairs) [] t2
+    (TakesText-then r2 count r3 pairs [] t3 t4))) in
     all.parts ∙ append-nil (base_magic ++ (run ++ (point ++ (count ++ pairs)))) ∙ grouped base_magic run point count pairs
 
 fields_take : (bytes : List ℕ) (x : BaseFields) → IsBytes bytes → base_fields_at bytes ≡ Ok x → IsBaseFields x × (bytes ≡ fields_text x)
@@ -98,8 +98,8 @@ fields_take bytes x fits e =
     let within : c.0.0 ≤ 65535 = grind (arith, limit.0, nat_tests) in
     subst (λ (y : BaseFields). IsBaseFields y × (bytes ≡ fields_text y)) {x = made} ended.1 (
       record { run = run.1; point = subst (λ n. n ≤ 65535) {x = c.0.0} {y = d.0} limit.1 within; pairs = pairs.2; limit = omega (arith, pairs.1, count.1) },
-      whole made bytes a.0 b.0.1 c.0.1 n.0.1 magic run.0 (subst (λ (m : ℕ). Takes b.0.1 (to_be_bytes w32 m) c.0.1) {x = c.0.0} {y = d.0} limit.1 point.0)
-          (subst (λ (m : ℕ). Takes c.0.1 (to_be_bytes w32 m) n.0.1) {x = n.0.0} {y = length p.0.0} (sym {a = length p.0.0} {b = n.0.0} pairs.1) count.0) (subst (λ (l : List ℕ). Takes n.0.1 (flat_map pair_text p.0.0) l) nothing pairs.0),
+      whole made bytes a.0 b.0.1 c.0.1 n.0.1 magic run.0 (subst (λ (m : ℕ). TakesText b.0.1 (to_be_bytes w32 m) c.0.1) {x = c.0.0} {y = d.0} limit.1 point.0)
+          (subst (λ (m : ℕ). TakesText c.0.1 (to_be_bytes w32 m) n.0.1) {x = n.0.0} {y = length p.0.0} (sym {a = length p.0.0} {b = n.0.0} pairs.1) count.0) (subst (λ (l : List ℕ). TakesText n.0.1 (flat_map pair_text p.0.0) l) nothing pairs.0),
     )
 
 fields_again : (x : BaseFields) → IsBaseFields x → base_fields_at (fields_text x) ≡ Ok x

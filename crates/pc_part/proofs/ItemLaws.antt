@@ -5,9 +5,9 @@ use Rattle.std.proofs.lemmas.List.{append-nil}
 use Rattle.std.proofs.lemmas.List.Concat.{flat_map-cons}
 use Rattle.pc_types.specs.declared.Refusal.{Refusal}
 use Rattle.pc_types.specs.Fields.{◌>>=◌}
-use Rattle.pc_types.specs.FieldForms.{IsBytes, Takes}
+use Rattle.pc_types.specs.FieldForms.{IsBytes, TakesText}
 use Rattle.pc_types.proofs.CutFieldLaws.{IsCut, ReadsAlike, cut_then}
-use Rattle.pc_types.proofs.FieldLaws.{bind_ok, ok_is, Takes-then}
+use Rattle.pc_types.proofs.FieldLaws.{bind_ok, ok_is, TakesText-then}
 use Rattle.pc_part.specs.Reading.{items_at}
 
 module _ {X : Type 0} where
@@ -50,19 +50,19 @@ module _ {S X : Type 0} (read : S → List ℕ → Result (X × List ℕ) Refusa
   module _ (text : X → List ℕ) (From : S → List X → Type 0) where
     -- where each item is read of its text and may stand there, the bytes are the items' texts, and they are so many
     pub items_take : ((state : S) → From state [])
-        → ((state : S) (bytes : List ℕ) (x : X × List ℕ) → IsBytes bytes → read state bytes ≡ Ok x → Takes bytes (text x.0) x.1 × ((others : List X) → From (leaves x.0) others → From state (x.0 ∷ others)))
-        → (count : ℕ) (state : S) (bytes : List ℕ) (x : List X × List ℕ) → IsBytes bytes → items_at read leaves count state bytes ≡ Ok x → Takes bytes (flat_map text x.0) x.1 × (length x.0 ≡ count) × From state x.0
+        → ((state : S) (bytes : List ℕ) (x : X × List ℕ) → IsBytes bytes → read state bytes ≡ Ok x → TakesText bytes (text x.0) x.1 × ((others : List X) → From (leaves x.0) others → From state (x.0 ∷ others)))
+        → (count : ℕ) (state : S) (bytes : List ℕ) (x : List X × List ℕ) → IsBytes bytes → items_at read leaves count state bytes ≡ Ok x → TakesText bytes (flat_map text x.0) x.1 × (length x.0 ≡ count) × From state x.0
     unfolding items_at
     items_take none one zero state bytes x fits e =
-        subst (λ (y : List X × List ℕ). Takes bytes (flat_map text y.0) y.1 × (length y.0 ≡ 0) × From state y.0) (ok_is ([], bytes) x e) (record { parts = refl; rest_fits = fits }, refl, none state)
+        subst (λ (y : List X × List ℕ). TakesText bytes (flat_map text y.0) y.1 × (length y.0 ≡ 0) × From state y.0) (ok_is ([], bytes) x e) (record { parts = refl; rest_fits = fits }, refl, none state)
     items_take none one (suc count) state bytes x fits e =
         let a = bind_ok (read state bytes) (λ first. items_at read leaves count (leaves first.0) first.1 >>= λ others. Ok (first.0 ∷ others.0, others.1)) x e in
         let b = bind_ok (items_at read leaves count (leaves a.0.0) a.0.1) (λ others. Ok (a.0.0 ∷ others.0, others.1)) x a.2 in
         let first = one state bytes a.0 fits a.1 in
         let others = items_take none one count (leaves a.0.0) a.0.1 b.0 first.0.rest_fits b.1 in
         let made : List X × List ℕ = (a.0.0 ∷ b.0.0, b.0.1) in
-        subst (λ (y : List X × List ℕ). Takes bytes (flat_map text y.0) y.1 × (length y.0 ≡ suc count) × From state y.0) {x = made} (ok_is made x b.2)
-        (rw flat_map-cons (Takes-then bytes (text a.0.0) a.0.1 (flat_map text b.0.0) b.0.1 first.0 others.0), ap suc others.1, first.1 b.0.0 others.2)
+        subst (λ (y : List X × List ℕ). TakesText bytes (flat_map text y.0) y.1 × (length y.0 ≡ suc count) × From state y.0) {x = made} (ok_is made x b.2)
+        (rw flat_map-cons (TakesText-then bytes (text a.0.0) a.0.1 (flat_map text b.0.0) b.0.1 first.0 others.0), ap suc others.1, first.1 b.0.0 others.2)
 
     -- items that are each read again of their texts are so of all the texts
     pub items_again : ((state : S) (x : X) (others : List X) (rest : List ℕ) → From state (x ∷ others) → (read state (text x ++ rest) ≡ Ok (x, rest)) × From (leaves x) others)

@@ -10,7 +10,7 @@ use Rattle.pc_model.specs.TripleLists.{entry_of, entries_of}
 use Rattle.pc_types.specs.declared.Triple.{Triple}
 use Rattle.pc_part.specs.declared.ranges.Range.{Range}
 use Rattle.pc_part.specs.Bases.{IsWithinLimit}
-use Rattle.pc_part.specs.Lawful.{IsPoint, IsEntry, HasLimits, IsPartFile}
+use Rattle.pc_part.specs.Lawful.{IsPoint, IsPartEntry, HasLimits, IsPartFile}
 use Rattle.pc_part.specs.Parts.{points_from, points_in, points_of, RangesFrom, AreRanges, AreCovered}
 use Rattle.pc_part.proofs.RangePointLaws.{items-points_of}
 
@@ -43,6 +43,6 @@ part_lawful file run ranges triples same_run same_points same_entries run_fits a
       run = subst (λ n. n < 2 ^ 64) same_run run_fits;
       some = subst (λ n. 1 ≤ n) (ap length (sym items) ∙ length-map file.points.entries (λ e. e.0)) (some_point ranges apart);
       points = subst (All IsPoint) (sym items) (All-from_recursion IsPoint (points_in ranges) (ranges_points 1 ranges (omega arith) apart.1));
-      entries = subst (All (IsEntry file.points)) same_entries (All-map (IsEntry file.points) entry_of triples (λ k d lt. record { key = (fit k d lt).0; covered = covered k d lt; content = (fit k d lt).1 }));
+      entries = subst (All (IsPartEntry file.points)) same_entries (All-map (IsPartEntry file.points) entry_of triples (λ k d lt. record { key = (fit k d lt).0; covered = covered k d lt; content = (fit k d lt).1 }));
       limit = subst IsWithinLimit same_entries (subst (λ n. n ≤ 4294967295) (sym (length-map triples entry_of)) limit);
     }

@@ -19,7 +19,7 @@ use Rattle.pc_model.specs.Ranges.{ranges_of}
 use Rattle.pc_types.specs.declared.Triple.{Triple}
 use Rattle.pc_model.proofs.PairMapLaws as pairs_of
 use Rattle.pc_part.specs.declared.ranges.Range.{Range}
-use Rattle.pc_part.specs.Lawful.{HasLimits, IsEntry, IsPartFile}
+use Rattle.pc_part.specs.Lawful.{HasLimits, IsPartEntry, IsPartFile}
 use Rattle.pc_part.specs.Parts.{AreCovered, points_of, triples_of}
 use Rattle.pc_part.specs.Reading.{PartFields, part_fields_at, part_of_fields, part_at}
 use Rattle.pc_part.specs.Texts.{part_text}
@@ -74,12 +74,12 @@ entries_back : (es : List (List ℕ × AtPoint)) → entries_of (triples_by es) 
 entries_back [] = refl
 entries_back (e ∷ es) = ap (λ (rest : List (List ℕ × AtPoint)). e ∷ rest) (entries_back es)
 
-fields_from : (file : File) (ranges : List Range) → points_of ranges ≡ file.points → (last : List ℕ) (es : List (List ℕ × AtPoint)) → RisesFrom last es → AllByRecursion (IsEntry file.points) es → EntriesFrom ranges last (triples_by es)
+fields_from : (file : File) (ranges : List Range) → points_of ranges ≡ file.points → (last : List ℕ) (es : List (List ℕ × AtPoint)) → RisesFrom last es → AllByRecursion (IsPartEntry file.points) es → EntriesFrom ranges last (triples_by es)
 fields_from file ranges same last [] h fit = tt
 fields_from file ranges same last (e ∷ es) h fit =
     (h.0, (fit.0.key, fit.0.content), sym (contains-points_of ranges e.1.point) ∙ ap (λ points. set.contains points e.1.point) same ∙ fit.0.covered, fields_from file ranges same e.0 es h.1 fit.1)
 
-keys_fit : (file : File) (es : List (List ℕ × AtPoint)) → AllByRecursion (IsEntry file.points) es → AllByRecursion (λ e. IsKey e.0) es
+keys_fit : (file : File) (es : List (List ℕ × AtPoint)) → AllByRecursion (IsPartEntry file.points) es → AllByRecursion (λ e. IsKey e.0) es
 keys_fit file [] fit = tt
 keys_fit file (e ∷ es) fit = (fit.0.key, keys_fit file es fit.1)
 
@@ -90,8 +90,8 @@ module _ (file : File) (lawful : IsPartFile file) where
   back : points_of fields_of.ranges ≡ file.points
   back = points_back file.points lawful.some lawful.points
 
-  fit : AllByRecursion (IsEntry file.points) file.triples.entries
-  fit = by_recursion (IsEntry file.points) file.triples.entries lawful.entries
+  fit : AllByRecursion (IsPartEntry file.points) file.triples.entries
+  fit = by_recursion (IsPartEntry file.points) file.triples.entries lawful.entries
 
   rise : KeysRise file.triples.entries
   rise = pairs_of.tested file.triples.rises

@@ -11,8 +11,8 @@ use Rattle.std.proofs.lemmas.List.Concat.{flat_map-cons}
 use Rattle.pc_types.specs.declared.Refusal.TheVariants.{Short, KeyOrder, NotCovered}
 use Rattle.pc_types.specs.Limits.{IsKey, IsValue}
 use Rattle.pc_types.specs.Fields.{◌>>=◌, where_true, number_at, sized_key_at, value_at, content_at, key_text, value_text, content_text}
-use Rattle.pc_types.proofs.FieldLaws.{bind_ok, where_ok, ok_is, Takes-then, wide16, wide32, number_takes, number_again, sized_key_takes, sized_key_again, value_takes, value_again, content_takes, content_again}
-use Rattle.pc_types.specs.FieldForms.{IsBytes, Takes}
+use Rattle.pc_types.proofs.FieldLaws.{bind_ok, where_ok, ok_is, TakesText-then, wide16, wide32, number_takes, number_again, sized_key_takes, sized_key_again, value_takes, value_again, content_takes, content_again}
+use Rattle.pc_types.specs.FieldForms.{IsBytes, TakesText}
 use Rattle.pc_model.specs.Database.{key_cmp}
 use Rattle.pc_model.specs.Points.{AtPoint}
 use Rattle.pc_types.specs.declared.Triple.{Triple}
@@ -29,12 +29,12 @@ Pair = List ℕ × List ℕ
 
 -- ---- ranges
 
-range_takes : (least : ℕ) (bytes : List ℕ) (x : Range × List ℕ) → IsBytes bytes → range_at least bytes ≡ Ok x → Takes bytes (bounds_text x.0) x.1 × (least ≤ x.0.low) × (x.0.low ≤ x.0.high) × (x.0.high ≤ 65535)
+range_takes : (least : ℕ) (bytes : List ℕ) (x : Range × List ℕ) → IsBytes bytes → range_at least bytes ≡ Ok x → TakesText bytes (bounds_text x.0) x.1 × (least ≤ x.0.low) × (x.0.low ≤ x.0.high) × (x.0.high ≤ 65535)
 range_takes least bytes x fits e =
     let s = range_steps least bytes x e in
     let low = number_takes Short w32 (2 ^ 32) wide32 bytes x.0.low s.0 fits s.1 in
     let high = number_takes Short w32 (2 ^ 32) wide32 s.0 x.0.high x.1 low.0.rest_fits s.2 in
-    (Takes-then bytes (to_be_bytes w32 x.0.low) s.0 (to_be_bytes w32 x.0.high) x.1 low.0 high.0, s.3, s.4, s.5)
+    (TakesText-then bytes (to_be_bytes w32 x.0.low) s.0 (to_be_bytes w32 x.0.high) x.1 low.0 high.0, s.3, s.4, s.5)
 
 range_again : (least : ℕ) (r : Range) (rest : List ℕ) → least ≤ r.low → r.low ≤ r.high → r.high ≤ 65535 → range_at least (bounds_text r ++ rest) ≡ Ok (r, rest)
 unfolding range_at
@@ -45,7 +45,7 @@ range_again least r rest from ends limit =
     rw (low, number_again Short w32 (2 ^ 32) wide32 r.high rest (omega arith), lawful) refl
 
 -- ranges that were read are those of the text, as many as asked for, and rise with gaps between them
-pub ranges_take : (count least : ℕ) (bytes : List ℕ) (x : List Range × List ℕ) → IsBytes bytes → ranges_at count least bytes ≡ Ok x → Takes bytes (flat_map bounds_text x.0) x.1 × (length x.0 ≡ count) × RangesFrom least x.0
+pub ranges_take : (count least : ℕ) (bytes : List ℕ) (x : List Range × List ℕ) → IsBytes bytes → ranges_at count least bytes ≡ Ok x → TakesText bytes (flat_map bounds_text x.0) x.1 × (length x.0 ≡ count) × RangesFrom least x.0
 ranges_take = items_take _ _ bounds_text RangesFrom (λ least. tt) (λ least bytes x fits e. let taken = range_takes least bytes x fits e in (taken.0, λ others rise. (taken.1, taken.2, taken.3, rise)))
 
 pub ranges_again : (least : ℕ) (ranges : List Range) (rest : List ℕ) → RangesFrom least ranges → ranges_at (length ranges) least (flat_map bounds_text ranges ++ rest) ≡ Ok (ranges, rest)
@@ -53,13 +53,13 @@ ranges_again = items_again _ _ bounds_text RangesFrom (λ least r ranges rest h.
 
 -- ---- keys, entries and pairs
 
-key_takes : (last : List ℕ) (count : ℕ) (bytes : List ℕ) (x : List ℕ × List ℕ) → IsBytes bytes → next_key_at last count bytes ≡ Ok x → Takes bytes x.0 x.1 × (length x.0 ≡ count) × IsKey x.0 × (is_lt (key_cmp last x.0) ≡ true)
+key_takes : (last : List ℕ) (count : ℕ) (bytes : List ℕ) (x : List ℕ × List ℕ) → IsBytes bytes → next_key_at last count bytes ≡ Ok x → TakesText bytes x.0 x.1 × (length x.0 ≡ count) × IsKey x.0 × (is_lt (key_cmp last x.0) ≡ true)
 unfolding next_key_at
 key_takes last count bytes x fits e =
     let a = bind_ok (sized_key_at Short count bytes) (λ key. where_true (is_lt (key_cmp last key.0)) KeyOrder key) x e in
     let t = sized_key_takes Short count bytes a.0.0 a.0.1 fits a.1 in
     let g = where_ok (is_lt (key_cmp last a.0.0)) KeyOrder a.0 x a.2 in
-    subst (λ (y : List ℕ × List ℕ). Takes bytes y.0 y.1 × (length y.0 ≡ count) × IsKey y.0 × (is_lt (key_cmp last y.0) ≡ true)) {x = a.0} g.1 (t.0, t.1, t.2, g.0)
+    subst (λ (y : List ℕ × List ℕ). TakesText bytes y.0 y.1 × (length y.0 ≡ count) × IsKey y.0 × (is_lt (key_cmp last y.0) ≡ true)) {x = a.0} g.1 (t.0, t.1, t.2, g.0)
 
 key_again : (last key rest : List ℕ) → IsKey key → is_lt (key_cmp last key) ≡ true → next_key_at last (length key) (key ++ rest) ≡ Ok (key, rest)
 unfolding next_key_at
@@ -69,7 +69,7 @@ key_again last key rest is_key above = rw (sized_key_again Short key rest is_key
 abbrev there_text : AtPoint → List ℕ
 there_text there = to_be_bytes w32 there.point ++ content_text there.content
 
-entry_takes : (ranges : List Range) (bytes : List ℕ) (x : AtPoint × List ℕ) → IsBytes bytes → entry_at ranges bytes ≡ Ok x → Takes bytes (there_text x.0) x.1 × (covers ranges x.0.point ≡ true) × IfSome x.0.content IsValue
+entry_takes : (ranges : List Range) (bytes : List ℕ) (x : AtPoint × List ℕ) → IsBytes bytes → entry_at ranges bytes ≡ Ok x → TakesText bytes (there_text x.0) x.1 × (covers ranges x.0.point ≡ true) × IfSome x.0.content IsValue
 unfolding entry_at point_at
 entry_takes ranges bytes x fits e =
     let a = bind_ok (point_at ranges bytes) (λ point. content_at Short point.1 >>= λ content. Ok (record { point = point.0; content = content.0 }, content.1)) x e in
@@ -77,11 +77,11 @@ entry_takes ranges bytes x fits e =
     let n = bind_ok (number_at Short w32 bytes) (λ point. where_true (covers ranges point.0) NotCovered point) a.0 a.1 in
     let g = where_ok (covers ranges n.0.0) NotCovered n.0 a.0 n.2 in
     let first = number_takes Short w32 (2 ^ 32) wide32 bytes n.0.0 n.0.1 fits n.1 in
-    let point = subst (λ (y : ℕ × List ℕ). Takes bytes (to_be_bytes w32 y.0) y.1 × (covers ranges y.0 ≡ true)) {x = n.0} g.1 (first.0, g.0) in
+    let point = subst (λ (y : ℕ × List ℕ). TakesText bytes (to_be_bytes w32 y.0) y.1 × (covers ranges y.0 ≡ true)) {x = n.0} g.1 (first.0, g.0) in
     let content = content_takes Short a.0.1 b.0.0 b.0.1 point.0.rest_fits b.1 in
     let made : AtPoint × List ℕ = (record { point = a.0.0; content = b.0.0 }, b.0.1) in
-    subst (λ (y : AtPoint × List ℕ). Takes bytes (there_text y.0) y.1 × (covers ranges y.0.point ≡ true) × IfSome y.0.content IsValue) {x = made} (ok_is made x b.2)
-    (Takes-then bytes (to_be_bytes w32 a.0.0) a.0.1 (content_text b.0.0) b.0.1 point.0 content.0, point.1, content.1)
+    subst (λ (y : AtPoint × List ℕ). TakesText bytes (there_text y.0) y.1 × (covers ranges y.0.point ≡ true) × IfSome y.0.content IsValue) {x = made} (ok_is made x b.2)
+    (TakesText-then bytes (to_be_bytes w32 a.0.0) a.0.1 (content_text b.0.0) b.0.1 point.0 content.0, point.1, content.1)
 
 entry_again : (ranges : List Range) (there : AtPoint) (rest : List ℕ) → there.point ≤ 65535 → covers ranges there.point ≡ true → IfSome there.content IsValue → entry_at ranges (there_text there ++ rest) ≡ Ok (there, rest)
 unfolding entry_at point_at
@@ -104,18 +104,18 @@ grouped : (len key there others rest : List ℕ) → ((((len ++ key) ++ there) +
 grouped len key there others rest = simp append_assoc
 
 -- an entry before others, as its pieces are taken
-entry_more : (bytes after_len after_key after_there rest key : List ℕ) (there : AtPoint) (others : List Triple) → Takes bytes (to_be_bytes w16 (length key)) after_len → Takes after_len key after_key → Takes after_key (there_text there) after_there
-    → Takes after_there (flat_map triple_text others ++ end_mark) rest → Takes bytes (flat_map triple_text (record { key = key; point = there.point; content = there.content } ∷ others) ++ end_mark) rest
+entry_more : (bytes after_len after_key after_there rest key : List ℕ) (there : AtPoint) (others : List Triple) → TakesText bytes (to_be_bytes w16 (length key)) after_len → TakesText after_len key after_key → TakesText after_key (there_text there) after_there
+    → TakesText after_there (flat_map triple_text others ++ end_mark) rest → TakesText bytes (flat_map triple_text (record { key = key; point = there.point; content = there.content } ∷ others) ++ end_mark) rest
 entry_more bytes after_len after_key after_there rest key there others t0 t1 t2 t3 =
     let entry : Triple = record { key = key; point = there.point; content = there.content } in
-    let all = Takes-then bytes (to_be_bytes w16 (length key)) after_len (key ++ (there_text there ++ (flat_map triple_text others ++ end_mark))) rest t0
-    (Takes-then after_len key after_key (there_text there ++ (flat_map triple_text others ++ end_mark)) rest t1
-    (Takes-then after_key (there_text there) after_there (flat_map triple_text others ++ end_mark) rest t2 t3)) in
+    let all = TakesText-then bytes (to_be_bytes w16 (length key)) after_len (key ++ (there_text there ++ (flat_map triple_text others ++ end_mark))) rest t0
+    (TakesText-then after_len key after_key (there_text there ++ (flat_map triple_text others ++ end_mark)) rest t1
+    (TakesText-then after_key (there_text there) after_there (flat_map triple_text others ++ end_mark) rest t2 t3)) in
     let text : to_be_bytes w16 (length key) ++ (key ++ (there_text there ++ (flat_map triple_text others ++ end_mark))) ≡ flat_map triple_text (entry ∷ others) ++ end_mark =
     sym (grouped (to_be_bytes w16 (length key)) key (there_text there) (flat_map triple_text others) end_mark) ∙ ap (λ (s : List ℕ). s ++ end_mark) (sym (flat_map-cons triple_text entry others)) in
-    subst (λ (s : List ℕ). Takes bytes s rest) text all
+    subst (λ (s : List ℕ). TakesText bytes s rest) text all
 
-pub entries_take : (turns : ℕ) (ranges : List Range) (last bytes : List ℕ) (x : List Triple × List ℕ) → IsBytes bytes → entries_at turns ranges last bytes ≡ Ok x → Takes bytes (flat_map triple_text x.0 ++ end_mark) x.1 × EntriesFrom ranges last x.0
+pub entries_take : (turns : ℕ) (ranges : List Range) (last bytes : List ℕ) (x : List Triple × List ℕ) → IsBytes bytes → entries_at turns ranges last bytes ≡ Ok x → TakesText bytes (flat_map triple_text x.0 ++ end_mark) x.1 × EntriesFrom ranges last x.0
 unfolding entries_at
 entries_take zero ranges last bytes x fits e = absurd cc
 entries_take (suc turns) ranges last bytes x fits e =
@@ -124,11 +124,11 @@ entries_take (suc turns) ranges last bytes x fits e =
     let len = number_takes Short w16 (2 ^ 16) wide16 bytes a.0.0 a.0.1 fits a.1 in
     elim (eqb a.0.0 0) as (λ b. eqb a.0.0 0 ≡ b → cond b (Ok ([], a.0.1))
     (next_key_at last a.0.0 a.0.1 >>= λ key. entry_at ranges key.1 >>= λ there. entries_at turns ranges key.0 there.1 >>= λ others. Ok (record { key = key.0; point = there.0.point; content = there.0.content } ∷ others.0, others.1)) ≡ Ok x
-    → Takes bytes (flat_map triple_text x.0 ++ end_mark) x.1 × EntriesFrom ranges last x.0) [
+    → TakesText bytes (flat_map triple_text x.0 ++ end_mark) x.1 × EntriesFrom ranges last x.0) [
       | true ↦ λ none is.
           let made : List Triple × List ℕ = ([], a.0.1) in
-          subst (λ (y : List Triple × List ℕ). Takes bytes (flat_map triple_text y.0 ++ end_mark) y.1 × EntriesFrom ranges last y.0) {x = made} (ok_is made x is)
-          (subst (λ (n : ℕ). Takes bytes (to_be_bytes w16 n) a.0.1) (eqb-true _ _ none) len.0, tt)
+          subst (λ (y : List Triple × List ℕ). TakesText bytes (flat_map triple_text y.0 ++ end_mark) y.1 × EntriesFrom ranges last y.0) {x = made} (ok_is made x is)
+          (subst (λ (n : ℕ). TakesText bytes (to_be_bytes w16 n) a.0.1) (eqb-true _ _ none) len.0, tt)
       | false ↦ λ some is.
           let k = bind_ok (next_key_at last a.0.0 a.0.1) (λ key. entry_at ranges key.1 >>= λ there. entries_at turns ranges key.0 there.1 >>= λ others. Ok (record { key = key.0; point = there.0.point; content = there.0.content } ∷ others.0, others.1)) x is in
           let t = bind_ok (entry_at ranges k.0.1) (λ there. entries_at turns ranges k.0.0 there.1 >>= λ others. Ok (record { key = k.0.0; point = there.0.point; content = there.0.content } ∷ others.0, others.1)) x k.2 in
@@ -138,9 +138,9 @@ entries_take (suc turns) ranges last bytes x fits e =
           let others = entries_take turns ranges k.0.0 t.0.1 o.0 there.0.rest_fits o.1 in
           let entry : Triple = record { key = k.0.0; point = t.0.0.point; content = t.0.0.content } in
           let made : List Triple × List ℕ = (entry ∷ o.0.0, o.0.1) in
-          let length_text : Takes bytes (to_be_bytes w16 (length k.0.0)) a.0.1 = subst (λ (n : ℕ). Takes bytes (to_be_bytes w16 n) a.0.1) (sym key.1) len.0 in
+          let length_text : TakesText bytes (to_be_bytes w16 (length k.0.0)) a.0.1 = subst (λ (n : ℕ). TakesText bytes (to_be_bytes w16 n) a.0.1) (sym key.1) len.0 in
           let all = entry_more bytes a.0.1 k.0.1 t.0.1 o.0.1 k.0.0 t.0.0 o.0.0 length_text key.0 there.0 others.0 in
-          subst (λ (y : List Triple × List ℕ). Takes bytes (flat_map triple_text y.0 ++ end_mark) y.1 × EntriesFrom ranges last y.0) {x = made} (ok_is made x o.2)
+          subst (λ (y : List Triple × List ℕ). TakesText bytes (flat_map triple_text y.0 ++ end_mark) y.1 × EntriesFrom ranges last y.0) {x = made} (ok_is made x o.2)
           (all, (key.3, (key.2, there.2), there.1, others.1))
     ] refl a.2
 
@@ -176,7 +176,7 @@ abbrev pub PairsFrom : List ℕ → List Pair → Type 0
 PairsFrom last [] = Unit {0}
 PairsFrom last (p ∷ pairs) = (is_lt (key_cmp last p.0) ≡ true) × IsPair p × PairsFrom p.0 pairs
 
-pair_takes : (last bytes : List ℕ) (x : Pair × List ℕ) → IsBytes bytes → pair_at last bytes ≡ Ok x → Takes bytes (pair_text x.0) x.1 × (is_lt (key_cmp last x.0.0) ≡ true) × IsPair x.0
+pair_takes : (last bytes : List ℕ) (x : Pair × List ℕ) → IsBytes bytes → pair_at last bytes ≡ Ok x → TakesText bytes (pair_text x.0) x.1 × (is_lt (key_cmp last x.0.0) ≡ true) × IsPair x.0
 unfolding pair_at
 pair_takes last bytes x fits e =
     let a = bind_ok (number_at Short w16 bytes) (λ count. next_key_at last count.0 count.1 >>= λ key. value_at Short key.1 >>= λ value. Ok ((key.0, value.0), value.1)) x e in
@@ -185,10 +185,10 @@ pair_takes last bytes x fits e =
     let len = number_takes Short w16 (2 ^ 16) wide16 bytes a.0.0 a.0.1 fits a.1 in
     let key = key_takes last a.0.0 a.0.1 k.0 len.0.rest_fits k.1 in
     let value = value_takes Short k.0.1 v.0.0 v.0.1 key.0.rest_fits v.1 in
-    let length_text : Takes bytes (to_be_bytes w16 (length k.0.0)) a.0.1 = subst (λ (n : ℕ). Takes bytes (to_be_bytes w16 n) a.0.1) (sym key.1) len.0 in
-    let all = Takes-then bytes (key_text k.0.0) k.0.1 (value_text v.0.0) v.0.1 (Takes-then bytes (to_be_bytes w16 (length k.0.0)) a.0.1 k.0.0 k.0.1 length_text key.0) value.0 in
+    let length_text : TakesText bytes (to_be_bytes w16 (length k.0.0)) a.0.1 = subst (λ (n : ℕ). TakesText bytes (to_be_bytes w16 n) a.0.1) (sym key.1) len.0 in
+    let all = TakesText-then bytes (key_text k.0.0) k.0.1 (value_text v.0.0) v.0.1 (TakesText-then bytes (to_be_bytes w16 (length k.0.0)) a.0.1 k.0.0 k.0.1 length_text key.0) value.0 in
     let made : Pair × List ℕ = ((k.0.0, v.0.0), v.0.1) in
-    subst (λ (y : Pair × List ℕ). Takes bytes (pair_text y.0) y.1 × (is_lt (key_cmp last y.0.0) ≡ true) × IsPair y.0) {x = made} (ok_is made x v.2) (all, key.3, (key.2, value.1))
+    subst (λ (y : Pair × List ℕ). TakesText bytes (pair_text y.0) y.1 × (is_lt (key_cmp last y.0.0) ≡ true) × IsPair y.0) {x = made} (ok_is made x v.2) (all, key.3, (key.2, value.1))
 
 pair_again : (last : List ℕ) (pair : Pair) (rest : List ℕ) → is_lt (key_cmp last pair.0) ≡ true → IsPair pair → pair_at last (pair_text pair ++ rest) ≡ Ok (pair, rest)
 unfolding pair_at
@@ -200,7 +200,7 @@ pair_again last pair rest above lawful =
     regrouped : (len key value rest : List ℕ) → (((len ++ key) ++ value) ++ rest) ≡ len ++ (key ++ (value ++ rest))
     regrouped len key value rest = simp append_assoc
 
-pub pairs_take : (count : ℕ) (last bytes : List ℕ) (x : List Pair × List ℕ) → IsBytes bytes → pairs_at count last bytes ≡ Ok x → Takes bytes (flat_map pair_text x.0) x.1 × (length x.0 ≡ count) × PairsFrom last x.0
+pub pairs_take : (count : ℕ) (last bytes : List ℕ) (x : List Pair × List ℕ) → IsBytes bytes → pairs_at count last bytes ≡ Ok x → TakesText bytes (flat_map pair_text x.0) x.1 × (length x.0 ≡ count) × PairsFrom last x.0
 pairs_take = items_take _ _ pair_text PairsFrom (λ last. tt) (λ last bytes x fits e. let taken = pair_takes last bytes x fits e in (taken.0, λ others rise. (taken.1, taken.2, rise)))
 
 pub pairs_again : (last : List ℕ) (pairs : List Pair) (rest : List ℕ) → PairsFrom last pairs → pairs_at (length pairs) last (flat_map pair_text pairs ++ rest) ≡ Ok (pairs, rest)

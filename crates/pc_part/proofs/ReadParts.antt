@@ -8,8 +8,8 @@ use Rattle.std.proofs.lemmas.List.{append-nil, nil_from_length, length-append}
 use Rattle.pc_types.specs.declared.Refusal.{Refusal}
 use Rattle.pc_types.specs.declared.Refusal.TheVariants.{Short, BadRanges, BadLength, Trailing}
 use Rattle.pc_types.specs.Fields.{◌>>=◌, where_true, number_at, magic_at}
-use Rattle.pc_types.proofs.FieldLaws.{bind_ok, where_ok, Takes-then, wide32, wide64, number_takes, number_again, magic_takes, magic_again}
-use Rattle.pc_types.specs.FieldForms.{IsBytes, Takes}
+use Rattle.pc_types.proofs.FieldLaws.{bind_ok, where_ok, TakesText-then, wide32, wide64, number_takes, number_again, magic_takes, magic_again}
+use Rattle.pc_types.specs.FieldForms.{IsBytes, TakesText}
 use Rattle.pc_types.specs.declared.Triple.{Triple}
 use Rattle.pc_part.specs.declared.ranges.Range.{Range}
 use Rattle.pc_part.specs.Bases.{IsWithinLimit}
@@ -59,19 +59,19 @@ after_magic start = number_at Short w64 start >>= after_run
 -- ---- what is read was written
 
 -- the pieces of the text, as they are taken
-whole : (x : PartFields) (bytes r0 r1 r2 r3 r4 : List ℕ) → Takes bytes part_magic r0 → Takes r0 (to_be_bytes w64 x.run) r1 → Takes r1 (to_be_bytes w32 (length x.ranges)) r2 → Takes r2 (flat_map bounds_text x.ranges) r3
-    → Takes r3 (flat_map triple_text x.entries ++ end_mark) r4 → Takes r4 (to_be_bytes w32 (length x.entries)) [] → bytes ≡ fields_text x
+whole : (x : PartFields) (bytes r0 r1 r2 r3 r4 : List ℕ) → TakesText bytes part_magic r0 → TakesText r0 (to_be_bytes w64 x.run) r1 → TakesText r1 (to_be_bytes w32 (length x.ranges)) r2 → TakesText r2 (flat_map bounds_text x.ranges) r3
+    → TakesText r3 (flat_map triple_text x.entries ++ end_mark) r4 → TakesText r4 (to_be_bytes w32 (length x.entries)) [] → bytes ≡ fields_text x
 whole x bytes r0 r1 r2 r3 r4 t0 t1 t2 t3 t4 t5 =
     let run = to_be_bytes w64 x.run in
     let count = to_be_bytes w32 (length x.ranges) in
     let ranges = flat_map bounds_text x.ranges in
     let entries = flat_map triple_text x.entries ++ end_mark in
     let total = to_be_bytes w32 (length x.entries) in
-    let all = Takes-then bytes part_magic r0 (run ++ (count ++ (ranges ++ (entries ++ total)))) [] t0
-    (Takes-then r0 run r1 (count ++ (ranges ++ (entries ++ total))) [] t1
-    (Takes-then r1 count r2 (ranges ++ (entries ++ total)) [] t2
-    (Takes-then r2 ranges r3 (entries ++ total) [] t3
-    (Takes-then r3 entries r4 total [] t4 t5)))) in
+    let all = TakesText-then bytes part_magic r0 (run ++ (count ++ (ranges ++ (entries ++ total)))) [] t0
+    (TakesText-then r0 run r1 (count ++ (ranges ++ (entries ++ total))) [] t1
+    (TakesText-then r1 count r2 (ranges ++ (entries ++ total)) [] t2
+    (TakesText-then r2 ranges r3 (entries ++ total) [] t3
+    (TakesText-then r3 entries r4 total [] t4 t5)))) in
     all.parts ∙ append-nil (part_magic ++ (run ++ (count ++ (ranges ++ (entries ++ total))))) ∙ grouped part_magic run count ranges (flat_map triple_text x.entries) end_mark total
   where
     grouped : (m r c rs es k t : List ℕ) → (m ++ (r ++ (c ++ (rs ++ ((es ++ k) ++ t))))) ≡ (m ++ (r ++ c)) ++ (rs ++ (es ++ (k ++ t)))
@@ -104,8 +104,8 @@ fields_take bytes x fits e =
     let positive : 0 < c.0.0 = grind (arith, some.0, nat_tests) in
     subst (λ (y : PartFields). IsPartFields y × (bytes ≡ fields_text y)) {x = made} ended.1 (
       record { run = run.1; apart = (omega (arith, many, positive), ranges.2); entries = entries.1; limit = omega (arith, total_is, total.1) },
-      whole made bytes a.0 b.0.1 c.0.1 r.0.1 s.0.1 magic run.0 (subst (λ (m : ℕ). Takes b.0.1 (to_be_bytes w32 m) c.0.1) many count.0) ranges.0 entries.0
-          (subst (λ (m : ℕ). Takes s.0.1 (to_be_bytes w32 m) []) total_is (subst (λ (l : List ℕ). Takes s.0.1 (to_be_bytes w32 n.0.0) l) nothing total.0)),
+      whole made bytes a.0 b.0.1 c.0.1 r.0.1 s.0.1 magic run.0 (subst (λ (m : ℕ). TakesText b.0.1 (to_be_bytes w32 m) c.0.1) many count.0) ranges.0 entries.0
+          (subst (λ (m : ℕ). TakesText s.0.1 (to_be_bytes w32 m) []) total_is (subst (λ (l : List ℕ). TakesText s.0.1 (to_be_bytes w32 n.0.0) l) nothing total.0)),
     )
 
 -- ---- what was written is read

@@ -15,7 +15,7 @@ abbrev pub IsPoint : ℕ → Type 0
 IsPoint point = (1 ≤ point) × (point ≤ MOST_POINTS)
 
 -- an entry of one of these points
-pub record IsEntry (points : Set number_order) (entry : List ℕ × AtPoint) : Type 0 where
+pub record IsPartEntry (points : Set number_order) (entry : List ℕ × AtPoint) : Type 0 where
   pub key : IsKey entry.0
   pub covered : IsTrue (set.contains points entry.1.point)
   pub content : IfSome entry.1.content IsValue
@@ -29,7 +29,7 @@ pub record IsPartFile (file : File) : Type 0 where
   pub run : file.run < 2 ^ 64
   pub some : 1 ≤ set.len file.points
   pub points : All IsPoint (set.items file.points)
-  pub entries : All (IsEntry file.points) file.triples.entries
+  pub entries : All (IsPartEntry file.points) file.triples.entries
   pub limit : IsWithinLimit file.triples.entries
 
 -- a key and its value

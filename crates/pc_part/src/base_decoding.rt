@@ -39,13 +39,13 @@ impl Base {
 fn read_base(alloc: Global, bytes: &[u8]) -> Result<Base, Refusal>
     ensures { Gives (λ base. base) result (base_at bytes.now) }
 {
-    let Fields { run, point, pairs } = read_fields(alloc, bytes)?;
+    let FieldsOfBase { run, point, pairs } = read_fields(alloc, bytes)?;
     Ok(Base::at_point(run, point, pairs))
 }
 
 // What was read of a base.
 #[derive(Drop)]
-struct Fields {
+struct FieldsOfBase {
     run: u64,
     point: Point,
     pairs: Vec<(Key, Value)>,
@@ -53,7 +53,7 @@ struct Fields {
 
 // The fields of a base whose text is all of the bytes.
 #[tactic(auto, unfolding(crate::specs::Reading::base_fields_at))]
-fn read_fields(alloc: Global, bytes: &[u8]) -> Result<Fields, Refusal>
+fn read_fields(alloc: Global, bytes: &[u8]) -> Result<FieldsOfBase, Refusal>
     ensures { Gives (λ f. record { run = f.run; point = f.point; pairs = f.pairs.items }) result (base_fields_at bytes.now) }
 {
     let start = read_magic(bytes, &MAGIC)?;
@@ -68,7 +68,7 @@ fn read_fields(alloc: Global, bytes: &[u8]) -> Result<Fields, Refusal>
         return Err(Refusal::Trailing);
     }
     let point = Point(point as u16);
-    Ok(Fields { run, point, pairs })
+    Ok(FieldsOfBase { run, point, pairs })
 }
 
 // So many pairs, one after the other.

@@ -46,7 +46,7 @@ impl Part {
 fn read_part(alloc: Global, bytes: &[u8]) -> Result<Part, Refusal>
     ensures { Gives (λ part. part) result (part_at bytes.now) }
 {
-    let Fields {
+    let FieldsOfPart {
         run,
         ranges,
         entries,
@@ -56,7 +56,7 @@ fn read_part(alloc: Global, bytes: &[u8]) -> Result<Part, Refusal>
 
 // What was read of a part.
 #[derive(Drop)]
-struct Fields {
+struct FieldsOfPart {
     run: u64,
     ranges: Vec<Range>,
     entries: Vec<Triple>,
@@ -64,7 +64,7 @@ struct Fields {
 
 // The fields of a part whose text is all of the bytes.
 #[tactic(auto, unfolding(crate::specs::Reading::part_fields_at))]
-fn read_fields(alloc: Global, bytes: &[u8]) -> Result<Fields, Refusal>
+fn read_fields(alloc: Global, bytes: &[u8]) -> Result<FieldsOfPart, Refusal>
     ensures { Gives (λ f. record { run = f.run; ranges = f.ranges.items; entries = f.entries.items }) result (part_fields_at bytes.now) }
 {
     let start = read_magic(bytes, &MAGIC)?;
@@ -82,7 +82,7 @@ fn read_fields(alloc: Global, bytes: &[u8]) -> Result<Fields, Refusal>
     if !rest.is_empty() {
         return Err(Refusal::Trailing);
     }
-    Ok(Fields {
+    Ok(FieldsOfPart {
         run,
         ranges,
         entries,

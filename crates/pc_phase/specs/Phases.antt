@@ -97,8 +97,8 @@ FitIn phase.Complete phases = phases.during ≡ 0
 
 -- The active transactions fit the phase: in rest they are of the class Before, in prepare Before or During, in resolve
 -- During or After, in capture After, and in complete Before or After.
-abbrev pub Fits : Phases → Type 0
-Fits phases = FitIn phases.phase phases
+abbrev pub FitsPhase : Phases → Type 0
+FitsPhase phases = FitIn phases.phase phases
 
 -- the least point that there may be in the phase: outside rest a point was begun
 abbrev pub first_point : Phase → ℕ
@@ -106,7 +106,7 @@ first_point phase.Rest = 0
 first_point other = 1
 
 -- the active transactions fit the phase, outside rest a point was begun, and none is past 65,535
-pub record IsSound (phases : Phases) : Type 0 where
-  pub fits : Fits phases
+pub record ArePhasesSound (phases : Phases) : Type 0 where
+  pub fits : FitsPhase phases
   pub begun : first_point phases.phase ≤ phases.point
   pub limit : phases.point ≤ MOST_POINTS

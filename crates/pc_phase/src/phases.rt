@@ -3,7 +3,7 @@ ghost use Rattle.std.specs.Prelude.{◌≡◌, ◌<◌, ◌↔◌, ◌+◌, ◌-
 ghost use Rattle.pc_types.specs.declared.Phase.TheVariants.{Rest};
 ghost use Rattle.pc_model.specs.History.{class_in};
 ghost use Rattle.pc_types.specs.Phases.{same_phase};
-ghost use Rattle.pc_phase.specs.Phases.{active_of, entered, left, count_of, held_back, advanced, some_left, IsSound};
+ghost use Rattle.pc_phase.specs.Phases.{active_of, entered, left, count_of, held_back, advanced, some_left, ArePhasesSound};
 
 use crate::change::{Change, Held};
 use pc_types::{Class, Phase, Point};
@@ -23,13 +23,13 @@ pub struct Phases {
 }
 
 impl Model for Phases {
-    ghost use Rattle.pc_phase.specs.Phases.{Phases, IsSound};
+    ghost use Rattle.pc_phase.specs.Phases.{Phases, ArePhasesSound};
 
     ghost Value = { Phases };
 
     ghost view = { λ a. record { phase = a.phase; point = a.point; before = a.before; during = a.during; after = a.after } };
 
-    ghost invariant = { λ a. IsSound (record { phase = a.phase; point = a.point; before = a.before; during = a.during; after = a.after }) };
+    ghost invariant = { λ a. ArePhasesSound (record { phase = a.phase; point = a.point; before = a.before; during = a.during; after = a.after }) };
 }
 
 impl Phases {
@@ -79,7 +79,7 @@ impl Phases {
         requires { active_of self.old (class_in self.old.phase) < 2 ^ 32 - 1 }
         ensures class { result ≡ class_in self.old.phase }
         ensures entered { self.new ≡ entered self.old (class_in self.old.phase) }
-        ensures sound { IsSound self.new }
+        ensures sound { ArePhasesSound self.new }
     {
         let class = class_in(self.phase);
         match class {
@@ -94,7 +94,7 @@ impl Phases {
     pub fn leave(&mut self, class: Class)
         requires { 0 < active_of self.old class }
         ensures left { self.new ≡ left self.old class }
-        ensures sound { IsSound self.new }
+        ensures sound { ArePhasesSound self.new }
     {
         match class {
             Class::Before => self.before -= 1,
@@ -138,7 +138,7 @@ impl Phases {
         ensures ok { OnOk result (self.new ≡ advanced self.old change) }
         ensures held { IfErr result (λ held. held_back self.old change left ≡ Some held) }
         ensures err { OnErr result (self.new ≡ self.old) }
-        ensures sound { IsSound self.new }
+        ensures sound { ArePhasesSound self.new }
     {
         if let Some(held) = self.held_back(change, left) {
             return Err(held);

@@ -1,5 +1,5 @@
 //! What is counted of a run while it runs.
-use pc_types::{MOST_SESSIONS, Phase, Place, SessionNo};
+use pc_types::{GatePlace, MOST_SESSIONS, Phase, SessionNo};
 use std::alloc::{AllocError, Global};
 use std::sync::atomic::{AtomicU64, Ordering};
 
@@ -54,27 +54,27 @@ impl Counts {
     }
 
     /// Counts the place, which is passed now.
-    pub fn note(&self, place: &Place, now: u64) {
+    pub fn note(&self, place: &GatePlace, now: u64) {
         match place {
-            Place::Start(session) | Place::Step(session, _) => self.go_on(*session, now),
-            Place::Behind(session) => self.fall_behind(*session, now),
-            Place::Committed(session) => self.commit(*session, now),
-            Place::Died(session) => {
+            GatePlace::Start(session) | GatePlace::Step(session, _) => self.go_on(*session, now),
+            GatePlace::Behind(session) => self.fall_behind(*session, now),
+            GatePlace::Committed(session) => self.commit(*session, now),
+            GatePlace::Died(session) => {
                 increase(&self.deaths);
                 self.leave(*session);
             }
-            Place::GaveUp(session) => {
+            GatePlace::GaveUp(session) => {
                 increase(&self.given_up);
                 self.leave(*session);
             }
-            Place::Entered(phase) => self.enter(*phase, now),
-            Place::Written(entries) => {
+            GatePlace::Entered(phase) => self.enter(*phase, now),
+            GatePlace::Written(entries) => {
                 self.written
                     .fetch_max(u64::from(*entries), Ordering::SeqCst);
                 self.ended.fetch_max(now, Ordering::SeqCst);
             }
-            Place::Pair(_) => increase(&self.joins),
-            Place::Writing(_) | Place::Due(_) | Place::Took => {}
+            GatePlace::Pair(_) => increase(&self.joins),
+            GatePlace::Writing(_) | GatePlace::Due(_) | GatePlace::Took => {}
         }
     }
 

@@ -1,7 +1,7 @@
 //! How far a run is, shown on a terminal, and what is told of it in the end.
 use crate::counts::Counts;
 use crate::times::Times;
-use pc_types::{Gate, Place};
+use pc_types::{Gate, GatePlace};
 use std::io;
 use std::io::{IsTerminal, Write};
 use std::sync::atomic::{AtomicU64, Ordering};
@@ -37,12 +37,12 @@ struct Counting {
     clock: Instant,
     counts: Counts,
     times: Option<Times>,
-    line: Option<Line>,
+    line: Option<TerminalLine>,
 }
 
 // The line on a terminal.
 #[derive(Drop)]
-struct Line {
+struct TerminalLine {
     has_log: bool,
     // When it was last shown, in milliseconds; 0 before, and once it was ended.
     shown: AtomicU64,
@@ -63,7 +63,7 @@ impl<'a> Progress<'a> {
             None
         };
         let line = if is_shown {
-            Some(Line {
+            Some(TerminalLine {
                 has_log: asked.has_log,
                 shown: AtomicU64::new(0),
             })
@@ -130,11 +130,11 @@ impl<'a> Progress<'a> {
 }
 
 impl<'a> Gate for Progress<'a> {
-    fn pass(&self, place: Place) {
+    fn pass(&self, place: GatePlace) {
         let Some(counting) = &self.counting else {
             return;
         };
-        if let Place::Took | Place::Due(_) | Place::Writing(_) = place {
+        if let GatePlace::Took | GatePlace::Due(_) | GatePlace::Writing(_) = place {
             return;
         }
         let Some(now) = counting.now(self.rt) else {
@@ -159,7 +159,7 @@ impl Counting {
     }
 }
 
-impl Line {
+impl TerminalLine {
     // Shows how far the run is, where that is due after so many milliseconds.
     fn show(&self, rt: &HostRuntime, counts: &Counts, now: u64) {
         let last = self.shown.load(Ordering::SeqCst);

@@ -1,5 +1,5 @@
 //! How many transactions committed in each hundredth of a second of a run.
-use pc_types::{Phase, Place};
+use pc_types::{GatePlace, Phase};
 use std::alloc::{AllocError, Global};
 use std::io;
 use std::io::Write;
@@ -29,7 +29,7 @@ const NO_PHASE: u8 = 5;
 
 // A hundredth of a second.
 #[derive(Drop)]
-struct Slot {
+struct Hundredth {
     commits: AtomicU32,
     // The place of the phase that was entered last in it.
     entered: AtomicU8,
@@ -38,7 +38,7 @@ struct Slot {
 /// The commits and the phases of a run's first hour, by hundredths of a second. All room for them is taken beforehand.
 #[derive(Drop)]
 pub struct Times {
-    slots: Vec<Slot>,
+    slots: Vec<Hundredth>,
 }
 
 impl Times {
@@ -46,7 +46,7 @@ impl Times {
     pub fn new(alloc: Global) -> Result<Times, AllocError> {
         let mut slots = Vec::with_capacity(alloc, HUNDREDTHS)?;
         for _ in 0..HUNDREDTHS {
-            slots.push(Slot {
+            slots.push(Hundredth {
                 commits: AtomicU32::new(0),
                 entered: AtomicU8::new(NO_PHASE),
             })?;
@@ -55,20 +55,20 @@ impl Times {
     }
 
     /// Counts the place, which was passed so many microseconds from the begin.
-    pub fn note(&self, place: &Place, since: u64) {
+    pub fn note(&self, place: &GatePlace, since: u64) {
         let Some(slot) = self.slot(since) else {
             return;
         };
         match place {
-            Place::Committed(_) => {
+            GatePlace::Committed(_) => {
                 slot.commits.fetch_add(1, Ordering::SeqCst);
             }
-            Place::Entered(phase) => slot.entered.store(place_of(*phase), Ordering::SeqCst),
+            GatePlace::Entered(phase) => slot.entered.store(place_of(*phase), Ordering::SeqCst),
             _ => {}
         }
     }
 
-    fn slot(&self, since: u64) -> Option<&Slot> {
+    fn slot(&self, since: u64) -> Option<&Hundredth> {
         match usize::try_from(since / LENGTH) {
             Ok(hundredth) => self.slots.get(hundredth),
             Err(_) => None,
@@ -96,7 +96,7 @@ impl Times {
     }
 }
 
-impl Slot {
+impl Hundredth {
     // The phase at its end, where this one was at its begin.
     fn phase_behind(&self, before: Phase) -> Phase {
         match PHASES.get(usize::from(self.entered.load(Ordering::SeqCst))) {

@@ -10,14 +10,14 @@ use Rattle.pc_chain.specs.Chains.{AllHave, first_of}
 use Rattle.pc_chain.specs.declared.side.Side.{Side}
 use Rattle.pc_chain.specs.declared.dirty.Dirty.{Dirty}
 use Rattle.pc_chain.specs.Sets.{other_side}
-use Rattle.pc_table.specs.Rows.{Row as TableRow, in_slot}
+use Rattle.pc_table.specs.Rows.{TableRow, in_slot}
 use Rattle.pc_table.proofs.RowLaws.{no_row, same_some, slot_found, found_has}
 use Rattle.pc_slots.specs.declared.cells.Cell.{Cell}
 use Rattle.pc_slots.specs.Words.{is_marked}
 use Rattle.pc_records.specs.Rows.{Row, record_of, at_point, is_in_open_set, is_in_closed_set}
 use Rattle.pc_records.specs.Tables.{AreListed, first_pinned}
 use Rattle.pc_slots.specs.Slots.{pinned, slot_with}
-use Rattle.pc_records.specs.Slots.{slots_in, rows_of, table_of, numbers_of, times, AreKept}
+use Rattle.pc_records.specs.Slots.{slots_in, rows_of, table_of, numbers_of, times, AreSlotsKept}
 use Rattle.pc_records.specs.SetLists.{marked_in, key_in, keys_at, is_listed, open_slots, closed_slots, IsListed, open_keys, closed_keys}
 use Rattle.pc_records.proofs.Lookups.{find_row, record_in, same_self}
 use Rattle.pc_records.proofs.TableSlots.{cell_of, find_slots, number_has, rows_rise}
@@ -101,11 +101,11 @@ found_in side (row ∷ rows) q n x once e = by_test (same_bytes q row.0) (eqb ro
     by_test false true s t once e rest = absurd (let more = number_has side rows n (found_has rows n q x e) in omega (arith, once, more))
     by_test false false s t once e rest = rest once e
 
-pub each_found : (side : Side) (rows : List (TableRow Cell)) (queues : Queues) → AreKept (slots_in side rows) queues → AreFound rows
+pub each_found : (side : Side) (rows : List (TableRow Cell)) (queues : Queues) → AreSlotsKept (slots_in side rows) queues → AreFound rows
 each_found side rows queues kept id key x = (slot_found rows id key x (rows_rise side rows kept.rise), found_in side rows key id x (kept.once id))
 
 -- the keys of both sets are listed
-pub all_are_listed : (rows : List (TableRow Cell)) (sets : Dirty) (queues : Queues) → AreKept (slots_in sets.side rows) queues → IsListed rows sets → (capacity point : ℕ) → AreListed (table_of capacity queues (slots_in sets.side rows) point (open_keys rows sets) (closed_keys rows sets))
+pub all_are_listed : (rows : List (TableRow Cell)) (sets : Dirty) (queues : Queues) → AreSlotsKept (slots_in sets.side rows) queues → IsListed rows sets → (capacity point : ℕ) → AreListed (table_of capacity queues (slots_in sets.side rows) point (open_keys rows sets) (closed_keys rows sets))
 all_are_listed rows sets queues kept l capacity point = record {
   open_set = λ q. ap is_in_open_set (found q) ∙ (opened q (find key_cmp q rows) ∙ among_is rows (each_found sets.side rows queues kept) q sets.side (open_slots rows sets) l.open_marks);
   closed_set = λ q. ap is_in_closed_set (found q) ∙ (shut q (find key_cmp q rows) ∙ among_is rows (each_found sets.side rows queues kept) q (other_side sets.side) (closed_slots rows sets) l.closed_marks);
@@ -123,7 +123,7 @@ all_are_listed rows sets queues kept l capacity point = record {
     shut q (Some p) = refl
 
 -- the first key of the closed set, with what it has at the point
-pub first_there : (rows : List (TableRow Cell)) (sets : Dirty) (queues : Queues) → AreKept (slots_in sets.side rows) queues → (id : ℕ) → Some id ≡ first_of (closed_slots rows sets) → (o : Option (List ℕ)) (p : Option Cell) (key : List ℕ) (x : Cell) → o ≡ Some key → p ≡ Some x →
+pub first_there : (rows : List (TableRow Cell)) (sets : Dirty) (queues : Queues) → AreSlotsKept (slots_in sets.side rows) queues → (id : ℕ) → Some id ≡ first_of (closed_slots rows sets) → (o : Option (List ℕ)) (p : Option Cell) (key : List ℕ) (x : Cell) → o ≡ Some key → p ≡ Some x →
     option_map (λ pair. pair.0) (in_slot rows id) ≡ o → option_map (λ pair. pair.1) (in_slot rows id) ≡ p → Some (key, pinned (slot_with sets.side 0 [] x)) ≡ first_pinned (rows_of queues (slots_in sets.side rows)) (closed_keys rows sets)
 first_there rows sets queues kept id first o p key x o_is p_is has_key has_cell = by_list (closed_slots rows sets) first
   where

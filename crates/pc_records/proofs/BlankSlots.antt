@@ -4,7 +4,7 @@ use Rattle.pc_chain.specs.declared.side.Side.{Side}
 use Rattle.pc_chain.specs.declared.side.Side.TheVariants.{First, Second}
 use Rattle.pc_slots.specs.declared.versions.Stable.TheVariants.{Empty}
 use Rattle.pc_slots.specs.Slots.{Slot, slot_with, base_cell}
-use Rattle.pc_table.specs.Rows.{Row as TableRow}
+use Rattle.pc_table.specs.Rows.{TableRow}
 use Rattle.pc_slots.specs.declared.cells.Cell.{Cell}
 use Rattle.pc_records.specs.Slots.{cells_in, base_row}
 

@@ -11,7 +11,7 @@ use Rattle.pc_model.specs.Database.{KeysRise, database_of, key_cmp, key_order, s
 use Rattle.pc_locks.specs.States.{Queues}
 use Rattle.pc_model.proofs.MapLaws.{get-from_list, same_map}
 use Rattle.pc_model.proofs.PairMapLaws.{entries_of}
-use Rattle.pc_table.specs.Rows.{Row as TableRow, Contents, in_slot, AreInSlots}
+use Rattle.pc_table.specs.Rows.{TableRow, Contents, in_slot, AreInSlots}
 use Rattle.pc_table.specs.Passing.{rows_below}
 use Rattle.pc_table.proofs.RowLaws.{passing, find_filtered, found_has}
 use Rattle.pc_table.proofs.PassingLaws.{none_passed, row_passed, gap_passed}

@@ -6,7 +6,7 @@ use Rattle.pc_chain.specs.Chains.{IsEmpty}
 use Rattle.pc_locks.specs.States.{queue_at}
 use Rattle.pc_locks.specs.Keepers.{AreEnds, DifferWhereNone}
 use Rattle.pc_locks.proofs.KeeperLaws.{other_ends, other_state}
-use Rattle.pc_table.specs.Rows.{Row as TableRow, Contents, in_slot, slot_of as table_slot, with_record_in, with_row, without_slot, IsNewSlot, AreInSlots}
+use Rattle.pc_table.specs.Rows.{TableRow, Contents, in_slot, slot_of as table_slot, with_record_in, with_row, without_slot, IsNewSlot, AreInSlots}
 use Rattle.pc_table.proofs.RowLaws.{same_some}
 use Rattle.pc_slots.specs.declared.cells.Cell.{Cell}
 use Rattle.pc_slots.specs.Words.{chain_in, words_of, with_ends}
@@ -54,7 +54,7 @@ ends_first (r ∷ rs) (p ∷ ps) e slot = by_test (eqb r.1.0 slot) (ends_first r
     by_test false rest = rest
 
 -- a row that goes, whose queue is empty
-module _ (old new : Contents Cell) (id : ℕ) (gone : new ≡ without_slot old id) (locks : keepers.Kept) (empty : queue_at (queues_in old.rows locks) id ≡ []) where
+module _ (old new : Contents Cell) (id : ℕ) (gone : new ≡ without_slot old id) (locks : keepers.KeptRequests) (empty : queue_at (queues_in old.rows locks) id ≡ []) where
   differ : DifferWhereNone (ends_in old.rows) (ends_in new.rows) locks
   differ slot = by_test (eqb id slot) refl (ap (λ (t : Contents Cell). ends_in t.rows slot) gone ∙ ap ends_of (in_left id old.rows slot))
     where

@@ -9,12 +9,12 @@ use Rattle.std.proofs.lemmas.List.{take_more}
 use Rattle.pc_model.specs.Database.{KeysRise, key_cmp, key_order, same_bytes}
 use Rattle.pc_model.proofs.PairMapLaws.{computes, tested}
 use Rattle.pc_model.proofs.RisingLaws.{both, and_of, Rise}
-use Rattle.pc_table.specs.Rows.{Row as TableRow, Contents, slot_of as table_slot, with_row, AreInSlots}
+use Rattle.pc_table.specs.Rows.{TableRow, Contents, slot_of as table_slot, with_row, AreInSlots}
 use Rattle.pc_table.proofs.RowLaws.{no_row, same_rows}
 use Rattle.pc_locks.specs.States.{Queues, queue_at}
 use Rattle.pc_slots.specs.declared.cells.Cell.{Cell}
 use Rattle.pc_slots.specs.Slots.{base_cell}
-use Rattle.pc_records.specs.Slots.{slots_in, cells_in, base_row, AreKept}
+use Rattle.pc_records.specs.Slots.{slots_in, cells_in, base_row, AreSlotsKept}
 use Rattle.pc_records.proofs.Lookups.{same_turned}
 use Rattle.pc_records.proofs.TableSlots.{slots_rise, once_in}
 use Rattle.pc_chain.specs.declared.side.Side.{Side}
@@ -111,7 +111,7 @@ module _ (pairs : List (List ℕ × List ℕ)) (rise : KeysRise pairs) (i : ℕ)
 
 module _ (side : Side) where
   -- what the first slots keep
-  pub kept_first : (table : Contents Cell) (queues : Queues) → AreInSlots table → ((n : ℕ) → queue_at queues n ≡ []) → AreKept (slots_in side table.rows) queues
+  pub kept_first : (table : Contents Cell) (queues : Queues) → AreInSlots table → ((n : ℕ) → queue_at queues n ≡ []) → AreSlotsKept (slots_in side table.rows) queues
   kept_first table queues a empty = record {
     rise = slots_rise side table.rows a.rise;
     once = once_in side table a;

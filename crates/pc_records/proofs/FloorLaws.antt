@@ -15,7 +15,7 @@ use Rattle.pc_locks.specs.States.{Queues, queue_at, slots_of, first_of, SetsAt}
 use Rattle.pc_chain.specs.declared.side.Side.{Side}
 use Rattle.pc_chain.specs.declared.dirty.Dirty.{Dirty}
 use Rattle.pc_chain.specs.Sets.{other_side, AreSets}
-use Rattle.pc_table.specs.Rows.{Row as TableRow, Contents, in_slot, HasRow, slot_of as table_slot}
+use Rattle.pc_table.specs.Rows.{TableRow, Contents, in_slot, HasRow, slot_of as table_slot}
 use Rattle.pc_slots.specs.declared.cells.Cell.{Cell}
 use Rattle.pc_slots.specs.declared.versions.Stable.TheVariants.{Held}
 use Rattle.pc_slots.specs.declared.versions.Writer.{Writer}
@@ -23,7 +23,7 @@ use Rattle.pc_slots.specs.Slots.{Slot, writer_in, put_slot, put_beside, saved, s
 use Rattle.pc_slots.specs.Words.{is_marked}
 use Rattle.pc_records.specs.Ends.{ends_in, queues_in, KeepSlots}
 use Rattle.pc_records.specs.RowSteps.{is_waiting}
-use Rattle.pc_records.specs.Slots.{slots_in, at_number, rows_of, numbers_of, times, AreKept}
+use Rattle.pc_records.specs.Slots.{slots_in, at_number, rows_of, numbers_of, times, AreSlotsKept}
 use Rattle.pc_records.specs.SetLists.{IsListed, KeepSets, HasPlace, next_in, open_slots, entering, open_keys, closed_keys}
 use Rattle.pc_records.specs.Floor.{Spot, spot_of, spots_of, floor_of, at_spot, with_spot, changed, queued, let_go, asked, queue_of, has_spot, stands_at, stands_anywhere, waits_anywhere, newly_opened, number_of}
 use Rattle.pc_records.proofs.Listing.{kept_open, kept_closed}
@@ -117,11 +117,11 @@ waits_alike t queues [] = refl
 waits_alike t queues (s ∷ slots) = ap (λ b. is_ungranted (request_in (queue_at queues s.number) t) || b) (waits_alike t queues slots)
 
 -- and as the locks do
-pub waits_there : (side : Side) (rows : List (TableRow Cell)) (locks : keepers.Kept) (t : ℕ) → AreKept (slots_in side rows) (queues_in rows locks) → keepers.AreEnds (ends_in rows) locks → waits_anywhere (spots_of (queues_in rows locks) (slots_in side rows)) t ≡ false
+pub waits_there : (side : Side) (rows : List (TableRow Cell)) (locks : keepers.KeptRequests) (t : ℕ) → AreSlotsKept (slots_in side rows) (queues_in rows locks) → keepers.AreEnds (ends_in rows) locks → waits_anywhere (spots_of (queues_in rows locks) (slots_in side rows)) t ≡ false
     → states.is_waiting (keepers.state_of (ends_in rows) locks) t ≡ false
 waits_there side rows locks t kept ends none = waits_same (slots_in side rows) (queues_in rows locks) (keepers.lists_of locks) t ends.settled.linked kept ∙ sym (waits_alike t (queues_in rows locks) (slots_in side rows)) ∙ none
 
-module _ (f : Slot → Slot) (id : ℕ) (table new : Contents Cell) (locks : keepers.Kept) (sets : Dirty) (side : Side) (is : side ≡ sets.side) (keeps : (s : Slot) → (f s).number ≡ s.number) where
+module _ (f : Slot → Slot) (id : ℕ) (table new : Contents Cell) (locks : keepers.KeptRequests) (sets : Dirty) (side : Side) (is : side ≡ sets.side) (keeps : (s : Slot) → (f s).number ≡ s.number) where
   -- the floor where one slot has changed
   pub floor_changed : slots_in side new.rows ≡ map (at_number f id) (slots_in side table.rows) → new.capacity ≡ table.capacity → ends_in new.rows ≡ ends_in table.rows → KeepSets table.rows new.rows → IsListed table.rows sets
       → floor_of new.capacity (queues_in new.rows locks) (slots_in sets.side new.rows) (open_keys new.rows sets) (closed_keys new.rows sets)
@@ -143,7 +143,7 @@ opens_there side queues id [] = refl
 opens_there side queues id (row ∷ rows) = elim (eqb row.1.0 id) as (λ b. entering side (cond b (Some (row.0, row.1.1)) (in_slot rows id)) ≡ cond b (cond (is_some (writer_in row.1.1) && not (is_marked side row.1.1)) (row.0 ∷ []) []) (newly_opened (spots_of queues (slots_in side rows)) id)) [ true ↦ refl | false ↦ opens_there side queues id rows ]
 
 -- the floor where the write of one slot is committed
-pub floor_settled : (point id : ℕ) (table new : Contents Cell) (locks : keepers.Kept) (sets after : Dirty) → slots_in sets.side new.rows ≡ map (at_number (settled point) id) (slots_in sets.side table.rows) → new.capacity ≡ table.capacity → ends_in new.rows ≡ ends_in table.rows → after.side ≡ sets.side
+pub floor_settled : (point id : ℕ) (table new : Contents Cell) (locks : keepers.KeptRequests) (sets after : Dirty) → slots_in sets.side new.rows ≡ map (at_number (settled point) id) (slots_in sets.side table.rows) → new.capacity ≡ table.capacity → ends_in new.rows ≡ ends_in table.rows → after.side ≡ sets.side
     → open_keys new.rows after ≡ open_keys table.rows sets ++ entering sets.side (in_slot table.rows id) → closed_keys new.rows after ≡ closed_keys table.rows sets
     → floor_of new.capacity (queues_in new.rows locks) (slots_in after.side new.rows) (open_keys new.rows after) (closed_keys new.rows after)
     ≡ record (with_spot (changed (settled point)) id (floor_of table.capacity (queues_in table.rows locks) (slots_in sets.side table.rows) (open_keys table.rows sets) (closed_keys table.rows sets))) { opened = open_keys table.rows sets ++ newly_opened (spots_of (queues_in table.rows locks) (slots_in sets.side table.rows)) id }
@@ -181,12 +181,12 @@ spots_closed queues [] = refl
 spots_closed queues (s ∷ slots) = ap (λ (xs : List Spot). changed closed_slot (spot_of queues s) ∷ xs) (spots_closed queues slots)
 
 -- the open set was closed
-module _ (rows : List (TableRow Cell)) (locks : keepers.Kept) (sets new : Dirty) (kept : AreKept (slots_in sets.side rows) (queues_in rows locks)) (listed : IsListed rows sets) (none : closed_keys rows sets ≡ []) (side : new.side ≡ other_side sets.side)
+module _ (rows : List (TableRow Cell)) (locks : keepers.KeptRequests) (sets new : Dirty) (kept : AreSlotsKept (slots_in sets.side rows) (queues_in rows locks)) (listed : IsListed rows sets) (none : closed_keys rows sets ≡ []) (side : new.side ≡ other_side sets.side)
     (turned : AreSets (HasPlace rows) (next_in rows) new [] (open_slots rows sets)) where
   turned_slots : slots_in new.side rows ≡ map closed_slot (slots_in sets.side rows)
   turned_slots = ap (λ (s : Side). slots_in s rows) side ∙ slots_turned rows sets listed none (queues_in rows locks) kept
 
-  pub kept_turned : AreKept (slots_in new.side rows) (queues_in rows locks)
+  pub kept_turned : AreSlotsKept (slots_in new.side rows) (queues_in rows locks)
   kept_turned = kept_map closed_slot (slots_in sets.side rows) (slots_in new.side rows) (queues_in rows locks) turned_slots (λ s. refl) (λ s. refl) kept
 
   pub floor_closed : (capacity : ℕ) → floor_of capacity (queues_in rows locks) (slots_in new.side rows) (open_keys rows new) (closed_keys rows new)
@@ -199,7 +199,7 @@ module _ (rows : List (TableRow Cell)) (locks : keepers.Kept) (sets new : Dirty)
   }
 
 -- the floor where one queue has changed
-floor_queued : (g : Queue → Queue) (id : ℕ) (table new : Contents Cell) (locks later : keepers.Kept) (sets : Dirty) → KeepSlots table new → SetsAt (queues_in table.rows locks) (queues_in new.rows later) id (g (queue_at (queues_in table.rows locks) id)) → IsListed table.rows sets
+floor_queued : (g : Queue → Queue) (id : ℕ) (table new : Contents Cell) (locks later : keepers.KeptRequests) (sets : Dirty) → KeepSlots table new → SetsAt (queues_in table.rows locks) (queues_in new.rows later) id (g (queue_at (queues_in table.rows locks) id)) → IsListed table.rows sets
     → floor_of new.capacity (queues_in new.rows later) (slots_in sets.side new.rows) (open_keys new.rows sets) (closed_keys new.rows sets)
     ≡ with_spot (queued g) id (floor_of table.capacity (queues_in table.rows locks) (slots_in sets.side table.rows) (open_keys table.rows sets) (closed_keys table.rows sets))
 floor_queued g id table new locks later sets keep queues listed =
@@ -213,15 +213,15 @@ floor_queued g id table new locks later sets keep queues listed =
     }
 
 -- what slots and queues keep, where one slot has changed
-pub kept_changed : (f : Slot → Slot) (id : ℕ) (table new : Contents Cell) (locks : keepers.Kept) (side here : Side) → side ≡ here → ((s : Slot) → (f s).number ≡ s.number) → ((s : Slot) → (f s).key ≡ s.key) → slots_in side new.rows ≡ map (at_number f id) (slots_in side table.rows) → ends_in new.rows ≡ ends_in table.rows
-    → AreKept (slots_in here table.rows) (queues_in table.rows locks) → AreKept (slots_in here new.rows) (queues_in new.rows locks)
+pub kept_changed : (f : Slot → Slot) (id : ℕ) (table new : Contents Cell) (locks : keepers.KeptRequests) (side here : Side) → side ≡ here → ((s : Slot) → (f s).number ≡ s.number) → ((s : Slot) → (f s).key ≡ s.key) → slots_in side new.rows ≡ map (at_number f id) (slots_in side table.rows) → ends_in new.rows ≡ ends_in table.rows
+    → AreSlotsKept (slots_in here table.rows) (queues_in table.rows locks) → AreSlotsKept (slots_in here new.rows) (queues_in new.rows locks)
 kept_changed f id table new locks side here is numbers keys slots ends kept =
-    subst (λ (e : ℕ → Chain ℕ). AreKept (slots_in here new.rows) (keepers.queues_of e locks)) (sym ends)
+    subst (λ (e : ℕ → Chain ℕ). AreSlotsKept (slots_in here new.rows) (keepers.queues_of e locks)) (sym ends)
     (kept_map (at_number f id) (slots_in here table.rows) (slots_in here new.rows) (queues_in table.rows locks) (subst (λ (s : Side). slots_in s new.rows ≡ map (at_number f id) (slots_in s table.rows)) is slots)
     (λ s. elim (eqb s.number id) as (λ b. (cond b (f s) s).key ≡ s.key) [ true ↦ keys s | false ↦ refl ]) (λ s. elim (eqb s.number id) as (λ b. (cond b (f s) s).number ≡ s.number) [ true ↦ numbers s | false ↦ refl ]) kept)
 
 -- and where the queue of a slot that is there has changed
-kept_queue : (id : ℕ) (q : Queue) (slots : List Slot) (queues new : Queues) → (times id (numbers_of slots) ≡ 0 → q ≡ []) → SetsAt queues new id q → AreKept slots queues → AreKept slots new
+kept_queue : (id : ℕ) (q : Queue) (slots : List Slot) (queues new : Queues) → (times id (numbers_of slots) ≡ 0 → q ≡ []) → SetsAt queues new id q → AreSlotsKept slots queues → AreSlotsKept slots new
 kept_queue id q slots queues new empty sets kept = record { rise = kept.rise; once = kept.once; bare = λ n none. by_test n (eqb n id) refl none (kept.bare n none) }
   where
     by_test : (n : ℕ) (b : Bool) → eqb n id ≡ b → times n (numbers_of slots) ≡ 0 → queue_at queues n ≡ [] → queue_at new n ≡ []
@@ -259,16 +259,16 @@ stands_at_none : (t : ℕ) (queues : Queues) (slots : List Slot) → ((n : ℕ) 
 stands_at_none t queues [] none = refl
 stands_at_none t queues (s ∷ slots) none = ap (λ b. b || stands_anywhere (spots_of queues slots) t) (none s.number) ∙ stands_at_none t queues slots none
 
-module _ (t : ℕ) (table new : Contents Cell) (locks later : keepers.Kept) (sets : Dirty) (kept : AreKept (slots_in sets.side table.rows) (queues_in table.rows locks)) (ends : keepers.AreEnds (ends_in table.rows) locks) (listed : IsListed table.rows sets) (keep : KeepSlots table new) where
+module _ (t : ℕ) (table new : Contents Cell) (locks later : keepers.KeptRequests) (sets : Dirty) (kept : AreSlotsKept (slots_in sets.side table.rows) (queues_in table.rows locks)) (ends : keepers.AreEnds (ends_in table.rows) locks) (listed : IsListed table.rows sets) (keep : KeepSlots table new) where
   abbrev Gone : Option ℕ → Type 0
   Gone r = IfSome r (λ id. SetsAt (queues_in table.rows locks) (queues_in new.rows later) id (queue_without (queue_at (queues_in table.rows locks) id) t))
 
   abbrev Same : Option ℕ → Type 0
   Same r = IfNone r ((later ≡ locks) × (new ≡ table))
 
-  pub kept_released : (r : Option ℕ) → Gone r → Same r → AreKept (slots_in sets.side new.rows) (queues_in new.rows later)
-  kept_released (Some id) gone same = subst (λ (ss : List Slot). AreKept ss (queues_in new.rows later)) (sym (keep.slots sets.side)) (kept_queue id (queue_without (queue_at (queues_in table.rows locks) id) t) (slots_in sets.side table.rows) (queues_in table.rows locks) (queues_in new.rows later) (λ none. ap (λ q. queue_without q t) (kept.bare id none)) gone kept)
-  kept_released None gone same = subst (λ (p : Contents Cell × keepers.Kept). AreKept (slots_in sets.side p.0.rows) (queues_in p.0.rows p.1)) (λ i. (sym same.1 i, sym same.0 i)) kept
+  pub kept_released : (r : Option ℕ) → Gone r → Same r → AreSlotsKept (slots_in sets.side new.rows) (queues_in new.rows later)
+  kept_released (Some id) gone same = subst (λ (ss : List Slot). AreSlotsKept ss (queues_in new.rows later)) (sym (keep.slots sets.side)) (kept_queue id (queue_without (queue_at (queues_in table.rows locks) id) t) (slots_in sets.side table.rows) (queues_in table.rows locks) (queues_in new.rows later) (λ none. ap (λ q. queue_without q t) (kept.bare id none)) gone kept)
+  kept_released None gone same = subst (λ (p : Contents Cell × keepers.KeptRequests). AreSlotsKept (slots_in sets.side p.0.rows) (queues_in p.0.rows p.1)) (λ i. (sym same.1 i, sym same.0 i)) kept
 
   pub released : (r : Option ℕ) → r ≡ first_of (slots_of (keepers.lists_of locks) t) → Gone r
       → IfSome r (λ id. (stands_at (spots_of (queues_in table.rows locks) (slots_in sets.side table.rows)) id t ≡ true) × (floor_of new.capacity (queues_in new.rows later) (slots_in sets.side new.rows) (open_keys new.rows sets) (closed_keys new.rows sets)
@@ -287,7 +287,7 @@ module _ (t : ℕ) (table new : Contents Cell) (locks later : keepers.Kept) (set
     stands_at_none t (queues_in table.rows locks) (slots_in sets.side table.rows) (stands_nowhere t (queues_in table.rows locks) (keepers.lists_of locks) ends.settled.linked first),
   )
 
-module _ (t id : ℕ) (mode : Mode) (table new : Contents Cell) (locks later : keepers.Kept) (sets : Dirty) (kept : AreKept (slots_in sets.side table.rows) (queues_in table.rows locks)) (listed : IsListed table.rows sets) (keep : KeepSlots table new) (there : has_spot (spots_of (queues_in table.rows locks) (slots_in sets.side table.rows)) id ≡ true) where
+module _ (t id : ℕ) (mode : Mode) (table new : Contents Cell) (locks later : keepers.KeptRequests) (sets : Dirty) (kept : AreSlotsKept (slots_in sets.side table.rows) (queues_in table.rows locks)) (listed : IsListed table.rows sets) (keep : KeepSlots table new) (there : has_spot (spots_of (queues_in table.rows locks) (slots_in sets.side table.rows)) id ≡ true) where
   abbrev Told : Outcome → Type 0
   Told answer = answer ≡ outcome (queue_at (queues_in table.rows locks) id) t mode
 
@@ -319,10 +319,10 @@ module _ (t id : ℕ) (mode : Mode) (table new : Contents Cell) (locks later : k
         closed = (kept_closed table.rows new.rows sets keep.sets listed) i;
       }
 
-  pub asked_kept : {E : Type 0} (r : Result Outcome E) → IfOk r Asks → Stays r → AreKept (slots_in sets.side new.rows) (queues_in new.rows later)
+  pub asked_kept : {E : Type 0} (r : Result Outcome E) → IfOk r Asks → Stays r → AreSlotsKept (slots_in sets.side new.rows) (queues_in new.rows later)
   asked_kept (Ok answer) asks stays =
-      subst (λ (ss : List Slot). AreKept ss (queues_in new.rows later)) (sym (keep.slots sets.side))
+      subst (λ (ss : List Slot). AreSlotsKept ss (queues_in new.rows later)) (sym (keep.slots sets.side))
       (kept_queue id (queue_after (queue_at (queues_in table.rows locks) id) t mode answer) (slots_in sets.side table.rows) (queues_in table.rows locks) (queues_in new.rows later) (λ none. absurd (has_times (queues_in table.rows locks) id (slots_in sets.side table.rows) there none)) asks kept)
   asked_kept (Err e) asks stays =
-      subst (λ (ss : List Slot). AreKept ss (queues_in new.rows later)) (sym (keep.slots sets.side))
+      subst (λ (ss : List Slot). AreSlotsKept ss (queues_in new.rows later)) (sym (keep.slots sets.side))
       (record { rise = kept.rise; once = kept.once; bare = λ n none. stays.queues n ∙ kept.bare n none })

@@ -16,14 +16,14 @@ use Rattle.pc_chain.specs.declared.chain.Chain.{Chain}
 use Rattle.pc_locks.specs.States.{Queues, queue_at}
 use Rattle.pc_chain.specs.declared.side.Side.{Side}
 use Rattle.pc_chain.specs.declared.dirty.Dirty.{Dirty}
-use Rattle.pc_table.specs.Rows.{Row as TableRow, Contents, HasRow, AreInSlots, IsNewSlot, in_slot, with_row, slot_of as table_slot}
+use Rattle.pc_table.specs.Rows.{TableRow, Contents, HasRow, AreInSlots, IsNewSlot, in_slot, with_row, slot_of as table_slot}
 use Rattle.pc_table.proofs.RowLaws.{no_row, same_some}
 use Rattle.pc_slots.specs.declared.cells.Cell.{Cell}
 use Rattle.pc_slots.specs.Slots.{Slot, slot_with, base_cell, new_slot, keeps_copy, committed}
 use Rattle.pc_types.specs.declared.Class.{Class}
 use Rattle.pc_types.specs.declared.Class.TheVariants.{Before, During, After}
 use Rattle.pc_records.specs.Ends.{ends_in, queues_in}
-use Rattle.pc_records.specs.Slots.{slots_in, slot_in, cells_in, base_row, row_of, rows_of, times, numbers_of, AreKept, no_queues}
+use Rattle.pc_records.specs.Slots.{slots_in, slot_in, cells_in, base_row, row_of, rows_of, times, numbers_of, AreSlotsKept, no_queues}
 use Rattle.pc_records.specs.SetLists.{IsListed, open_keys, closed_keys}
 use Rattle.pc_records.specs.Floor.{Spot, spot_of, spots_of, floor_of, has_spot, entered, new_spot, of_spot, copy_kept, committed_at, unnumbered, first_spot}
 use Rattle.pc_records.proofs.BlankSlots.{blank_slot}
@@ -61,7 +61,7 @@ no_spot side queues id (row ∷ rows) none = by_test (eqb row.1.0 id) none (no_s
 pub counted : (side : Side) (queues : Queues) (rows : List (TableRow Cell)) → length (spots_of queues (slots_in side rows)) ≡ length rows
 counted side queues rows = length-map (slots_in side rows) (spot_of queues) ∙ length-map rows (slot_in side)
 
-module _ (old new : Contents Cell) (key : List ℕ) (locks : keepers.Kept) (sets : Dirty) (kept : AreKept (slots_in sets.side old.rows) (queues_in old.rows locks)) (listed : IsListed old.rows sets) (none : table_slot old.rows key ≡ None) (after : AreInSlots new) where
+module _ (old new : Contents Cell) (key : List ℕ) (locks : keepers.KeptRequests) (sets : Dirty) (kept : AreSlotsKept (slots_in sets.side old.rows) (queues_in old.rows locks)) (listed : IsListed old.rows sets) (none : table_slot old.rows key ≡ None) (after : AreInSlots new) where
   abbrev Made : ℕ → Type 0
   Made id = new ≡ with_row old key id (base_cell None)
 
@@ -72,9 +72,9 @@ module _ (old new : Contents Cell) (key : List ℕ) (locks : keepers.Kept) (sets
     apart : times id (numbers_of (slots_in sets.side old.rows)) ≡ 0
     apart = no_number sets.side old.rows id fresh.1
 
-    kept_one : AreKept (slots_in sets.side new.rows) (queues_in new.rows locks)
+    kept_one : AreSlotsKept (slots_in sets.side new.rows) (queues_in new.rows locks)
     kept_one =
-        subst (AreKept (slots_in sets.side new.rows)) (sym queues_stay)
+        subst (AreSlotsKept (slots_in sets.side new.rows)) (sym queues_stay)
         (kept_inserted (slots_in sets.side old.rows) (slots_in sets.side new.rows) (queues_in old.rows locks) (queues_in old.rows locks) (place key (slots_in sets.side old.rows)) (new_slot id key) [] kept apart (went_in sets.side old new key id none made)
         (set_is (queues_in old.rows locks) (queues_in old.rows locks) id [] (record { this = kept.bare id apart; others = λ n other. refl }))
         (rise_any no_queues (queues_in old.rows locks) (slots_in sets.side new.rows) (slots_rise sets.side new.rows after.rise)))
@@ -99,12 +99,12 @@ module _ (old new : Contents Cell) (key : List ℕ) (locks : keepers.Kept) (sets
 
   module _ {E : Type 0} (r : Result ℕ E) (made : IfOk r Made) (fresh : IfOk r (IsNewSlot old)) where
     module _ (same : OnErr r (new ≡ old)) (ends : keepers.AreEnds (ends_in old.rows) locks) where
-      pub made_kept : AreKept (slots_in sets.side new.rows) (queues_in new.rows locks)
+      pub made_kept : AreSlotsKept (slots_in sets.side new.rows) (queues_in new.rows locks)
       made_kept = by_result r made fresh same
         where
-          by_result : (r : Result ℕ E) → IfOk r Made → IfOk r (IsNewSlot old) → OnErr r (new ≡ old) → AreKept (slots_in sets.side new.rows) (queues_in new.rows locks)
+          by_result : (r : Result ℕ E) → IfOk r Made → IfOk r (IsNewSlot old) → OnErr r (new ≡ old) → AreSlotsKept (slots_in sets.side new.rows) (queues_in new.rows locks)
           by_result (Ok id) made fresh same = kept_one id made fresh
-          by_result (Err e) made fresh same = subst (λ (t : Contents Cell). AreKept (slots_in sets.side t.rows) (queues_in t.rows locks)) (sym same) kept
+          by_result (Err e) made fresh same = subst (λ (t : Contents Cell). AreSlotsKept (slots_in sets.side t.rows) (queues_in t.rows locks)) (sym same) kept
 
       pub made_ends : keepers.AreEnds (ends_in new.rows) locks
       made_ends = by_result r made fresh same

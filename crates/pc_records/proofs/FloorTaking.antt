@@ -9,15 +9,15 @@ use Rattle.pc_locks.specs.Keepers as keepers
 use Rattle.pc_chain.specs.declared.side.Side.{Side}
 use Rattle.pc_chain.specs.declared.dirty.Dirty.{Dirty}
 use Rattle.pc_chain.specs.Sets.{other_side, AreSets}
-use Rattle.pc_table.specs.Rows.{Row as TableRow, Contents, AreInSlots, in_slot}
+use Rattle.pc_table.specs.Rows.{TableRow, Contents, AreInSlots, in_slot}
 use Rattle.pc_slots.specs.declared.cells.Cell.{Cell}
 use Rattle.pc_slots.specs.Slots.{Slot, taken_slot, pinned}
 use Rattle.pc_records.specs.Ends.{ends_in, queues_in}
-use Rattle.pc_records.specs.Slots.{slots_in, at_number, row_of, rows_of, AreKept}
+use Rattle.pc_records.specs.Slots.{slots_in, at_number, row_of, rows_of, AreSlotsKept}
 use Rattle.pc_records.specs.Rows.{record_of, at_point}
 use Rattle.pc_records.specs.Tables.{first_pinned}
-use Rattle.pc_records.specs.SetLists.{HasPlace, next_in, marked_in, key_in, keys_at, AreLists, IsUnmarked, IsListed, open_slots, closed_slots, open_keys, closed_keys}
-use Rattle.pc_records.specs.Floor.{spots_of, floor_of, at_spot, changed, TakesFirst, content_at, first_of_closed}
+use Rattle.pc_records.specs.SetLists.{HasPlace, next_in, marked_in, key_in, keys_at, AreSetLists, IsUnmarked, IsListed, open_slots, closed_slots, open_keys, closed_keys}
+use Rattle.pc_records.specs.Floor.{spots_of, floor_of, at_spot, changed, TakesFirstSpot, content_at, first_of_closed}
 use Rattle.pc_records.proofs.FloorLaws.{number_there, spots_changed, kept_changed}
 use Rattle.pc_records.proofs.KeepingSets.{sets_same}
 use Rattle.pc_records.proofs.Leaving.{first_slot, left_listed, left_open, left_closed}
@@ -30,15 +30,15 @@ firsts rows (x ∷ xs) id e = ap (λ n. key_in (in_slot rows n) ∷ keys_at rows
     same : Some id ≡ Some x → x ≡ id
     same e = cc
 
-module _ (table : Contents Cell) (locks : keepers.Kept) (sets now : Dirty) (kept : AreKept (slots_in sets.side table.rows) (queues_in table.rows locks)) (listed : IsListed table.rows sets) (side : now.side ≡ sets.side)
+module _ (table : Contents Cell) (locks : keepers.KeptRequests) (sets now : Dirty) (kept : AreSlotsKept (slots_in sets.side table.rows) (queues_in table.rows locks)) (listed : IsListed table.rows sets) (side : now.side ≡ sets.side)
     (popped : AreSets (HasPlace table.rows) (next_in table.rows) now (open_slots table.rows sets) (rest_of (closed_slots table.rows sets))) where
   module _ (id : ℕ) (first : Some id ≡ first_of (closed_slots table.rows sets)) (marked : Contents Cell) (here : Side) (is : here ≡ sets.side) (unmarked : IsUnmarked here id table.rows marked.rows) (slots : slots_in here marked.rows ≡ map (at_number taken_slot id) (slots_in here table.rows)) (ends : ends_in marked.rows ≡ ends_in table.rows) where
     unmarked_here : IsUnmarked sets.side id table.rows marked.rows
     unmarked_here = subst (λ (s : Side). IsUnmarked s id table.rows marked.rows) is unmarked
 
-    pub kept_taken : AreKept (slots_in now.side marked.rows) (queues_in marked.rows locks)
+    pub kept_taken : AreSlotsKept (slots_in now.side marked.rows) (queues_in marked.rows locks)
     kept_taken =
-        subst (λ (s : Side). AreKept (slots_in s marked.rows) (queues_in marked.rows locks)) (sym side)
+        subst (λ (s : Side). AreSlotsKept (slots_in s marked.rows) (queues_in marked.rows locks)) (sym side)
         (kept_changed taken_slot id table marked locks here sets.side is (λ s. refl) (λ s. refl) slots ends kept)
 
     pub ends_taken : keepers.AreEnds (ends_in table.rows) locks → keepers.AreEnds (ends_in marked.rows) locks
@@ -56,7 +56,7 @@ module _ (table : Contents Cell) (locks : keepers.Kept) (sets now : Dirty) (kept
         ∙ ap (spots_of (queues_in table.rows locks)) (subst (λ (s : Side). slots_in s marked.rows ≡ map (at_number taken_slot id) (slots_in s table.rows)) is slots)
         ∙ spots_changed taken_slot (queues_in table.rows locks) id (λ s. refl) (slots_in sets.side table.rows)
 
-    pub floor_taken : AreInSlots table → marked.capacity ≡ table.capacity → TakesFirst (floor_of table.capacity (queues_in table.rows locks) (slots_in sets.side table.rows) (open_keys table.rows sets) (closed_keys table.rows sets))
+    pub floor_taken : AreInSlots table → marked.capacity ≡ table.capacity → TakesFirstSpot (floor_of table.capacity (queues_in table.rows locks) (slots_in sets.side table.rows) (open_keys table.rows sets) (closed_keys table.rows sets))
         (floor_of marked.capacity (queues_in marked.rows locks) (slots_in now.side marked.rows) (open_keys marked.rows now) (closed_keys marked.rows now)) id
     floor_taken in_slots capacity = record {
       key = key_in (in_slot table.rows id);
@@ -76,15 +76,15 @@ module _ (table : Contents Cell) (locks : keepers.Kept) (sets now : Dirty) (kept
     no_first [] e = (refl, refl)
     no_first (x ∷ xs) e = absurd cc
 
-    lists : AreLists table.rows now (open_slots table.rows sets) (closed_slots table.rows sets)
+    lists : AreSetLists table.rows now (open_slots table.rows sets) (closed_slots table.rows sets)
     lists = record {
       linked = subst (λ (xs : List ℕ). AreSets (HasPlace table.rows) (next_in table.rows) now (open_slots table.rows sets) xs) (no_first (closed_slots table.rows sets) none).0 popped;
       open_marks = λ slot. ap (λ s. marked_in s (in_slot table.rows slot)) side ∙ listed.open_marks slot;
       closed_marks = λ slot. ap (λ s. marked_in (other_side s) (in_slot table.rows slot)) side ∙ listed.closed_marks slot;
     }
 
-    pub kept_none : AreKept (slots_in now.side table.rows) (queues_in table.rows locks)
-    kept_none = subst (λ (s : Side). AreKept (slots_in s table.rows) (queues_in table.rows locks)) (sym side) kept
+    pub kept_none : AreSlotsKept (slots_in now.side table.rows) (queues_in table.rows locks)
+    kept_none = subst (λ (s : Side). AreSlotsKept (slots_in s table.rows) (queues_in table.rows locks)) (sym side) kept
 
     pub listed_none : IsListed table.rows now
     listed_none = named table.rows now (open_slots table.rows sets) (closed_slots table.rows sets) lists

@@ -6,12 +6,12 @@ use Rattle.pc_locks.specs.States.{Queues, queue_at}
 use Rattle.pc_locks.specs.Keepers as keepers
 use Rattle.pc_chain.specs.declared.side.Side.{Side}
 use Rattle.pc_chain.specs.declared.dirty.Dirty.{Dirty}
-use Rattle.pc_table.specs.Rows.{Row as TableRow, Contents, AreInSlots, in_slot, without_slot}
+use Rattle.pc_table.specs.Rows.{TableRow, Contents, AreInSlots, in_slot, without_slot}
 use Rattle.pc_table.proofs.RowLaws.{no_row, same_some}
 use Rattle.pc_slots.specs.declared.cells.Cell.{Cell}
 use Rattle.pc_slots.specs.Slots.{Slot, slot_with, is_kept_slot, is_held}
 use Rattle.pc_records.specs.Ends.{ends_in, queues_in}
-use Rattle.pc_records.specs.Slots.{slots_in, slot_in, times, numbers_of, AreKept}
+use Rattle.pc_records.specs.Slots.{slots_in, slot_in, times, numbers_of, AreSlotsKept}
 use Rattle.pc_records.specs.SetLists.{KeepSets, IsListed, open_keys, closed_keys}
 use Rattle.pc_records.specs.Floor.{Spot, spot_of, spots_of, floor_of, is_needed, tidied}
 use Rattle.pc_records.proofs.EndsKept.{ends_left, queues_left}
@@ -115,7 +115,7 @@ module _ (side : Side) (queues : Queues) (id : ℕ) where
       by_test false is false other true own rest = ap (λ b. cond b (times n (numbers_of (slots_in side (filter (λ row. not (eqb row.1.0 id)) rows))) + 1) (times n (numbers_of (slots_in side (filter (λ row. not (eqb row.1.0 id)) rows))))) own ∙ ap (λ k. k + 1) rest
       by_test false is false other false own rest = ap (λ b. cond b (times n (numbers_of (slots_in side (filter (λ row. not (eqb row.1.0 id)) rows))) + 1) (times n (numbers_of (slots_in side (filter (λ row. not (eqb row.1.0 id)) rows))))) own ∙ rest
 
-  pub kept_left : (table new : Contents Cell) → new ≡ without_slot table id → AreInSlots new → queue_at queues id ≡ [] → AreKept (slots_in side table.rows) queues → AreKept (slots_in side new.rows) queues
+  pub kept_left : (table new : Contents Cell) → new ≡ without_slot table id → AreInSlots new → queue_at queues id ≡ [] → AreSlotsKept (slots_in side table.rows) queues → AreSlotsKept (slots_in side new.rows) queues
   kept_left table new gone after empty kept = record {
     rise = slots_rise side new.rows after.rise;
     once = λ n. subst (λ k. k ≤ 1) (sym (count n)) (elim (eqb n id) as (λ b. cond b 0 (times n (numbers_of (slots_in side table.rows))) ≤ 1) [ true ↦ omega arith | false ↦ kept.once n ]);
@@ -131,7 +131,7 @@ module _ (side : Side) (queues : Queues) (id : ℕ) where
           ap (queue_at queues) same ∙ empty
       by_test n false is none = kept.bare n none
 
-module _ (table : Contents Cell) (locks : keepers.Kept) (sets : Dirty) (side : Side) (is : side ≡ sets.side) (id : ℕ) (x : Cell) (has : option_map (λ pair. pair.1) (in_slot table.rows id) ≡ Some x) (kept : AreKept (slots_in sets.side table.rows) (queues_in table.rows locks)) where
+module _ (table : Contents Cell) (locks : keepers.KeptRequests) (sets : Dirty) (side : Side) (is : side ≡ sets.side) (id : ℕ) (x : Cell) (has : option_map (λ pair. pair.1) (in_slot table.rows id) ≡ Some x) (kept : AreSlotsKept (slots_in sets.side table.rows) (queues_in table.rows locks)) where
   abbrev Needed : Bool → Type 0
   Needed b = is_kept_slot (queue_at (queues_in table.rows locks) id) (slot_with side id [] x) ≡ b
 
@@ -157,8 +157,8 @@ module _ (table : Contents Cell) (locks : keepers.Kept) (sets : Dirty) (side : S
     keep : KeepSets table.rows new.rows
     keep = sets_without table new id x has (nothing_marked side (queue_at (queues_in table.rows locks) id) id x nothing) gone
 
-    pub kept_needless : AreInSlots new → AreKept (slots_in sets.side new.rows) (queues_in new.rows locks)
-    kept_needless after = subst (AreKept (slots_in sets.side new.rows)) (sym same_queues) (kept_left sets.side (queues_in table.rows locks) id table new gone after empty kept)
+    pub kept_needless : AreInSlots new → AreSlotsKept (slots_in sets.side new.rows) (queues_in new.rows locks)
+    kept_needless after = subst (AreSlotsKept (slots_in sets.side new.rows)) (sym same_queues) (kept_left sets.side (queues_in table.rows locks) id table new gone after empty kept)
 
     pub ends_needless : keepers.AreEnds (ends_in table.rows) locks → keepers.AreEnds (ends_in new.rows) locks
     ends_needless ends = ends_left table new id gone locks empty ends

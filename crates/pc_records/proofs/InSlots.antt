@@ -7,7 +7,7 @@ use Rattle.std.specs.FinMap.{find, put}
 use Rattle.std.specs.FinMap.Entries.{by_order}
 use Rattle.std.proofs.lemmas.Bool.{eqb-true, eq-eqb}
 use Rattle.pc_model.specs.Database.{key_cmp}
-use Rattle.pc_table.specs.Rows.{Row as TableRow, in_slot, with_record_in}
+use Rattle.pc_table.specs.Rows.{TableRow, in_slot, with_record_in}
 use Rattle.pc_table.proofs.RowLaws.{no_row, same_some}
 use Rattle.pc_slots.specs.declared.cells.Cell.{Cell}
 

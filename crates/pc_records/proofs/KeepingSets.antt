@@ -1,7 +1,7 @@
 -- Rows of which the sets have what they had.
 use Rattle.std.proofs.Common.{◌≡◌, ℕ, List, map, Option, Some, None, option_map, refl, sym, ap, ◌∙◌, cond, Bool, true, false, eqb, ◌||◌}
 use Rattle.std.proofs.lemmas.Bool.{eqb-true}
-use Rattle.pc_table.specs.Rows.{Row as TableRow, Contents, in_slot, slot_of as table_slot, with_record_in, with_row, without_slot, IsNewSlot}
+use Rattle.pc_table.specs.Rows.{TableRow, Contents, in_slot, slot_of as table_slot, with_record_in, with_row, without_slot, IsNewSlot}
 use Rattle.pc_table.proofs.RowLaws.{same_some}
 use Rattle.pc_slots.specs.declared.cells.Cell.{Cell}
 use Rattle.pc_slots.specs.Words.{Word, words_of}

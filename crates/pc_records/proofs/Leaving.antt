@@ -7,9 +7,9 @@ use Rattle.pc_chain.specs.Chains.{first_of, rest_of, Avoids, AllHave}
 use Rattle.pc_chain.specs.declared.dirty.Dirty.{Dirty}
 use Rattle.pc_chain.specs.Sets.{other_side, AreSets, HasNoRepeats}
 use Rattle.pc_chain.proofs.SetLaws.{closed_once, closed_have}
-use Rattle.pc_table.specs.Rows.{Row as TableRow, Contents, in_slot, slot_of as table_slot, HasRow, AreInSlots}
+use Rattle.pc_table.specs.Rows.{TableRow, Contents, in_slot, slot_of as table_slot, HasRow, AreInSlots}
 use Rattle.pc_slots.specs.declared.cells.Cell.{Cell}
-use Rattle.pc_records.specs.SetLists.{HasPlace, next_in, marked_in, key_in, keys_at, is_listed, AreLists, open_slots, closed_slots, IsListed, open_keys, closed_keys, KeepSets, IsUnmarked}
+use Rattle.pc_records.specs.SetLists.{HasPlace, next_in, marked_in, key_in, keys_at, is_listed, AreSetLists, open_slots, closed_slots, IsListed, open_keys, closed_keys, KeepSets, IsUnmarked}
 use Rattle.pc_records.proofs.TableSlots.{row_in}
 use Rattle.pc_records.proofs.Listing.{named, open_keys_named, closed_keys_named, lists_keep, open_keys_keep, closed_keys_keep}
 use Rattle.pc_records.proofs.Marking.{linked_keep}
@@ -65,7 +65,7 @@ module _ (table : Contents Cell) (sets : Dirty) (l : IsListed table.rows sets) (
       ap (λ q. option_map (λ place. place.0) (find key_cmp q table.rows)) (sym k) ∙ ap (option_map (λ place. place.0)) ((a.each id p.0.0 p.0.1).0 p.1)
 
   module _ (now : Dirty) (side : now.side ≡ sets.side) (popped : AreSets (HasPlace table.rows) (next_in table.rows) now opened (rest_of closed)) (marked new : List (TableRow Cell)) (unmarked : IsUnmarked sets.side id table.rows marked) (keep : KeepSets marked new) where
-    lists : AreLists marked now opened (rest_of closed)
+    lists : AreSetLists marked now opened (rest_of closed)
     lists = record {
       linked = linked_keep table.rows marked now opened (rest_of closed) unmarked.links popped;
       open_marks = λ slot. ap (λ s. marked_in s (in_slot marked slot)) side ∙ (unmarked.open_marks slot ∙ l.open_marks slot);
@@ -73,7 +73,7 @@ module _ (table : Contents Cell) (sets : Dirty) (l : IsListed table.rows sets) (
           ∙ (unmarked.closed_marks slot ∙ (ap (cond (eqb slot id) false) (l.closed_marks slot) ∙ rest_listed closed id slot first (closed_once (HasPlace table.rows) (next_in table.rows) sets opened closed l.linked)));
     }
 
-    after : AreLists new now opened (rest_of closed)
+    after : AreSetLists new now opened (rest_of closed)
     after = lists_keep marked new now opened (rest_of closed) keep lists
 
     pub left_listed : IsListed new now

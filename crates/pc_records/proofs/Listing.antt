@@ -7,11 +7,11 @@ use Rattle.pc_chain.specs.declared.side.Side.TheVariants.{First, Second}
 use Rattle.pc_chain.specs.declared.dirty.Dirty.{Dirty}
 use Rattle.pc_chain.specs.Sets.{other_side}
 use Rattle.pc_chain.proofs.SetLaws.{sets_stay, opened_is, closed_is}
-use Rattle.pc_table.specs.Rows.{Row as TableRow, in_slot}
+use Rattle.pc_table.specs.Rows.{TableRow, in_slot}
 use Rattle.pc_table.proofs.RowLaws.{no_row, same_some}
 use Rattle.pc_slots.specs.declared.cells.Cell.{Cell}
 use Rattle.pc_slots.specs.Words.{Word, link_at, words_of}
-use Rattle.pc_records.specs.SetLists.{HasPlace, link_in, next_in, marked_in, key_in, keys_at, is_listed, AreLists, open_slots, closed_slots, IsListed, open_keys, closed_keys, in_sets, KeepSets}
+use Rattle.pc_records.specs.SetLists.{HasPlace, link_in, next_in, marked_in, key_in, keys_at, is_listed, AreSetLists, open_slots, closed_slots, IsListed, open_keys, closed_keys, in_sets, KeepSets}
 
 abbrev word_in : Side → Word × Word → Word
 word_in First w = w.0
@@ -87,7 +87,7 @@ keys_same old new [] h = refl
 keys_same old new (x ∷ xs) h = ap (λ (k : List ℕ). k ∷ keys_at new xs) h.0 ∙ ap (λ (ks : List (List ℕ)). key_in (in_slot old x) ∷ ks) (keys_same old new xs h.1)
 
 -- the lists are those that the links lead along
-module _ (rows : List (TableRow Cell)) (sets : Dirty) (opened closed : List ℕ) (l : AreLists rows sets opened closed) where
+module _ (rows : List (TableRow Cell)) (sets : Dirty) (opened closed : List ℕ) (l : AreSetLists rows sets opened closed) where
   pub open_named : open_slots rows sets ≡ opened
   open_named = opened_is (HasPlace rows) (next_in rows) sets opened closed l.linked
 
@@ -95,7 +95,7 @@ module _ (rows : List (TableRow Cell)) (sets : Dirty) (opened closed : List ℕ)
   closed_named = closed_is (HasPlace rows) (next_in rows) sets opened closed l.linked
 
   pub named : IsListed rows sets
-  named = subst (λ (xs : List ℕ). AreLists rows sets xs (closed_slots rows sets)) (sym open_named) (subst (λ (ys : List ℕ). AreLists rows sets opened ys) (sym closed_named) l)
+  named = subst (λ (xs : List ℕ). AreSetLists rows sets xs (closed_slots rows sets)) (sym open_named) (subst (λ (ys : List ℕ). AreSetLists rows sets opened ys) (sym closed_named) l)
 
   pub open_keys_named : open_keys rows sets ≡ keys_at rows opened
   open_keys_named = ap (keys_at rows) open_named
@@ -104,14 +104,14 @@ module _ (rows : List (TableRow Cell)) (sets : Dirty) (opened closed : List ℕ)
   closed_keys_named = ap (keys_at rows) closed_named
 
 -- rows of which the sets have what they had
-module _ (old new : List (TableRow Cell)) (sets : Dirty) (opened closed : List ℕ) (keep : KeepSets old new) (l : AreLists old sets opened closed) where
+module _ (old new : List (TableRow Cell)) (sets : Dirty) (opened closed : List ℕ) (keep : KeepSets old new) (l : AreSetLists old sets opened closed) where
   open_there : AllHave (λ slot. IsSameThere sets.side (in_slot old slot) (in_slot new slot)) opened
   open_there = all_listed _ opened (λ slot e. same_there sets.side (in_slot old slot) (in_slot new slot) (keep.same slot) (l.open_marks slot ∙ e))
 
   closed_there : AllHave (λ slot. IsSameThere (other_side sets.side) (in_slot old slot) (in_slot new slot)) closed
   closed_there = all_listed _ closed (λ slot e. same_there (other_side sets.side) (in_slot old slot) (in_slot new slot) (keep.same slot) (l.closed_marks slot ∙ e))
 
-  pub lists_keep : AreLists new sets opened closed
+  pub lists_keep : AreSetLists new sets opened closed
   lists_keep = record {
     linked =
         sets_stay (HasPlace old) (HasPlace new) (next_in old) (next_in new) sets opened closed (each _ _ opened (λ slot h. h.row) open_there) (each _ _ opened (λ slot h. h.link) open_there)

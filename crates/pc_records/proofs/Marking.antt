@@ -7,7 +7,7 @@ use Rattle.pc_chain.specs.declared.side.Side.TheVariants.{First, Second}
 use Rattle.pc_chain.specs.declared.dirty.Dirty.{Dirty}
 use Rattle.pc_chain.specs.Sets.{other_side, AreSets}
 use Rattle.pc_chain.proofs.SetLaws.{sets_stay, opened_have, closed_have}
-use Rattle.pc_table.specs.Rows.{Row as TableRow, in_slot, with_record_in}
+use Rattle.pc_table.specs.Rows.{TableRow, in_slot, with_record_in}
 use Rattle.pc_table.proofs.RowLaws.{same_some}
 use Rattle.pc_slots.specs.declared.cells.Cell.{Cell}
 use Rattle.pc_slots.specs.Words.{words_of, is_marked, place_at, link_of, HaveLinks}

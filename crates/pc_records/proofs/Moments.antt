@@ -12,7 +12,7 @@ use Rattle.pc_slots.specs.declared.versions.Stable.TheVariants.{Empty, Held}
 use Rattle.pc_slots.specs.declared.versions.Writer.{Writer}
 use Rattle.pc_records.specs.Rows.{Row, is_kept}
 use Rattle.pc_records.specs.RowSteps.{closed_row}
-use Rattle.pc_slots.specs.Slots.{Slot, committed, committed_by, version_or, pinned, pending_in, write_of, is_available, is_held, held_for, is_prepared, has_exclusive, is_locked, IsSound, is_kept_slot, new_slot, held_or, saved, first_put, put_beside, put_slot, settled_class, settled_from, settled, undone_from, undone, closed_slot, taken_slot}
+use Rattle.pc_slots.specs.Slots.{Slot, committed, committed_by, version_or, pinned, pending_in, write_of, is_available, is_held, held_for, is_prepared, has_exclusive, is_locked, IsSlotSound, is_kept_slot, new_slot, held_or, saved, first_put, put_beside, put_slot, settled_class, settled_from, settled, undone_from, undone, closed_slot, taken_slot}
 use Rattle.pc_records.specs.Slots.{row_of}
 
 no : false ≡ true → ⊥
@@ -22,11 +22,11 @@ same_point : (n : ℕ) → eqb n n ≡ true
 same_point n = grind (arith, nat_tests)
 
 -- a slot that has nothing yet
-pub sound_new : (point number : ℕ) (key : List ℕ) (queue : Queue) → IsSound point queue (new_slot number key)
+pub sound_new : (point number : ℕ) (key : List ℕ) (queue : Queue) → IsSlotSound point queue (new_slot number key)
 sound_new point number key queue = record { passed = omega arith; holds = λ e. absurd (no e); follows = λ e. refl; prepared = λ c e. refl; locked = refl }
 
 -- a queue that still has the writer's lock
-pub sound_queue : (point : ℕ) (queue new : Queue) (s : Slot) → (is_locked queue s.writer ≡ true → is_locked new s.writer ≡ true) → IsSound point queue s → IsSound point new s
+pub sound_queue : (point : ℕ) (queue new : Queue) (s : Slot) → (is_locked queue s.writer ≡ true → is_locked new s.writer ≡ true) → IsSlotSound point queue s → IsSlotSound point new s
 sound_queue point queue new s still sound = record { passed = sound.passed; holds = sound.holds; follows = sound.follows; prepared = sound.prepared; locked = still sound.locked }
 
 -- the first write
@@ -43,7 +43,7 @@ module _ (point t : ℕ) (value : Option (List ℕ)) (s : Slot) where
   first_pinned After true false (Held v) closed mark is outside holds follows = absurd (let e : Held v ≡ Empty = follows refl in cc)
   first_pinned After false m st closed mark is outside holds follows = simp closed
 
-  first_sound : (queue new : Queue) (class : Class) → s.writer ≡ None → (class ≡ Before → s.is_in_closed_set ≡ false) → has_exclusive new t ≡ true → IsSound point queue s → IsSound point new (first_put point t class s.live value s)
+  first_sound : (queue new : Queue) (class : Class) → s.writer ≡ None → (class ≡ Before → s.is_in_closed_set ≡ false) → has_exclusive new t ≡ true → IsSlotSound point queue s → IsSlotSound point new (first_put point t class s.live value s)
   first_sound queue new Before none outside has sound = record {
     passed = sound.passed;
     holds = sound.holds;
@@ -65,7 +65,7 @@ module _ (point t : ℕ) (value : Option (List ℕ)) (s : Slot) where
   first_sound queue new After none outside has sound = by_test (s.is_in_closed_set && not (eqb s.mark point)) refl
     where
       by_test : (b : Bool) → (s.is_in_closed_set && not (eqb s.mark point)) ≡ b →
-          IsSound point new (record (cond b (record s { stable = Held s.live; mark = point }) s) { live = value; writer = Some (record { transaction = t; class = After; before = s.live }) })
+          IsSlotSound point new (record (cond b (record s { stable = Held s.live; mark = point }) s) { live = value; writer = Some (record { transaction = t; class = After; before = s.live }) })
       by_test true is = record {
         passed = omega arith;
         holds = λ e. refl;
@@ -96,11 +96,11 @@ module _ (point t : ℕ) (value : Option (List ℕ)) (s : Slot) where
       by_test false same = rw same (rw live refl)
 
 -- any write
-module _ (point t : ℕ) (class : Class) (value : Option (List ℕ)) (queue new : Queue) (s : Slot) (outside : class ≡ Before → s.is_in_closed_set ≡ false) (sound : IsSound point queue s) where
-  pub put_sound : has_exclusive new t ≡ true → is_locked new s.writer ≡ true → IsSound point new (put_slot point t class s.live value s)
+module _ (point t : ℕ) (class : Class) (value : Option (List ℕ)) (queue new : Queue) (s : Slot) (outside : class ≡ Before → s.is_in_closed_set ≡ false) (sound : IsSlotSound point queue s) where
+  pub put_sound : has_exclusive new t ≡ true → is_locked new s.writer ≡ true → IsSlotSound point new (put_slot point t class s.live value s)
   put_sound has still = by_writer s.writer refl
     where
-      by_writer : (o : Option Writer) → s.writer ≡ o → IsSound point new (put_beside o point t class s.live value s)
+      by_writer : (o : Option Writer) → s.writer ≡ o → IsSlotSound point new (put_beside o point t class s.live value s)
       by_writer None is = first_sound point t value s queue new class is outside has sound
       by_writer (Some w) is = record { passed = sound.passed; holds = sound.holds; follows = sound.follows; prepared = sound.prepared; locked = still }
 
@@ -178,10 +178,10 @@ number_class After point s = refl
 pub settled_number : (point : ℕ) (s : Slot) → (settled point s).number ≡ s.number
 settled_number point s = elim s.writer as (λ o. (settled_from o point s).number ≡ s.number) [ None ↦ refl | Some w ↦ number_class w.class point s ]
 
-pub settled_sound : (point : ℕ) (queue : Queue) (s : Slot) → IsSound point queue s → IsSound point queue (settled point s)
+pub settled_sound : (point : ℕ) (queue : Queue) (s : Slot) → IsSlotSound point queue s → IsSlotSound point queue (settled point s)
 settled_sound point queue s sound = by_writer s.writer refl
   where
-    during : (w : Writer) → s.writer ≡ Some w → w.class ≡ During → (b : Bool) → s.is_in_closed_set ≡ b → IsSound point queue (cond b (record s { mark = point; writer = None; is_in_open_set = true }) (record s { stable = Empty; writer = None; is_in_open_set = true }))
+    during : (w : Writer) → s.writer ≡ Some w → w.class ≡ During → (b : Bool) → s.is_in_closed_set ≡ b → IsSlotSound point queue (cond b (record s { mark = point; writer = None; is_in_open_set = true }) (record s { stable = Empty; writer = None; is_in_open_set = true }))
     during w is class true closed = record {
       passed = omega arith;
       holds = λ e. by_test (is_available point s) refl;
@@ -201,7 +201,7 @@ settled_sound point queue s sound = by_writer s.writer refl
       locked = refl;
     }
 
-    by_class : (w : Writer) (c : Class) → s.writer ≡ Some w → w.class ≡ c → IsSound point queue (settled_class c point s)
+    by_class : (w : Writer) (c : Class) → s.writer ≡ Some w → w.class ≡ c → IsSlotSound point queue (settled_class c point s)
     by_class w Before is class = record {
       passed = sound.passed;
       holds = sound.holds;
@@ -218,7 +218,7 @@ settled_sound point queue s sound = by_writer s.writer refl
       locked = refl;
     }
 
-    by_writer : (o : Option Writer) → s.writer ≡ o → IsSound point queue (settled_from o point s)
+    by_writer : (o : Option Writer) → s.writer ≡ o → IsSlotSound point queue (settled_from o point s)
     by_writer None is = sound
     by_writer (Some w) is = by_class w w.class is refl
 
@@ -255,19 +255,19 @@ undone_key point s = elim s.writer as (λ o. (undone_from o point s).key ≡ s.k
 pub undone_number : (point : ℕ) (s : Slot) → (undone point s).number ≡ s.number
 undone_number point s = elim s.writer as (λ o. (undone_from o point s).number ≡ s.number) [ None ↦ refl | Some w ↦ refl ]
 
-pub undone_sound : (point : ℕ) (queue : Queue) (s : Slot) → IsSound point queue s → IsSound point queue (undone point s)
+pub undone_sound : (point : ℕ) (queue : Queue) (s : Slot) → IsSlotSound point queue s → IsSlotSound point queue (undone point s)
 undone_sound point queue s sound = by_writer s.writer refl
   where
-    by_test : (w : Writer) → s.writer ≡ Some w → (c a : Bool) → same_class w.class During ≡ c → is_available point s ≡ a → IsSound point queue (record s { live = w.before; writer = None; stable = cond (c && not a) Empty s.stable })
+    by_test : (w : Writer) → s.writer ≡ Some w → (c a : Bool) → same_class w.class During ≡ c → is_available point s ≡ a → IsSlotSound point queue (record s { live = w.before; writer = None; stable = cond (c && not a) Empty s.stable })
     by_test w is true true class avail = record { passed = sound.passed; holds = sound.holds; follows = λ e. absurd (no (sym e ∙ avail)); prepared = λ c e. refl; locked = refl }
     by_test w is true false class avail = record { passed = sound.passed; holds = λ e. absurd (no (sym avail ∙ e)); follows = λ e. refl; prepared = λ c e. refl; locked = refl }
     by_test w is false a class avail = record { passed = sound.passed; holds = sound.holds; follows = λ e. sound.follows e ∙ ap held_for is ∙ ap (λ b. cond b (Held w.before) Empty) class; prepared = λ c e. refl; locked = refl }
 
-    by_writer : (o : Option Writer) → s.writer ≡ o → IsSound point queue (undone_from o point s)
+    by_writer : (o : Option Writer) → s.writer ≡ o → IsSlotSound point queue (undone_from o point s)
     by_writer None is = sound
     by_writer (Some w) is = by_test w is (same_class w.class During) (is_available point s) refl refl
 
-pub row_undone : (queues : Queues) (point : ℕ) (queue : Queue) (s : Slot) → IsSound point queue s → row_of queues (undone point s) ≡ row_of queues s
+pub row_undone : (queues : Queues) (point : ℕ) (queue : Queue) (s : Slot) → IsSlotSound point queue s → row_of queues (undone point s) ≡ row_of queues s
 row_undone queues point queue s sound = by_writer s.writer refl
   where
     same_pinned : (w : Writer) → s.writer ≡ Some w → (a m : Bool) (st : Stable) → s.is_in_closed_set ≡ a → eqb s.mark point ≡ m → s.stable ≡ st →
@@ -293,7 +293,7 @@ row_undone queues point queue s sound = by_writer s.writer refl
         ∙ ap (λ v. (s.key, record { value = v; is_in_open_set = s.is_in_open_set; is_in_closed_set = s.is_in_closed_set; pinned = pinned s; requests = queue_at queues s.number })) (sym value)
 
 -- a key is taken
-pub taken_sound : (point : ℕ) (queue : Queue) (s : Slot) → ((w : Writer) → s.writer ≡ Some w → same_class w.class During ≡ false) → IsSound point queue s → IsSound point queue (taken_slot s)
+pub taken_sound : (point : ℕ) (queue : Queue) (s : Slot) → ((w : Writer) → s.writer ≡ Some w → same_class w.class During ≡ false) → IsSlotSound point queue s → IsSlotSound point queue (taken_slot s)
 taken_sound point queue s over sound = record { passed = omega arith; holds = λ e. absurd (no e); follows = λ e. by_writer s.writer refl; prepared = λ c e. absurd (no c); locked = sound.locked }
   where
     by_writer : (o : Option Writer) → s.writer ≡ o → Empty ≡ held_for o
@@ -301,11 +301,11 @@ taken_sound point queue s over sound = record { passed = omega arith; holds = λ
     by_writer (Some w) is = ap (λ b. cond b (Held w.before) Empty) (sym (over w is))
 
 -- the open set is closed
-module _ (point later : ℕ) (queue : Queue) (s : Slot) (after : point < later) (none : s.is_in_closed_set ≡ false) (sound : IsSound point queue s) where
+module _ (point later : ℕ) (queue : Queue) (s : Slot) (after : point < later) (none : s.is_in_closed_set ≡ false) (sound : IsSlotSound point queue s) where
   stable_is : s.stable ≡ held_for s.writer
   stable_is = sound.follows (ap (λ b. b && eqb s.mark point) none)
 
-  pub closed_sound : is_prepared s.writer ≡ true → IsSound later queue (closed_slot s)
+  pub closed_sound : is_prepared s.writer ≡ true → IsSlotSound later queue (closed_slot s)
   closed_sound during = record { passed = omega (arith, sound.passed); holds = λ e. absurd (marked s.is_in_open_set e); follows = λ e. stable_is; prepared = λ c e. during; locked = sound.locked }
     where
       marked : (b : Bool) → (b && eqb s.mark later) ≡ true → ⊥
@@ -320,7 +320,7 @@ module _ (point later : ℕ) (queue : Queue) (s : Slot) (after : point < later) 
       by_writer (Some w) e = ap (λ b. version_or (cond b (Held w.before) Empty) s.live) e
 
 -- what keeps a slot keeps its row
-pub kept_row : (point : ℕ) (queue : Queue) (s : Slot) → IsSound point queue s → is_kept_slot queue s ≡ is_kept (record { value = committed s; is_in_open_set = s.is_in_open_set; is_in_closed_set = s.is_in_closed_set; pinned = pinned s; requests = queue })
+pub kept_row : (point : ℕ) (queue : Queue) (s : Slot) → IsSlotSound point queue s → is_kept_slot queue s ≡ is_kept (record { value = committed s; is_in_open_set = s.is_in_open_set; is_in_closed_set = s.is_in_closed_set; pinned = pinned s; requests = queue })
 kept_row point queue s sound = by_queue queue sound.locked s.writer refl s.is_in_closed_set refl
   where
     or_true : (a : Bool) → (a || true) ≡ true

@@ -11,7 +11,7 @@ use Rattle.pc_chain.specs.declared.side.Side.{Side}
 use Rattle.pc_chain.specs.declared.dirty.Dirty.{Dirty}
 use Rattle.pc_chain.specs.Sets.{other_side, place_of, AreSets, HasNoRepeats}
 use Rattle.pc_chain.proofs.SetLaws.{opened_once, opened_have}
-use Rattle.pc_table.specs.Rows.{Row as TableRow, Contents, in_slot, with_record_in, HasRow, AreInSlots}
+use Rattle.pc_table.specs.Rows.{TableRow, Contents, in_slot, with_record_in, HasRow, AreInSlots}
 use Rattle.pc_slots.specs.declared.cells.Cell.{Cell}
 use Rattle.pc_slots.specs.declared.versions.Stable.TheVariants.{Empty}
 use Rattle.pc_slots.specs.declared.versions.Writer.{Writer}
@@ -19,7 +19,7 @@ use Rattle.pc_slots.specs.Words.{is_marked, HaveLinks}
 use Rattle.pc_slots.specs.Slots.{Slot, slot_with, settled, settled_class, settled_from, writer_in}
 use Rattle.pc_records.specs.Slots.{slots_in, at_number}
 use Rattle.pc_records.proofs.TableSlots.{changed_slots}
-use Rattle.pc_records.specs.SetLists.{HasPlace, next_in, marked_in, key_in, keys_at, is_listed, AreLists, open_slots, closed_slots, IsListed, open_keys, closed_keys, entering, KeepSets, KeepRecords}
+use Rattle.pc_records.specs.SetLists.{HasPlace, next_in, marked_in, key_in, keys_at, is_listed, AreSetLists, open_slots, closed_slots, IsListed, open_keys, closed_keys, entering, KeepSets, KeepRecords}
 use Rattle.pc_records.proofs.InSlots.{cell_there}
 use Rattle.pc_records.proofs.Unlinked.{slots_keep, marks_keep, key_keeps}
 use Rattle.pc_records.proofs.Listing.{named, open_keys_named, closed_keys_named, kept_listed, kept_open, kept_closed}
@@ -210,7 +210,7 @@ module _ (table : Contents Cell) (a : AreInSlots table) (sets : Dirty) (l : IsLi
           by_test true is = closed_now ∙ sym (ap (λ m. marked_in (other_side sets.side) (in_slot table.rows m)) (eqb-true slot id is) ∙ marked_here (other_side sets.side))
           by_test false is = refl
 
-      lists : AreLists new.rows now (opened ++ id ∷ []) closed
+      lists : AreSetLists new.rows now (opened ++ id ∷ []) closed
       lists = record { linked = linked; open_marks = open_marks; closed_marks = closed_marks }
 
       keys : (slot : ℕ) → key_in (in_slot new.rows slot) ≡ key_in (in_slot table.rows slot)

@@ -8,13 +8,13 @@ use Rattle.pc_chain.specs.declared.side.Side.TheVariants.{First, Second}
 use Rattle.pc_chain.specs.declared.dirty.Dirty.{Dirty}
 use Rattle.pc_chain.specs.Sets.{other_side, AreSets, AreEmpty}
 use Rattle.pc_chain.proofs.SetLaws.{empty_sets}
-use Rattle.pc_table.specs.Rows.{Row as TableRow, in_slot}
+use Rattle.pc_table.specs.Rows.{TableRow, in_slot}
 use Rattle.pc_slots.specs.declared.cells.Cell.{Cell}
 use Rattle.pc_slots.specs.Words.{is_marked}
 use Rattle.pc_records.specs.Rows.{record_of, is_in_closed_set}
 use Rattle.pc_slots.specs.Slots.{Slot, slot_with, closed_slot, base_cell, aside_in, writer_in}
-use Rattle.pc_records.specs.Slots.{slots_in, slot_in, rows_of, AreKept, base_row, cells_in}
-use Rattle.pc_records.specs.SetLists.{HasPlace, next_in, marked_in, keys_at, is_listed, AreLists, open_slots, closed_slots, IsListed, open_keys, closed_keys}
+use Rattle.pc_records.specs.Slots.{slots_in, slot_in, rows_of, AreSlotsKept, base_row, cells_in}
+use Rattle.pc_records.specs.SetLists.{HasPlace, next_in, marked_in, keys_at, is_listed, AreSetLists, open_slots, closed_slots, IsListed, open_keys, closed_keys}
 use Rattle.pc_records.proofs.Lookups.{all_found, find_row, record_in}
 use Rattle.pc_records.proofs.Listing.{named, open_keys_named, closed_keys_named}
 use Rattle.pc_records.proofs.Among.{all_are_listed}
@@ -49,15 +49,15 @@ module _ (rows : List (TableRow Cell)) (sets : Dirty) (l : IsListed rows sets) (
   pub linked_closing : AreSets (HasPlace rows) (next_in rows) sets (open_slots rows sets) []
   linked_closing = subst (λ (xs : List ℕ). AreSets (HasPlace rows) (next_in rows) sets (open_slots rows sets) xs) (no_keys rows (closed_slots rows sets) none) l.linked
 
-  pub none_closed : (queues : Queues) → AreKept (slots_in sets.side rows) queues → (q : List ℕ) → is_in_closed_set (record_of (rows_of queues (slots_in sets.side rows)) q) ≡ false
+  pub none_closed : (queues : Queues) → AreSlotsKept (slots_in sets.side rows) queues → (q : List ℕ) → is_in_closed_set (record_of (rows_of queues (slots_in sets.side rows)) q) ≡ false
   none_closed queues kept q = (all_are_listed rows sets queues kept l 0 0).closed_set q ∙ ap (λ ks. is_among ks q) none
 
   -- the slots, with the open set on the other side
-  pub slots_turned : (queues : Queues) → AreKept (slots_in sets.side rows) queues → slots_in (other_side sets.side) rows ≡ map closed_slot (slots_in sets.side rows)
+  pub slots_turned : (queues : Queues) → AreSlotsKept (slots_in sets.side rows) queues → slots_in (other_side sets.side) rows ≡ map closed_slot (slots_in sets.side rows)
   slots_turned queues kept = all_turned sets.side rows (all_found (λ s. s.is_in_closed_set ≡ false) (slots_in sets.side rows) kept.rise (λ q s found. sym (ap is_in_closed_set (find_row queues (slots_in sets.side rows) q ∙ ap (record_in queues) found)) ∙ none_closed queues kept q))
 
   module _ (new : Dirty) (side : new.side ≡ other_side sets.side) (turned : AreSets (HasPlace rows) (next_in rows) new [] (open_slots rows sets)) where
-    lists : AreLists rows new [] (open_slots rows sets)
+    lists : AreSetLists rows new [] (open_slots rows sets)
     lists = record {
       linked = turned;
       open_marks = λ slot. ap (λ s. marked_in s (in_slot rows slot)) side ∙ (l.closed_marks slot ∙ ap (λ xs. is_listed xs slot) (no_keys rows (closed_slots rows sets) none));
@@ -94,7 +94,7 @@ module _ (pairs : List (List ℕ × List ℕ)) (rows : List (TableRow Cell)) (ar
       by_test true rest = ap (λ (c : List ℕ × Cell). is_marked side c.1) (head e) ∙ bare side (Some p.1)
       by_test false rest = rest
 
-  lists_first : AreLists rows sets [] []
+  lists_first : AreSetLists rows sets [] []
   lists_first = record { linked = empty_sets (HasPlace rows) (next_in rows) sets empty; open_marks = none_marked sets.side rows pairs are; closed_marks = none_marked (other_side sets.side) rows pairs are }
 
   pub first_listed : IsListed rows sets

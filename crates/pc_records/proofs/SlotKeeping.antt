@@ -6,7 +6,7 @@ use Rattle.pc_model.specs.Database.{KeysRise}
 use Rattle.pc_model.specs.Locks.{Queue}
 use Rattle.pc_locks.specs.States.{Queues, queue_at, SetsAt}
 use Rattle.pc_slots.specs.Slots.{Slot}
-use Rattle.pc_records.specs.Slots.{no_queues, rows_of, numbers_of, times, AreKept}
+use Rattle.pc_records.specs.Slots.{no_queues, rows_of, numbers_of, times, AreSlotsKept}
 use Rattle.pc_records.proofs.SlotRising.{keys_of, rise_any, rise_same}
 use Rattle.std.proofs.lemmas.Bool.{eqb-true, eqb-false}
 
@@ -41,7 +41,7 @@ set_is queues new n q h = λ i m. each m (eqb m n) refl i
     each m false is = h.others m (eqb-false m n is)
 
 -- other slots of the same keys and numbers
-pub kept_same : (slots new : List Slot) (queues : Queues) → keys_of new ≡ keys_of slots → numbers_of new ≡ numbers_of slots → AreKept slots queues → AreKept new queues
+pub kept_same : (slots new : List Slot) (queues : Queues) → keys_of new ≡ keys_of slots → numbers_of new ≡ numbers_of slots → AreSlotsKept slots queues → AreSlotsKept new queues
 kept_same slots new queues keys numbers kept = record {
   rise = rise_same slots new keys kept.rise;
   once = λ n. subst (λ ns. times n ns ≤ 1) (sym numbers) (kept.once n);
@@ -57,12 +57,12 @@ pub numbers_map : (g : Slot → Slot) (slots : List Slot) → ((s : Slot) → (g
 numbers_map g [] keeps = refl
 numbers_map g (x ∷ xs) keeps = ap (λ (n : ℕ). n ∷ numbers_of (map g xs)) (keeps x) ∙ ap (λ (ns : List ℕ). x.number ∷ ns) (numbers_map g xs keeps)
 
-pub kept_map : (g : Slot → Slot) (slots new : List Slot) (queues : Queues) → new ≡ map g slots → ((s : Slot) → (g s).key ≡ s.key) → ((s : Slot) → (g s).number ≡ s.number) → AreKept slots queues → AreKept new queues
+pub kept_map : (g : Slot → Slot) (slots new : List Slot) (queues : Queues) → new ≡ map g slots → ((s : Slot) → (g s).key ≡ s.key) → ((s : Slot) → (g s).number ≡ s.number) → AreSlotsKept slots queues → AreSlotsKept new queues
 kept_map g slots new queues is keys numbers kept = kept_same slots new queues (ap keys_of is ∙ keys_map g slots keys) (ap numbers_of is ∙ numbers_map g slots numbers) kept
 
 -- a slot goes in with a number that no slot has, and has this queue
-pub kept_inserted : (slots new : List Slot) (queues new_queues : Queues) (i : ℕ) (x : Slot) (q : Queue) → AreKept slots queues → times x.number (numbers_of slots) ≡ 0 → new ≡ insert slots i x → new_queues ≡ set_at queues x.number q →
-    KeysRise (rows_of new_queues new) → AreKept new new_queues
+pub kept_inserted : (slots new : List Slot) (queues new_queues : Queues) (i : ℕ) (x : Slot) (q : Queue) → AreSlotsKept slots queues → times x.number (numbers_of slots) ≡ 0 → new ≡ insert slots i x → new_queues ≡ set_at queues x.number q →
+    KeysRise (rows_of new_queues new) → AreSlotsKept new new_queues
 kept_inserted slots new queues new_queues i x q kept apart new_is queues_are rise = record {
   rise = rise_any new_queues no_queues new rise;
   once = λ m. subst (λ k. k ≤ 1) (sym (count m)) (at_most m (eqb x.number m) refl (kept.once m));

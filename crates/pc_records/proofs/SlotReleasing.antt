@@ -4,11 +4,11 @@ use Rattle.std.proofs.lemmas.Bool.Decides.{nat_tests}
 use Rattle.pc_model.specs.Locks.{Queue, queue_without}
 use Rattle.pc_model.specs.Queues.{stands_in}
 use Rattle.pc_model.proofs.QueueLaws.{stands_granted}
-use Rattle.pc_locks.specs.States.{Queues, Lists, queue_at, slots_of, first_of, is_listed, AreLinked}
+use Rattle.pc_locks.specs.States.{Queues, SlotLists, queue_at, slots_of, first_of, is_listed, AreLinked}
 use Rattle.pc_records.specs.Rows.{Record}
 use Rattle.pc_records.specs.RowSteps.{if_kept, released}
 use Rattle.pc_slots.specs.Slots.{Slot}
-use Rattle.pc_records.specs.Slots.{numbers_of, times, AreKept}
+use Rattle.pc_records.specs.Slots.{numbers_of, times, AreSlotsKept}
 
 keeps_out : (t : ℕ) (rs : Queue) → stands_in (filter (λ r. not (eqb r.transaction t)) rs) t ≡ false
 keeps_out t [] = refl
@@ -34,7 +34,7 @@ pub released_again : (t : ℕ) (r : Record) → released t (without t r) ≡ Som
 released_again t r = ap (λ b. cond b (if_kept (without t (without t r))) (Some (without t r))) (gone t r.requests)
 
 -- a transaction with an empty list stands nowhere
-pub stands_nowhere : (t : ℕ) (queues : Queues) (lists : Lists) → AreLinked queues lists → None ≡ first_of (slots_of lists t) → (n : ℕ) → stands_in (queue_at queues n) t ≡ false
+pub stands_nowhere : (t : ℕ) (queues : Queues) (lists : SlotLists) → AreLinked queues lists → None ≡ first_of (slots_of lists t) → (n : ℕ) → stands_in (queue_at queues n) t ≡ false
 stands_nowhere t queues lists linked none n = by_list (slots_of lists t) none (linked.listed t n)
   where
     by_list : (ns : List ℕ) → None ≡ first_of ns → is_listed ns n ≡ stands_in (queue_at queues n) t → stands_in (queue_at queues n) t ≡ false
@@ -42,7 +42,7 @@ stands_nowhere t queues lists linked none n = by_list (slots_of lists t) none (l
     by_list (m ∷ ms) e listed = absurd cc
 
 -- and it stands at the first slot of its list
-pub stands_first : (t n : ℕ) (queues : Queues) (lists : Lists) → AreLinked queues lists → Some n ≡ first_of (slots_of lists t) → stands_in (queue_at queues n) t ≡ true
+pub stands_first : (t n : ℕ) (queues : Queues) (lists : SlotLists) → AreLinked queues lists → Some n ≡ first_of (slots_of lists t) → stands_in (queue_at queues n) t ≡ true
 stands_first t n queues lists linked first = by_list (slots_of lists t) first (linked.listed t n)
   where
     by_list : (ns : List ℕ) → Some n ≡ first_of ns → is_listed ns n ≡ stands_in (queue_at queues n) t → stands_in (queue_at queues n) t ≡ true
@@ -53,7 +53,7 @@ stands_first t n queues lists linked first = by_list (slots_of lists t) first (l
         sym listed ∙ rw at refl
 
 -- where the transaction stands there is a slot
-pub slot_there : (t n : ℕ) (slots : List Slot) (queues : Queues) → AreKept slots queues → stands_in (queue_at queues n) t ≡ true → times n (numbers_of slots) ≡ 0 → ⊥
+pub slot_there : (t n : ℕ) (slots : List Slot) (queues : Queues) → AreSlotsKept slots queues → stands_in (queue_at queues n) t ≡ true → times n (numbers_of slots) ≡ 0 → ⊥
 slot_there t n slots queues kept stands none =
     let empty : queue_at queues n ≡ [] = kept.bare n none in
     let no : false ≡ true = ap (λ q. stands_in q t) (sym empty) ∙ stands in

@@ -4,11 +4,11 @@ use Rattle.std.specs.List.{list_any}
 use Rattle.std.proofs.lemmas.Bool.Decides.{nat_tests}
 use Rattle.pc_model.specs.Locks.{Queue, request_in, is_ungranted}
 use Rattle.pc_locks.specs.States as states
-use Rattle.pc_locks.specs.States.{Queues, Lists, queue_at, slots_of, AreLinked}
+use Rattle.pc_locks.specs.States.{Queues, SlotLists, queue_at, slots_of, AreLinked}
 use Rattle.pc_locks.proofs.StateLaws.{ready_at}
 use Rattle.pc_records.specs.RowSteps.{is_waiting}
 use Rattle.pc_slots.specs.Slots.{Slot}
-use Rattle.pc_records.specs.Slots.{rows_of, numbers_of, times, AreKept}
+use Rattle.pc_records.specs.Slots.{rows_of, numbers_of, times, AreSlotsKept}
 
 abbrev pub waits_in : ℕ → Queue → Bool
 waits_in t q = is_ungranted (request_in q t)
@@ -47,7 +47,7 @@ none_in_rows : (t : ℕ) (queues : Queues) (slots : List Slot) → ((n : ℕ) �
 none_in_rows t queues [] f = refl
 none_in_rows t queues (x ∷ xs) f = rw (f x.number) (none_in_rows t queues xs f)
 
-pub waits_same : (slots : List Slot) (queues : Queues) (lists : Lists) (t : ℕ) → AreLinked queues lists → AreKept slots queues → states.is_waiting (record { queues = queues; lists = lists }) t ≡ is_waiting (rows_of queues slots) t
+pub waits_same : (slots : List Slot) (queues : Queues) (lists : SlotLists) (t : ℕ) → AreLinked queues lists → AreSlotsKept slots queues → states.is_waiting (record { queues = queues; lists = lists }) t ≡ is_waiting (rows_of queues slots) t
 waits_same slots queues lists t linked kept = by_test (states.is_waiting (record { queues = queues; lists = lists }) t) (is_waiting (rows_of queues slots) t) refl refl
   where
     by_test : (a b : Bool) → states.is_waiting (record { queues = queues; lists = lists }) t ≡ a → is_waiting (rows_of queues slots) t ≡ b → a ≡ b

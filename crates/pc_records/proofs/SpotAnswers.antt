@@ -22,11 +22,11 @@ use Rattle.pc_model.specs.Queues.{IsLegalQueue}
 use Rattle.pc_model.proofs.JoinLaws.{one_key}
 use Rattle.pc_model.proofs.RisingLaws.{Rise}
 use Rattle.pc_slots.specs.declared.versions.Writer.{Writer}
-use Rattle.pc_slots.specs.Slots.{Slot, Pending, pending_in, write_of, committed_by, is_locked, IsSound, new_slot, put_slot, granted_slot, keeps_copy}
+use Rattle.pc_slots.specs.Slots.{Slot, Pending, pending_in, write_of, committed_by, is_locked, IsSlotSound, new_slot, put_slot, granted_slot, keeps_copy}
 use Rattle.pc_records.specs.Rows.{Row, Record, record_of, stored, requests_on, is_in_closed_set}
 use Rattle.pc_records.specs.RowSteps.{is_full_for, is_waiting, with_requests, rows_after}
 use Rattle.pc_records.specs.Tables.{read_of, pending_after, IsClearFor}
-use Rattle.pc_records.specs.Floor.{Spot, Floor, IsWhole, Each, AreSound, row_in, rows_in, writes_in, table_on, changed, asked, at_spot, at_key, with_spot, with_new_spot, has_spot, queue_of, of_spot, number_of, entered, new_spot, tidied, is_needed, waits_anywhere, copy_kept}
+use Rattle.pc_records.specs.Floor.{Spot, Floor, IsFloorWhole, Each, AreSpotsSound, row_in, rows_in, writes_in, table_on, changed, asked, at_spot, at_key, with_spot, with_new_spot, has_spot, queue_of, of_spot, number_of, entered, new_spot, tidied, is_needed, waits_anywhere, copy_kept}
 use Rattle.pc_records.proofs.Copies.{granted_alike}
 use Rattle.pc_records.proofs.Exclusive.{alone, kept_answered, has_granted}
 use Rattle.pc_records.proofs.Moments.{sound_new, sound_queue, put_sound, put_row, put_pending, put_key}
@@ -69,11 +69,11 @@ module _ (t : ℕ) (mode : Mode) (o : Outcome) where
   still_locked queue None locked = refl
   still_locked queue (Some w) locked = kept_answered queue t w.transaction mode o locked
 
-  pub sound_asked : (point id : ℕ) (ss : List Spot) → AreSound point ss → AreSound point (map (at_spot (asked t mode o) id) ss)
-  sound_asked point id = each_map (λ s. IsSound point s.queue s.slot) (λ s. IsSound point s.queue s.slot) (at_spot (asked t mode o) id) one
+  pub sound_asked : (point id : ℕ) (ss : List Spot) → AreSpotsSound point ss → AreSpotsSound point (map (at_spot (asked t mode o) id) ss)
+  sound_asked point id = each_map (λ s. IsSlotSound point s.queue s.slot) (λ s. IsSlotSound point s.queue s.slot) (at_spot (asked t mode o) id) one
     where
-      one : (s : Spot) → IsSound point s.queue s.slot → IsSound point (at_spot (asked t mode o) id s).queue (at_spot (asked t mode o) id s).slot
-      one s sound = elim (eqb s.slot.number id) as (λ b. IsSound point (cond b (asked t mode o s) s).queue (cond b (asked t mode o s) s).slot) [
+      one : (s : Spot) → IsSlotSound point s.queue s.slot → IsSlotSound point (at_spot (asked t mode o) id s).queue (at_spot (asked t mode o) id s).slot
+      one s sound = elim (eqb s.slot.number id) as (λ b. IsSlotSound point (cond b (asked t mode o s) s).queue (cond b (asked t mode o s) s).slot) [
         | true ↦ sound_queue point s.queue (queue_after s.queue t mode o) s.slot (still_locked s.queue s.slot.writer) sound
         | false ↦ sound
       ]
@@ -83,7 +83,7 @@ module _ (t : ℕ) (mode : Mode) (o : Outcome) where
       writes_same (at_spot (asked t mode o) id) (λ s. elim (eqb s.slot.number id) as (λ b. (cond b (asked t mode o s) s).slot.key ≡ s.slot.key) [ true ↦ refl | false ↦ refl ])
       (λ s. elim (eqb s.slot.number id) as (λ b. pending_in (cond b (asked t mode o s) s).slot ≡ pending_in s.slot) [ true ↦ refl | false ↦ refl ]) ss
 
-module _ (floor : Floor) (whole : IsWhole floor) (key : List ℕ) (id : ℕ) (spot : Spot) (f : IsFound floor.spots key id spot) where
+module _ (floor : Floor) (whole : IsFloorWhole floor) (key : List ℕ) (id : ℕ) (spot : Spot) (f : IsFound floor.spots key id spot) where
   record_here : record_of (rows_in floor.spots) key ≡ Some (row_in spot).1
   record_here = found_record floor.spots key ∙ ap record_in f.at
 
@@ -108,9 +108,9 @@ module _ (floor : Floor) (whole : IsWhole floor) (key : List ℕ) (id : ℕ) (sp
       by_writer None = refl
       by_writer (Some w) = refl
 
-  module _ (point t : ℕ) (sound : AreSound point floor.spots) (ready : waits_anywhere floor.spots t ≡ false) where
-    sound_here : IsSound point spot.queue spot.slot
-    sound_here = each_found (λ s. IsSound point s.queue s.slot) floor.spots key spot sound f.at
+  module _ (point t : ℕ) (sound : AreSpotsSound point floor.spots) (ready : waits_anywhere floor.spots t ≡ false) where
+    sound_here : IsSlotSound point spot.queue spot.slot
+    sound_here = each_found (λ s. IsSlotSound point s.queue s.slot) floor.spots key spot sound f.at
 
     ready_here : is_ungranted (request_in spot.queue t) ≡ false
     ready_here = each_found (IsReady t) floor.spots key spot (all_ready t floor.spots ready) f.at
@@ -166,18 +166,18 @@ module _ (floor : Floor) (whole : IsWhole floor) (key : List ℕ) (id : ℕ) (sp
           by_outcome Queued is = ap (λ p. row_in (changed (granted_slot p point t class copy value) (asked t Exclusive o spot))) is
           by_outcome Died is = ap (λ p. row_in (changed (granted_slot p point t class copy value) (asked t Exclusive o spot))) is
 
-      pub sound_written : AreSound point (map (at_key written key) floor.spots)
-      sound_written = each_changed written key spot (λ s. IsSound point s.queue s.slot) floor.spots whole.rise f.at (by_outcome o refl) sound
+      pub sound_written : AreSpotsSound point (map (at_key written key) floor.spots)
+      sound_written = each_changed written key spot (λ s. IsSlotSound point s.queue s.slot) floor.spots whole.rise f.at (by_outcome o refl) sound
         where
-          queue_sound : IsSound point (queue_after spot.queue t Exclusive o) spot.slot
+          queue_sound : IsSlotSound point (queue_after spot.queue t Exclusive o) spot.slot
           queue_sound = sound_queue point spot.queue (queue_after spot.queue t Exclusive o) spot.slot (still_locked t Exclusive o spot.queue spot.slot.writer) sound_here
 
-          by_outcome : (p : Outcome) → o ≡ p → IsSound point (queue_after spot.queue t Exclusive o) (granted_slot o point t class copy value spot.slot)
+          by_outcome : (p : Outcome) → o ≡ p → IsSlotSound point (queue_after spot.queue t Exclusive o) (granted_slot o point t class copy value spot.slot)
           by_outcome Granted is =
-              subst (λ p. IsSound point (queue_after spot.queue t Exclusive p) (granted_slot p point t class copy value spot.slot)) (sym is) (subst (IsSound point (queue_after spot.queue t Exclusive Granted)) (sym copy_is)
+              subst (λ p. IsSlotSound point (queue_after spot.queue t Exclusive p) (granted_slot p point t class copy value spot.slot)) (sym is) (subst (IsSlotSound point (queue_after spot.queue t Exclusive Granted)) (sym copy_is)
               (put_sound point t class value spot.queue (queue_after spot.queue t Exclusive Granted) spot.slot closed_here sound_here (has_granted spot.queue t ready_here) (still_locked t Exclusive Granted spot.queue spot.slot.writer sound_here.locked)))
-          by_outcome Queued is = subst (λ p. IsSound point (queue_after spot.queue t Exclusive o) (granted_slot p point t class copy value spot.slot)) (sym is) queue_sound
-          by_outcome Died is = subst (λ p. IsSound point (queue_after spot.queue t Exclusive o) (granted_slot p point t class copy value spot.slot)) (sym is) queue_sound
+          by_outcome Queued is = subst (λ p. IsSlotSound point (queue_after spot.queue t Exclusive o) (granted_slot p point t class copy value spot.slot)) (sym is) queue_sound
+          by_outcome Died is = subst (λ p. IsSlotSound point (queue_after spot.queue t Exclusive o) (granted_slot p point t class copy value spot.slot)) (sym is) queue_sound
 
       abbrev write : Pending
       write = record { by = t; class = class; value = value }
@@ -254,8 +254,8 @@ module _ (floor : Floor) (key : List ℕ) (none : number_of floor.spots key ≡ 
     pub again_made : Rise (rows_in made.spots) → (t : ℕ) (class : Class) (p : Pending) → find key_cmp key (writes_in made.spots) ≡ Some p → p.by ≡ t → p.class ≡ class
     again_made rise t class p found by = no_some (sym (found_write made.spots key rise ∙ ap write_in at_made) ∙ found)
 
-    pub sound_made : (point : ℕ) → AreSound point floor.spots → AreSound point made.spots
-    sound_made point sound = each_entered (new_spot id key) (λ s. IsSound point s.queue s.slot) (sound_new point id key []) floor.spots sound
+    pub sound_made : (point : ℕ) → AreSpotsSound point floor.spots → AreSpotsSound point made.spots
+    sound_made point sound = each_entered (new_spot id key) (λ s. IsSlotSound point s.queue s.slot) (sound_new point id key []) floor.spots sound
 
     pub ready_made : (t : ℕ) → waits_anywhere floor.spots t ≡ false → waits_anywhere made.spots t ≡ false
     ready_made t ready = all floor.spots ready
@@ -334,7 +334,7 @@ on_err (Err e) p = p
 
 -- the records once a request was answered
 module _ (point t : ℕ) (mode : Mode) (floor new : Floor) (key : List ℕ) (id : ℕ) where
-  pub table_asked : (o : Outcome) → IsWhole floor → number_of floor.spots key ≡ Some id → new ≡ with_spot (asked t mode o) id floor → table_on point new ≡ record (table_on point floor) { rows = rows_after (rows_in floor.spots) key t mode o }
+  pub table_asked : (o : Outcome) → IsFloorWhole floor → number_of floor.spots key ≡ Some id → new ≡ with_spot (asked t mode o) id floor → table_on point new ≡ record (table_on point floor) { rows = rows_after (rows_in floor.spots) key t mode o }
   table_asked o whole there is =
       let f = found floor key id whole there in
       λ i. record {
@@ -346,17 +346,17 @@ module _ (point t : ℕ) (mode : Mode) (floor new : Floor) (key : List ℕ) (id 
         shut = (is i).closed;
       }
 
-  pub sound_answered : {E : Type 0} (r : Result Outcome E) → IfOk r (λ o. new ≡ with_spot (asked t mode o) id floor) → OnErr r (new ≡ floor) → AreSound point floor.spots → AreSound point new.spots
-  sound_answered (Ok o) is same sound = subst (λ (f : Floor). AreSound point f.spots) (sym is) (sound_asked t mode o point id floor.spots sound)
-  sound_answered (Err e) is same sound = subst (λ (f : Floor). AreSound point f.spots) (sym same) sound
+  pub sound_answered : {E : Type 0} (r : Result Outcome E) → IfOk r (λ o. new ≡ with_spot (asked t mode o) id floor) → OnErr r (new ≡ floor) → AreSpotsSound point floor.spots → AreSpotsSound point new.spots
+  sound_answered (Ok o) is same sound = subst (λ (f : Floor). AreSpotsSound point f.spots) (sym is) (sound_asked t mode o point id floor.spots sound)
+  sound_answered (Err e) is same sound = subst (λ (f : Floor). AreSpotsSound point f.spots) (sym same) sound
 
   -- of a key that had no spot
-  module _ (none : number_of floor.spots key ≡ None) (whole : IsWhole (with_new_spot id key floor)) where
+  module _ (none : number_of floor.spots key ≡ None) (whole : IsFloorWhole (with_new_spot id key floor)) where
     pub there_made : number_of (entered (new_spot id key) floor.spots) key ≡ Some id
     there_made = number_entered (new_spot id key) floor.spots none
 
-    pub sound_first : AreSound point floor.spots → new ≡ with_spot (asked t mode Granted) id (with_new_spot id key floor) → AreSound point new.spots
-    sound_first sound is = subst (λ (f : Floor). AreSound point f.spots) (sym is) (sound_asked t mode Granted point id (entered (new_spot id key) floor.spots) (sound_made floor key none id point sound))
+    pub sound_first : AreSpotsSound point floor.spots → new ≡ with_spot (asked t mode Granted) id (with_new_spot id key floor) → AreSpotsSound point new.spots
+    sound_first sound is = subst (λ (f : Floor). AreSpotsSound point f.spots) (sym is) (sound_asked t mode Granted point id (entered (new_spot id key) floor.spots) (sound_made floor key none id point sound))
 
     pub table_first : new ≡ with_spot (asked t mode Granted) id (with_new_spot id key floor) → table_on point new ≡ record (table_on point floor) { rows = rows_after (rows_in floor.spots) key t mode Granted }
     table_first is =
@@ -382,11 +382,11 @@ module _ (point t : ℕ) (mode : Mode) (floor new : Floor) (key : List ℕ) (id 
 -- what is known of the floor once a request to write the key was so answered, and the key written where it was granted
 pub record IsWritten (point t : ℕ) (class : Class) (value : Option (List ℕ)) (floor new : Floor) (key : List ℕ) (o : Outcome) : Type 0 where
   pub same : new ≡ record floor { spots = new.spots }
-  pub sound : AreSound point new.spots
+  pub sound : AreSpotsSound point new.spots
   pub rows : rows_in new.spots ≡ rows_after (rows_in floor.spots) key t Exclusive o
   pub pending : (q : List ℕ) → find key_cmp q (writes_in new.spots) ≡ pending_after o (table_on point floor) key (record { by = t; class = class; value = value }) q
 
-module _ (point t : ℕ) (class : Class) (copy value : Option (List ℕ)) (floor mid new : Floor) (key : List ℕ) (id : ℕ) (o : Outcome) (whole : IsWhole floor) (sound : AreSound point floor.spots) (ready : waits_anywhere floor.spots t ≡ false) (there : number_of floor.spots key ≡ Some id)
+module _ (point t : ℕ) (class : Class) (copy value : Option (List ℕ)) (floor mid new : Floor) (key : List ℕ) (id : ℕ) (o : Outcome) (whole : IsFloorWhole floor) (sound : AreSpotsSound point floor.spots) (ready : waits_anywhere floor.spots t ≡ false) (there : number_of floor.spots key ≡ Some id)
     (told : o ≡ outcome (queue_of floor.spots id) t Exclusive) (copied : copy ≡ of_spot (copy_kept point class) floor.spots id) (outside : class ≡ Before → is_in_closed_set (record_of (rows_in floor.spots) key) ≡ false)
     (again : (p : Pending) → find key_cmp key (writes_in floor.spots) ≡ Some p → p.by ≡ t → p.class ≡ class) (mid_is : mid ≡ with_spot (asked t Exclusive o) id floor) (new_is : new ≡ with_spot (changed (granted_slot o point t class copy value)) id mid) where
   spot : (s : Spot) × IsFound floor.spots key id s
@@ -398,17 +398,17 @@ module _ (point t : ℕ) (class : Class) (copy value : Option (List ℕ)) (floor
   spots_now : new.spots ≡ now
   spots_now = ap (λ (f : Floor). f.spots) new_is ∙ ap (λ (f : Floor). map (at_spot (changed (granted_slot o point t class copy value)) id) f.spots) mid_is ∙ spots_written floor whole key id spot.0 spot.1 point t sound ready class copy value o told copied outside again
 
-  pub written_there : IsWhole new → IsWritten point t class value floor new key o
+  pub written_there : IsFloorWhole new → IsWritten point t class value floor new key o
   written_there later = record {
     same = ap (λ (f : Floor). record f { spots = new.spots }) (new_is ∙ ap (with_spot (changed (granted_slot o point t class copy value)) id) mid_is);
-    sound = subst (AreSound point) (sym spots_now) (sound_written floor whole key id spot.0 spot.1 point t sound ready class copy value o told copied outside again);
+    sound = subst (AreSpotsSound point) (sym spots_now) (sound_written floor whole key id spot.0 spot.1 point t sound ready class copy value o told copied outside again);
     rows = ap rows_in spots_now ∙ rows_written floor whole key id spot.0 spot.1 point t sound ready class copy value o told copied outside again;
     pending = λ q. ap (λ (ss : List Spot). find key_cmp q (writes_in ss)) spots_now
         ∙ pending_written floor whole key id spot.0 spot.1 point t sound ready class copy value o told copied outside again (ap (λ (ss : List Spot). is_sorted key_cmp (rows_in ss)) (sym spots_now) ∙ later.rise) q;
   }
 
 -- the same of a key that had no spot
-module _ (point t : ℕ) (class : Class) (value : Option (List ℕ)) (floor mid new : Floor) (key : List ℕ) (id : ℕ) (none : number_of floor.spots key ≡ None) (whole : IsWhole (with_new_spot id key floor)) (sound : AreSound point floor.spots) (ready : waits_anywhere floor.spots t ≡ false)
+module _ (point t : ℕ) (class : Class) (value : Option (List ℕ)) (floor mid new : Floor) (key : List ℕ) (id : ℕ) (none : number_of floor.spots key ≡ None) (whole : IsFloorWhole (with_new_spot id key floor)) (sound : AreSpotsSound point floor.spots) (ready : waits_anywhere floor.spots t ≡ false)
     (mid_is : mid ≡ with_spot (asked t Exclusive Granted) id (with_new_spot id key floor)) (new_is : new ≡ with_spot (changed (put_slot point t class None value)) id mid) where
   made_spot : (s : Spot) × IsFound (entered (new_spot id key) floor.spots) key id s
   made_spot = found (with_new_spot id key floor) key id whole (number_entered (new_spot id key) floor.spots none)
@@ -416,7 +416,7 @@ module _ (point t : ℕ) (class : Class) (value : Option (List ℕ)) (floor mid 
   told_made : Granted ≡ outcome (queue_of (entered (new_spot id key) floor.spots) id) t Exclusive
   told_made = sym (granted_made floor key none id made_spot.0 made_spot.1 t Exclusive (outcome (queue_of (entered (new_spot id key) floor.spots) id) t Exclusive) refl)
 
-  pub written_first : IsWhole new → IsWritten point t class value floor new key Granted
+  pub written_first : IsFloorWhole new → IsWritten point t class value floor new key Granted
   written_first later =
       let w = written_there point t class None value (with_new_spot id key floor) mid new key id Granted whole (sound_made floor key none id point sound) (ready_made floor key none id t ready) (number_entered (new_spot id key) floor.spots none)
       told_made (copy_made floor key none id point class made_spot.0 made_spot.1) (outside_made floor key none id class) (again_made floor key none id whole.rise t class) mid_is new_is later in

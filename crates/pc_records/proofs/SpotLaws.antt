@@ -13,7 +13,7 @@ use Rattle.pc_model.proofs.RisingLaws.{both, and_of, Below, Rise, lesser_below, 
 use Rattle.pc_slots.specs.Slots.{Slot, Pending, pending_in}
 use Rattle.pc_records.specs.Rows.{Row, Record, record_of}
 use Rattle.pc_records.specs.Slots.{with_entry}
-use Rattle.pc_records.specs.Floor.{Spot, Floor, IsWhole, Each, AreApart, row_in, rows_in, writes_in, at_spot, at_key, has_spot, number_of, queue_of, of_spot, entered}
+use Rattle.pc_records.specs.Floor.{Spot, Floor, IsFloorWhole, Each, AreSpotsApart, row_in, rows_in, writes_in, at_spot, at_key, has_spot, number_of, queue_of, of_spot, entered}
 
 pub no : {A : Type 0} → false ≡ true → A
 no e = absurd cc
@@ -169,7 +169,7 @@ spot_of_number (s ∷ ss) id = cond (eqb s.slot.number id) (Some s) (spot_of_num
 
 -- the spot of a key that has the number is that of the number, and changes as such
 module _ (key : List ℕ) (id : ℕ) where
-  by_number : (ss : List Spot) → AreApart ss → number_of ss key ≡ Some id → spot_of_number ss id ≡ spot_of_key ss key
+  by_number : (ss : List Spot) → AreSpotsApart ss → number_of ss key ≡ Some id → spot_of_number ss id ≡ spot_of_key ss key
   by_number [] apart e = no_some e
   by_number (s ∷ ss) apart e = by_test (same_bytes key s.slot.key) (eqb s.slot.number id) refl e (by_number ss apart.1)
     where
@@ -179,7 +179,7 @@ module _ (key : List ℕ) (id : ℕ) where
       by_test false true is e rest = no (sym apart.0 ∙ ap (has_spot ss) (eqb-true s.slot.number id is) ∙ has_number ss key id e)
       by_test false false is e rest = rest e
 
-  pub swapped : (g : Spot → Spot) (ss : List Spot) → Rise (rows_in ss) → AreApart ss → number_of ss key ≡ Some id → map (at_spot g id) ss ≡ map (at_key g key) ss
+  pub swapped : (g : Spot → Spot) (ss : List Spot) → Rise (rows_in ss) → AreSpotsApart ss → number_of ss key ≡ Some id → map (at_spot g id) ss ≡ map (at_key g key) ss
   swapped g [] rise apart e = no_some e
   swapped g (s ∷ ss) rise apart e = by_test (same_bytes key s.slot.key) refl (eqb s.slot.number id) refl e (swapped g ss (tail_rises s ss rise) apart.1)
     where
@@ -214,7 +214,7 @@ pub record IsFound (ss : List Spot) (key : List ℕ) (id : ℕ) (spot : Spot) : 
   pub has : (f : Slot → Option (List ℕ)) → of_spot f ss id ≡ f spot.slot
   pub swaps : (g : Spot → Spot) → map (at_spot g id) ss ≡ map (at_key g key) ss
 
-pub found : (floor : Floor) (key : List ℕ) (id : ℕ) → IsWhole floor → number_of floor.spots key ≡ Some id → (spot : Spot) × IsFound floor.spots key id spot
+pub found : (floor : Floor) (key : List ℕ) (id : ℕ) → IsFloorWhole floor → number_of floor.spots key ≡ Some id → (spot : Spot) × IsFound floor.spots key id spot
 found floor key id whole e = by_spot (spot_of_key floor.spots key) refl
   where
     by_spot : (o : Option Spot) → spot_of_key floor.spots key ≡ o → (spot : Spot) × IsFound floor.spots key id spot

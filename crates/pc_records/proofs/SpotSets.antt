@@ -17,10 +17,10 @@ use Rattle.pc_slots.specs.declared.cells.Cell.{Cell}
 use Rattle.pc_records.specs.Ends.{ends_in, queues_in}
 use Rattle.pc_records.specs.Rows.{Row, record_of, stored, at_point, is_in_open_set, is_in_closed_set}
 use Rattle.pc_records.specs.RowSteps.{closed_row, committed_row}
-use Rattle.pc_records.specs.Slots.{slots_in, row_of, rows_of, no_queues, numbers_of, times, AreKept}
+use Rattle.pc_records.specs.Slots.{slots_in, row_of, rows_of, no_queues, numbers_of, times, AreSlotsKept}
 use Rattle.pc_records.specs.SetLists.{IsListed, open_keys, closed_keys}
 use Rattle.pc_records.specs.Tables.{first_pinned}
-use Rattle.pc_records.specs.Floor.{Spot, Floor, IsWhole, Each, AreApart, AreSound, row_in, rows_in, writes_in, spots_of, floor_of, changed, has_spot, unnumbered, first_spot, content_at, first_of_closed, committed_at}
+use Rattle.pc_records.specs.Floor.{Spot, Floor, IsFloorWhole, Each, AreSpotsApart, AreSpotsSound, row_in, rows_in, writes_in, spots_of, floor_of, changed, has_spot, unnumbered, first_spot, content_at, first_of_closed, committed_at}
 use Rattle.pc_records.proofs.Among.{all_are_listed}
 use Rattle.pc_records.proofs.Exclusive.{settled_legal}
 use Rattle.pc_records.proofs.Moments.{closed_sound, row_closed}
@@ -44,7 +44,7 @@ none_has queues n (s ∷ slots) none = by_test (eqb s.number n) none (none_has q
     by_test true none rest = absurd (omega (arith, none))
     by_test false none rest = rest none
 
-all_apart : (queues : Queues) (slots : List Slot) → ((n : ℕ) → times n (numbers_of slots) ≤ 1) → AreApart (spots_of queues slots)
+all_apart : (queues : Queues) (slots : List Slot) → ((n : ℕ) → times n (numbers_of slots) ≤ 1) → AreSpotsApart (spots_of queues slots)
 all_apart queues [] once = tt
 all_apart queues (s ∷ slots) once = (none_has queues s.number slots (last (subst (λ b. cond b (times s.number (numbers_of slots) + 1) (times s.number (numbers_of slots)) ≤ 1) (eq-eqb s.number s.number refl) (once s.number))), all_apart queues slots (λ n. rest n (eqb s.number n) (once n)))
   where
@@ -56,8 +56,8 @@ all_apart queues (s ∷ slots) once = (none_has queues s.number slots (last (sub
     rest n false h = h
 
 -- the floor keeps all that a floor keeps
-pub whole_there : (table : Contents Cell) (locks : keepers.Kept) (sets : Dirty) → AreKept (slots_in sets.side table.rows) (queues_in table.rows locks) × keepers.AreEnds (ends_in table.rows) locks × IsListed table.rows sets
-    → IsWhole (floor_of table.capacity (queues_in table.rows locks) (slots_in sets.side table.rows) (open_keys table.rows sets) (closed_keys table.rows sets))
+pub whole_there : (table : Contents Cell) (locks : keepers.KeptRequests) (sets : Dirty) → AreSlotsKept (slots_in sets.side table.rows) (queues_in table.rows locks) × keepers.AreEnds (ends_in table.rows) locks × IsListed table.rows sets
+    → IsFloorWhole (floor_of table.capacity (queues_in table.rows locks) (slots_in sets.side table.rows) (open_keys table.rows sets) (closed_keys table.rows sets))
 whole_there table locks sets keeps =
     let queues = queues_in table.rows locks in
     let slots = slots_in sets.side table.rows in
@@ -87,7 +87,7 @@ committed_same [] key = refl
 committed_same (s ∷ ss) key = elim (same_bytes key s.slot.key) as (λ b. cond b (committed s.slot) (committed_at ss key) ≡ stored (cond b (Some (row_in s).1) (record_of (rows_in ss) key))) [ true ↦ refl | false ↦ committed_same ss key ]
 
 -- the open set is closed
-module _ (point later : ℕ) (floor : Floor) (whole : IsWhole floor) (sound : AreSound point floor.spots) (after : point < later) (none : floor.closed ≡ []) (during : (q : List ℕ) (p : Pending) → find key_cmp q (writes_in floor.spots) ≡ Some p → p.class ≡ During) where
+module _ (point later : ℕ) (floor : Floor) (whole : IsFloorWhole floor) (sound : AreSpotsSound point floor.spots) (after : point < later) (none : floor.closed ≡ []) (during : (q : List ℕ) (p : Pending) → find key_cmp q (writes_in floor.spots) ≡ Some p → p.class ≡ During) where
   abbrev IsOpen : Spot → Type 0
   IsOpen s = (s.slot.is_in_closed_set ≡ false) × (is_prepared s.slot.writer ≡ true)
 
@@ -101,17 +101,17 @@ module _ (point later : ℕ) (floor : Floor) (whole : IsWhole floor) (sound : Ar
           by_writer None is = refl
           by_writer (Some w) is = ap (λ c. same_class c During) (during q (record { by = w.transaction; class = w.class; value = s.slot.live }) (found_write floor.spots q whole.rise ∙ ap write_in found ∙ ap (λ o. write_of o s.slot.live) is))
 
-  pub sound_closed : AreSound later (map (changed closed_slot) floor.spots)
+  pub sound_closed : AreSpotsSound later (map (changed closed_slot) floor.spots)
   sound_closed = all floor.spots all_open sound
     where
-      all : (ss : List Spot) → Each IsOpen ss → AreSound point ss → AreSound later (map (changed closed_slot) ss)
+      all : (ss : List Spot) → Each IsOpen ss → AreSpotsSound point ss → AreSpotsSound later (map (changed closed_slot) ss)
       all [] each sound = tt
       all (s ∷ ss) each sound = (closed_sound point later s.queue s.slot after each.0.0 sound.0 each.0.1, all ss each.1 sound.1)
 
   pub rows_closed : rows_in (map (changed closed_slot) floor.spots) ≡ map closed_row (rows_in floor.spots)
   rows_closed = all floor.spots all_open sound
     where
-      all : (ss : List Spot) → Each IsOpen ss → AreSound point ss → rows_in (map (changed closed_slot) ss) ≡ map closed_row (rows_in ss)
+      all : (ss : List Spot) → Each IsOpen ss → AreSpotsSound point ss → rows_in (map (changed closed_slot) ss) ≡ map closed_row (rows_in ss)
       all [] each sound = refl
       all (s ∷ ss) each sound =
           ap (λ (r : Row). r ∷ rows_in (map (changed closed_slot) ss)) (row_closed point later s.queue s.slot after each.0.0 sound.0 (λ n. s.queue) each.0.1)
@@ -140,13 +140,13 @@ module _ (pairs : List (List ℕ × List ℕ)) where
       all [] = refl
       all (p ∷ ps) = all ps
 
-  pub sound_first : (ss : List Spot) → map unnumbered ss ≡ map first_spot pairs → AreSound 0 ss
-  sound_first ss are = back ss (subst (AreSound 0) (sym are) (all pairs))
+  pub sound_first : (ss : List Spot) → map unnumbered ss ≡ map first_spot pairs → AreSpotsSound 0 ss
+  sound_first ss are = back ss (subst (AreSpotsSound 0) (sym are) (all pairs))
     where
-      all : (ps : List (List ℕ × List ℕ)) → AreSound 0 (map first_spot ps)
+      all : (ps : List (List ℕ × List ℕ)) → AreSpotsSound 0 (map first_spot ps)
       all [] = tt
       all (p ∷ ps) = (record { passed = omega arith; holds = λ e. no e; follows = λ e. refl; prepared = λ c e. no c; locked = refl }, all ps)
 
-      back : (xs : List Spot) → AreSound 0 (map unnumbered xs) → AreSound 0 xs
+      back : (xs : List Spot) → AreSpotsSound 0 (map unnumbered xs) → AreSpotsSound 0 xs
       back [] each = tt
       back (x ∷ xs) each = (record { passed = each.0.passed; holds = each.0.holds; follows = each.0.follows; prepared = each.0.prepared; locked = each.0.locked }, back xs each.1)

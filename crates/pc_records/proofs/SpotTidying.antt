@@ -9,11 +9,11 @@ use Rattle.pc_model.specs.Locks.{queue_without}
 use Rattle.pc_model.specs.Queues.{stands_in}
 use Rattle.pc_model.proofs.RisingLaws.{Rise}
 use Rattle.pc_slots.specs.declared.versions.Writer.{Writer}
-use Rattle.pc_slots.specs.Slots.{Pending, pending_in, write_of, is_locked, IsSound, taken_slot}
+use Rattle.pc_slots.specs.Slots.{Pending, pending_in, write_of, is_locked, IsSlotSound, taken_slot}
 use Rattle.pc_records.specs.Rows.{Row, is_kept, Record, record_of}
 use Rattle.pc_records.specs.RowSteps.{if_kept, with_row, released, released_rows, left_of, with_left, left_rows}
 use Rattle.pc_records.specs.Slots.{with_entry}
-use Rattle.pc_records.specs.Floor.{Spot, Floor, IsWhole, Each, AreApart, AreSound, row_in, rows_in, writes_in, table_on, changed, at_spot, with_spot, IsOver, IsLeft, has_spot, let_go, stands_at, stands_anywhere, is_needed, tidied, standing, TakesFirst, number_of}
+use Rattle.pc_records.specs.Floor.{Spot, Floor, IsFloorWhole, Each, AreSpotsApart, AreSpotsSound, row_in, rows_in, writes_in, table_on, changed, at_spot, with_spot, IsOver, IsFloorReleased, has_spot, let_go, stands_at, stands_anywhere, is_needed, tidied, standing, TakesFirstSpot, number_of}
 use Rattle.pc_records.proofs.Exclusive.{kept_released}
 use Rattle.pc_records.proofs.Moments.{sound_queue, kept_row, taken_sound}
 use Rattle.pc_records.proofs.FloorTidying.{no_request}
@@ -55,14 +55,14 @@ each_tidied P id [] each = tt
 each_tidied P id (s ∷ ss) each = elim (not (eqb s.slot.number id) || is_needed s) as (λ b. Each P (cond b (s ∷ tidied id ss) (tidied id ss))) [ true ↦ (each.0, each_tidied P id ss each.1) | false ↦ each_tidied P id ss each.1 ]
 
 -- a spot that nothing keeps has no write
-bare_write : (point : ℕ) (s : Spot) → IsSound point s.queue s.slot → is_needed s ≡ false → pending_in s.slot ≡ None
+bare_write : (point : ℕ) (s : Spot) → IsSlotSound point s.queue s.slot → is_needed s ≡ false → pending_in s.slot ≡ None
 bare_write point s sound bare = by_writer s.slot.writer (ap (λ q. is_locked q s.slot.writer) (sym (no_request s.queue s.slot bare)) ∙ sound.locked)
   where
     by_writer : (o : Option Writer) → is_locked [] o ≡ true → write_of o s.slot.live ≡ None
     by_writer None locked = refl
     by_writer (Some w) locked = no locked
 
-pub writes_tidied : (point id : ℕ) (ss : List Spot) → AreSound point ss → writes_in (tidied id ss) ≡ writes_in ss
+pub writes_tidied : (point id : ℕ) (ss : List Spot) → AreSpotsSound point ss → writes_in (tidied id ss) ≡ writes_in ss
 writes_tidied point id [] sound = refl
 writes_tidied point id (s ∷ ss) sound = by_test (not (eqb s.slot.number id)) (is_needed s) refl (writes_tidied point id ss sound.1)
   where
@@ -72,7 +72,7 @@ writes_tidied point id (s ∷ ss) sound = by_test (not (eqb s.slot.number id)) (
     by_test false false is rest = rest ∙ sym (ap (λ o. with_entry s.slot.key o (writes_in ss)) (bare_write point s sound.0 is))
 
 -- what keeps a spot keeps its row
-needed_row : (point : ℕ) (s : Spot) → IsSound point s.queue s.slot → is_needed s ≡ is_kept (row_in s).1
+needed_row : (point : ℕ) (s : Spot) → IsSlotSound point s.queue s.slot → is_needed s ≡ is_kept (row_in s).1
 needed_row point s sound = kept_row point s.queue s.slot sound
 
 -- a request that is let go
@@ -113,7 +113,7 @@ module _ (t id : ℕ) where
   stands_past s ss is stands = ap (λ b. (b && stands_in s.queue t) || stands_at ss id t) (sym is) ∙ stands
 
   -- what is released in the end is what was to be released
-  pub released_left : (point : ℕ) (ss : List Spot) → AreApart ss → AreSound point (map (at_spot (let_go t) id) ss) → stands_at ss id t ≡ true → released_rows t (rows_in (left ss)) ≡ released_rows t (rows_in ss)
+  pub released_left : (point : ℕ) (ss : List Spot) → AreSpotsApart ss → AreSpotsSound point (map (at_spot (let_go t) id) ss) → stands_at ss id t ≡ true → released_rows t (rows_in (left ss)) ≡ released_rows t (rows_in ss)
   released_left point [] apart sound stands = no stands
   released_left point (s ∷ ss) apart sound stands = by_test (eqb s.slot.number id) refl (λ later. released_left point ss apart.1 sound.1 later)
     where
@@ -121,8 +121,8 @@ module _ (t id : ℕ) where
       by_test false is rest = ap (λ (xs : List Spot). released_rows t (rows_in xs)) (left_past s ss is) ∙ ap (with_row (released t (row_in s).1) s.slot.key) (rest (stands_past s ss is stands))
       by_test true is rest = ap (λ (xs : List Spot). released_rows t (rows_in xs)) (left_here s ss is apart.0) ∙ by_kept (is_needed (let_go t s)) (sym (needed_row point (let_go t s) here))
         where
-          here : IsSound point (let_go t s).queue s.slot
-          here = subst (λ b. IsSound point (cond b (let_go t s) s).queue (cond b (let_go t s) s).slot) is sound.0
+          here : IsSlotSound point (let_go t s).queue s.slot
+          here = subst (λ b. IsSlotSound point (cond b (let_go t s) s).queue (cond b (let_go t s) s).slot) is sound.0
 
           now : (b : Bool) → is_kept (without t (row_in s).1) ≡ b → released t (row_in s).1 ≡ cond b (Some (without t (row_in s).1)) None
           now b kept = released_one t (row_in s).1 (stands_here s ss is apart.0 stands) ∙ ap (λ c. cond c (Some (without t (row_in s).1)) None) kept
@@ -132,7 +132,7 @@ module _ (t id : ℕ) where
           by_kept false kept = ap (λ o. with_row o s.slot.key (released_rows t (rows_in ss))) (sym (now false kept))
 
   -- the transaction has a request less
-  pub fewer : (ss : List Spot) → AreApart ss → stands_at ss id t ≡ true → standing t (left ss) < standing t ss
+  pub fewer : (ss : List Spot) → AreSpotsApart ss → stands_at ss id t ≡ true → standing t (left ss) < standing t ss
   fewer [] apart stands = no stands
   fewer (s ∷ ss) apart stands = by_test (eqb s.slot.number id) refl (fewer ss apart.1)
     where
@@ -162,19 +162,19 @@ module _ (t id : ℕ) where
   over_all : (ss : List Spot) → Rise (rows_in ss) → ((q : List ℕ) (p : Pending) → find key_cmp q (writes_in ss) ≡ Some p → eqb p.by t ≡ false) → Each IsOverAt ss
   over_all ss rise over = each_by_key IsOverAt ss rise (λ q s found w is. over q (record { by = w.transaction; class = w.class; value = s.slot.live }) (found_write ss q rise ∙ ap write_in found ∙ ap (λ o. write_of o s.slot.live) is))
 
-  pub sound_let_go : (point : ℕ) (ss : List Spot) → Rise (rows_in ss) → ((q : List ℕ) (p : Pending) → find key_cmp q (writes_in ss) ≡ Some p → eqb p.by t ≡ false) → AreSound point ss → AreSound point (map (at_spot (let_go t) id) ss)
+  pub sound_let_go : (point : ℕ) (ss : List Spot) → Rise (rows_in ss) → ((q : List ℕ) (p : Pending) → find key_cmp q (writes_in ss) ≡ Some p → eqb p.by t ≡ false) → AreSpotsSound point ss → AreSpotsSound point (map (at_spot (let_go t) id) ss)
   sound_let_go point ss rise over sound = all ss (over_all ss rise over) sound
     where
-      one : (s : Spot) → IsOverAt s → IsSound point s.queue s.slot → IsSound point (queue_without s.queue t) s.slot
+      one : (s : Spot) → IsOverAt s → IsSlotSound point s.queue s.slot → IsSlotSound point (queue_without s.queue t) s.slot
       one s is_over sound = sound_queue point s.queue (queue_without s.queue t) s.slot (still s.slot.writer refl) sound
         where
           still : (o : Option Writer) → s.slot.writer ≡ o → is_locked s.queue o ≡ true → is_locked (queue_without s.queue t) o ≡ true
           still None is locked = refl
           still (Some w) is locked = kept_released s.queue t w.transaction locked (is_over w is)
 
-      all : (xs : List Spot) → Each IsOverAt xs → AreSound point xs → AreSound point (map (at_spot (let_go t) id) xs)
+      all : (xs : List Spot) → Each IsOverAt xs → AreSpotsSound point xs → AreSpotsSound point (map (at_spot (let_go t) id) xs)
       all [] over sound = tt
-      all (s ∷ xs) over sound = (elim (eqb s.slot.number id) as (λ b. IsSound point (cond b (let_go t s) s).queue (cond b (let_go t s) s).slot) [ true ↦ one s over.0 sound.0 | false ↦ sound.0 ], all xs over.1 sound.1)
+      all (s ∷ xs) over sound = (elim (eqb s.slot.number id) as (λ b. IsSlotSound point (cond b (let_go t s) s).queue (cond b (let_go t s) s).slot) [ true ↦ one s over.0 sound.0 | false ↦ sound.0 ], all xs over.1 sound.1)
 
   pub writes_let_go : (ss : List Spot) → writes_in (map (at_spot (let_go t) id) ss) ≡ writes_in ss
   writes_let_go ss =
@@ -183,7 +183,7 @@ module _ (t id : ℕ) where
 
 -- a spot that has changed, and is free where nothing keeps it then
 module _ (g : Spot → Spot) (numbers : (s : Spot) → (g s).slot.number ≡ s.slot.number) (id : ℕ) (spot : Spot) where
-  stays_tidied : is_needed (g spot) ≡ true → (ss : List Spot) → AreApart ss → spot_of_number ss id ≡ Some spot → tidied id (map (at_spot g id) ss) ≡ map (at_spot g id) ss
+  stays_tidied : is_needed (g spot) ≡ true → (ss : List Spot) → AreSpotsApart ss → spot_of_number ss id ≡ Some spot → tidied id (map (at_spot g id) ss) ≡ map (at_spot g id) ss
   stays_tidied needed [] apart found = refl
   stays_tidied needed (s ∷ ss) apart found = by_test (eqb s.slot.number id) refl found (stays_tidied needed ss apart.1)
     where
@@ -196,7 +196,7 @@ module _ (g : Spot → Spot) (numbers : (s : Spot) → (g s).slot.number ≡ s.s
       by_test false is found rest = tidied_past id s (map (at_spot g id) ss) is ∙ ap (λ (xs : List Spot). s ∷ xs) (rest found)
 
   module _ (key : List ℕ) (bare : is_needed (g spot) ≡ false) (here : same_bytes key spot.slot.key ≡ true) (number : eqb spot.slot.number id ≡ true) where
-    goes_tidied : (ss : List Spot) → Rise (rows_in ss) → AreApart ss → spot_of_number ss id ≡ Some spot → spot_of_key ss key ≡ Some spot → rows_in (tidied id (map (at_spot g id) ss)) ≡ filter (λ row. not (same_bytes key row.0)) (rows_in ss)
+    goes_tidied : (ss : List Spot) → Rise (rows_in ss) → AreSpotsApart ss → spot_of_number ss id ≡ Some spot → spot_of_key ss key ≡ Some spot → rows_in (tidied id (map (at_spot g id) ss)) ≡ filter (λ row. not (same_bytes key row.0)) (rows_in ss)
     goes_tidied [] rise apart found at = refl
     goes_tidied (s ∷ ss) rise apart found at = by_test (eqb s.slot.number id) refl (same_bytes key s.slot.key) refl found at (goes_tidied ss (tail_rises s ss rise) apart.1)
       where
@@ -213,15 +213,15 @@ module _ (g : Spot → Spot) (numbers : (s : Spot) → (g s).slot.number ≡ s.s
         by_test false is false same found at rest = ap rows_in (tidied_past id s (map (at_spot g id) ss) is) ∙ ap (λ (rows : List Row). row_in s ∷ rows) (rest found at)
 
 -- a key is taken
-module _ (point : ℕ) (floor : Floor) (whole : IsWhole floor) (key : List ℕ) (id : ℕ) (spot : Spot) (f : IsFound floor.spots key id spot) (sound : AreSound point floor.spots) (over : (w : Writer) → spot.slot.writer ≡ Some w → same_class w.class During ≡ false) where
+module _ (point : ℕ) (floor : Floor) (whole : IsFloorWhole floor) (key : List ℕ) (id : ℕ) (spot : Spot) (f : IsFound floor.spots key id spot) (sound : AreSpotsSound point floor.spots) (over : (w : Writer) → spot.slot.writer ≡ Some w → same_class w.class During ≡ false) where
   abbrev taken : Spot → Spot
   taken = changed taken_slot
 
-  sound_one : IsSound point spot.queue (taken_slot spot.slot)
-  sound_one = taken_sound point spot.queue spot.slot over (each_found (λ s. IsSound point s.queue s.slot) floor.spots key spot sound f.at)
+  sound_one : IsSlotSound point spot.queue (taken_slot spot.slot)
+  sound_one = taken_sound point spot.queue spot.slot over (each_found (λ s. IsSlotSound point s.queue s.slot) floor.spots key spot sound f.at)
 
-  pub sound_taken : AreSound point (map (at_spot taken id) floor.spots)
-  sound_taken = subst (AreSound point) (sym (f.swaps taken)) (each_changed taken key spot (λ s. IsSound point s.queue s.slot) floor.spots whole.rise f.at sound_one sound)
+  pub sound_taken : AreSpotsSound point (map (at_spot taken id) floor.spots)
+  sound_taken = subst (AreSpotsSound point) (sym (f.swaps taken)) (each_changed taken key spot (λ s. IsSlotSound point s.queue s.slot) floor.spots whole.rise f.at sound_one sound)
 
   pub writes_taken : writes_in (map (at_spot taken id) floor.spots) ≡ writes_in floor.spots
   writes_taken =
@@ -244,34 +244,34 @@ module _ (point : ℕ) (floor : Floor) (whole : IsWhole floor) (key : List ℕ) 
 
 -- one floor after the other, once requests are let go
 module _ (point t : ℕ) where
-  pub left_then : (a b c : Floor) → IsLeft point t a b → IsLeft point t b c → IsLeft point t a c
+  pub left_then : (a b c : Floor) → IsFloorReleased point t a b → IsFloorReleased point t b c → IsFloorReleased point t a c
   left_then a b c p q = record { same = q.same ∙ ap (λ (f : Floor). record f { spots = c.spots }) p.same; writes = q.writes ∙ p.writes; sound = q.sound; rows = q.rows ∙ p.rows }
 
-  pub over_then : (a b : Floor) → IsOver t a.spots → IsLeft point t a b → IsOver t b.spots
+  pub over_then : (a b : Floor) → IsOver t a.spots → IsFloorReleased point t a b → IsOver t b.spots
   over_then a b over l q p found = over q p (ap (find key_cmp q) (sym l.writes) ∙ found)
 
-  pub left_none : (old new : Floor) → new ≡ old → AreSound point old.spots → IsLeft point t old new
-  left_none old new same sound = subst (IsLeft point t old) (sym same) (record { same = refl; writes = refl; sound = sound; rows = refl })
+  pub left_none : (old new : Floor) → new ≡ old → AreSpotsSound point old.spots → IsFloorReleased point t old new
+  left_none old new same sound = subst (IsFloorReleased point t old) (sym same) (record { same = refl; writes = refl; sound = sound; rows = refl })
 
-  pub left_one : (id : ℕ) (old mid new : Floor) → IsWhole old → stands_at old.spots id t ≡ true → mid ≡ with_spot (let_go t) id old → new ≡ record mid { spots = tidied id mid.spots } → AreSound point old.spots → IsOver t old.spots → IsLeft point t old new
+  pub left_one : (id : ℕ) (old mid new : Floor) → IsFloorWhole old → stands_at old.spots id t ≡ true → mid ≡ with_spot (let_go t) id old → new ≡ record mid { spots = tidied id mid.spots } → AreSpotsSound point old.spots → IsOver t old.spots → IsFloorReleased point t old new
   left_one id old mid new whole stands mid_is new_is sound over =
       let is : new ≡ record old { spots = left t id old.spots } = new_is ∙ ap (λ (f : Floor). record f { spots = tidied id f.spots }) mid_is in
       let spots : new.spots ≡ left t id old.spots = ap (λ (f : Floor). f.spots) is in
-      let here : AreSound point (map (at_spot (let_go t) id) old.spots) = sound_let_go t id point old.spots whole.rise over sound in
+      let here : AreSpotsSound point (map (at_spot (let_go t) id) old.spots) = sound_let_go t id point old.spots whole.rise over sound in
       record {
         same = is ∙ ap (λ (ss : List Spot). record old { spots = ss }) (sym spots);
         writes = ap writes_in spots ∙ writes_tidied point id (map (at_spot (let_go t) id) old.spots) here ∙ writes_let_go t id old.spots;
-        sound = subst (AreSound point) (sym spots) (each_tidied (λ s. IsSound point s.queue s.slot) id (map (at_spot (let_go t) id) old.spots) here);
+        sound = subst (AreSpotsSound point) (sym spots) (each_tidied (λ s. IsSlotSound point s.queue s.slot) id (map (at_spot (let_go t) id) old.spots) here);
         rows = ap (λ (ss : List Spot). released_rows t (rows_in ss)) spots ∙ released_left t id point old.spots whole.apart here stands;
       }
 
-  pub fewer_one : (id : ℕ) (old mid new : Floor) → IsWhole old → stands_at old.spots id t ≡ true → mid ≡ with_spot (let_go t) id old → new ≡ record mid { spots = tidied id mid.spots } → standing t new.spots < standing t old.spots
+  pub fewer_one : (id : ℕ) (old mid new : Floor) → IsFloorWhole old → stands_at old.spots id t ≡ true → mid ≡ with_spot (let_go t) id old → new ≡ record mid { spots = tidied id mid.spots } → standing t new.spots < standing t old.spots
   fewer_one id old mid new whole stands mid_is new_is =
       let spots : new.spots ≡ left t id old.spots = ap (λ (f : Floor). f.spots) new_is ∙ ap (λ (f : Floor). tidied id f.spots) mid_is in
       subst (λ (ss : List Spot). standing t ss < standing t old.spots) (sym spots) (fewer t id old.spots whole.apart stands)
 
   -- the records then
-  pub table_left : (old new : Floor) → IsLeft point t old new → stands_anywhere new.spots t ≡ false → table_on point new ≡ record (table_on point old) { rows = released_rows t (rows_in old.spots) }
+  pub table_left : (old new : Floor) → IsFloorReleased point t old new → stands_anywhere new.spots t ≡ false → table_on point new ≡ record (table_on point old) { rows = released_rows t (rows_in old.spots) }
   table_left old new l done = λ i. record {
     capacity = (l.same i).capacity;
     rows = (none_released t 0 new.spots done ∙ l.rows) i;
@@ -294,7 +294,7 @@ module _ (point t : ℕ) where
       has (s ∷ ss) e = first (eqb s.slot.number id) (stands_in s.queue t) (stands_at ss id t) (has_spot ss id) (has ss) e
 
 -- the first key of the closed set is taken
-module _ (point id : ℕ) (old mid new : Floor) (whole : IsWhole old) (sound : AreSound point old.spots) (takes : TakesFirst old mid id) (new_is : new ≡ record mid { spots = tidied id mid.spots }) (key : List ℕ) (keys : List (List ℕ)) (first : old.closed ≡ key ∷ keys)
+module _ (point id : ℕ) (old mid new : Floor) (whole : IsFloorWhole old) (sound : AreSpotsSound point old.spots) (takes : TakesFirstSpot old mid id) (new_is : new ≡ record mid { spots = tidied id mid.spots }) (key : List ℕ) (keys : List (List ℕ)) (first : old.closed ≡ key ∷ keys)
     (over : (p : Pending) → find key_cmp key (writes_in old.spots) ≡ Some p → same_class p.class During ≡ false) where
   one_list : {A : Type 0} {x y : A} {xs ys : List A} → x ∷ xs ≡ y ∷ ys → (x ≡ y) × (xs ≡ ys)
   one_list e = (cc, cc)
@@ -311,8 +311,8 @@ module _ (point id : ℕ) (old mid new : Floor) (whole : IsWhole old) (sound : A
   is : new ≡ record old { spots = tidied id (map (at_spot (changed taken_slot) id) old.spots); closed = takes.keys }
   is = new_is ∙ ap (λ (f : Floor). record f { spots = tidied id f.spots }) takes.taken
 
-  pub sound_take : AreSound point new.spots
-  sound_take = subst (λ (f : Floor). AreSound point f.spots) (sym is) (each_tidied (λ s. IsSound point s.queue s.slot) id (map (at_spot (changed taken_slot) id) old.spots) (sound_taken point old whole key id spot.0 spot.1 sound ready))
+  pub sound_take : AreSpotsSound point new.spots
+  sound_take = subst (λ (f : Floor). AreSpotsSound point f.spots) (sym is) (each_tidied (λ s. IsSlotSound point s.queue s.slot) id (map (at_spot (changed taken_slot) id) old.spots) (sound_taken point old whole key id spot.0 spot.1 sound ready))
 
   pub table_take : (key : List ℕ) (keys : List (List ℕ)) → old.closed ≡ key ∷ keys → table_on point new ≡ record (table_on point old) { rows = left_rows (rows_in old.spots) key; shut = keys }
   table_take other others again = λ i. record {
@@ -325,5 +325,5 @@ module _ (point id : ℕ) (old mid new : Floor) (whole : IsWhole old) (sound : A
   }
 
 -- and its slot is there still
-pub taken_there : (id : ℕ) (old mid : Floor) → TakesFirst old mid id → has_spot mid.spots id ≡ true
+pub taken_there : (id : ℕ) (old mid : Floor) → TakesFirstSpot old mid id → has_spot mid.spots id ≡ true
 taken_there id old mid takes = ap (λ (f : Floor). has_spot f.spots id) takes.taken ∙ has_same (changed taken_slot) (λ s. refl) id id old.spots ∙ has_number old.spots takes.key id takes.found

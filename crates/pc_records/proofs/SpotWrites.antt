@@ -10,12 +10,12 @@ use Rattle.pc_model.proofs.JoinLaws.{one_key}
 use Rattle.pc_model.proofs.PlaceLaws.{rest_at}
 use Rattle.pc_model.proofs.RisingLaws.{Rise}
 use Rattle.pc_slots.specs.declared.versions.Writer.{Writer}
-use Rattle.pc_slots.specs.Slots.{Slot, pending_in, write_of, settled, undone, IsSound}
+use Rattle.pc_slots.specs.Slots.{Slot, pending_in, write_of, settled, undone, IsSlotSound}
 use Rattle.pc_records.specs.Rows.{Row, record_of, is_in_open_set}
 use Rattle.pc_records.specs.RowSteps.{written_row, given}
 use Rattle.pc_records.specs.NewKeys.{with_new, new_keys}
 use Rattle.pc_records.specs.Tables.{value_of}
-use Rattle.pc_records.specs.Floor.{Spot, Floor, IsWhole, Each, AreSound, row_in, rows_in, writes_in, changed, at_key, at_writes, with_spot, number_of, newly_opened, newly_opened_key, newly_opened_keys, with_settled, with_undone}
+use Rattle.pc_records.specs.Floor.{Spot, Floor, IsFloorWhole, Each, AreSpotsSound, row_in, rows_in, writes_in, changed, at_key, at_writes, with_spot, number_of, newly_opened, newly_opened_key, newly_opened_keys, with_settled, with_undone}
 use Rattle.pc_records.proofs.Moments.{settled_key, row_settled, row_undone}
 use Rattle.pc_records.proofs.SpotLaws.{no, no_some, one_some, same_self, spot_of_key, record_in, write_in, found_record, found_write, key_found, each_by_key, each_map, key_map, spot_of_number, none_found, lacking_stay, found}
 
@@ -69,8 +69,8 @@ module _ (f : Slot → Slot) (keys : (s : Slot) → (f s).key ≡ s.key) (none :
       by_spot None is = by_none (is_some (written ws q))
       by_spot (Some s) is = by_test s (is_some (written ws s.slot.key)) ∙ ap (λ k. cond (is_some (written ws k)) None (pending_in s.slot)) (sym (key_found ss q s is))
 
-  pub sound_writes : (point : ℕ) → ((queue : Queue) (s : Slot) → IsSound point queue s → IsSound point queue (f s)) → (ws : List Write) (ss : List Spot) → AreSound point ss → AreSound point (map (at_writes (changed f) ws) ss)
-  sound_writes point each ws = each_map (λ s. IsSound point s.queue s.slot) (λ s. IsSound point s.queue s.slot) (at_writes (changed f) ws) (λ s sound. elim (is_some (written ws s.slot.key)) as (λ b. IsSound point (cond b (changed f s) s).queue (cond b (changed f s) s).slot) [ true ↦ each s.queue s.slot sound | false ↦ sound ])
+  pub sound_writes : (point : ℕ) → ((queue : Queue) (s : Slot) → IsSlotSound point queue s → IsSlotSound point queue (f s)) → (ws : List Write) (ss : List Spot) → AreSpotsSound point ss → AreSpotsSound point (map (at_writes (changed f) ws) ss)
+  sound_writes point each ws = each_map (λ s. IsSlotSound point s.queue s.slot) (λ s. IsSlotSound point s.queue s.slot) (at_writes (changed f) ws) (λ s sound. elim (is_some (written ws s.slot.key)) as (λ b. IsSlotSound point (cond b (changed f s) s).queue (cond b (changed f s) s).slot) [ true ↦ each s.queue s.slot sound | false ↦ sound ])
 
 -- the keys that go into the open set
 abbrev opened_in : List ℕ → Option Spot → List (List ℕ)
@@ -189,7 +189,7 @@ module _ (ss : List Spot) (rise : Rise (rows_in ss)) where
     rows_settled = all ss (each_by_key Stands ss rise one)
 
 -- and once they are undone
-pub rows_undone : (point : ℕ) (ws : List Write) (ss : List Spot) → AreSound point ss → rows_in (map (at_writes (changed (undone point)) ws) ss) ≡ rows_in ss
+pub rows_undone : (point : ℕ) (ws : List Write) (ss : List Spot) → AreSpotsSound point ss → rows_in (map (at_writes (changed (undone point)) ws) ss) ≡ rows_in ss
 rows_undone point ws [] sound = refl
 rows_undone point ws (s ∷ ss) sound = ap (λ (r : Row). r ∷ rows_in (map (at_writes (changed (undone point)) ws) ss)) (by_test (is_some (written ws s.slot.key))) ∙ ap (λ (rows : List Row). row_in s ∷ rows) (rows_undone point ws ss sound.1)
   where
@@ -211,13 +211,13 @@ module _ (floor : Floor) (key : List ℕ) where
   opens_key [] = refl
   opens_key (s ∷ ss) = elim (same_bytes key s.slot.key) as (λ b. cond b (opened_of (Some s)) (newly_opened_key ss key) ≡ opened_of (cond b (Some s) (spot_of_key ss key))) [ true ↦ refl | false ↦ opens_key ss ]
 
-  pub settled_there : (point id : ℕ) → IsWhole floor → number_of floor.spots key ≡ Some id → record (with_spot (changed (settled point)) id floor) { opened = floor.opened ++ newly_opened floor.spots id } ≡ with_settled point key floor
+  pub settled_there : (point id : ℕ) → IsFloorWhole floor → number_of floor.spots key ≡ Some id → record (with_spot (changed (settled point)) id floor) { opened = floor.opened ++ newly_opened floor.spots id } ≡ with_settled point key floor
   settled_there point id whole there =
       let f = found floor key id whole there in
       let opened : newly_opened floor.spots id ≡ newly_opened_key floor.spots key = opens_number id floor.spots ∙ ap opened_of (f.1.numbered ∙ sym f.1.at) ∙ sym (opens_key floor.spots) in
       λ i. record floor { spots = f.1.swaps (changed (settled point)) i; opened = floor.opened ++ opened i }
 
-  pub undone_there : (point id : ℕ) → IsWhole floor → number_of floor.spots key ≡ Some id → with_spot (changed (undone point)) id floor ≡ with_undone point key floor
+  pub undone_there : (point id : ℕ) → IsFloorWhole floor → number_of floor.spots key ≡ Some id → with_spot (changed (undone point)) id floor ≡ with_undone point key floor
   undone_there point id whole there = λ i. record floor { spots = (found floor key id whole there).1.swaps (changed (undone point)) i }
 
   module _ (none : number_of floor.spots key ≡ None) where

@@ -9,7 +9,7 @@ use Rattle.std.specs.FinMap.Entries.{below_all, by_order}
 use Rattle.pc_model.specs.Database.{key_cmp, KeysRise, same_bytes}
 use Rattle.pc_model.proofs.JoinLaws.{one_key}
 use Rattle.pc_model.proofs.RisingLaws.{both, none_below, Rise}
-use Rattle.pc_table.specs.Rows.{Row as TableRow, Contents, slot_of as table_slot, in_slot, with_record_in, HasRow, AreInSlots, with_row}
+use Rattle.pc_table.specs.Rows.{TableRow, Contents, slot_of as table_slot, in_slot, with_record_in, HasRow, AreInSlots, with_row}
 use Rattle.pc_table.proofs.RowLaws.{no_row, same_some, slot_found, one_place}
 use Rattle.pc_slots.specs.declared.cells.Cell.{Cell}
 use Rattle.pc_slots.specs.Slots.{Slot, slot_with, base_cell, new_slot}

@@ -1,10 +1,10 @@
 -- A link that is set in a row, and all that stays.
 use Rattle.std.proofs.Common.{◌≡◌, ◌≢◌, ℕ, ◌+◌, ◌≤◌, arith, List, [], ◌∷◌, map, Option, Some, None, option_map, is_some, refl, sym, ap, ◌∙◌, cond, Bool, true, false, eqb}
 use Rattle.std.proofs.lemmas.Bool.{eqb-true, eq-eqb}
-use Rattle.pc_chain.specs.declared.side.Place.{Place}
+use Rattle.pc_chain.specs.declared.side.SideSlot.{SideSlot}
 use Rattle.pc_chain.specs.declared.side.Side.{Side}
 use Rattle.pc_chain.specs.declared.side.Side.TheVariants.{First, Second}
-use Rattle.pc_table.specs.Rows.{Row as TableRow, Contents, in_slot, with_record_in, AreInSlots}
+use Rattle.pc_table.specs.Rows.{TableRow, Contents, in_slot, with_record_in, AreInSlots}
 use Rattle.pc_table.proofs.RowLaws.{same_some}
 use Rattle.pc_slots.specs.declared.cells.Cell.{Cell}
 use Rattle.pc_slots.specs.Words.{link_of, with_link, unlinked}
@@ -72,19 +72,19 @@ module _ (old new : Contents Cell) (keep : KeepRecords old new) where
   row_keeps n = sym (row_of (in_slot new.rows n)) ∙ (ap is_some (in_keep n) ∙ row_of (in_slot old.rows n))
 
 -- the link that was set, and the others of the cell
-link_here : (side : Side) (link : Option Place) (x : Cell) → link_of side (with_link side link x) ≡ link
+link_here : (side : Side) (link : Option SideSlot) (x : Cell) → link_of side (with_link side link x) ≡ link
 link_here First None x = refl
 link_here First (Some p) x = refl
 link_here Second None x = refl
 link_here Second (Some p) x = refl
 
-link_there : (side other : Side) (link : Option Place) (x : Cell) → other ≢ side → link_of other (with_link side link x) ≡ link_of other x
+link_there : (side other : Side) (link : Option SideSlot) (x : Cell) → other ≢ side → link_of other (with_link side link x) ≡ link_of other x
 link_there First First link x n = absurd (n refl)
 link_there First Second link x n = refl
 link_there Second First link x n = refl
 link_there Second Second link x n = absurd (n refl)
 
-unlinked_same : (side : Side) (link : Option Place) (x : Cell) → unlinked (with_link side link x) ≡ unlinked x
+unlinked_same : (side : Side) (link : Option SideSlot) (x : Cell) → unlinked (with_link side link x) ≡ unlinked x
 unlinked_same First None x = refl
 unlinked_same First (Some p) x = refl
 unlinked_same Second None x = refl
@@ -112,7 +112,7 @@ rows_there n x y (row ∷ rows) once e same = by_test (eqb row.1.0 n) once e (λ
         ∙ ap (λ (rs : List (TableRow Cell)). unlinked_row row ∷ rs) (rows_away n y rows (omega (arith, once)))
     by_test false once e rest = ap (λ (rs : List (TableRow Cell)). unlinked_row row ∷ rs) (rest once e)
 
-module _ (table : Contents Cell) (a : AreInSlots table) (place : Place) (next : Option Place) (x : Cell) (has : option_map (λ pair. pair.1) (in_slot table.rows place.slot) ≡ Some x) where
+module _ (table : Contents Cell) (a : AreInSlots table) (place : SideSlot) (next : Option SideSlot) (x : Cell) (has : option_map (λ pair. pair.1) (in_slot table.rows place.slot) ≡ Some x) where
   abbrev linked : List (TableRow Cell)
   linked = map (with_record_in place.slot (with_link place.side next x)) table.rows
 
@@ -122,7 +122,7 @@ module _ (table : Contents Cell) (a : AreInSlots table) (place : Place) (next : 
       ap (link_in place.side) (in_changed place.slot (with_link place.side next x) table.rows place.slot ∙ ap (changed_in place.slot (with_link place.side next x) place.slot) t.1)
       ∙ (ap (λ b. link_of place.side (cond b (with_link place.side next x) x)) (eq-eqb place.slot place.slot refl) ∙ link_here place.side next x)
 
-  pub link_kept : (other : Place) → other ≢ place → next_in linked other ≡ next_in table.rows other
+  pub link_kept : (other : SideSlot) → other ≢ place → next_in linked other ≡ next_in table.rows other
   link_kept other n = ap (link_in other.side) (in_changed place.slot (with_link place.side next x) table.rows other.slot) ∙ by_test (eqb other.slot place.slot) refl
     where
       here : other.slot ≡ place.slot → (o : Option (List ℕ × Cell)) → option_map (λ pair. pair.1) o ≡ Some x → link_in other.side (option_map (λ p. (p.0, with_link place.side next x)) o) ≡ link_in other.side o
@@ -140,5 +140,5 @@ module _ (table : Contents Cell) (a : AreInSlots table) (place : Place) (next : 
   pub records_kept : KeepRecords table (record table { rows = linked })
   records_kept = record { capacity = refl; rows = rows_there place.slot x (with_link place.side next x) table.rows (once_in First table a place.slot) has (unlinked_same place.side next x) }
 
-  pub place_stays : (other : Place) → HasPlace table.rows other → HasPlace linked other
+  pub place_stays : (other : SideSlot) → HasPlace table.rows other → HasPlace linked other
   place_stays other h = row_keeps table (record table { rows = linked }) records_kept other.slot ∙ h

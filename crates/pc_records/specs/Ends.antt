@@ -5,7 +5,7 @@ use Rattle.pc_locks.specs.Lines.{no_chain}
 use Rattle.pc_locks.specs.States.{Queues}
 use Rattle.pc_locks.specs.Keepers as keepers
 use Rattle.pc_chain.specs.declared.side.Side.{Side}
-use Rattle.pc_table.specs.Rows.{Row as TableRow, Contents, in_slot}
+use Rattle.pc_table.specs.Rows.{TableRow, Contents, in_slot}
 use Rattle.pc_slots.specs.declared.cells.Cell.{Cell}
 use Rattle.pc_records.specs.Slots.{slots_in}
 use Rattle.pc_records.specs.SetLists.{KeepSets}
@@ -21,7 +21,7 @@ abbrev pub ends_in : List (TableRow Cell) → ℕ → Chain ℕ
 ends_in rows slot = ends_of (in_slot rows slot)
 
 -- the queue of each slot
-abbrev pub queues_in : List (TableRow Cell) → keepers.Kept → Queues
+abbrev pub queues_in : List (TableRow Cell) → keepers.KeptRequests → Queues
 queues_in rows locks = keepers.queues_of (ends_in rows) locks
 
 -- all but the ends is in the second table as it was in the first

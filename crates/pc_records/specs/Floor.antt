@@ -11,11 +11,11 @@ use Rattle.pc_types.specs.declared.Write.{Write}
 use Rattle.pc_model.specs.Database.{KeysRise, key_cmp, same_bytes, written}
 use Rattle.pc_locks.specs.States.{Queues, queue_at}
 use Rattle.pc_model.specs.Queues.{stands_in, IsLegalQueue}
-use Rattle.pc_slots.specs.Slots.{Slot, new_slot, is_kept_slot, taken_slot, pinned, keeps_copy, committed, settled, undone, Pending, pending_in, IsSound}
+use Rattle.pc_slots.specs.Slots.{Slot, new_slot, is_kept_slot, taken_slot, pinned, keeps_copy, committed, settled, undone, Pending, pending_in, IsSlotSound}
 use Rattle.pc_records.specs.Rows.{Row}
 use Rattle.pc_records.specs.RowSteps.{released_rows}
 use Rattle.pc_records.specs.Slots.{with_entry}
-use Rattle.pc_records.specs.Tables.{Table, AreListed}
+use Rattle.pc_records.specs.Tables.{RecordsView, AreListed}
 
 -- a slot, and the queue of its key's requests
 pub record Spot : Type 0 where
@@ -111,7 +111,7 @@ abbrev pub tidied : ℕ → List Spot → List Spot
 tidied number spots = filter (λ spot. not (spot.slot.number == number) || is_needed spot) spots
 
 -- the first key of the closed set, whose slot has the number, was taken
-pub record TakesFirst (old new : Floor) (number : ℕ) : Type 0 where
+pub record TakesFirstSpot (old new : Floor) (number : ℕ) : Type 0 where
   pub key : List ℕ
   pub keys : List (List ℕ)
   pub first : old.closed ≡ key ∷ keys
@@ -170,7 +170,7 @@ writes_in [] = []
 writes_in (spot ∷ spots) = with_entry spot.slot.key (pending_in spot.slot) (writes_in spots)
 
 -- the records that stand on the floor, given the point of the last closed set
-abbrev pub table_on : ℕ → Floor → Table
+abbrev pub table_on : ℕ → Floor → RecordsView
 table_on point floor = record { capacity = floor.capacity; rows = rows_in floor.spots; pending = writes_in floor.spots; point = point; opened = floor.opened; shut = floor.closed }
 
 -- that holds of each of the spots
@@ -179,21 +179,21 @@ Each P [] = Unit {0}
 Each P (spot ∷ spots) = P spot × Each P spots
 
 -- no two of the spots have one number
-abbrev pub AreApart : List Spot → Type 0
-AreApart [] = Unit {0}
-AreApart (spot ∷ spots) = (has_spot spots spot.slot.number ≡ false) × AreApart spots
+abbrev pub AreSpotsApart : List Spot → Type 0
+AreSpotsApart [] = Unit {0}
+AreSpotsApart (spot ∷ spots) = (has_spot spots spot.slot.number ≡ false) × AreSpotsApart spots
 
 -- what a floor keeps: keys rise, each slot has a number of its own, no two granted requests conflict, and each key is listed
 -- exactly where it is in the set
-pub record IsWhole (floor : Floor) : Type 0 where
+pub record IsFloorWhole (floor : Floor) : Type 0 where
   pub rise : KeysRise (rows_in floor.spots)
-  pub apart : AreApart floor.spots
+  pub apart : AreSpotsApart floor.spots
   pub legal : Each (λ spot. IsLegalQueue spot.queue) floor.spots
   pub listed : AreListed (table_on 0 floor)
 
 -- each of the spots keeps what a slot keeps, given its queue and the point of the last closed set
-abbrev pub AreSound : ℕ → List Spot → Type 0
-AreSound point spots = Each (λ spot. IsSound point spot.queue spot.slot) spots
+abbrev pub AreSpotsSound : ℕ → List Spot → Type 0
+AreSpotsSound point spots = Each (λ spot. IsSlotSound point spot.queue spot.slot) spots
 
 -- the spot so changed, where it is the key's
 abbrev pub at_key : (Spot → Spot) → List ℕ → Spot → Spot
@@ -243,8 +243,8 @@ abbrev pub IsOver : ℕ → List Spot → Type 0
 IsOver t spots = (q : List ℕ) (p : Pending) → find key_cmp q (writes_in spots) ≡ Some p → (p.by == t) ≡ false
 
 -- a floor of which the spots were sound, once requests of the transaction are let go, which has no write in place
-pub record IsLeft (point t : ℕ) (old new : Floor) : Type 0 where
+pub record IsFloorReleased (point t : ℕ) (old new : Floor) : Type 0 where
   pub same : new ≡ record old { spots = new.spots }
   pub writes : writes_in new.spots ≡ writes_in old.spots
-  pub sound : AreSound point new.spots
+  pub sound : AreSpotsSound point new.spots
   pub rows : released_rows t (rows_in new.spots) ≡ released_rows t (rows_in old.spots)

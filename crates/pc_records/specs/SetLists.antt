@@ -1,26 +1,26 @@
 -- The two sets in the slots of a table: which slots are in them, and in which order.
 use Rattle.std.specs.Prelude.{◌≡◌, ℕ, ◌==◌, ◌||◌, ◌&&◌, not, Bool, false, List, [], ◌∷◌, map, Option, Some, None, is_some, if◌then◌else◌}
 use Rattle.std.specs.List.{list_any}
-use Rattle.pc_chain.specs.declared.side.Place.{Place}
+use Rattle.pc_chain.specs.declared.side.SideSlot.{SideSlot}
 use Rattle.pc_chain.specs.declared.side.Side.{Side}
 use Rattle.pc_chain.specs.declared.dirty.Dirty.{Dirty}
 use Rattle.pc_chain.specs.Sets.{other_side, AreSets, opened_of, closed_of}
-use Rattle.pc_table.specs.Rows.{Row as TableRow, Contents, in_slot, HasRow}
+use Rattle.pc_table.specs.Rows.{TableRow, Contents, in_slot, HasRow}
 use Rattle.pc_slots.specs.declared.cells.Cell.{Cell}
 use Rattle.pc_slots.specs.Slots.{writer_in}
 use Rattle.pc_slots.specs.Words.{Word, words_of, is_marked, link_of, unlinked}
 
 -- the slot has a row, and so a link on each side
-abbrev pub HasPlace : List (TableRow Cell) → Place → Type 0
+abbrev pub HasPlace : List (TableRow Cell) → SideSlot → Type 0
 HasPlace rows place = HasRow rows place.slot
 
 -- what the link of a slot with a row leads to
-abbrev pub link_in : Side → Option (List ℕ × Cell) → Option Place
+abbrev pub link_in : Side → Option (List ℕ × Cell) → Option SideSlot
 link_in side None = None
 link_in side (Some p) = link_of side p.1
 
 -- what the link of the place leads to
-abbrev pub next_in : List (TableRow Cell) → Place → Option Place
+abbrev pub next_in : List (TableRow Cell) → SideSlot → Option SideSlot
 next_in rows place = link_in place.side (in_slot rows place.slot)
 
 -- a slot with a row is marked on the side
@@ -42,7 +42,7 @@ abbrev pub is_listed : List ℕ → ℕ → Bool
 is_listed slots slot = list_any (λ x. x == slot) slots
 
 -- the sets are these two lists, which the links lead along, and each slot is marked exactly where it is in the list
-pub record AreLists (rows : List (TableRow Cell)) (sets : Dirty) (opened closed : List ℕ) : Type 0 where
+pub record AreSetLists (rows : List (TableRow Cell)) (sets : Dirty) (opened closed : List ℕ) : Type 0 where
   pub linked : AreSets (HasPlace rows) (next_in rows) sets opened closed
   pub open_marks : (slot : ℕ) → marked_in sets.side (in_slot rows slot) ≡ is_listed opened slot
   pub closed_marks : (slot : ℕ) → marked_in (other_side sets.side) (in_slot rows slot) ≡ is_listed closed slot
@@ -56,7 +56,7 @@ closed_slots rows sets = closed_of (next_in rows) sets
 
 -- the same of the slots that the links lead along
 abbrev pub IsListed : List (TableRow Cell) → Dirty → Type 0
-IsListed rows sets = AreLists rows sets (open_slots rows sets) (closed_slots rows sets)
+IsListed rows sets = AreSetLists rows sets (open_slots rows sets) (closed_slots rows sets)
 
 -- the keys of the open set, and of the closed one
 abbrev pub open_keys : List (TableRow Cell) → Dirty → List (List ℕ)

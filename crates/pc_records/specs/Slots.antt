@@ -4,11 +4,11 @@ use Rattle.pc_model.specs.Database.{KeysRise}
 use Rattle.pc_locks.specs.States.{Queues, queue_at}
 use Rattle.pc_chain.specs.declared.side.Side.{Side}
 use Rattle.pc_chain.specs.declared.side.Side.TheVariants.{First}
-use Rattle.pc_table.specs.Rows.{Row as TableRow}
+use Rattle.pc_table.specs.Rows.{TableRow}
 use Rattle.pc_slots.specs.declared.cells.Cell.{Cell}
 use Rattle.pc_slots.specs.Slots.{Slot, slot_with, base_cell, committed, pinned, Pending, pending_in}
 use Rattle.pc_records.specs.Rows.{Row}
-use Rattle.pc_records.specs.Tables.{Table}
+use Rattle.pc_records.specs.Tables.{RecordsView}
 
 -- the slot in a row of the table
 abbrev pub slot_in : Side → TableRow Cell → Slot
@@ -66,7 +66,7 @@ abbrev pub pending_of : List Slot → List (List ℕ × Pending)
 pending_of slots = entries_of pending_in slots
 
 -- what is seen of slots, given the queue of each number, the point of the last closed set, and the keys of the two sets
-abbrev pub table_of : ℕ → Queues → List Slot → ℕ → List (List ℕ) → List (List ℕ) → Table
+abbrev pub table_of : ℕ → Queues → List Slot → ℕ → List (List ℕ) → List (List ℕ) → RecordsView
 table_of capacity queues slots point opened shut = record { capacity = capacity; rows = rows_of queues slots; pending = pending_of slots; point = point; opened = opened; shut = shut }
 
 -- the numbers of the slots
@@ -79,7 +79,7 @@ times n [] = 0
 times n (m ∷ ms) = if m == n then times n ms + 1 else times n ms
 
 -- what slots and queues keep: the keys rise, each slot has a number of its own, and a number that no slot has has no request
-pub record AreKept (slots : List Slot) (queues : Queues) : Type 0 where
+pub record AreSlotsKept (slots : List Slot) (queues : Queues) : Type 0 where
   pub rise : KeysRise (rows_of no_queues slots)
   pub once : (n : ℕ) → times n (numbers_of slots) ≤ 1
   pub bare : (n : ℕ) → times n (numbers_of slots) ≡ 0 → queue_at queues n ≡ []

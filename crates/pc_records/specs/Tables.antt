@@ -13,7 +13,7 @@ use Rattle.pc_records.specs.Rows.{Row, Kept, record_of, stored, is_in_open_set, 
 
 -- the records: the rows, the writes of open transactions, rising by key, the point of the last closed set, and the keys of the
 -- open set and of the closed one, each in the order in which they came into it
-pub record Table : Type 0 where
+pub record RecordsView : Type 0 where
   pub capacity : ℕ
   pub rows : List Row
   pub pending : List (List ℕ × Pending)
@@ -22,11 +22,11 @@ pub record Table : Type 0 where
   pub shut : List (List ℕ)
 
 -- the rows and their limit alone
-abbrev pub kept_of : Table → Kept
+abbrev pub kept_of : RecordsView → Kept
 kept_of t = record { capacity = t.capacity; rows = t.rows }
 
 -- the write of an open transaction in the key's place
-abbrev pub pending_at : Table → List ℕ → Option Pending
+abbrev pub pending_at : RecordsView → List ℕ → Option Pending
 pending_at t key = find key_cmp key t.pending
 
 -- the value of a write
@@ -39,25 +39,25 @@ read_of None committed = committed
 read_of (Some p) committed = p.value
 
 -- what stands in the key's place
-abbrev pub latest : Table → List ℕ → Option (List ℕ)
+abbrev pub latest : RecordsView → List ℕ → Option (List ℕ)
 latest t key = read_of (pending_at t key) (stored (record_of t.rows key))
 
 -- no other transaction has a write in the key's place
-abbrev pub IsClearFor : Table → List ℕ → ℕ → Type 0
+abbrev pub IsClearFor : RecordsView → List ℕ → ℕ → Type 0
 IsClearFor t key transaction = MatchOption (pending_at t key) (Unit {0}) (λ p. p.by ≡ transaction)
 
 -- what stands of the key once this was asked to be written of another one, or of the same
-abbrev pub pending_after : Outcome → Table → List ℕ → Pending → List ℕ → Option Pending
+abbrev pub pending_after : Outcome → RecordsView → List ℕ → Pending → List ℕ → Option Pending
 pending_after Granted t key p q = if same_bytes key q then Some p else pending_at t q
 pending_after Queued t key p q = pending_at t q
 pending_after Died t key p q = pending_at t q
 
 -- what stands of the key once the transaction of these writes is over
-abbrev pub pending_without : List Write → Table → List ℕ → Option Pending
+abbrev pub pending_without : List Write → RecordsView → List ℕ → Option Pending
 pending_without writes t q = if is_some (written writes q) then None else pending_at t q
 
 -- each key is listed exactly where it is in the set
-pub record AreListed (t : Table) : Type 0 where
+pub record AreListed (t : RecordsView) : Type 0 where
   pub open_set : (q : List ℕ) → is_in_open_set (record_of t.rows q) ≡ is_among t.opened q
   pub closed_set : (q : List ℕ) → is_in_closed_set (record_of t.rows q) ≡ is_among t.shut q
 
@@ -67,7 +67,7 @@ first_pinned rows [] = None
 first_pinned rows (key ∷ keys) = Some (key, at_point (record_of rows key))
 
 -- the first key of the closed set, with what it has at the point
-abbrev pub first_content : Table → Option (List ℕ × Option (List ℕ))
+abbrev pub first_content : RecordsView → Option (List ℕ × Option (List ℕ))
 first_content t = first_pinned t.rows t.shut
 
 -- the key and the content behind the references

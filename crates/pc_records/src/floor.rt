@@ -5,7 +5,7 @@ ghost use Rattle.pc_model.specs.Maps.{get};
 ghost use Rattle.pc_model.specs.Database.{KeysRise, database_of};
 ghost use Rattle.pc_slots.specs.Slots.{nothing_aside, put_slot, settled, undone, closed_slot};
 ghost use Rattle.pc_records.specs.Tables.{content_behind};
-ghost use Rattle.pc_records.specs.Floor.{with_spot, changed, let_go, asked, queue_of, has_spot, stands_at, stands_anywhere, waits_anywhere, newly_opened, number_of, entered, new_spot, tidied, TakesFirst, first_of_closed, of_spot, copy_kept, committed_at, IsFirst, IsWhole};
+ghost use Rattle.pc_records.specs.Floor.{with_spot, changed, let_go, asked, queue_of, has_spot, stands_at, stands_anywhere, waits_anywhere, newly_opened, number_of, entered, new_spot, tidied, TakesFirstSpot, first_of_closed, of_spot, copy_kept, committed_at, IsFirst, IsFloorWhole};
 
 use crate::slots;
 use pc_chain::Dirty;
@@ -22,43 +22,43 @@ use std::marker::Model;
 /// The slots of keys, each with the queue of its requests, and the two sets. The locks have the requests of a slot at its number,
 /// and the slot has the ends of their queue; the sets are linked through the slots.
 #[derive(Drop)]
-pub(crate) struct Slots {
+pub(crate) struct KeySlots {
     table: Table<Cell>,
     locks: Locks,
     sets: Dirty,
 }
 
-impl Model for Slots {
+impl Model for KeySlots {
     ghost use Rattle.pc_locks.specs.Keepers.{AreEnds};
     ghost use Rattle.pc_records.specs.Floor.{Floor, floor_of};
     ghost use Rattle.pc_records.specs.Ends.{ends_in, queues_in};
-    ghost use Rattle.pc_records.specs.Slots.{slots_in, AreKept};
+    ghost use Rattle.pc_records.specs.Slots.{slots_in, AreSlotsKept};
     ghost use Rattle.pc_records.specs.SetLists.{IsListed, open_keys, closed_keys};
 
     ghost Value = { Floor };
 
     ghost view = { λ a. floor_of a.table.capacity (queues_in a.table.rows a.locks) (slots_in a.sets.side a.table.rows) (open_keys a.table.rows a.sets) (closed_keys a.table.rows a.sets) };
 
-    ghost invariant = { λ a. AreKept (slots_in a.sets.side a.table.rows) (queues_in a.table.rows a.locks) × AreEnds (ends_in a.table.rows) a.locks × IsListed a.table.rows a.sets };
+    ghost invariant = { λ a. AreSlotsKept (slots_in a.sets.side a.table.rows) (queues_in a.table.rows a.locks) × AreEnds (ends_in a.table.rows) a.locks × IsListed a.table.rows a.sets };
 }
 
-impl Slots {
+impl KeySlots {
     /// A slot for each pair, whose value is committed; both sets are empty, and no request stands. An error where memory ran out.
     pub(crate) fn of_pairs(
         alloc: Global,
         capacity: u32,
         pairs: &[(Key, Value)],
         seed: RandomState,
-    ) -> Result<Slots, AllocError>
+    ) -> Result<KeySlots, AllocError>
         requires rise { KeysRise pairs.now }
         requires capacity { capacity ≤ MOST_KEYS }
         ensures first { IfOk result (IsFirst capacity pairs.now) }
-        ensures whole { IfOk result IsWhole }
+        ensures whole { IfOk result IsFloorWhole }
     {
         let table = slots::table_of(alloc, capacity, pairs, seed)?;
         let locks = Locks::new(alloc);
         let sets = Dirty::new();
-        Ok(Slots { table, locks, sets })
+        Ok(KeySlots { table, locks, sets })
     }
 
     /// The number of the key's slot; None where it has none. It is looked for near the slot first.
@@ -124,7 +124,7 @@ impl Slots {
         ensures room { IfOk result (λ id. (length self.old.spots == self.old.capacity) ≡ false) }
         ensures refusal { IfErr result (λ e. e ≡ (if length self.old.spots == self.old.capacity then Refusal.Full else Refusal.OutOfMemory)) }
         ensures same { OnErr result (self.new ≡ self.old) }
-        ensures whole { IsWhole self.new }
+        ensures whole { IsFloorWhole self.new }
     {
         slots::make(alloc, &mut self.table, key)
     }
@@ -134,7 +134,7 @@ impl Slots {
         requires there { has_spot self.old.spots id ≡ true }
         requires room { write.room.value ≡ nothing_aside }
         ensures put { self.new ≡ with_spot (changed (put_slot point write.author.transaction write.author.class write.copy write.value)) id self.old }
-        ensures whole { IsWhole self.new }
+        ensures whole { IsFloorWhole self.new }
     {
         let side = self.sets.open_side();
         slots::put_at(&mut self.table, Stage { side, point }, id, write);
@@ -144,7 +144,7 @@ impl Slots {
     pub(crate) fn settle(&mut self, id: SlotId, point: Point)
         requires there { has_spot self.old.spots id ≡ true }
         ensures settled { self.new ≡ record (with_spot (changed (settled point)) id self.old) { opened = self.old.opened ++ newly_opened self.old.spots id } }
-        ensures whole { IsWhole self.new }
+        ensures whole { IsFloorWhole self.new }
     {
         slots::settle_slot(&mut self.table, &mut self.sets, id, point);
     }
@@ -153,7 +153,7 @@ impl Slots {
     pub(crate) fn undo(&mut self, id: SlotId, point: Point)
         requires there { has_spot self.old.spots id ≡ true }
         ensures undone { self.new ≡ with_spot (changed (undone point)) id self.old }
-        ensures whole { IsWhole self.new }
+        ensures whole { IsFloorWhole self.new }
     {
         let side = self.sets.open_side();
         slots::undo_slot(&mut self.table, Stage { side, point }, id);
@@ -163,7 +163,7 @@ impl Slots {
     pub(crate) fn tidy(&mut self, id: SlotId)
         requires there { has_spot self.old.spots id ≡ true }
         ensures tidied { self.new ≡ record self.old { spots = tidied id self.old.spots } }
-        ensures whole { IsWhole self.new }
+        ensures whole { IsFloorWhole self.new }
     {
         let side = self.sets.open_side();
         let is_requested = self.locks.has_request(&self.table, id);
@@ -176,7 +176,7 @@ impl Slots {
     pub(crate) fn close(&mut self)
         requires none { self.old.closed ≡ [] }
         ensures closed { self.new ≡ record self.old { spots = map (changed closed_slot) self.old.spots; opened = []; closed = self.old.opened } }
-        ensures whole { IsWhole self.new }
+        ensures whole { IsFloorWhole self.new }
     {
         self.sets.close(&self.table);
     }
@@ -205,9 +205,9 @@ impl Slots {
     /// Takes the first key of the closed set out of it, and gives its slot, which keeps no version aside any more; None where the set
     /// is empty.
     pub(crate) fn take_first(&mut self) -> Option<SlotId>
-        ensures taken { IfSome result (TakesFirst self.old self.new) }
+        ensures taken { IfSome result (TakesFirstSpot self.old self.new) }
         ensures none { IfNone result ((self.old.closed ≡ []) × (self.new ≡ self.old)) }
-        ensures whole { IsWhole self.new }
+        ensures whole { IsFloorWhole self.new }
     {
         let side = self.sets.open_side();
         match self.sets.pop_closed(&self.table) {
@@ -232,7 +232,7 @@ impl Slots {
         ensures told { IfOk result (λ answer. answer ≡ outcome (queue_of self.old.spots id) transaction mode) }
         ensures asked { IfOk result (λ answer. self.new ≡ with_spot (asked transaction mode answer) id self.old) }
         ensures same { OnErr result (self.new ≡ self.old) }
-        ensures whole { IsWhole self.new }
+        ensures whole { IsFloorWhole self.new }
     {
         self.locks.request(&mut self.table, transaction, id, mode)
     }
@@ -241,7 +241,7 @@ impl Slots {
     pub(crate) fn release_one(&mut self, transaction: TxnNo) -> Option<SlotId>
         ensures gone { IfSome result (λ id. (stands_at self.old.spots id transaction ≡ true) × (self.new ≡ with_spot (let_go transaction) id self.old)) }
         ensures none { IfNone result ((self.new ≡ self.old) × (stands_anywhere self.old.spots transaction ≡ false)) }
-        ensures whole { IsWhole self.new }
+        ensures whole { IsFloorWhole self.new }
     {
         self.locks.release_one(&mut self.table, transaction)
     }

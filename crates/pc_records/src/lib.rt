@@ -8,4 +8,4 @@ mod links;
 mod records;
 mod slots;
 
-pub use records::{Answer, Reading, Records};
+pub use records::{Reading, Records, Requested};

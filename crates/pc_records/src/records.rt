@@ -13,9 +13,9 @@ ghost use Rattle.pc_records.specs.Rows.{record_of, stored, is_in_closed_set, req
 ghost use Rattle.pc_records.specs.NewKeys.{new_keys};
 ghost use Rattle.pc_records.specs.RowSteps.{is_full_for, is_waiting, rows_after, released_rows, written_row, closed_row, left_rows, committed_row};
 ghost use Rattle.pc_records.specs.Tables.{kept_of, pending_at, value_of, latest, IsClearFor, pending_after, pending_without, AreListed, first_content, content_behind};
-ghost use Rattle.pc_records.specs.Floor.{IsWhole, AreSound, IsOver, IsLeft, standing, stands_anywhere, waits_anywhere, number_of, has_spot, with_spot, with_new_spot, asked, changed, with_settled, with_all_settled, with_undone, with_all_undone};
+ghost use Rattle.pc_records.specs.Floor.{IsFloorWhole, AreSpotsSound, IsOver, IsFloorReleased, standing, stands_anywhere, waits_anywhere, number_of, has_spot, with_spot, with_new_spot, asked, changed, with_settled, with_all_settled, with_undone, with_all_undone};
 
-use crate::floor::Slots;
+use crate::floor::KeySlots;
 use pc_slots::{Aside, Author, Writing};
 use pc_types::{Class, Key, MOST_KEYS, Mode, Outcome, Point, Refusal, SlotId, TxnNo, Value, Write};
 use std::alloc::{AllocError, Global};
@@ -24,7 +24,7 @@ use std::marker::Model;
 
 /// How a request was answered, and the slot in which its key was found or got a record.
 #[derive(Clone, Copy, Debug)]
-pub struct Answer {
+pub struct Requested {
     pub outcome: Outcome,
     pub slot: SlotId,
 }
@@ -41,19 +41,19 @@ pub struct Reading {
 /// closed set.
 #[derive(Drop)]
 pub struct Records {
-    slots: Slots,
+    slots: KeySlots,
     point: Point,
 }
 
 impl Model for Records {
-    ghost use Rattle.pc_records.specs.Tables.{Table};
-    ghost use Rattle.pc_records.specs.Floor.{table_on, IsWhole, AreSound};
+    ghost use Rattle.pc_records.specs.Tables.{RecordsView};
+    ghost use Rattle.pc_records.specs.Floor.{table_on, IsFloorWhole, AreSpotsSound};
 
-    ghost Value = { Table };
+    ghost Value = { RecordsView };
 
     ghost view = { λ a. table_on a.point a.slots };
 
-    ghost invariant = { λ a. IsWhole a.slots × AreSound a.point a.slots.spots };
+    ghost invariant = { λ a. IsFloorWhole a.slots × AreSpotsSound a.point a.slots.spots };
 }
 
 impl Records {
@@ -70,7 +70,7 @@ impl Records {
         requires capacity { (1 ≤ capacity) × (capacity ≤ MOST_KEYS) }
         ensures { IfOk result (λ r. r ≡ record { capacity = capacity; rows = map committed_row pairs.now; pending = []; point = 0; opened = []; shut = [] }) }
     {
-        let slots = Slots::of_pairs(alloc, capacity, pairs, seed)?;
+        let slots = KeySlots::of_pairs(alloc, capacity, pairs, seed)?;
         Ok(Records {
             slots,
             point: Point(0),
@@ -141,7 +141,7 @@ impl Records {
         class: Class,
         key: &Key,
         value: Option<Value>,
-    ) -> Result<Answer, Refusal>
+    ) -> Result<Requested, Refusal>
         requires ready { is_waiting self.old.rows transaction ≡ false }
         requires outside { class ≡ Before → is_in_closed_set (record_of self.old.rows key.now) ≡ false }
         requires again { (p : Pending) → pending_at self.old key.now ≡ Some p → p.by ≡ transaction → p.class ≡ class }
@@ -169,7 +169,7 @@ impl Records {
                     value,
                 };
                 put_granted(&mut self.slots, id, self.point, write, outcome);
-                Ok(Answer { outcome, slot: id })
+                Ok(Requested { outcome, slot: id })
             }
             None => {
                 let room = room_in(alloc, &self.slots)?;
@@ -182,7 +182,7 @@ impl Records {
                     value,
                 };
                 self.slots.put(id, self.point, write);
-                Ok(Answer {
+                Ok(Requested {
                     outcome: Outcome::Granted,
                     slot: id,
                 })
@@ -272,7 +272,7 @@ impl Records {
 
 // Room for what a slot that is still to be made keeps aside; it is refused with `Full` where there are as many slots as there
 // may be, and else only where memory ran out.
-fn room_in(alloc: Global, slots: &Slots) -> Result<Box<Aside>, Refusal>
+fn room_in(alloc: Global, slots: &KeySlots) -> Result<Box<Aside>, Refusal>
     ensures room { IfOk result (λ room. room.value ≡ nothing_aside) }
     ensures refusal { IfErr result (λ e. e ≡ (if length slots.now.spots == slots.now.capacity then Refusal.Full else Refusal.OutOfMemory)) }
 {
@@ -292,7 +292,7 @@ fn room_in(alloc: Global, slots: &Slots) -> Result<Box<Aside>, Refusal>
 // ran out nothing changed.
 fn request_new(
     alloc: Global,
-    slots: &mut Slots,
+    slots: &mut KeySlots,
     transaction: TxnNo,
     key: &Key,
     mode: Mode,
@@ -300,12 +300,12 @@ fn request_new(
     requires new { number_of slots.old.spots key.now ≡ None }
     requires ready { waits_anywhere slots.old.spots transaction ≡ false }
     ensures asked { IfOk result (λ id. slots.new ≡ with_spot (asked transaction mode Granted) id (with_new_spot id key.now slots.old)) }
-    ensures made { IfOk result (λ id. IsWhole (with_new_spot id key.now slots.old)) }
+    ensures made { IfOk result (λ id. IsFloorWhole (with_new_spot id key.now slots.old)) }
     ensures there { IfOk result (λ id. has_spot slots.new.spots id ≡ true) }
     ensures room { IfOk result (λ id. (length slots.old.spots == slots.old.capacity) ≡ false) }
     ensures refusal { IfErr result (λ e. e ≡ (if length slots.old.spots == slots.old.capacity then Refusal.Full else Refusal.OutOfMemory)) }
     ensures same { OnErr result (slots.new ≡ slots.old) }
-    ensures whole { IsWhole slots.new }
+    ensures whole { IsFloorWhole slots.new }
 {
     let id = slots.make(alloc, key)?;
     match slots.request(transaction, id, mode) {
@@ -318,12 +318,12 @@ fn request_new(
 }
 
 // The write stands in the slot where its request was granted.
-fn put_granted(slots: &mut Slots, id: SlotId, point: Point, write: Writing, answer: Outcome)
-    requires whole { IsWhole slots.old }
+fn put_granted(slots: &mut KeySlots, id: SlotId, point: Point, write: Writing, answer: Outcome)
+    requires whole { IsFloorWhole slots.old }
     requires there { has_spot slots.old.spots id ≡ true }
     requires room { write.room.value ≡ nothing_aside }
     ensures put { slots.new ≡ with_spot (changed (granted_slot answer point write.author.transaction write.author.class write.copy write.value)) id slots.old }
-    ensures whole { IsWhole slots.new }
+    ensures whole { IsFloorWhole slots.new }
 {
     if let Outcome::Granted = answer {
         slots.put(id, point, write);
@@ -331,12 +331,12 @@ fn put_granted(slots: &mut Slots, id: SlotId, point: Point, write: Writing, answ
 }
 
 // Removes the first request of the transaction, and frees its slot where nothing keeps it then; false where there is none.
-fn release_next(slots: &mut Slots, transaction: TxnNo) -> bool
-    requires whole { IsWhole slots.old }
-    ensures left { (point : ℕ) → AreSound point slots.old.spots → IsOver transaction slots.old.spots → IsLeft point transaction slots.old slots.new }
+fn release_next(slots: &mut KeySlots, transaction: TxnNo) -> bool
+    requires whole { IsFloorWhole slots.old }
+    ensures left { (point : ℕ) → AreSpotsSound point slots.old.spots → IsOver transaction slots.old.spots → IsFloorReleased point transaction slots.old slots.new }
     ensures fewer { result ≡ true → standing transaction slots.new.spots < standing transaction slots.old.spots }
     ensures done { result ≡ false → stands_anywhere slots.new.spots transaction ≡ false }
-    ensures whole { IsWhole slots.new }
+    ensures whole { IsFloorWhole slots.new }
 {
     match slots.release_one(transaction) {
         Some(slot) => {
@@ -348,20 +348,20 @@ fn release_next(slots: &mut Slots, transaction: TxnNo) -> bool
 }
 
 // Removes all requests of the transaction, one after the other.
-fn release(slots: &mut Slots, transaction: TxnNo)
-    requires whole { IsWhole slots.old }
-    ensures left { (point : ℕ) → AreSound point slots.old.spots → IsOver transaction slots.old.spots → IsLeft point transaction slots.old slots.new }
+fn release(slots: &mut KeySlots, transaction: TxnNo)
+    requires whole { IsFloorWhole slots.old }
+    ensures left { (point : ℕ) → AreSpotsSound point slots.old.spots → IsOver transaction slots.old.spots → IsFloorReleased point transaction slots.old slots.new }
     ensures done { stands_anywhere slots.new.spots transaction ≡ false }
-    ensures whole { IsWhole slots.new }
+    ensures whole { IsFloorWhole slots.new }
 {
     while release_next(slots, transaction) {}
 }
 
 // The write that stands in the key's place is committed; the key is looked for near the slot first.
-fn settle_key(slots: &mut Slots, key: &Key, near: Option<SlotId>, point: Point)
-    requires whole { IsWhole slots.old }
+fn settle_key(slots: &mut KeySlots, key: &Key, near: Option<SlotId>, point: Point)
+    requires whole { IsFloorWhole slots.old }
     ensures settled { slots.new ≡ with_settled point key.now slots.old }
-    ensures whole { IsWhole slots.new }
+    ensures whole { IsFloorWhole slots.new }
 {
     if let Some(id) = slots.find(key, near) {
         slots.settle(id, point);
@@ -370,11 +370,11 @@ fn settle_key(slots: &mut Slots, key: &Key, near: Option<SlotId>, point: Point)
 
 // These writes, no two of which have one key, are committed. The numbers are those of the slots where their keys were found, as
 // far as that is known.
-fn settle_all(slots: &mut Slots, writes: &[Write], numbers: &[u32], point: Point)
-    requires whole { IsWhole slots.old }
+fn settle_all(slots: &mut KeySlots, writes: &[Write], numbers: &[u32], point: Point)
+    requires whole { IsFloorWhole slots.old }
     requires distinct { AreDistinct writes.now }
     ensures settled { slots.new ≡ with_all_settled point writes.now slots.old }
-    ensures whole { IsWhole slots.new }
+    ensures whole { IsFloorWhole slots.new }
 {
     let mut found = numbers.iter();
     for write in writes {
@@ -384,10 +384,10 @@ fn settle_all(slots: &mut Slots, writes: &[Write], numbers: &[u32], point: Point
 }
 
 // The write that stands in the key's place is undone; the key is looked for near the slot first.
-fn undo_key(slots: &mut Slots, key: &Key, near: Option<SlotId>, point: Point)
-    requires whole { IsWhole slots.old }
+fn undo_key(slots: &mut KeySlots, key: &Key, near: Option<SlotId>, point: Point)
+    requires whole { IsFloorWhole slots.old }
     ensures undone { slots.new ≡ with_undone point key.now slots.old }
-    ensures whole { IsWhole slots.new }
+    ensures whole { IsFloorWhole slots.new }
 {
     if let Some(id) = slots.find(key, near) {
         slots.undo(id, point);
@@ -395,10 +395,10 @@ fn undo_key(slots: &mut Slots, key: &Key, near: Option<SlotId>, point: Point)
 }
 
 // These writes are undone. The numbers are those of `settle_all`.
-fn undo_all(slots: &mut Slots, writes: &[Write], numbers: &[u32], point: Point)
-    requires whole { IsWhole slots.old }
+fn undo_all(slots: &mut KeySlots, writes: &[Write], numbers: &[u32], point: Point)
+    requires whole { IsFloorWhole slots.old }
     ensures undone { slots.new ≡ with_all_undone point writes.now slots.old }
-    ensures whole { IsWhole slots.new }
+    ensures whole { IsFloorWhole slots.new }
 {
     let mut found = numbers.iter();
     for write in writes {

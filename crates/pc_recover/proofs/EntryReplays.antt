@@ -10,7 +10,7 @@ use Rattle.pc_model.specs.Database.{Database}
 use Rattle.pc_model.specs.Log.{after, is_token_of}
 use Rattle.pc_log.specs.declared.order.LastToken.{LastToken}
 use Rattle.pc_log.specs.Orders.{token_after}
-use Rattle.pc_log.specs.Reading.{entry_at, entries_at, Found, none_more, all_at}
+use Rattle.pc_log.specs.Reading.{entry_at, entries_at, LogReading, none_more, all_at}
 use Rattle.pc_log.proofs.TurnLaws.{all_go_on, all_stop}
 use Rattle.pc_recover.specs.Recovery.{entries_after}
 use Rattle.pc_recover.specs.declared.replaying.Replayed.{Replayed}
@@ -39,11 +39,11 @@ first_counts false point db (Token phase m) entries = by (is_token_of point phas
 -- ---- the loop
 
 -- what comes of it once the entries that were found are applied too, behind so many others
-abbrev pub to_come : Bool → ℕ → Database → ℕ → Found → Replay
+abbrev pub to_come : Bool → ℕ → Database → ℕ → LogReading → Replay
 to_come is_behind point db count found = record { pairs = after db (counting is_behind point found.entries); entries = count + length found.entries; fault = found.fault }
 
 -- before the first entry all of it is to come
-pub all_to_come : (is_behind : Bool) (point : ℕ) (db : Database) (found : Found) → is_behind ≡ (point == 0) → to_come is_behind point db 0 found ≡ found_replay point db found
+pub all_to_come : (is_behind : Bool) (point : ℕ) (db : Database) (found : LogReading) → is_behind ≡ (point == 0) → to_come is_behind point db 0 found ≡ found_replay point db found
 all_to_come is_behind point db found is =
     ap (λ (b : Bool). to_come b point db 0 found) is ∙ ap (λ (k : ℕ). record { pairs = after db (entries_after point found.entries); entries = k; fault = found.fault }) (omega arith)
 

@@ -6,7 +6,7 @@ use Rattle.pc_types.specs.declared.refusal.Refusal.{Refusal}
 use Rattle.pc_types.specs.Fields.{◌>>=◌}
 use Rattle.pc_model.specs.Database.{Database}
 use Rattle.pc_model.specs.Log.{after, behind, is_token_of}
-use Rattle.pc_log.specs.Reading.{Found}
+use Rattle.pc_log.specs.Reading.{LogReading}
 use Rattle.pc_recover.specs.declared.replaying.Replayed.{Replayed}
 use Rattle.pc_recover.specs.Recovery.{entries_after, log_of_run}
 
@@ -31,7 +31,7 @@ abbrev pub replay_of : ℕ → Database → List Entry → Option Refusal → Re
 replay_of point db entries fault = record { pairs = after db (entries_after point entries); entries = length entries; fault = fault }
 
 -- what all that was found in bytes makes of it
-abbrev pub found_replay : ℕ → Database → Found → Replay
+abbrev pub found_replay : ℕ → Database → LogReading → Replay
 found_replay point db found = replay_of point db found.entries found.fault
 
 -- what the bytes of the run's log make of it

@@ -19,7 +19,7 @@ IsTextOfShelf shelf bytes = (file : File) × IsMade shelf file × IsPartFile fil
 
 -- What came back of a world: the text of its base, and parts that are texts of files made of its shelf, or no texts of its run
 -- at all.
-pub record CameBack (w : Store) (base : List ℕ) (parts : List (List ℕ)) : Type 0 where
+pub record WorldCameBack (w : Store) (base : List ℕ) (parts : List (List ℕ)) : Type 0 where
   pub base_is : base ≡ base_text w.base
   pub base_fits : IsBaseFile w.base
   pub parts_are : All (λ bytes. IsTextOfShelf w.shelf bytes ⊎ IsForeign w.base.run bytes) parts
@@ -28,5 +28,5 @@ pub record CameBack (w : Store) (base : List ℕ) (parts : List (List ℕ)) : Ty
 -- is recovered is the database after the first entries, as far as those that are whole go, or the recovered point's token where
 -- that is further.
 abbrev pub EveryCutOfAWorldIsRecovered : Type 0
-EveryCutOfAWorldIsRecovered = (w : Store) (history : History) (base : List ℕ) (parts : List (List ℕ)) (c : ℕ) → Stands w history → CameBack w base parts →
+EveryCutOfAWorldIsRecovered = (w : Store) (history : History) (base : List ℕ) (parts : List (List ℕ)) (c : ℕ) → Stands w history → WorldCameBack w base parts →
     MatchResult (recovery base parts (take c (log_text w.base.run w.log))) (IsRestored w.base.run w.base.pairs w.log 0 parts c) (λ refusal. refusal ≡ Full)

@@ -8,7 +8,7 @@ use Rattle.pc_restore.specs.declared.recovery.PartBytes.{PartBytes}
 use Rattle.pc_types.specs.declared.refusal.Refusal.{Refusal}
 use Rattle.pc_restore.specs.declared.recovery.Lost.{Lost}
 use Rattle.pc_restore.specs.declared.recovery.Lost.TheVariants.{Part}
-use Rattle.pc_texts.specs.Files.{IsScriptFault, Holds, AreOpened}
+use Rattle.pc_texts.specs.Files.{IsScriptFault, HoldsBytes, AreOpened}
 use Rattle.pc_restore.specs.Recoveries.{HoldEach, IsEachLost, names_of, bytes_of}
 
 -- what all files hold is what was read and what the files left hold
@@ -27,7 +27,7 @@ module _ {R : Type 0} (remaining : R → Option (List ℕ)) (files : List (Named
   none_read names parts hold = (names, parts, hold, refl, refl)
 
   -- one more was read
-  pub one_more_read : (file : NamedFile R) (left : List (NamedFile R)) (read : List PartBytes) (part : PartBytes) → ((held : List ℕ) → Holds remaining file.opened held → (part.name.items ≡ file.name.items) × (part.bytes.items ≡ held))
+  pub one_more_read : (file : NamedFile R) (left : List (NamedFile R)) (read : List PartBytes) (part : PartBytes) → ((held : List ℕ) → HoldsBytes remaining file.opened held → (part.name.items ≡ file.name.items) × (part.bytes.items ≡ held))
       → HoldTheRest remaining files (file ∷ left) read → HoldTheRest remaining files left (read ++ part ∷ [])
   one_more_read file left read part is rest names parts hold =
       let so_far = rest names parts hold in

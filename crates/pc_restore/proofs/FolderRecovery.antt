@@ -11,7 +11,7 @@ use Rattle.pc_recover.specs.Recovery.{Recovery, recovery}
 use Rattle.pc_restore.specs.declared.recovery.Folder.{Folder}
 use Rattle.pc_restore.specs.declared.recovery.Lost.{Lost}
 use Rattle.pc_restore.specs.declared.recovery.Lost.TheVariants as lost
-use Rattle.pc_restore.specs.Recoveries.{GoesOut}
+use Rattle.pc_restore.specs.Recoveries.{GoesOutUnrecovered}
 use Rattle.pc_texts.proofs.Begun.{begins_kept, whole_begins}
 
 -- a refusal is for want of memory, or it isn't
@@ -25,7 +25,7 @@ pub same_recovery : (base other_base : List ℕ) (parts other_parts : List (List
 same_recovery base other_base parts other_parts log other_log r a b c is = rw (← a, ← b, ← c) is
 
 -- where it isn't the output that failed, nothing went out
-pub nothing_out : {R T : Type 0} (remaining : R → Option (List ℕ)) (contents : T → Option (List ℕ)) (folder : Folder R) (out : Tally T) (cause : Lost) → cause ≢ lost.Output → GoesOut remaining contents folder out out cause
+pub nothing_out : {R T : Type 0} (remaining : R → Option (List ℕ)) (contents : T → Option (List ℕ)) (folder : Folder R) (out : Tally T) (cause : Lost) → cause ≢ lost.Output → GoesOutUnrecovered remaining contents folder out out cause
 nothing_out remaining contents folder out (lost.Base why) other = refl
 nothing_out remaining contents folder out (lost.Part name why) other = refl
 nothing_out remaining contents folder out (lost.Log why) other = refl

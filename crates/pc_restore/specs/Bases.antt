@@ -15,7 +15,7 @@ use Rattle.pc_restore.specs.Reports.{damage_text}
 use Rattle.pc_restore.specs.Recoveries.{AreAllOpened, HoldsAll, IsLost}
 
 -- what the bytes of a base, of parts and of a log are worth, and of which run they are
-pub record IsWorth (base : List ℕ) (parts : List (List ℕ)) (log : List ℕ) (run : ℕ) (found : Recovery) : Type 0 where
+pub record AreBytesWorth (base : List ℕ) (parts : List (List ℕ)) (log : List ℕ) (run : ℕ) (found : Recovery) : Type 0 where
   pub recovered : recovery base parts log ≡ Ok found
   pub of_run : IsOfRun base run
 
@@ -29,11 +29,11 @@ TellsDamage contents old new names found = (told : Result (Unit {0}) Refusal) ×
 
 -- The base was made of a folder of which every file was opened, and stands at point 0. Where the files' bytes are known it is what
 -- they are worth, as the next run's base, and what is damaged was told.
-pub record IsMade {R T : Type 0} (remaining : R → Option (List ℕ)) (contents : T → Option (List ℕ)) (folder : Folder R) (old new : Tally T) (made : BaseFile) : Type 0 where
+pub record IsBaseMade {R T : Type 0} (remaining : R → Option (List ℕ)) (contents : T → Option (List ℕ)) (folder : Folder R) (old new : Tally T) (made : BaseFile) : Type 0 where
   pub opened : AreAllOpened folder
   pub start : made.point ≡ 0
   pub worth : (base : List ℕ) (names parts : List (List ℕ)) (log : List ℕ) → HoldsAll remaining folder base names parts log →
-      (run : ℕ) × (found : Recovery) × IsWorth base parts log run found × (made ≡ next_base run found) × TellsDamage contents old new names found
+      (run : ℕ) × (found : Recovery) × AreBytesWorth base parts log run found × (made ≡ next_base run found) × TellsDamage contents old new names found
 
 -- the next run's number, or the count of the pairs, is more than a base may have
 abbrev pub HasNoNext : ℕ → Recovery → Type 0
@@ -42,8 +42,8 @@ HasNoNext run found = (2 ^ 64 ≤ run + 1) ⊎ (MOST_FILE_ENTRIES < len found.pa
 -- something was recovered, but there is no base of it; said where the files' bytes are known
 abbrev pub IsPastLimits : {R : Type 0} → (R → Option (List ℕ)) → Folder R → Type 0
 IsPastLimits remaining folder = (base : List ℕ) (names parts : List (List ℕ)) (log : List ℕ) → HoldsAll remaining folder base names parts log →
-    (run : ℕ) × (found : Recovery) × IsWorth base parts log run found × HasNoNext run found
+    (run : ℕ) × (found : Recovery) × AreBytesWorth base parts log run found × HasNoNext run found
 
 -- why no base is made of a folder: nothing is recovered, or there is no base of it
-abbrev pub IsUnmade : {R : Type 0} → (R → Option (List ℕ)) → Folder R → Lost → Type 0
-IsUnmade remaining folder cause = (IsLost remaining folder cause × (cause ≢ lost.Output)) ⊎ ((cause ≡ lost.Folder Full) × AreAllOpened folder × IsPastLimits remaining folder)
+abbrev pub IsBaseUnmade : {R : Type 0} → (R → Option (List ℕ)) → Folder R → Lost → Type 0
+IsBaseUnmade remaining folder cause = (IsLost remaining folder cause × (cause ≢ lost.Output)) ⊎ ((cause ≡ lost.Folder Full) × AreAllOpened folder × IsPastLimits remaining folder)

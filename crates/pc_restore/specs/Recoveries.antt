@@ -14,7 +14,7 @@ use Rattle.pc_restore.specs.declared.recovery.PartBytes.{PartBytes}
 use Rattle.pc_restore.specs.declared.recovery.Lost.{Lost}
 use Rattle.pc_restore.specs.declared.recovery.Lost.TheVariants as lost
 use Rattle.pc_restore.specs.Reports.{recovery_text}
-use Rattle.pc_texts.specs.Files.{IsScriptFault, Holds, AreOpened, TellsOf}
+use Rattle.pc_texts.specs.Files.{IsScriptFault, HoldsBytes, AreOpened, TellsOf}
 
 -- the names of the parts, in their order
 abbrev pub names_of : List PartBytes → List (List ℕ)
@@ -32,7 +32,7 @@ HoldsLog remaining (Err why) bytes = (why ≡ NoFile) × (bytes ≡ [])
 -- files of these names hold these bytes, each its own
 abbrev pub HoldEach : {R : Type 0} → (R → Option (List ℕ)) → List (NamedFile R) → List (List ℕ) → List (List ℕ) → Type 0
 HoldEach remaining [] [] [] = ⊤
-HoldEach remaining (file ∷ files) (name ∷ names) (bytes ∷ parts) = (file.name.items ≡ name) × Holds remaining file.opened bytes × HoldEach remaining files names parts
+HoldEach remaining (file ∷ files) (name ∷ names) (bytes ∷ parts) = (file.name.items ≡ name) × HoldsBytes remaining file.opened bytes × HoldEach remaining files names parts
 HoldEach remaining files names parts = ⊥
 
 -- the parts of a folder that could be listed
@@ -42,7 +42,7 @@ HoldParts remaining (Err why) names parts = ⊥
 
 -- the folder holds this base, these parts by their names, and this log
 pub record HoldsAll {R : Type 0} (remaining : R → Option (List ℕ)) (folder : Folder R) (base : List ℕ) (names parts : List (List ℕ)) (log : List ℕ) : Type 0 where
-  pub base_holds : Holds remaining folder.base base
+  pub base_holds : HoldsBytes remaining folder.base base
   pub parts_hold : HoldParts remaining folder.parts names parts
   pub log_holds : HoldsLog remaining folder.log log
 
@@ -81,8 +81,8 @@ IsListLost (Ok files) cause = IsEachLost files.items cause
 IsListLost (Err why) cause = cause ≡ lost.Folder why
 
 -- the rules refuse what the files hold, or memory ran out
-abbrev pub IsRefused : {R : Type 0} → (R → Option (List ℕ)) → Folder R → Refusal → Type 0
-IsRefused remaining folder why =
+abbrev pub IsRecoveryRefused : {R : Type 0} → (R → Option (List ℕ)) → Folder R → Refusal → Type 0
+IsRecoveryRefused remaining folder why =
     (why ≡ OutOfMemory) ⊎ ((base : List ℕ) (names parts : List (List ℕ)) (log : List ℕ) → HoldsAll remaining folder base names parts log → recovery base parts log ≡ Err why)
 
 -- Why nothing was recovered. The files are read in order, and a fault is told only where all before it were opened: first the
@@ -92,7 +92,7 @@ abbrev pub IsLost : {R : Type 0} → (R → Option (List ℕ)) → Folder R → 
 IsLost remaining folder (lost.Base why) = IsScriptFault folder.base why
 IsLost remaining folder (lost.Part name why) = IsOk folder.base × IsListLost folder.parts (lost.Part name why)
 IsLost remaining folder (lost.Log why) = IsOk folder.base × ArePartsOpened folder.parts × IsLogFault folder.log why
-IsLost remaining folder (lost.Folder why) = (IsOk folder.base × IsListLost folder.parts (lost.Folder why)) ⊎ (AreAllOpened folder × IsRefused remaining folder why)
+IsLost remaining folder (lost.Folder why) = (IsOk folder.base × IsListLost folder.parts (lost.Folder why)) ⊎ (AreAllOpened folder × IsRecoveryRefused remaining folder why)
 IsLost remaining folder lost.Output = AreAllOpened folder
 
 -- a beginning of what is printed of what is recovered went out, and nothing else; said where the files' bytes are known
@@ -101,15 +101,15 @@ PrintsInPart remaining contents folder old new = (base : List ℕ) (names parts 
     (found : Recovery) × (recovery base parts log ≡ Ok found) × AppendsBeginning (contents (inner_of old)) (contents (inner_of new)) (recovery_text names found)
 
 -- what went out where nothing was recovered: a beginning where the output failed, which was counted, and else nothing
-abbrev pub GoesOut : {R T : Type 0} → (R → Option (List ℕ)) → (T → Option (List ℕ)) → Folder R → Tally T → Tally T → Lost → Type 0
-GoesOut remaining contents folder old new lost.Output = HasRisen (failures_of old) (failures_of new) × PrintsInPart remaining contents folder old new
-GoesOut remaining contents folder old new other = new ≡ old
+abbrev pub GoesOutUnrecovered : {R T : Type 0} → (R → Option (List ℕ)) → (T → Option (List ℕ)) → Folder R → Tally T → Tally T → Lost → Type 0
+GoesOutUnrecovered remaining contents folder old new lost.Output = HasRisen (failures_of old) (failures_of new) × PrintsInPart remaining contents folder old new
+GoesOutUnrecovered remaining contents folder old new other = new ≡ old
 
 -- what is told on the error writer, where the folder has this name: the name of the file or the folder, and the reason; of a
 -- fault of the output nothing
-abbrev pub IsTold : {T : Type 0} → (T → Option (List ℕ)) → Tally T → Tally T → List ℕ → Lost → Type 0
-IsTold contents old new dir (lost.Base why) = TellsOf contents old new (codes "base.pcb") why
-IsTold contents old new dir (lost.Part name why) = TellsOf contents old new name.items why
-IsTold contents old new dir (lost.Log why) = TellsOf contents old new (codes "log.pcl") why
-IsTold contents old new dir (lost.Folder why) = TellsOf contents old new dir why
-IsTold contents old new dir lost.Output = new ≡ old
+abbrev pub IsRecoveryTold : {T : Type 0} → (T → Option (List ℕ)) → Tally T → Tally T → List ℕ → Lost → Type 0
+IsRecoveryTold contents old new dir (lost.Base why) = TellsOf contents old new (codes "base.pcb") why
+IsRecoveryTold contents old new dir (lost.Part name why) = TellsOf contents old new name.items why
+IsRecoveryTold contents old new dir (lost.Log why) = TellsOf contents old new (codes "log.pcl") why
+IsRecoveryTold contents old new dir (lost.Folder why) = TellsOf contents old new dir why
+IsRecoveryTold contents old new dir lost.Output = new ≡ old

@@ -3,7 +3,7 @@ ghost use Rattle.std.specs.Prelude.{◌≡◌, ◌⊎◌, ◌+◌, ◌≤◌, �
 ghost use Rattle.pc_types.specs.declared.limits.TheConstants.{MOST_FILE_ENTRIES};
 ghost use Rattle.pc_model.specs.Database.{KeysRise, database_of};
 ghost use Rattle.pc_part.specs.Bases.{IsWithinLimit};
-ghost use Rattle.pc_restore.specs.Bases.{IsMade, IsUnmade};
+ghost use Rattle.pc_restore.specs.Bases.{IsBaseMade, IsBaseUnmade};
 
 use crate::recovery::{Folder, Lost, Worth, recover_read};
 use crate::reports::put_damage;
@@ -26,8 +26,8 @@ pub fn recover_base<R: Read + Drop, E: Write>(
     folder: Folder<R>,
     errors: &mut Tally<E>,
 ) -> Result<Base, Lost>
-    ensures made { IfOk result (IsMade R.remaining E.contents folder errors.old errors.new) }
-    ensures cause { IfErr result (λ lost. IsUnmade R.remaining folder lost × (errors.new ≡ errors.old)) }
+    ensures made { IfOk result (IsBaseMade R.remaining E.contents folder errors.old errors.new) }
+    ensures cause { IfErr result (λ lost. IsBaseUnmade R.remaining folder lost × (errors.new ≡ errors.old)) }
 {
     let Worth { parts, recovered } = recover_read(alloc, folder)?;
     match next_run(&recovered) {

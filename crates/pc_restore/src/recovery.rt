@@ -8,9 +8,9 @@ ghost use Rattle.pc_types.specs.Fields.{Gives};
 ghost use Rattle.pc_model.specs.Database.{KeysRise};
 ghost use Rattle.pc_recover.specs.Recovery.{IsOfRun, Recovery, recovery, recovery_of};
 ghost use Rattle.pc_restore.specs.declared.recovery.Lost.{Lost};
-ghost use Rattle.pc_texts.specs.Files.{IsScriptFault, Holds, AreOpened};
+ghost use Rattle.pc_texts.specs.Files.{IsScriptFault, HoldsBytes, AreOpened};
 ghost use Rattle.pc_restore.specs.Reports.{recovery_text};
-ghost use Rattle.pc_restore.specs.Recoveries.{AreAllOpened, ArePartsOpened, GoesOut, HoldsLog, HoldEach, HoldParts, HoldsAll, IsEachLost, IsListLost, IsLogFault, IsLogOpened, IsLost, IsTold, bytes_of, names_of};
+ghost use Rattle.pc_restore.specs.Recoveries.{AreAllOpened, ArePartsOpened, GoesOutUnrecovered, HoldsLog, HoldEach, HoldParts, HoldsAll, IsEachLost, IsListLost, IsLogFault, IsLogOpened, IsLost, IsRecoveryTold, bytes_of, names_of};
 
 use crate::reports::put_recovered;
 use pc_recover::{Recovered, recover};
@@ -74,8 +74,8 @@ pub fn run_recover<R: Read + Drop, W: Write, E: Write>(
         (found : Recovery) × (recovery base parts log ≡ Ok found) × Appends (W.contents (inner_of out.old)) (W.contents (inner_of out.new)) (recovery_text names found) }
     ensures sound { result ≡ 0 → failures_of out.new ≡ failures_of out.old }
     ensures quiet { result ≡ 0 → Keeps (E.contents (inner_of errors.old)) (E.contents (inner_of errors.new)) }
-    ensures cause { result ≡ 1 → (lost : Lost) × IsLost R.remaining folder lost × GoesOut R.remaining W.contents folder out.old out.new lost
-        × IsTold E.contents errors.old errors.new dir.now lost }
+    ensures cause { result ≡ 1 → (lost : Lost) × IsLost R.remaining folder lost × GoesOutUnrecovered R.remaining W.contents folder out.old out.new lost
+        × IsRecoveryTold E.contents errors.old errors.new dir.now lost }
 {
     match recover_folder(alloc, folder, out) {
         Ok(()) => 0,
@@ -95,7 +95,7 @@ fn recover_folder<R: Read + Drop, W: Write>(
         (found : Recovery) × (recovery base parts log ≡ Ok found) × Appends (W.contents (inner_of out.old)) (W.contents (inner_of out.new)) (recovery_text names found)) }
     ensures sound { OnOk result (failures_of out.new ≡ failures_of out.old) }
     ensures cause { IfErr result (IsLost R.remaining folder) }
-    ensures goes_out { IfErr result (GoesOut R.remaining W.contents folder out.old out.new) }
+    ensures goes_out { IfErr result (GoesOutUnrecovered R.remaining W.contents folder out.old out.new) }
 {
     let Worth { parts, recovered } = recover_read(alloc, folder)?;
     let put = put_recovered(out, &parts, &recovered);
@@ -137,7 +137,7 @@ pub(crate) fn recover_read<R: Read + Drop>(alloc: Global, folder: Folder<R>) -> 
 /// Writes the line that tells why nothing is recovered of the folder of this name: by the name of the file or the folder. Of a
 /// fault of the output it tells nothing.
 pub fn tell_lost<E: Write>(dir: &[u8], lost: &Lost, errors: &mut Tally<E>)
-    ensures { IsTold E.contents errors.old errors.new dir.now lost.now }
+    ensures { IsRecoveryTold E.contents errors.old errors.new dir.now lost.now }
 {
     let _ = match lost {
         Lost::Base(why) => report(b"base.pcb", *why, errors),
@@ -241,7 +241,7 @@ fn push_part(read: &mut Vec<PartBytes>, part: PartBytes) -> Result<(), Lost>
 }
 
 fn read_part<R: Read + Drop>(alloc: Global, file: NamedFile<R>) -> Result<PartBytes, Lost>
-    ensures held { (held : List ℕ) → Holds R.remaining file.opened held → IfOk result (λ part. (part.name.items ≡ file.name.items) × (part.bytes.items ≡ held)) }
+    ensures held { (held : List ℕ) → HoldsBytes R.remaining file.opened held → IfOk result (λ part. (part.name.items ≡ file.name.items) × (part.bytes.items ≡ held)) }
     ensures opened { OnOk result (IsOk file.opened) }
     ensures cause { IfErr result (λ lost. (why : Refusal) × (lost ≡ Lost.Part file.name why) × IsScriptFault file.opened why) }
 {

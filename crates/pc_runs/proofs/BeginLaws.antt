@@ -7,8 +7,8 @@ use Rattle.pc_types.specs.declared.refusal.Refusal.TheVariants.{OutOfMemory}
 use Rattle.pc_model.specs.Replies.{Setting}
 use Rattle.pc_jobs.specs.Workloads.{reading_of}
 use Rattle.pc_jobs.specs.declared.works.Workload.{Workload}
-use Rattle.pc_jobs.specs.declared.workloads.Reading.{Reading}
-use Rattle.pc_jobs.specs.declared.workloads.Reading.TheVariants as reading
+use Rattle.pc_jobs.specs.declared.workloads.WorkloadReading.{WorkloadReading}
+use Rattle.pc_jobs.specs.declared.workloads.WorkloadReading.TheVariants as reading
 use Rattle.pc_texts.specs.Files.{IsScriptFault}
 use Rattle.pc_threads.specs.declared.fault.Fault.{Fault}
 use Rattle.pc_threads.specs.declared.fault.Fault.TheVariants as fault
@@ -17,16 +17,16 @@ use Rattle.pc_runs.specs.declared.failure.Failure.TheVariants as failure
 use Rattle.pc_runs.specs.declared.files.RunFolder.{RunFolder}
 use Rattle.pc_runs.specs.declared.origin.Start.{Start}
 use Rattle.pc_runs.specs.declared.origin.Start.TheVariants as start
-use Rattle.pc_runs.specs.Faults.{Ends}
-use Rattle.pc_runs.specs.Runs.{Beginning, Begun, NotBegun, Unstarted, CanRun, IsReadAs, IsUnanswered, IsUnstarted, IsUsable}
+use Rattle.pc_runs.specs.Faults.{EndsRun}
+use Rattle.pc_runs.specs.Runs.{Beginning, Begun, NotBegun, Unstarted, CanRun, IsWorkloadReadAs, IsRunUnanswered, IsUnstarted, IsUsable}
 
 if_some : {X : Type 0} (o : Option X) (P Q : X → Type 0) → ((x : X) → P x → Q x) → IfSome o P → IfSome o Q
 if_some None P Q on has = tt
 if_some (Some x) P Q on has = on x has
 
 -- what was read of the file is worth what its text is read as
-pub read_as : {R : Type 0} (remaining : R → Option (List ℕ)) (opened : Result R Refusal) (bytes text : List ℕ) (some worth : Reading)
-    → IfOk opened (λ reader. IfSome (remaining reader) (λ script. bytes ≡ script)) → text ≡ bytes → some ≡ reading_of text → some ≡ worth → IsReadAs remaining opened worth
+pub read_as : {R : Type 0} (remaining : R → Option (List ℕ)) (opened : Result R Refusal) (bytes text : List ℕ) (some worth : WorkloadReading)
+    → IfOk opened (λ reader. IfSome (remaining reader) (λ script. bytes ≡ script)) → text ≡ bytes → some ≡ reading_of text → some ≡ worth → IsWorkloadReadAs remaining opened worth
 read_as remaining (Err why) bytes text some worth script same reads is = tt
 read_as remaining (Ok reader) bytes text some worth script same reads is =
     if_some (remaining reader) (λ (held : List ℕ). bytes ≡ held) (λ (held : List ℕ). reading_of held ≡ worth)
@@ -39,19 +39,19 @@ out_of_memory (Err absent) why there is = absurd (false≢true there)
 
 module _ {R D : Type 0} (remaining : R → Option (List ℕ)) (folder : Option (RunFolder D)) (begins : Beginning → Type 0) where
   -- the workload couldn't be read
-  pub unread : (opened : Result R Refusal) (why : Refusal) → IsScriptFault opened why → begins NotBegun → IsUnanswered remaining opened folder begins (failure.Run (fault.Refused why))
+  pub unread : (opened : Result R Refusal) (why : Refusal) → IsScriptFault opened why → begins NotBegun → IsRunUnanswered remaining opened folder begins (failure.Run (fault.Refused why))
   unread opened why fault none = inl (fault, none)
 
   -- the run has begun, and failed
-  pub run_failed : (opened : Result R Refusal) (workload : Workload) (why : Fault) (st : Setting) → IsOk opened → IsReadAs remaining opened (reading.Runs workload) → IsUsable folder → begins (Begun st)
-      → Ends st workload (is_some folder) why → IsUnanswered remaining opened folder begins (failure.Run why)
+  pub run_failed : (opened : Result R Refusal) (workload : Workload) (why : Fault) (st : Setting) → IsOk opened → IsWorkloadReadAs remaining opened (reading.Runs workload) → IsUsable folder → begins (Begun st)
+      → EndsRun st workload (is_some folder) why → IsRunUnanswered remaining opened folder begins (failure.Run why)
   run_failed opened workload (fault.Refused why) st there read usable begun ends = inr (there, usable, (workload, read, (st, begun, ends)))
   run_failed opened workload (fault.Unmade name why) st there read usable begun ends = (there, usable, (workload, read, (st, begun, ends)))
   run_failed opened workload fault.NoThread st there read usable begun ends = (there, usable, (workload, read, (st, begun, ends)))
 
   -- it has nothing to start from
   pub not_started : {S : Type 0} (theirs : S → Option (List ℕ)) (opened : Result R Refusal) (first : Start S) (why : Failure) → CanRun remaining opened → IsUsable folder
-      → IsUnstarted theirs first why → begins (Unstarted why) → IsUnanswered remaining opened folder begins why
+      → IsUnstarted theirs first why → begins (Unstarted why) → IsRunUnanswered remaining opened folder begins why
   not_started theirs opened (start.Folder old) (failure.Start name lost) can usable is begun = (can, usable, begun)
   not_started theirs opened (start.Folder old) (failure.Run why) can usable is begun = absurd is
   not_started theirs opened (start.Folder old) (failure.Folder name why) can usable is begun = absurd is

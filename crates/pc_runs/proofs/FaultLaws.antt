@@ -24,12 +24,12 @@ use Rattle.pc_texts.specs.declared.file_names.FileName.{FileName}
 use Rattle.pc_texts.proofs.StatePairLaws.{pairs_of}
 use Rattle.pc_outcomes.specs.Leaving.{IsMissing, IsUntoldAfter, has_point}
 use Rattle.pc_threads.specs.Clients.{clients_in, jobs_of, transactions_in}
-use Rattle.pc_threads.specs.Faults.{IsEnd, IsLost}
+use Rattle.pc_threads.specs.Faults.{IsThreadsEnd, IsFileLost}
 use Rattle.pc_threads.specs.Files.{HasWritten}
 use Rattle.pc_threads.specs.declared.fault.Fault.{Fault}
 use Rattle.pc_threads.specs.declared.fault.Fault.TheVariants as fault
 use Rattle.pc_workers.specs.Covering.{HaveJustTo, HaveOnlyTo}
-use Rattle.pc_runs.specs.Faults.{Ends, IsRefused}
+use Rattle.pc_runs.specs.Faults.{EndsRun, IsRunRefused}
 use Rattle.pc_runs.specs.Folders.{HasBegunFiles}
 use Rattle.pc_runs.proofs.DealingLaws.{same_total, total}
 
@@ -57,11 +57,11 @@ folder_there holds points None (Some new) files written = absurd written
 folder_there holds points (Some old) None files written = absurd written
 
 -- a file that was lost to the device
-pub device_lost : (name : FileName) (given : Fault) (cause : Refusal) → given ≡ fault.Refused cause → cause ≡ why.Device → IsLost name given
-device_lost name given cause is device = subst (IsLost name) (sym is) device
+pub device_lost : (name : FileName) (given : Fault) (cause : Refusal) → given ≡ fault.Refused cause → cause ≡ why.Device → IsFileLost name given
+device_lost name given cause is device = subst (IsFileLost name) (sym is) device
 
 -- it is one of two
-pub later_lost : {T : Type 0} (result : Result T Fault) (a b : FileName) → IfErr result (IsLost b) → IfErr result (λ given. IsLost a given ⊎ IsLost b given)
+pub later_lost : {T : Type 0} (result : Result T Fault) (a b : FileName) → IfErr result (IsFileLost b) → IfErr result (λ given. IsFileLost a given ⊎ IsFileLost b given)
 later_lost (Ok made) a b lost = tt
 later_lost (Err given) a b lost = inr lost
 
@@ -75,7 +75,7 @@ one_there false false false false x y z is = cc (is)
 
 module _ (st : Setting) (workload : Workload) (there : Bool) where
   -- a fault of the threads
-  pub of_threads : (writes : Bool) (count : ℕ) (given : Fault) → (IsTrue writes → IsTrue there) → count ≡ transactions_in workload.clients → IsEnd writes count workload.points given → Ends st workload there given
+  pub of_threads : (writes : Bool) (count : ℕ) (given : Fault) → (IsTrue writes → IsTrue there) → count ≡ transactions_in workload.clients → IsThreadsEnd writes count workload.points given → EndsRun st workload there given
   of_threads writes count (fault.Refused why.OutOfMemory) on same end = tt
   of_threads writes count (fault.Refused why.Device) on same end = on end
   of_threads writes count (fault.Refused why.Full) on same (inl many) = inr (inl (omega (arith, same, many)))
@@ -88,29 +88,29 @@ module _ (st : Setting) (workload : Workload) (there : Bool) where
   of_threads writes count (fault.Unmade file why) on same end = on end
   of_threads writes count fault.NoThread on same end = tt
 
-  pub memory_ends : (given : Fault) → given ≡ fault.Refused why.OutOfMemory → Ends st workload there given
-  memory_ends given is = subst (Ends st workload there) (sym is) tt
+  pub memory_ends : (given : Fault) → given ≡ fault.Refused why.OutOfMemory → EndsRun st workload there given
+  memory_ends given is = subst (EndsRun st workload there) (sym is) tt
 
   -- one of a file of the folder
-  pub lost_ends : (name : FileName) (given : Fault) → IsTrue there → IsLost name given → Ends st workload there given
-  lost_ends name (fault.Refused why) is lost = subst (IsRefused st workload there) (sym lost) is
+  pub lost_ends : (name : FileName) (given : Fault) → IsTrue there → IsFileLost name given → EndsRun st workload there given
+  lost_ends name (fault.Refused why) is lost = subst (IsRunRefused st workload there) (sym lost) is
   lost_ends name (fault.Unmade file why) is lost = is
   lost_ends name fault.NoThread is lost = absurd lost
 
   -- the base's file, or that of the log
-  pub begins_badly : (a b : FileName) (given : Fault) → IsTrue there → IsLost a given ⊎ IsLost b given → Ends st workload there given
+  pub begins_badly : (a b : FileName) (given : Fault) → IsTrue there → IsFileLost a given ⊎ IsFileLost b given → EndsRun st workload there given
   begins_badly a b given is (inl lost) = lost_ends a given is lost
   begins_badly a b given is (inr lost) = lost_ends b given is lost
 
   -- a store that can't be opened
-  pub not_opened : (given : Refusal) → ((given ≡ why.Full) × (st.capacity < len st.base)) ⊎ (given ≡ why.OutOfMemory) → IsRefused st workload there given
-  not_opened given (inl (full, few)) = subst (IsRefused st workload there) (sym full) (inl few)
-  not_opened given (inr memory) = subst (IsRefused st workload there) (sym memory) tt
+  pub not_opened : (given : Refusal) → ((given ≡ why.Full) × (st.capacity < len st.base)) ⊎ (given ≡ why.OutOfMemory) → IsRunRefused st workload there given
+  not_opened given (inl (full, few)) = subst (IsRunRefused st workload there) (sym full) (inl few)
+  not_opened given (inr memory) = subst (IsRunRefused st workload there) (sym memory) tt
 
   -- a session that isn't there
-  pub seatless : (given : Refusal) → (given ≡ why.NoSession) ⊎ (given ≡ why.OutOfMemory) → IsRefused st workload there given
-  seatless given (inl none) = subst (IsRefused st workload there) (sym none) tt
-  seatless given (inr memory) = subst (IsRefused st workload there) (sym memory) tt
+  pub seatless : (given : Refusal) → (given ≡ why.NoSession) ⊎ (given ≡ why.OutOfMemory) → IsRunRefused st workload there given
+  seatless given (inl none) = subst (IsRunRefused st workload there) (sym none) tt
+  seatless given (inr memory) = subst (IsRunRefused st workload there) (sym memory) tt
 
 -- the base has more pairs than there is room for
 pub too_large : (capacity : ℕ) (items : List (List ℕ × List ℕ)) (pairs : Database) → KeysRise items → database_of items ≡ pairs → capacity < length items → capacity < len pairs
@@ -136,7 +136,7 @@ some_points run base log points (f ∷ files) worth some only =
 
 -- nothing is told of what is left
 pub untold_ends : (st : Setting) (workload : Workload) (there : Bool) (log : List Entry) (files : List File) (given : Refusal) → All (IsOfItsPoints st.run st.base log) files → HaveJustTo workload.points files
-    → IsUntoldAfter files given → IsRefused st workload there given
+    → IsUntoldAfter files given → IsRunRefused st workload there given
 untold_ends st workload there log files why.OutOfMemory worth just untold = tt
 untold_ends st workload there log files why.Full worth just untold = inr (inr (some_points st.run st.base log workload.points files worth untold just.1))
 untold_ends st workload there log files (why.Gap point) worth just (some, missing, (later, behind, has)) =

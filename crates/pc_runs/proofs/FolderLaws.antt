@@ -15,7 +15,7 @@ use Rattle.pc_part.specs.Texts.{base_text, part_text}
 use Rattle.pc_texts.specs.declared.file_names.FileName.{FileName}
 use Rattle.pc_texts.specs.declared.file_names.FileName.TheVariants.{Base, Part, Log}
 use Rattle.pc_workers.specs.Logging.{rest_text}
-use Rattle.pc_threads.specs.Files.{HasParts, HasWritten, KeepsOthers}
+use Rattle.pc_threads.specs.Files.{HasParts, HasWritten, KeepsOtherFiles}
 use Rattle.pc_threads.specs.Logs.{HasLogged}
 use Rattle.pc_runs.specs.Folders.{HasBegunFiles, HasFinished, LeavesFiles}
 
@@ -35,7 +35,7 @@ module _ (base : BaseFile) (log : List Entry) where
   is_one : (file : File) (point : ℕ) → IsOfItsPoints base.run base.pairs log file → file.points ≡ set.insert set.empty point → part_text file ≡ part_text (one_point point)
   is_one file point worth is = ap part_text (worth.is ∙ ap (λ (points : Set number_order). file_of base.run base.pairs log points) is)
 
-  parts_left : (had has : FileName → List ℕ → Type 0) (points : ℕ) (files : List File) → KeepsOthers had has Log → length files ≡ points → HasParts had files → All (IsOfItsPoints base.run base.pairs log) files
+  parts_left : (had has : FileName → List ℕ → Type 0) (points : ℕ) (files : List File) → KeepsOtherFiles had has Log → length files ≡ points → HasParts had files → All (IsOfItsPoints base.run base.pairs log) files
       → (point : ℕ) → 1 ≤ point → point ≤ points → has (Part point) (part_text (one_point point))
   parts_left had has points files keeps count parts worth (suc place) low high =
       let default : File = one_point 0 in

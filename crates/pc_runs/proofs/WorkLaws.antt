@@ -8,7 +8,7 @@ use Rattle.pc_model.specs.History.{History, log_of}
 use Rattle.pc_model.specs.Replies.{Setting}
 use Rattle.pc_jobs.specs.declared.works.Client.{Client}
 use Rattle.pc_jobs.specs.Dealing.{IsDealt}
-use Rattle.pc_shared.specs.Sitters.{Sitter, IsSettled, HasAll, is_there, new_sitters, sitter}
+use Rattle.pc_shared.specs.Sitters.{Sitter, IsSitterSettled, HasAll, is_there, new_sitters, sitter}
 use Rattle.pc_workers.specs.Clients.{marked}
 use Rattle.pc_threads.specs.Clients.{HasWorked, HaveWorked, IsFresh, clients_in, jobs_of}
 use Rattle.pc_runs.specs.Worked.{HasRunBy, HaveRunBy, commits_of, is_taken, left_over}
@@ -26,11 +26,11 @@ module _ (st : Setting) (h : History) where
   same_left (c ∷ clients) = ap (λ n. left_of c + n) (same_left clients)
 
   -- what the session has committed is what its receipts say
-  committed : (s : Sitter) → IsSettled st h s → commits_of s.number (log_of h) ≡ written_in s.receipts
+  committed : (s : Sitter) → IsSitterSettled st h s → commits_of s.number (log_of h) ≡ written_in s.receipts
   committed s settled = receipts_are_commits s.number h ∙ ap written_in (sym settled.own)
 
   -- a client that has worked
-  client_ran : (client : Client) (own : ℕ) (session : Sitter) → HasWorked st client own session → IsSettled st h session → HasRunBy st h client × (own ≡ left_of client)
+  client_ran : (client : Client) (own : ℕ) (session : Sitter) → HasWorked st client own session → IsSitterSettled st h session → HasRunBy st h client × (own ≡ left_of client)
   client_ran client own session has settled =
       let ran = has.run in
       let is : commits_of client.session (log_of h) ≡ marked ran.marks (jobs_of client) =
@@ -39,26 +39,26 @@ module _ (st : Setting) (h : History) where
       let calls : HasCallsOf h client.session session.seen = subst (λ n. HasCallsOf h n session.seen) ran.committed.number settled.calls in
       (record { marks = ran.marks; one_each = ran.one_each; commits = is; seen = session.seen; calls = calls; done = has.done refl }, omega (arith, has.all, count, ran.count))
 
-  clients_ran : (clients : List Client) (given_up : ℕ) (sessions : List Sitter) → HaveWorked st clients given_up sessions → All (IsSettled st h) sessions
+  clients_ran : (clients : List Client) (given_up : ℕ) (sessions : List Sitter) → HaveWorked st clients given_up sessions → All (IsSitterSettled st h) sessions
       → All (HasRunBy st h) clients × (given_up ≡ total left_of clients)
   clients_ran [] given_up [] have settled = (All-nil (HasRunBy st h), have)
   clients_ran (c ∷ clients) given_up (s ∷ sessions) (own, others, sum, has, have) settled =
-      let one = client_ran c own s has (All-head (IsSettled st h) s sessions settled) in
-      let rest = clients_ran clients others sessions have (All-tail (IsSettled st h) s sessions settled) in
+      let one = client_ran c own s has (All-head (IsSitterSettled st h) s sessions settled) in
+      let rest = clients_ran clients others sessions have (All-tail (IsSitterSettled st h) s sessions settled) in
       (All-cons (HasRunBy st h) c clients one.0 rest.0, sum ∙ ap (λ n. n + others) one.1 ∙ ap (λ n. left_of c + n) rest.1)
   clients_ran [] given_up (s ∷ sessions) have settled = absurd have
   clients_ran (c ∷ clients) given_up [] have settled = absurd have
 
   -- the session of the number has committed nothing where it is one of which nothing was asked
-  idle_alone : (n : ℕ) (idle : List Sitter) → All IsFresh idle → All (IsSettled st h) idle → is_there idle n ≡ true → commits_of n (log_of h) ≡ []
+  idle_alone : (n : ℕ) (idle : List Sitter) → All IsFresh idle → All (IsSitterSettled st h) idle → is_there idle n ≡ true → commits_of n (log_of h) ≡ []
   idle_alone n [] fresh settled there = absurd (cc (there))
   idle_alone n (s ∷ idle) fresh settled there =
-      by (s.number == n) refl there (idle_alone n idle (All-tail IsFresh s idle fresh) (All-tail (IsSettled st h) s idle settled))
+      by (s.number == n) refl there (idle_alone n idle (All-tail IsFresh s idle fresh) (All-tail (IsSitterSettled st h) s idle settled))
     where
       by : (mine : Bool) → (s.number == n) ≡ mine → (mine || is_there idle n) ≡ true → (is_there idle n ≡ true → commits_of n (log_of h) ≡ []) → commits_of n (log_of h) ≡ []
       by true is some rest =
           let at : s.number ≡ n = grind (arith, nat_tests) in
-          ap (λ m. commits_of m (log_of h)) (sym at) ∙ committed s (All-head (IsSettled st h) s idle settled) ∙ ap (λ (r : Sitter). written_in r.receipts) (All-head IsFresh s idle fresh)
+          ap (λ m. commits_of m (log_of h)) (sym at) ∙ committed s (All-head (IsSitterSettled st h) s idle settled) ∙ ap (λ (r : Sitter). written_in r.receipts) (All-head IsFresh s idle fresh)
       by false is some rest = rest some
 
   -- and else it is a client's
@@ -93,9 +93,9 @@ module _ (st : Setting) (h : History) where
 
   -- what the clients of all workers have done, where all sessions of the store are there
   pub have_run : (workers : ℕ) (clients : List Client) (dealt : List (List Client)) (given_up : ℕ) (idle worked : List Sitter) → 1 ≤ workers → IsDealt workers clients dealt
-      → HaveWorked st (clients_in dealt) given_up worked → All IsFresh idle → All (IsSettled st h) (idle ++ worked) → HasAll st.sessions (idle ++ worked) → HaveRunBy st h clients given_up
+      → HaveWorked st (clients_in dealt) given_up worked → All IsFresh idle → All (IsSitterSettled st h) (idle ++ worked) → HasAll st.sessions (idle ++ worked) → HaveRunBy st h clients given_up
   have_run workers clients dealt given_up idle worked some is have fresh settled all =
-      let ran = clients_ran (clients_in dealt) given_up worked have (back (IsSettled st h) idle worked settled) in
+      let ran = clients_ran (clients_in dealt) given_up worked have (back (IsSitterSettled st h) idle worked settled) in
       record {
         each = of_dealt (HasRunBy st h) workers clients dealt some is ran.0;
         count = ran.1 ∙ same_total left_of workers clients dealt some is ∙ sym (same_left clients);
@@ -106,7 +106,7 @@ module _ (st : Setting) (h : History) where
       alone (suc k) low high free =
           let none = to_dealt (λ (c : Client). (c.session == suc k) ≡ false) workers clients dealt is (none_taken (suc k) clients free) in
           let there : is_there (idle ++ worked) (suc k) ≡ true = ap (is_there (idle ++ worked)) (omega arith) ∙ all k (omega (arith, high)) in
-          idle_alone (suc k) idle fresh (first_ones (IsSettled st h) idle worked settled) (there_append (suc k) idle worked (taken (suc k) (clients_in dealt) given_up worked have none) there)
+          idle_alone (suc k) idle fresh (first_ones (IsSitterSettled st h) idle worked settled) (there_append (suc k) idle worked (taken (suc k) (clients_in dealt) given_up worked have none) there)
       alone zero low high free = absurd (omega (arith, low))
 
 -- of new sessions nothing was asked

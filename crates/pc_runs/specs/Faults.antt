@@ -18,19 +18,19 @@ use Rattle.pc_threads.specs.declared.fault.Fault.TheVariants as fault
 -- * there are too many points;
 -- * there are points, and the log or the shelf has no place left, or the file of one of them isn't there;
 -- * a session isn't there.
-abbrev pub IsRefused : Setting → Workload → Bool → Refusal → Type 0
-IsRefused st workload there refusal.OutOfMemory = ⊤
-IsRefused st workload there refusal.Device = IsTrue there
-IsRefused st workload there refusal.Full = (st.capacity < len st.base) ⊎ (2 ^ 64 ≤ transactions_in workload.clients) ⊎ (0 < workload.points)
-IsRefused st workload there refusal.PointsFull = MOST_POINTS < workload.points
-IsRefused st workload there refusal.LogFull = 0 < workload.points
-IsRefused st workload there refusal.ShelfFull = 0 < workload.points
-IsRefused st workload there refusal.NoFile = 0 < workload.points
-IsRefused st workload there refusal.NoSession = ⊤
-IsRefused st workload there other = ⊥
+abbrev pub IsRunRefused : Setting → Workload → Bool → Refusal → Type 0
+IsRunRefused st workload there refusal.OutOfMemory = ⊤
+IsRunRefused st workload there refusal.Device = IsTrue there
+IsRunRefused st workload there refusal.Full = (st.capacity < len st.base) ⊎ (2 ^ 64 ≤ transactions_in workload.clients) ⊎ (0 < workload.points)
+IsRunRefused st workload there refusal.PointsFull = MOST_POINTS < workload.points
+IsRunRefused st workload there refusal.LogFull = 0 < workload.points
+IsRunRefused st workload there refusal.ShelfFull = 0 < workload.points
+IsRunRefused st workload there refusal.NoFile = 0 < workload.points
+IsRunRefused st workload there refusal.NoSession = ⊤
+IsRunRefused st workload there other = ⊥
 
 -- The fault ends such a run: it is refused for one of these, a file of the folder can't be made, or a thread can't be started.
-abbrev pub Ends : Setting → Workload → Bool → Fault → Type 0
-Ends st workload there (fault.Refused why) = IsRefused st workload there why
-Ends st workload there (fault.Unmade file why) = IsTrue there
-Ends st workload there fault.NoThread = ⊤
+abbrev pub EndsRun : Setting → Workload → Bool → Fault → Type 0
+EndsRun st workload there (fault.Refused why) = IsRunRefused st workload there why
+EndsRun st workload there (fault.Unmade file why) = IsTrue there
+EndsRun st workload there fault.NoThread = ⊤

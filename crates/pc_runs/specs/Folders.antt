@@ -11,7 +11,7 @@ use Rattle.pc_log.specs.Texts.{log_text}
 use Rattle.pc_part.specs.Texts.{base_text, part_text}
 use Rattle.pc_texts.specs.declared.file_names.FileName.{FileName}
 use Rattle.pc_texts.specs.declared.file_names.FileName.TheVariants.{Base, Part, Log}
-use Rattle.pc_threads.specs.Files.{KeepsOthers}
+use Rattle.pc_threads.specs.Files.{KeepsOtherFiles}
 
 -- the base that a store of this setting starts from
 abbrev pub base_of : Setting → BaseFile
@@ -38,7 +38,7 @@ HasBegunFiles holds contents blank base folder log = ⊥
 
 -- Behind whatever text was written to the log's file the rest was, and the file is whole; the other files stay.
 abbrev pub HasFinished : {D T : Type 0} → (D → FileName → List ℕ → Type 0) → (T → Option (List ℕ)) → Option (List ℕ) → List ℕ → Option D → Option (Tally T) → Option D → Type 0
-HasFinished {D} {T} holds contents blank rest (Some old) (Some log) (Some new) = KeepsOthers (holds old) (holds new) Log
+HasFinished {D} {T} holds contents blank rest (Some old) (Some log) (Some new) = KeepsOtherFiles (holds old) (holds new) Log
     × ((first : Tally T) (text : List ℕ) → contents (inner_of first) ≡ blank → Puts contents first log (Ok tt) text → holds new Log (text ++ rest))
 HasFinished holds contents blank rest (Some old) (Some log) None = ⊥
 HasFinished holds contents blank rest old log new = new ≡ old

@@ -13,9 +13,9 @@ use Rattle.pc_model.specs.History.{History, log_of}
 use Rattle.pc_model.specs.Replies.{Setting, IsLegalHistory}
 use Rattle.pc_jobs.specs.Workloads.{reading_of}
 use Rattle.pc_jobs.specs.declared.works.Workload.{Workload}
-use Rattle.pc_jobs.specs.declared.workloads.Reading.{Reading}
-use Rattle.pc_jobs.specs.declared.workloads.Reading.TheVariants as reading
-use Rattle.pc_restore.specs.Bases.{IsMade, IsUnmade}
+use Rattle.pc_jobs.specs.declared.workloads.WorkloadReading.{WorkloadReading}
+use Rattle.pc_jobs.specs.declared.workloads.WorkloadReading.TheVariants as reading
+use Rattle.pc_restore.specs.Bases.{IsBaseMade, IsBaseUnmade}
 use Rattle.pc_texts.specs.Files.{TellsOf, IsScriptFault}
 use Rattle.pc_restore.specs.Recoveries as recoveries
 use Rattle.pc_threads.specs.declared.fault.Fault.{Fault}
@@ -27,13 +27,13 @@ use Rattle.pc_runs.specs.declared.files.Unusable.TheVariants as unusable
 use Rattle.pc_runs.specs.declared.origin.Origin.{Origin}
 use Rattle.pc_runs.specs.declared.origin.Start.{Start}
 use Rattle.pc_runs.specs.declared.origin.Start.TheVariants as start
-use Rattle.pc_outcomes.specs.declared.outcome.Outcome.{Outcome}
+use Rattle.pc_outcomes.specs.declared.outcome.RunReport.{RunReport}
 use Rattle.pc_outcomes.specs.declared.outcome.Printed.{Printed}
 use Rattle.pc_outcomes.specs.declared.outcome.Printed.TheVariants as printed
 use Rattle.pc_outcomes.specs.Leaving.{commits_in, IsLegacy}
 use Rattle.pc_outcomes.specs.Outcomes.{printed_text, status_of}
 use Rattle.pc_workers.specs.Covering.{HaveJustTo}
-use Rattle.pc_runs.specs.Faults.{Ends}
+use Rattle.pc_runs.specs.Faults.{EndsRun}
 use Rattle.pc_runs.specs.Folders.{LeavesFiles, base_of}
 use Rattle.pc_runs.specs.Worked.{HaveRunBy}
 use Rattle.pc_texts.specs.FileNames.{name_of}
@@ -47,11 +47,11 @@ run_setting base capacity = record { run = base.run; base = base.pairs; sessions
 -- the folder, and what is damaged there was told.
 abbrev pub IsStart : {S T : Type 0} → (S → Option (List ℕ)) → (T → Option (List ℕ)) → Start S → Tally T → Tally T → BaseFile → Type 0
 IsStart remaining contents (start.Empty run) old new base = (base ≡ record { run = run; point = 0; pairs = database_of [] }) × (new ≡ old)
-IsStart remaining contents (start.Folder old_run) old new base = IsMade remaining contents old_run.folder old new base
+IsStart remaining contents (start.Folder old_run) old new base = IsBaseMade remaining contents old_run.folder old new base
 
 -- a run was to start from the folder of this name, and there is no base of it for this reason
 abbrev pub IsUnstarted : {S : Type 0} → (S → Option (List ℕ)) → Start S → Failure → Type 0
-IsUnstarted remaining (start.Folder old_run) (failure.Start name lost) = (name ≡ old_run.name) × IsUnmade remaining old_run.folder lost
+IsUnstarted remaining (start.Folder old_run) (failure.Start name lost) = (name ≡ old_run.name) × IsBaseUnmade remaining old_run.folder lost
 IsUnstarted remaining other why = ⊥
 
 -- how far a run has come: nothing was begun; it has nothing to start from, for this reason; or its store was to be opened so
@@ -61,15 +61,15 @@ pub data Beginning : Type 0 where
   Begun : (st : Setting) → Beginning
 
 -- A run has come so far, and this was told till then: what is damaged of the folder that it starts from, once it has begun.
-abbrev pub Begins : {S T : Type 0} → (S → Option (List ℕ)) → (T → Option (List ℕ)) → Origin S → Tally T → Tally T → Beginning → Type 0
-Begins remaining contents origin old new NotBegun = new ≡ old
-Begins remaining contents origin old new (Unstarted why) = IsUnstarted remaining origin.start why × (new ≡ old)
-Begins remaining contents origin old new (Begun st) = (base : BaseFile) × IsStart remaining contents origin.start old new base × (st ≡ run_setting base origin.capacity)
+abbrev pub RunBegins : {S T : Type 0} → (S → Option (List ℕ)) → (T → Option (List ℕ)) → Origin S → Tally T → Tally T → Beginning → Type 0
+RunBegins remaining contents origin old new NotBegun = new ≡ old
+RunBegins remaining contents origin old new (Unstarted why) = IsUnstarted remaining origin.start why × (new ≡ old)
+RunBegins remaining contents origin old new (Begun st) = (base : BaseFile) × IsStart remaining contents origin.start old new base × (st ≡ run_setting base origin.capacity)
 
 -- The workload was run over a store of this setting, told by one legal history of it: its clients have run, so many transactions
 -- were committed and so many given up; of some files, which have just the points from 1 to the last one that was asked for and are
 -- those that the log gives their points, this is left; and where there is a folder, it has the files of the run.
-pub record IsRun {D : Type 0} (holds : D → FileName → List ℕ → Type 0) (st : Setting) (workload : Workload) (there : Bool) (left : Option D) (outcome : Outcome) : Type 0 where
+pub record IsWorkloadRun {D : Type 0} (holds : D → FileName → List ℕ → Type 0) (st : Setting) (workload : Workload) (there : Bool) (left : Option D) (outcome : RunReport) : Type 0 where
   pub history : History
   pub legal : IsLegalHistory st history
   pub clients_ran : HaveRunBy st history workload.clients outcome.given_up
@@ -81,8 +81,8 @@ pub record IsRun {D : Type 0} (holds : D → FileName → List ℕ → Type 0) (
   pub folder_has : LeavesFiles holds (base_of st) (log_of history) outcome.points there left
 
 -- what a file holds is worth this; said where its bytes are known
-abbrev pub IsReadAs : {R : Type 0} → (R → Option (List ℕ)) → Result R Refusal → Reading → Type 0
-IsReadAs remaining opened worth = IfOk opened (λ reader. IfSome (remaining reader) (λ text. reading_of text ≡ worth))
+abbrev pub IsWorkloadReadAs : {R : Type 0} → (R → Option (List ℕ)) → Result R Refusal → WorkloadReading → Type 0
+IsWorkloadReadAs remaining opened worth = IfOk opened (λ reader. IfSome (remaining reader) (λ text. reading_of text ≡ worth))
 
 -- where there is a folder, something makes files there
 abbrev pub IsUsable : {D : Type 0} → Option (RunFolder D) → Type 0
@@ -95,22 +95,22 @@ IsUnusable folder other = ⊥
 
 -- the file holds a workload that can be run
 abbrev pub CanRun : {R : Type 0} → (R → Option (List ℕ)) → Result R Refusal → Type 0
-CanRun remaining opened = IsOk opened × ((workload : Workload) × IsReadAs remaining opened (reading.Runs workload))
+CanRun remaining opened = IsOk opened × ((workload : Workload) × IsWorkloadReadAs remaining opened (reading.Runs workload))
 
 -- The workload that the file holds was run, where the folder is usable, over a store with which the run has begun; and this fault has
 -- ended it.
-abbrev pub HasFailed : {R D : Type 0} → (R → Option (List ℕ)) → Result R Refusal → Option (RunFolder D) → (Beginning → Type 0) → Fault → Type 0
-HasFailed remaining opened folder begins why = IsOk opened × IsUsable folder
-    × ((workload : Workload) × IsReadAs remaining opened (reading.Runs workload)
-    × ((st : Setting) × begins (Begun st) × Ends st workload (is_some folder) why))
+abbrev pub RunHasFailed : {R D : Type 0} → (R → Option (List ℕ)) → Result R Refusal → Option (RunFolder D) → (Beginning → Type 0) → Fault → Type 0
+RunHasFailed remaining opened folder begins why = IsOk opened × IsUsable folder
+    × ((workload : Workload) × IsWorkloadReadAs remaining opened (reading.Runs workload)
+    × ((st : Setting) × begins (Begun st) × EndsRun st workload (is_some folder) why))
 
 -- It is printed of the workload that the file holds, and this is left of the folder: of a bad line, before anything is begun; else
 -- the workload was run, of a setting with which it has begun, and only where the folder is usable.
 abbrev pub IsAnswer : {R D : Type 0} → (R → Option (List ℕ)) → (D → FileName → List ℕ → Type 0) → Result R Refusal → Option (RunFolder D) → (Beginning → Type 0) → Option D → Printed → Type 0
-IsAnswer remaining holds opened folder begins left (printed.BadLine line) = IsReadAs remaining opened (reading.BadLine line) × begins NotBegun
+IsAnswer remaining holds opened folder begins left (printed.BadLine line) = IsWorkloadReadAs remaining opened (reading.BadLine line) × begins NotBegun
 IsAnswer remaining holds opened folder begins left (printed.Whole outcome) = IsUsable folder
-    × ((workload : Workload) × IsReadAs remaining opened (reading.Runs workload)
-    × ((st : Setting) × begins (Begun st) × IsRun holds st workload (is_some folder) left outcome))
+    × ((workload : Workload) × IsWorkloadReadAs remaining opened (reading.Runs workload)
+    × ((st : Setting) × begins (Begun st) × IsWorkloadRun holds st workload (is_some folder) left outcome))
 
 -- what is printed of the workload that the file holds went out, all of it, and this is its status, and what is left of the folder
 abbrev pub GoesOut : {R D T : Type 0} → (R → Option (List ℕ)) → (D → FileName → List ℕ → Type 0) → (T → Option (List ℕ)) → Result R Refusal → Option (RunFolder D) → (Beginning → Type 0) → Tally T → Tally T
@@ -121,20 +121,20 @@ GoesOut remaining holds contents opened folder begins old new left status = (som
 -- Why nothing is printed: where the file wasn't opened, the reason for that; where it was, that it couldn't be read, or that memory
 -- ran out; where its workload can be run, and the folder can't be used, the reason for this; where it can be used, and there is
 -- nothing to start from, that; and else the fault that has ended the run.
-abbrev pub IsUnanswered : {R D : Type 0} → (R → Option (List ℕ)) → Result R Refusal → Option (RunFolder D) → (Beginning → Type 0) → Failure → Type 0
-IsUnanswered remaining opened folder begins (failure.Run (fault.Refused why)) = (IsScriptFault opened why × begins NotBegun) ⊎ HasFailed remaining opened folder begins (fault.Refused why)
-IsUnanswered remaining opened folder begins (failure.Run other) = HasFailed remaining opened folder begins other
-IsUnanswered remaining opened folder begins (failure.Folder name why) = CanRun remaining opened × IsUnusable folder (failure.Folder name why) × begins NotBegun
-IsUnanswered remaining opened folder begins (failure.Start name why) = CanRun remaining opened × IsUsable folder × begins (Unstarted (failure.Start name why))
-IsUnanswered remaining opened folder begins failure.Output = ⊥
+abbrev pub IsRunUnanswered : {R D : Type 0} → (R → Option (List ℕ)) → Result R Refusal → Option (RunFolder D) → (Beginning → Type 0) → Failure → Type 0
+IsRunUnanswered remaining opened folder begins (failure.Run (fault.Refused why)) = (IsScriptFault opened why × begins NotBegun) ⊎ RunHasFailed remaining opened folder begins (fault.Refused why)
+IsRunUnanswered remaining opened folder begins (failure.Run other) = RunHasFailed remaining opened folder begins other
+IsRunUnanswered remaining opened folder begins (failure.Folder name why) = CanRun remaining opened × IsUnusable folder (failure.Folder name why) × begins NotBegun
+IsRunUnanswered remaining opened folder begins (failure.Start name why) = CanRun remaining opened × IsUsable folder × begins (Unstarted (failure.Start name why))
+IsRunUnanswered remaining opened folder begins failure.Output = ⊥
 
 -- Why not all was printed: the output failed, which was counted, and a beginning of what is printed went out; or there is nothing
 -- to print.
-abbrev pub IsCause : {R D T : Type 0} → (R → Option (List ℕ)) → (D → FileName → List ℕ → Type 0) → (T → Option (List ℕ)) → Result R Refusal → Option (RunFolder D) → (Beginning → Type 0) → Tally T → Tally T
+abbrev pub IsCauseOfUnprinted : {R D T : Type 0} → (R → Option (List ℕ)) → (D → FileName → List ℕ → Type 0) → (T → Option (List ℕ)) → Result R Refusal → Option (RunFolder D) → (Beginning → Type 0) → Tally T → Tally T
     → Failure → Type 0
-IsCause {R} {D} remaining holds contents opened folder begins old new failure.Output = HasRisen (failures_of old) (failures_of new)
+IsCauseOfUnprinted {R} {D} remaining holds contents opened folder begins old new failure.Output = HasRisen (failures_of old) (failures_of new)
     × ((left : Option D) × (some : Printed) × IsAnswer remaining holds opened folder begins left some × AppendsBeginning (contents (inner_of old)) (contents (inner_of new)) (printed_text some))
-IsCause remaining holds contents opened folder begins old new other = (new ≡ old) × IsUnanswered remaining opened folder begins other
+IsCauseOfUnprinted remaining holds contents opened folder begins old new other = (new ≡ old) × IsRunUnanswered remaining opened folder begins other
 
 -- the line that tells of a reason by a name
 abbrev pub reason_text : List ℕ → List ℕ → List ℕ
@@ -145,15 +145,15 @@ abbrev pub TellsReason : {T : Type 0} → (T → Option (List ℕ)) → Tally T 
 TellsReason contents old new name reason = (told : Result (Unit {0}) Refusal) × Puts contents old new told (reason_text name reason)
 
 -- what is told of a failure, where the workload has this name; of an output that failed nothing
-abbrev pub IsTold : {T : Type 0} → (T → Option (List ℕ)) → Tally T → Tally T → List ℕ → Failure → Type 0
-IsTold contents old new name (failure.Run (fault.Refused why)) = TellsOf contents old new name why
-IsTold contents old new name (failure.Run (fault.Unmade file why)) = TellsOf contents old new (name_of file) why
-IsTold contents old new name (failure.Run fault.NoThread) = TellsReason contents old new name (codes "NoThread")
-IsTold contents old new name (failure.Folder folder unusable.NotEmpty) = TellsReason contents old new folder.items (codes "NotEmpty")
-IsTold contents old new name (failure.Folder folder (unusable.Unlisted why)) = TellsOf contents old new folder.items why
-IsTold contents old new name (failure.Start folder lost) = recoveries.IsTold contents old new folder.items lost
-IsTold contents old new name failure.Output = new ≡ old
+abbrev pub IsRunTold : {T : Type 0} → (T → Option (List ℕ)) → Tally T → Tally T → List ℕ → Failure → Type 0
+IsRunTold contents old new name (failure.Run (fault.Refused why)) = TellsOf contents old new name why
+IsRunTold contents old new name (failure.Run (fault.Unmade file why)) = TellsOf contents old new (name_of file) why
+IsRunTold contents old new name (failure.Run fault.NoThread) = TellsReason contents old new name (codes "NoThread")
+IsRunTold contents old new name (failure.Folder folder unusable.NotEmpty) = TellsReason contents old new folder.items (codes "NotEmpty")
+IsRunTold contents old new name (failure.Folder folder (unusable.Unlisted why)) = TellsOf contents old new folder.items why
+IsRunTold contents old new name (failure.Start folder lost) = recoveries.IsRecoveryTold contents old new folder.items lost
+IsRunTold contents old new name failure.Output = new ≡ old
 
 -- there is a cause by what was told till then, and it was told behind that
 abbrev pub IsFailed : {T : Type 0} → (T → Option (List ℕ)) → List ℕ → Tally T → (Tally T → Failure → Type 0) → Type 0
-IsFailed {T} contents name new cause = (why : Failure) × (between : Tally T) × cause between why × IsTold contents between new name why
+IsFailed {T} contents name new cause = (why : Failure) × (between : Tally T) × cause between why × IsRunTold contents between new name why

@@ -4,7 +4,7 @@ ghost use Rattle.std.specs.Io.KnownBytes.{Appends};
 ghost use Rattle.pc_types.specs.Counted.{HasRisen, AppendsBeginning};
 ghost use Rattle.pc_types.specs.Tallies.{Puts, inner_of, failures_of};
 ghost use Rattle.pc_outcomes.specs.Outcomes.{printed_text};
-ghost use Rattle.pc_runs.specs.Runs.{IsTold, IsUsable, IsUnusable, reason_text};
+ghost use Rattle.pc_runs.specs.Runs.{IsRunTold, IsUsable, IsUnusable, reason_text};
 
 use crate::files::{RunFolder, Unusable, report_unmade};
 use pc_outcomes::Printed;
@@ -80,7 +80,7 @@ pub fn print<W: Write>(printed: &Printed, out: &mut Tally<W>) -> Result<(), Fail
 impl Failure {
     /// Writes the line that tells why, by the name of the workload, of a file or of a folder; of an output that failed nothing.
     pub fn report<E: Write>(self, workload: &[u8], errors: &mut Tally<E>)
-        ensures { IsTold E.contents errors.old errors.new workload.now self }
+        ensures { IsRunTold E.contents errors.old errors.new workload.now self }
     {
         let _ = match self {
             Failure::Run(fault) => match fault {

@@ -5,7 +5,7 @@ ghost use Rattle.pc_part.specs.Texts.{base_text};
 ghost use Rattle.pc_texts.specs.Files.{report_text};
 ghost use Rattle.pc_texts.specs.declared.file_names.FileName.TheVariants as file;
 ghost use Rattle.pc_texts.specs.FileNames.{name_of};
-ghost use Rattle.pc_threads.specs.Faults.{IsLost};
+ghost use Rattle.pc_threads.specs.Faults.{IsFileLost};
 
 use pc_part::Base;
 use pc_texts::{FileName, part_name, report};
@@ -51,7 +51,7 @@ pub fn begin_files<F: Write + Drop, D: NewFiles<F>>(
 ) -> Result<Tally<F>, Fault>
     ensures base { OnOk result (D.holds folder.new file.Base (base_text base.now)) }
     ensures log { IfOk result (λ log. F.contents (inner_of log) ≡ D.blank) }
-    ensures lost { IfErr result (λ why. IsLost file.Base why ⊎ IsLost file.Log why) }
+    ensures lost { IfErr result (λ why. IsFileLost file.Base why ⊎ IsFileLost file.Log why) }
 {
     let mut file = make_file(folder, FileName::Base)?;
     base.encode(&mut file)?;

@@ -1,14 +1,14 @@
 //! How the points of a run are spread over its transactions.
-use pc_jobs::{Client, Work};
+use pc_jobs::{Client, ClientTask};
 use pc_types::Items;
 
 // How many transactions the works have.
-fn transactions_in(works: &[Work]) -> u32 {
+fn transactions_in(works: &[ClientTask]) -> u32 {
     let mut count = 0u32;
     for work in works {
         let more = match work {
-            Work::Once(_) => 1,
-            Work::Fill(fill) => fill.count,
+            ClientTask::Once(_) => 1,
+            ClientTask::Fill(fill) => fill.count,
         };
         count = count.saturating_add(more);
     }

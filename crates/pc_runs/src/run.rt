@@ -2,10 +2,10 @@
 ghost use Rattle.std.specs.Prelude.{◌≡◌, ◌⊎◌, ◌≤◌, is_some, IsOk, IsTrue, IfOk, IfErr, OnOk};
 ghost use Rattle.pc_types.specs.declared.limits.TheConstants.{MOST_KEYS};
 ghost use Rattle.pc_texts.specs.declared.file_names.FileName.TheVariants as file;
-ghost use Rattle.pc_threads.specs.Faults.{IsLost};
-ghost use Rattle.pc_runs.specs.Faults.{Ends};
+ghost use Rattle.pc_threads.specs.Faults.{IsFileLost};
+ghost use Rattle.pc_runs.specs.Faults.{EndsRun};
 ghost use Rattle.pc_runs.specs.Folders.{HasBegunFiles};
-ghost use Rattle.pc_runs.specs.Runs.{Begins, GoesOut, IsAnswer, IsCause, IsFailed, IsRun, IsUnanswered, run_setting};
+ghost use Rattle.pc_runs.specs.Runs.{RunBegins, GoesOut, IsAnswer, IsCauseOfUnprinted, IsFailed, IsWorkloadRun, IsRunUnanswered, run_setting};
 
 use crate::crew::Crew;
 use crate::failure::{Failure, print, usable};
@@ -13,8 +13,8 @@ use crate::files::{RunFolder, begin_files};
 use crate::origin::Origin;
 use crate::starting::base_of;
 use crate::store::run_store;
-use pc_jobs::{Reading, Workload, read_workload};
-use pc_outcomes::{Outcome, Printed};
+use pc_jobs::{Workload, WorkloadReading, read_workload};
+use pc_outcomes::{Printed, RunReport};
 use pc_part::Base;
 use pc_shared::Opened;
 use pc_texts::{NamedFile, read_opened};
@@ -74,9 +74,9 @@ pub fn run_workload<
 ) -> Finished<D>
     ensures status { (result.status ≡ 0) ⊎ (result.status ≡ 1) ⊎ (result.status ≡ 3) }
     ensures opened { ¬ (result.status ≡ 1) → IsOk workload.opened }
-    ensures printed { ¬ (result.status ≡ 1) → GoesOut R.remaining D.holds W.contents workload.opened folder (Begins S.remaining E.contents origin errors.old errors.new) out.old out.new result.folder result.status }
+    ensures printed { ¬ (result.status ≡ 1) → GoesOut R.remaining D.holds W.contents workload.opened folder (RunBegins S.remaining E.contents origin errors.old errors.new) out.old out.new result.folder result.status }
     ensures cause { result.status ≡ 1 → IsFailed E.contents workload.name.items errors.new
-        (λ between. IsCause R.remaining D.holds W.contents workload.opened folder (Begins S.remaining E.contents origin errors.old between) out.old out.new) }
+        (λ between. IsCauseOfUnprinted R.remaining D.holds W.contents workload.opened folder (RunBegins S.remaining E.contents origin errors.old between) out.old out.new) }
 {
     let NamedFile { name, opened } = workload;
     match run_opened(rt, alloc, seed, opened, origin, crew, folder, out, errors) {
@@ -113,8 +113,8 @@ fn run_opened<
     errors: &mut Tally<E>,
 ) -> Result<Finished<D>, Failure>
     ensures opened { OnOk result (IsOk opened) }
-    ensures printed { IfOk result (λ finished. GoesOut R.remaining D.holds W.contents opened folder (Begins S.remaining E.contents origin errors.old errors.new) out.old out.new finished.folder finished.status) }
-    ensures cause { IfErr result (IsCause R.remaining D.holds W.contents opened folder (Begins S.remaining E.contents origin errors.old errors.new) out.old out.new) }
+    ensures printed { IfOk result (λ finished. GoesOut R.remaining D.holds W.contents opened folder (RunBegins S.remaining E.contents origin errors.old errors.new) out.old out.new finished.folder finished.status) }
+    ensures cause { IfErr result (IsCauseOfUnprinted R.remaining D.holds W.contents opened folder (RunBegins S.remaining E.contents origin errors.old errors.new) out.old out.new) }
 {
     let (printed, folder) = answer(rt, alloc, seed, opened, origin, crew, folder, errors)?;
     print(&printed, out)?;
@@ -142,13 +142,13 @@ fn answer<
     errors: &mut Tally<E>,
 ) -> Result<(Printed, Option<D>), Failure>
     ensures opened { OnOk result (IsOk opened) }
-    ensures answer { IfOk result (λ r. IsAnswer R.remaining D.holds opened folder (Begins S.remaining E.contents origin errors.old errors.new) r.1 r.0) }
-    ensures cause { IfErr result (IsUnanswered R.remaining opened folder (Begins S.remaining E.contents origin errors.old errors.new)) }
+    ensures answer { IfOk result (λ r. IsAnswer R.remaining D.holds opened folder (RunBegins S.remaining E.contents origin errors.old errors.new) r.1 r.0) }
+    ensures cause { IfErr result (IsRunUnanswered R.remaining opened folder (RunBegins S.remaining E.contents origin errors.old errors.new)) }
 {
     let text = read_opened(alloc, opened)?;
     match read_workload(alloc, &text)? {
-        Reading::BadLine(line) => Ok((Printed::BadLine(line), None)),
-        Reading::Runs(workload) => {
+        WorkloadReading::BadLine(line) => Ok((Printed::BadLine(line), None)),
+        WorkloadReading::Runs(workload) => {
             let folder = usable(folder)?;
             let Origin { start, capacity } = origin;
             let base = base_of(alloc, start, errors)?;
@@ -176,11 +176,11 @@ fn run_read<
     capacity: u32,
     crew: &Crew<'_, G>,
     folder: Option<D>,
-) -> Result<(Outcome, Option<D>), Fault>
+) -> Result<(RunReport, Option<D>), Fault>
     requires start { base.point ≡ 0 }
     requires capacity { (1 ≤ capacity) × (capacity ≤ MOST_KEYS) }
-    ensures run { IfOk result (λ r. IsRun D.holds (run_setting base capacity) workload (is_some folder) r.1 r.0) }
-    ensures ended { IfErr result (Ends (run_setting base capacity) workload (is_some folder)) }
+    ensures run { IfOk result (λ r. IsWorkloadRun D.holds (run_setting base capacity) workload (is_some folder) r.1 r.0) }
+    ensures ended { IfErr result (EndsRun (run_setting base capacity) workload (is_some folder)) }
 {
     if base.pairs().len() > capacity as usize {
         return Err(Fault::Refused(Refusal::Full));
@@ -197,7 +197,7 @@ fn begin<F: Write + Drop, D: NewFiles<F> + Drop>(
 ) -> Result<(Option<D>, Option<Tally<F>>), Fault>
     ensures there { IfOk result (λ r. is_some r.0 ≡ is_some folder) }
     ensures begun { IfOk result (λ r. HasBegunFiles D.holds F.contents D.blank base.now r.0 r.1) }
-    ensures lost { IfErr result (λ why. IsTrue (is_some folder) × (IsLost file.Base why ⊎ IsLost file.Log why)) }
+    ensures lost { IfErr result (λ why. IsTrue (is_some folder) × (IsFileLost file.Base why ⊎ IsFileLost file.Log why)) }
 {
     match folder {
         Some(mut folder) => {

@@ -8,7 +8,7 @@ ghost use Rattle.pc_board.specs.Passes.{IsOfBoard};
 ghost use Rattle.pc_outcomes.specs.Leaving.{AreLeftAfter, IsLegacy, IsUntoldAfter, commits_in};
 ghost use Rattle.pc_shared.specs.Sitters.{Sitter};
 ghost use Rattle.pc_threads.specs.Clients.{HaveWorked, clients_in, transactions_in};
-ghost use Rattle.pc_threads.specs.Faults.{IsEnd, IsLost};
+ghost use Rattle.pc_threads.specs.Faults.{IsThreadsEnd, IsFileLost};
 ghost use Rattle.pc_threads.specs.declared.fault.Fault.TheVariants as Fault;
 ghost use Rattle.pc_texts.specs.declared.file_names.FileName.TheVariants as file;
 ghost use Rattle.pc_workers.specs.Checkpointing.{HasCycled};
@@ -16,16 +16,16 @@ ghost use Rattle.pc_workers.specs.Covering.{HaveOnlyTo, HaveJustTo};
 ghost use Rattle.pc_workers.specs.Logging.{rest_text};
 ghost use Rattle.pc_threads.specs.Files.{HasWritten};
 ghost use Rattle.pc_threads.specs.Logs.{HasLogged};
-ghost use Rattle.pc_runs.specs.Faults.{Ends};
+ghost use Rattle.pc_runs.specs.Faults.{EndsRun};
 ghost use Rattle.pc_runs.specs.Folders.{HasBegunFiles, HasFinished, base_of};
-ghost use Rattle.pc_runs.specs.Runs.{IsRun};
+ghost use Rattle.pc_runs.specs.Runs.{IsWorkloadRun};
 
 use crate::crew::Crew;
 use crate::pace::every_of;
 use pc_board::{Board, BoardPass};
 use pc_capture::SharedPart;
 use pc_jobs::{Workload, deal};
-use pc_outcomes::{Left, Outcome, commits_in, left_by};
+use pc_outcomes::{RunReport, StoreReport, commits_in, left_by};
 use pc_shared::{CheckpointerSeat, Closed, Opened, PartTicket, Session, Shared};
 use pc_texts::FileName;
 use pc_threads::{
@@ -44,7 +44,7 @@ use std::thread::Threads;
 
 // What the threads leave of a store: its sessions, tickets of its files, and the folder, if there is one.
 #[derive(Drop)]
-struct Ended<N: StoreName, D> {
+struct EndedStore<N: StoreName, D> {
     sessions: Vec<Session<N>>,
     given_up: u64,
     seat: CheckpointerSeat<N>,
@@ -63,7 +63,7 @@ fn take_back<N: StoreName, D: Drop, R: Wait>(
     points: u32,
     idle: Vec<Session<N>>,
     rested: Rested<N, D>,
-) -> Result<Ended<N, D>, Fault>
+) -> Result<EndedStore<N, D>, Fault>
     requires only { HaveOnlyTo points rested.held.items }
     requires cycles { HasCycled N.name.setting points [] rested.worked.seat }
     ensures sessions { IfOk result (λ ended. ended.sessions.items ≡ idle.items ++ rested.worked.ran.sessions.items) }
@@ -87,7 +87,7 @@ fn take_back<N: StoreName, D: Drop, R: Wait>(
     let mut sessions = idle;
     sessions.append(&mut busy)?;
     let joined = with_missing_points(rt, shared, &mut seat, held, points)?;
-    Ok(Ended {
+    Ok(EndedStore {
         sessions,
         given_up,
         seat,
@@ -114,7 +114,7 @@ fn use_store<
     folder: Option<D>,
     every: u32,
     logger: Logger<N, F>,
-) -> Result<(Ended<N, D>, Written<N, F>), Fault>
+) -> Result<(EndedStore<N, D>, Written<N, F>), Fault>
     requires fresh { seat ≡ [] }
     requires some { 0 < length passes.items }
     requires few { length passes.items ≤ MOST_PASSES }
@@ -123,7 +123,7 @@ fn use_store<
     ensures cover { IfOk result (λ r. HaveJustTo room.now.points r.0.joined.items) }
     ensures written { IfOk result (λ r. HasWritten D.holds room.now.points folder r.0.folder r.0.written.items) }
     ensures logged { IfOk result (λ r. HasLogged F.contents N.name.setting.run logger.out r.1.out r.1.pass) }
-    ensures ended { IfErr result (IsEnd (is_some room.now.lag || is_some folder || is_some logger.out) (transactions_in (clients_in seating.workers.items)) room.now.points) }
+    ensures ended { IfErr result (IsThreadsEnd (is_some room.now.lag || is_some folder || is_some logger.out) (transactions_in (clients_in seating.workers.items)) room.now.points) }
 {
     let Seating { workers, idle } = seating;
     let hands = hands_of(room.alloc, board, passes, workers, seat, folder, every)?;
@@ -163,11 +163,11 @@ pub fn run_store<
     crew: &Crew<'_, G>,
     folder: Option<D>,
     log: Option<Tally<F>>,
-) -> Result<(Outcome, Option<D>), Fault>
+) -> Result<(RunReport, Option<D>), Fault>
     requires name { opened ≡ N.name }
     requires begun { HasBegunFiles D.holds F.contents D.blank (base_of N.name.setting) folder log }
-    ensures run { IfOk result (λ r. IsRun D.holds N.name.setting workload (is_some folder) r.1 r.0) }
-    ensures ended { IfErr result (Ends N.name.setting workload (is_some folder)) }
+    ensures run { IfOk result (λ r. IsWorkloadRun D.holds N.name.setting workload (is_some folder) r.1 r.0) }
+    ensures ended { IfErr result (EndsRun N.name.setting workload (is_some folder)) }
 {
     let Workload { points, clients } = workload;
     let (shared, sessions, seat, pass) = opened.named::<N>()?;
@@ -188,7 +188,7 @@ pub fn run_store<
     let (ended, logged) = use_store(
         rt, &room, seating, seat, &board, passes, folder, every, logger,
     )?;
-    let Ended {
+    let EndedStore {
         sessions,
         given_up,
         seat,
@@ -204,7 +204,7 @@ pub fn run_store<
     }
     let folder = finish_log(&closed, folder, out)?;
     let left = leave(rt, alloc, closed, singles, crew)?;
-    let outcome = Outcome {
+    let outcome = RunReport {
         commits: left.commits,
         given_up,
         points,
@@ -217,7 +217,7 @@ pub fn run_store<
 #[derive(Drop)]
 struct Legacy {
     commits: u64,
-    files: Left,
+    files: StoreReport,
 }
 
 // Tells what the closed store leaves. So many of the tickets are of a point whose file was written.
@@ -276,7 +276,7 @@ fn finish_log<N: StoreName, F: Write + Drop, D: NewFiles<F> + Drop>(
 ) -> Result<Option<D>, Fault>
     requires { closed.now.logged ≤ length closed.now.world.log }
     ensures finished { IfOk result (λ later. HasFinished D.holds F.contents D.blank (rest_text closed.now.logged closed.now.world.log) folder log later) }
-    ensures lost { IfErr result (λ why. IsTrue (is_some folder) × IsLost file.Log why) }
+    ensures lost { IfErr result (λ why. IsTrue (is_some folder) × IsFileLost file.Log why) }
 {
     match (folder, log) {
         (Some(mut folder), Some(mut log)) => {

@@ -13,8 +13,8 @@ use Rattle.pc_script.specs.declared.script.Status.{Status}
 use Rattle.pc_script.specs.declared.setup.Setup.{Setup}
 use Rattle.pc_script.specs.Runs.{AnswersInPart}
 use Rattle.pc_lines.specs.Lines.{lines_in}
-use Rattle.pc_script.specs.Scripts.{IsAnswered, IsAnsweredInPart}
-use Rattle.pc_script.specs.Scripts.Stage.{Reading}
+use Rattle.pc_script.specs.Scripts.{IsScriptAnswered, IsAnsweredInPart}
+use Rattle.pc_script.specs.Scripts.ScriptStage.{Reading}
 use Rattle.pc_texts.proofs.Begun.{begins_kept, whole_begins}
 
 -- a beginning of what some first lines print went out
@@ -26,12 +26,12 @@ pub nothing_begins : (setup : Setup) (script : List ℕ) (a : Option (List ℕ))
 nothing_begins setup script a = ([], whole_begins a a [] (appends_nothing a), ([], lines_in script, Reading empty, refl, (refl, refl)))
 
 -- they may be all
-pub all_begins : (setup : Setup) (script : List ℕ) (status : Status) (a b : Option (List ℕ)) → (text : List ℕ) × Appends a b text × IsAnswered setup script status text → BeginsAnswers setup script a b
+pub all_begins : (setup : Setup) (script : List ℕ) (status : Status) (a b : Option (List ℕ)) → (text : List ℕ) × Appends a b text × IsScriptAnswered setup script status text → BeginsAnswers setup script a b
 all_begins setup script status a b all = (all.0, whole_begins a b all.0 all.1, (lines_in script, [], all.2.0, append-nil (lines_in script), all.2.1))
 
 -- a script that was answered, and then a flush
 pub answers_begin : (setup : Setup) (script : List ℕ) (a b c : Option (List ℕ)) (answered : Result Status Refusal) → Keeps b c
-    → IfOk answered (λ status. (text : List ℕ) × Appends a b text × IsAnswered setup script status text) → IfErr answered (λ e. BeginsAnswers setup script a b)
+    → IfOk answered (λ status. (text : List ℕ) × Appends a b text × IsScriptAnswered setup script status text) → IfErr answered (λ e. BeginsAnswers setup script a b)
     → BeginsAnswers setup script a c
 answers_begin setup script a b c (Ok status) kept all in_part = let p = all_begins setup script status a b all in (p.0, begins_kept a b c p.0 p.1 kept, p.2)
 answers_begin setup script a b c (Err e) kept all in_part = (in_part.0, begins_kept a b c in_part.0 in_part.1 kept, in_part.2)

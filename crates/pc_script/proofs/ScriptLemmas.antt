@@ -16,17 +16,17 @@ use Rattle.pc_model.specs.Replies.{Setting, IsLegal}
 use Rattle.pc_types.proofs.KnownBytesLaws.{appends_nothing, appends_then, begins_after}
 use Rattle.pc_lines.specs.declared.lines.Line.{Line}
 use Rattle.pc_lines.specs.declared.lines.Line.TheVariants as line
-use Rattle.pc_script.specs.declared.script.Answer.{Answer}
-use Rattle.pc_script.specs.declared.script.Answer.TheVariants as answer
+use Rattle.pc_script.specs.declared.script.LineAnswer.{LineAnswer}
+use Rattle.pc_script.specs.declared.script.LineAnswer.TheVariants as answer
 use Rattle.pc_script.specs.declared.script.Made.{Made}
 use Rattle.pc_script.specs.declared.script.Made.TheVariants as made
 use Rattle.pc_script.specs.declared.script.Status.{Status}
 use Rattle.pc_script.specs.declared.script.Status.TheVariants as status
 use Rattle.pc_script.specs.declared.setup.Setup.{Setup}
 use Rattle.pc_lines.specs.Lines.{lines_in, spelled}
-use Rattle.pc_script.specs.Scripts.{Stage, setting, AnswersLine, AnswersFirst, Answers, answer_text, Prints, PrintsFrom, is_malformed, has_bad_line, status_of, IsAnswered, IsAnsweredInPart}
-use Rattle.pc_script.specs.Scripts.Stage.{Reading, Running, Ended}
-use Rattle.pc_script.specs.Holding.{Holds, IsSaid, IsSaidInPart, is_ended}
+use Rattle.pc_script.specs.Scripts.{ScriptStage, setting, AnswersLine, AnswersFirst, AnswersAtStage, answer_text, Prints, PrintsFrom, is_malformed, has_bad_line, status_of, IsScriptAnswered, IsAnsweredInPart}
+use Rattle.pc_script.specs.Scripts.ScriptStage.{Reading, Running, Ended}
+use Rattle.pc_script.specs.Holding.{StageHolds, IsSaid, IsSaidInPart, is_ended}
 use Rattle.pc_texts.proofs.Begun.{whole_begins}
 
 -- an event that is answered legally
@@ -35,23 +35,23 @@ pub asks : (st : Setting) (history : History) (l : Line) (event : Event) (reply 
 asks st history l event reply is legal = rw is (reply, legal, refl, refl)
 
 -- the first line that a store answers
-pub first_answered : (setup : Setup) (base : Database) (l : Line) (said : Answer) (old new : Store) → (setting_of old ≡ setting setup base) × Stands old [] → setting_of new ≡ setting_of old
+pub first_answered : (setup : Setup) (base : Database) (l : Line) (said : LineAnswer) (old new : Store) → (setting_of old ≡ setting setup base) × Stands old [] → setting_of new ≡ setting_of old
     → ((history : History) → Stands old history → (next : History) × Stands new next × AnswersLine (setting_of old) history l said next)
-    → (x : Stage) × Holds setup (made.Store new) x × AnswersFirst setup base l said x
+    → (x : ScriptStage) × StageHolds setup (made.Store new) x × AnswersFirst setup base l said x
 first_answered setup base l said old new start same answers =
     let a = answers [] start.1 in
     (Running base a.0, (base, a.0, refl, same ∙ start.0, a.1), inl (a.0, subst (λ (st : Setting). AnswersLine st [] l said a.0) start.0 a.2, refl))
 
 -- and each later one
-pub store_answered : (setup : Setup) (m : Made) (l : Line) (said : Answer) (old new : Store) → m ≡ made.Store old → setting_of new ≡ setting_of old
+pub store_answered : (setup : Setup) (m : Made) (l : Line) (said : LineAnswer) (old new : Store) → m ≡ made.Store old → setting_of new ≡ setting_of old
     → ((history : History) → Stands old history → (next : History) × Stands new next × AnswersLine (setting_of old) history l said next)
-    → (stage : Stage) → Holds setup m stage → (x : Stage) × Holds setup (made.Store new) x × Answers setup stage l said x
+    → (stage : ScriptStage) → StageHolds setup m stage → (x : ScriptStage) × StageHolds setup (made.Store new) x × AnswersAtStage setup stage l said x
 store_answered setup m l said old new is same answers stage h =
-    let k = subst (λ (z : Made). Holds setup z stage) is h in
+    let k = subst (λ (z : Made). StageHolds setup z stage) is h in
     let a = answers k.1 k.4 in (
       Running k.0 a.0,
       (k.0, a.0, refl, same ∙ k.3, a.1),
-      subst (λ (z : Stage). Answers setup z l said (Running k.0 a.0)) (sym k.2) (a.0, subst (λ (st : Setting). AnswersLine st k.1 l said a.0) k.3 a.2, refl),
+      subst (λ (z : ScriptStage). AnswersAtStage setup z l said (Running k.0 a.0)) (sym k.2) (a.0, subst (λ (st : Setting). AnswersLine st k.1 l said a.0) k.3 a.2, refl),
     )
 
 -- a base of no pairs has room
@@ -60,13 +60,13 @@ unfolding empty
 empty_fits base n e = rw e (omega arith)
 
 -- some lines, and then others
-pub prints_then : (setup : Setup) (s t u : Stage) (xs ys : List (List ℕ)) (x y : List ℕ) → Prints setup s xs x t → Prints setup t ys y u → Prints setup s (xs ++ ys) (x ++ y) u
-prints_then setup s t u [] ys x y p q = rw p.0 (subst (λ (z : Stage). Prints setup z ys y u) p.1 q)
+pub prints_then : (setup : Setup) (s t u : ScriptStage) (xs ys : List (List ℕ)) (x y : List ℕ) → Prints setup s xs x t → Prints setup t ys y u → Prints setup s (xs ++ ys) (x ++ y) u
+prints_then setup s t u [] ys x y p q = rw p.0 (subst (λ (z : ScriptStage). Prints setup z ys y u) p.1 q)
 prints_then setup s t u (l ∷ xs) ys x y p q =
     (p.0, p.1, p.2 ++ y, p.3, ap (λ (z : List ℕ). z ++ y) p.4 ∙ append_assoc (answer_text p.0) p.2 y, prints_then setup p.1 t u xs ys p.2 y p.5 q)
 
 -- one line
-pub prints_one : (setup : Setup) (s t : Stage) (l : List ℕ) (said : Answer) → Answers setup s (spelled l) said t → Prints setup s (l ∷ []) (answer_text said) t
+pub prints_one : (setup : Setup) (s t : ScriptStage) (l : List ℕ) (said : LineAnswer) → AnswersAtStage setup s (spelled l) said t → Prints setup s (l ∷ []) (answer_text said) t
 prints_one setup s t l said a = (said, t, [], a, sym (append-nil (answer_text said)), (refl, refl))
 
 -- nothing is printed once there is no store
@@ -80,7 +80,7 @@ status_after true = status.BadLines
 status_after false = status.Done
 
 -- a stage at which a store is or may still be made
-abbrev pub Goes : Stage → Type 0
+abbrev pub Goes : ScriptStage → Type 0
 Goes (Reading base) = ⊤
 Goes (Running base history) = ⊤
 Goes Ended = ⊥
@@ -89,20 +89,20 @@ Goes Ended = ⊥
 pub record SoFar (setup : Setup) (old new : Option (List ℕ)) (m : Made) (st : Status) (all left : List (List ℕ)) : Type 0 where
   pub done : List (List ℕ)
   pub text : List ℕ
-  pub stage : Stage
+  pub stage : ScriptStage
   pub cut : done ++ left ≡ all
   pub prints : PrintsFrom setup done text stage
   pub sent : Appends old new text
-  pub holds : Holds setup m stage
+  pub holds : StageHolds setup m stage
   pub goes : Goes stage
   pub status : st ≡ status_after (has_bad_line done)
 
-goes_from : (setup : Setup) (m : Made) (stage : Stage) → Holds setup m stage → is_ended m ≡ false → Goes stage
+goes_from : (setup : Setup) (m : Made) (stage : ScriptStage) → StageHolds setup m stage → is_ended m ≡ false → Goes stage
 goes_from setup (made.Base pairs) stage h e = rw h tt
 goes_from setup (made.Store world) stage h e = rw h.2 tt
 goes_from setup made.Ended stage h e = absurd cc
 
-ended_from : (setup : Setup) (m : Made) (stage : Stage) → Holds setup m stage → is_ended m ≡ true → stage ≡ Ended
+ended_from : (setup : Setup) (m : Made) (stage : ScriptStage) → StageHolds setup m stage → is_ended m ≡ true → stage ≡ Ended
 ended_from setup (made.Base pairs) stage h e = absurd cc
 ended_from setup (made.Store world) stage h e = absurd cc
 ended_from setup made.Ended stage h e = h
@@ -124,7 +124,7 @@ as_status : (b : Bool) → status_after b ≡ (if b then status.BadLines else st
 as_status true = refl
 as_status false = refl
 
-goes_status : (stage : Stage) (lines : List (List ℕ)) → Goes stage → status_after (has_bad_line lines) ≡ status_of stage lines
+goes_status : (stage : ScriptStage) (lines : List (List ℕ)) → Goes stage → status_after (has_bad_line lines) ≡ status_of stage lines
 goes_status (Reading base) lines g = as_status (has_bad_line lines)
 goes_status (Running base history) lines g = as_status (has_bad_line lines)
 goes_status Ended lines g = absurd g
@@ -199,11 +199,11 @@ stops_within setup script old b c m st left lines l w h first is answered =
 
 -- or after a line at which the store couldn't be made
 pub ends_early : (setup : Setup) (script : List ℕ) (old b c : Option (List ℕ)) (m m' : Made) (st : Status) (left lines : List (List ℕ)) (l : List ℕ) (w : Line) → SoFar setup old b m st (lines_in script) left
-    → left ≡ l ∷ lines → w ≡ spelled l → IsSaid setup m w m' (λ text. Appends b c text) → is_ended m' ≡ true → (text : List ℕ) × Appends old c text × IsAnswered setup script status.NoStore text
+    → left ≡ l ∷ lines → w ≡ spelled l → IsSaid setup m w m' (λ text. Appends b c text) → is_ended m' ≡ true → (text : List ℕ) × Appends old c text × IsScriptAnswered setup script status.NoStore text
 ends_early setup script old b c m m' st left lines l w h first is answered e =
     let a = at_line setup m m' w l b c is answered h.stage h.holds in
     let is_last = ended_from setup m' a.1 a.2 e in
-    let one = prints_one setup h.stage Ended l a.0 (subst (λ (z : Stage). Answers setup h.stage (spelled l) a.0 z) is_last a.3) in
+    let one = prints_one setup h.stage Ended l a.0 (subst (λ (z : ScriptStage). AnswersAtStage setup h.stage (spelled l) a.0 z) is_last a.3) in
     let others = prints_then setup h.stage Ended Ended (l ∷ []) lines (answer_text a.0) [] one (prints_nothing setup lines) in
     let all = prints_then setup (Reading empty) h.stage Ended h.done (l ∷ lines) h.text (answer_text a.0 ++ []) h.prints others in
     let cut : h.done ++ (l ∷ lines) ≡ lines_in script = ap (λ (z : List (List ℕ)). h.done ++ z) (sym first) ∙ h.cut in (
@@ -214,7 +214,7 @@ ends_early setup script old b c m m' st left lines l w h first is answered e =
 
 -- or at its end
 pub ends : (setup : Setup) (script : List ℕ) (old b : Option (List ℕ)) (m : Made) (st : Status) (left : List (List ℕ)) → left ≡ [] → SoFar setup old b m st (lines_in script) left
-    → (text : List ℕ) × Appends old b text × IsAnswered setup script st text
+    → (text : List ℕ) × Appends old b text × IsScriptAnswered setup script st text
 ends setup script old b m st left none h =
     let cut : h.done ≡ lines_in script = sym (append-nil h.done) ∙ ap (λ (z : List (List ℕ)). h.done ++ z) (sym none) ∙ h.cut in (
       h.text,

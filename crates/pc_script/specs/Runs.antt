@@ -22,12 +22,12 @@ exit_of status.NoStore = 1
 
 -- A script has no status of its own for this reason. Where it isn't there or couldn't be read, the output is as it was; else
 -- memory ran out for a line of it.
-abbrev pub IsUnanswered : {R T : Type 0} → Result R Refusal → Tally T → Tally T → Refusal → Type 0
-IsUnanswered opened old new why = IsScriptFault opened why × ((new ≡ old) ⊎ (why ≡ OutOfMemory))
+abbrev pub IsScriptUnanswered : {R T : Type 0} → Result R Refusal → Tally T → Tally T → Refusal → Type 0
+IsScriptUnanswered opened old new why = IsScriptFault opened why × ((new ≡ old) ⊎ (why ≡ OutOfMemory))
 
 -- a run ended without a status of the script's own, for a fault of the script, or for one of the output, which was counted
 abbrev pub IsFault : {R T : Type 0} → Result R Refusal → Tally T → Tally T → Fault → Type 0
-IsFault opened old new (fault.Script why) = IsUnanswered opened old new why
+IsFault opened old new (fault.Script why) = IsScriptUnanswered opened old new why
 IsFault opened old new fault.Output = HasRisen (failures_of old) (failures_of new)
 
 -- a beginning of what some first lines of the script may print went out, and nothing else; said where the bytes are known

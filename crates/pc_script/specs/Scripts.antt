@@ -12,8 +12,8 @@ use Rattle.pc_model.specs.History.{History}
 use Rattle.pc_model.specs.Replies.{Setting, IsLegal}
 use Rattle.pc_lines.specs.declared.lines.Line.{Line}
 use Rattle.pc_lines.specs.declared.lines.Line.TheVariants as line
-use Rattle.pc_script.specs.declared.script.Answer.{Answer}
-use Rattle.pc_script.specs.declared.script.Answer.TheVariants as answer
+use Rattle.pc_script.specs.declared.script.LineAnswer.{LineAnswer}
+use Rattle.pc_script.specs.declared.script.LineAnswer.TheVariants as answer
 use Rattle.pc_script.specs.declared.setup.Setup.{Setup}
 use Rattle.pc_script.specs.declared.script.Status.{Status}
 use Rattle.pc_script.specs.declared.script.Status.TheVariants as status
@@ -22,20 +22,20 @@ use Rattle.pc_texts.specs.Texts.{reply_text, state_text, hex_line, check_line}
 use Rattle.pc_script.specs.Views.{AnswersView}
 
 -- how far a script has come
-pub data Stage : Type 0 where
+pub data ScriptStage : Type 0 where
   -- the base has these pairs so far
-  Reading : Database → Stage
+  Reading : Database → ScriptStage
   -- the store stands on this base, after this history
-  Running : Database → History → Stage
+  Running : Database → History → ScriptStage
   -- the store couldn't be made
-  Ended : Stage
+  Ended : ScriptStage
 
 -- what the store starts from
 abbrev pub setting : Setup → Database → Setting
 setting setup base = record { run = setup.run; base = base; sessions = setup.sessions; capacity = setup.capacity }
 
 -- the answer of a refusal
-abbrev pub refusal_answer : Refusal → Answer
+abbrev pub refusal_answer : Refusal → LineAnswer
 refusal_answer why = answer.Says (told.Refused why)
 
 -- a new key, where the base has as many pairs as the capacity
@@ -43,13 +43,13 @@ abbrev pub is_base_full : ℕ → Database → List ℕ → Bool
 is_base_full capacity base key = is_none (map_of.get base key) && not (nat_lt (map_of.len base) capacity)
 
 -- a pair of the base: refused, or set; or memory ran out, and the base is as it was
-abbrev pub AnswersPair : ℕ → Database → List ℕ → List ℕ → Answer → Database → Type 0
+abbrev pub AnswersPair : ℕ → Database → List ℕ → List ℕ → LineAnswer → Database → Type 0
 AnswersPair capacity base key value said next =
     MatchBool (is_base_full capacity base key) ((said ≡ refusal_answer why.Full) × (next ≡ base))
     (((said ≡ answer.Says told.Ok) × (next ≡ map_of.insert base key value)) ⊎ ((said ≡ refusal_answer why.OutOfMemory) × (next ≡ base)))
 
 -- a line once the store stands: an event has some legal reply, and the history grows by it; no other line changes anything
-abbrev pub AnswersLine : Setting → History → Line → Answer → History → Type 0
+abbrev pub AnswersLine : Setting → History → Line → LineAnswer → History → Type 0
 AnswersLine st history line.Silent said next = (said ≡ answer.Nothing) × (next ≡ history)
 AnswersLine st history line.Malformed said next = (said ≡ answer.BadLine) × (next ≡ history)
 AnswersLine st history (line.Sets key value) said next = (said ≡ refusal_answer why.WrongPhase) × (next ≡ history)
@@ -60,24 +60,24 @@ AnswersLine st history (line.Asks event) said next =
 AnswersLine st history (line.Shows view) said next = AnswersView st history view said × (next ≡ history)
 
 -- the first line after the base: the store is made and answers it, or memory ran out
-abbrev pub AnswersFirst : Setup → Database → Line → Answer → Stage → Type 0
+abbrev pub AnswersFirst : Setup → Database → Line → LineAnswer → ScriptStage → Type 0
 AnswersFirst setup base l said next =
     ((history : History) × AnswersLine (setting setup base) [] l said history × (next ≡ Running base history)) ⊎ ((said ≡ refusal_answer why.OutOfMemory) × (next ≡ Ended))
 
 -- what a line may be answered at a stage, and the stage after it
-abbrev pub Answers : Setup → Stage → Line → Answer → Stage → Type 0
-Answers setup (Reading base) line.Silent said next = (said ≡ answer.Nothing) × (next ≡ Reading base)
-Answers setup (Reading base) (line.Sets key value) said next = (after : Database) × AnswersPair setup.capacity base key value said after × (next ≡ Reading after)
-Answers setup (Reading base) (line.SetsRefused why) said next = (said ≡ refusal_answer why) × (next ≡ Reading base)
-Answers setup (Reading base) line.Malformed said next = AnswersFirst setup base line.Malformed said next
-Answers setup (Reading base) (line.Asks event) said next = AnswersFirst setup base (line.Asks event) said next
-Answers setup (Reading base) (line.AsksRefused why) said next = AnswersFirst setup base (line.AsksRefused why) said next
-Answers setup (Reading base) (line.Shows view) said next = AnswersFirst setup base (line.Shows view) said next
-Answers setup (Running base history) l said next = (after : History) × AnswersLine (setting setup base) history l said after × (next ≡ Running base after)
-Answers setup Ended l said next = (said ≡ answer.Nothing) × (next ≡ Ended)
+abbrev pub AnswersAtStage : Setup → ScriptStage → Line → LineAnswer → ScriptStage → Type 0
+AnswersAtStage setup (Reading base) line.Silent said next = (said ≡ answer.Nothing) × (next ≡ Reading base)
+AnswersAtStage setup (Reading base) (line.Sets key value) said next = (after : Database) × AnswersPair setup.capacity base key value said after × (next ≡ Reading after)
+AnswersAtStage setup (Reading base) (line.SetsRefused why) said next = (said ≡ refusal_answer why) × (next ≡ Reading base)
+AnswersAtStage setup (Reading base) line.Malformed said next = AnswersFirst setup base line.Malformed said next
+AnswersAtStage setup (Reading base) (line.Asks event) said next = AnswersFirst setup base (line.Asks event) said next
+AnswersAtStage setup (Reading base) (line.AsksRefused why) said next = AnswersFirst setup base (line.AsksRefused why) said next
+AnswersAtStage setup (Reading base) (line.Shows view) said next = AnswersFirst setup base (line.Shows view) said next
+AnswersAtStage setup (Running base history) l said next = (after : History) × AnswersLine (setting setup base) history l said after × (next ≡ Running base after)
+AnswersAtStage setup Ended l said next = (said ≡ answer.Nothing) × (next ≡ Ended)
 
 -- the text of an answer, with the end of its line
-abbrev pub answer_text : Answer → List ℕ
+abbrev pub answer_text : LineAnswer → List ℕ
 answer_text answer.Nothing = []
 answer_text answer.BadLine = codes "bad line\n"
 answer_text (answer.Says reply) = reply_text reply ++ codes "\n"
@@ -86,13 +86,13 @@ answer_text (answer.Text text) = hex_line text
 answer_text (answer.Check sound) = check_line sound
 
 -- the text that the lines may print one after the other, from a stage to the last one
-abbrev pub Prints : Setup → Stage → List (List ℕ) → List ℕ → Stage → Type 0
+abbrev pub Prints : Setup → ScriptStage → List (List ℕ) → List ℕ → ScriptStage → Type 0
 Prints setup stage [] text last = (text ≡ []) × (last ≡ stage)
 Prints setup stage (l ∷ lines) text last =
-    (said : Answer) × (next : Stage) × (rest : List ℕ) × Answers setup stage (spelled l) said next × (text ≡ answer_text said ++ rest) × Prints setup next lines rest last
+    (said : LineAnswer) × (next : ScriptStage) × (rest : List ℕ) × AnswersAtStage setup stage (spelled l) said next × (text ≡ answer_text said ++ rest) × Prints setup next lines rest last
 
 -- what the first lines of a script may print
-abbrev pub PrintsFrom : Setup → List (List ℕ) → List ℕ → Stage → Type 0
+abbrev pub PrintsFrom : Setup → List (List ℕ) → List ℕ → ScriptStage → Type 0
 PrintsFrom setup lines text last = Prints setup (Reading map_of.empty) lines text last
 
 -- the line is a bad one
@@ -105,16 +105,16 @@ abbrev pub has_bad_line : List (List ℕ) → Bool
 has_bad_line lines = list_any (λ l. is_malformed (spelled l)) lines
 
 -- how a script ended whose lines led to this stage
-abbrev pub status_of : Stage → List (List ℕ) → Status
+abbrev pub status_of : ScriptStage → List (List ℕ) → Status
 status_of Ended lines = status.NoStore
 status_of (Reading base) lines = if has_bad_line lines then status.BadLines else status.Done
 status_of (Running base history) lines = if has_bad_line lines then status.BadLines else status.Done
 
 -- the script's answers may be this text and this status
-abbrev pub IsAnswered : Setup → List ℕ → Status → List ℕ → Type 0
-IsAnswered setup script status text = (last : Stage) × PrintsFrom setup (lines_in script) text last × (status ≡ status_of last (lines_in script))
+abbrev pub IsScriptAnswered : Setup → List ℕ → Status → List ℕ → Type 0
+IsScriptAnswered setup script status text = (last : ScriptStage) × PrintsFrom setup (lines_in script) text last × (status ≡ status_of last (lines_in script))
 
 -- some first lines of the script may print this text
 abbrev pub IsAnsweredInPart : Setup → List ℕ → List ℕ → Type 0
 IsAnsweredInPart setup script text =
-    (front : List (List ℕ)) × (back : List (List ℕ)) × (last : Stage) × (front ++ back ≡ lines_in script) × PrintsFrom setup front text last
+    (front : List (List ℕ)) × (back : List (List ℕ)) × (last : ScriptStage) × (front ++ back ≡ lines_in script) × PrintsFrom setup front text last

@@ -7,8 +7,8 @@ ghost use Rattle.pc_types.specs.Tallies.{inner_of, failures_of, Puts};
 ghost use Rattle.pc_types.specs.Counted.{HasRisen};
 ghost use Rattle.pc_script.specs.declared.script.Status.{Status};
 ghost use Rattle.pc_script.specs.declared.script.Status.TheVariants.{NoStore};
-ghost use Rattle.pc_script.specs.Scripts.{IsAnswered};
-ghost use Rattle.pc_script.specs.Runs.{exit_of, AnswersInPart, IsFault, IsUnanswered};
+ghost use Rattle.pc_script.specs.Scripts.{IsScriptAnswered};
+ghost use Rattle.pc_script.specs.Runs.{exit_of, AnswersInPart, IsFault, IsScriptUnanswered};
 ghost use Rattle.pc_texts.specs.Files.{report_text};
 
 use crate::script::{Status, answer_script};
@@ -47,16 +47,16 @@ pub fn run_script<R: Read + Drop, W: Write, E: Write>(
     ensures opened { ¬ (result ≡ 1) → IsOk opened }
     ensures answered { ¬ (result ≡ 1) → IfOk opened (λ reader. IfSome (R.remaining reader) (λ script.
         (status : Status) × (text : List ℕ) × (result ≡ exit_of status)
-        × Appends (W.contents (inner_of out.old)) (W.contents (inner_of out.new)) text × IsAnswered setup script status text)) }
+        × Appends (W.contents (inner_of out.old)) (W.contents (inner_of out.new)) text × IsScriptAnswered setup script status text)) }
     ensures sound { ¬ (result ≡ 1) → failures_of out.new ≡ failures_of out.old }
     ensures quiet { ¬ (result ≡ 1) → Keeps (E.contents (inner_of errors.old)) (E.contents (inner_of errors.new)) }
     ensures told { IfErr opened (λ why. (result ≡ 1) × (out.new ≡ out.old)
         × ((told : Result (Unit {0}) Refusal) × Puts E.contents errors.old errors.new told (report_text name.now why))) }
     ensures in_part { result ≡ 1 → AnswersInPart R.remaining W.contents setup opened out.old out.new }
     ensures cause { result ≡ 1 → (HasRisen (failures_of out.old) (failures_of out.new) × (errors.new ≡ errors.old))
-        ⊎ (((why : Refusal) × IsUnanswered opened out.old out.new why × ((told : Result (Unit {0}) Refusal) × Puts E.contents errors.old errors.new told (report_text name.now why)))
+        ⊎ (((why : Refusal) × IsScriptUnanswered opened out.old out.new why × ((told : Result (Unit {0}) Refusal) × Puts E.contents errors.old errors.new told (report_text name.now why)))
         ⊎ ((errors.new ≡ errors.old) × IfOk opened (λ reader. IfSome (R.remaining reader) (λ script. (text : List ℕ)
-        × Appends (W.contents (inner_of out.old)) (W.contents (inner_of out.new)) text × IsAnswered setup script NoStore text)))) }
+        × Appends (W.contents (inner_of out.old)) (W.contents (inner_of out.new)) text × IsScriptAnswered setup script NoStore text)))) }
 {
     match answer_opened(alloc, setup, seed, opened, out) {
         Ok(status) => exit_code(status),
@@ -87,7 +87,7 @@ fn answer_opened<R: Read + Drop, W: Write>(
 ) -> Result<Status, Fault>
     ensures opened { OnOk result (IsOk opened) }
     ensures answered { IfOk result (λ status. IfOk opened (λ reader. IfSome (R.remaining reader) (λ script. (text : List ℕ)
-        × Appends (W.contents (inner_of out.old)) (W.contents (inner_of out.new)) text × IsAnswered setup script status text))) }
+        × Appends (W.contents (inner_of out.old)) (W.contents (inner_of out.new)) text × IsScriptAnswered setup script status text))) }
     ensures sound { OnOk result (failures_of out.new ≡ failures_of out.old) }
     ensures unopened { IfErr opened (λ why. (result ≡ Err (Fault.Script why)) × (out.new ≡ out.old)) }
     ensures in_part { AnswersInPart R.remaining W.contents setup opened out.old out.new }

@@ -7,9 +7,9 @@ ghost use Rattle.pc_model.specs.Maps.{len};
 ghost use Rattle.pc_model.specs.History.{History};
 ghost use Rattle.pc_engine.specs.Stands.{Stands};
 ghost use Rattle.pc_engine.specs.Store.{setting_of};
-ghost use Rattle.pc_script.specs.Scripts.{Stage, setting, refusal_answer, is_base_full, AnswersPair, AnswersLine, AnswersFirst, Answers, answer_text, is_malformed, IsAnswered, IsAnsweredInPart};
-ghost use Rattle.pc_script.specs.Scripts.Stage.{Reading};
-ghost use Rattle.pc_script.specs.Holding.{Holds, HasRoom, IsSaid, IsSaidInPart, is_ended};
+ghost use Rattle.pc_script.specs.Scripts.{ScriptStage, setting, refusal_answer, is_base_full, AnswersPair, AnswersLine, AnswersFirst, AnswersAtStage, answer_text, is_malformed, IsScriptAnswered, IsAnsweredInPart};
+ghost use Rattle.pc_script.specs.Scripts.ScriptStage.{Reading};
+ghost use Rattle.pc_script.specs.Holding.{StageHolds, HasRoomForPairs, IsSaid, IsSaidInPart, is_ended};
 ghost use Rattle.pc_script.specs.declared.script.Status.TheVariants.{BadLines};
 
 use crate::setup::Setup;
@@ -38,7 +38,7 @@ pub enum Status {
 
 /// What is printed for a line.
 #[derive(Drop)]
-pub enum Answer {
+pub enum LineAnswer {
     Nothing,
     BadLine,
     Says(Reply),
@@ -72,7 +72,7 @@ pub fn answer_script<W: Write>(
     out: &mut Tally<W>,
 ) -> Result<Status, Refusal>
     ensures answered { IfOk result (λ status. (text : List ℕ)
-        × Appends (W.contents (inner_of out.old)) (W.contents (inner_of out.new)) text × IsAnswered setup script.now status text) }
+        × Appends (W.contents (inner_of out.old)) (W.contents (inner_of out.new)) text × IsScriptAnswered setup script.now status text) }
     ensures in_part { IfErr result (λ e. (text : List ℕ)
         × AppendsBeginning (W.contents (inner_of out.old)) (W.contents (inner_of out.new)) text × IsAnsweredInPart setup script.now text) }
     ensures refusals { IfErr result (λ e. (e ≡ Refusal.OutOfMemory) ⊎ (e ≡ Refusal.Device)) }
@@ -117,8 +117,8 @@ fn answer_one<W: Write>(
     line: Line,
     out: &mut Tally<W>,
 ) -> Result<Made, Refusal>
-    requires room { HasRoom setup made }
-    ensures room { IfOk result (λ next. HasRoom setup next) }
+    requires room { HasRoomForPairs setup made }
+    ensures room { IfOk result (λ next. HasRoomForPairs setup next) }
     ensures answered { IfOk result (λ next. IsSaid setup made line next
         (λ text. Appends (W.contents (inner_of out.old)) (W.contents (inner_of out.new)) text)) }
     ensures in_part { OnErr result (IsSaidInPart setup made line
@@ -147,10 +147,10 @@ fn answer_line(
     seed: RandomState,
     made: Made,
     line: Line,
-) -> (Answer, Made)
-    requires room { HasRoom setup made }
-    ensures room { HasRoom setup result.1 }
-    ensures answer { (stage : Stage) → Holds setup made stage → (next : Stage) × Holds setup result.1 next × Answers setup stage line result.0 next }
+) -> (LineAnswer, Made)
+    requires room { HasRoomForPairs setup made }
+    ensures room { HasRoomForPairs setup result.1 }
+    ensures answer { (stage : ScriptStage) → StageHolds setup made stage → (next : ScriptStage) × StageHolds setup result.1 next × AnswersAtStage setup stage line result.0 next }
 {
     match made {
         Made::Base(pairs) => answer_base(alloc, setup, seed, pairs, line),
@@ -158,7 +158,7 @@ fn answer_line(
             let answer = answer_stored(alloc, &mut world, line);
             (answer, Made::Store(world))
         }
-        Made::Ended => (Answer::Nothing, Made::Ended),
+        Made::Ended => (LineAnswer::Nothing, Made::Ended),
     }
 }
 
@@ -169,13 +169,13 @@ fn answer_base(
     seed: RandomState,
     mut pairs: Pairs,
     line: Line,
-) -> (Answer, Made)
+) -> (LineAnswer, Made)
     requires room { len pairs ≤ setup.capacity }
-    ensures room { HasRoom setup result.1 }
-    ensures answer { (next : Stage) × Holds setup result.1 next × Answers setup (Reading pairs) line result.0 next }
+    ensures room { HasRoomForPairs setup result.1 }
+    ensures answer { (next : ScriptStage) × StageHolds setup result.1 next × AnswersAtStage setup (Reading pairs) line result.0 next }
 {
     match line {
-        Line::Silent => (Answer::Nothing, Made::Base(pairs)),
+        Line::Silent => (LineAnswer::Nothing, Made::Base(pairs)),
         Line::Sets(key, value) => {
             let answer = add_pair(setup.capacity, &mut pairs, key, value);
             (answer, Made::Base(pairs))
@@ -195,10 +195,10 @@ fn answer_first(
     seed: RandomState,
     pairs: Pairs,
     line: Line,
-) -> (Answer, Made)
+) -> (LineAnswer, Made)
     requires room { len pairs ≤ setup.capacity }
-    ensures room { HasRoom setup result.1 }
-    ensures answer { (next : Stage) × Holds setup result.1 next × AnswersFirst setup pairs line result.0 next }
+    ensures room { HasRoomForPairs setup result.1 }
+    ensures answer { (next : ScriptStage) × StageHolds setup result.1 next × AnswersFirst setup pairs line result.0 next }
 {
     match start(alloc, setup, seed, pairs) {
         Some(mut world) => {
@@ -209,10 +209,10 @@ fn answer_first(
     }
 }
 
-pub(crate) fn refusal_answer(why: Refusal) -> Answer
+pub(crate) fn refusal_answer(why: Refusal) -> LineAnswer
     ensures { result ≡ refusal_answer why }
 {
-    Answer::Says(Reply::Refused(why))
+    LineAnswer::Says(Reply::Refused(why))
 }
 
 // Whether the key is new and the base has as many pairs as the capacity.
@@ -223,7 +223,7 @@ fn is_full(capacity: u32, pairs: &Pairs, key: &Key) -> bool
 }
 
 // Sets a pair of the base.
-fn add_pair(capacity: u32, pairs: &mut Pairs, key: Key, value: Value) -> Answer
+fn add_pair(capacity: u32, pairs: &mut Pairs, key: Key, value: Value) -> LineAnswer
     requires { len pairs.old ≤ capacity }
     ensures answer { AnswersPair capacity pairs.old key value result pairs.new }
     ensures room { len pairs.new ≤ capacity }
@@ -232,7 +232,7 @@ fn add_pair(capacity: u32, pairs: &mut Pairs, key: Key, value: Value) -> Answer
         return refusal_answer(Refusal::Full);
     }
     match pairs.insert(key, value) {
-        Ok(()) => Answer::Says(Reply::Ok),
+        Ok(()) => LineAnswer::Says(Reply::Ok),
         Err(_) => refusal_answer(Refusal::OutOfMemory),
     }
 }
@@ -250,41 +250,41 @@ fn start(alloc: Global, setup: Setup, seed: RandomState, pairs: Pairs) -> Option
 }
 
 // Answers a line by the store.
-fn answer_stored(alloc: Global, world: &mut World, line: Line) -> Answer
+fn answer_stored(alloc: Global, world: &mut World, line: Line) -> LineAnswer
     ensures setting { setting_of world.new ≡ setting_of world.old }
     ensures answer { (history : History) → Stands world.old history
         → (next : History) × Stands world.new next × AnswersLine (setting_of world.old) history line result next }
 {
     match line {
-        Line::Silent => Answer::Nothing,
-        Line::Malformed => Answer::BadLine,
+        Line::Silent => LineAnswer::Nothing,
+        Line::Malformed => LineAnswer::BadLine,
         Line::Sets(_, _) => refusal_answer(Refusal::WrongPhase),
         Line::SetsRefused(why) => refusal_answer(why),
         Line::AsksRefused(why) => refusal_answer(why),
-        Line::Asks(event) => Answer::Says(world.step(&event)),
+        Line::Asks(event) => LineAnswer::Says(world.step(&event)),
         Line::Shows(view) => answer_view(alloc, world, view),
     }
 }
 
 // Writes the answer, which is used up.
-fn say<W: Write>(out: &mut Tally<W>, answer: Answer) -> Result<(), Refusal>
+fn say<W: Write>(out: &mut Tally<W>, answer: LineAnswer) -> Result<(), Refusal>
     ensures { Puts W.contents out.old out.new result (answer_text answer) }
 {
     put_answer(out, &answer)
 }
 
-fn put_answer<W: Write>(out: &mut Tally<W>, answer: &Answer) -> Result<(), Refusal>
+fn put_answer<W: Write>(out: &mut Tally<W>, answer: &LineAnswer) -> Result<(), Refusal>
     ensures { Puts W.contents out.old out.new result (answer_text answer.now) }
 {
     match answer {
-        Answer::Nothing => Ok(()),
-        Answer::BadLine => out.put(b"bad line\n"),
-        Answer::Says(reply) => {
+        LineAnswer::Nothing => Ok(()),
+        LineAnswer::BadLine => out.put(b"bad line\n"),
+        LineAnswer::Says(reply) => {
             put_reply(out, reply)?;
             out.put(b"\n")
         }
-        Answer::State(base) => put_state(out, base),
-        Answer::Text(text) => put_text(out, text.as_slice()),
-        Answer::Check(sound) => put_check(out, *sound),
+        LineAnswer::State(base) => put_state(out, base),
+        LineAnswer::Text(text) => put_text(out, text.as_slice()),
+        LineAnswer::Check(sound) => put_check(out, *sound),
     }
 }

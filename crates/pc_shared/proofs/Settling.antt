@@ -11,9 +11,9 @@ use Rattle.pc_model.proofs.ReceiptLaws.{exact}
 use Rattle.pc_tie.specs.declared.sight.Sitting.{Sitting}
 use Rattle.pc_tie.specs.Rules.{Speaks}
 use Rattle.pc_tie.specs.Seats.{IsFrontOf, NoTwoAlike}
-use Rattle.pc_shared.specs.Sitters.{Sitter, sitting_of, IsSeated, IsSettled, AreApart}
+use Rattle.pc_shared.specs.Sitters.{Sitter, sitting_of, IsSeated, IsSitterSettled, AreSittersApart}
 
-one : (st : Setting) (hist : History) (s : Sitter) → IsLegalHistory st hist → IsSeated s → IsFrontOf hist (sitting_of s) → IsSettled st hist s
+one : (st : Setting) (hist : History) (s : Sitter) → IsLegalHistory st hist → IsSeated s → IsFrontOf hist (sitting_of s) → IsSitterSettled st hist s
 one st hist s legal seated front =
     let n : ℕ = s.number in
     let has = front.1 seated.0 in
@@ -21,10 +21,10 @@ one st hist s legal seated front =
     let own : s.receipts ≡ (own_of n hist).receipts = seated.1 ∙ ap (λ (o : Own). o.receipts) (sym same) in
     record { calls = has; own = own; exact = subst (λ (rs : List Receipt). AreExact st.base (log_of hist) n rs) (sym own) (exact st n hist legal) }
 
-settled : (st : Setting) (hist : History) (ss : List Sitter) → IsLegalHistory st hist → All IsSeated ss → All (IsFrontOf hist) (map sitting_of ss) → All (IsSettled st hist) ss
+settled : (st : Setting) (hist : History) (ss : List Sitter) → IsLegalHistory st hist → All IsSeated ss → All (IsFrontOf hist) (map sitting_of ss) → All (IsSitterSettled st hist) ss
 settled st hist [] legal seated fronts = λ k d lt. absurd (omega arith)
 settled st hist (s ∷ ss) legal seated fronts =
-    All-cons (IsSettled st hist) s ss (one st hist s legal (All-head IsSeated s ss seated) (All-head (IsFrontOf hist) (sitting_of s) (map sitting_of ss) fronts))
+    All-cons (IsSitterSettled st hist) s ss (one st hist s legal (All-head IsSeated s ss seated) (All-head (IsFrontOf hist) (sitting_of s) (map sitting_of ss) fronts))
     (settled st hist ss legal (All-tail IsSeated s ss seated) (All-tail (IsFrontOf hist) (sitting_of s) (map sitting_of ss) fronts))
 
 pub nothing_left : {A : Type 0} (xs : List A) → length xs ≡ 0 → xs ≡ []
@@ -41,11 +41,11 @@ at (s ∷ ss) zero d = refl
 at (s ∷ ss) (suc k) d = at ss k d
 
 -- where the keeper had taken in nobody before them
-pub all_settled : (st : Setting) (hist : History) (ss : List Sitter) (guests : List Sitting) → guests ≡ [] → IsLegalHistory st hist → All IsSeated ss → All (IsFrontOf hist) (map sitting_of ss ++ guests) → All (IsSettled st hist) ss
+pub all_settled : (st : Setting) (hist : History) (ss : List Sitter) (guests : List Sitting) → guests ≡ [] → IsLegalHistory st hist → All IsSeated ss → All (IsFrontOf hist) (map sitting_of ss ++ guests) → All (IsSitterSettled st hist) ss
 all_settled st hist ss guests none legal seated fronts =
     settled st hist ss legal seated (subst (All (IsFrontOf hist)) (ap (λ (gs : List Sitting). map sitting_of ss ++ gs) none ∙ append-nil (map sitting_of ss)) fronts)
 
-pub all_apart : (ss : List Sitter) (guests : List Sitting) → guests ≡ [] → All IsSeated ss → NoTwoAlike (map sitting_of ss ++ guests) → AreApart ss
+pub all_apart : (ss : List Sitter) (guests : List Sitting) → guests ≡ [] → All IsSeated ss → NoTwoAlike (map sitting_of ss ++ guests) → AreSittersApart ss
 all_apart ss guests none seated apart i j d lt lt' same =
     let t : NoTwoAlike (map sitting_of ss) = subst NoTwoAlike (ap (λ (gs : List Sitting). map sitting_of ss ++ gs) none ∙ append-nil (map sitting_of ss)) apart in
     let len = same_length ss in

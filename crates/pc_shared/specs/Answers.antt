@@ -5,25 +5,25 @@ use Rattle.pc_model.specs.History.{History}
 use Rattle.pc_model.specs.Replies.{Setting}
 use Rattle.pc_txn.specs.declared.got.Got.{Got}
 use Rattle.pc_txn.specs.declared.got.Got.TheVariants as got
-use Rattle.pc_shared.specs.declared.session.Answer.{Answer}
-use Rattle.pc_shared.specs.declared.session.Answer.TheVariants as answer
-use Rattle.pc_shared.specs.Asked.{IsGot, IsMade}
+use Rattle.pc_shared.specs.declared.session.CallAnswer.{CallAnswer}
+use Rattle.pc_shared.specs.declared.session.CallAnswer.TheVariants as answer
+use Rattle.pc_shared.specs.Asked.{IsGot, IsWriteMade}
 
 -- a session's answer to a read
-abbrev pub answer_of : Got → Answer
+abbrev pub answer_of : Got → CallAnswer
 answer_of (got.Found value) = answer.Found
 answer_of got.Absent = answer.Absent
 answer_of got.Died = answer.Died
 
 -- what a session's read tells
-abbrev pub IsRead : Setting → History → ℕ → List ℕ → Answer → History → Type 0
+abbrev pub IsRead : Setting → History → ℕ → List ℕ → CallAnswer → History → Type 0
 IsRead st before s key a after = (g : Got) × (a ≡ answer_of g) × IsGot st before s key g after
 
 -- a session's answer to a write
-abbrev pub answer_to : Bool → Answer
+abbrev pub answer_to : Bool → CallAnswer
 answer_to true = answer.Ok
 answer_to false = answer.Died
 
 -- what a session's write tells
-abbrev pub IsWritten : Setting → History → Event → Answer → History → Type 0
-IsWritten st before event a after = (made : Bool) × (a ≡ answer_to made) × IsMade st before event made after
+abbrev pub IsWriteAnswered : Setting → History → Event → CallAnswer → History → Type 0
+IsWriteAnswered st before event a after = (made : Bool) × (a ≡ answer_to made) × IsWriteMade st before event made after

@@ -24,9 +24,9 @@ IsGot st before s key got.Absent after = Extends st before (step_of (asked.Get s
 IsGot st before s key got.Died after = Extends st before (step_of (asked.Get s key) told.Died) after
 
 -- a write was made, or its request died
-abbrev pub IsMade : Setting → History → Event → Bool → History → Type 0
-IsMade st before event true after = Extends st before (step_of event told.Ok) after
-IsMade st before event false after = Extends st before (step_of event told.Died) after
+abbrev pub IsWriteMade : Setting → History → Event → Bool → History → Type 0
+IsWriteMade st before event true after = Extends st before (step_of event told.Ok) after
+IsWriteMade st before event false after = Extends st before (step_of event told.Died) after
 
 -- the event that sets the key to the content, or removes it
 abbrev pub write_event : ℕ → List ℕ → Option (List ℕ) → Event

@@ -24,7 +24,7 @@ sitter number seen receipts = record { number = number; seen = seen; receipts = 
 
 -- The session is busy where its transaction is open; its receipts are those that its history gives it, and while it is busy so
 -- are the writes and reads.
-pub record Keeps (busy : Bool) (writes : List Write) (reads : List Read) (receipts : List Receipt) (s : ℕ) (seen : History) : Type 0 where
+pub record SessionKeeps (busy : Bool) (writes : List Write) (reads : List Read) (receipts : List Receipt) (s : ℕ) (seen : History) : Type 0 where
   pub when_open : is_open s seen ≡ busy
   pub of_commits : receipts ≡ (own_of s seen).receipts
   pub while_busy : busy ≡ true → own busy writes reads receipts ≡ own_of s seen
@@ -44,14 +44,14 @@ IsSeated s = Speaks s.number × (s.receipts ≡ (own_of s.number s.seen).receipt
 
 -- The history begins with what the session has seen, and has no other call of it; its receipts are those that the history gives
 -- it, and exact by the log.
-pub record IsSettled (st : Setting) (history : History) (s : Sitter) : Type 0 where
+pub record IsSitterSettled (st : Setting) (history : History) (s : Sitter) : Type 0 where
   pub calls : HasCallsOf history s.number s.seen
   pub own : s.receipts ≡ (own_of s.number history).receipts
   pub exact : AreExact st.base (log_of history) s.number s.receipts
 
 -- no two of the sessions have one number
-abbrev pub AreApart : List Sitter → Type 0
-AreApart ss = (i j : ℕ) (d : Sitter) → i < length ss → j < length ss → (get_or ss i d).number ≡ (get_or ss j d).number → i ≡ j
+abbrev pub AreSittersApart : List Sitter → Type 0
+AreSittersApart ss = (i j : ℕ) (d : Sitter) → i < length ss → j < length ss → (get_or ss i d).number ≡ (get_or ss j d).number → i ≡ j
 
 -- the session of this number is there
 abbrev pub is_there : List Sitter → ℕ → Bool
@@ -68,11 +68,11 @@ LacksOne count ss = (k : ℕ) × (k < count) × (is_there ss (k + 1) ≡ false)
 -- What a store leaves, by one legal history: the base is that of the start, and the log that of the history; each session has
 -- seen a beginning of it with just its calls, and has exact receipts; so has the checkpointer seen one with just its calls; each
 -- part is the file of its points; and the entries that were handed out are the first of the log, so many.
-pub record IsLeft (st : Setting) (start : BaseFile) (log : List Entry) (logged : ℕ) (sessions : List Sitter) (checkpointer : History) (parts : List File) (given : List Entry) (history : History) : Type 0 where
+pub record IsLeftByStore (st : Setting) (start : BaseFile) (log : List Entry) (logged : ℕ) (sessions : List Sitter) (checkpointer : History) (parts : List File) (given : List Entry) (history : History) : Type 0 where
   pub legal : IsLegalHistory st history
   pub base : start ≡ record { run = st.run; point = 0; pairs = st.base }
   pub log_is : log ≡ log_of history
-  pub settled : All (IsSettled st history) sessions
+  pub settled : All (IsSitterSettled st history) sessions
   pub cycles : HasCallsOf history 0 checkpointer
   pub worth : All (IsOfItsPoints st.run st.base log) parts
   pub list : given ≡ take logged log

@@ -3,10 +3,10 @@ ghost use Rattle.std.specs.Prelude.{◌≡◌, ◌≢◌, true, IfOk, IfErr, OnE
 ghost use Rattle.pc_types.specs.declared.Event.TheVariants.{Begin, Get, Put, Del, Commit, Abort};
 ghost use Rattle.pc_types.specs.declared.Reply.TheVariants.{Begun, Committed, Aborted, Refused};
 ghost use Rattle.pc_model.specs.Calls.{step_of, Extends, IsAnswered};
-ghost use Rattle.pc_shared.specs.Asked.{IsGot, IsMade};
+ghost use Rattle.pc_shared.specs.Asked.{IsGot, IsWriteMade};
 ghost use Rattle.pc_shared.specs.Answers.{answer_of};
 
-use crate::session::Answer;
+use crate::session::CallAnswer;
 use crate::store::Shared;
 use pc_tie::{SessionSeat, StoreName};
 use pc_txn::Got;
@@ -14,13 +14,13 @@ use pc_types::{Event, Key, Lsn, Refusal, Reply, Step, TxnNo, Value};
 use std::sync::Wait;
 
 // How a session is told of what a read was answered.
-pub(crate) fn answer_of(got: &Got) -> Answer
+pub(crate) fn answer_of(got: &Got) -> CallAnswer
     ensures { result ≡ answer_of got.now }
 {
     match got {
-        Got::Found(_) => Answer::Found,
-        Got::Absent => Answer::Absent,
-        Got::Died => Answer::Died,
+        Got::Found(_) => CallAnswer::Found,
+        Got::Absent => CallAnswer::Absent,
+        Got::Died => CallAnswer::Died,
     }
 }
 
@@ -100,7 +100,7 @@ impl<N: StoreName> Shared<N> {
         ensures number { seat.new.number ≡ seat.old.number }
         ensures given { IfOk result (λ r. (r.0 ≡ key) × (r.1 ≡ value)) }
         ensures room { IfOk result (λ _. has_room ≡ true) }
-        ensures call { IfOk result (λ r. IsMade N.name.setting seat.old.seen (Put seat.old.number key value) r.2 seat.new.seen) }
+        ensures call { IfOk result (λ r. IsWriteMade N.name.setting seat.old.seen (Put seat.old.number key value) r.2 seat.new.seen) }
         ensures refused { IfErr result (λ why. IsAnswered N.name.setting seat.old.number seat.old.seen (Put seat.old.number key value) (Refused why)) }
         ensures no_wait { IfErr result (λ why. why ≢ Refusal.StillWaiting) }
         ensures same { OnErr result (seat.new.seen ≡ seat.old.seen) }
@@ -130,7 +130,7 @@ impl<N: StoreName> Shared<N> {
         ensures number { seat.new.number ≡ seat.old.number }
         ensures given { IfOk result (λ r. r.0 ≡ key) }
         ensures room { IfOk result (λ _. has_room ≡ true) }
-        ensures call { IfOk result (λ r. IsMade N.name.setting seat.old.seen (Del seat.old.number key) r.1 seat.new.seen) }
+        ensures call { IfOk result (λ r. IsWriteMade N.name.setting seat.old.seen (Del seat.old.number key) r.1 seat.new.seen) }
         ensures refused { IfErr result (λ why. IsAnswered N.name.setting seat.old.number seat.old.seen (Del seat.old.number key) (Refused why)) }
         ensures no_wait { IfErr result (λ why. why ≢ Refusal.StillWaiting) }
         ensures same { OnErr result (seat.new.seen ≡ seat.old.seen) }

@@ -7,7 +7,7 @@ ghost use Rattle.pc_model.specs.Standing.{IsOfItsPoints};
 ghost use Rattle.pc_engine.specs.Stands.{Stands};
 ghost use Rattle.pc_engine.specs.Store.{setting_of};
 ghost use Rattle.pc_tie.specs.Seats.{IsSession, IsFrontOf, NoTwoAlike};
-ghost use Rattle.pc_shared.specs.Sitters.{sitting_of, IsSeated, IsSettled, AreApart, is_there, HasAll, LacksOne};
+ghost use Rattle.pc_shared.specs.Sitters.{sitting_of, IsSeated, IsSitterSettled, AreSittersApart, is_there, HasAll, LacksOne};
 
 use crate::session::Session;
 use pc_engine::World;
@@ -106,8 +106,8 @@ pub(crate) fn close<N: StoreName>(
 ) -> Closed<N>
     ensures stands { Stands result.world latched × (setting_of result.world ≡ N.name.setting) }
     ensures receipts { result.receipts.items ≡ sessions.items }
-    ensures settled { All (IsSettled N.name.setting latched) sessions.items }
-    ensures apart { AreApart sessions.items }
+    ensures settled { All (IsSitterSettled N.name.setting latched) sessions.items }
+    ensures apart { AreSittersApart sessions.items }
     ensures calls { HasCallsOf latched 0 checkpointer }
     ensures parts { result.parts.items ≡ tickets.items }
     ensures worth { All (IsOfItsPoints N.name.setting.run N.name.setting.base (log_of latched)) tickets.items }

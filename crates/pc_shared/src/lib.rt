@@ -14,6 +14,6 @@ pub use ending::{EndMark, Marked};
 pub use pc_latch::{LogPass, PartTicket};
 pub use pc_tie::{CheckpointerSeat, Witness};
 pub use pc_txn::Receipts;
-pub use session::{Answer, Session};
-pub use store::{Held, Opened, Shared, Turn, pause};
+pub use session::{CallAnswer, Session};
+pub use store::{Opened, Shared, Turn, UnderLatch, pause};
 pub use waits::{Waits, Woken};

@@ -6,20 +6,20 @@ ghost use Rattle.pc_types.specs.declared.Reply.TheVariants.{Begun, Committed, Ab
 ghost use Rattle.pc_model.specs.History.{is_open};
 ghost use Rattle.pc_model.specs.Calls.{step_of, Extends, IsAnswered, AsksOpen};
 ghost use Rattle.pc_model.specs.Receipts.{own_of, receipt_of};
-ghost use Rattle.pc_shared.specs.Answers.{IsRead, IsWritten};
+ghost use Rattle.pc_shared.specs.Answers.{IsRead, IsWriteAnswered};
 ghost use Rattle.pc_shared.specs.Finds.{found_in};
 
 use crate::asks::answer_of;
 use crate::store::Shared;
 use pc_tie::{SessionSeat, StoreName};
-use pc_txn::{Receipts, Work, has_room_for_receipt, has_room_to_read, has_room_to_write};
+use pc_txn::{Receipts, SessionNotes, has_room_for_receipt, has_room_to_read, has_room_to_write};
 use pc_types::{Key, Lsn, Refusal, SessionNo, TxnNo, Value};
 use std::marker::Model;
 use std::sync::Wait;
 
 /// How a read or a write of a session was answered.
 #[derive(Clone, Copy, Debug, PartialEq, Eq)]
-pub enum Answer {
+pub enum CallAnswer {
     /// The key has a value, which `Session::found` gives.
     Found,
     /// The key has no value.
@@ -34,20 +34,20 @@ pub enum Answer {
 #[derive(Drop)]
 pub struct Session<N: StoreName> {
     pub(crate) seat: SessionSeat<N>,
-    pub(crate) work: Work,
+    pub(crate) work: SessionNotes,
 }
 
 impl<N: StoreName> Model for Session<N> {
     ghost use Rattle.std.specs.Prelude.{◌≡◌};
     ghost use Rattle.pc_txn.specs.Notes.{kept_in};
     ghost use Rattle.pc_shared.specs.Finds.{found_in};
-    ghost use Rattle.pc_shared.specs.Sitters.{Sitter, sitter, Keeps};
+    ghost use Rattle.pc_shared.specs.Sitters.{Sitter, sitter, SessionKeeps};
 
     ghost Value = { Sitter };
 
     ghost view = { λ s. sitter s.seat.number s.seat.seen s.work.receipts.items };
 
-    ghost invariant = { λ s. Keeps s.work.busy s.work.writes.items s.work.reads.items s.work.receipts.items s.seat.number s.seat.seen × (kept_in s.work.latest s.work.reads.items ≡ found_in s.seat.seen) };
+    ghost invariant = { λ s. SessionKeeps s.work.busy s.work.writes.items s.work.reads.items s.work.receipts.items s.seat.number s.seat.seen × (kept_in s.work.latest s.work.reads.items ≡ found_in s.seat.seen) };
 }
 
 impl<N: StoreName> Session<N> {
@@ -114,7 +114,7 @@ impl<N: StoreName> Shared<N> {
         rt: &R,
         session: &mut Session<N>,
         key: Key,
-    ) -> Result<Answer, Refusal>
+    ) -> Result<CallAnswer, Refusal>
         ensures number { session.new.number ≡ session.old.number }
         ensures receipts { session.new.receipts ≡ session.old.receipts }
         ensures call { IfOk result (λ answer. IsRead N.name.setting session.old.seen session.old.number key answer session.new.seen) }
@@ -145,10 +145,10 @@ impl<N: StoreName> Shared<N> {
         session: &mut Session<N>,
         key: Key,
         value: Value,
-    ) -> Result<Answer, Refusal>
+    ) -> Result<CallAnswer, Refusal>
         ensures number { session.new.number ≡ session.old.number }
         ensures receipts { session.new.receipts ≡ session.old.receipts }
-        ensures call { IfOk result (λ answer. IsWritten N.name.setting session.old.seen (Put session.old.number key value) answer session.new.seen) }
+        ensures call { IfOk result (λ answer. IsWriteAnswered N.name.setting session.old.seen (Put session.old.number key value) answer session.new.seen) }
         ensures refused { IfErr result (λ why. IsAnswered N.name.setting session.old.number session.old.seen (Put session.old.number key value) (Refused why)) }
         ensures no_wait { IfErr result (λ why. why ≢ Refusal.StillWaiting) }
         ensures same { OnErr result (session.new ≡ session.old) }
@@ -163,10 +163,10 @@ impl<N: StoreName> Shared<N> {
         };
         if !made {
             session.work.die();
-            return Ok(Answer::Died);
+            return Ok(CallAnswer::Died);
         }
         session.work.write(key, Some(value));
-        Ok(Answer::Ok)
+        Ok(CallAnswer::Ok)
     }
 
     /// The session's transaction removes the key, once its lock is granted, or the request died. It waits as `put` does, and
@@ -176,10 +176,10 @@ impl<N: StoreName> Shared<N> {
         rt: &R,
         session: &mut Session<N>,
         key: Key,
-    ) -> Result<Answer, Refusal>
+    ) -> Result<CallAnswer, Refusal>
         ensures number { session.new.number ≡ session.old.number }
         ensures receipts { session.new.receipts ≡ session.old.receipts }
-        ensures call { IfOk result (λ answer. IsWritten N.name.setting session.old.seen (Del session.old.number key) answer session.new.seen) }
+        ensures call { IfOk result (λ answer. IsWriteAnswered N.name.setting session.old.seen (Del session.old.number key) answer session.new.seen) }
         ensures refused { IfErr result (λ why. IsAnswered N.name.setting session.old.number session.old.seen (Del session.old.number key) (Refused why)) }
         ensures no_wait { IfErr result (λ why. why ≢ Refusal.StillWaiting) }
         ensures same { OnErr result (session.new ≡ session.old) }
@@ -194,10 +194,10 @@ impl<N: StoreName> Shared<N> {
         };
         if !made {
             session.work.die();
-            return Ok(Answer::Died);
+            return Ok(CallAnswer::Died);
         }
         session.work.write(key, None);
-        Ok(Answer::Ok)
+        Ok(CallAnswer::Ok)
     }
 
     /// The session's transaction commits, and the session has its receipt: the number of its entry in the log, and what it has

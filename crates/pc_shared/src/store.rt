@@ -13,12 +13,12 @@ ghost use Rattle.pc_engine.specs.Stands.{Stands};
 ghost use Rattle.pc_engine.specs.Store.{setting_of};
 ghost use Rattle.pc_tie.specs.Seats.{MovesOn};
 ghost use Rattle.pc_latch.specs.Batches.{batch};
-ghost use Rattle.pc_latch.specs.Cycles.{IsAdvance, IsTaken};
+ghost use Rattle.pc_latch.specs.Cycles.{IsAdvance, IsTakeCalled};
 ghost use Rattle.pc_model.specs.History.{History};
 ghost use Rattle.pc_model.specs.Sets as set;
 ghost use Rattle.pc_latch.specs.Tickets.{HasNoFile, IsNoTicket};
 ghost use Rattle.pc_shared.specs.Asked.{is_wait};
-ghost use Rattle.pc_shared.specs.Sitters.{new_sitters, IsLeft, AreApart, HasAll, LacksOne};
+ghost use Rattle.pc_shared.specs.Sitters.{new_sitters, IsLeftByStore, AreSittersApart, HasAll, LacksOne};
 
 use crate::closing::{Closed, close};
 use crate::logged::Logged;
@@ -28,7 +28,7 @@ use pc_engine::World;
 use pc_latch::{Latched, LogPass, PartTicket};
 use pc_part::Base;
 use pc_tie::{CheckpointerSeat, Keeper, Milestone, SessionSeat, StoreName, Tie, Untied, Witness};
-use pc_txn::Work;
+use pc_txn::SessionNotes;
 use pc_types::{Entry, FileNo, Lsn, MOST_KEYS, MOST_SESSIONS, Refusal, Reply, Step};
 use std::alloc::Global;
 use std::hash::RandomState;
@@ -116,14 +116,14 @@ impl Opened {
             let seat = dealer.deal(&tie);
             sessions.push_reserved(Session {
                 seat,
-                work: Work::new(alloc),
+                work: SessionNotes::new(alloc),
             });
         }
         let pass = LogPass::new(world.base().run(), dealer.witness(&tie));
         let shared = Shared {
             alloc,
             tie,
-            latch: Mutex::new(Held::new(world, dealer.into_keeper())),
+            latch: Mutex::new(UnderLatch::new(world, dealer.into_keeper())),
             granted: Condvar::new(),
             changed: Condvar::new(),
             turned: Condvar::new(),
@@ -144,7 +144,7 @@ impl Opened {
 pub struct Shared<N: StoreName> {
     pub(crate) alloc: Global,
     pub(crate) tie: Tie<N>,
-    pub(crate) latch: Mutex<Held<N>>,
+    pub(crate) latch: Mutex<UnderLatch<N>>,
     pub(crate) granted: Condvar,
     pub(crate) changed: Condvar,
     pub(crate) turned: Condvar,
@@ -165,18 +165,18 @@ pub struct Turn;
 
 /// What lies under the latch: the world with its history, and who waits.
 #[derive(Drop)]
-pub struct Held<N: StoreName> {
+pub struct UnderLatch<N: StoreName> {
     pub(crate) latched: Latched<N>,
     pub(crate) waits: Waits,
 }
 
-impl<N: StoreName> Held<N> {
+impl<N: StoreName> UnderLatch<N> {
     // A world in which nothing has happened, and nobody waits.
-    fn new(world: World, keeper: Keeper<N>) -> Held<N>
+    fn new(world: World, keeper: Keeper<N>) -> UnderLatch<N>
         requires keeper { (keeper.history ≡ []) × (keeper.guests ≡ []) }
         requires world { Stands world [] × (setting_of world ≡ N.name.setting) }
     {
-        Held {
+        UnderLatch {
             latched: Latched::new(world, keeper),
             waits: Waits::new(),
         }
@@ -205,7 +205,7 @@ pub fn pause(times: u32) {
 
 impl<N: StoreName> Shared<N> {
     // Gets the latch.
-    pub(crate) fn get_latch<R: Wait>(&self, rt: &R) -> MutexGuard<'_, Held<N>> {
+    pub(crate) fn get_latch<R: Wait>(&self, rt: &R) -> MutexGuard<'_, UnderLatch<N>> {
         if let Some(held) = self.latch.try_lock() {
             return held;
         }
@@ -302,7 +302,7 @@ impl<N: StoreName> Shared<N> {
     /// The checkpointer takes one key of the point: the key with what it had there, that none is left, or a refusal. What it has
     /// seen moves on by each answer but a refusal.
     pub fn take<R: Wait>(&self, rt: &R, checkpointer: &mut CheckpointerSeat<N>) -> Reply
-        ensures { IsTaken N.name.setting checkpointer.old result checkpointer.new }
+        ensures { IsTakeCalled N.name.setting checkpointer.old result checkpointer.new }
     {
         let mut held = self.get_latch(rt);
         let reply = held.latched.take(&self.tie, checkpointer);
@@ -342,8 +342,8 @@ impl<N: StoreName> Shared<N> {
         tickets: Vec<PartTicket<N>>,
         pass: LogPass<N>,
     ) -> Closed<N>
-        ensures left { (h : History) × IsLeft N.name.setting result.world.base result.world.log result.logged sessions.items checkpointer tickets.items pass h }
-        ensures apart { AreApart sessions.items }
+        ensures left { (h : History) × IsLeftByStore N.name.setting result.world.base result.world.log result.logged sessions.items checkpointer tickets.items pass h }
+        ensures apart { AreSittersApart sessions.items }
         ensures receipts { result.receipts.items ≡ sessions.items }
         ensures parts { result.parts.items ≡ tickets.items }
         ensures all { MatchBool result.all (HasAll N.name.setting.sessions sessions.items) (LacksOne N.name.setting.sessions sessions.items) }
@@ -362,7 +362,7 @@ impl<N: StoreName> Shared<N> {
             end: _,
             count,
         } = self;
-        let Held { latched, waits: _ } = latch.into_inner();
+        let UnderLatch { latched, waits: _ } = latch.into_inner();
         close(&tie, count, latched, sessions, checkpointer, tickets, pass)
     }
 

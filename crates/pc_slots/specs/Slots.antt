@@ -120,7 +120,7 @@ is_locked queue None = true
 is_locked queue (Some w) = has_exclusive queue w.transaction
 
 -- what a slot keeps, given its queue and the point of the last closed set
-pub record IsSound (point : ℕ) (queue : Queue) (slot : Slot) : Type 0 where
+pub record IsSlotSound (point : ℕ) (queue : Queue) (slot : Slot) : Type 0 where
   -- no mark is of a later point
   pub passed : slot.mark ≤ point
   -- an available slot holds a version

@@ -1,7 +1,7 @@
 -- The words of a slot, one on each side of the two sets, and the ends of the queue of its requests.
 use Rattle.std.specs.Prelude.{◌≡◌, ℕ, Bool, true, false, Option, Some, None}
 use Rattle.pc_chain.specs.declared.chain.Chain.{Chain}
-use Rattle.pc_chain.specs.declared.side.Place.{Place}
+use Rattle.pc_chain.specs.declared.side.SideSlot.{SideSlot}
 use Rattle.pc_chain.specs.declared.side.Side.{Side}
 use Rattle.pc_chain.specs.declared.side.Side.TheVariants.{First, Second}
 use Rattle.pc_slots.specs.declared.cells.Cell.{Cell}
@@ -18,26 +18,26 @@ abbrev pub blank_mark : Mark
 blank_mark = record { leads_to = None; is_in = false }
 
 -- the slot on the side that a link leads to
-abbrev pub place_at : ℕ → Option Side → Option Place
+abbrev pub place_at : ℕ → Option Side → Option SideSlot
 place_at slot None = None
 place_at slot (Some side) = Some (record { slot = slot; side = side })
 
 -- what the link of a word leads to
-abbrev pub link_at : Word → Option Place
+abbrev pub link_at : Word → Option SideSlot
 link_at word = place_at word.slot word.leads_to
 
 -- the slot that a link leads to; 0 where it leads to none
-abbrev pub slot_of : Option Place → ℕ
+abbrev pub slot_of : Option SideSlot → ℕ
 slot_of None = 0
 slot_of (Some place) = place.slot
 
 -- the side that a link leads to
-abbrev pub side_of : Option Place → Option Side
+abbrev pub side_of : Option SideSlot → Option Side
 side_of None = None
 side_of (Some place) = Some place.side
 
 -- the mark with this link
-abbrev pub leading : Option Place → Mark → Mark
+abbrev pub leading : Option SideSlot → Mark → Mark
 leading link mark = record mark { leads_to = side_of link }
 
 -- of two that on the side
@@ -65,7 +65,7 @@ abbrev pub is_marked : Side → Cell → Bool
 is_marked side cell = (word_of side cell).is_in
 
 -- what the link on the side leads to
-abbrev pub link_of : Side → Cell → Option Place
+abbrev pub link_of : Side → Cell → Option SideSlot
 link_of side cell = link_at (word_of side cell)
 
 -- the cell with this mark on the side
@@ -73,7 +73,7 @@ abbrev pub with_mark : Side → Bool → Cell → Cell
 with_mark side mark cell = record cell { first = on_side side (record cell.first { is_in = mark }) cell.first; second = on_side side cell.second (record cell.second { is_in = mark }) }
 
 -- the cell with this link on the side
-abbrev pub with_link : Side → Option Place → Cell → Cell
+abbrev pub with_link : Side → Option SideSlot → Cell → Cell
 with_link side link cell = record cell {
   first_next = on_side side (slot_of link) cell.first_next;
   second_next = on_side side cell.second_next (slot_of link);

@@ -3,21 +3,21 @@ ghost use Rattle.std.specs.Prelude.{◌≡◌};
 ghost use Rattle.pc_slots.specs.Words.{place_at, slot_of, side_of};
 
 use crate::cells::Cell;
-use pc_chain::{Place, Side};
+use pc_chain::{Side, SideSlot};
 use pc_types::SlotId;
 
 // The slot on the side that a link leads to.
-fn place_at(slot: SlotId, leads_to: Option<Side>) -> Option<Place>
+fn place_at(slot: SlotId, leads_to: Option<Side>) -> Option<SideSlot>
     ensures { result ≡ place_at slot leads_to }
 {
     match leads_to {
-        Some(side) => Some(Place { slot, side }),
+        Some(side) => Some(SideSlot { slot, side }),
         None => None,
     }
 }
 
 // The slot that a link leads to, 0 where it leads to none, and the side.
-fn parts_of(link: Option<Place>) -> (SlotId, Option<Side>)
+fn parts_of(link: Option<SideSlot>) -> (SlotId, Option<Side>)
     ensures { result ≡ (slot_of link, side_of link) }
 {
     match link {
@@ -31,7 +31,7 @@ impl Cell {
     ghost use Rattle.pc_slots.specs.Words.{link_of, with_link};
 
     /// What the link of the side leads to, a slot on a side; None where it leads to none.
-    pub fn link(&self, side: Side) -> Option<Place>
+    pub fn link(&self, side: Side) -> Option<SideSlot>
         ensures { result ≡ link_of side self.now }
     {
         match side {
@@ -41,7 +41,7 @@ impl Cell {
     }
 
     /// Sets the link of the side, and nothing else.
-    pub fn put_link(&mut self, side: Side, link: Option<Place>)
+    pub fn put_link(&mut self, side: Side, link: Option<SideSlot>)
         ensures { self.new ≡ with_link side link self.old }
     {
         let (slot, leads_to) = parts_of(link);

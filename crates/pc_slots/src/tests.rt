@@ -25,7 +25,7 @@ use Moment::{Close, Commit, Take, Undo, Write};
 // What stands in the place, what is committed, what the key has at the point where it is in the closed set, and whether
 // anything is kept aside.
 #[derive(Clone, Copy, Debug, PartialEq)]
-struct Seen(Option<u8>, Option<u8>, Option<u8>, bool);
+struct SlotSeen(Option<u8>, Option<u8>, Option<u8>, bool);
 
 // A slot, the side of the open set, and the point of the last closed one.
 #[derive(Drop)]
@@ -49,8 +49,8 @@ fn content_of(value: Option<&Value>) -> Option<u8> {
     }
 }
 
-fn look_at(slot: &Cell, side: Side) -> Seen {
-    Seen(
+fn look_at(slot: &Cell, side: Side) -> SlotSeen {
+    SlotSeen(
         content_of(slot.live.as_ref()),
         content_of(versions::committed_of(slot)),
         content_of(versions::pinned_of(slot, side)),
@@ -103,7 +103,7 @@ fn slot_with(alloc: Global, content: u8) -> Result<Cell, Refusal> {
 }
 
 // The first of the rows that came out otherwise.
-fn first_wrong(alloc: Global, rows: &[(Moment, Seen)]) -> Result<Option<usize>, Refusal> {
+fn first_wrong(alloc: Global, rows: &[(Moment, SlotSeen)]) -> Result<Option<usize>, Refusal> {
     let mut seen = Followed {
         slot: slot_with(alloc, 50)?,
         side: Side::First,
@@ -124,66 +124,78 @@ const DURING: Class = Class::During;
 
 const AFTER: Class = Class::After;
 
-const MOMENTS: [(Moment, Seen); 32] = [
+const MOMENTS: [(Moment, SlotSeen); 32] = [
     // An abort puts the committed value back, and a second write replaces the first one.
     (
         Write(BEFORE, Some(51)),
-        Seen(Some(51), Some(50), None, true),
+        SlotSeen(Some(51), Some(50), None, true),
     ),
-    (Write(BEFORE, None), Seen(None, Some(50), None, true)),
-    (Undo, Seen(Some(50), Some(50), None, false)),
+    (Write(BEFORE, None), SlotSeen(None, Some(50), None, true)),
+    (Undo, SlotSeen(Some(50), Some(50), None, false)),
     (
         Write(BEFORE, Some(52)),
-        Seen(Some(52), Some(50), None, true),
+        SlotSeen(Some(52), Some(50), None, true),
     ),
-    (Commit, Seen(Some(52), Some(52), None, false)),
+    (Commit, SlotSeen(Some(52), Some(52), None, false)),
     // A writer of the prepare phase is open when the set is closed: the point has what was committed then.
     (
         Write(DURING, Some(53)),
-        Seen(Some(53), Some(52), None, true),
+        SlotSeen(Some(53), Some(52), None, true),
     ),
-    (Close, Seen(Some(53), Some(52), Some(52), true)),
-    (Write(DURING, None), Seen(None, Some(52), Some(52), true)),
-    (Undo, Seen(Some(52), Some(52), Some(52), false)),
+    (Close, SlotSeen(Some(53), Some(52), Some(52), true)),
+    (
+        Write(DURING, None),
+        SlotSeen(None, Some(52), Some(52), true),
+    ),
+    (Undo, SlotSeen(Some(52), Some(52), Some(52), false)),
     (
         Write(AFTER, Some(54)),
-        Seen(Some(54), Some(52), Some(52), true),
+        SlotSeen(Some(54), Some(52), Some(52), true),
     ),
     (
         Write(AFTER, Some(55)),
-        Seen(Some(55), Some(52), Some(52), true),
+        SlotSeen(Some(55), Some(52), Some(52), true),
     ),
-    (Commit, Seen(Some(55), Some(55), Some(52), true)),
+    (Commit, SlotSeen(Some(55), Some(55), Some(52), true)),
     // Another one after the point, which aborts: what is kept stays.
-    (Write(AFTER, None), Seen(None, Some(55), Some(52), true)),
-    (Undo, Seen(Some(55), Some(55), Some(52), true)),
-    (Take, Seen(Some(55), Some(55), None, false)),
+    (Write(AFTER, None), SlotSeen(None, Some(55), Some(52), true)),
+    (Undo, SlotSeen(Some(55), Some(55), Some(52), true)),
+    (Take, SlotSeen(Some(55), Some(55), None, false)),
     // Once the key is taken nothing is kept of it.
-    (Write(AFTER, Some(56)), Seen(Some(56), Some(55), None, true)),
-    (Commit, Seen(Some(56), Some(56), None, false)),
-    (Close, Seen(Some(56), Some(56), Some(56), false)),
-    (Take, Seen(Some(56), Some(56), None, false)),
+    (
+        Write(AFTER, Some(56)),
+        SlotSeen(Some(56), Some(55), None, true),
+    ),
+    (Commit, SlotSeen(Some(56), Some(56), None, false)),
+    (Close, SlotSeen(Some(56), Some(56), Some(56), false)),
+    (Take, SlotSeen(Some(56), Some(56), None, false)),
     // A writer of the prepare phase commits after the point of a key that an earlier commit wrote.
-    (Write(BEFORE, None), Seen(None, Some(56), None, true)),
-    (Commit, Seen(None, None, None, false)),
-    (Write(DURING, Some(57)), Seen(Some(57), None, None, true)),
-    (Close, Seen(Some(57), None, None, true)),
-    (Commit, Seen(Some(57), Some(57), None, true)),
-    (Write(AFTER, Some(58)), Seen(Some(58), Some(57), None, true)),
-    (Undo, Seen(Some(57), Some(57), None, true)),
-    (Take, Seen(Some(57), Some(57), None, false)),
+    (Write(BEFORE, None), SlotSeen(None, Some(56), None, true)),
+    (Commit, SlotSeen(None, None, None, false)),
+    (
+        Write(DURING, Some(57)),
+        SlotSeen(Some(57), None, None, true),
+    ),
+    (Close, SlotSeen(Some(57), None, None, true)),
+    (Commit, SlotSeen(Some(57), Some(57), None, true)),
+    (
+        Write(AFTER, Some(58)),
+        SlotSeen(Some(58), Some(57), None, true),
+    ),
+    (Undo, SlotSeen(Some(57), Some(57), None, true)),
+    (Take, SlotSeen(Some(57), Some(57), None, false)),
     // It commits in prepare: what it found is forgotten.
     (
         Write(DURING, Some(59)),
-        Seen(Some(59), Some(57), None, true),
+        SlotSeen(Some(59), Some(57), None, true),
     ),
-    (Commit, Seen(Some(59), Some(59), None, false)),
-    (Close, Seen(Some(59), Some(59), Some(59), false)),
+    (Commit, SlotSeen(Some(59), Some(59), None, false)),
+    (Close, SlotSeen(Some(59), Some(59), Some(59), false)),
     (
         Write(DURING, Some(60)),
-        Seen(Some(60), Some(59), Some(59), true),
+        SlotSeen(Some(60), Some(59), Some(59), true),
     ),
-    (Commit, Seen(Some(60), Some(60), Some(59), true)),
+    (Commit, SlotSeen(Some(60), Some(60), Some(59), true)),
 ];
 
 #[test]

@@ -5,14 +5,14 @@ use Rattle.std.proofs.lemmas.List.{get_or-replicate, length-replicate}
 use Rattle.pc_chain.specs.declared.stack.Stack.{Stack}
 use Rattle.pc_chain.proofs.StackLaws.{empty_stack}
 use Rattle.pc_table.specs.Slots.{Slots, at, IsTaken, AllFree}
-use Rattle.pc_table.specs.Indexes.{Table, chain_at, IsIndex}
+use Rattle.pc_table.specs.Indexes.{IndexView, chain_at, IsIndex}
 use Rattle.pc_table.specs.Keys.{key_at}
 
 module _ {T : Type 0} (key_of : T → List ℕ) where
   no_key : (items : List (Option T)) (id : ℕ) (key : List ℕ) → AllFree items → key_at key_of items id ≡ Some key → ⊥
   no_key items id key f h = none-some key (sym (ap (option_map key_of) (f id)) ∙ h)
 
-  pub index_begun : (slots : Slots T) (table : Table) (blank : Stack ℕ) (m : ℕ) → AllFree slots.items → blank.first ≡ None → table.chains ≡ replicate m blank → IsIndex key_of slots table
+  pub index_begun : (slots : Slots T) (table : IndexView) (blank : Stack ℕ) (m : ℕ) → AllFree slots.items → blank.first ≡ None → table.chains ≡ replicate m blank → IsIndex key_of slots table
   index_begun slots table blank m f b c = record {
     ids = λ place. [];
     chains = λ place w.

@@ -1,8 +1,8 @@
 -- Columns of cells.
 use Rattle.std.proofs.Common.{◌≡◌, ◌≢◌, ℕ, ◌<◌, List, Option, Some, None, length, get_or, set, map, refl, sym, ap, ◌∙◌}
 use Rattle.std.proofs.lemmas.List.{get_or-map, length-map, map-set, set-get_or}
-use Rattle.pc_table.specs.declared.cells.Cell.{Cell}
-use Rattle.pc_table.specs.declared.cells.Cell.TheVariants.{Free, Taken}
+use Rattle.pc_table.specs.declared.cells.ArenaCell.{ArenaCell}
+use Rattle.pc_table.specs.declared.cells.ArenaCell.TheVariants.{Free, Taken}
 use Rattle.pc_table.specs.Cells.{item_of, link_of, with_record}
 use Rattle.pc_table.specs.Slots.{at}
 use Rattle.pc_table.proofs.SlotLaws.{at_here, at_other}
@@ -28,10 +28,10 @@ column_read f xs i j x e w r = get_or-map f xs j x None w ∙ ap f (ap (λ k. ge
 
 module _ {T : Type 0} where
   -- a cell with another record has it, and leads to where it led
-  pub item_with : (cell : Cell T) (item : T) → item_of (with_record cell item) ≡ Some item
+  pub item_with : (cell : ArenaCell T) (item : T) → item_of (with_record cell item) ≡ Some item
   item_with (Free leads next) item = refl
   item_with (Taken leads next old) item = refl
 
-  pub link_with : (cell : Cell T) (item : T) → link_of (with_record cell item) ≡ link_of cell
+  pub link_with : (cell : ArenaCell T) (item : T) → link_of (with_record cell item) ≡ link_of cell
   link_with (Free leads next) item = refl
   link_with (Taken leads next old) item = refl

@@ -7,7 +7,7 @@ use Rattle.pc_chain.specs.Chains.{Avoids}
 use Rattle.pc_chain.proofs.StackLaws.{stack_fits}
 use Rattle.pc_table.specs.Slots.{Slots, at, IsTaken}
 use Rattle.pc_table.proofs.SlotLaws.{taken_below}
-use Rattle.pc_table.specs.Indexes.{Table, place_of, chain_at, IsIndex}
+use Rattle.pc_table.specs.Indexes.{IndexView, place_of, chain_at, IsIndex}
 use Rattle.pc_table.specs.Keys.{key_at, IsAbsent, IsSlotOf}
 use Rattle.pc_table.proofs.Texts.{same_text, one_text, own_text}
 
@@ -32,13 +32,13 @@ module _ {T : Type 0} (key_of : T → List ℕ) where
   is_key_of key o x e = ap (is_key key) e
 
   -- the slot that is found
-  pub slot_found : (slots : Slots T) (table : Table) (key : List ℕ) (id : ℕ) (x : T) → IsIndex key_of slots table → at slots.items id ≡ Some x → true ≡ same_text (key_of x) key → IsSlotOf key_of slots.items key (Some id)
+  pub slot_found : (slots : Slots T) (table : IndexView) (key : List ℕ) (id : ℕ) (x : T) → IsIndex key_of slots table → at slots.items id ≡ Some x → true ≡ same_text (key_of x) key → IsSlotOf key_of slots.items key (Some id)
   slot_found slots table key id x i e t = λ other.
       let this : key_at key_of slots.items id ≡ Some key = ap (option_map key_of) e ∙ ap Some (one_text (key_of x) key (sym t)) in
       ((λ s. ap (key_at key_of slots.items) (let f : other ≡ id = cc in f) ∙ this), (λ h. ap Some (i.distinct id other key this h)))
 
   -- where none of the chain has the key, no record has it
-  pub slot_missing : (slots : Slots T) (table : Table) (key : List ℕ) (i : IsIndex key_of slots table) → false ≡ list_any (λ id. is_key key (at slots.items id)) (i.ids (place_of table key)) → IsSlotOf key_of slots.items key None
+  pub slot_missing : (slots : Slots T) (table : IndexView) (key : List ℕ) (i : IsIndex key_of slots table) → false ≡ list_any (λ id. is_key key (at slots.items id)) (i.ids (place_of table key)) → IsSlotOf key_of slots.items key None
   slot_missing slots table key i n = λ id.
       let absent : IsAbsent key_of slots.items key = λ y e. i.all y key e (avoids_where_none (λ z. is_key key (at slots.items z)) (i.ids (place_of table key)) y (sym n) (is_key_at key (at slots.items y) e)) in
       ((λ s. absurd (none-some id s)), (λ h. absurd (absent id h)))
@@ -47,5 +47,5 @@ module _ {T : Type 0} (key_of : T → List ℕ) where
   pub none_absent : (items : List (Option T)) (key : List ℕ) (found : Option ℕ) → IsSlotOf key_of items key found → found ≡ None → IsAbsent key_of items key
   none_absent items key found s e id h = none-some id (sym e ∙ (s id).1 h)
 
-  pub chain_short : (slots : Slots T) (table : Table) (i : IsIndex key_of slots table) (b : ℕ) → b < length table.chains → length (i.ids b) ≤ length slots.items
+  pub chain_short : (slots : Slots T) (table : IndexView) (i : IsIndex key_of slots table) (b : ℕ) → b < length table.chains → length (i.ids b) ≤ length slots.items
   chain_short slots table i b w = stack_fits (IsTaken slots.items) (at slots.links) (chain_at table b) (i.ids b) (length slots.items) (taken_below slots.items) (i.chains b w)

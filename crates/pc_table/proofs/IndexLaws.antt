@@ -5,7 +5,7 @@ use Rattle.pc_chain.proofs.ChainLaws.{have_still, have_from}
 use Rattle.pc_chain.proofs.StackLaws.{stack_still}
 use Rattle.pc_table.specs.Slots.{Slots, at, IsTaken}
 use Rattle.pc_table.proofs.SlotLaws.{at_here, at_other, taken_below}
-use Rattle.pc_table.specs.Indexes.{Table, chain_at, IsIndex}
+use Rattle.pc_table.specs.Indexes.{IndexView, chain_at, IsIndex}
 use Rattle.pc_table.specs.Keys.{key_at, IsSlotOf}
 use Rattle.pc_table.proofs.Places.{IsPlaced}
 
@@ -14,7 +14,7 @@ module _ {T : Type 0} (key_of : T → List ℕ) where
   some_mapped None = refl
   some_mapped (Some x) = refl
 
-  pub index_kept : (old new : Slots T) (table : Table) → ((id : ℕ) → key_at key_of new.items id ≡ key_at key_of old.items id) → ((id : ℕ) → at new.links id ≡ at old.links id) → IsIndex key_of old table → IsIndex key_of new table
+  pub index_kept : (old new : Slots T) (table : IndexView) → ((id : ℕ) → key_at key_of new.items id ≡ key_at key_of old.items id) → ((id : ℕ) → at new.links id ≡ at old.links id) → IsIndex key_of old table → IsIndex key_of new table
   index_kept old new table k l i = record {
     ids = i.ids;
     chains = λ b w. stack_still (IsTaken old.items) (IsTaken new.items) (at old.links) (at new.links) (chain_at table b) (i.ids b)

@@ -9,7 +9,7 @@ use Rattle.pc_chain.proofs.ChainLaws.{have_still, have_from, have_both, avoids_a
 use Rattle.pc_chain.proofs.StackLaws.{stack_still}
 use Rattle.pc_table.specs.Slots.{Slots, at, with_item, IsTaken, IsFree}
 use Rattle.pc_table.proofs.SlotLaws.{at_here, at_other, not_both}
-use Rattle.pc_table.specs.Indexes.{Table, place_of, chain_at, IsIndex}
+use Rattle.pc_table.specs.Indexes.{IndexView, place_of, chain_at, IsIndex}
 use Rattle.pc_table.specs.Keys.{key_at, IsAbsent, IsSlotOf}
 use Rattle.pc_table.proofs.IndexLaws.{slot_kept}
 use Rattle.pc_table.proofs.Places.{changed, with_chain, place_same, changed_here, each_place, each_list, one_key, IsPlaced}
@@ -19,11 +19,11 @@ module _ {T : Type 0} (key_of : T → List ℕ) where
   other_than items id y n t e = not_both (at items id) n (subst (IsTaken items) e t)
 
   -- a free slot is in no chain
-  pub free_avoids : (old : Slots T) (table : Table) (i : IsIndex key_of old table) (id : ℕ) → at old.items id ≡ None → (b : ℕ) → b < length table.chains → Avoids id (i.ids b)
+  pub free_avoids : (old : Slots T) (table : IndexView) (i : IsIndex key_of old table) (id : ℕ) → at old.items id ≡ None → (b : ℕ) → b < length table.chains → Avoids id (i.ids b)
   free_avoids old table i id n b w = all_avoids id (i.ids b) (have_still (IsTaken old.items) (λ y. y ≢ id) (λ y. other_than old.items id y n) (i.ids b) (i.chains b w).held)
 
   -- once it is taken, each chain is what it was
-  pub line_taken : (old mid : Slots T) (table : Table) (i : IsIndex key_of old table) (id : ℕ) (item : T) (chain : Stack ℕ) (b : ℕ) → at old.items id ≡ None → b < length table.chains → mid ≡ with_item old id (Some item) →
+  pub line_taken : (old mid : Slots T) (table : IndexView) (i : IsIndex key_of old table) (id : ℕ) (item : T) (chain : Stack ℕ) (b : ℕ) → at old.items id ≡ None → b < length table.chains → mid ≡ with_item old id (Some item) →
       chain ≡ chain_at table b → IsStack (IsTaken mid.items) (at mid.links) chain (i.ids b)
   line_taken old mid table i id item chain b n w e f =
       let taken : Slots T = with_item old id (Some item) in
@@ -37,7 +37,7 @@ module _ {T : Type 0} (key_of : T → List ℕ) where
   slot_made items id item key found f n s = slot_kept key_of items id (Some item) key found f.0 (λ e. none-some _ (sym (ap (option_map key_of) f.1) ∙ e)) (λ e. n (let h : key_of item ≡ key = cc in h)) s
 
   -- what the push leaves
-  pub record Pushed (old new : Slots T) (table : Table) (i : IsIndex key_of old table) (key : List ℕ) (id : ℕ) (item : T) (chain : Stack ℕ) : Type 0 where
+  pub record Pushed (old new : Slots T) (table : IndexView) (i : IsIndex key_of old table) (key : List ℕ) (id : ℕ) (item : T) (chain : Stack ℕ) : Type 0 where
     pub free : IsFree old.items id
     pub key_is : key_of item ≡ key
     pub absent : IsAbsent key_of old.items key
@@ -46,14 +46,14 @@ module _ {T : Type 0} (key_of : T → List ℕ) where
     pub list : IsStack (IsTaken new.items) (at new.links) chain (id ∷ i.ids (place_of table key))
     pub others : (b : ℕ) → b < length table.chains → b ≢ place_of table key → IsStack (IsTaken new.items) (at new.links) (chain_at table b) (i.ids b)
 
-  module _ (old new : Slots T) (table : Table) (i : IsIndex key_of old table) (key : List ℕ) (id : ℕ) (item : T) (chain : Stack ℕ) (m : Pushed old new table i key id item chain) where
+  module _ (old new : Slots T) (table : IndexView) (i : IsIndex key_of old table) (key : List ℕ) (id : ℕ) (item : T) (chain : Stack ℕ) (m : Pushed old new table i key id item chain) where
     abbrev place : ℕ
     place = place_of table key
 
     abbrev list : List ℕ
     list = id ∷ i.ids place
 
-    abbrev new_table : Table
+    abbrev new_table : IndexView
     new_table = with_chain table place chain
 
     key_other : (y : ℕ) → y ≢ id → key_at key_of new.items y ≡ key_at key_of old.items y

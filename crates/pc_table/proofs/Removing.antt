@@ -3,12 +3,12 @@ use Rattle.std.proofs.Common.{◌≡◌, ◌≢◌, ℕ, ◌<◌, ◌≤◌, inl
 use Rattle.std.proofs.lemmas.Bool.{cases_eq}
 use Rattle.std.proofs.lemmas.Option.{none-some}
 use Rattle.pc_chain.specs.declared.stack.Stack.{Stack}
-use Rattle.pc_chain.specs.Chains.{Avoids, AreApart, AllHave, Leads}
+use Rattle.pc_chain.specs.Chains.{Avoids, AreDisjoint, AllHave, Leads}
 use Rattle.pc_chain.specs.Stacks.{IsStack}
 use Rattle.pc_chain.proofs.ChainLaws.{have_still, have_both, have_without, avoids_all, leads_still, once}
 use Rattle.pc_table.specs.Slots.{Slots, at, IsTaken}
 use Rattle.pc_table.proofs.SlotLaws.{at_here, at_other, taken_below}
-use Rattle.pc_table.specs.Indexes.{Table, place_of, chain_at, IsIndex}
+use Rattle.pc_table.specs.Indexes.{IndexView, place_of, chain_at, IsIndex}
 use Rattle.pc_table.specs.Keys.{key_at, IsAbsent, IsSlotOf}
 use Rattle.pc_table.proofs.Places.{changed, with_chain, place_same, each_place, each_list, elsewhere, places_apart, one_key, IsPlaced}
 use Rattle.pc_table.proofs.IndexLaws.{slot_kept}
@@ -28,7 +28,7 @@ avoids_with y id (x ∷ xs) rest n a = (a.0, avoids_with y id xs rest n a.1)
 
 module _ {T : Type 0} (key_of : T → List ℕ) where
   -- the chain of the slot's key, and where in it the slot stands
-  pub record Standing (old : Slots T) (table : Table) (i : IsIndex key_of old table) (id : ℕ) (item : T) (chain : Stack ℕ) : Type 0 where
+  pub record Standing (old : Slots T) (table : IndexView) (i : IsIndex key_of old table) (id : ℕ) (item : T) (chain : Stack ℕ) : Type 0 where
     pub taken : at old.items id ≡ Some item
     pub place_in : place_of table (key_of item) < length table.chains
     pub before : List ℕ
@@ -37,7 +37,7 @@ module _ {T : Type 0} (key_of : T → List ℕ) where
     pub line : IsStack (IsTaken old.items) (at old.links) chain (before ++ id ∷ rest)
     pub short : length (before ++ id ∷ rest) ≤ length old.items
 
-  pub standing : (old : Slots T) (table : Table) (i : IsIndex key_of old table) (id : ℕ) (item : T) (chain : Stack ℕ) → at old.items id ≡ Some item → place_of table (key_of item) < length table.chains →
+  pub standing : (old : Slots T) (table : IndexView) (i : IsIndex key_of old table) (id : ℕ) (item : T) (chain : Stack ℕ) → at old.items id ≡ Some item → place_of table (key_of item) < length table.chains →
       chain ≡ chain_at table (place_of table (key_of item)) → Standing old table i id item chain
   standing old table i id item chain t w e =
       let p : ℕ = place_of table (key_of item) in
@@ -53,12 +53,12 @@ module _ {T : Type 0} (key_of : T → List ℕ) where
       }
 
   -- chains of other places have nothing in common with it
-  pub others_apart : (old : Slots T) (table : Table) (i : IsIndex key_of old table) (id : ℕ) (item : T) (chain : Stack ℕ) (s : Standing old table i id item chain) (b : ℕ) → b < length table.chains → b ≢ place_of table (key_of item) →
-      AreApart (s.before ++ id ∷ s.rest) (i.ids b)
-  others_apart old table i id item chain s b w n = subst (λ (ys : List ℕ). AreApart ys (i.ids b)) s.split (places_apart key_of old table i (place_of table (key_of item)) b s.place_in w n)
+  pub others_apart : (old : Slots T) (table : IndexView) (i : IsIndex key_of old table) (id : ℕ) (item : T) (chain : Stack ℕ) (s : Standing old table i id item chain) (b : ℕ) → b < length table.chains → b ≢ place_of table (key_of item) →
+      AreDisjoint (s.before ++ id ∷ s.rest) (i.ids b)
+  others_apart old table i id item chain s b w n = subst (λ (ys : List ℕ). AreDisjoint ys (i.ids b)) s.split (places_apart key_of old table i (place_of table (key_of item)) b s.place_in w n)
 
   -- what the slot leaves: its chain without it, and no record
-  pub record Removed (old mid new : Slots T) (table : Table) (i : IsIndex key_of old table) (id : ℕ) (item : T) (chain left : Stack ℕ) (s : Standing old table i id item chain) : Type 0 where
+  pub record Removed (old mid new : Slots T) (table : IndexView) (i : IsIndex key_of old table) (id : ℕ) (item : T) (chain left : Stack ℕ) (s : Standing old table i id item chain) : Type 0 where
     pub list : IsStack (IsTaken mid.items) (at mid.links) left (s.before ++ s.rest)
     pub others : (b : ℕ) → b < length table.chains → b ≢ place_of table (key_of item) → IsStack (IsTaken mid.items) (at mid.links) (chain_at table b) (i.ids b)
     pub same : mid.items ≡ old.items
@@ -72,7 +72,7 @@ module _ {T : Type 0} (key_of : T → List ℕ) where
       let d : y ≢ id = λ s. none-some _ (sym (ap (option_map key_of) (ap (at (set old id None)) s ∙ at_here old id None (taken_below old id (ap is_some t)))) ∙ e') in
       (d, sym (ap (option_map key_of) (at_other old id y None d)) ∙ e')
 
-  pub absent_removed : (old new : Slots T) (table : Table) (id : ℕ) (item : T) → IsIndex key_of old table → at old.items id ≡ Some item → new.items ≡ set old.items id None → IsAbsent key_of new.items (key_of item)
+  pub absent_removed : (old new : Slots T) (table : IndexView) (id : ℕ) (item : T) → IsIndex key_of old table → at old.items id ≡ Some item → new.items ≡ set old.items id None → IsAbsent key_of new.items (key_of item)
   absent_removed old new table id item i t n = λ y e. let h = key_gone old.items id item new.items t n y (key_of item) e in h.0 (i.distinct y id (key_of item) h.1 (ap (option_map key_of) t))
 
   -- and every other key keeps its slot
@@ -80,14 +80,14 @@ module _ {T : Type 0} (key_of : T → List ℕ) where
   slot_removed items id item key found t n s =
       slot_kept key_of items id None key found (taken_below items id (ap is_some t)) (λ e. n (one_key (key_of item) key (key_at key_of items id) (ap (option_map key_of) t) e)) (none-some key) s
 
-  module _ (old mid new : Slots T) (table : Table) (i : IsIndex key_of old table) (id : ℕ) (item : T) (chain left : Stack ℕ) (s : Standing old table i id item chain) (m : Removed old mid new table i id item chain left s) where
+  module _ (old mid new : Slots T) (table : IndexView) (i : IsIndex key_of old table) (id : ℕ) (item : T) (chain left : Stack ℕ) (s : Standing old table i id item chain) (m : Removed old mid new table i id item chain left s) where
     abbrev place : ℕ
     place = place_of table (key_of item)
 
     abbrev list : List ℕ
     list = s.before ++ s.rest
 
-    abbrev new_table : Table
+    abbrev new_table : IndexView
     new_table = with_chain table place left
 
     gone : (y : ℕ) (k : List ℕ) → key_at key_of new.items y ≡ Some k → (y ≢ id) × (key_at key_of old.items y ≡ Some k)

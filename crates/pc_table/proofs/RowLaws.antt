@@ -10,7 +10,7 @@ use Rattle.pc_model.proofs.JoinLaws.{one_key}
 use Rattle.pc_model.proofs.MapLaws.{find-without}
 use Rattle.pc_model.proofs.PairMapLaws.{computes, tested}
 use Rattle.pc_model.proofs.RisingLaws.{both, and_of, none_below, Below, Rise}
-use Rattle.pc_table.specs.Rows.{Row, Contents, slot_of, in_slot, with_record_in, with_record, with_row, without_slot, HasRow, AreInSlots}
+use Rattle.pc_table.specs.Rows.{TableRow, Contents, slot_of, in_slot, with_record_in, with_record, with_row, without_slot, HasRow, AreInSlots}
 
 pub own_key : (key : List ℕ) → same_bytes key key ≡ true
 own_key key = (eq_by_cmp_equiv key_order.total).refl key
@@ -84,7 +84,7 @@ slot_in id (Some p) = p.0
 
 module _ {T : Type 0} where
   -- what is found in a slot is found by its key
-  pub slot_found : (rows : List (Row T)) (id : ℕ) (key : List ℕ) (x : T) → Rise rows → in_slot rows id ≡ Some (key, x) → find key_cmp key rows ≡ Some (id, x)
+  pub slot_found : (rows : List (TableRow T)) (id : ℕ) (key : List ℕ) (x : T) → Rise rows → in_slot rows id ≡ Some (key, x) → find key_cmp key rows ≡ Some (id, x)
   slot_found [] id key x r e = absurd (no_row e)
   slot_found (row ∷ rows) id key x r e =
       let h = both (below_all key_cmp row.0 rows) (is_sorted key_cmp rows) r in
@@ -103,7 +103,7 @@ module _ {T : Type 0} where
       by false t none rest e = later (same_bytes key row.0) refl none (rest e)
 
   -- a slot that is found by a key has a row
-  pub found_has : (rows : List (Row T)) (id : ℕ) (key : List ℕ) (x : T) → find key_cmp key rows ≡ Some (id, x) → HasRow rows id
+  pub found_has : (rows : List (TableRow T)) (id : ℕ) (key : List ℕ) (x : T) → find key_cmp key rows ≡ Some (id, x) → HasRow rows id
   found_has [] id key x e = absurd (no_row e)
   found_has (row ∷ rows) id key x e = by (row.1.0 == id) (same_bytes key row.0) refl (found_has rows id key x) e
     where
@@ -114,7 +114,7 @@ module _ {T : Type 0} where
       by false false t rest e = rest e
 
   -- a slot that a key has, with its record
-  pub placed : (rows : List (Row T)) (key : List ℕ) (id : ℕ) → slot_of rows key ≡ Some id → (x : T) × (find key_cmp key rows ≡ Some (id, x))
+  pub placed : (rows : List (TableRow T)) (key : List ℕ) (id : ℕ) → slot_of rows key ≡ Some id → (x : T) × (find key_cmp key rows ≡ Some (id, x))
   placed rows key id s = by (find key_cmp key rows) refl s
     where
       by : (o : Option (ℕ × T)) → find key_cmp key rows ≡ o → option_map (λ place. place.0) o ≡ Some id → (x : T) × (find key_cmp key rows ≡ Some (id, x))
@@ -122,7 +122,7 @@ module _ {T : Type 0} where
       by (Some p) e s = (p.1, e ∙ ap (λ i. Some (i, p.1)) (same_some s))
 
   -- a key's slot has a row
-  pub slot_has : (rows : List (Row T)) (key : List ℕ) (id : ℕ) → slot_of rows key ≡ Some id → HasRow rows id
+  pub slot_has : (rows : List (TableRow T)) (key : List ℕ) (id : ℕ) → slot_of rows key ≡ Some id → HasRow rows id
   slot_has rows key id s = let h = placed rows key id s in found_has rows id key h.0 h.1
 
   -- two keys have two slots
@@ -130,14 +130,14 @@ module _ {T : Type 0} where
   one_place table key other id x y a e f = ap (λ (p : List ℕ × T). p.0) (same_some (sym ((a.each id key x).1 e) ∙ (a.each id other y).1 f))
 
   -- a row that is put
-  pub rise_put : (rows : List (Row T)) (key : List ℕ) (place : ℕ × T) → Rise rows → Rise (put key_cmp key place rows)
+  pub rise_put : (rows : List (TableRow T)) (key : List ℕ) (place : ℕ × T) → Rise rows → Rise (put key_cmp key place rows)
   rise_put rows key place r = tested (is_sorted-put key_cmp key_order.total key place rows (computes r))
 
   -- of two rows of one key that are put the second stays
   pub put_again : (table : Contents T) (key : List ℕ) (id other : ℕ) (x y : T) → KeysRise table.rows → with_row (with_row table key id x) key other y ≡ with_row table key other y
   put_again table key id other x y r =
       let once = put key_cmp key (id, x) table.rows in
-      ap (λ (rows : List (Row T)). record table { rows = rows })
+      ap (λ (rows : List (TableRow T)). record table { rows = rows })
       (same_rows (put key_cmp key (other, y) once) (put key_cmp key (other, y) table.rows) (rise_put once key (other, y) (rise_put table.rows key (id, x) r)) (rise_put table.rows key (other, y) r)
       (λ q. find-put key_cmp key_order.total q key (other, y) once
       ∙ (ap (cond (same_bytes q key) (Some (other, y))) (find-put key_cmp key_order.total q key (id, x) table.rows)
@@ -151,7 +151,7 @@ module _ {T : Type 0} where
   abbrev in_place : ℕ → T → ℕ × T → ℕ × T
   in_place id x place = (place.0, cond (place.0 == id) x place.1)
 
-  find_recorded : (id : ℕ) (x : T) (key : List ℕ) (rows : List (Row T)) → find key_cmp key (map (with_record_in id x) rows) ≡ option_map (in_place id x) (find key_cmp key rows)
+  find_recorded : (id : ℕ) (x : T) (key : List ℕ) (rows : List (TableRow T)) → find key_cmp key (map (with_record_in id x) rows) ≡ option_map (in_place id x) (find key_cmp key rows)
   find_recorded id x key [] = refl
   find_recorded id x key (row ∷ rows) = by (same_bytes key row.0) (find_recorded id x key rows)
     where
@@ -182,7 +182,7 @@ module _ {T : Type 0} where
     -- to change the record in the key's slot is to put the row of the key
     pub record_put : (x : T) → with_record table id x ≡ with_row table key id x
     record_put x =
-        ap (λ (rows : List (Row T)). record table { rows = rows })
+        ap (λ (rows : List (TableRow T)). record table { rows = rows })
         (same_rows (map (with_record_in id x) table.rows) (put key_cmp key (id, x) table.rows) (rise_mapped (with_record_in id x) (λ row. refl) table.rows a.rise) (rise_put table.rows key (id, x) a.rise)
         (λ q. find_recorded id x q table.rows ∙ (alike q (same_bytes q key) (find key_cmp q table.rows) refl refl ∙ sym (find-put key_cmp key_order.total q key (id, x) table.rows))))
       where

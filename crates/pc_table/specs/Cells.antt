@@ -3,8 +3,8 @@ use Rattle.std.specs.Prelude.{◌≡◌, ◌<◌, ◌≤◌, ◌-◌, ◌++◌, 
 use Rattle.pc_types.specs.declared.limits.TheConstants.{MOST_KEYS}
 use Rattle.pc_chain.specs.declared.chain.Chain.{Chain}
 use Rattle.pc_chain.specs.Chains.{Avoids, AllHave, IsChain}
-use Rattle.pc_table.specs.declared.cells.Cell.{Cell}
-use Rattle.pc_table.specs.declared.cells.Cell.TheVariants.{Free, Taken}
+use Rattle.pc_table.specs.declared.cells.ArenaCell.{ArenaCell}
+use Rattle.pc_table.specs.declared.cells.ArenaCell.TheVariants.{Free, Taken}
 use Rattle.pc_table.specs.Slots.{Slots, at}
 
 -- so many more behind the list, each None
@@ -18,34 +18,34 @@ link_in false next = None
 
 module _ {T : Type 0} where
   -- the record of a cell, if it has one
-  abbrev pub item_of : Cell T → Option T
+  abbrev pub item_of : ArenaCell T → Option T
   item_of (Free leads next) = None
   item_of (Taken leads next item) = Some item
 
   -- where a cell leads
-  abbrev pub link_of : Cell T → Option ℕ
+  abbrev pub link_of : ArenaCell T → Option ℕ
   link_of (Free leads next) = link_in leads next
   link_of (Taken leads next item) = link_in leads next
 
   -- the cell with another record
-  abbrev pub with_record : Cell T → T → Cell T
+  abbrev pub with_record : ArenaCell T → T → ArenaCell T
   with_record (Free leads next) item = Taken leads next item
   with_record (Taken leads next old) item = Taken leads next item
 
   -- the records of the cells
-  abbrev pub items_of : List (Cell T) → List (Option T)
+  abbrev pub items_of : List (ArenaCell T) → List (Option T)
   items_of cells = map item_of cells
 
   -- the links of the cells
-  abbrev pub links_of : List (Cell T) → List (Option ℕ)
+  abbrev pub links_of : List (ArenaCell T) → List (Option ℕ)
   links_of cells = map link_of cells
 
   -- how many slots of so many were never written
-  abbrev pub unwritten : ℕ → List (Cell T) → ℕ
+  abbrev pub unwritten : ℕ → List (ArenaCell T) → ℕ
   unwritten capacity cells = capacity - length cells
 
   -- what is seen of so many slots, of which the first have these cells and the others were never written
-  abbrev pub slots_of : ℕ → List (Cell T) → Slots T
+  abbrev pub slots_of : ℕ → List (ArenaCell T) → Slots T
   slots_of capacity cells = record { items = padded (unwritten capacity cells) (items_of cells); links = padded (unwritten capacity cells) (links_of cells) }
 
   -- these slots, and no others of the first n, have no record, and over these links the chain is the list of them
@@ -55,7 +55,7 @@ module _ {T : Type 0} where
     pub all : (id : ℕ) → id < n → at items id ≡ None → Avoids id ids → ⊥
 
   -- the chain is the list of the slots that were written and have no record
-  pub record IsKept (capacity : ℕ) (cells : List (Cell T)) (free : Chain ℕ) : Type 0 where
+  pub record AreCellsKept (capacity : ℕ) (cells : List (ArenaCell T)) (free : Chain ℕ) : Type 0 where
     pub ids : List ℕ
     pub list : IsFreeList (length cells) (items_of cells) (links_of cells) free ids
     pub within : length cells ≤ capacity

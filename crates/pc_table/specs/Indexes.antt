@@ -9,21 +9,21 @@ use Rattle.pc_table.specs.Hashes.{key_hash}
 use Rattle.pc_table.specs.Keys.{key_at}
 
 -- the chain of each place, and the seed of the hashes
-pub record Table : Type 0 where
+pub record IndexView : Type 0 where
   pub chains : List (Stack ℕ)
   pub seed : RandomState
 
 -- the place of a key
-abbrev pub place_of : Table → List ℕ → ℕ
+abbrev pub place_of : IndexView → List ℕ → ℕ
 place_of table key = bit_and (key_hash table.seed key) (length table.chains - 1)
 
 -- the chain of a place
-abbrev pub chain_at : Table → ℕ → Stack ℕ
+abbrev pub chain_at : IndexView → ℕ → Stack ℕ
 chain_at table place = slice_index_or table.chains place (record { first = None })
 
 -- the slots in the chain of a place have records, whose keys have that place; each record's slot is in the chain of its
 -- key's place; and no two records have one key
-pub record IsIndex {T : Type 0} (key_of : T → List ℕ) (slots : Slots T) (table : Table) : Type 0 where
+pub record IsIndex {T : Type 0} (key_of : T → List ℕ) (slots : Slots T) (table : IndexView) : Type 0 where
   pub ids : ℕ → List ℕ
   pub chains : (place : ℕ) → place < length table.chains → IsStack (IsTaken slots.items) (at slots.links) (chain_at table place) (ids place)
   pub placed : (place : ℕ) → place < length table.chains → AllHave (λ id. (key : List ℕ) → key_at key_of slots.items id ≡ Some key → place_of table key ≡ place) (ids place)

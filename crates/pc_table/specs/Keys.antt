@@ -16,9 +16,9 @@ module _ {T : Type 0} (key_of : T → List ℕ) where
   IsAbsent items key = (id : ℕ) → key_at items id ≢ Some key
 
   -- each key but this one has the slot that it had, or none as before
-  abbrev pub KeepsOthers : List ℕ → List (Option T) → List (Option T) → Type 0
-  KeepsOthers key old new = (other : List ℕ) (found : Option ℕ) → other ≢ key → IsSlotOf old other found → IsSlotOf new other found
+  abbrev pub KeepsOtherSlots : List ℕ → List (Option T) → List (Option T) → Type 0
+  KeepsOtherSlots key old new = (other : List ℕ) (found : Option ℕ) → other ≢ key → IsSlotOf old other found → IsSlotOf new other found
 
 -- the record has gone into the slot, which was free
-abbrev pub IsMade : {T : Type 0} → T → List (Option T) → List (Option T) → ℕ → Type 0
-IsMade item old new id = IsFree old id × (new ≡ slice_set old id (Some item))
+abbrev pub IsRecordMade : {T : Type 0} → T → List (Option T) → List (Option T) → ℕ → Type 0
+IsRecordMade item old new id = IsFree old id × (new ≡ slice_set old id (Some item))

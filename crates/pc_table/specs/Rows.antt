@@ -8,30 +8,30 @@ use Rattle.pc_types.specs.declared.refusal.Refusal.TheVariants.{Full, OutOfMemor
 use Rattle.pc_model.specs.Database.{KeysRise, key_cmp}
 
 -- a row: the key, and its slot with its record
-abbrev pub Row : Type 0 → Type 0
-Row T = List ℕ × (ℕ × T)
+abbrev pub TableRow : Type 0 → Type 0
+TableRow T = List ℕ × (ℕ × T)
 
 -- how many rows there may be, and the rows
 pub record Contents (T : Type 0) : Type 0 where
   pub capacity : ℕ
-  pub rows : List (Row T)
+  pub rows : List (TableRow T)
 
 module _ {T : Type 0} where
   -- the slot of the key; None where the key has no row
-  abbrev pub slot_of : List (Row T) → List ℕ → Option ℕ
+  abbrev pub slot_of : List (TableRow T) → List ℕ → Option ℕ
   slot_of rows key = option_map (λ place. place.0) (find key_cmp key rows)
 
   -- the key and the record in the slot; None where the slot has no row
-  abbrev pub in_slot : List (Row T) → ℕ → Option (List ℕ × T)
+  abbrev pub in_slot : List (TableRow T) → ℕ → Option (List ℕ × T)
   in_slot [] id = None
   in_slot (row ∷ rows) id = if row.1.0 == id then Some (row.0, row.1.1) else in_slot rows id
 
   -- the slot has a row
-  abbrev pub HasRow : List (Row T) → ℕ → Type 0
+  abbrev pub HasRow : List (TableRow T) → ℕ → Type 0
   HasRow rows id = IsSome (in_slot rows id)
 
   -- the row, in which the slot has another record
-  abbrev pub with_record_in : ℕ → T → Row T → Row T
+  abbrev pub with_record_in : ℕ → T → TableRow T → TableRow T
   with_record_in id x row = (row.0, (row.1.0, if row.1.0 == id then x else row.1.1))
 
   -- the rows once the slot has the record

@@ -4,7 +4,7 @@ ghost use Rattle.std.specs.Borrow.{sem};
 ghost use Rattle.pc_table.specs.SlotLending.{LendsItem};
 ghost use Rattle.pc_table.specs.Slots.{at, is_full, with_item, IsTaken, IsFree, AllFree};
 
-use crate::cells::{ByLink, Cell, Cells};
+use crate::cells::{ArenaCell, ByLink, Cells};
 use pc_chain::{Chain, Links};
 use pc_types::{MOST_KEYS, Refusal, SlotId};
 use std::alloc::{AllocError, Global};
@@ -29,13 +29,13 @@ pub struct Arena<T> {
 impl<T> Model for Arena<T> {
     ghost use Rattle.std.specs.Prelude.{◌≤◌, vec_capacity};
     ghost use Rattle.pc_table.specs.Slots.{Slots};
-    ghost use Rattle.pc_table.specs.Cells.{slots_of, IsKept};
+    ghost use Rattle.pc_table.specs.Cells.{slots_of, AreCellsKept};
 
     ghost Value = { Slots T };
 
     ghost view = { λ a. slots_of a.capacity a.cells.cells.items };
 
-    ghost invariant = { λ a. IsKept a.capacity a.cells.cells.items a.free × (a.capacity ≤ vec_capacity a.cells.cells) };
+    ghost invariant = { λ a. AreCellsKept a.capacity a.cells.cells.items a.free × (a.capacity ≤ vec_capacity a.cells.cells) };
 }
 
 impl<T> Links<ByLink> for Arena<T> {
@@ -152,7 +152,7 @@ impl<T: Drop> Arena<T> {
         if written == self.capacity {
             return Err(Refusal::Full);
         }
-        self.cells.cells.push_reserved(Cell::taken(item));
+        self.cells.cells.push_reserved(ArenaCell::taken(item));
         Ok(SlotId(written))
     }
 

@@ -10,25 +10,25 @@ use std::mem;
 /// A slot's cell. One without a record is free. Where its link leads to a slot, `next` is that slot's number; else `next`
 /// means nothing. The fields stand in the variants themselves, so that all beside the record takes 8 bytes.
 #[derive(Drop)]
-pub(crate) enum Cell<T> {
+pub(crate) enum ArenaCell<T> {
     /// No record.
     Free { leads: bool, next: u32 },
     /// A record.
     Taken { leads: bool, next: u32, item: T },
 }
 
-impl<T> Cell<T> {
+impl<T> ArenaCell<T> {
     ghost use Rattle.std.specs.Prelude.{◌≡◌, Some, None, IsSome, option_copied};
     ghost use Rattle.std.specs.Borrow.{sem};
     ghost use Rattle.pc_table.specs.Cells.{item_of, link_of};
-    ghost use Rattle.pc_table.specs.SlotLending.{LendsRecord};
+    ghost use Rattle.pc_table.specs.SlotLending.{LendsCellRecord};
 
     /// A cell with the record. Its link leads to none.
     pub(crate) fn taken(item: T) -> Self
         ensures item { item_of result ≡ Some item }
         ensures link { link_of result ≡ None }
     {
-        Cell::Taken {
+        ArenaCell::Taken {
             leads: false,
             next: 0,
             item,
@@ -40,8 +40,8 @@ impl<T> Cell<T> {
         ensures { result ≡ link_of self.now }
     {
         match self {
-            Cell::Free { leads, next } => slot_where(*leads, *next),
-            Cell::Taken { leads, next, .. } => slot_where(*leads, *next),
+            ArenaCell::Free { leads, next } => slot_where(*leads, *next),
+            ArenaCell::Taken { leads, next, .. } => slot_where(*leads, *next),
         }
     }
 
@@ -52,11 +52,11 @@ impl<T> Cell<T> {
     {
         let (does, slot) = words_of(link);
         match self {
-            Cell::Free { leads, next } => {
+            ArenaCell::Free { leads, next } => {
                 *leads = does;
                 *next = slot;
             }
-            Cell::Taken { leads, next, .. } => {
+            ArenaCell::Taken { leads, next, .. } => {
                 *leads = does;
                 *next = slot;
             }
@@ -68,25 +68,25 @@ impl<T> Cell<T> {
         ensures { option_copied result ≡ item_of self.now }
     {
         match self {
-            Cell::Free { .. } => None,
-            Cell::Taken { item, .. } => Some(item),
+            ArenaCell::Free { .. } => None,
+            ArenaCell::Taken { item, .. } => Some(item),
         }
     }
 
     /// The record, which is there.
     pub(crate) fn item_mut(&mut self) -> &mut T
         requires { IsSome (item_of self.old) }
-        ensures* lends { sem 𝓛 (LendsRecord T.row self.entry result) }
+        ensures* lends { sem 𝓛 (LendsCellRecord T.row self.entry result) }
         ensures value { item_of self.old ≡ Some result.now }
     {
         match self {
-            Cell::Free { .. } => unreachable!(),
-            Cell::Taken { item, .. } => item,
+            ArenaCell::Free { .. } => unreachable!(),
+            ArenaCell::Taken { item, .. } => item,
         }
     }
 }
 
-impl<T: Drop> Cell<T> {
+impl<T: Drop> ArenaCell<T> {
     ghost use Rattle.std.specs.Prelude.{◌≡◌, Some, None, IsSome};
     ghost use Rattle.pc_table.specs.Cells.{item_of, link_of};
 
@@ -96,7 +96,7 @@ impl<T: Drop> Cell<T> {
         ensures link { link_of self.new ≡ link_of self.old }
     {
         let (leads, next) = words_of(self.link());
-        *self = Cell::Taken { leads, next, item };
+        *self = ArenaCell::Taken { leads, next, item };
     }
 
     /// Takes the record, which is there, out. The link stays.
@@ -107,9 +107,9 @@ impl<T: Drop> Cell<T> {
         ensures link { link_of self.new ≡ link_of self.old }
     {
         let (leads, next) = words_of(self.link());
-        match mem::replace(self, Cell::Free { leads, next }) {
-            Cell::Free { .. } => unreachable!(),
-            Cell::Taken { item, .. } => item,
+        match mem::replace(self, ArenaCell::Free { leads, next }) {
+            ArenaCell::Free { .. } => unreachable!(),
+            ArenaCell::Taken { item, .. } => item,
         }
     }
 }
@@ -134,7 +134,7 @@ fn words_of(link: Option<SlotId>) -> (bool, u32)
 /// The cells of the slots that were ever taken: the first of the arena's slots.
 #[derive(Drop)]
 pub(crate) struct Cells<T> {
-    pub(crate) cells: Vec<Cell<T>>,
+    pub(crate) cells: Vec<ArenaCell<T>>,
 }
 
 /// Marks the one word of links that each slot has. The arena links its free slots by it; those with a record are linked by

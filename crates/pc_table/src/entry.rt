@@ -6,20 +6,20 @@ use std::alloc::{AllocError, Global};
 
 /// A key with its record.
 #[derive(Drop)]
-pub(crate) struct Entry<T> {
+pub(crate) struct TableEntry<T> {
     pub(crate) key: Key,
     pub(crate) item: T,
 }
 
-impl<T> Entry<T> {
+impl<T> TableEntry<T> {
     ghost use Rattle.std.specs.Prelude.{◌≡◌};
     ghost use Rattle.std.specs.Borrow.{sem};
-    ghost use Rattle.pc_table.specs.Lending.{LendsRecord};
+    ghost use Rattle.pc_table.specs.Lending.{LendsEntryRecord};
     ghost use Rattle.pc_table.specs.Rows.{pair_behind};
 
     /// The record, to be changed where it stands.
     pub(crate) fn item_mut(&mut self) -> &mut T
-        ensures* lends { sem 𝓛 (LendsRecord T.row self.entry result) }
+        ensures* lends { sem 𝓛 (LendsEntryRecord T.row self.entry result) }
         ensures value { self.old.item ≡ result.now }
     {
         &mut self.item
@@ -36,12 +36,12 @@ impl<T> Entry<T> {
     pub(crate) fn into_item(self) -> T
         ensures { result ≡ self.item }
     {
-        let Entry { key: _, item } = self;
+        let TableEntry { key: _, item } = self;
         item
     }
 }
 
-impl<T: Blank> Keyed for Entry<T> {
+impl<T: Blank> Keyed for TableEntry<T> {
     ghost use Rattle.std.specs.Prelude.{refl};
     ghost use Rattle.pc_table.specs.Entries.{key_in, entry_of};
 
@@ -53,9 +53,9 @@ impl<T: Blank> Keyed for Entry<T> {
         &self.key
     }
 
-    fn blank(alloc: Global, key: &Key) -> Result<Entry<T>, AllocError> {
+    fn blank(alloc: Global, key: &Key) -> Result<TableEntry<T>, AllocError> {
         let key = key.copy(alloc)?;
-        Ok(Entry {
+        Ok(TableEntry {
             key,
             item: T::blank(),
         })

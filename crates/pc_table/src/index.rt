@@ -3,7 +3,7 @@ ghost use Rattle.std.specs.Prelude.{◌≡◌, ◌<◌, true, length, IfOk, IfEr
 ghost use Rattle.std.specs.Int.{IsNextPowerOfTwo};
 ghost use Rattle.pc_table.specs.Slots.{at, is_full, IsTaken, AllFree};
 ghost use Rattle.pc_table.specs.Indexes.{place_of, IsIndex};
-ghost use Rattle.pc_table.specs.Keys.{IsSlotOf, IsAbsent, KeepsOthers, IsMade};
+ghost use Rattle.pc_table.specs.Keys.{IsSlotOf, IsAbsent, KeepsOtherSlots, IsRecordMade};
 
 use crate::arena::Arena;
 use crate::cells::ByLink;
@@ -31,9 +31,9 @@ pub struct Index {
 
 impl Model for Index {
     ghost use Rattle.std.specs.Prelude.{◌<◌, length};
-    ghost use Rattle.pc_table.specs.Indexes.{Table};
+    ghost use Rattle.pc_table.specs.Indexes.{IndexView};
 
-    ghost Value = { Table };
+    ghost Value = { IndexView };
 
     ghost view = { λ a. record { chains = a.chains.items; seed = a.seed } };
 
@@ -95,8 +95,8 @@ impl Index {
     ) -> Result<SlotId, Refusal>
         requires index { IsIndex T.key_of arena.old self.old }
         requires absent { IsAbsent T.key_of arena.old.items key.now }
-        ensures made { IfOk result (λ id. IsMade (T.blank_of key.now) arena.old.items arena.new.items id) }
-        ensures others { KeepsOthers T.key_of key.now arena.old.items arena.new.items }
+        ensures made { IfOk result (λ id. IsRecordMade (T.blank_of key.now) arena.old.items arena.new.items id) }
+        ensures others { KeepsOtherSlots T.key_of key.now arena.old.items arena.new.items }
         ensures index { IsIndex T.key_of arena.new self.new }
         ensures full { is_full arena.old.items ≡ true → result ≡ Err Refusal.Full }
         ensures refusal { IfErr result (λ e. e ≡ (if is_full arena.old.items then Refusal.Full else Refusal.OutOfMemory)) }
@@ -122,7 +122,7 @@ impl Index {
         ensures given { at arena.old.items id ≡ Some result }
         ensures items { arena.new.items ≡ slice_set arena.old.items id None }
         ensures gone { IsAbsent T.key_of arena.new.items (T.key_of result) }
-        ensures others { KeepsOthers T.key_of (T.key_of result) arena.old.items arena.new.items }
+        ensures others { KeepsOtherSlots T.key_of (T.key_of result) arena.old.items arena.new.items }
         ensures index { IsIndex T.key_of arena.new self.new }
     {
         let place = self.place(arena.get(id).key());

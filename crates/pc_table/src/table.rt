@@ -6,7 +6,7 @@ ghost use Rattle.pc_table.specs.Lending.{LendsRow};
 
 use crate::arena::Arena;
 use crate::blank::Blank;
-use crate::entry::Entry;
+use crate::entry::TableEntry;
 use crate::index::Index;
 use pc_types::{Key, MOST_KEYS, Refusal, SlotId};
 use std::alloc::{AllocError, Global};
@@ -20,7 +20,7 @@ use std::marker::Model;
 /// All memory for slots is taken when the table is made. Only a new key of more than 16 bytes takes memory of its own.
 #[derive(Drop)]
 pub struct Table<T> {
-    entries: Arena<Entry<T>>,
+    entries: Arena<TableEntry<T>>,
     index: Index,
 }
 
@@ -29,11 +29,11 @@ impl<T> Model for Table<T> {
 
     ghost Value = { Contents T };
 
-    ghost use Rattle.pc_table.specs.Entries.{contents_of, IsKept};
+    ghost use Rattle.pc_table.specs.Entries.{contents_of, AreEntriesKept};
 
     ghost view = { λ a. contents_of a.entries.items };
 
-    ghost invariant = { λ a. IsKept a.entries a.index };
+    ghost invariant = { λ a. AreEntriesKept a.entries a.index };
 }
 
 impl<T: Blank> Table<T> {

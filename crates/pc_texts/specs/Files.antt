@@ -18,9 +18,9 @@ abbrev pub IsScriptFault : {R : Type 0} → Result R Refusal → Refusal → Typ
 IsScriptFault opened why = MatchResult opened (λ reader. (why ≡ OutOfMemory) ⊎ (why ≡ Device)) (λ absent. why ≡ absent)
 
 -- a file that was opened holds these bytes
-abbrev pub Holds : {R : Type 0} → (R → Option (List ℕ)) → Result R Refusal → List ℕ → Type 0
-Holds remaining (Ok reader) bytes = remaining reader ≡ Some bytes
-Holds remaining (Err why) bytes = ⊥
+abbrev pub HoldsBytes : {R : Type 0} → (R → Option (List ℕ)) → Result R Refusal → List ℕ → Type 0
+HoldsBytes remaining (Ok reader) bytes = remaining reader ≡ Some bytes
+HoldsBytes remaining (Err why) bytes = ⊥
 
 -- each of these files was opened
 abbrev pub AreOpened : {R : Type 0} → List (NamedFile R) → Type 0

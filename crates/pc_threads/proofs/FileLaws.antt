@@ -7,13 +7,13 @@ use Rattle.pc_model.specs.Sets as set
 use Rattle.pc_part.specs.Texts.{part_text}
 use Rattle.pc_texts.specs.declared.file_names.FileName.{FileName}
 use Rattle.pc_texts.specs.declared.file_names.FileName.TheVariants.{Base, Part}
-use Rattle.pc_threads.specs.Files.{HasParts, HasWritten, KeepsOthers}
+use Rattle.pc_threads.specs.Files.{HasParts, HasWritten, KeepsOtherFiles}
 
 -- two steps that touch one file
-pub keep_both : (a b c : FileName → List ℕ → Type 0) (name : FileName) → KeepsOthers a b name → KeepsOthers b c name → KeepsOthers a c name
+pub keep_both : (a b c : FileName → List ℕ → Type 0) (name : FileName) → KeepsOtherFiles a b name → KeepsOtherFiles b c name → KeepsOtherFiles a c name
 keep_both a b c name first second other text differs had = second other text differs (first other text differs had)
 
-module _ (old new : FileName → List ℕ → Type 0) (point : ℕ) (keeps : KeepsOthers old new (Part point)) where
+module _ (old new : FileName → List ℕ → Type 0) (point : ℕ) (keeps : KeepsOtherFiles old new (Part point)) where
   -- the base stays where a part is written
   pub base_stays : (text : List ℕ) → old Base text → new Base text
   base_stays text had = keeps Base text (λ is. cc (is)) had

@@ -13,7 +13,7 @@ use Rattle.pc_model.specs.Replies.{Setting}
 use Rattle.pc_jobs.specs.declared.works.Client.{Client}
 use Rattle.pc_jobs.specs.declared.works.Fill.{Fill}
 use Rattle.pc_jobs.specs.declared.works.Job.{Job}
-use Rattle.pc_jobs.specs.declared.works.Work.{Work}
+use Rattle.pc_jobs.specs.declared.works.ClientTask.{ClientTask}
 use Rattle.pc_jobs.specs.Jobs.{job_of}
 use Rattle.pc_shared.specs.Sitters.{Sitter}
 use Rattle.pc_texts.specs.declared.file_names.FileName.{FileName}
@@ -21,11 +21,11 @@ use Rattle.pc_types.specs.declared.tally.Tally.{Tally}
 use Rattle.pc_board.specs.Passes.{Pass}
 use Rattle.pc_workers.specs.Collapsing.{IsShown}
 use Rattle.pc_workers.specs.Collapsing as collapsing
-use Rattle.pc_workers.specs.Logging.{Logged}
+use Rattle.pc_workers.specs.Logging.{LogGoesOut}
 use Rattle.pc_threads.specs.declared.fault.Fault.{Fault}
 use Rattle.pc_threads.specs.declared.fault.Fault.TheVariants as fault
-use Rattle.pc_threads.specs.Clients.{HasDone, HasStopped, HaveStopped, HaveWorked, clients_in, first_of, jobs_in, jobs_of, transactions_in}
-use Rattle.pc_threads.specs.Faults.{IsEnd, IsLost, IsStop}
+use Rattle.pc_threads.specs.Clients.{HasDone, ClientHasStopped, HaveStopped, HaveWorked, clients_in, first_of, jobs_in, jobs_of, transactions_in}
+use Rattle.pc_threads.specs.Faults.{IsThreadsEnd, IsFileLost, IsStop}
 
 -- as many are given up at most as there are
 pub at_most : (way : ℕ → List Bool → History → History → Type 0) (jobs : List Job) (given_up : ℕ) (old new : Sitter) → HasDone way jobs given_up old new → given_up ≤ length jobs
@@ -45,11 +45,11 @@ first_count fill zero = refl
 first_count fill (suc count) = omega (arith, length-append (first_of fill count) (job_of fill count ∷ []), first_count fill count)
 
 -- those of the works before one and its own are among all
-of_works : (works : List Work) (i : ℕ) (work : Work) → i < length works → work ≡ get_or works i work → length (flat_map jobs_in (take i works)) + length (jobs_in work) ≤ length (flat_map jobs_in works)
+of_works : (works : List ClientTask) (i : ℕ) (work : ClientTask) → i < length works → work ≡ get_or works i work → length (flat_map jobs_in (take i works)) + length (jobs_in work) ≤ length (flat_map jobs_in works)
 of_works works i work low is =
-    let front : List Work = take i works in
-    let behind : List Work = drop (i + 1) works in
-    let parted : works ≡ front ++ work ∷ behind = sym (take-append-drop i works) ∙ ap (λ (ws : List Work). front ++ ws) (drop_more works i work low) ∙ ap (λ (w : Work). front ++ w ∷ behind) (sym is) in
+    let front : List ClientTask = take i works in
+    let behind : List ClientTask = drop (i + 1) works in
+    let parted : works ≡ front ++ work ∷ behind = sym (take-append-drop i works) ∙ ap (λ (ws : List ClientTask). front ++ ws) (drop_more works i work low) ∙ ap (λ (w : ClientTask). front ++ w ∷ behind) (sym is) in
     let jobs : flat_map jobs_in works ≡ flat_map jobs_in front ++ (jobs_in work ++ flat_map jobs_in behind) = ap (flat_map jobs_in) parted ∙ flat_map-append jobs_in front (work ∷ behind) in
     let all = ap length jobs in
     omega (arith, all, length-append (flat_map jobs_in front) (jobs_in work ++ flat_map jobs_in behind), length-append (jobs_in work) (flat_map jobs_in behind))
@@ -63,12 +63,12 @@ of_clients clients client rest whole is =
 
 module _ (has_log : Bool) where
   -- what stops some of them
-  more_stop : (some all : List Job) (why : Refusal) → length some ≤ length all → HasStopped has_log some why → HasStopped has_log all why
+  more_stop : (some all : List Job) (why : Refusal) → length some ≤ length all → ClientHasStopped has_log some why → ClientHasStopped has_log all why
   more_stop some all why low (inl device) = inl device
   more_stop some all why low (inr (full, many)) = inr (full, omega (arith, low, many))
 
   -- more were given up than can be counted
-  too_many : (all : List Job) (a b : ℕ) (why : Refusal) → a + b ≤ length all → (why ≡ Full) × (2 ^ 64 ≤ a + b) → HasStopped has_log all why
+  too_many : (all : List Job) (a b : ℕ) (why : Refusal) → a + b ≤ length all → (why ≡ Full) × (2 ^ 64 ≤ a + b) → ClientHasStopped has_log all why
   too_many all a b why low (full, many) = inr (full, omega (arith, low, many))
 
   -- ---- of a fill
@@ -77,19 +77,19 @@ module _ (has_log : Bool) where
     one : length (job_of fill number ∷ []) ≡ 1
     one = refl
 
-    pub fill_stops : (why : Refusal) → HasStopped has_log (job_of fill number ∷ []) why → HasStopped has_log (first_of fill fill.count) why
+    pub fill_stops : (why : Refusal) → ClientHasStopped has_log (job_of fill number ∷ []) why → ClientHasStopped has_log (first_of fill fill.count) why
     fill_stops why stopped = more_stop (job_of fill number ∷ []) (first_of fill fill.count) why (omega (arith, low, one, first_count fill fill.count)) stopped
 
-    pub fill_counts : (given_up more : ℕ) (why : Refusal) → given_up ≤ length (first_of fill number) → more ≤ length (job_of fill number ∷ []) → (why ≡ Full) × (2 ^ 64 ≤ given_up + more) → HasStopped has_log (first_of fill fill.count) why
+    pub fill_counts : (given_up more : ℕ) (why : Refusal) → given_up ≤ length (first_of fill number) → more ≤ length (job_of fill number ∷ []) → (why ≡ Full) × (2 ^ 64 ≤ given_up + more) → ClientHasStopped has_log (first_of fill fill.count) why
     fill_counts given_up more why few own full = too_many (first_of fill fill.count) given_up more why (omega (arith, low, few, own, one, first_count fill number, first_count fill fill.count)) full
 
   -- ---- of works
 
-  module _ (works : List Work) (i : ℕ) (work : Work) (low : i < length works) (is : work ≡ get_or works i work) where
-    pub work_stops : (why : Refusal) → HasStopped has_log (jobs_in work) why → HasStopped has_log (flat_map jobs_in works) why
+  module _ (works : List ClientTask) (i : ℕ) (work : ClientTask) (low : i < length works) (is : work ≡ get_or works i work) where
+    pub work_stops : (why : Refusal) → ClientHasStopped has_log (jobs_in work) why → ClientHasStopped has_log (flat_map jobs_in works) why
     work_stops why stopped = let part = of_works works i work low is in more_stop (jobs_in work) (flat_map jobs_in works) why (omega (arith, part)) stopped
 
-    pub works_count : (given_up more : ℕ) (why : Refusal) → given_up ≤ length (flat_map jobs_in (take i works)) → more ≤ length (jobs_in work) → (why ≡ Full) × (2 ^ 64 ≤ given_up + more) → HasStopped has_log (flat_map jobs_in works) why
+    pub works_count : (given_up more : ℕ) (why : Refusal) → given_up ≤ length (flat_map jobs_in (take i works)) → more ≤ length (jobs_in work) → (why ≡ Full) × (2 ^ 64 ≤ given_up + more) → ClientHasStopped has_log (flat_map jobs_in works) why
     works_count given_up more why few own full = let part = of_works works i work low is in too_many (flat_map jobs_in works) given_up more why (omega (arith, part, few, own)) full
 
   -- ---- of clients
@@ -98,7 +98,7 @@ module _ (has_log : Bool) where
     parted : clients ++ f x ∷ map f rest ≡ whole
     parted = ap (λ (xs : List X). clients ++ map f xs) (sym is) ∙ was
 
-    pub client_stops : (why : Refusal) → HasStopped has_log (jobs_of (f x)) why → HaveStopped has_log whole why
+    pub client_stops : (why : Refusal) → ClientHasStopped has_log (jobs_of (f x)) why → HaveStopped has_log whole why
     client_stops why stopped = let part = of_clients clients (f x) (map f rest) whole parted in inr (more_stop (jobs_of (f x)) (flat_map jobs_of whole) why (omega (arith, part)) stopped)
 
     pub clients_count : (given_up more : ℕ) (why : Refusal) → given_up ≤ length (flat_map jobs_of clients) → more ≤ length (jobs_of (f x)) → (why ≡ Full) × (2 ^ 64 ≤ given_up + more) → HaveStopped has_log whole why
@@ -118,7 +118,7 @@ wider_stop a b m n p q why.ShelfFull on low few stop = omega (arith, few, stop)
 wider_stop a b m n p q why.NoFile on low few stop = omega (arith, few, stop)
 wider_stop a b m n p q other on low few stop = absurd stop
 
-pub more_end : (a b : Bool) (m n p q : ℕ) (given : Fault) → (IsTrue a → IsTrue b) → m ≤ n → p ≤ q → IsEnd a m p given → IsEnd b n q given
+pub more_end : (a b : Bool) (m n p q : ℕ) (given : Fault) → (IsTrue a → IsTrue b) → m ≤ n → p ≤ q → IsThreadsEnd a m p given → IsThreadsEnd b n q given
 more_end a b m n p q (fault.Refused why) on low few end = wider_stop a b m n p q why on low few end
 more_end a b m n p q (fault.Unmade file why) on low few end = on end
 more_end a b m n p q fault.NoThread on low few end = tt
@@ -131,13 +131,13 @@ module _ (writes : Bool) (transactions points : ℕ) where
   device_stops given there is = subst (IsStop writes transactions points) (sym is) there
 
 -- a file that was lost ends it
-pub lost_ends : (name : FileName) (given : Fault) → IsLost name given → IsEnd true 0 0 given
+pub lost_ends : (name : FileName) (given : Fault) → IsFileLost name given → IsThreadsEnd true 0 0 given
 lost_ends name (fault.Refused why) lost = device_stops true 0 0 why refl lost
 lost_ends name (fault.Unmade file why) lost = refl
 lost_ends name fault.NoThread lost = absurd lost
 
-pub lost_device : (name : FileName) (given : Fault) (why : Refusal) → given ≡ fault.Refused why → why ≡ Device → IsLost name given
-lost_device name given why is device = subst (IsLost name) (sym is) device
+pub lost_device : (name : FileName) (given : Fault) (why : Refusal) → given ≡ fault.Refused why → why ≡ Device → IsFileLost name given
+lost_device name given why is device = subst (IsFileLost name) (sym is) device
 
 -- what clients stop for
 pub stopped_ends : (has_log : Bool) (clients : List Client) (given : Refusal) → HaveStopped has_log clients given → IsStop has_log (transactions_in clients) 0 given
@@ -176,7 +176,7 @@ from_none b is = absurd (cc (is))
 -- ---- what the other threads stop for
 
 -- a logger
-pub log_stops : {T X : Type 0} (contents : T → Option (List ℕ)) (old new : Tally T) (result : Result X Refusal) (text : List ℕ) → Logged contents old new result text → IfErr result (IsStop true 0 0)
+pub log_stops : {T X : Type 0} (contents : T → Option (List ℕ)) (old new : Tally T) (result : Result X Refusal) (text : List ℕ) → LogGoesOut contents old new result text → IfErr result (IsStop true 0 0)
 log_stops contents old new (Ok x) text logged = tt
 log_stops contents old new (Err given) text (inl (memory, puts)) = memory_stops true 0 0 given memory
 log_stops contents old new (Err given) text (inr (inl puts)) = device_stops true 0 0 given refl puts.0
@@ -187,7 +187,7 @@ some_points : (points : ℕ) (pass : Pass) (earlier : List ℕ) (last : ℕ) →
 some_points points pass [] last shown = let low = (All-head (IsShown points pass) last [] shown).0 in omega (arith, low)
 some_points points pass (n ∷ more) last shown = let low = (All-head (IsShown points pass) n (more ++ last ∷ []) shown).0 in omega (arith, low)
 
-pub collapser_stops : (st : Setting) (points : ℕ) (seen : History) (before after : Pass) (given : Refusal) → collapsing.HasStopped st points seen before after given → (given ≡ why.NoFile) ⊎ (given ≡ OutOfMemory)
+pub collapser_stops : (st : Setting) (points : ℕ) (seen : History) (before after : Pass) (given : Refusal) → collapsing.CollapserHasStopped st points seen before after given → (given ≡ why.NoFile) ⊎ (given ≡ OutOfMemory)
     → IsStop false 0 points given
 collapser_stops st points seen before after given stopped (inr memory) = memory_stops false 0 points given memory
 collapser_stops st points seen before after given stopped (inl none) = elim stopped.cause [
@@ -196,11 +196,11 @@ collapser_stops st points seen before after given stopped (inl none) = elim stop
 ]
 
 -- what the checkpointer stops for, who takes some of the points
-pub point_ends : (has_log there : Bool) (n some points : ℕ) (given : Fault) → some ≤ points → IsEnd there 0 some given → IsEnd (has_log || there) n points given
+pub point_ends : (has_log there : Bool) (n some points : ℕ) (given : Fault) → some ≤ points → IsThreadsEnd there 0 some given → IsThreadsEnd (has_log || there) n points given
 point_ends has_log there n some points given low end = more_end there (has_log || there) 0 n some points given (right_true has_log there) (omega arith) low end
 
 -- what keeps the hands of a run from their end is a cause for the whole run
-pub hands_end : (hands out : Bool) (n points : ℕ) (given : Fault) → IsEnd hands n points given → IsEnd (hands || out) n points given
+pub hands_end : (hands out : Bool) (n points : ℕ) (given : Fault) → IsThreadsEnd hands n points given → IsThreadsEnd (hands || out) n points given
 hands_end hands out n points given end = more_end hands (hands || out) n n points points given (left_true hands out) (omega arith) (omega arith) end
 
 -- and so is what the logger stops for

@@ -9,8 +9,8 @@ use Rattle.pc_jobs.specs.declared.works.Client.{Client}
 use Rattle.pc_jobs.specs.declared.works.Fill.{Fill}
 use Rattle.pc_jobs.specs.declared.works.Job.{Job}
 use Rattle.pc_jobs.specs.declared.works.Op.{Op}
-use Rattle.pc_jobs.specs.declared.works.Work.{Work}
-use Rattle.pc_jobs.specs.declared.works.Work.TheVariants as work
+use Rattle.pc_jobs.specs.declared.works.ClientTask.{ClientTask}
+use Rattle.pc_jobs.specs.declared.works.ClientTask.TheVariants as work
 use Rattle.pc_jobs.specs.Jobs.{job_of}
 use Rattle.pc_shared.specs.Sitters.{Sitter, sitter}
 use Rattle.pc_workers.specs.Attempts.{TakesMemory, IsTried, AreTried}
@@ -22,7 +22,7 @@ first_of fill zero = []
 first_of fill (suc count) = first_of fill count ++ job_of fill count ∷ []
 
 -- the transactions of a piece of work, in order
-abbrev pub jobs_in : Work → List Job
+abbrev pub jobs_in : ClientTask → List Job
 jobs_in (work.Once job) = job ∷ []
 jobs_in (work.Fill fill) = first_of fill fill.count
 
@@ -40,25 +40,25 @@ IsFresh s = s ≡ sitter s.number [] []
 
 -- Memory was wanting to make a transaction, which names a key or a value of more than 16 bytes: it isn't marked as committed, and
 -- nothing was asked for it.
-abbrev pub IsUnmade : Job → Bool → History → History → Type 0
-IsUnmade job mark early late = (mark ≡ false) × (late ≡ early) × ((op : Op) × (job.ops ≡ op ∷ []) × TakesMemory op)
+abbrev pub IsJobUnmade : Job → Bool → History → History → Type 0
+IsJobUnmade job mark early late = (mark ≡ false) × (late ≡ early) × ((op : Op) × (job.ops ≡ op ∷ []) × TakesMemory op)
 
 -- The transactions of a fill, of which those that are marked were committed, were each tried, or couldn't be made, one after the
 -- other: between these two histories that the session had seen before and has seen now.
-abbrev pub AreFilled : Setting → List Job → ℕ → List Bool → History → History → Type 0
-AreFilled st [] s [] early late = late ≡ early
-AreFilled st (job ∷ jobs) s (mark ∷ marks) early late = (between : History) × (IsTried st s job mark early between ⊎ IsUnmade job mark early between) × AreFilled st jobs s marks between late
-AreFilled st jobs s marks early late = ⊥
+abbrev pub AreFillsTried : Setting → List Job → ℕ → List Bool → History → History → Type 0
+AreFillsTried st [] s [] early late = late ≡ early
+AreFillsTried st (job ∷ jobs) s (mark ∷ marks) early late = (between : History) × (IsTried st s job mark early between ⊎ IsJobUnmade job mark early between) × AreFillsTried st jobs s marks between late
+AreFillsTried st jobs s marks early late = ⊥
 
 -- a piece of work was done: a transaction that stands by itself was tried
-abbrev pub IsDone : Setting → Work → ℕ → List Bool → History → History → Type 0
-IsDone st (work.Once job) s marks early late = AreTried st s marks (job ∷ []) early late
-IsDone st (work.Fill fill) s marks early late = AreFilled st (first_of fill fill.count) s marks early late
+abbrev pub IsTaskDone : Setting → ClientTask → ℕ → List Bool → History → History → Type 0
+IsTaskDone st (work.Once job) s marks early late = AreTried st s marks (job ∷ []) early late
+IsTaskDone st (work.Fill fill) s marks early late = AreFillsTried st (first_of fill fill.count) s marks early late
 
 -- works were done, one after the other
-abbrev pub AreDone : Setting → List Work → ℕ → List Bool → History → History → Type 0
+abbrev pub AreDone : Setting → List ClientTask → ℕ → List Bool → History → History → Type 0
 AreDone st [] s marks early late = (marks ≡ []) × (late ≡ early)
-AreDone st (w ∷ works) s marks early late = (own others : List Bool) × (between : History) × (marks ≡ own ++ others) × IsDone st w s own early between × AreDone st works s others between late
+AreDone st (w ∷ works) s marks early late = (own others : List Bool) × (between : History) × (marks ≡ own ++ others) × IsTaskDone st w s own early between × AreDone st works s others between late
 
 -- Of the transactions those that are marked were committed, and so many others given up; and if the session had no transaction open,
 -- they were done in this way.
@@ -70,8 +70,8 @@ pub record HasDone (way : ℕ → List Bool → History → History → Type 0) 
 
 -- Why whoever was to do these transactions has stopped before their end: the log's file was lost, where there is one; or more of
 -- them were given up than 64 bits can count.
-abbrev pub HasStopped : Bool → List Job → Refusal → Type 0
-HasStopped has_log jobs why = ((why ≡ Device) × IsTrue has_log) ⊎ ((why ≡ Full) × (2 ^ 64 ≤ length jobs))
+abbrev pub ClientHasStopped : Bool → List Job → Refusal → Type 0
+ClientHasStopped has_log jobs why = ((why ≡ Device) × IsTrue has_log) ⊎ ((why ≡ Full) × (2 ^ 64 ≤ length jobs))
 
 -- the client has done its works, from a fresh session on, and given up so many transactions
 abbrev pub HasWorked : Setting → Client → ℕ → Sitter → Type 0
@@ -85,7 +85,7 @@ HaveWorked st clients given_up sessions = ⊥
 
 -- why clients have stopped: memory was wanting, or one of them has
 abbrev pub HaveStopped : Bool → List Client → Refusal → Type 0
-HaveStopped has_log clients why = (why ≡ OutOfMemory) ⊎ HasStopped has_log (flat_map jobs_of clients) why
+HaveStopped has_log clients why = (why ≡ OutOfMemory) ⊎ ClientHasStopped has_log (flat_map jobs_of clients) why
 
 -- the clients of all workers, one worker after the other
 abbrev pub clients_in : List (List Client) → List Client

@@ -8,10 +8,10 @@ use Rattle.pc_threads.specs.declared.fault.Fault.{Fault}
 use Rattle.pc_threads.specs.declared.fault.Fault.TheVariants as fault
 
 -- the file of this name can't be made, or it can't be written
-abbrev pub IsLost : FileName → Fault → Type 0
-IsLost name (fault.Refused why) = why ≡ refusal.Device
-IsLost name (fault.Unmade file why) = file ≡ name
-IsLost name fault.NoThread = ⊥
+abbrev pub IsFileLost : FileName → Fault → Type 0
+IsFileLost name (fault.Refused why) = why ≡ refusal.Device
+IsFileLost name (fault.Unmade file why) = file ≡ name
+IsFileLost name fault.NoThread = ⊥
 
 -- Why one of the threads of a run has stopped, where files are written or not, there are so many transactions, and so many points
 -- are due: memory ran out; a file that is written was lost; more transactions were given up than 64 bits can count, or more points
@@ -27,7 +27,7 @@ IsStop writes transactions points refusal.NoFile = 0 < points
 IsStop writes transactions points other = ⊥
 
 -- the fault that this is of the run: besides, a file that is to be written can't be made, or a thread can't be started
-abbrev pub IsEnd : Bool → ℕ → ℕ → Fault → Type 0
-IsEnd writes transactions points (fault.Refused why) = IsStop writes transactions points why
-IsEnd writes transactions points (fault.Unmade file why) = IsTrue writes
-IsEnd writes transactions points fault.NoThread = ⊤
+abbrev pub IsThreadsEnd : Bool → ℕ → ℕ → Fault → Type 0
+IsThreadsEnd writes transactions points (fault.Refused why) = IsStop writes transactions points why
+IsThreadsEnd writes transactions points (fault.Unmade file why) = IsTrue writes
+IsThreadsEnd writes transactions points fault.NoThread = ⊤

@@ -7,8 +7,8 @@ use Rattle.pc_texts.specs.declared.file_names.FileName.{FileName}
 use Rattle.pc_texts.specs.declared.file_names.FileName.TheVariants.{Base, Part}
 
 -- what a folder had under other names than this one, it has still
-abbrev pub KeepsOthers : (FileName → List ℕ → Type 0) → (FileName → List ℕ → Type 0) → FileName → Type 0
-KeepsOthers old new name = (other : FileName) (text : List ℕ) → other ≢ name → old other text → new other text
+abbrev pub KeepsOtherFiles : (FileName → List ℕ → Type 0) → (FileName → List ℕ → Type 0) → FileName → Type 0
+KeepsOtherFiles old new name = (other : FileName) (text : List ℕ) → other ≢ name → old other text → new other text
 
 -- The first file is of point 1 alone, the second one of point 2, and so on, and the folder has the text of each under its name.
 abbrev pub HasParts : (FileName → List ℕ → Type 0) → List File → Type 0

@@ -5,10 +5,10 @@ ghost use Rattle.pc_types.specs.declared.refusal.Refusal.TheVariants.{Full, NoSe
 ghost use Rattle.pc_jobs.specs.Jobs.{job_of};
 ghost use Rattle.pc_jobs.specs.declared.works.Client.{Client};
 ghost use Rattle.pc_shared.specs.Sitters.{sitter};
-ghost use Rattle.pc_threads.specs.Clients.{AreDone, AreFilled, HasDone, HasStopped, HasWorked, HaveStopped, HaveWorked, IsDone, IsFresh, first_of, jobs_in, jobs_of};
+ghost use Rattle.pc_threads.specs.Clients.{AreDone, AreFillsTried, HasDone, ClientHasStopped, HasWorked, HaveStopped, HaveWorked, IsTaskDone, IsFresh, first_of, jobs_in, jobs_of};
 
 use crate::room::Room;
-use pc_jobs::{Client, Fill, FillJob, Job, Work};
+use pc_jobs::{Client, ClientTask, Fill, FillJob, Job};
 use pc_shared::Session;
 use pc_tie::StoreName;
 use pc_types::{Gate, Items, Refusal, SessionNo};
@@ -131,8 +131,8 @@ fn run_job<N: StoreName, R: Wait, G: Gate>(
     session: &mut Session<N>,
     job: &Job,
 ) -> Result<u64, Refusal>
-    ensures done { IfOk result (λ given_up. HasDone (IsDone N.name.setting (Work.Once job.now)) (job.now ∷ []) given_up session.old session.new) }
-    ensures stopped { IfErr result (HasStopped (is_some room.now.lag) (job.now ∷ [])) }
+    ensures done { IfOk result (λ given_up. HasDone (IsTaskDone N.name.setting (ClientTask.Once job.now)) (job.now ∷ []) given_up session.old session.new) }
+    ensures stopped { IfErr result (ClientHasStopped (is_some room.now.lag) (job.now ∷ [])) }
 {
     if room.lag.is_some() && room.shared.has_log_ended() {
         return Err(Refusal::Device);
@@ -159,8 +159,8 @@ fn run_made<N: StoreName, R: Wait, G: Gate>(
     fill: &Fill,
     number: u32,
 ) -> Result<u64, Refusal>
-    ensures done { IfOk result (λ given_up. HasDone (AreFilled N.name.setting (job_of fill.now number ∷ [])) (job_of fill.now number ∷ []) given_up session.old session.new) }
-    ensures stopped { IfErr result (HasStopped (is_some room.now.lag) (job_of fill.now number ∷ [])) }
+    ensures done { IfOk result (λ given_up. HasDone (AreFillsTried N.name.setting (job_of fill.now number ∷ [])) (job_of fill.now number ∷ []) given_up session.old session.new) }
+    ensures stopped { IfErr result (ClientHasStopped (is_some room.now.lag) (job_of fill.now number ∷ [])) }
 {
     match made.set(room.alloc, fill, number) {
         Ok(()) => run_job(rt, room, session, made.as_job()),
@@ -176,8 +176,8 @@ fn run_fill<N: StoreName, R: Wait, G: Gate>(
     made: &mut FillJob,
     fill: &Fill,
 ) -> Result<u64, Refusal>
-    ensures done { IfOk result (λ given_up. HasDone (AreFilled N.name.setting (first_of fill.now fill.now.count)) (first_of fill.now fill.now.count) given_up session.old session.new) }
-    ensures stopped { IfErr result (HasStopped (is_some room.now.lag) (first_of fill.now fill.now.count)) }
+    ensures done { IfOk result (λ given_up. HasDone (AreFillsTried N.name.setting (first_of fill.now fill.now.count)) (first_of fill.now fill.now.count) given_up session.old session.new) }
+    ensures stopped { IfErr result (ClientHasStopped (is_some room.now.lag) (first_of fill.now fill.now.count)) }
 {
     let mut given_up = 0u64;
     for number in 0..fill.count {
@@ -193,14 +193,14 @@ fn run_work<N: StoreName, R: Wait, G: Gate>(
     room: &Room<'_, N, G>,
     session: &mut Session<N>,
     made: &mut FillJob,
-    work: &Work,
+    work: &ClientTask,
 ) -> Result<u64, Refusal>
-    ensures done { IfOk result (λ given_up. HasDone (IsDone N.name.setting work.now) (jobs_in work.now) given_up session.old session.new) }
-    ensures stopped { IfErr result (HasStopped (is_some room.now.lag) (jobs_in work.now)) }
+    ensures done { IfOk result (λ given_up. HasDone (IsTaskDone N.name.setting work.now) (jobs_in work.now) given_up session.old session.new) }
+    ensures stopped { IfErr result (ClientHasStopped (is_some room.now.lag) (jobs_in work.now)) }
 {
     match work {
-        Work::Once(job) => run_job(rt, room, session, job),
-        Work::Fill(fill) => run_fill(rt, room, session, made, fill),
+        ClientTask::Once(job) => run_job(rt, room, session, job),
+        ClientTask::Fill(fill) => run_fill(rt, room, session, made, fill),
     }
 }
 
@@ -210,10 +210,10 @@ fn run_works<N: StoreName, R: Wait, G: Gate>(
     room: &Room<'_, N, G>,
     session: &mut Session<N>,
     made: &mut FillJob,
-    works: &[Work],
+    works: &[ClientTask],
 ) -> Result<u64, Refusal>
     ensures done { IfOk result (λ given_up. HasDone (AreDone N.name.setting works.now) (flat_map jobs_in works.now) given_up session.old session.new) }
-    ensures stopped { IfErr result (HasStopped (is_some room.now.lag) (flat_map jobs_in works.now)) }
+    ensures stopped { IfErr result (ClientHasStopped (is_some room.now.lag) (flat_map jobs_in works.now)) }
 {
     let mut given_up = 0u64;
     for work in works {
@@ -232,7 +232,7 @@ impl<N: StoreName> Seated<N> {
         made: &mut FillJob,
     ) -> Result<(Session<N>, u64), Refusal>
         ensures worked { IfOk result (λ r. HasWorked N.name.setting self.client r.1 r.0) }
-        ensures stopped { IfErr result (HasStopped (is_some room.now.lag) (jobs_of self.client)) }
+        ensures stopped { IfErr result (ClientHasStopped (is_some room.now.lag) (jobs_of self.client)) }
     {
         let Seated {
             mut session,

@@ -6,8 +6,8 @@ ghost use Rattle.pc_types.specs.declared.refusal.Refusal.TheVariants.{Device};
 ghost use Rattle.pc_model.specs.Sets as set;
 ghost use Rattle.pc_part.specs.Texts.{part_text};
 ghost use Rattle.pc_texts.specs.declared.file_names.FileName.TheVariants as file;
-ghost use Rattle.pc_threads.specs.Faults.{IsLost};
-ghost use Rattle.pc_threads.specs.Files.{KeepsOthers};
+ghost use Rattle.pc_threads.specs.Faults.{IsFileLost};
+ghost use Rattle.pc_threads.specs.Files.{KeepsOtherFiles};
 ghost use Rattle.pc_threads.specs.declared.fault.Fault.TheVariants as Fault;
 
 use crate::fault::Fault;
@@ -22,7 +22,7 @@ pub trait NewFiles<F: Write> {
     ghost use Rattle.std.specs.Prelude.{◌≡◌, ℕ, List, Option, IfOk, OnOk};
     ghost use Rattle.std.specs.Io.KnownBytes.{Appends};
     ghost use Rattle.pc_texts.specs.declared.file_names.FileName.{FileName};
-    ghost use Rattle.pc_threads.specs.Files.{KeepsOthers};
+    ghost use Rattle.pc_threads.specs.Files.{KeepsOtherFiles};
 
     // The folder has this text under this name.
     ghost holds: { Self → FileName → List ℕ → Type 0 };
@@ -34,13 +34,13 @@ pub trait NewFiles<F: Write> {
     /// being made.
     fn make(&mut self, name: &FileName) -> Result<F, Refusal>
         ensures blank { IfOk result (λ file. F.contents file ≡ blank) }
-        ensures others { KeepsOthers (holds self.old) (holds self.new) name.now };
+        ensures others { KeepsOtherFiles (holds self.old) (holds self.new) name.now };
 
     /// All bytes of the file were written, and have gone out of whatever keeps them: from now on it is whole, where it wasn't
     /// before. The other files stay. Refuses for whatever keeps it from being so.
     fn finish(&mut self, name: &FileName, file: F) -> Result<(), Refusal>
         ensures whole { OnOk result ((text : List ℕ) → Appends blank (F.contents file) text → holds self.new name.now text) }
-        ensures others { KeepsOthers (holds self.old) (holds self.new) name.now };
+        ensures others { KeepsOtherFiles (holds self.old) (holds self.new) name.now };
 }
 
 /// Makes the file. It fails only where the file can't be made.
@@ -49,8 +49,8 @@ pub fn make_file<F: Write, D: NewFiles<F>>(
     name: FileName,
 ) -> Result<Tally<F>, Fault>
     ensures blank { IfOk result (λ file. F.contents (inner_of file) ≡ D.blank) }
-    ensures others { KeepsOthers (D.holds folder.old) (D.holds folder.new) name }
-    ensures lost { IfErr result (IsLost name) }
+    ensures others { KeepsOtherFiles (D.holds folder.old) (D.holds folder.new) name }
+    ensures lost { IfErr result (IsFileLost name) }
 {
     match folder.make(&name) {
         Ok(file) => Ok(Tally::new(file)),
@@ -76,8 +76,8 @@ pub fn finish_file<F: Write + Drop, D: NewFiles<F>>(
     file: Tally<F>,
 ) -> Result<(), Fault>
     ensures whole { OnOk result ((text : List ℕ) → Appends D.blank (F.contents (inner_of file)) text → D.holds folder.new name text) }
-    ensures others { KeepsOthers (D.holds folder.old) (D.holds folder.new) name }
-    ensures lost { IfErr result (IsLost name) }
+    ensures others { KeepsOtherFiles (D.holds folder.old) (D.holds folder.new) name }
+    ensures lost { IfErr result (IsFileLost name) }
 {
     let mut file = file;
     flush_file(&mut file)?;
@@ -95,8 +95,8 @@ pub fn write_part<F: Write + Drop, D: NewFiles<F>>(
 ) -> Result<(), Fault>
     requires { part.now.points ≡ set.insert set.empty point }
     ensures whole { OnOk result (D.holds folder.new (file.Part point) (part_text part.now)) }
-    ensures others { KeepsOthers (D.holds folder.old) (D.holds folder.new) (file.Part point) }
-    ensures lost { IfErr result (IsLost (file.Part point)) }
+    ensures others { KeepsOtherFiles (D.holds folder.old) (D.holds folder.new) (file.Part point) }
+    ensures lost { IfErr result (IsFileLost (file.Part point)) }
 {
     let mut file = make_file(folder, FileName::Part(point))?;
     part.encode(&mut file)?;

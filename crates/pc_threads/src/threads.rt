@@ -6,7 +6,7 @@ ghost use Rattle.pc_model.specs.History.{phase_of};
 ghost use Rattle.pc_workers.specs.Checkpointing.{HasCycled};
 ghost use Rattle.pc_workers.specs.Covering.{HaveOnlyTo};
 ghost use Rattle.pc_threads.specs.Clients.{HaveWorked, clients_in, transactions_in};
-ghost use Rattle.pc_threads.specs.Faults.{IsEnd, IsStop};
+ghost use Rattle.pc_threads.specs.Faults.{IsThreadsEnd, IsStop};
 ghost use Rattle.pc_threads.specs.Files.{HasWritten};
 ghost use Rattle.pc_threads.specs.Logs.{HasLogged};
 
@@ -143,7 +143,7 @@ fn join_collapsers<N: StoreName, R: Threads>(
     handles: Vec<PromisedHandle<Result<Vec<PartTicket<N>>, Refusal>, UpTo>>,
 ) -> Result<Vec<PartTicket<N>>, Fault>
     ensures only { (points : ℕ) → All (λ handle. handle.promise.0 ≡ points) handles.items → IfOk result (λ held. HaveOnlyTo points held.items) }
-    ensures ended { (points : ℕ) → All (λ handle. handle.promise.0 ≡ points) handles.items → IfErr result (IsEnd false 0 points) }
+    ensures ended { (points : ℕ) → All (λ handle. handle.promise.0 ≡ points) handles.items → IfErr result (IsThreadsEnd false 0 points) }
 {
     let mut held = Vec::new(alloc);
     for handle in handles {
@@ -171,7 +171,7 @@ fn join_workers<N: StoreName, R: Threads>(
     handles: Vec<PromisedHandle<Result<Ran<N>, Refusal>, ClientsOf<N>>>,
 ) -> Result<Ran<N>, Fault>
     ensures clients { IfOk result (λ ran. HaveWorked N.name.setting (clients_in (map (λ handle. handle.promise.0.value) handles.items)) ran.given_up ran.sessions.items) }
-    ensures ended { (has_log : Bool) → All (λ handle. handle.promise.1 ≡ has_log) handles.items → IfErr result (IsEnd has_log (transactions_in (clients_in (map (λ handle. handle.promise.0.value) handles.items))) 0) }
+    ensures ended { (has_log : Bool) → All (λ handle. handle.promise.1 ≡ has_log) handles.items → IfErr result (IsThreadsEnd has_log (transactions_in (clients_in (map (λ handle. handle.promise.0.value) handles.items))) 0) }
 {
     let mut all = Ran {
         sessions: Vec::new(alloc),
@@ -208,7 +208,7 @@ fn run_workers<
     ensures clients { IfOk result (λ worked. HaveWorked N.name.setting (clients_in workers.items) worked.ran.given_up worked.ran.sessions.items) }
     ensures cycles { IfOk result (λ worked. HasCycled N.name.setting room.now.points checkpointer.entry.at_store worked.seat) }
     ensures points { (first : Option D) → HasWritten D.holds 0 first checkpointer.entry.folder checkpointer.entry.written.items → IfOk result (λ worked. HasWritten D.holds room.now.points first worked.folder worked.written.items) }
-    ensures ended { checkpointer.entry.at_store ≡ [] → IfErr result (IsEnd (is_some room.now.lag || is_some checkpointer.entry.folder) (transactions_in (clients_in workers.items)) room.now.points) }
+    ensures ended { checkpointer.entry.at_store ≡ [] → IfErr result (IsThreadsEnd (is_some room.now.lag || is_some checkpointer.entry.folder) (transactions_in (clients_in workers.items)) room.now.points) }
 {
     let handles = Vec::with_capacity(room.alloc, workers.len())?;
     let (points, has_log) = (room.points, room.lag.is_some());
@@ -222,7 +222,7 @@ fn run_workers<
             ensures cycles { IfOk result (λ worked. HasCycled N.name.setting points checkpointer.entry.at_store worked.seat) }
             ensures clients { IfOk result (λ worked. HaveWorked N.name.setting (clients_in workers.items) worked.ran.given_up worked.ran.sessions.items) }
             ensures points { (first : Option D) → HasWritten D.holds 0 first checkpointer.entry.folder checkpointer.entry.written.items → IfOk result (λ worked. HasWritten D.holds points first worked.folder worked.written.items) }
-            ensures ended { checkpointer.entry.at_store ≡ [] → IfErr result (IsEnd (has_log || is_some checkpointer.entry.folder) (transactions_in (clients_in workers.items)) points) }
+            ensures ended { checkpointer.entry.at_store ≡ [] → IfErr result (IsThreadsEnd (has_log || is_some checkpointer.entry.folder) (transactions_in (clients_in workers.items)) points) }
         {
             let mut handles = handles;
             for worker in workers {
@@ -268,7 +268,7 @@ fn run_hands<
     ensures cycles { IfOk result (λ rested. HasCycled N.name.setting room.now.points hands.entry.checkpointer.at_store rested.worked.seat) }
     ensures points { (first : Option D) → HasWritten D.holds 0 first hands.entry.checkpointer.folder hands.entry.checkpointer.written.items → IfOk result (λ rested. HasWritten D.holds room.now.points first rested.worked.folder rested.worked.written.items) }
     ensures held { IfOk result (λ rested. HaveOnlyTo room.now.points rested.held.items) }
-    ensures ended { hands.entry.checkpointer.at_store ≡ [] → IfErr result (IsEnd (is_some room.now.lag || is_some hands.entry.checkpointer.folder) (transactions_in (clients_in hands.entry.workers.items)) room.now.points) }
+    ensures ended { hands.entry.checkpointer.at_store ≡ [] → IfErr result (IsThreadsEnd (is_some room.now.lag || is_some hands.entry.checkpointer.folder) (transactions_in (clients_in hands.entry.workers.items)) room.now.points) }
 {
     let Hands {
         checkpointer,
@@ -288,7 +288,7 @@ fn run_hands<
             ensures clients { IfOk result (λ rested. HaveWorked N.name.setting (clients_in workers.items) rested.worked.ran.given_up rested.worked.ran.sessions.items) }
             ensures points { (first : Option D) → HasWritten D.holds 0 first checkpointer.entry.folder checkpointer.entry.written.items → IfOk result (λ rested. HasWritten D.holds room.entry.now.points first rested.worked.folder rested.worked.written.items) }
             ensures held { IfOk result (λ rested. HaveOnlyTo points rested.held.items) }
-            ensures ended { checkpointer.entry.at_store ≡ [] → IfErr result (IsEnd (is_some room.entry.now.lag || is_some checkpointer.entry.folder) (transactions_in (clients_in workers.items)) room.entry.now.points) }
+            ensures ended { checkpointer.entry.at_store ≡ [] → IfErr result (IsThreadsEnd (is_some room.entry.now.lag || is_some checkpointer.entry.folder) (transactions_in (clients_in workers.items)) room.entry.now.points) }
         {
             let mut handles = handles;
             for collapser in collapsers {
@@ -343,7 +343,7 @@ pub fn run_threads<
     ensures points { (first : Option D) → HasWritten D.holds 0 first hands.entry.checkpointer.folder hands.entry.checkpointer.written.items → IfOk result (λ r. HasWritten D.holds room.now.points first r.0.worked.folder r.0.worked.written.items) }
     ensures held { IfOk result (λ r. HaveOnlyTo room.now.points r.0.held.items) }
     ensures logged { IfOk result (λ r. HasLogged F.contents N.name.setting.run logger.out r.1.out r.1.pass) }
-    ensures ended { hands.entry.checkpointer.at_store ≡ [] → IfErr result (IsEnd (is_some room.now.lag || is_some hands.entry.checkpointer.folder || is_some logger.out) (transactions_in (clients_in hands.entry.workers.items)) room.now.points) }
+    ensures ended { hands.entry.checkpointer.at_store ≡ [] → IfErr result (IsThreadsEnd (is_some room.now.lag || is_some hands.entry.checkpointer.folder || is_some logger.out) (transactions_in (clients_in hands.entry.workers.items)) room.now.points) }
 {
     if logger.out.is_none() {
         let rested = run_hands(rt, room, hands)?;
@@ -359,7 +359,7 @@ pub fn run_threads<
             ensures points { (first : Option D) → HasWritten D.holds 0 first hands.entry.checkpointer.folder hands.entry.checkpointer.written.items → IfOk result (λ r. HasWritten D.holds room.entry.now.points first r.0.worked.folder r.0.worked.written.items) }
             ensures held { IfOk result (λ r. HaveOnlyTo room.entry.now.points r.0.held.items) }
             ensures logged { IfOk result (λ r. HasLogged F.contents N.name.setting.run logger.out r.1.out r.1.pass) }
-            ensures ended { hands.entry.checkpointer.at_store ≡ [] → IfErr result (IsEnd (is_some room.entry.now.lag || is_some hands.entry.checkpointer.folder || is_some logger.out) (transactions_in (clients_in hands.entry.workers.items)) room.entry.now.points) }
+            ensures ended { hands.entry.checkpointer.at_store ≡ [] → IfErr result (IsThreadsEnd (is_some room.entry.now.lag || is_some hands.entry.checkpointer.folder || is_some logger.out) (transactions_in (clients_in hands.entry.workers.items)) room.entry.now.points) }
         {
             let given = Snapshot::of(&logger);
             let Ok(logging) = scope.spawn_with(LogOf(given), move || logger.run(rt, room)) else {

@@ -14,12 +14,12 @@ use Rattle.pc_model.proofs.BeginningLaws.{extends}
 use Rattle.pc_tie.specs.declared.sight.Sitting.{Sitting}
 use Rattle.pc_tie.specs.declared.sight.Sight.{Sight}
 use Rattle.pc_tie.specs.declared.sight.Sight.TheVariants.{Whole, Front, Gone}
-use Rattle.pc_tie.specs.Rules.{Speaks, hist_of, dealt_of, guests_of, HasOneHistory, sight_after, KnewFirst, Applied, entered, parted, emptied, left_out, shown_out, after_dealing, new_front, Asked, Compared, AreTold}
-use Rattle.pc_tie.specs.Seats.{IsSession, MovesOn, NoTwoAlike, IsFrontOf, Meeting, meeting}
+use Rattle.pc_tie.specs.Rules.{Speaks, hist_of, dealt_of, guests_of, HasOneHistory, sight_after, KnewFirst, Applied, entered, parted, emptied, left_out, shown_out, after_dealing, new_front, IsStepOfGuest, Compared, AreTold}
+use Rattle.pc_tie.specs.Seats.{IsSession, MovesOn, NoTwoAlike, IsFrontOf, KeeperView, meeting}
 use Rattle.pc_tie.proofs.Steps.{enters, applies, leaves, deals, shows, compares}
 
 -- what a seat is seen as
-abbrev pub known : Me Step Sight → Meeting
+abbrev pub known : Me Step Sight → KeeperView
 known me = meeting (hist_of me.0) (dealt_of me.0) (guests_of me.0)
 
 pub only : {A : Type 0} (x y : A) → x ∷ [] ≡ y ∷ [] → x ≡ y
@@ -42,7 +42,7 @@ module _ (st : Setting) (id : ℕ) (hist : History) (dealt : ℕ) (guests : List
   pub compares_at : (me : Me Step Sight) (slots : ℕ) → me ≡ (Whole hist dealt guests, []) → Allows (HasOneHistory {S = Step} st) slots id me 0 (λ k. k) (Compared (step slots 0 0 0 none) me)
   compares_at me slots is = subst (λ (m : Me Step Sight). Allows (HasOneHistory {S = Step} st) slots id m 0 (λ k. k) (Compared (step slots 0 0 0 none) m)) (sym is) (compares st id hist dealt guests slots)
 
-  pub applies_at : (me : Me Step Sight) (said : Step) (slots old new : ℕ) → me ≡ (Whole hist dealt guests, []) → Asked said guests → IsLegalHistory st (said ∷ hist) → old ≡ length (log_of hist) → new ≡ length (log_of (said ∷ hist))
+  pub applies_at : (me : Me Step Sight) (said : Step) (slots old new : ℕ) → me ≡ (Whole hist dealt guests, []) → IsStepOfGuest said guests → IsLegalHistory st (said ∷ hist) → old ≡ length (log_of hist) → new ≡ length (log_of (said ∷ hist))
       → Allows (HasOneHistory {S = Step} st) slots id me 0 (λ k. either (k == old) new k) (Applied (step slots 0 old new (some said)) me)
   applies_at me said slots old new is asked legal before after =
       subst (λ (m : Me Step Sight). Allows (HasOneHistory {S = Step} st) slots id m 0 (λ k. either (k == old) new k) (Applied (step slots 0 old new (some said)) m)) (sym is)

@@ -65,14 +65,14 @@ abbrev pub Knows : History → ℕ → (ℕ → ℕ) → ℕ → ℕ → History
 Knows history dealt owner id n seen = IsBeginning seen history × (Speaks n → (n < dealt) × (owner n ≡ id) × (calls_of n history ≡ calls_of n seen))
 
 -- no seat but a witness's was taken in twice
-abbrev pub AreApart : List Sitting → Type 0
-AreApart guests = (i j : ℕ) (x y : Sitting) → get_elem? guests i ≡ some x → get_elem? guests j ≡ some y → Speaks x.number → x.number ≡ y.number → i ≡ j
+abbrev pub AreGuestsApart : List Sitting → Type 0
+AreGuestsApart guests = (i j : ℕ) (x y : Sitting) → get_elem? guests i ≡ some x → get_elem? guests j ≡ some y → Speaks x.number → x.number ≡ y.number → i ≡ j
 
 -- what a seat knows fits the history
-abbrev pub Fits : History → ℕ → ℕ → (ℕ → ℕ) → ℕ → Sight → Type 0
-Fits history keeper dealt owner id (Whole hist g guests) = (id ≡ keeper) × (hist ≡ history) × (g ≡ dealt) × ((k : ℕ) (x : Sitting) → get_elem? guests k ≡ some x → Knows history dealt owner id x.number x.seen) × AreApart guests
-Fits history keeper dealt owner id (Front n seen) = Knows history dealt owner id n seen
-Fits history keeper dealt owner id Gone = Unit {0}
+abbrev pub FitsSeat : History → ℕ → ℕ → (ℕ → ℕ) → ℕ → Sight → Type 0
+FitsSeat history keeper dealt owner id (Whole hist g guests) = (id ≡ keeper) × (hist ≡ history) × (g ≡ dealt) × ((k : ℕ) (x : Sitting) → get_elem? guests k ≡ some x → Knows history dealt owner id x.number x.seen) × AreGuestsApart guests
+FitsSeat history keeper dealt owner id (Front n seen) = Knows history dealt owner id n seen
+FitsSeat history keeper dealt owner id Gone = Unit {0}
 
 -- There is one legal history, which the keeper knows whole. The word is the number of entries of its log. Each number but the
 -- witnesses' has an owner among the seats, the keeper until it is dealt, and what each seat knows fits.
@@ -84,7 +84,7 @@ pub record HasOneHistory {S : Type 0} (st : Setting) (s : State S Sight) : Type 
   pub legal : IsLegalHistory st history
   pub words : s.words ≡ length (log_of history) ∷ []
   pub spare : (n : ℕ) → dealt ≤ n → Speaks n → owner n ≡ keeper
-  pub each : (id : ℕ) (v : Sight) → get_elem? s.views id ≡ some v → Fits history keeper dealt owner id v
+  pub each : (id : ℕ) (v : Sight) → get_elem? s.views id ≡ some v → FitsSeat history keeper dealt owner id v
 
 -- what a seat has seen after its step: one that doesn't count leaves it
 abbrev pub sight_after : Step → History → History → History
@@ -140,10 +140,10 @@ abbrev pub left_out : Sight → Sight
 left_out v = first_out (guests_of v)
 
 -- the step is that of the one seat that was taken in, which is no witness's
-abbrev pub Asked : Step → List Sitting → Type 0
-Asked c [] = ⊥
-Asked c (x ∷ []) = Speaks x.number × (session_of c.event ≡ x.number)
-Asked c (x ∷ y ∷ ys) = ⊥
+abbrev pub IsStepOfGuest : Step → List Sitting → Type 0
+IsStepOfGuest c [] = ⊥
+IsStepOfGuest c (x ∷ []) = Speaks x.number × (session_of c.event ≡ x.number)
+IsStepOfGuest c (x ∷ y ∷ ys) = ⊥
 
 -- the next seat is dealt
 abbrev pub after_dealing : Sight → Sight
@@ -156,7 +156,7 @@ new_front v = Front (dealt_of v) []
 -- each seat that was taken in had seen a beginning of the history, with all calls of its number where it is no witness's; and
 -- none but a witness's is there twice
 abbrev pub AreTold : History → List Sitting → Type 0
-AreTold hist guests = ((k : ℕ) (x : Sitting) → get_elem? guests k ≡ some x → IsBeginning x.seen hist × (Speaks x.number → calls_of x.number hist ≡ calls_of x.number x.seen)) × AreApart guests
+AreTold hist guests = ((k : ℕ) (x : Sitting) → get_elem? guests k ≡ some x → IsBeginning x.seen hist × (Speaks x.number → calls_of x.number hist ≡ calls_of x.number x.seen)) × AreGuestsApart guests
 
 -- what a look tells of the seats that were taken in; it changes nothing
 abbrev pub Compared : Exchange Step → Me Step Sight → ℕ → Me Step Sight → Type 0

@@ -37,12 +37,12 @@ abbrev pub MovesOn : Setting → History → Step → History → Type 0
 MovesOn st old step new = MatchBool (counts step.reply) (Extends st old step new) (new ≡ old)
 
 -- what the keeper knows: the history, how many seats it has dealt, and those that it has taken in, the last one first
-pub record Meeting : Type 0 where
+pub record KeeperView : Type 0 where
   pub history : History
   pub dealt : ℕ
   pub guests : List Sitting
 
-abbrev pub meeting : History → ℕ → List Sitting → Meeting
+abbrev pub meeting : History → ℕ → List Sitting → KeeperView
 meeting history dealt guests = record { history = history; dealt = dealt; guests = guests }
 
 -- the number of the first, or a witness's where there is none

@@ -6,7 +6,7 @@ ghost use Rattle.pc_model.specs.Replies.{IsLegalHistory};
 ghost use Rattle.pc_model.specs.Calls.{session_of, IsBeginning, HasCallsOf};
 ghost use Rattle.pc_tie.specs.declared.sight.Sitting.{Sitting};
 ghost use Rattle.pc_tie.specs.declared.sight.Sight.TheVariants.{Whole};
-ghost use Rattle.pc_tie.specs.Rules.{a_witness, Speaks, sitting, sight_after, Asked, guests_after, KnewFirst, AreTold};
+ghost use Rattle.pc_tie.specs.Rules.{a_witness, Speaks, sitting, sight_after, IsStepOfGuest, guests_after, KnewFirst, AreTold};
 ghost use Rattle.pc_tie.specs.Seats.{meeting, sitting_in, IsSeatAt, IsSession, MovesOn, first_number, NoTwoAlike, IsFrontOf};
 
 use crate::milestone::Milestone;
@@ -31,9 +31,9 @@ impl<N: StoreName> Model for Keeper<N> {
     ghost use Rattle.std.specs.Prelude.{◌≡◌, []};
     ghost use Rattle.pc_tie.specs.declared.sight.Sight.TheVariants.{Whole};
     ghost use Rattle.pc_tie.specs.Rules.{hist_of, dealt_of, guests_of};
-    ghost use Rattle.pc_tie.specs.Seats.{Meeting, meeting};
+    ghost use Rattle.pc_tie.specs.Seats.{KeeperView, meeting};
 
-    ghost Value = { Meeting };
+    ghost Value = { KeeperView };
 
     ghost view = { λ k. meeting (hist_of k.seat.me.0) (dealt_of k.seat.me.0) (guests_of k.seat.me.0) };
 
@@ -172,7 +172,7 @@ impl<N: StoreName> Keeper<N> {
 
     // Adds a step of the one seat that was taken in to the history. `before` and `after` are the numbers of entries of the log.
     fn append(&mut self, tie: &Tie<N>, before: u64, after: u64, step: &Step)
-        requires asked { Asked step.now self.old.guests }
+        requires asked { IsStepOfGuest step.now self.old.guests }
         requires legal { IsLegalHistory N.name.setting (step.now ∷ self.old.history) }
         requires before { before ≡ length (log_of self.old.history) }
         requires after { after ≡ length (log_of (step.now ∷ self.old.history)) }

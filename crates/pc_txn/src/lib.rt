@@ -12,5 +12,5 @@ mod writes;
 pub use got::Got;
 pub use reads::ReadSet;
 pub use receipts::{Head, Receipts};
-pub use work::{Latest, Work, has_room_for_receipt, has_room_to_read, has_room_to_write};
+pub use work::{Latest, SessionNotes, has_room_for_receipt, has_room_to_read, has_room_to_write};
 pub use writes::WriteSet;

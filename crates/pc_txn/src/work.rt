@@ -27,7 +27,7 @@ pub enum Latest {
 /// What a session keeps: whether its transaction is open, what that has written and read, a receipt for each commit, and what the
 /// latest call found.
 #[derive(Drop)]
-pub struct Work {
+pub struct SessionNotes {
     /// Whether its transaction is open.
     pub busy: bool,
     /// What the open transaction has written: the final write of each key, in the order of first writes.
@@ -40,12 +40,12 @@ pub struct Work {
     pub latest: Latest,
 }
 
-impl Work {
+impl SessionNotes {
     /// Nothing yet.
-    pub fn new(alloc: Global) -> Work
+    pub fn new(alloc: Global) -> SessionNotes
         ensures { (result.busy ≡ false) × (result.writes.items ≡ []) × (result.reads.items ≡ []) × (result.receipts.items ≡ []) × (result.latest ≡ Nothing) }
     {
-        Work {
+        SessionNotes {
             busy: false,
             writes: WriteSet::new(alloc),
             reads: ReadSet::new(alloc),

@@ -12,7 +12,7 @@ use Rattle.pc_types.specs.declared.refusal.Refusal.{Refusal}
 use Rattle.pc_types.specs.declared.refusal.Refusal.TheVariants.{Short, BadLength, BadMagic}
 use Rattle.pc_types.specs.Limits.{IsKey, IsValue}
 use Rattle.pc_types.specs.Fields.{◌>>=◌, where_true, bytes_at, number_at, magic_at, sized_key_at, key_at, value_at, content_at, key_text, value_text, content_text}
-use Rattle.pc_types.specs.FieldForms.{IsBytes, Takes, IsWide}
+use Rattle.pc_types.specs.FieldForms.{IsBytes, TakesText, IsWide}
 
 pub IsBytes-drop : (n : ℕ) (bytes : List ℕ) → IsBytes bytes → IsBytes (drop n bytes)
 IsBytes-drop n bytes h i = rw get_or-drop (h (n + i))
@@ -48,17 +48,17 @@ done x = Ok x
 pub ok_is : {A : Type 0} (x y : A) → done x ≡ done y → x ≡ y
 ok_is x y e = cc
 
-pub Takes-then : (a x b y c : List ℕ) → Takes a x b → Takes b y c → Takes a (x ++ y) c
-Takes-then a x b y c p q = record { parts = p.parts ∙ ap (λ (t : List ℕ). x ++ t) q.parts ∙ sym (append_assoc x y c); rest_fits = q.rest_fits }
+pub TakesText-then : (a x b y c : List ℕ) → TakesText a x b → TakesText b y c → TakesText a (x ++ y) c
+TakesText-then a x b y c p q = record { parts = p.parts ∙ ap (λ (t : List ℕ). x ++ t) q.parts ∙ sym (append_assoc x y c); rest_fits = q.rest_fits }
 
 -- ---- so many bytes
 
-pub bytes_take : (missing : Refusal) (count : ℕ) (bytes text rest : List ℕ) → IsBytes bytes → bytes_at missing count bytes ≡ Ok (text, rest) → Takes bytes text rest × (length text ≡ count)
+pub bytes_take : (missing : Refusal) (count : ℕ) (bytes text rest : List ℕ) → IsBytes bytes → bytes_at missing count bytes ≡ Ok (text, rest) → TakesText bytes text rest × (length text ≡ count)
 bytes_take missing count bytes text rest fits e =
     let g = guard_ok (ltb (length bytes) count) missing (take count bytes, drop count bytes) (text, rest) e in
     let long : count ≤ length bytes = ltb-false _ _ g.0 in
     let len : length (take count bytes) ≡ count = omega (arith, length-take count bytes) in
-    subst (λ (p : List ℕ × List ℕ). Takes bytes p.0 p.1 × (length p.0 ≡ count)) g.1 (record { parts = sym (take-append-drop count bytes); rest_fits = IsBytes-drop count bytes fits }, len)
+    subst (λ (p : List ℕ × List ℕ). TakesText bytes p.0 p.1 × (length p.0 ≡ count)) g.1 (record { parts = sym (take-append-drop count bytes); rest_fits = IsBytes-drop count bytes fits }, len)
 
 pub bytes_again : (missing : Refusal) (text rest : List ℕ) → bytes_at missing (length text) (text ++ rest) ≡ Ok (text, rest)
 bytes_again missing text rest =
@@ -91,7 +91,7 @@ wide64 = record {
   below = λ bytes fits. omega (arith, fits 0, fits 1, fits 2, fits 3, fits 4, fits 5, fits 6, fits 7);
 }
 
-pub number_takes : (missing : Refusal) (w : Width) (limit : ℕ) (wide : IsWide w limit) (bytes : List ℕ) (n : ℕ) (rest : List ℕ) → IsBytes bytes → number_at missing w bytes ≡ Ok (n, rest) → Takes bytes (to_be_bytes w n) rest × (n < limit)
+pub number_takes : (missing : Refusal) (w : Width) (limit : ℕ) (wide : IsWide w limit) (bytes : List ℕ) (n : ℕ) (rest : List ℕ) → IsBytes bytes → number_at missing w bytes ≡ Ok (n, rest) → TakesText bytes (to_be_bytes w n) rest × (n < limit)
 number_takes missing w limit wide bytes n rest fits e =
     let g = guard_ok (ltb (length bytes) (byte_len w)) missing (from_be_bytes w (take (byte_len w) bytes), drop (byte_len w) bytes) (n, rest) e in
     let long : byte_len w ≤ length bytes = ltb-false _ _ g.0 in
@@ -108,13 +108,13 @@ number_again missing w limit wide n rest lt =
 
 -- ---- magics
 
-pub magic_takes : (magic bytes rest : List ℕ) → IsBytes bytes → magic_at magic bytes ≡ Ok rest → Takes bytes magic rest
+pub magic_takes : (magic bytes rest : List ℕ) → IsBytes bytes → magic_at magic bytes ≡ Ok rest → TakesText bytes magic rest
 unfolding magic_at
 magic_takes magic bytes rest fits e =
     let b = bind_ok (bytes_at Short 8 bytes) (λ first. where_true (pointwise nat_eq first.0 magic) BadMagic first.1) rest e in
     let t = bytes_take Short 8 bytes b.0.0 b.0.1 fits b.1 in
     let g = where_ok (pointwise nat_eq b.0.0 magic) BadMagic b.0.1 rest b.2 in
-    subst (λ (m : List ℕ). Takes bytes m rest) (same_text b.0.0 magic (sym g.0)) (subst (λ (r : List ℕ). Takes bytes b.0.0 r) g.1 t.0)
+    subst (λ (m : List ℕ). TakesText bytes m rest) (same_text b.0.0 magic (sym g.0)) (subst (λ (r : List ℕ). TakesText bytes b.0.0 r) g.1 t.0)
 
 pub magic_again : (magic rest : List ℕ) → length magic ≡ 8 → magic_at magic (magic ++ rest) ≡ Ok rest
 unfolding magic_at
@@ -125,7 +125,7 @@ magic_again magic rest len =
 
 -- ---- keys, values and contents
 
-pub sized_key_takes : (missing : Refusal) (count : ℕ) (bytes key rest : List ℕ) → IsBytes bytes → sized_key_at missing count bytes ≡ Ok (key, rest) → Takes bytes key rest × (length key ≡ count) × IsKey key
+pub sized_key_takes : (missing : Refusal) (count : ℕ) (bytes key rest : List ℕ) → IsBytes bytes → sized_key_at missing count bytes ≡ Ok (key, rest) → TakesText bytes key rest × (length key ≡ count) × IsKey key
 unfolding sized_key_at
 sized_key_takes missing count bytes key rest fits e =
     let b = bind_ok (where_true (nat_le 1 count && nat_le count 255) BadLength count) (λ lawful. bytes_at missing lawful bytes) (key, rest) e in
@@ -141,13 +141,13 @@ sized_key_again missing key rest is_key =
     let lawful : (nat_le 1 (length key) && nat_le (length key) 255) ≡ true = grind (arith, is_key, nat_tests) in
     rw (lawful, bytes_again missing key rest) refl
 
-pub key_takes : (missing : Refusal) (bytes key rest : List ℕ) → IsBytes bytes → key_at missing bytes ≡ Ok (key, rest) → Takes bytes (key_text key) rest × IsKey key
+pub key_takes : (missing : Refusal) (bytes key rest : List ℕ) → IsBytes bytes → key_at missing bytes ≡ Ok (key, rest) → TakesText bytes (key_text key) rest × IsKey key
 unfolding key_at
 key_takes missing bytes key rest fits e =
     let b = bind_ok (number_at missing w16 bytes) (λ count. sized_key_at missing count.0 count.1) (key, rest) e in
     let n = number_takes missing w16 (2 ^ 16) wide16 bytes b.0.0 b.0.1 fits b.1 in
     let k = sized_key_takes missing b.0.0 b.0.1 key rest n.0.rest_fits b.2 in
-    (subst (λ (c : ℕ). Takes bytes (to_be_bytes w16 c ++ key) rest) (sym k.1) (Takes-then bytes (to_be_bytes w16 b.0.0) b.0.1 key rest n.0 k.0), k.2)
+    (subst (λ (c : ℕ). TakesText bytes (to_be_bytes w16 c ++ key) rest) (sym k.1) (TakesText-then bytes (to_be_bytes w16 b.0.0) b.0.1 key rest n.0 k.0), k.2)
 
 pub key_again : (missing : Refusal) (key rest : List ℕ) → IsKey key → key_at missing (key_text key ++ rest) ≡ Ok (key, rest)
 unfolding key_at
@@ -156,7 +156,7 @@ key_again missing key rest is_key =
     let number : number_at missing w16 (key_text key ++ rest) ≡ Ok (length key, key ++ rest) = ap (number_at missing w16) parts ∙ number_again missing w16 (2 ^ 16) wide16 (length key) (key ++ rest) (omega (arith, is_key.1)) in
     rw (number, sized_key_again missing key rest is_key) refl
 
-pub value_takes : (missing : Refusal) (bytes value rest : List ℕ) → IsBytes bytes → value_at missing bytes ≡ Ok (value, rest) → Takes bytes (value_text value) rest × IsValue value
+pub value_takes : (missing : Refusal) (bytes value rest : List ℕ) → IsBytes bytes → value_at missing bytes ≡ Ok (value, rest) → TakesText bytes (value_text value) rest × IsValue value
 unfolding value_at
 value_takes missing bytes value rest fits e =
     let a = bind_ok (number_at missing w32 bytes) (λ count. where_true (nat_le count.0 65535) BadLength count.0 >>= λ lawful. bytes_at missing lawful count.1) (value, rest) e in
@@ -166,7 +166,7 @@ value_takes missing bytes value rest fits e =
     let t = bytes_take missing b.0 a.0.1 value rest n.0.rest_fits b.2 in
     let len : length value ≡ a.0.0 = t.1 ∙ sym g.1 in
     let limit : a.0.0 ≤ 65535 = grind (arith, g.0, nat_tests) in
-    (subst (λ (c : ℕ). Takes bytes (to_be_bytes w32 c ++ value) rest) (sym len) (Takes-then bytes (to_be_bytes w32 a.0.0) a.0.1 value rest n.0 t.0), subst (λ (c : ℕ). c ≤ 65535) (sym len) limit)
+    (subst (λ (c : ℕ). TakesText bytes (to_be_bytes w32 c ++ value) rest) (sym len) (TakesText-then bytes (to_be_bytes w32 a.0.0) a.0.1 value rest n.0 t.0), subst (λ (c : ℕ). c ≤ 65535) (sym len) limit)
 
 pub value_again : (missing : Refusal) (value rest : List ℕ) → IsValue value → value_at missing (value_text value ++ rest) ≡ Ok (value, rest)
 unfolding value_at
@@ -176,15 +176,15 @@ value_again missing value rest is_value =
     let lawful : nat_le (length value) 65535 ≡ true = grind (arith, is_value, nat_tests) in
     rw (number, lawful, bytes_again missing value rest) refl
 
-pub content_takes : (missing : Refusal) (bytes : List ℕ) (content : Option (List ℕ)) (rest : List ℕ) → IsBytes bytes → content_at missing bytes ≡ Ok (content, rest) → Takes bytes (content_text content) rest × IfSome content IsValue
+pub content_takes : (missing : Refusal) (bytes : List ℕ) (content : Option (List ℕ)) (rest : List ℕ) → IsBytes bytes → content_at missing bytes ≡ Ok (content, rest) → TakesText bytes (content_text content) rest × IfSome content IsValue
 unfolding content_at
 content_takes missing [] content rest fits e = absurd cc
 content_takes missing (zero ∷ bytes) content rest fits e =
-    subst (λ (x : Option (List ℕ) × List ℕ). Takes (0 ∷ bytes) (content_text x.0) x.1 × IfSome x.0 IsValue) (ok_is (None, bytes) (content, rest) e) (record { parts = refl; rest_fits = IsBytes-rest 0 bytes fits }, tt)
+    subst (λ (x : Option (List ℕ) × List ℕ). TakesText (0 ∷ bytes) (content_text x.0) x.1 × IfSome x.0 IsValue) (ok_is (None, bytes) (content, rest) e) (record { parts = refl; rest_fits = IsBytes-rest 0 bytes fits }, tt)
 content_takes missing (suc zero ∷ bytes) content rest fits e =
     let b = bind_ok (value_at missing bytes) (λ value. Ok (Some value.0, value.1)) (content, rest) e in
     let t = value_takes missing bytes b.0.0 b.0.1 (IsBytes-rest 1 bytes fits) b.1 in
-    subst (λ (x : Option (List ℕ) × List ℕ). Takes (1 ∷ bytes) (content_text x.0) x.1 × IfSome x.0 IsValue) (ok_is (Some b.0.0, b.0.1) (content, rest) b.2) (record { parts = ap (λ (w : List ℕ). 1 ∷ w) t.0.parts; rest_fits = t.0.rest_fits }, t.1)
+    subst (λ (x : Option (List ℕ) × List ℕ). TakesText (1 ∷ bytes) (content_text x.0) x.1 × IfSome x.0 IsValue) (ok_is (Some b.0.0, b.0.1) (content, rest) b.2) (record { parts = ap (λ (w : List ℕ). 1 ∷ w) t.0.parts; rest_fits = t.0.rest_fits }, t.1)
 content_takes missing (suc (suc kind) ∷ bytes) content rest fits e = absurd cc
 
 pub content_again : (missing : Refusal) (content : Option (List ℕ)) (rest : List ℕ) → IfSome content IsValue → content_at missing (content_text content ++ rest) ≡ Ok (content, rest)

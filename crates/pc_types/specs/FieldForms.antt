@@ -7,7 +7,7 @@ abbrev pub IsBytes : List ℕ → Type 0
 IsBytes bytes = (i : ℕ) → slice_index_or bytes i 0 < 256
 
 -- a text that was taken from the front of the bytes, and what is left
-pub record Takes (bytes text rest : List ℕ) : Type 0 where
+pub record TakesText (bytes text rest : List ℕ) : Type 0 where
   pub parts : bytes ≡ text ++ rest
   pub rest_fits : IsBytes rest
 

@@ -3,7 +3,7 @@ use crate::{Phase, SessionNo};
 
 /// Where a loop stands.
 #[derive(Clone, Copy, Debug)]
-pub enum Place {
+pub enum GatePlace {
     /// Before a transaction of this session begins.
     Start(SessionNo),
     /// The operation of this number, from 1, of the session's transaction was answered.
@@ -32,12 +32,12 @@ pub enum Place {
 
 /// What a loop passes at each of its places. It may take its time, and changes nothing that a contract speaks of.
 pub trait Gate {
-    fn pass(&self, place: Place);
+    fn pass(&self, place: GatePlace);
 }
 
 /// The gate that nothing waits at.
 pub struct OpenGate;
 
 impl Gate for OpenGate {
-    fn pass(&self, _place: Place) {}
+    fn pass(&self, _place: GatePlace) {}
 }

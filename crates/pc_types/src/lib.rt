@@ -23,7 +23,7 @@ pub use fields::{
     read_bytes, read_content, read_key, read_magic, read_sized_key, read_u16, read_u32, read_u64,
     read_value,
 };
-pub use gate::{Gate, OpenGate, Place};
+pub use gate::{Gate, GatePlace, OpenGate};
 pub use keys::Key;
 pub use limits::{
     MOST_FILE_ENTRIES, MOST_FILES, MOST_KEY_BYTES, MOST_KEYS, MOST_LOG_ENTRIES, MOST_POINTS,

@@ -10,55 +10,55 @@ use Rattle.pc_model.specs.Calls.{step_of, Extends, IsAnswered}
 use Rattle.pc_txn.specs.declared.got.Got.TheVariants as got
 use Rattle.pc_jobs.specs.declared.works.Op.{Op}
 use Rattle.pc_jobs.specs.declared.works.Op.TheVariants.{Get, Put, Del}
-use Rattle.pc_shared.specs.declared.session.Answer.{Answer}
-use Rattle.pc_shared.specs.declared.session.Answer.TheVariants as answer
-use Rattle.pc_shared.specs.Answers.{IsRead, IsWritten}
+use Rattle.pc_shared.specs.declared.session.CallAnswer.{CallAnswer}
+use Rattle.pc_shared.specs.declared.session.CallAnswer.TheVariants as answer
+use Rattle.pc_shared.specs.Answers.{IsRead, IsWriteAnswered}
 use Rattle.pc_shared.specs.Sitters.{Sitter}
-use Rattle.pc_workers.specs.Attempts.{IsMade, Dies, Begins, Aborts}
+use Rattle.pc_workers.specs.Attempts.{IsOpMade, Dies, WasBegun, WasAborted}
 use Rattle.pc_workers.specs.Courses.{IsAsked}
 use Rattle.pc_workers.proofs.OpenLaws.{open_is_aborted, idle_is_not_aborted}
 
 module _ (st : Setting) (s : ℕ) (a b : History) where
-  read_asked : (key : List ℕ) (ans : Answer) → IsRead st a s key ans b → IsAsked st s (Get key) ans a b
-  read_asked key ans (got.Found value, is, ext) = subst (λ (x : Answer). IsAsked st s (Get key) x a b) (sym is) (told.Found value, refl, ext)
-  read_asked key ans (got.Absent, is, ext) = subst (λ (x : Answer). IsAsked st s (Get key) x a b) (sym is) (told.Absent, refl, ext)
-  read_asked key ans (got.Died, is, ext) = subst (λ (x : Answer). IsAsked st s (Get key) x a b) (sym is) ext
+  read_asked : (key : List ℕ) (ans : CallAnswer) → IsRead st a s key ans b → IsAsked st s (Get key) ans a b
+  read_asked key ans (got.Found value, is, ext) = subst (λ (x : CallAnswer). IsAsked st s (Get key) x a b) (sym is) (told.Found value, refl, ext)
+  read_asked key ans (got.Absent, is, ext) = subst (λ (x : CallAnswer). IsAsked st s (Get key) x a b) (sym is) (told.Absent, refl, ext)
+  read_asked key ans (got.Died, is, ext) = subst (λ (x : CallAnswer). IsAsked st s (Get key) x a b) (sym is) ext
 
-  put_asked : (key value : List ℕ) (ans : Answer) → IsWritten st a (asked.Put s key value) ans b → IsAsked st s (Put key value) ans a b
-  put_asked key value ans (true, is, ext) = subst (λ (x : Answer). IsAsked st s (Put key value) x a b) (sym is) (told.Ok, refl, ext)
-  put_asked key value ans (false, is, ext) = subst (λ (x : Answer). IsAsked st s (Put key value) x a b) (sym is) ext
+  put_asked : (key value : List ℕ) (ans : CallAnswer) → IsWriteAnswered st a (asked.Put s key value) ans b → IsAsked st s (Put key value) ans a b
+  put_asked key value ans (true, is, ext) = subst (λ (x : CallAnswer). IsAsked st s (Put key value) x a b) (sym is) (told.Ok, refl, ext)
+  put_asked key value ans (false, is, ext) = subst (λ (x : CallAnswer). IsAsked st s (Put key value) x a b) (sym is) ext
 
-  del_asked : (key : List ℕ) (ans : Answer) → IsWritten st a (asked.Del s key) ans b → IsAsked st s (Del key) ans a b
-  del_asked key ans (true, is, ext) = subst (λ (x : Answer). IsAsked st s (Del key) x a b) (sym is) (told.Ok, refl, ext)
-  del_asked key ans (false, is, ext) = subst (λ (x : Answer). IsAsked st s (Del key) x a b) (sym is) ext
+  del_asked : (key : List ℕ) (ans : CallAnswer) → IsWriteAnswered st a (asked.Del s key) ans b → IsAsked st s (Del key) ans a b
+  del_asked key ans (true, is, ext) = subst (λ (x : CallAnswer). IsAsked st s (Del key) x a b) (sym is) (told.Ok, refl, ext)
+  del_asked key ans (false, is, ext) = subst (λ (x : CallAnswer). IsAsked st s (Del key) x a b) (sym is) ext
 
-  pub asked_made : (op : Op) (ans : Answer) → ans ≢ answer.Died → IsAsked st s op ans a b → IsMade st s op a b
+  pub asked_made : (op : Op) (ans : CallAnswer) → ans ≢ answer.Died → IsAsked st s op ans a b → IsOpMade st s op a b
   asked_made op answer.Found alive is = is
   asked_made op answer.Absent alive is = is
   asked_made op answer.Ok alive is = is
   asked_made op answer.Died alive is = absurd (alive refl)
 
-  pub asked_dies : (op : Op) (ans : Answer) → ans ≡ answer.Died → IsAsked st s op ans a b → Dies st s op a b
-  asked_dies op ans is asked = subst (λ (x : Answer). IsAsked st s op x a b) is asked
+  pub asked_dies : (op : Op) (ans : CallAnswer) → ans ≡ answer.Died → IsAsked st s op ans a b → Dies st s op a b
+  asked_dies op ans is asked = subst (λ (x : CallAnswer). IsAsked st s op x a b) is asked
 
   -- ---- by the results of the calls
 
-  pub get_call : (key : List ℕ) (result : Result Answer Refusal) → IfOk result (λ ans. IsRead st a s key ans b) → IfOk result (λ ans. IsAsked st s (Get key) ans a b)
+  pub get_call : (key : List ℕ) (result : Result CallAnswer Refusal) → IfOk result (λ ans. IsRead st a s key ans b) → IfOk result (λ ans. IsAsked st s (Get key) ans a b)
   get_call key (Ok ans) is = read_asked key ans is
   get_call key (Err cause) is = tt
 
-  pub put_call : (key value : List ℕ) (result : Result Answer Refusal) → IfOk result (λ ans. IsWritten st a (asked.Put s key value) ans b) → IfOk result (λ ans. IsAsked st s (Put key value) ans a b)
+  pub put_call : (key value : List ℕ) (result : Result CallAnswer Refusal) → IfOk result (λ ans. IsWriteAnswered st a (asked.Put s key value) ans b) → IfOk result (λ ans. IsAsked st s (Put key value) ans a b)
   put_call key value (Ok ans) is = put_asked key value ans is
   put_call key value (Err cause) is = tt
 
-  pub del_call : (key : List ℕ) (result : Result Answer Refusal) → IfOk result (λ ans. IsWritten st a (asked.Del s key) ans b) → IfOk result (λ ans. IsAsked st s (Del key) ans a b)
+  pub del_call : (key : List ℕ) (result : Result CallAnswer Refusal) → IfOk result (λ ans. IsWriteAnswered st a (asked.Del s key) ans b) → IfOk result (λ ans. IsAsked st s (Del key) ans a b)
   del_call key (Ok ans) is = del_asked key ans is
   del_call key (Err cause) is = tt
 
 -- ---- an abort
 
 module _ (st : Setting) (s : ℕ) {X : Type 0} where
-  pub open_abort : (a b : History) (result : Result X Refusal) → IfOk result (λ _. Extends st a (step_of (asked.Abort s) told.Aborted) b) → IfErr result (λ cause. IsAnswered st s a (asked.Abort s) (told.Refused cause)) → is_open s a ≡ true → Aborts st s a b
+  pub open_abort : (a b : History) (result : Result X Refusal) → IfOk result (λ _. Extends st a (step_of (asked.Abort s) told.Aborted) b) → IfErr result (λ cause. IsAnswered st s a (asked.Abort s) (told.Refused cause)) → is_open s a ≡ true → WasAborted st s a b
   open_abort a b (Ok done) ext refused is = ext
   open_abort a b (Err cause) ext refused is = absurd (open_is_aborted st s a is cause refused)
 
@@ -76,6 +76,6 @@ pub when_true : {X : Type 0} (Y : Type 0) (b : Bool) → b ≡ true → MatchBoo
 when_true Y true is x = x
 when_true Y false is y = absurd (true≢false (sym is))
 
-pub begins_by : (st : Setting) (s : ℕ) (a b : History) (result : Result ℕ Refusal) → is_err result ≡ false → IfOk result (λ t. Extends st a (step_of (asked.Begin s) (told.Begun t)) b) → Begins st s a b
+pub begins_by : (st : Setting) (s : ℕ) (a b : History) (result : Result ℕ Refusal) → is_err result ≡ false → IfOk result (λ t. Extends st a (step_of (asked.Begin s) (told.Begun t)) b) → WasBegun st s a b
 begins_by st s a b (Ok t) is ext = (t, ext)
 begins_by st s a b (Err cause) is ext = absurd (true≢false is)

@@ -11,14 +11,14 @@ use Rattle.pc_model.specs.Calls.{step_of, Extends, IsAnswered}
 use Rattle.pc_jobs.specs.declared.works.Job.{Job}
 use Rattle.pc_jobs.specs.declared.works.Op.{Op}
 use Rattle.pc_jobs.specs.declared.works.Op.TheVariants.{Get, Put, Del}
-use Rattle.pc_workers.specs.Attempts.{event_of, IsMade, Dies, Begins, Aborts, AreMade, OneDies, IsRefusedOp, IsStuck, IsAttempt, AreDeaths, IsLast, IsTried, AreTried}
+use Rattle.pc_workers.specs.Attempts.{event_of, IsOpMade, Dies, WasBegun, WasAborted, AreMade, OneDies, IsRefusedOp, IsStuck, IsAttempt, AreDeaths, IsLast, IsTried, AreTried}
 use Rattle.pc_workers.specs.Courses.{IsCourse, IsRepeated, mark_of}
-use Rattle.pc_workers.specs.declared.clients.Ended.{Ended}
-use Rattle.pc_workers.specs.declared.clients.Ended.TheVariants.{Committed, Died, Refused}
+use Rattle.pc_workers.specs.declared.clients.EndedTransaction.{EndedTransaction}
+use Rattle.pc_workers.specs.declared.clients.EndedTransaction.TheVariants.{Committed, Died, Refused}
 use Rattle.pc_workers.specs.declared.clients.TheConstants.{MOST_REPEATS}
 use Rattle.pc_workers.proofs.OpenLaws.{begun_open, committed_closed, aborted_closed, read_stays, put_stays, del_stays}
 
-pub not_committed : (ended : Ended) → ended ≡ Refused → ended ≢ Committed
+pub not_committed : (ended : EndedTransaction) → ended ≡ Refused → ended ≢ Committed
 not_committed Refused is other = cc
 not_committed Committed is other = cc
 not_committed Died is other = cc
@@ -35,8 +35,8 @@ module _ (st : Setting) (s : ℕ) where
   made_stays [] a b made = ap (is_open s) made
   made_stays (op ∷ ops) a b (between, one, made) = made_stays ops between b made ∙ op_stays op one.0 a between one.2
 
-  made_more : (ops : List Op) (op : Op) (a b c : History) → AreMade st s ops a b → IsMade st s op b c → AreMade st s (ops ++ op ∷ []) a c
-  made_more [] op a b c made one = (c, subst (λ (h : History). IsMade st s op h c) made one, refl)
+  made_more : (ops : List Op) (op : Op) (a b c : History) → AreMade st s ops a b → IsOpMade st s op b c → AreMade st s (ops ++ op ∷ []) a c
+  made_more [] op a b c made one = (c, subst (λ (h : History). IsOpMade st s op h c) made one, refl)
   made_more (o ∷ ops) op a b c (between, first, made) one = (between, first, made_more ops op between b c made one)
 
   module _ (ops : List Op) (i : ℕ) (op : Op) (low : i < length ops) (is : op ≡ get_or ops i op) (a b : History) (made : AreMade st s (take i ops) a b) where
@@ -44,7 +44,7 @@ module _ (st : Setting) (s : ℕ) where
     parted = sym (take-append-drop i ops) ∙ ap (λ l. take i ops ++ l) (drop_more ops i op low) ∙ ap (λ (o : Op). take i ops ++ o ∷ drop (i + 1) ops) (sym is)
 
     -- one more was made
-    pub made_next : (c : History) → IsMade st s op b c → AreMade st s (take (i + 1) ops) a c
+    pub made_next : (c : History) → IsOpMade st s op b c → AreMade st s (take (i + 1) ops) a c
     made_next c one =
         subst (λ (l : List Op). AreMade st s l a c) (sym (take_more ops i op low ∙ ap (λ (o : Op). take i ops ++ o ∷ []) (sym is))) (made_more (take i ops) op a b c made one)
 
@@ -68,7 +68,7 @@ module _ (st : Setting) (s : ℕ) where
       subst (λ (h : History). IsStuck st s ops a h) (sym same) stuck
 
   -- or made
-  pub commit_is_made : (ops : List Op) (a begun made b : History) (n m : ℕ) → n ≡ s → m ≡ s → Begins st s a begun → AreMade st n ops begun made → (number : ℕ) → Extends st made (step_of (asked.Commit m) (told.Committed number)) b → IsCourse st s ops Committed a b
+  pub commit_is_made : (ops : List Op) (a begun made b : History) (n m : ℕ) → n ≡ s → m ≡ s → WasBegun st s a begun → AreMade st n ops begun made → (number : ℕ) → Extends st made (step_of (asked.Commit m) (told.Committed number)) b → IsCourse st s ops Committed a b
   commit_is_made ops a begun made b n m one other begins all number commits = (
     begun,
     made,
@@ -79,30 +79,30 @@ module _ (st : Setting) (s : ℕ) where
 
   -- ---- an attempt
 
-  dead_is_open : (ops : List Op) (a begun b : History) → Begins st s a begun → OneDies st s ops begun b → is_open s b ≡ true
+  dead_is_open : (ops : List Op) (a begun b : History) → WasBegun st s a begun → OneDies st s ops begun b → is_open s b ≡ true
   dead_is_open ops a begun b begins one = op_stays one.next told.Died one.between b one.dies ∙ made_stays one.made begun one.between one.first ∙ begun_open st s a begun begins.0 begins.1
 
-  stuck_is_open : (ops : List Op) (a begun b : History) → Begins st s a begun → IsStuck st s ops begun b → is_open s b ≡ true
+  stuck_is_open : (ops : List Op) (a begun b : History) → WasBegun st s a begun → IsStuck st s ops begun b → is_open s b ≡ true
   stuck_is_open ops a begun b begins stuck = made_stays stuck.made begun b stuck.first ∙ begun_open st s a begun begins.0 begins.1
 
   -- none is open behind it
-  attempt_closes : (ops : List Op) (ended : Ended) (a b : History) → IsAttempt st s ops ended a b → is_open s a ≡ false → is_open s b ≡ false
+  attempt_closes : (ops : List Op) (ended : EndedTransaction) (a b : History) → IsAttempt st s ops ended a b → is_open s a ≡ false → is_open s b ≡ false
   attempt_closes ops Committed a b (begun, made, begins, all, commits) idle = committed_closed st s made b commits.0 commits.1
   attempt_closes ops Died a b (begun, dead, begins, one, aborts) idle = aborted_closed st s dead b aborts
   attempt_closes ops Refused a b (inl (same, cause, refused)) idle = ap (is_open s) same ∙ idle
   attempt_closes ops Refused a b (inr (begun, stuck, begins, at, aborts)) idle = aborted_closed st s stuck b aborts
 
   -- what comes of it by an abort of what is open
-  aborted_attempt : (ops : List Op) (ended : Ended) (a b c : History) → ended ≢ Committed → IsCourse st s ops ended a b → is_open s a ≡ false → (is_open s b ≡ true → Aborts st s b c) → (is_open s b ≡ false → c ≡ b) → IsAttempt st s ops ended a c
+  aborted_attempt : (ops : List Op) (ended : EndedTransaction) (a b c : History) → ended ≢ Committed → IsCourse st s ops ended a b → is_open s a ≡ false → (is_open s b ≡ true → WasAborted st s b c) → (is_open s b ≡ false → c ≡ b) → IsAttempt st s ops ended a c
   aborted_attempt ops Committed a b c not course idle aborts stays = absurd (not refl)
   aborted_attempt ops Died a b c not (begun, begins, one) idle aborts stays = (begun, b, begins, one, aborts (dead_is_open ops a begun b begins one))
   aborted_attempt ops Refused a b c not (inl (same, cause, refused)) idle aborts stays = inl (stays (ap (is_open s) same ∙ idle) ∙ same, cause, refused)
   aborted_attempt ops Refused a b c not (inr (begun, begins, stuck)) idle aborts stays = inr (begun, b, begins, stuck, aborts (stuck_is_open ops a begun b begins stuck))
 
   -- the same by the number that the session has behind it
-  pub aborted_at : (ops : List Op) (ended : Ended) (a b c : History) (n : ℕ) → n ≡ s → ended ≢ Committed → IsCourse st s ops ended a b → is_open s a ≡ false → (is_open n b ≡ true → Aborts st n b c) → (is_open n b ≡ false → c ≡ b) → IsAttempt st s ops ended a c
+  pub aborted_at : (ops : List Op) (ended : EndedTransaction) (a b c : History) (n : ℕ) → n ≡ s → ended ≢ Committed → IsCourse st s ops ended a b → is_open s a ≡ false → (is_open n b ≡ true → WasAborted st n b c) → (is_open n b ≡ false → c ≡ b) → IsAttempt st s ops ended a c
   aborted_at ops ended a b c n number not course idle aborts stays =
-      aborted_attempt ops ended a b c not course idle (subst (λ (m : ℕ). is_open m b ≡ true → Aborts st m b c) number aborts) (subst (λ (m : ℕ). is_open m b ≡ false → c ≡ b) number stays)
+      aborted_attempt ops ended a b c not course idle (subst (λ (m : ℕ). is_open m b ≡ true → WasAborted st m b c) number aborts) (subst (λ (m : ℕ). is_open m b ≡ false → c ≡ b) number stays)
 
   -- ---- attempts
 
@@ -114,7 +114,7 @@ module _ (st : Setting) (s : ℕ) where
   earlier_death ops zero a b c one none = (a, refl, subst (λ (h : History). IsAttempt st s ops Died a h) (sym none) one)
   earlier_death ops (suc n) a b c one (between, before, last) = (between, earlier_death ops n a b between one before, last)
 
-  module _ (ops : List Op) (a b c : History) (m : ℕ) (number : m ≡ s) (ended : Ended) (last : is_open m b ≡ false → IsAttempt st m ops ended b c) where
+  module _ (ops : List Op) (a b c : History) (m : ℕ) (number : m ≡ s) (ended : EndedTransaction) (last : is_open m b ≡ false → IsAttempt st m ops ended b c) where
     mine : is_open s b ≡ false → IsAttempt st s ops ended b c
     mine = subst (λ (k : ℕ). is_open k b ≡ false → IsAttempt st k ops ended b c) number last
 
@@ -122,7 +122,7 @@ module _ (st : Setting) (s : ℕ) where
     pub one_more_death : ended ≡ Died → (n : ℕ) → AreDeaths st s ops n a b → is_open s a ≡ false → AreDeaths st s ops (n + 1) a c
     one_more_death died n before idle =
         let more : suc n ≡ n + 1 = omega arith in
-        let it : IsAttempt st s ops Died b c = subst (λ (e : Ended). IsAttempt st s ops e b c) died (mine (deaths_close ops n a b before idle)) in
+        let it : IsAttempt st s ops Died b c = subst (λ (e : EndedTransaction). IsAttempt st s ops e b c) died (mine (deaths_close ops n a b before idle)) in
         subst (λ (k : ℕ). AreDeaths st s ops k a c) more (b, before, it)
 
     -- or ended otherwise
@@ -135,12 +135,12 @@ module _ (st : Setting) (s : ℕ) where
   always_died ops (suc n) a b all (between, before, last) =
       record { deaths = n; few = omega (arith, all); between = between; before = before; last = last; as_often = λ _. omega (arith, all) }
 
-  last_at_once : (ended : Ended) → ended ≢ Died → IsLast (mark_of ended) 0 ended
+  last_at_once : (ended : EndedTransaction) → ended ≢ Died → IsLast (mark_of ended) 0 ended
   last_at_once Committed not = refl
   last_at_once Died not = absurd (not refl)
   last_at_once Refused not = inl refl
 
-  last_at : (ended : Ended) (n : ℕ) → (ended ≡ Died → n ≡ MOST_REPEATS) → IsLast (mark_of ended) n ended
+  last_at : (ended : EndedTransaction) (n : ℕ) → (ended ≡ Died → n ≡ MOST_REPEATS) → IsLast (mark_of ended) n ended
   last_at Committed n all = refl
   last_at Died n all = inr (refl, all refl)
   last_at Refused n all = inl refl
@@ -148,7 +148,7 @@ module _ (st : Setting) (s : ℕ) where
   -- ---- a job
 
   -- its first attempt didn't die
-  pub tried_once : (job : Job) (ended : Ended) (a b : History) → is_open s a ≡ false → IsAttempt st s job.ops ended a b → ended ≢ Died → IsTried st s job (mark_of ended) a b
+  pub tried_once : (job : Job) (ended : EndedTransaction) (a b : History) → is_open s a ≡ false → IsAttempt st s job.ops ended a b → ended ≢ Died → IsTried st s job (mark_of ended) a b
   tried_once job ended a b idle attempt not =
       record {
         deaths = 0;
@@ -162,7 +162,7 @@ module _ (st : Setting) (s : ℕ) where
       }
 
   -- it died, and the job was begun again
-  pub tried_again : (job : Job) (ended : Ended) (a b c : History) (n : ℕ) → n ≡ s → is_open s a ≡ false → IsAttempt st s job.ops Died a b → (is_open n b ≡ false → IsRepeated st n job.ops ended b c) → IsTried st s job (mark_of ended) a c
+  pub tried_again : (job : Job) (ended : EndedTransaction) (a b c : History) (n : ℕ) → n ≡ s → is_open s a ≡ false → IsAttempt st s job.ops Died a b → (is_open n b ≡ false → IsRepeated st n job.ops ended b c) → IsTried st s job (mark_of ended) a c
   tried_again job ended a b c n number idle died again =
       let idle' : is_open s b ≡ false = attempt_closes job.ops Died a b died idle in
       let more : IsRepeated st s job.ops ended b c = subst (λ (m : ℕ). is_open m b ≡ false → IsRepeated st m job.ops ended b c) number again idle' in

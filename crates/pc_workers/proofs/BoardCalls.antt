@@ -4,8 +4,8 @@ use Rattle.std.proofs.lemmas.List.{append-nil, map-append}
 use Rattle.std.proofs.lemmas.List.Elements.{All-nil, All-cons, All-append, filter-append}
 use mathlib.Core.List.{IsPrefix}
 use Rattle.pc_types.specs.declared.Phase.{Phase}
-use Rattle.pc_board.specs.declared.calls.Kind.{Kind}
-use Rattle.pc_board.specs.declared.calls.Kind.TheVariants.{Claim, Publish, Look}
+use Rattle.pc_board.specs.declared.calls.CallKind.{CallKind}
+use Rattle.pc_board.specs.declared.calls.CallKind.TheVariants.{Claim, Publish, Look}
 use Rattle.pc_board.specs.declared.calls.Call.{Call}
 use Rattle.pc_board.specs.Calls.{call, calls_by, greatest_of}
 use Rattle.pc_board.specs.Passes.{Pass, MakesCall}
@@ -25,7 +25,7 @@ prefix_on xs ys zs p q = (p.0 ++ q.0, sym (append_assoc xs p.0 q.0) ∙ (ap (λ 
 makes_none : (pass : Pass) → MakesCalls pass pass []
 makes_none pass = record { same = (refl, refl); seen = ([], append-nil pass.seen); own = sym (append-nil (own_calls pass)) }
 
-makes_one : (before after : Pass) (kind : Kind) (value : ℕ) → MakesCall before kind value after → MakesCalls before after (call before.number kind value ∷ [])
+makes_one : (before after : Pass) (kind : CallKind) (value : ℕ) → MakesCall before kind value after → MakesCalls before after (call before.number kind value ∷ [])
 makes_one before after kind value m =
     let c = call before.number kind value in
     let between = m.last.0 in
@@ -79,7 +79,7 @@ look_is_greatest before after value m =
     let earlier = before.seen ++ m.last.0 in
     m.legal earlier c [] m.last.1 ∙ (sym (greatest_with_look earlier before.number value) ∙ ap greatest_of (sym m.last.1))
 
-claimed_on_call : (kind : Kind) (value : ℕ) (xs ys zs : List ℕ) → zs ≡ xs ++ ys → claimed_by kind value zs ≡ claimed_by kind value xs ++ ys
+claimed_on_call : (kind : CallKind) (value : ℕ) (xs ys zs : List ℕ) → zs ≡ xs ++ ys → claimed_by kind value zs ≡ claimed_by kind value xs ++ ys
 claimed_on_call Claim value xs ys zs e = ap (λ l. value ∷ l) e
 claimed_on_call Publish value xs ys zs e = e
 claimed_on_call Look value xs ys zs e = e

@@ -17,15 +17,15 @@ use Rattle.pc_model.proofs.SessionCallLaws.{makes_own}
 use Rattle.pc_txn.specs.declared.got.Got.TheVariants as got
 use Rattle.pc_jobs.specs.declared.works.Job.{Job}
 use Rattle.pc_jobs.specs.declared.works.Op.{Op}
-use Rattle.pc_shared.specs.declared.session.Answer.{Answer}
-use Rattle.pc_shared.specs.declared.session.Answer.TheVariants as answer
-use Rattle.pc_shared.specs.Answers.{IsRead, IsWritten}
+use Rattle.pc_shared.specs.declared.session.CallAnswer.{CallAnswer}
+use Rattle.pc_shared.specs.declared.session.CallAnswer.TheVariants as answer
+use Rattle.pc_shared.specs.Answers.{IsRead, IsWriteAnswered}
 use Rattle.pc_shared.specs.Sitters.{Sitter}
 use Rattle.pc_workers.specs.Attempts.{IsTried, AreTried}
 use Rattle.pc_workers.specs.Clients.{wrote, wrote_all, writes_of, written_by, done_by, HasCommitted, HasRun, HasTried, marked}
 use Rattle.pc_workers.specs.Courses.{mark_of}
-use Rattle.pc_workers.specs.declared.clients.Ended.{Ended}
-use Rattle.pc_workers.specs.declared.clients.Ended.TheVariants.{Committed, Died, Refused}
+use Rattle.pc_workers.specs.declared.clients.EndedTransaction.{EndedTransaction}
+use Rattle.pc_workers.specs.declared.clients.EndedTransaction.TheVariants.{Committed, Died, Refused}
 use Rattle.pc_workers.proofs.AttemptLaws.{tried_closes, tried_join, tried_one}
 
 itself : (s : ℕ) → (s == s) ≡ true
@@ -35,18 +35,18 @@ module _ (st : Setting) (s : ℕ) (before after : History) where
   pub begun : (t : ℕ) → Extends st before (step_of (asked.Begin s) (told.Begun t)) after → (own_of s after).writes ≡ []
   begun t ext = ap (λ (o : Own). o.writes) (makes_own st before (step_of (asked.Begin s) (told.Begun t)) after ext) ∙ ap (λ b. if b then [] else (own_of s before).writes) (itself s)
 
-  read : (key : List ℕ) (a : Answer) → IsRead st before s key a after → a ≢ answer.Died → (own_of s after).writes ≡ (own_of s before).writes
+  read : (key : List ℕ) (a : CallAnswer) → IsRead st before s key a after → a ≢ answer.Died → (own_of s after).writes ≡ (own_of s before).writes
   read key a (got.Found value, is, ext) alive = ap (λ (o : Own). o.writes) (makes_own st before (step_of (asked.Get s key) (told.Found value)) after ext)
   read key a (got.Absent, is, ext) alive = ap (λ (o : Own). o.writes) (makes_own st before (step_of (asked.Get s key) told.Absent) after ext)
   read key a (got.Died, is, ext) alive = absurd (alive is)
 
-  put : (key value : List ℕ) (a : Answer) → IsWritten st before (asked.Put s key value) a after → a ≢ answer.Died → (own_of s after).writes ≡ with_write (own_of s before).writes (record { key = key; value = Some value })
+  put : (key value : List ℕ) (a : CallAnswer) → IsWriteAnswered st before (asked.Put s key value) a after → a ≢ answer.Died → (own_of s after).writes ≡ with_write (own_of s before).writes (record { key = key; value = Some value })
   put key value a (true, is, ext) alive =
       ap (λ (o : Own). o.writes) (makes_own st before (step_of (asked.Put s key value) told.Ok) after ext)
       ∙ ap (λ b. if b then with_write (own_of s before).writes (record { key = key; value = Some value }) else (own_of s before).writes) (itself s)
   put key value a (false, is, ext) alive = absurd (alive is)
 
-  del : (key : List ℕ) (a : Answer) → IsWritten st before (asked.Del s key) a after → a ≢ answer.Died → (own_of s after).writes ≡ with_write (own_of s before).writes (record { key = key; value = None })
+  del : (key : List ℕ) (a : CallAnswer) → IsWriteAnswered st before (asked.Del s key) a after → a ≢ answer.Died → (own_of s after).writes ≡ with_write (own_of s before).writes (record { key = key; value = None })
   del key a (true, is, ext) alive =
       ap (λ (o : Own). o.writes) (makes_own st before (step_of (asked.Del s key) told.Ok) after ext)
       ∙ ap (λ b. if b then with_write (own_of s before).writes (record { key = key; value = None }) else (own_of s before).writes) (itself s)
@@ -54,21 +54,21 @@ module _ (st : Setting) (s : ℕ) (before after : History) where
 
 -- what a call's result tells of the writes
 module _ (st : Setting) (old new : Sitter) (same : new.number ≡ old.number) where
-  abbrev Wrote : List Write → Result Answer Refusal → Type 0
+  abbrev Wrote : List Write → Result CallAnswer Refusal → Type 0
   Wrote writes result = IfOk result (λ a. a ≢ answer.Died → written_by new ≡ writes)
 
   now : (writes : List Write) → (own_of old.number new.seen).writes ≡ writes → written_by new ≡ writes
   now writes is = ap (λ n. (own_of n new.seen).writes) same ∙ is
 
-  pub get_wrote : (key : List ℕ) (result : Result Answer Refusal) → IfOk result (λ a. IsRead st old.seen old.number key a new.seen) → Wrote (written_by old) result
+  pub get_wrote : (key : List ℕ) (result : Result CallAnswer Refusal) → IfOk result (λ a. IsRead st old.seen old.number key a new.seen) → Wrote (written_by old) result
   get_wrote key (Ok a) call = λ alive. now (written_by old) (read st old.number old.seen new.seen key a call alive)
   get_wrote key (Err why) call = tt
 
-  pub put_wrote : (key value : List ℕ) (result : Result Answer Refusal) → IfOk result (λ a. IsWritten st old.seen (asked.Put old.number key value) a new.seen) → Wrote (with_write (written_by old) (record { key = key; value = Some value })) result
+  pub put_wrote : (key value : List ℕ) (result : Result CallAnswer Refusal) → IfOk result (λ a. IsWriteAnswered st old.seen (asked.Put old.number key value) a new.seen) → Wrote (with_write (written_by old) (record { key = key; value = Some value })) result
   put_wrote key value (Ok a) call = λ alive. now (with_write (written_by old) (record { key = key; value = Some value })) (put st old.number old.seen new.seen key value a call alive)
   put_wrote key value (Err why) call = tt
 
-  pub del_wrote : (key : List ℕ) (result : Result Answer Refusal) → IfOk result (λ a. IsWritten st old.seen (asked.Del old.number key) a new.seen) → Wrote (with_write (written_by old) (record { key = key; value = None })) result
+  pub del_wrote : (key : List ℕ) (result : Result CallAnswer Refusal) → IfOk result (λ a. IsWriteAnswered st old.seen (asked.Del old.number key) a new.seen) → Wrote (with_write (written_by old) (record { key = key; value = None })) result
   del_wrote key (Ok a) call = λ alive. now (with_write (written_by old) (record { key = key; value = None })) (del st old.number old.seen new.seen key a call alive)
   del_wrote key (Err why) call = tt
 
@@ -134,7 +134,7 @@ module _ (jobs : List Job) (job : Job) (commits : ℕ) (first old new : Sitter) 
         count = ap length is ∙ before.count ∙ omega (arith, count);
       }
 
-  run_one : (ended : Ended) (more : ℕ) → HasCommitted (done_by ended (writes_of job)) old new → more ≡ commits + length (done_by ended []) → HasRun (jobs ++ job ∷ []) more first new
+  run_one : (ended : EndedTransaction) (more : ℕ) → HasCommitted (done_by ended (writes_of job)) old new → more ≡ commits + length (done_by ended []) → HasRun (jobs ++ job ∷ []) more first new
   run_one Committed more done count = run_committed more done count
   run_one Died more done count = run_given_up more done count
   run_one Refused more done count = run_given_up more done count
@@ -152,7 +152,7 @@ module _ (st : Setting) (jobs : List Job) (job : Job) (commits : ℕ) (first old
       let here : IsTried st s job mark old.seen new.seen = subst (λ (n : ℕ). is_open n old.seen ≡ false → IsTried st n job mark old.seen new.seen) before.run.committed.number one closed in
       tried_join st s before.run.marks (mark ∷ []) jobs (job ∷ []) first.seen old.seen new.seen earlier (tried_one st s mark job old.seen new.seen here)
 
-  one_more : (ended : Ended) (more : ℕ) → HasCommitted (done_by ended (writes_of job)) old new → more ≡ commits + length (done_by ended [])
+  one_more : (ended : EndedTransaction) (more : ℕ) → HasCommitted (done_by ended (writes_of job)) old new → more ≡ commits + length (done_by ended [])
       → (is_open old.number old.seen ≡ false → IsTried st old.number job (mark_of ended) old.seen new.seen) → HasTried st (jobs ++ job ∷ []) more first new
   unfolding run_committed run_given_up
   one_more Committed more done count one = record { run = run_committed jobs job commits first old new before.run more done count; tried = then_tried true one }
@@ -161,7 +161,7 @@ module _ (st : Setting) (jobs : List Job) (job : Job) (commits : ℕ) (first old
 
 -- the same of the next of some jobs
 pub tried_next : (st : Setting) (jobs : List Job) (i : ℕ) (job : Job) (commits : ℕ) (first old new : Sitter) → i < length jobs → job ≡ get_or jobs i job → HasTried st (take i jobs) commits first old
-    → (ended : Ended) (more : ℕ) → HasCommitted (done_by ended (writes_of job)) old new → more ≡ commits + length (done_by ended [])
+    → (ended : EndedTransaction) (more : ℕ) → HasCommitted (done_by ended (writes_of job)) old new → more ≡ commits + length (done_by ended [])
     → (is_open old.number old.seen ≡ false → IsTried st old.number job (mark_of ended) old.seen new.seen) → HasTried st (take (i + 1) jobs) more first new
 tried_next st jobs i job commits first old new low is before ended more done count one =
     subst (λ (js : List Job). HasTried st js more first new) (sym (take_more jobs i job low ∙ ap (λ (j : Job). take i jobs ++ j ∷ []) (sym is)))

@@ -23,7 +23,7 @@ use Rattle.pc_model.proofs.BeginningLaws.{beginning_self, beginning_trans}
 use Rattle.pc_model.proofs.LegalEffectLaws.{legal_fits}
 use Rattle.pc_model.proofs.ReplyKindLaws.{reply_kind}
 use Rattle.pc_board.specs.Passes.{Pass}
-use Rattle.pc_latch.specs.Cycles.{next_event, IsCalled, IsAdvance, IsTaken, entered_by, phases_entered}
+use Rattle.pc_latch.specs.Cycles.{next_event, IsCalled, IsAdvance, IsTakeCalled, entered_by, phases_entered}
 use Rattle.pc_latch.proofs.CycleLaws.{phase_known, point_known, entered_known, right_before}
 use Rattle.pc_workers.specs.Checkpointing.{next_phase, next_point, HasReached, HasStood, HasTurned, IsHeldUp, HasPublished, HasBrokenOff, point_named}
 
@@ -200,7 +200,7 @@ module _ (st : Setting) where
     pub waited : point_named reply ≡ None → IsAdvance st before reply after → HasStood st before after
     waited none called = by_count st before after (next_event (phase_of before)) reply (own_event (phase_of before)) (advance_stays (phase_of before) reply none) called
 
-    pub took : IsTaken st before reply after → HasStood st before after
+    pub took : IsTakeCalled st before reply after → HasStood st before after
     took called = by_count st before after asked.Take reply refl (take_stays reply) called
 
     refused_at : (event : Event) (why : Refusal) → reply ≡ told.Refused why → IsCalled st before event reply after → (after ≡ before) × IsAnswered st 0 before event (told.Refused why)
@@ -213,7 +213,7 @@ module _ (st : Setting) where
         let r = refused_at (next_event (phase_of before)) why is called in
         (stood_same st before after r.0, inl (subst (λ (h : History). IsAnswered st 0 h (next_event (phase_of h)) (told.Refused why)) (sym r.0) r.1))
 
-    pub take_refused : (why : Refusal) → phase_of before ≡ Capture → reply ≡ told.Refused why → IsTaken st before reply after → IsHeldUp st before after why
+    pub take_refused : (why : Refusal) → phase_of before ≡ Capture → reply ≡ told.Refused why → IsTakeCalled st before reply after → IsHeldUp st before after why
     take_refused why capture is called =
         let r = refused_at asked.Take why is called in
         (stood_same st before after r.0, inr (ap phase_of r.0 ∙ capture, subst (λ (h : History). IsAnswered st 0 h asked.Take (told.Refused why)) (sym r.0) r.1))

@@ -16,7 +16,7 @@ use Rattle.pc_model.proofs.ContentLaws.{contains-union}
 use Rattle.pc_board.specs.Passes.{Pass}
 use Rattle.pc_latch.specs.Tickets.{IsNoTicket}
 use Rattle.pc_workers.specs.Boards.{HasClaimed}
-use Rattle.pc_workers.specs.Collapsing.{has_point, IsShown, HasCollapsed, HasStopped, HasShown, HasEnded}
+use Rattle.pc_workers.specs.Collapsing.{has_point, IsShown, HasCollapsed, CollapserHasStopped, HasShown, HasEnded}
 use Rattle.pc_workers.proofs.BoardCalls.{claimed_none, claimed_on, still_greatest}
 
 or_false : (a : Bool) → (a || false) ≡ a
@@ -88,7 +88,7 @@ ends_so points first middle last files h e = record {
 }
 
 pub stops_so : (st : Setting) (points number : ℕ) (seen : History) (first middle last : Pass) (files : List File) (why : Refusal) → Holds points first middle files → HasShown points middle last number → IsLegalHistory st seen × IsNoTicket st seen (suc number) why
-    → HasStopped st points seen first last why
+    → CollapserHasStopped st points seen first last why
 stops_so st points number seen first middle last files why h s is = record {
   numbers = h.taken ++ number ∷ [];
   claims = claimed_on first middle last h.taken (number ∷ []) h.claims s.0;
@@ -96,7 +96,7 @@ stops_so st points number seen first middle last files why h s is = record {
   cause = inr (h.taken, number, refl, is.0, is.1);
 }
 
-pub stops_for_memory : (st : Setting) (points : ℕ) (seen : History) (first last : Pass) (files : List File) (why : Refusal) → Holds points first last files → why ≡ OutOfMemory → HasStopped st points seen first last why
+pub stops_for_memory : (st : Setting) (points : ℕ) (seen : History) (first last : Pass) (files : List File) (why : Refusal) → Holds points first last files → why ≡ OutOfMemory → CollapserHasStopped st points seen first last why
 stops_for_memory st points seen first last files why h is = record { numbers = h.taken; claims = h.claims; shown = h.shown; cause = inl is }
 
 -- a ticket's file is that of a number that was claimed and shown

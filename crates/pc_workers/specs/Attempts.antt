@@ -13,8 +13,8 @@ use Rattle.pc_model.specs.Calls.{step_of, Extends, IsAnswered}
 use Rattle.pc_jobs.specs.declared.works.Job.{Job}
 use Rattle.pc_jobs.specs.declared.works.Op.{Op}
 use Rattle.pc_jobs.specs.declared.works.Op.TheVariants.{Get, Put, Del}
-use Rattle.pc_workers.specs.declared.clients.Ended.{Ended}
-use Rattle.pc_workers.specs.declared.clients.Ended.TheVariants.{Committed, Died, Refused}
+use Rattle.pc_workers.specs.declared.clients.EndedTransaction.{EndedTransaction}
+use Rattle.pc_workers.specs.declared.clients.EndedTransaction.TheVariants.{Committed, Died, Refused}
 use Rattle.pc_workers.specs.declared.clients.TheConstants.{MOST_REPEATS}
 
 -- how the session asks for the operation
@@ -31,29 +31,29 @@ is_made told.Ok = true
 is_made other = false
 
 -- the operation was asked for, and made
-abbrev pub IsMade : Setting → ℕ → Op → History → History → Type 0
-IsMade st s op early late = (reply : Reply) × (is_made reply ≡ true) × Extends st early (step_of (event_of s op) reply) late
+abbrev pub IsOpMade : Setting → ℕ → Op → History → History → Type 0
+IsOpMade st s op early late = (reply : Reply) × (is_made reply ≡ true) × Extends st early (step_of (event_of s op) reply) late
 
 -- it was asked for, and died
 abbrev pub Dies : Setting → ℕ → Op → History → History → Type 0
 Dies st s op early late = Extends st early (step_of (event_of s op) told.Died) late
 
 -- a transaction was begun
-abbrev pub Begins : Setting → ℕ → History → History → Type 0
-Begins st s early late = (number : ℕ) × Extends st early (step_of (asked.Begin s) (told.Begun number)) late
+abbrev pub WasBegun : Setting → ℕ → History → History → Type 0
+WasBegun st s early late = (number : ℕ) × Extends st early (step_of (asked.Begin s) (told.Begun number)) late
 
 -- it was committed
-abbrev pub Commits : Setting → ℕ → History → History → Type 0
-Commits st s early late = (number : ℕ) × Extends st early (step_of (asked.Commit s) (told.Committed number)) late
+abbrev pub WasCommitted : Setting → ℕ → History → History → Type 0
+WasCommitted st s early late = (number : ℕ) × Extends st early (step_of (asked.Commit s) (told.Committed number)) late
 
 -- it was aborted
-abbrev pub Aborts : Setting → ℕ → History → History → Type 0
-Aborts st s early late = Extends st early (step_of (asked.Abort s) told.Aborted) late
+abbrev pub WasAborted : Setting → ℕ → History → History → Type 0
+WasAborted st s early late = Extends st early (step_of (asked.Abort s) told.Aborted) late
 
 -- the operations were made, one after the other
 abbrev pub AreMade : Setting → ℕ → List Op → History → History → Type 0
 AreMade st s [] early late = late ≡ early
-AreMade st s (op ∷ ops) early late = (between : History) × IsMade st s op early between × AreMade st s ops between late
+AreMade st s (op ∷ ops) early late = (between : History) × IsOpMade st s op early between × AreMade st s ops between late
 
 -- the first of the operations were made, and the next one died
 pub record OneDies (st : Setting) (s : ℕ) (ops : List Op) (early late : History) : Type 0 where
@@ -94,10 +94,10 @@ IsNotBegun st s early late = (late ≡ early) × (cause : Refusal) × IsAnswered
 
 -- An attempt at the operations, which ended so: begun, made and committed; or begun, and made up to one that died, and aborted; or
 -- refused to begin, or begun, and made up to what was refused, and aborted.
-abbrev pub IsAttempt : Setting → ℕ → List Op → Ended → History → History → Type 0
-IsAttempt st s ops Committed early late = (begun made : History) × Begins st s early begun × AreMade st s ops begun made × Commits st s made late
-IsAttempt st s ops Died early late = (begun dead : History) × Begins st s early begun × OneDies st s ops begun dead × Aborts st s dead late
-IsAttempt st s ops Refused early late = IsNotBegun st s early late ⊎ ((begun stuck : History) × Begins st s early begun × IsStuck st s ops begun stuck × Aborts st s stuck late)
+abbrev pub IsAttempt : Setting → ℕ → List Op → EndedTransaction → History → History → Type 0
+IsAttempt st s ops Committed early late = (begun made : History) × WasBegun st s early begun × AreMade st s ops begun made × WasCommitted st s made late
+IsAttempt st s ops Died early late = (begun dead : History) × WasBegun st s early begun × OneDies st s ops begun dead × WasAborted st s dead late
+IsAttempt st s ops Refused early late = IsNotBegun st s early late ⊎ ((begun stuck : History) × WasBegun st s early begun × IsStuck st s ops begun stuck × WasAborted st s stuck late)
 
 -- so many attempts, one after the other, each of which died
 abbrev pub AreDeaths : Setting → ℕ → List Op → ℕ → History → History → Type 0
@@ -106,7 +106,7 @@ AreDeaths st s ops (suc deaths) early late = (between : History) × AreDeaths st
 
 -- how the last attempt at a job ended, after so many that died: one that is marked was committed, and another one was refused, or has
 -- died as often as it may
-abbrev pub IsLast : Bool → ℕ → Ended → Type 0
+abbrev pub IsLast : Bool → ℕ → EndedTransaction → Type 0
 IsLast true deaths ended = ended ≡ Committed
 IsLast false deaths ended = (ended ≡ Refused) ⊎ ((ended ≡ Died) × (deaths ≡ MOST_REPEATS))
 
@@ -117,7 +117,7 @@ pub record IsTried (st : Setting) (s : ℕ) (job : Job) (mark : Bool) (early lat
   pub few : deaths ≤ MOST_REPEATS
   pub between : History
   pub before : AreDeaths st s job.ops deaths early between
-  pub ended : Ended
+  pub ended : EndedTransaction
   pub last : IsAttempt st s job.ops ended between late
   pub is_last : IsLast mark deaths ended
   pub closed : is_open s late ≡ false

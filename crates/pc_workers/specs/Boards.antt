@@ -1,8 +1,8 @@
 -- What the calls of one pass are that a loop has made on a board.
 use Rattle.std.specs.Prelude.{◌≡◌, ◌≢◌, ℕ, List, [], ◌∷◌, ◌++◌, All, map}
 use mathlib.Core.List.{IsPrefix}
-use Rattle.pc_board.specs.declared.calls.Kind.{Kind}
-use Rattle.pc_board.specs.declared.calls.Kind.TheVariants.{Claim, Publish, Look}
+use Rattle.pc_board.specs.declared.calls.CallKind.{CallKind}
+use Rattle.pc_board.specs.declared.calls.CallKind.TheVariants.{Claim, Publish, Look}
 use Rattle.pc_board.specs.declared.calls.Call.{Call}
 use Rattle.pc_board.specs.Calls.{call, calls_by}
 use Rattle.pc_board.specs.Passes.{Pass, IsSamePass}
@@ -22,7 +22,7 @@ abbrev pub publications : ℕ → List ℕ → List Call
 publications number points = map (λ point. call number Publish point) points
 
 -- the numbers and the one that a call of this kind claims before them
-abbrev pub claimed_by : Kind → ℕ → List ℕ → List ℕ
+abbrev pub claimed_by : CallKind → ℕ → List ℕ → List ℕ
 claimed_by Claim value numbers = value ∷ numbers
 claimed_by Publish value numbers = numbers
 claimed_by Look value numbers = numbers

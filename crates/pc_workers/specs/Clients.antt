@@ -11,8 +11,8 @@ use Rattle.pc_jobs.specs.declared.works.Op.{Op}
 use Rattle.pc_jobs.specs.declared.works.Op.TheVariants.{Get, Put, Del}
 use Rattle.pc_shared.specs.Sitters.{Sitter}
 use Rattle.pc_workers.specs.Attempts.{AreTried}
-use Rattle.pc_workers.specs.declared.clients.Ended.{Ended}
-use Rattle.pc_workers.specs.declared.clients.Ended.TheVariants.{Committed, Died, Refused}
+use Rattle.pc_workers.specs.declared.clients.EndedTransaction.{EndedTransaction}
+use Rattle.pc_workers.specs.declared.clients.EndedTransaction.TheVariants.{Committed, Died, Refused}
 
 -- the writes of a transaction once it has made the operation too
 abbrev pub wrote : List Write → Op → List Write
@@ -41,7 +41,7 @@ pub record HasCommitted (done : List (List Write)) (old new : Sitter) : Type 0 w
   pub writes : map (λ (r : Receipt). r.writes) more ≡ done
 
 -- what is committed of a transaction with these writes that ended so
-abbrev pub done_by : Ended → List Write → List (List Write)
+abbrev pub done_by : EndedTransaction → List Write → List (List Write)
 done_by Committed writes = writes ∷ []
 done_by Died writes = []
 done_by Refused writes = []

@@ -44,7 +44,7 @@ pub record HasCollapsed (points : ℕ) (before after : Pass) (files : List File)
 
 -- All numbers that were claimed since were shown. Then memory ran out, or there was no ticket of the last one's file by the legal
 -- history that the collapser's witness has then seen.
-pub record HasStopped (st : Setting) (points : ℕ) (seen : History) (before after : Pass) (why : Refusal) : Type 0 where
+pub record CollapserHasStopped (st : Setting) (points : ℕ) (seen : History) (before after : Pass) (why : Refusal) : Type 0 where
   pub numbers : List ℕ
   pub claims : HasClaimed before after numbers
   pub shown : All (IsShown points after) numbers

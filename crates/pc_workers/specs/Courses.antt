@@ -3,26 +3,26 @@ use Rattle.std.specs.Prelude.{◌≡◌, ◌⊎◌, ◌<◌, ℕ, ◌+◌, Bool,
 use Rattle.pc_model.specs.History.{History}
 use Rattle.pc_model.specs.Replies.{Setting}
 use Rattle.pc_jobs.specs.declared.works.Op.{Op}
-use Rattle.pc_shared.specs.declared.session.Answer.{Answer}
-use Rattle.pc_shared.specs.declared.session.Answer.TheVariants as answer
-use Rattle.pc_workers.specs.Attempts.{IsMade, Dies, Begins, Commits, AreMade, OneDies, IsStuck, IsNotBegun, IsAttempt, AreDeaths}
-use Rattle.pc_workers.specs.declared.clients.Ended.{Ended}
-use Rattle.pc_workers.specs.declared.clients.Ended.TheVariants.{Committed, Died, Refused}
+use Rattle.pc_shared.specs.declared.session.CallAnswer.{CallAnswer}
+use Rattle.pc_shared.specs.declared.session.CallAnswer.TheVariants as answer
+use Rattle.pc_workers.specs.Attempts.{IsOpMade, Dies, WasBegun, WasCommitted, AreMade, OneDies, IsStuck, IsNotBegun, IsAttempt, AreDeaths}
+use Rattle.pc_workers.specs.declared.clients.EndedTransaction.{EndedTransaction}
+use Rattle.pc_workers.specs.declared.clients.EndedTransaction.TheVariants.{Committed, Died, Refused}
 use Rattle.pc_workers.specs.declared.clients.TheConstants.{MOST_REPEATS}
 
 -- the operation was so answered: made, or it died
-abbrev pub IsAsked : Setting → ℕ → Op → Answer → History → History → Type 0
+abbrev pub IsAsked : Setting → ℕ → Op → CallAnswer → History → History → Type 0
 IsAsked st s op answer.Died early late = Dies st s op early late
-IsAsked st s op other early late = IsMade st s op early late
+IsAsked st s op other early late = IsOpMade st s op early late
 
 -- an attempt that ended so, before its abort
-abbrev pub IsCourse : Setting → ℕ → List Op → Ended → History → History → Type 0
-IsCourse st s ops Committed early late = (begun made : History) × Begins st s early begun × AreMade st s ops begun made × Commits st s made late
-IsCourse st s ops Died early late = (begun : History) × Begins st s early begun × OneDies st s ops begun late
-IsCourse st s ops Refused early late = IsNotBegun st s early late ⊎ ((begun : History) × Begins st s early begun × IsStuck st s ops begun late)
+abbrev pub IsCourse : Setting → ℕ → List Op → EndedTransaction → History → History → Type 0
+IsCourse st s ops Committed early late = (begun made : History) × WasBegun st s early begun × AreMade st s ops begun made × WasCommitted st s made late
+IsCourse st s ops Died early late = (begun : History) × WasBegun st s early begun × OneDies st s ops begun late
+IsCourse st s ops Refused early late = IsNotBegun st s early late ⊎ ((begun : History) × WasBegun st s early begun × IsStuck st s ops begun late)
 
 -- a job that had died was begun again, until it ended so
-pub record IsRepeated (st : Setting) (s : ℕ) (ops : List Op) (ended : Ended) (early late : History) : Type 0 where
+pub record IsRepeated (st : Setting) (s : ℕ) (ops : List Op) (ended : EndedTransaction) (early late : History) : Type 0 where
   pub deaths : ℕ
   pub few : deaths < MOST_REPEATS
   pub between : History
@@ -31,7 +31,7 @@ pub record IsRepeated (st : Setting) (s : ℕ) (ops : List Op) (ended : Ended) (
   pub as_often : ended ≡ Died → deaths + 1 ≡ MOST_REPEATS
 
 -- it is marked where it was committed
-abbrev pub mark_of : Ended → Bool
+abbrev pub mark_of : EndedTransaction → Bool
 mark_of Committed = true
 mark_of Died = false
 mark_of Refused = false

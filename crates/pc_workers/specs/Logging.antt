@@ -21,14 +21,14 @@ FailsBehind contents old new e text = (e ≡ Device) × HasRisen old.failures ne
 
 -- All of the text went out, on Ok and where memory ran out; or the device failed, and then a beginning of the text went out,
 -- but not all of it, or all of it, and a flush failed.
-abbrev pub Logged : {T X : Type 0} → (T → Option (List ℕ)) → Tally T → Tally T → Result X Refusal → List ℕ → Type 0
-Logged contents old new (Ok x) text = Puts contents old new (Ok tt) text
-Logged contents old new (Err e) text = ((e ≡ OutOfMemory) × Puts contents old new (Ok tt) text) ⊎ (Puts contents old new (Err e) text ⊎ FailsBehind contents old new e text)
+abbrev pub LogGoesOut : {T X : Type 0} → (T → Option (List ℕ)) → Tally T → Tally T → Result X Refusal → List ℕ → Type 0
+LogGoesOut contents old new (Ok x) text = Puts contents old new (Ok tt) text
+LogGoesOut contents old new (Err e) text = ((e ≡ OutOfMemory) × Puts contents old new (Ok tt) text) ⊎ (Puts contents old new (Err e) text ⊎ FailsBehind contents old new e text)
 
 -- more entries were handed out, and so was their text written
 abbrev pub LogsMore : {T X : Type 0} → (T → Option (List ℕ)) → Tally T → Tally T → Result X Refusal → List Entry → List Entry → Type 0
 LogsMore contents old new result before after =
-    (more : List Entry) × (after ≡ before ++ more) × Logged contents old new result (flat_map entry_text more)
+    (more : List Entry) × (after ≡ before ++ more) × LogGoesOut contents old new result (flat_map entry_text more)
 
 -- the text of the entries behind the first so many
 abbrev pub rest_text : ℕ → List Entry → List ℕ

@@ -3,14 +3,14 @@ ghost use Rattle.std.specs.Prelude.{◌≡◌, ◌+◌, IfOk, IfErr, OnErr};
 ghost use Rattle.pc_types.specs.declared.Phase.TheVariants.{Rest, Capture};
 ghost use Rattle.pc_types.specs.declared.Reply.TheVariants.{Refused};
 ghost use Rattle.pc_model.specs.History.{phase_of, point_of};
-ghost use Rattle.pc_board.specs.declared.calls.Kind.TheVariants.{Publish};
+ghost use Rattle.pc_board.specs.declared.calls.CallKind.TheVariants.{Publish};
 ghost use Rattle.pc_board.specs.Passes.{IsOfBoard, MakesCall};
 ghost use Rattle.pc_workers.specs.Checkpointing.{whole_cycle, whole_cycles, point_named, HasReached, HasStood, HasTurned, HasCycled, IsHeldUp, HasPublished, HasBrokenOff, IsFull};
 
 use pc_board::{Board, BoardPass};
 use pc_shared::{CheckpointerSeat, Shared};
 use pc_tie::StoreName;
-use pc_types::{Gate, Phase, Place, Point, Refusal, Reply};
+use pc_types::{Gate, GatePlace, Phase, Point, Refusal, Reply};
 use std::sync::Wait;
 
 // The point of the phase that the reply names, if it names one; or the refusal that it is.
@@ -77,12 +77,12 @@ fn enter<N: StoreName, R: Wait, G: Gate>(
     ensures point { IfOk result (λ point. point ≡ point_of seat.new) }
     ensures held_up { IfErr result (IsHeldUp N.name.setting seat.old seat.new) }
 {
-    gate.pass(Place::Due(phase));
+    gate.pass(GatePlace::Due(phase));
     let point = match change_phase(rt, shared, seat) {
         Ok(point) => point,
         Err(why) => return Err(why),
     };
-    gate.pass(Place::Entered(phase));
+    gate.pass(GatePlace::Entered(phase));
     Ok(point)
 }
 
@@ -107,7 +107,7 @@ fn take_keys<N: StoreName, R: Wait, G: Gate>(
         let has_more = has_more(&reply);
         drop(reply);
         match has_more {
-            Ok(true) => gate.pass(Place::Took),
+            Ok(true) => gate.pass(GatePlace::Took),
             Ok(false) => return Ok(()),
             Err(why) => return Err(why),
         }

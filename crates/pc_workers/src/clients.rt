@@ -1,14 +1,14 @@
 //! A client's loop: a session runs jobs, each as a transaction.
 ghost use Rattle.std.specs.Prelude.{◌≡◌, ◌≢◌, ◌<◌, ◌-◌, ◌^◌, ◌+◌, true, false, [], length, IfOk, IfErr, OnErr, MatchBool};
 ghost use Rattle.pc_model.specs.History.{is_open};
-ghost use Rattle.pc_workers.specs.Attempts.{Aborts, AreMade, OneDies, IsRefusedOp, IsStuck, IsAttempt, IsTried};
+ghost use Rattle.pc_workers.specs.Attempts.{WasAborted, AreMade, OneDies, IsRefusedOp, IsStuck, IsAttempt, IsTried};
 ghost use Rattle.pc_workers.specs.Clients.{HasCommitted, HasRun, HasTried, done_by, written_by, wrote, wrote_all, writes_of};
 ghost use Rattle.pc_workers.specs.Courses.{IsAsked, IsCourse, IsRepeated, mark_of};
 
 use pc_jobs::{Job, Op};
-use pc_shared::{Answer, Session, Shared, pause};
+use pc_shared::{CallAnswer, Session, Shared, pause};
 use pc_tie::StoreName;
-use pc_types::{Gate, Lsn, Place, Refusal};
+use pc_types::{Gate, GatePlace, Lsn, Refusal};
 use std::alloc::Global;
 use std::sync::Wait;
 
@@ -21,14 +21,14 @@ pub struct Count {
 
 impl Count {
     // Counts a job that ended so.
-    fn note(&mut self, ended: Ended)
+    fn note(&mut self, ended: EndedTransaction)
         requires { self.old.commits + self.old.given_up < 2 ^ 64 - 1 }
         ensures commits { self.new.commits ≡ self.old.commits + length (done_by ended []) }
         ensures all { self.new.commits + self.new.given_up ≡ self.old.commits + self.old.given_up + 1 }
     {
         match ended {
-            Ended::Committed => self.commits += 1,
-            Ended::Died | Ended::Refused => self.given_up += 1,
+            EndedTransaction::Committed => self.commits += 1,
+            EndedTransaction::Died | EndedTransaction::Refused => self.given_up += 1,
         }
     }
 }
@@ -42,7 +42,7 @@ const LONGEST_PAUSE: u32 = 512;
 
 // How a transaction ended.
 #[derive(Clone, Copy)]
-pub enum Ended {
+pub enum EndedTransaction {
     // It was committed.
     Committed,
     // One of its requests died.
@@ -58,9 +58,9 @@ fn make<N: StoreName, R: Wait>(
     shared: &Shared<N>,
     session: &mut Session<N>,
     op: &Op,
-) -> Result<Answer, Refusal>
+) -> Result<CallAnswer, Refusal>
     ensures receipts { HasCommitted [] session.old session.new }
-    ensures wrote { IfOk result (λ answer. answer ≢ Answer.Died → written_by session.new ≡ wrote (written_by session.old) op.now) }
+    ensures wrote { IfOk result (λ answer. answer ≢ CallAnswer.Died → written_by session.new ≡ wrote (written_by session.old) op.now) }
     ensures asked { IfOk result (λ answer. IsAsked N.name.setting session.old.number op.now answer session.old.seen session.new.seen) }
     ensures refused { IfErr result (λ cause. IsRefusedOp N.name.setting session.old.number op.now cause session.old.seen) }
     ensures same { OnErr result (session.new ≡ session.old) }
@@ -101,8 +101,8 @@ fn make_all<N: StoreName, R: Wait, G: Gate>(
     for op in ops {
         let answer = make(rt, alloc, shared, session, op)?;
         step = step.saturating_add(1);
-        gate.pass(Place::Step(number, step));
-        if let Answer::Died = answer {
+        gate.pass(GatePlace::Step(number, step));
+        if let CallAnswer::Died = answer {
             return Ok(false);
         }
     }
@@ -123,7 +123,7 @@ fn hold<N: StoreName, R: Wait, G: Gate>(
     };
     let due = Lsn(entry.0.saturating_sub(lag));
     if !shared.is_logged(due) {
-        gate.pass(Place::Behind(session.number()));
+        gate.pass(GatePlace::Behind(session.number()));
         let _ = shared.until_logged(rt, due);
     }
 }
@@ -137,32 +137,32 @@ fn transact<N: StoreName, R: Wait, G: Gate>(
     ops: &[Op],
     lag: Option<u32>,
     gate: &G,
-) -> Ended
+) -> EndedTransaction
     ensures receipts { HasCommitted (done_by result (wrote_all [] ops.now)) session.old session.new }
     ensures course { IsCourse N.name.setting session.old.number ops.now result session.old.seen session.new.seen }
 {
     let number = session.number();
-    gate.pass(Place::Start(number));
+    gate.pass(GatePlace::Start(number));
     if shared.begin(rt, session).is_err() {
-        return Ended::Refused;
+        return EndedTransaction::Refused;
     }
     match make_all(rt, alloc, shared, session, ops, gate) {
         Ok(true) => {}
-        Ok(false) => return Ended::Died,
-        Err(_) => return Ended::Refused,
+        Ok(false) => return EndedTransaction::Died,
+        Err(_) => return EndedTransaction::Refused,
     }
     let Ok(entry) = shared.commit(rt, session) else {
-        return Ended::Refused;
+        return EndedTransaction::Refused;
     };
     hold(rt, shared, session, entry, lag, gate);
-    gate.pass(Place::Committed(number));
-    Ended::Committed
+    gate.pass(GatePlace::Committed(number));
+    EndedTransaction::Committed
 }
 
 // Aborts the session's transaction, if one is open.
 fn abort_open<N: StoreName, R: Wait>(rt: &R, shared: &Shared<N>, session: &mut Session<N>)
     ensures receipts { HasCommitted [] session.old session.new }
-    ensures open { is_open session.old.number session.old.seen ≡ true → Aborts N.name.setting session.old.number session.old.seen session.new.seen }
+    ensures open { is_open session.old.number session.old.seen ≡ true → WasAborted N.name.setting session.old.number session.old.seen session.new.seen }
     ensures idle { is_open session.old.number session.old.seen ≡ false → session.new.seen ≡ session.old.seen }
 {
     let _ = shared.abort(rt, session);
@@ -177,18 +177,18 @@ fn attempt<N: StoreName, R: Wait, G: Gate>(
     ops: &[Op],
     lag: Option<u32>,
     gate: &G,
-) -> Ended
+) -> EndedTransaction
     ensures receipts { HasCommitted (done_by result (wrote_all [] ops.now)) session.old session.new }
     ensures attempt { is_open session.old.number session.old.seen ≡ false → IsAttempt N.name.setting session.old.number ops.now result session.old.seen session.new.seen }
 {
     let ended = transact(rt, alloc, shared, session, ops, lag, gate);
     match ended {
-        Ended::Committed => {}
-        Ended::Died => {
+        EndedTransaction::Committed => {}
+        EndedTransaction::Died => {
             abort_open(rt, shared, session);
-            gate.pass(Place::Died(session.number()));
+            gate.pass(GatePlace::Died(session.number()));
         }
-        Ended::Refused => abort_open(rt, shared, session),
+        EndedTransaction::Refused => abort_open(rt, shared, session),
     }
     ended
 }
@@ -203,7 +203,7 @@ fn repeat<N: StoreName, R: Wait, G: Gate>(
     ops: &[Op],
     lag: Option<u32>,
     gate: &G,
-) -> Ended
+) -> EndedTransaction
     ensures receipts { HasCommitted (done_by result (wrote_all [] ops.now)) session.old session.new }
     ensures repeated { is_open session.old.number session.old.seen ≡ false → IsRepeated N.name.setting session.old.number ops.now result session.old.seen session.new.seen }
 {
@@ -211,12 +211,12 @@ fn repeat<N: StoreName, R: Wait, G: Gate>(
     for _ in 0..MOST_REPEATS {
         pause(times);
         match attempt(rt, alloc, shared, session, ops, lag, gate) {
-            Ended::Died => {}
+            EndedTransaction::Died => {}
             ended => return ended,
         }
         times = times.saturating_mul(2).min(LONGEST_PAUSE);
     }
-    Ended::Died
+    EndedTransaction::Died
 }
 
 // Tries the job, and again where it died, and answers how it ended the last time. Of the clients whose job has died one at a time
@@ -229,13 +229,13 @@ fn try_job<N: StoreName, R: Wait, G: Gate>(
     job: &Job,
     lag: Option<u32>,
     gate: &G,
-) -> Ended
+) -> EndedTransaction
     ensures receipts { HasCommitted (done_by result (writes_of job.now)) session.old session.new }
     ensures tried { is_open session.old.number session.old.seen ≡ false → IsTried N.name.setting session.old.number job.now (mark_of result) session.old.seen session.new.seen }
 {
     let ops = job.ops.as_slice();
     match attempt(rt, alloc, shared, session, ops, lag, gate) {
-        Ended::Died => {
+        EndedTransaction::Died => {
             let _turn = shared.turn_to_repeat(rt);
             repeat(rt, alloc, shared, session, ops, lag, gate)
         }
@@ -252,13 +252,13 @@ fn run<N: StoreName, R: Wait, G: Gate>(
     job: &Job,
     lag: Option<u32>,
     gate: &G,
-) -> Ended
+) -> EndedTransaction
     ensures receipts { HasCommitted (done_by result (writes_of job.now)) session.old session.new }
     ensures tried { is_open session.old.number session.old.seen ≡ false → IsTried N.name.setting session.old.number job.now (mark_of result) session.old.seen session.new.seen }
 {
     let ended = try_job(rt, alloc, shared, session, job, lag, gate);
-    if !matches!(ended, Ended::Committed) {
-        gate.pass(Place::GaveUp(session.number()));
+    if !matches!(ended, EndedTransaction::Committed) {
+        gate.pass(GatePlace::GaveUp(session.number()));
     }
     ended
 }
@@ -267,7 +267,7 @@ fn run<N: StoreName, R: Wait, G: Gate>(
 /// begun again, at most 10,000 times, by one client of the store at a time; after that, and after any refusal, its open
 /// transaction is aborted and the job is given up. Want of memory for the copy of a key or a value counts as a refusal. Where there
 /// is a lag, the client goes on from a commit once no more than so many entries, up to that of the commit, aren't marked as
-/// written, or no more will be: with 0 once its own is. It passes the gate at each of the places that `Place` has of a client. Answers
+/// written, or no more will be: with 0 once its own is. It passes the gate at each of the places that `GatePlace` has of a client. Answers
 /// how many jobs were committed, each of which has added a receipt with what the job writes, in their order, and how many were
 /// given up. If the session had no transaction open, each job was tried by just these calls, and none is open behind it: each
 /// attempt but the last one died, and a job that is given up has died so 10,001 times, or was refused as the store may after some

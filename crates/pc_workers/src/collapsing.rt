@@ -7,12 +7,12 @@ ghost use Rattle.pc_board.specs.Calls.{greatest_of};
 ghost use Rattle.pc_board.specs.Passes.{IsOfBoard};
 ghost use Rattle.pc_latch.specs.Tickets.{IsNoTicket};
 ghost use Rattle.pc_workers.specs.Boards.{HasClaimed};
-ghost use Rattle.pc_workers.specs.Collapsing.{has_point, HasCollapsed, HasEnded, HasShown, HasStopped};
+ghost use Rattle.pc_workers.specs.Collapsing.{has_point, HasCollapsed, HasEnded, HasShown, CollapserHasStopped};
 
 use pc_board::{Board, BoardPass};
 use pc_shared::{PartTicket, Shared, Witness};
 use pc_tie::StoreName;
-use pc_types::{FileNo, Gate, Place, Point, Refusal};
+use pc_types::{FileNo, Gate, GatePlace, Point, Refusal};
 use std::alloc::Global;
 use std::sync::Wait;
 
@@ -88,7 +88,7 @@ fn take_in<N: StoreName, G: Gate>(
         held.push_reserved(ticket);
         return;
     };
-    gate.pass(Place::Pair(collapser));
+    gate.pass(GatePlace::Pair(collapser));
     match last.join(ticket) {
         Ok(joined) => held.push_reserved(joined),
         Err((_, last, ticket)) => {
@@ -117,7 +117,7 @@ pub fn collapse_loop<N: StoreName, R: Wait, G: Gate>(
 ) -> Result<Vec<PartTicket<N>>, Refusal>
     requires { IsOfBoard pass.old board.now }
     ensures held { IfOk result (λ tickets. HasCollapsed points pass.old pass.new tickets.items) }
-    ensures refused { IfErr result (HasStopped N.name.setting points witness.new pass.old pass.new) }
+    ensures refused { IfErr result (CollapserHasStopped N.name.setting points witness.new pass.old pass.new) }
     ensures named { IfErr result (λ why. (why ≡ Refusal.NoFile) ⊎ (why ≡ Refusal.OutOfMemory)) }
     ensures had_seen { IsBeginning witness.old witness.new }
 {

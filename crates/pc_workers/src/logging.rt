@@ -8,12 +8,12 @@ ghost use Rattle.pc_model.specs.History.{log_of};
 ghost use Rattle.pc_types.specs.declared.Entry.{Entry};
 ghost use Rattle.pc_log.specs.Texts.{entry_text, log_text};
 ghost use Rattle.pc_shared.specs.Written.{HasGoneOut};
-ghost use Rattle.pc_workers.specs.Logging.{Flushes, Logged, LogsMore, rest_text};
+ghost use Rattle.pc_workers.specs.Logging.{Flushes, LogGoesOut, LogsMore, rest_text};
 
 use pc_log::{encode_entry, encode_header};
 use pc_shared::{Closed, EndMark, LogPass, Shared, pause};
 use pc_tie::StoreName;
-use pc_types::{Entry, Gate, Lsn, Place, Refusal, Tally};
+use pc_types::{Entry, Gate, GatePlace, Lsn, Refusal, Tally};
 use std::io;
 use std::io::Write;
 use std::sync::Wait;
@@ -57,13 +57,13 @@ fn write_batch<N: StoreName, R: Wait, W: io::Write, G: Gate>(
 ) -> Result<(), Refusal>
     requires few { All HasFewWrites entries.now }
     requires earlier { (before : List Entry) × (pass.now ≡ before ++ entries.now) × HasGoneOut W.contents out.old (log_text N.name.setting.run before) }
-    ensures { Logged W.contents out.old out.new result (flat_map entry_text entries.now) }
+    ensures { LogGoesOut W.contents out.old out.new result (flat_map entry_text entries.now) }
 {
-    gate.pass(Place::Writing((pass.len() - entries.len()) as u32));
+    gate.pass(GatePlace::Writing((pass.len() - entries.len()) as u32));
     put_entries(out, entries)?;
     flush(out)?;
     shared.mark_logged(rt, pass, out);
-    gate.pass(Place::Written(pass.len() as u32));
+    gate.pass(GatePlace::Written(pass.len() as u32));
     Ok(())
 }
 
@@ -147,7 +147,7 @@ pub fn log_loop<'a, N: StoreName, R: Wait, W: io::Write, G: Gate>(
     gate: &G,
 ) -> Result<LogEnd<'a, N>, Refusal>
     requires { pass.old ≡ [] }
-    ensures text { Logged W.contents out.old out.new result (log_text N.name.setting.run pass.new) }
+    ensures text { LogGoesOut W.contents out.old out.new result (log_text N.name.setting.run pass.new) }
     ensures last { IfOk result (λ end. end.last ≡ length pass.new) }
     ensures ours { IfOk result (λ end. end.mark.token.of ≡ shared.now.end.id) }
     ensures all { IfOk result (λ end. IsPrefix (log_of end.mark.token.value) pass.new) }

@@ -24,7 +24,7 @@ const ROOM: usize = 65_536;
 
 /// What recovery finds in a folder.
 #[derive(Drop)]
-pub struct Found<'a> {
+pub struct FoundFolder<'a> {
     /// The base, the parts in the byte order of their names, and the log.
     pub folder: Folder<LateFile<'a>>,
     /// The names of part files that are no UTF-8, in their byte order: such a file can't be opened.
@@ -32,7 +32,7 @@ pub struct Found<'a> {
 }
 
 /// What the folder has for recovery. It is an error only where memory ran out.
-pub fn open_folder<'a>(rt: &'a HostRuntime, dir: &str) -> Result<Found<'a>, AllocError> {
+pub fn open_folder<'a>(rt: &'a HostRuntime, dir: &str) -> Result<FoundFolder<'a>, AllocError> {
     let alloc = rt.alloc();
     let mut unopened = Vec::new(alloc);
     let base = open_named(rt, path_of(alloc, dir, BASE)?);
@@ -42,7 +42,7 @@ pub fn open_folder<'a>(rt: &'a HostRuntime, dir: &str) -> Result<Found<'a>, Allo
     };
     let log = open_named(rt, path_of(alloc, dir, LOG)?);
     let folder = Folder { base, parts, log };
-    Ok(Found { folder, unopened })
+    Ok(FoundFolder { folder, unopened })
 }
 
 /// Tells of the part files that can't be opened, by their names.

@@ -10,7 +10,7 @@ mod standard;
 
 use clap::Error;
 use clap::error::ErrorKind;
-use folder::{Found, open_folder, tell_unopened};
+use folder::{FoundFolder, open_folder, tell_unopened};
 use parts::{NewFile, open_named, open_parts};
 use pc_collapse_files::{Inputs, run_collapse};
 use pc_options::{CollapseOptions, StepOptions, Task, task_of, unreadable};
@@ -103,7 +103,7 @@ fn run_task<H: Threads + Wait + Sync>(rt: &HostRuntime, threads: &H, task: Task)
             Ok(ended.status)
         }
         Task::Recover(dir) => {
-            let Found { folder, unopened } = open_folder(rt, dir)?;
+            let FoundFolder { folder, unopened } = open_folder(rt, dir)?;
             tell_unopened(&unopened, &mut errors);
             Ok(run_recover(alloc, dir, folder, &mut out, &mut errors))
         }

@@ -1,5 +1,5 @@
 //! A run of a workload: its files, what is shown of it, and what is told of it in the end.
-use crate::folder::{Found, open_folder, run_folder, tell_unopened};
+use crate::folder::{FoundFolder, open_folder, run_folder, tell_unopened};
 use crate::late::LateFile;
 use crate::parts::{NewFile, open_named};
 use pc_collapse_files::Maker;
@@ -129,7 +129,7 @@ fn origin_of<'a, E: Write>(
 ) -> Result<Origin<LateFile<'a>>, AllocError> {
     let start = match options.from {
         Some(path) => {
-            let Found { folder, unopened } = open_folder(rt, path)?;
+            let FoundFolder { folder, unopened } = open_folder(rt, path)?;
             tell_unopened(&unopened, errors);
             let name = Vec::from_slice(rt.alloc(), path.as_bytes())?;
             Start::Folder(NamedFolder { name, folder })

@@ -21,7 +21,7 @@ fn key_of(seed: u64) -> &'static [u8] {
 // Where the cycle is, as far as the replies have told, how many files there are, and the file of the points from 1 on
 // that has the most of them.
 #[derive(Clone, Copy)]
-struct Cycle {
+struct WalkCycle {
     phase: Phase,
     has_more: bool,
     files: u32,
@@ -29,7 +29,7 @@ struct Cycle {
 }
 
 // What the checkpointer asks next.
-fn next_of(cycle: &Cycle) -> Ask<'static> {
+fn next_of(cycle: &WalkCycle) -> Ask<'static> {
     match cycle.phase {
         Phase::Rest => Ask::StartPoint,
         Phase::Prepare => Ask::Seal,
@@ -41,7 +41,7 @@ fn next_of(cycle: &Cycle) -> Ask<'static> {
 }
 
 // What the checkpointer asks: most often what is next, and else any event of its own.
-fn checkpointer(seed: u64, cycle: &Cycle) -> Ask<'static> {
+fn checkpointer(seed: u64, cycle: &WalkCycle) -> Ask<'static> {
     match drawn(seed, 41, 30) {
         0 => Ask::StartPoint,
         1 => Ask::Seal,
@@ -79,7 +79,7 @@ fn session_of(ask: Ask) -> u32 {
 }
 
 // The cycle after a reply. The first join after a part is that with all the points before it.
-fn moved(cycle: &Cycle, has_part: bool, reply: &Reply) -> Cycle {
+fn moved(cycle: &WalkCycle, has_part: bool, reply: &Reply) -> WalkCycle {
     let mut now = *cycle;
     match reply {
         Reply::Phase(phase, _) => {
@@ -110,7 +110,7 @@ fn moved(cycle: &Cycle, has_part: bool, reply: &Reply) -> Cycle {
 #[derive(Clone, Copy)]
 struct Walk {
     seed: u64,
-    cycle: Cycle,
+    cycle: WalkCycle,
     part: u32,
     dead: u32,
 }
@@ -165,7 +165,7 @@ fn step(asker: &mut Asker, walk: &Walk) -> Result<Walk, Refusal> {
 
 const START: Walk = Walk {
     seed: 20_261_123,
-    cycle: Cycle {
+    cycle: WalkCycle {
         phase: Phase::Rest,
         has_more: true,
         files: 0,

@@ -12,14 +12,14 @@ use std::io::Write;
 /// What was read of a text, or why nothing was.
 #[derive(Clone, Copy)]
 pub enum Found {
-    Items(Read),
+    Items(ReadItems),
     Refused(Refusal),
 }
 
 /// How many entries or pairs were read, where the bytes of the last one end, the fault behind it in a log, and whether what
 /// was read is written again as the bytes up to that end.
 #[derive(Clone, Copy)]
-pub struct Read {
+pub struct ReadItems {
     count: usize,
     end: usize,
     fault: Option<Refusal>,
@@ -51,8 +51,8 @@ impl Found {
     }
 }
 
-impl Read {
-    fn is(&self, other: &Read) -> bool {
+impl ReadItems {
+    fn is(&self, other: &ReadItems) -> bool {
         self.count == other.count
             && self.end == other.end
             && self.fault == other.fault
@@ -96,14 +96,14 @@ pub fn found_in(alloc: Global, kind: Kind, bytes: &[u8]) -> Found {
     }
 }
 
-fn read_part(alloc: Global, bytes: &[u8]) -> Result<Read, Refusal> {
+fn read_part(alloc: Global, bytes: &[u8]) -> Result<ReadItems, Refusal> {
     let part = Part::decode(alloc, bytes)?;
     let mut out = Tally::new(Vec::new(alloc));
     part.encode(&mut out)?;
     Ok(whole(part.entries().len(), bytes, &out.into_inner()))
 }
 
-fn read_base(alloc: Global, bytes: &[u8]) -> Result<Read, Refusal> {
+fn read_base(alloc: Global, bytes: &[u8]) -> Result<ReadItems, Refusal> {
     let base = Base::decode(alloc, bytes)?;
     let mut out = Tally::new(Vec::new(alloc));
     base.encode(&mut out)?;
@@ -111,8 +111,8 @@ fn read_base(alloc: Global, bytes: &[u8]) -> Result<Read, Refusal> {
 }
 
 // So many items in all of the bytes, which are written again so.
-fn whole(count: usize, bytes: &[u8], again: &[u8]) -> Read {
-    Read {
+fn whole(count: usize, bytes: &[u8], again: &[u8]) -> ReadItems {
+    ReadItems {
         count,
         end: bytes.len(),
         fault: None,
@@ -120,12 +120,12 @@ fn whole(count: usize, bytes: &[u8], again: &[u8]) -> Read {
     }
 }
 
-fn read_entries(alloc: Global, bytes: &[u8]) -> Result<Read, Refusal> {
+fn read_entries(alloc: Global, bytes: &[u8]) -> Result<ReadItems, Refusal> {
     let text = read_log(alloc, bytes)?;
     let mut out = Tally::new(Vec::new(alloc));
     put_log(&text, &mut out)?;
     let end = bytes.len().saturating_sub(text.rest);
-    Ok(Read {
+    Ok(ReadItems {
         count: text.entries.len(),
         end,
         fault: text.fault,

@@ -4,10 +4,10 @@ use Rattle.pc_model.specs.Database.{database_of}
 use Rattle.pc_model.specs.Replies.{Setting}
 use Rattle.pc_jobs.specs.Workloads.{reading_of}
 use Rattle.pc_jobs.specs.declared.works.Workload.{Workload}
-use Rattle.pc_jobs.specs.declared.workloads.Reading.TheVariants.{Runs}
-use Rattle.pc_outcomes.specs.declared.outcome.Outcome.{Outcome}
+use Rattle.pc_jobs.specs.declared.workloads.WorkloadReading.TheVariants.{Runs}
+use Rattle.pc_outcomes.specs.declared.outcome.RunReport.{RunReport}
 use Rattle.pc_texts.specs.declared.file_names.FileName.{FileName}
-use Rattle.pc_runs.specs.Runs.{IsRun, run_setting}
+use Rattle.pc_runs.specs.Runs.{IsWorkloadRun, run_setting}
 use Rattle.test_folders.specs.declared.memory.MemoryFolder.{MemoryFolder}
 use Rattle.test_folders.specs.Texts.{HasText}
 
@@ -21,4 +21,4 @@ small_store = run_setting (record { run = 1; point = 0; pairs = database_of [] }
 
 -- The text is a workload, which was run over such a store, and the folder has the files of the run.
 abbrev pub HasLeft : List ℕ → Option MemoryFolder → Type 0
-HasLeft text left = (workload : Workload) × (outcome : Outcome) × (reading_of text ≡ Runs workload) × IsRun holds small_store workload true left outcome
+HasLeft text left = (workload : Workload) × (outcome : RunReport) × (reading_of text ≡ Runs workload) × IsWorkloadRun holds small_store workload true left outcome

@@ -9,7 +9,7 @@ use test_support::Ask;
 
 /// The store that a list is asked of; each starts from nothing.
 #[derive(Clone, Copy)]
-pub enum Store {
+pub enum StoreFamily {
     /// One session, with room for two keys.
     OneSession,
     /// Two sessions, with room for two keys.
@@ -34,7 +34,7 @@ pub enum Rule {
 #[derive(Clone, Copy)]
 pub struct Family {
     pub name: &'static str,
-    pub store: Store,
+    pub store: StoreFamily,
     pub start: &'static [Ask<'static>],
     pub letters: &'static [Ask<'static>],
     pub most: usize,
@@ -42,12 +42,12 @@ pub struct Family {
 }
 
 /// A new store of this kind, which hashes its keys under the seed.
-pub fn new_world(alloc: Global, seed: RandomState, store: Store) -> Result<World, Refusal> {
+pub fn new_world(alloc: Global, seed: RandomState, store: StoreFamily) -> Result<World, Refusal> {
     let base = Base::start(1, Vec::new(alloc));
     match store {
-        Store::OneSession => World::new(alloc, base, 1, 2, seed),
-        Store::TwoSessions => World::new(alloc, base, 2, 2, seed),
-        Store::OneKey => World::new(alloc, base, 2, 1, seed),
+        StoreFamily::OneSession => World::new(alloc, base, 1, 2, seed),
+        StoreFamily::TwoSessions => World::new(alloc, base, 2, 2, seed),
+        StoreFamily::OneKey => World::new(alloc, base, 2, 1, seed),
     }
 }
 
@@ -214,7 +214,7 @@ const IN_COMPLETE: [Ask<'static>; 11] = [
 /// Lists of one session and the checkpointer.
 pub const ALONE: Family = Family {
     name: "one session",
-    store: Store::OneSession,
+    store: StoreFamily::OneSession,
     start: &[],
     letters: &ONE_SESSION,
     most: 8,
@@ -224,7 +224,7 @@ pub const ALONE: Family = Family {
 /// Lists of two sessions.
 pub const BESIDE: Family = Family {
     name: "two sessions",
-    store: Store::TwoSessions,
+    store: StoreFamily::TwoSessions,
     start: &[],
     letters: &TWO_SESSIONS,
     most: 7,
@@ -234,7 +234,7 @@ pub const BESIDE: Family = Family {
 /// Lists of two sessions of a store with room for one key.
 pub const IN_ONE_ROOM: Family = Family {
     name: "room for one key",
-    store: Store::OneKey,
+    store: StoreFamily::OneKey,
     most: 6,
     ..BESIDE
 };
@@ -242,7 +242,7 @@ pub const IN_ONE_ROOM: Family = Family {
 /// Lists of two sessions and the checkpointer, from a start in rest.
 pub const FROM_REST: Family = Family {
     name: "from rest",
-    store: Store::TwoSessions,
+    store: StoreFamily::TwoSessions,
     start: &AT_REST,
     letters: &WITH_POINTS,
     most: 6,

@@ -5,5 +5,5 @@
 mod row;
 mod slots;
 
-pub use row::{ByRow, Row};
-pub use slots::{SLOTS, Slots};
+pub use row::{ByRowOfEnds, RowOfEnds};
+pub use slots::{LockSlots, SLOTS};

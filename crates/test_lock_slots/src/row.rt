@@ -10,14 +10,14 @@ use std::alloc::{AllocError, Global};
 
 /// The ends of the queue of each slot below a number.
 #[derive(Drop)]
-pub struct Row {
+pub struct RowOfEnds {
     ends: Vec<Chain<usize>>,
 }
 
 /// How a row keeps ends.
-pub struct ByRow;
+pub struct ByRowOfEnds;
 
-impl QueueEnds<ByRow> for Row {
+impl QueueEnds<ByRowOfEnds> for RowOfEnds {
     ghost use Rattle.std.specs.Prelude.{◌≡◌, ◌<◌, length, refl};
     ghost use Rattle.std.proofs.Common.{◌∙◌, sym, subst};
     ghost use Rattle.test_lock_slots.specs.Rows.{ends_at};
@@ -48,12 +48,12 @@ impl QueueEnds<ByRow> for Row {
     ghost beside_has = { λ a b slot p. ((λ h. subst (λ n. slot < n) (sym p) h), (λ h. subst (λ n. slot < n) p h)) };
 }
 
-impl Row {
+impl RowOfEnds {
     /// The ends of the empty queues of sixteen slots.
-    pub fn new(alloc: Global) -> Result<Row, AllocError>
+    pub fn new(alloc: Global) -> Result<RowOfEnds, AllocError>
         ensures { IfOk result (λ row. row.ends.items ≡ replicate 16 no_chain) }
     {
-        Ok(Row {
+        Ok(RowOfEnds {
             ends: vec![in alloc; Chain::new(); 16]?,
         })
     }

@@ -1,7 +1,7 @@
 //! The locks of sixteen slots, with the ends of their queues.
 ghost use Rattle.std.specs.Prelude.{◌≡◌};
 
-use crate::row::Row;
+use crate::row::RowOfEnds;
 use pc_locks::Locks;
 use pc_types::{Mode, Outcome, SlotId, TxnNo};
 use std::alloc::{AllocError, Global};
@@ -12,15 +12,15 @@ pub const SLOTS: u32 = 16;
 
 /// Locks, and who keeps the ends of their queues.
 #[derive(Drop)]
-pub struct Slots {
+pub struct LockSlots {
     locks: Locks,
-    row: Row,
+    row: RowOfEnds,
 }
 
-impl Model for Slots {
+impl Model for LockSlots {
     ghost use Rattle.std.specs.Prelude.{ℕ, ◌<◌, ◌≤◌, length};
     ghost use Rattle.std.specs.Coded.{coded_ℕ};
-    ghost use Rattle.pc_locks.specs.Keepers.{AreSound};
+    ghost use Rattle.pc_locks.specs.Keepers.{AreLocksSound};
     ghost use Rattle.test_lock_slots.specs.Rows.{ends_at};
 
     ghost Value = { ℕ };
@@ -29,15 +29,15 @@ impl Model for Slots {
 
     ghost view = { λ a. length a.row.ends.items };
 
-    ghost invariant = { λ a. (16 ≤ length a.row.ends.items) × AreSound (λ slot. slot < length a.row.ends.items) (ends_at a.row.ends.items) a.locks };
+    ghost invariant = { λ a. (16 ≤ length a.row.ends.items) × AreLocksSound (λ slot. slot < length a.row.ends.items) (ends_at a.row.ends.items) a.locks };
 }
 
-impl Slots {
+impl LockSlots {
     /// No request stands.
-    pub fn new(alloc: Global) -> Result<Slots, AllocError> {
-        let row = Row::new(alloc)?;
+    pub fn new(alloc: Global) -> Result<LockSlots, AllocError> {
+        let row = RowOfEnds::new(alloc)?;
         let locks = Locks::new(alloc);
-        Ok(Slots { locks, row })
+        Ok(LockSlots { locks, row })
     }
 
     /// Whether a request of the transaction waits.

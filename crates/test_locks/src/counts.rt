@@ -9,7 +9,7 @@ const FNV_PRIME: u64 = 0x0000_0100_0000_01b3;
 /// How many lists there were, how many of their last events came to what, how many transactions waited and at how many slots
 /// a request stood then, and the checksum.
 #[derive(Clone, Copy)]
-pub struct Counts {
+pub struct LockCounts {
     pub lists: u64,
     pub not_asked: u64,
     pub granted: u64,
@@ -23,7 +23,7 @@ pub struct Counts {
 }
 
 /// No list.
-pub const NO_COUNTS: Counts = Counts {
+pub const NO_COUNTS: LockCounts = LockCounts {
     lists: 0,
     not_asked: 0,
     granted: 0,
@@ -36,7 +36,7 @@ pub const NO_COUNTS: Counts = Counts {
     checksum: FNV_OFFSET,
 };
 
-impl Counts {
+impl LockCounts {
     /// Counts one more list, by the answer to its last event and what stands then.
     pub fn count(&mut self, answer: Answer, standing: u8) {
         self.lists = self.lists.wrapping_add(1);

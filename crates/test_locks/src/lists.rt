@@ -1,19 +1,19 @@
 //! Every short list of events.
 
-use crate::counts::{Counts, NO_COUNTS};
-use crate::table::{Answer, Event, Table};
+use crate::counts::{LockCounts, NO_COUNTS};
+use crate::table::{Answer, LockTable, TableEvent};
 use pc_types::{Mode, Refusal};
 use std::alloc::{AllocError, Global};
 
 /// Which lists are gone through: those of so many of the letters, 10 or 15, and at most so long.
 #[derive(Clone, Copy)]
-pub struct Lists {
+pub struct ListBounds {
     pub letters: usize,
     pub most: usize,
 }
 
 // The event of a letter: five of each transaction, which reads or writes slot 0 or 1, or releases.
-fn event_of(letter: usize) -> Event {
+fn event_of(letter: usize) -> TableEvent {
     let transaction = if letter < 5 {
         1
     } else if letter < 10 {
@@ -28,7 +28,7 @@ fn event_of(letter: usize) -> Event {
         3 => (1, Some(Mode::Exclusive)),
         _ => (0, None),
     };
-    Event {
+    TableEvent {
         transaction,
         slot,
         mode,
@@ -36,7 +36,7 @@ fn event_of(letter: usize) -> Event {
 }
 
 // The answer to the last event of the list.
-fn last_answer(table: &mut Table, list: &[usize]) -> Result<Answer, Refusal> {
+fn last_answer(table: &mut LockTable, list: &[usize]) -> Result<Answer, Refusal> {
     let mut last = Answer::Nothing;
     for letter in list {
         last = table.answer(event_of(*letter))?;
@@ -46,14 +46,14 @@ fn last_answer(table: &mut Table, list: &[usize]) -> Result<Answer, Refusal> {
 
 // The same, and what stands then.
 fn outcome(alloc: Global, list: &[usize]) -> Result<(Answer, u8), Refusal> {
-    let mut table = Table::new(alloc)?;
+    let mut table = LockTable::new(alloc)?;
     let last = last_answer(&mut table, list)?;
     Ok((last, table.standing()))
 }
 
 // The next list, depth first: a longer one where that is wanted, else one with the next letter in the last place that has
 // another. It is empty where none is left.
-fn go_on(list: &mut Vec<usize>, lists: Lists, is_longer: bool) -> Result<(), AllocError> {
+fn go_on(list: &mut Vec<usize>, lists: ListBounds, is_longer: bool) -> Result<(), AllocError> {
     if is_longer && list.len() < lists.most {
         list.push(0)?;
         return Ok(());
@@ -70,7 +70,7 @@ fn go_on(list: &mut Vec<usize>, lists: Lists, is_longer: bool) -> Result<(), All
 }
 
 /// What all the lists came to. Refuses only with `OutOfMemory`.
-pub fn counts_of(alloc: Global, lists: Lists) -> Result<Counts, Refusal> {
+pub fn counts_of(alloc: Global, lists: ListBounds) -> Result<LockCounts, Refusal> {
     let mut counts = NO_COUNTS;
     let mut list = vec![in alloc; 0usize]?;
     for _ in 0..u32::MAX {

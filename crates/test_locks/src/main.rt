@@ -11,8 +11,8 @@ mod counts;
 mod lists;
 mod table;
 
-use counts::Counts;
-use lists::{Lists, counts_of};
+use counts::LockCounts;
+use lists::{ListBounds, counts_of};
 use pc_types::Refusal;
 use std::io;
 use std::process::ExitCode;
@@ -26,19 +26,19 @@ fn main(rt: HostRuntime) -> ExitCode {
 
 // Two transactions at two slots, and three.
 fn tell_all(rt: &HostRuntime) -> io::Result<()> {
-    let two = Lists {
+    let two = ListBounds {
         letters: 10,
         most: 7,
     };
     tell(rt, "two", counts_of(rt.alloc(), two))?;
-    let three = Lists {
+    let three = ListBounds {
         letters: 15,
         most: 6,
     };
     tell(rt, "three", counts_of(rt.alloc(), three))
 }
 
-fn tell(rt: &HostRuntime, name: &str, counts: Result<Counts, Refusal>) -> io::Result<()> {
+fn tell(rt: &HostRuntime, name: &str, counts: Result<LockCounts, Refusal>) -> io::Result<()> {
     let Ok(counts) = counts else {
         println!(rt; "== {name}: memory ran out")?;
         return Ok(());

@@ -2,7 +2,7 @@
 
 use pc_types::{Mode, Outcome, Refusal, TxnNo};
 use std::alloc::Global;
-use test_lock_slots::Slots;
+use test_lock_slots::LockSlots;
 
 /// What an event came to.
 #[derive(Clone, Copy, PartialEq)]
@@ -17,7 +17,7 @@ pub enum Answer {
 
 /// A transaction, 1 to 3, a slot, and what it asks for there, or else a release.
 #[derive(Clone, Copy)]
-pub struct Event {
+pub struct TableEvent {
     pub transaction: u8,
     pub slot: u32,
     pub mode: Option<Mode>,
@@ -26,8 +26,8 @@ pub struct Event {
 /// Locks of two slots; which transactions died and have not released all since, and where each has a request: a bit for each
 /// transaction, and for each transaction and slot.
 #[derive(Drop)]
-pub struct Table {
-    slots: Slots,
+pub struct LockTable {
+    slots: LockSlots,
     dead: u8,
     requests: u8,
 }
@@ -58,11 +58,11 @@ fn request_bit(transaction: u8, slot: u32) -> u8 {
     }
 }
 
-impl Table {
+impl LockTable {
     /// No request stands.
-    pub fn new(alloc: Global) -> Result<Table, Refusal> {
-        let slots = Slots::new(alloc)?;
-        Ok(Table {
+    pub fn new(alloc: Global) -> Result<LockTable, Refusal> {
+        let slots = LockSlots::new(alloc)?;
+        Ok(LockTable {
             slots,
             dead: 0,
             requests: 0,
@@ -70,7 +70,7 @@ impl Table {
     }
 
     /// Does what is asked, where the transaction may ask it.
-    pub fn answer(&mut self, event: Event) -> Result<Answer, Refusal> {
+    pub fn answer(&mut self, event: TableEvent) -> Result<Answer, Refusal> {
         match event.mode {
             None => Ok(self.release(event.transaction)),
             Some(mode) => self.request(event.transaction, event.slot, mode),

@@ -3,17 +3,17 @@
 use pc_types::{Mode, Outcome, SlotId, TxnNo};
 use std::alloc::{AllocError, Global};
 use std::test::Fail;
-use test_lock_slots::{SLOTS, Slots};
+use test_lock_slots::{LockSlots, SLOTS};
 
 // A transaction, a slot, and what it asks for, or else a release.
-type Event = (u64, u32, Option<Mode>);
+type LockEvent = (u64, u32, Option<Mode>);
 
 const READ: Option<Mode> = Some(Mode::Shared);
 
 const WRITE: Option<Mode> = Some(Mode::Exclusive);
 
 // An event, and what comes of it.
-const ROWS: [(Event, &str); 29] = [
+const ROWS: [(LockEvent, &str); 29] = [
     // The older one waits, and is granted once the younger one has released.
     ((2, 0, WRITE), "granted"),
     ((1, 0, READ), "queued"),
@@ -51,7 +51,7 @@ const ROWS: [(Event, &str); 29] = [
 ];
 
 // What comes of an event, where memory isn't wanting.
-fn done(locks: &mut Slots, event: Event) -> Result<&'static str, AllocError> {
+fn done(locks: &mut LockSlots, event: LockEvent) -> Result<&'static str, AllocError> {
     let (number, slot, mode) = event;
     let transaction = TxnNo(number);
     let Some(mode) = mode else {
@@ -65,7 +65,7 @@ fn done(locks: &mut Slots, event: Event) -> Result<&'static str, AllocError> {
     }
 }
 
-fn released(locks: &mut Slots, transaction: TxnNo) -> &'static str {
+fn released(locks: &mut LockSlots, transaction: TxnNo) -> &'static str {
     match locks.release_one(transaction) {
         Some(SlotId(0)) => "released 0",
         Some(_) => "released 1",
@@ -74,7 +74,7 @@ fn released(locks: &mut Slots, transaction: TxnNo) -> &'static str {
 }
 
 // Whether both look the same: at each of the two slots, and for the transactions 1 to 64.
-fn look_alike(one: &Slots, other: &Slots) -> bool {
+fn look_alike(one: &LockSlots, other: &LockSlots) -> bool {
     for number in 1..=64u64 {
         if one.is_waiting(TxnNo(number)) != other.is_waiting(TxnNo(number)) {
             return false;
@@ -85,7 +85,11 @@ fn look_alike(one: &Slots, other: &Slots) -> bool {
 
 // What comes of an event. Where memory was wanting they are asked again, and have to look as the twin, which wasn't asked
 // for this event yet.
-fn done_again(locks: &mut Slots, twin: &Slots, event: Event) -> Result<&'static str, AllocError> {
+fn done_again(
+    locks: &mut LockSlots,
+    twin: &LockSlots,
+    event: LockEvent,
+) -> Result<&'static str, AllocError> {
     if let Ok(word) = done(locks, event) {
         return Ok(word);
     }
@@ -95,7 +99,7 @@ fn done_again(locks: &mut Slots, twin: &Slots, event: Event) -> Result<&'static 
     done(locks, event)
 }
 
-fn twin_done(twin: &mut Slots, event: Event) -> Result<&'static str, AllocError> {
+fn twin_done(twin: &mut LockSlots, event: LockEvent) -> Result<&'static str, AllocError> {
     if let Ok(word) = done(twin, event) {
         return Ok(word);
     }
@@ -104,9 +108,9 @@ fn twin_done(twin: &mut Slots, event: Event) -> Result<&'static str, AllocError>
 
 // Whether the event comes to this in both, and they look alike then.
 fn is_right(
-    locks: &mut Slots,
-    twin: &mut Slots,
-    event: Event,
+    locks: &mut LockSlots,
+    twin: &mut LockSlots,
+    event: LockEvent,
     wanted: &str,
 ) -> Result<bool, AllocError> {
     let word = done_again(locks, twin, event)?;
@@ -115,15 +119,15 @@ fn is_right(
 }
 
 // Locks; where memory is wanting they are made again.
-fn new_locks(alloc: Global) -> Result<Slots, AllocError> {
-    match Slots::new(alloc) {
+fn new_locks(alloc: Global) -> Result<LockSlots, AllocError> {
+    match LockSlots::new(alloc) {
         Ok(locks) => Ok(locks),
-        Err(_) => Slots::new(alloc),
+        Err(_) => LockSlots::new(alloc),
     }
 }
 
 // The first of the rows at which the locks or their twin say something else, or look otherwise.
-fn wrong_row(locks: &mut Slots, twin: &mut Slots) -> Result<Option<usize>, AllocError> {
+fn wrong_row(locks: &mut LockSlots, twin: &mut LockSlots) -> Result<Option<usize>, AllocError> {
     for (i, row) in ROWS.iter().enumerate() {
         if !is_right(locks, twin, row.0, row.1)? {
             return Ok(Some(i));
@@ -140,7 +144,7 @@ fn first_wrong_row(alloc: Global) -> Result<Option<usize>, AllocError> {
 
 // The nth of 64 transactions to come to slot 0, and what comes of it. The transactions 63, 61, .. 1 each come before the
 // next younger one: the first is granted, the others are older than all before them and wait, and all of even numbers die.
-fn comer(n: u64) -> (Event, &'static str) {
+fn comer(n: u64) -> (LockEvent, &'static str) {
     let transaction = (63u64.wrapping_sub(n) ^ 1).wrapping_add(1);
     let mode = if n % 3 == 0 { WRITE } else { READ };
     let word = match n {
@@ -152,7 +156,7 @@ fn comer(n: u64) -> (Event, &'static str) {
 }
 
 // The nth of them to release, in steps of 27, and what it releases.
-fn leaver(n: u64) -> (Event, &'static str) {
+fn leaver(n: u64) -> (LockEvent, &'static str) {
     let transaction = (n.wrapping_mul(27) % 64).wrapping_add(1);
     let word = if transaction % 2 == 0 {
         "nothing"
@@ -163,7 +167,7 @@ fn leaver(n: u64) -> (Event, &'static str) {
 }
 
 // The nth event of the crowd: each comes, each releases, and then releases again, where nothing is left.
-fn crowd_row(n: u64) -> (Event, &'static str) {
+fn crowd_row(n: u64) -> (LockEvent, &'static str) {
     if n < 64 {
         return comer(n);
     }
@@ -185,20 +189,20 @@ fn first_wrong_of_crowd(alloc: Global) -> Result<Option<u64>, AllocError> {
 }
 
 // Whether the transaction 1 is granted to read the slot; it asks again where memory was wanting.
-fn reads(locks: &mut Slots, slot: u32) -> Result<bool, AllocError> {
+fn reads(locks: &mut LockSlots, slot: u32) -> Result<bool, AllocError> {
     if let Ok(is_granted) = reads_once(locks, slot) {
         return Ok(is_granted);
     }
     reads_once(locks, slot)
 }
 
-fn reads_once(locks: &mut Slots, slot: u32) -> Result<bool, AllocError> {
+fn reads_once(locks: &mut LockSlots, slot: u32) -> Result<bool, AllocError> {
     let answer = locks.request(TxnNo(1), slot, Mode::Shared)?;
     Ok(answer == Some(Outcome::Granted))
 }
 
 // Whether it is granted to read each of 16 slots.
-fn reads_all(locks: &mut Slots) -> Result<bool, AllocError> {
+fn reads_all(locks: &mut LockSlots) -> Result<bool, AllocError> {
     for slot in 0..SLOTS {
         if !reads(locks, slot)? {
             return Ok(false);
@@ -208,7 +212,7 @@ fn reads_all(locks: &mut Slots) -> Result<bool, AllocError> {
 }
 
 // Whether it then releases them in that order, and nothing more.
-fn releases_all(locks: &mut Slots) -> bool {
+fn releases_all(locks: &mut LockSlots) -> bool {
     for slot in 0..SLOTS {
         if locks.release_one(TxnNo(1)) != Some(SlotId(slot)) {
             return false;
@@ -224,7 +228,7 @@ fn is_long_list_right(alloc: Global) -> Result<bool, AllocError> {
 }
 
 // Whether the transaction 1 gives each of 16 slots back and is granted to read it once more, the first time.
-fn gives_back_and_reads(locks: &mut Slots) -> Result<bool, AllocError> {
+fn gives_back_and_reads(locks: &mut LockSlots) -> Result<bool, AllocError> {
     for slot in 0..SLOTS {
         if locks.release_one(TxnNo(1)) != Some(SlotId(slot)) || !reads_once(locks, slot)? {
             return Ok(false);

@@ -69,7 +69,7 @@ const LONG_KEY: &[u8] = b"0123456789abcdefg";
 
 // Parts and the first so many bytes of a log: the point and the entries that are found, the part that is skipped with its
 // place, the log's fault, and the pairs.
-struct Row {
+struct RecoveryRow {
     parts: &'static [&'static [u8]],
     log: &'static [u8],
     cut: usize,
@@ -80,8 +80,8 @@ struct Row {
     pairs: &'static [Pair],
 }
 
-const ROWS: [Row; 16] = [
-    Row {
+const ROWS: [RecoveryRow; 16] = [
+    RecoveryRow {
         parts: &[&ONE_KEY],
         log: &SIX_ENTRIES,
         cut: 94,
@@ -91,7 +91,7 @@ const ROWS: [Row; 16] = [
         fault: None,
         pairs: &[(b"a", b"3")],
     },
-    Row {
+    RecoveryRow {
         parts: &[&ONE_KEY],
         log: &SIX_ENTRIES,
         cut: 60,
@@ -101,7 +101,7 @@ const ROWS: [Row; 16] = [
         fault: Some(Refusal::Short),
         pairs: &[(b"a", b"1")],
     },
-    Row {
+    RecoveryRow {
         parts: &[&ONE_KEY],
         log: &SIX_ENTRIES,
         cut: 0,
@@ -111,7 +111,7 @@ const ROWS: [Row; 16] = [
         fault: None,
         pairs: &[(b"a", b"1")],
     },
-    Row {
+    RecoveryRow {
         parts: &[&ONE_KEY],
         log: &PHASE_FIVE,
         cut: 94,
@@ -121,7 +121,7 @@ const ROWS: [Row; 16] = [
         fault: Some(Refusal::BadKind),
         pairs: &[(b"a", b"1")],
     },
-    Row {
+    RecoveryRow {
         parts: &[&ONE_KEY, &UNMARKED],
         log: &SIX_ENTRIES,
         cut: 94,
@@ -131,7 +131,7 @@ const ROWS: [Row; 16] = [
         fault: None,
         pairs: &[(b"a", b"3")],
     },
-    Row {
+    RecoveryRow {
         parts: &[&UNMARKED, &ONE_KEY],
         log: &SIX_ENTRIES,
         cut: 94,
@@ -141,7 +141,7 @@ const ROWS: [Row; 16] = [
         fault: None,
         pairs: &[(b"a", b"3")],
     },
-    Row {
+    RecoveryRow {
         parts: &[&MISCOUNTED],
         log: &SIX_ENTRIES,
         cut: 94,
@@ -151,7 +151,7 @@ const ROWS: [Row; 16] = [
         fault: None,
         pairs: &[(b"a", b"3")],
     },
-    Row {
+    RecoveryRow {
         parts: &[&CUT_PART],
         log: &SIX_ENTRIES,
         cut: 47,
@@ -161,7 +161,7 @@ const ROWS: [Row; 16] = [
         fault: None,
         pairs: &[(b"a", b"1")],
     },
-    Row {
+    RecoveryRow {
         parts: &[&OF_RUN_TWO],
         log: &SIX_ENTRIES,
         cut: 20,
@@ -171,7 +171,7 @@ const ROWS: [Row; 16] = [
         fault: None,
         pairs: &[],
     },
-    Row {
+    RecoveryRow {
         parts: &[&OF_RUN_TWO, &ONE_KEY],
         log: &SIX_ENTRIES,
         cut: 20,
@@ -181,7 +181,7 @@ const ROWS: [Row; 16] = [
         fault: None,
         pairs: &[(b"a", b"1")],
     },
-    Row {
+    RecoveryRow {
         parts: &[&TWO_KEYS, &THIRD_POINT],
         log: &SIX_ENTRIES,
         cut: 0,
@@ -191,7 +191,7 @@ const ROWS: [Row; 16] = [
         fault: None,
         pairs: &[(b"a", b"1"), (b"b", b"1")],
     },
-    Row {
+    RecoveryRow {
         parts: &[&THIRD_POINT, &TWO_KEYS],
         log: &SIX_ENTRIES,
         cut: 0,
@@ -201,7 +201,7 @@ const ROWS: [Row; 16] = [
         fault: None,
         pairs: &[(b"a", b"1"), (b"b", b"1")],
     },
-    Row {
+    RecoveryRow {
         parts: &[&SECOND, &TWO_KEYS],
         log: &SIX_ENTRIES,
         cut: 0,
@@ -211,7 +211,7 @@ const ROWS: [Row; 16] = [
         fault: None,
         pairs: &[(b"a", b"2"), (b"b", b"1")],
     },
-    Row {
+    RecoveryRow {
         parts: &[&ONE_KEY, &ONE_KEY],
         log: &SIX_ENTRIES,
         cut: 94,
@@ -221,7 +221,7 @@ const ROWS: [Row; 16] = [
         fault: None,
         pairs: &[(b"a", b"3")],
     },
-    Row {
+    RecoveryRow {
         parts: &[&LONG],
         log: &LONG_LOG,
         cut: 69,
@@ -231,7 +231,7 @@ const ROWS: [Row; 16] = [
         fault: None,
         pairs: &[(LONG_KEY, LONG_KEY)],
     },
-    Row {
+    RecoveryRow {
         parts: &[&OF_RUN_TWO],
         log: &LONG_LOG,
         cut: 69,
@@ -261,7 +261,7 @@ fn is_skipped(recovered: &Recovered, wanted: Option<(usize, Refusal)>) -> bool {
 }
 
 // What is found otherwise than the row has it.
-fn wrong_in(recovered: &Recovered, row: &Row) -> &'static str {
+fn wrong_in(recovered: &Recovered, row: &RecoveryRow) -> &'static str {
     if recovered.point != Point(row.point) || recovered.entries != row.entries {
         return "the point or the entries";
     }
@@ -278,7 +278,7 @@ fn wrong_in(recovered: &Recovered, row: &Row) -> &'static str {
     }
 }
 
-fn wrong_of(alloc: Global, row: &Row) -> Result<&'static str, Refusal> {
+fn wrong_of(alloc: Global, row: &RecoveryRow) -> Result<&'static str, Refusal> {
     let log = &row.log[..row.cut.min(row.log.len())];
     let recovered = recover_again(alloc, row.parts, log)?;
     Ok(wrong_in(&recovered, row))

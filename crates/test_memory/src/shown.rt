@@ -69,9 +69,9 @@ fn is_committed(world: &World, pairs: &[Pair]) -> Result<bool, Refusal> {
 }
 
 // An event, what it is told, and the log's length, the number of files and the committed pairs then.
-type Row = (Ask<'static>, Told, usize, usize, &'static [Pair]);
+type ShownRow = (Ask<'static>, Told, usize, usize, &'static [Pair]);
 
-const ROWS: [Row; 9] = [
+const ROWS: [ShownRow; 9] = [
     (Ask::Begin(1), Told::Begun(1), 0, 0, &ONE_PAIR),
     (Ask::Put(1, b"a", b"2"), Told::Ok, 0, 0, &ONE_PAIR),
     (Ask::Commit(1), Told::Committed(1), 1, 0, &TWO_PAIRS),
@@ -83,7 +83,7 @@ const ROWS: [Row; 9] = [
     (Ask::Join(1, 1), Told::File(2, 1, 1), 5, 2, &TWO_PAIRS),
 ];
 
-fn is_shown(alloc: Global, world: &mut World, row: &Row) -> Result<bool, Refusal> {
+fn is_shown(alloc: Global, world: &mut World, row: &ShownRow) -> Result<bool, Refusal> {
     let told = answer(alloc, world, row.0);
     let is_same = told == row.1 && shown(world) == (row.2, row.3, row.3);
     Ok(is_same && is_committed(world, row.4)?)

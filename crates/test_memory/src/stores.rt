@@ -22,7 +22,7 @@ const TWO: &[u8] = b"2 word of 20 letters";
 const THREE: &[u8] = b"3 word of 20 letters";
 
 // A file's number and its text.
-type File = (u32, &'static [u8]);
+type StoredFile = (u32, &'static [u8]);
 
 // Whether the store's file of this number has this text.
 fn is_file(alloc: Global, world: &World, number: u32, text: &[u8]) -> Result<bool, Refusal> {
@@ -33,7 +33,7 @@ fn is_file(alloc: Global, world: &World, number: u32, text: &[u8]) -> Result<boo
 }
 
 // The first of the files that has another text, or 0.
-fn first_wrong_file(alloc: Global, world: &World, files: &[File]) -> Result<u32, Refusal> {
+fn first_wrong_file(alloc: Global, world: &World, files: &[StoredFile]) -> Result<u32, Refusal> {
     for file in files {
         if !is_file(alloc, world, file.0, file.1)? {
             return Ok(file.0);
@@ -51,7 +51,7 @@ fn ended(
     alloc: Global,
     world: &mut World,
     rows: &[(Ask, Told)],
-    files: &[File],
+    files: &[StoredFile],
 ) -> Result<Ended, Refusal> {
     let wrong = first_wrong(alloc, world, rows);
     let is_right = is_right(world)?;
@@ -103,7 +103,7 @@ const THREE_FILE: [u8; 136] = *b"PCALCP01\
     \x00\x14b word of 20 letters\x00\x00\x00\x03\x01\x00\x00\x00\x143 word of 20 letters\
     \x00\x00\x00\x00\x00\x02";
 
-const THREE_FILES: [File; 2] = [(5, &THREE_FILE), (7, &THREE_FILE)];
+const THREE_FILES: [StoredFile; 2] = [(5, &THREE_FILE), (7, &THREE_FILE)];
 
 fn three_points(alloc: Global, seed: RandomState) -> Result<Ended, Refusal> {
     let mut world = world_again(alloc, seed, None, 1)?;
@@ -193,7 +193,7 @@ const BOTH_FILE: [u8; 112] = *b"PCALCP01\
     \x00\x14b word of 20 letters\x00\x00\x00\x02\x00\
     \x00\x00\x00\x00\x00\x02";
 
-const BOTH_FILES: [File; 3] = [(1, &FIRST_FILE), (3, &BOTH_FILE), (4, &BOTH_FILE)];
+const BOTH_FILES: [StoredFile; 3] = [(1, &FIRST_FILE), (3, &BOTH_FILE), (4, &BOTH_FILE)];
 
 // What comes of the first point, where that is wrong, or else of the second.
 fn both_points(alloc: Global, world: &mut World) -> Result<Ended, Refusal> {

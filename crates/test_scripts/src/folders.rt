@@ -10,14 +10,14 @@ use std::io::Write;
 
 /// A file of a folder: its name, and its bytes or why it can't be opened.
 #[derive(Drop)]
-pub struct File {
+pub struct FolderFile {
     name: Vec<u8>,
     bytes: Vec<u8>,
     fault: Option<Refusal>,
 }
 
 /// The files that the lines name; `None` where a line doesn't have a name and bytes or a fault.
-pub fn files_of(alloc: Global, lines: &[u8]) -> Result<Option<Vec<File>>, Refusal> {
+pub fn files_of(alloc: Global, lines: &[u8]) -> Result<Option<Vec<FolderFile>>, Refusal> {
     let mut files = Vec::new(alloc);
     for line in lines.lines() {
         match file_of(alloc, line)? {
@@ -28,7 +28,7 @@ pub fn files_of(alloc: Global, lines: &[u8]) -> Result<Option<Vec<File>>, Refusa
     Ok(Some(files))
 }
 
-fn file_of(alloc: Global, line: &[u8]) -> Result<Option<File>, Refusal> {
+fn file_of(alloc: Global, line: &[u8]) -> Result<Option<FolderFile>, Refusal> {
     let Some((name, text)) = line.split_once_str(b" ") else {
         return Ok(None);
     };
@@ -38,7 +38,7 @@ fn file_of(alloc: Global, line: &[u8]) -> Result<Option<File>, Refusal> {
         return Ok(None);
     };
     let name = Vec::from_slice(alloc, name)?;
-    Ok(Some(File { name, bytes, fault }))
+    Ok(Some(FolderFile { name, bytes, fault }))
 }
 
 fn fault_of(word: &[u8]) -> Option<Refusal> {
@@ -52,7 +52,7 @@ fn fault_of(word: &[u8]) -> Option<Refusal> {
 /// Prints what a recovery of the folder prints, and its status.
 pub fn put_recovery<W: Write>(
     alloc: Global,
-    files: &[File],
+    files: &[FolderFile],
     out: &mut Tally<W>,
 ) -> Result<(), Refusal> {
     let text = recovered(alloc, files, usize::MAX)?;
@@ -62,7 +62,7 @@ pub fn put_recovery<W: Write>(
 /// Prints the same for each beginning of the log, where it is another than that of the one before, behind its length.
 pub fn put_cuts<W: Write>(
     alloc: Global,
-    files: &[File],
+    files: &[FolderFile],
     out: &mut Tally<W>,
 ) -> Result<(), Refusal> {
     let mut last = Vec::new(alloc);
@@ -78,7 +78,7 @@ pub fn put_cuts<W: Write>(
     Ok(())
 }
 
-fn len_of_log(files: &[File]) -> usize {
+fn len_of_log(files: &[FolderFile]) -> usize {
     match opened(files, b"log.pcl") {
         Ok(bytes) => bytes.len(),
         Err(_) => 0,
@@ -86,7 +86,7 @@ fn len_of_log(files: &[File]) -> usize {
 }
 
 // What a recovery prints, on either of its outputs, where the log is cut at the length.
-fn recovered(alloc: Global, files: &[File], cut: usize) -> Result<Vec<u8>, Refusal> {
+fn recovered(alloc: Global, files: &[FolderFile], cut: usize) -> Result<Vec<u8>, Refusal> {
     let folder = folder_of(alloc, files, cut)?;
     let mut out = Tally::new(Vec::new(alloc));
     let mut errors = Tally::new(Vec::new(alloc));
@@ -101,7 +101,7 @@ fn recovered(alloc: Global, files: &[File], cut: usize) -> Result<Vec<u8>, Refus
     Ok(text)
 }
 
-fn folder_of(alloc: Global, files: &[File], cut: usize) -> Result<Folder<&[u8]>, Refusal> {
+fn folder_of(alloc: Global, files: &[FolderFile], cut: usize) -> Result<Folder<&[u8]>, Refusal> {
     let log = match opened(files, b"log.pcl") {
         Ok(bytes) => Ok(&bytes[..cut.min(bytes.len())]),
         Err(why) => Err(why),
@@ -115,7 +115,7 @@ fn folder_of(alloc: Global, files: &[File], cut: usize) -> Result<Folder<&[u8]>,
 }
 
 // The bytes of the file of the name, or why it can't be opened.
-fn opened<'a>(files: &'a [File], name: &[u8]) -> Result<&'a [u8], Refusal> {
+fn opened<'a>(files: &'a [FolderFile], name: &[u8]) -> Result<&'a [u8], Refusal> {
     for file in files {
         if file.name.as_slice() == name {
             return content(file);
@@ -125,7 +125,7 @@ fn opened<'a>(files: &'a [File], name: &[u8]) -> Result<&'a [u8], Refusal> {
 }
 
 // Why the folder can't be listed, if it can't.
-fn listing_fault(files: &[File]) -> Option<Refusal> {
+fn listing_fault(files: &[FolderFile]) -> Option<Refusal> {
     for file in files {
         if file.name.as_slice() == b".".as_slice() {
             return file.fault;
@@ -134,14 +134,14 @@ fn listing_fault(files: &[File]) -> Option<Refusal> {
     None
 }
 
-fn content(file: &File) -> Result<&[u8], Refusal> {
+fn content(file: &FolderFile) -> Result<&[u8], Refusal> {
     match file.fault {
         Some(why) => Err(why),
         None => Ok(file.bytes.as_slice()),
     }
 }
 
-fn parts_of(alloc: Global, files: &[File]) -> Result<Vec<NamedFile<&[u8]>>, Refusal> {
+fn parts_of(alloc: Global, files: &[FolderFile]) -> Result<Vec<NamedFile<&[u8]>>, Refusal> {
     let mut parts = Vec::new(alloc);
     for file in files {
         if file.name.ends_with(b".pcp") {

@@ -8,9 +8,9 @@ use std::str;
 
 /// What a row is.
 #[derive(Clone, Copy)]
-pub enum Head {
+pub enum RowHead {
     /// A script.
-    Step(Step),
+    Step(ScriptStep),
     /// A folder to be recovered.
     Recover,
     /// A folder to be recovered with each beginning of its log.
@@ -19,19 +19,19 @@ pub enum Head {
 
 /// What a script's store is made with, and whether the end of its last line is left out.
 #[derive(Clone, Copy)]
-pub struct Step {
+pub struct ScriptStep {
     pub setup: Setup,
     pub is_bare: bool,
 }
 
 /// What the line says; `None` where it has a word that isn't known, or a number out of its range, or memory ran out.
-pub fn head_of(alloc: Global, line: &[u8]) -> Option<Head> {
+pub fn head_of(alloc: Global, line: &[u8]) -> Option<RowHead> {
     let line = line.strip_suffix(b"\n").unwrap_or(line);
     let words: Vec<&[u8]> = line.split(|byte| *byte == b' ').collect(alloc).ok()?;
     match words.as_slice() {
-        [_, _, b"step", options @ ..] => Some(Head::Step(step_of(options)?)),
-        [_, _, b"recover"] => Some(Head::Recover),
-        [_, _, b"cuts"] => Some(Head::Cuts),
+        [_, _, b"step", options @ ..] => Some(RowHead::Step(step_of(options)?)),
+        [_, _, b"recover"] => Some(RowHead::Recover),
+        [_, _, b"cuts"] => Some(RowHead::Cuts),
         _ => None,
     }
 }
@@ -45,7 +45,7 @@ enum Next {
     Run,
 }
 
-fn step_of(options: &[&[u8]]) -> Option<Step> {
+fn step_of(options: &[&[u8]]) -> Option<ScriptStep> {
     let (mut run, mut sessions, mut capacity, mut is_bare) = (1u32, 8u32, 1024u32, false);
     let mut next = Next::Option;
     for word in options {
@@ -58,7 +58,7 @@ fn step_of(options: &[&[u8]]) -> Option<Step> {
         next = after(next, word)?;
     }
     let setup = setup_of(run, sessions, capacity)?;
-    Some(Step { setup, is_bare })
+    Some(ScriptStep { setup, is_bare })
 }
 
 // What comes behind the word; `None` behind an option that isn't known.

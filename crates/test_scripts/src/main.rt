@@ -16,7 +16,7 @@ mod heads;
 
 use bstr::ByteSlice;
 use folders::{files_of, put_cuts, put_recovery};
-use heads::{Head, Step, head_of};
+use heads::{RowHead, ScriptStep, head_of};
 use pc_script::run_script;
 use pc_types::{Refusal, Tally, read_all};
 use std::alloc::Global;
@@ -48,7 +48,7 @@ fn run_input(rt: &HostRuntime) -> io::Result<()> {
 
 // The line that begins a row, and the lines of the row, each with its end.
 #[derive(Drop)]
-struct Row {
+struct ScriptRow {
     head: Vec<u8>,
     lines: Vec<u8>,
 }
@@ -72,17 +72,17 @@ fn run_rows<W: Write>(
     run_row(alloc, seed, &row, out)
 }
 
-fn new_row(alloc: Global, head: &[u8]) -> Result<Row, Refusal> {
+fn new_row(alloc: Global, head: &[u8]) -> Result<ScriptRow, Refusal> {
     let head = Vec::from_slice(alloc, head)?;
     let lines = Vec::new(alloc);
-    Ok(Row { head, lines })
+    Ok(ScriptRow { head, lines })
 }
 
 // Lines that no row has are passed over.
 fn run_row<W: Write>(
     alloc: Global,
     seed: RandomState,
-    row: &Row,
+    row: &ScriptRow,
     out: &mut Tally<W>,
 ) -> Result<(), Refusal> {
     if row.head.is_empty() {
@@ -90,9 +90,9 @@ fn run_row<W: Write>(
     }
     out.put(&row.head)?;
     match head_of(alloc, &row.head) {
-        Some(Head::Step(step)) => run_step(alloc, seed, &step, &row.lines, out),
-        Some(Head::Recover) => run_folder(alloc, &row.lines, false, out),
-        Some(Head::Cuts) => run_folder(alloc, &row.lines, true, out),
+        Some(RowHead::Step(step)) => run_step(alloc, seed, &step, &row.lines, out),
+        Some(RowHead::Recover) => run_folder(alloc, &row.lines, false, out),
+        Some(RowHead::Cuts) => run_folder(alloc, &row.lines, true, out),
         None => out.put(b"bad head\n"),
     }
 }
@@ -116,7 +116,7 @@ fn run_folder<W: Write>(
 fn run_step<W: Write>(
     alloc: Global,
     seed: RandomState,
-    step: &Step,
+    step: &ScriptStep,
     lines: &[u8],
     out: &mut Tally<W>,
 ) -> Result<(), Refusal> {

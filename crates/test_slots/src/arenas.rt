@@ -25,19 +25,19 @@ fn taken(arena: &mut Arena<u32>, numbers: &[u32]) -> (u32, Option<Refusal>) {
 
 // What is done: a slot is taken for the number, or the slot is freed if it has one.
 #[derive(Clone, Copy)]
-enum Step {
+enum ArenaStep {
     Take(u32),
     Free(u32),
 }
 
 // The slot that was taken, or the number that stood in the one that was freed; None where nothing was done.
-fn done(arena: &mut Arena<u32>, step: Step) -> Option<u32> {
+fn done(arena: &mut Arena<u32>, step: ArenaStep) -> Option<u32> {
     match step {
-        Step::Take(number) => match arena.take_slot(number) {
+        ArenaStep::Take(number) => match arena.take_slot(number) {
             Ok(SlotId(slot)) => Some(slot),
             Err(_) => None,
         },
-        Step::Free(slot) => {
+        ArenaStep::Free(slot) => {
             if arena.get_if_taken(SlotId(slot)).is_none() {
                 return None;
             }
@@ -47,7 +47,7 @@ fn done(arena: &mut Arena<u32>, step: Step) -> Option<u32> {
 }
 
 // The number of the first step that gave something else than the row says.
-fn first_wrong(arena: &mut Arena<u32>, rows: &[(Step, Option<u32>)]) -> Option<usize> {
+fn first_wrong(arena: &mut Arena<u32>, rows: &[(ArenaStep, Option<u32>)]) -> Option<usize> {
     for (at, (step, wanted)) in rows.iter().enumerate() {
         if done(arena, *step) != *wanted {
             return Some(at);
@@ -60,28 +60,28 @@ fn first_wrong(arena: &mut Arena<u32>, rows: &[(Step, Option<u32>)]) -> Option<u
 #[test]
 fn freed_slots_are_taken_again(rt: HostRuntime) -> Result<(), Fail> {
     let never_full = [
-        (Step::Take(7), Some(0)),
-        (Step::Take(8), Some(1)),
-        (Step::Free(0), Some(7)),
-        (Step::Free(0), None),
-        (Step::Free(2), None),
-        (Step::Take(9), Some(0)),
-        (Step::Take(5), Some(2)),
+        (ArenaStep::Take(7), Some(0)),
+        (ArenaStep::Take(8), Some(1)),
+        (ArenaStep::Free(0), Some(7)),
+        (ArenaStep::Free(0), None),
+        (ArenaStep::Free(2), None),
+        (ArenaStep::Take(9), Some(0)),
+        (ArenaStep::Take(5), Some(2)),
     ];
     let mut arena = Arena::with_capacity(rt.alloc(), 4)?;
     assert_eq!(rt; first_wrong(&mut arena, &never_full), None);
     assert_eq!(rt; arena.is_full(), false);
     let full_with_one_freed = [
-        (Step::Take(7), Some(0)),
-        (Step::Free(0), Some(7)),
-        (Step::Take(8), Some(0)),
-        (Step::Take(9), Some(1)),
-        (Step::Take(1), None),
-        (Step::Free(1), Some(9)),
-        (Step::Free(0), Some(8)),
-        (Step::Take(2), Some(1)),
-        (Step::Take(3), Some(0)),
-        (Step::Take(4), None),
+        (ArenaStep::Take(7), Some(0)),
+        (ArenaStep::Free(0), Some(7)),
+        (ArenaStep::Take(8), Some(0)),
+        (ArenaStep::Take(9), Some(1)),
+        (ArenaStep::Take(1), None),
+        (ArenaStep::Free(1), Some(9)),
+        (ArenaStep::Free(0), Some(8)),
+        (ArenaStep::Take(2), Some(1)),
+        (ArenaStep::Take(3), Some(0)),
+        (ArenaStep::Take(4), None),
     ];
     let mut arena = Arena::with_capacity(rt.alloc(), 2)?;
     assert_eq!(rt; first_wrong(&mut arena, &full_with_one_freed), None);

@@ -7,14 +7,14 @@ use std::test::Fail;
 
 // A link for each number below its length.
 #[derive(Drop)]
-struct Row {
+struct RowOfLinks {
     links: Vec<Option<usize>>,
 }
 
 // Its one word of links.
-struct ByRow;
+struct ByRowOfLinks;
 
-impl Links<ByRow> for Row {
+impl Links<ByRowOfLinks> for RowOfLinks {
     ghost use Rattle.std.specs.Prelude.{◌<◌, ⊤, None, slice_index_or, vec_len};
 
     type Id = usize;
@@ -44,17 +44,17 @@ impl Links<ByRow> for Row {
 }
 
 // A row of links to none.
-fn unlinked(alloc: Global, len: usize) -> Result<Row, AllocError>
+fn unlinked(alloc: Global, len: usize) -> Result<RowOfLinks, AllocError>
     ensures { IfOk result (λ row. vec_len row.links ≡ len) }
 {
-    Ok(Row {
+    Ok(RowOfLinks {
         links: vec![in alloc; None; len]?,
     })
 }
 
 // What two chains over one row give: the id behind 0 of the chain 0, 2; and what is taken from the front of that chain, three
 // times, once 2 was added again.
-fn used(row: &mut Row) -> (Option<usize>, [Option<usize>; 3])
+fn used(row: &mut RowOfLinks) -> (Option<usize>, [Option<usize>; 3])
     requires { 3 ≤ vec_len row.old.links }
 {
     let mut evens = Chain::new();
@@ -80,7 +80,7 @@ fn two_chains_over_one_row(rt: HostRuntime) -> Result<(), Fail> {
 }
 
 // What stands first in a stack that 0, 1 and 2 came into: at once, once 1 has left and with it the id behind 2, and once 2 has left.
-fn stacked(row: &mut Row) -> [Option<usize>; 4]
+fn stacked(row: &mut RowOfLinks) -> [Option<usize>; 4]
     requires { 3 ≤ vec_len row.old.links }
 {
     let mut stack = Stack::new();

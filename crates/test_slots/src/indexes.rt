@@ -11,12 +11,12 @@ use std::test::Fail;
 
 // A key, and how often it was made.
 #[derive(Drop)]
-struct Row {
+struct CountRow {
     key: Key,
     count: u64,
 }
 
-impl Keyed for Row {
+impl Keyed for CountRow {
     ghost use Rattle.std.specs.Prelude.{refl};
 
     ghost key_of = { λ row. row.key };
@@ -27,9 +27,9 @@ impl Keyed for Row {
         &self.key
     }
 
-    fn blank(alloc: Global, key: &Key) -> Result<Row, AllocError> {
+    fn blank(alloc: Global, key: &Key) -> Result<CountRow, AllocError> {
         let key = key.copy(alloc)?;
-        Ok(Row { key, count: 0 })
+        Ok(CountRow { key, count: 0 })
     }
 
     ghost blank_key = { λ key. refl };
@@ -45,7 +45,7 @@ enum Ask {
 // The slot of the key, which gets a record where it has none.
 fn slot_made(
     alloc: Global,
-    arena: &mut Arena<Row>,
+    arena: &mut Arena<CountRow>,
     index: &mut Index,
     key: &Key,
 ) -> Result<SlotId, Refusal>
@@ -60,7 +60,7 @@ fn slot_made(
 }
 
 // Counts once more, and leaves the index as it is.
-fn count(arena: &mut Arena<Row>, _index: &Index, id: SlotId) -> u64
+fn count(arena: &mut Arena<CountRow>, _index: &Index, id: SlotId) -> u64
     requires taken { IsTaken arena.old.items id }
     requires index { IsIndex (λ row. row.key) arena.old _index.now }
     ensures { IsIndex (λ row. row.key) arena.new _index.now }
@@ -73,7 +73,7 @@ fn count(arena: &mut Arena<Row>, _index: &Index, id: SlotId) -> u64
 // How often the key was made since it has a record; 0 where it has none.
 fn answer(
     alloc: Global,
-    arena: &mut Arena<Row>,
+    arena: &mut Arena<CountRow>,
     index: &mut Index,
     ask: Ask,
     key: &Key,

@@ -10,15 +10,15 @@ use std::test::Fail;
 
 // How often a key was made since it has a row.
 #[derive(Drop)]
-struct Times {
+struct CountOfTimes {
     count: u64,
 }
 
-impl Blank for Times {
+impl Blank for CountOfTimes {
     ghost blank = { record { count = 0 } };
 
-    fn blank() -> Times {
-        Times { count: 0 }
+    fn blank() -> CountOfTimes {
+        CountOfTimes { count: 0 }
     }
 }
 
@@ -32,9 +32,9 @@ enum Ask {
 }
 
 // The slot of the key, which gets a row where it has none.
-fn slot_made(alloc: Global, table: &mut Table<Times>, key: &Key) -> Result<SlotId, Refusal>
+fn slot_made(alloc: Global, table: &mut Table<CountOfTimes>, key: &Key) -> Result<SlotId, Refusal>
     ensures row { IfOk result (HasRow table.new.rows) }
-    ensures changed { IfOk result (λ id. (x : Times) → with_record table.new id x ≡ with_row table.old key.now id x) }
+    ensures changed { IfOk result (λ id. (x : CountOfTimes) → with_record table.new id x ≡ with_row table.old key.now id x) }
     ensures err { OnErr result (table.new ≡ table.old) }
 {
     match table.find(key) {
@@ -44,7 +44,7 @@ fn slot_made(alloc: Global, table: &mut Table<Times>, key: &Key) -> Result<SlotI
 }
 
 // Counts the key once more; no other row changes.
-fn count(alloc: Global, table: &mut Table<Times>, key: &Key) -> Result<u64, Refusal>
+fn count(alloc: Global, table: &mut Table<CountOfTimes>, key: &Key) -> Result<u64, Refusal>
     ensures row { IfOk result (λ n. (id : ℕ) × (table.new ≡ with_row table.old key.now id (record { count = n }))) }
     ensures err { OnErr result (table.new ≡ table.old) }
 {
@@ -55,7 +55,12 @@ fn count(alloc: Global, table: &mut Table<Times>, key: &Key) -> Result<u64, Refu
 }
 
 // How often the key was made since it has a row; 0 where it has none.
-fn answer(alloc: Global, table: &mut Table<Times>, ask: Ask, key: &Key) -> Result<u64, Refusal> {
+fn answer(
+    alloc: Global,
+    table: &mut Table<CountOfTimes>,
+    ask: Ask,
+    key: &Key,
+) -> Result<u64, Refusal> {
     match ask {
         Ask::Make => count(alloc, table, key),
         Ask::Find => Ok(found(&*table, key)),
@@ -64,7 +69,7 @@ fn answer(alloc: Global, table: &mut Table<Times>, ask: Ask, key: &Key) -> Resul
     }
 }
 
-fn found(table: &Table<Times>, key: &Key) -> u64 {
+fn found(table: &Table<CountOfTimes>, key: &Key) -> u64 {
     match table.find(key) {
         Some(id) => {
             if table.key(id).is(key) {
@@ -77,14 +82,14 @@ fn found(table: &Table<Times>, key: &Key) -> u64 {
     }
 }
 
-fn removed(table: &mut Table<Times>, key: &Key) -> u64 {
+fn removed(table: &mut Table<CountOfTimes>, key: &Key) -> u64 {
     match table.find(key) {
         Some(id) => table.remove(id).count,
         None => 0,
     }
 }
 
-fn sum(table: &Table<Times>) -> u64 {
+fn sum(table: &Table<CountOfTimes>) -> u64 {
     let mut sum: u64 = 0;
     for id in 0..table.capacity() {
         if let Some((_key, times)) = table.get_if_taken(SlotId(id)) {

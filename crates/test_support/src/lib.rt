@@ -11,5 +11,5 @@ mod telling;
 pub use asks::{Ask, event_of, events_of};
 pub use chance::{drawn, drawn_value, following};
 pub use samples::{EMPTY_BASE, ONE_KEY, SIX_ENTRIES, THIRD_POINT, TWO_KEYS};
-pub use sums::{Kind, Line, Sums, kind_of};
+pub use sums::{Kind, SumLine, Sums, kind_of};
 pub use telling::tell;

@@ -46,7 +46,7 @@ pub fn kind_of(reply: &Reply) -> Kind {
 
 /// How many replies of a kind there were, and their sum.
 #[derive(Clone, Copy)]
-pub struct Line {
+pub struct SumLine {
     pub kind: Kind,
     pub count: u32,
     pub sum: u64,
@@ -60,7 +60,7 @@ pub struct Line {
 /// its key and its value, the length and the bytes, where a tombstone is 2^64 - 1 in place of a value.
 #[derive(Drop)]
 pub struct Sums {
-    lines: Vec<Line>,
+    lines: Vec<SumLine>,
     replies: u32,
     checks: u32,
     right: u32,
@@ -124,8 +124,8 @@ fn with_reply(sum: u64, reply: &Reply) -> u64 {
     }
 }
 
-fn empty(kind: Kind) -> Line {
-    Line {
+fn empty(kind: Kind) -> SumLine {
+    SumLine {
         kind,
         count: 0,
         sum: START,
@@ -133,8 +133,8 @@ fn empty(kind: Kind) -> Line {
 }
 
 // The line after one more reply, which is of this number.
-fn longer(line: Line, number: u64, reply: &Reply) -> Line {
-    Line {
+fn longer(line: SumLine, number: u64, reply: &Reply) -> SumLine {
+    SumLine {
         kind: line.kind,
         count: line.count.wrapping_add(1),
         sum: with_reply(with_item(line.sum, number), reply),
@@ -142,7 +142,7 @@ fn longer(line: Line, number: u64, reply: &Reply) -> Line {
 }
 
 // Where the kind has its line.
-fn place_of(lines: &[Line], kind: Kind) -> Option<usize> {
+fn place_of(lines: &[SumLine], kind: Kind) -> Option<usize> {
     lines.iter().position(|line| line.kind == kind)
 }
 
@@ -182,7 +182,7 @@ impl Sums {
     }
 
     /// A line for each kind that came, in the order in which they first came.
-    pub fn lines(&self) -> &[Line] {
+    pub fn lines(&self) -> &[SumLine] {
         &self.lines
     }
 

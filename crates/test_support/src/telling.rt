@@ -1,6 +1,6 @@
 //! What is printed of a run: how many replies there were, a line for each kind of reply, and the checks.
 
-use crate::sums::{Kind, Line, Sums};
+use crate::sums::{Kind, SumLine, Sums};
 use pc_types::Phase;
 use std::io;
 
@@ -16,7 +16,7 @@ pub fn tell(rt: &impl Print, name: &str, sums: &Sums) -> io::Result<()> {
     println!(rt; "checks {checks} right {right}")
 }
 
-fn tell_line(rt: &impl Print, line: &Line) -> io::Result<()> {
+fn tell_line(rt: &impl Print, line: &SumLine) -> io::Result<()> {
     match line.kind {
         Kind::Phase(phase) => print!(rt; "phase {}", phase_name(phase))?,
         Kind::Refused(refusal) => print!(rt; "refused {}", refusal.name())?,

@@ -1,24 +1,24 @@
 //! The gate at which threads stand until others have come to their places.
-use crate::signs::{Counts, Sign, sign_of};
-use pc_types::{Gate, Place};
+use crate::signs::{Sign, SignCounts, sign_of};
+use pc_types::{Gate, GatePlace};
 use std::sync::atomic::{AtomicU64, Ordering};
 use std::thread;
 
 /// The so-manyth time that somebody comes to a place.
 #[derive(Clone, Copy)]
-pub struct Visit(pub Sign, pub u64);
+pub struct SignVisit(pub Sign, pub u64);
 
 /// Who makes the first visit stands there until the second was made.
 #[derive(Clone, Copy)]
-pub struct Stop(pub Visit, pub Visit);
+pub struct Stop(pub SignVisit, pub SignVisit);
 
 /// A gate with stops, and visits that are made only while nobody stands at it. At each place it lets other threads go first, so
 /// that their ways mix.
 #[derive(Drop)]
 pub struct Meeting {
     stops: &'static [Stop],
-    alone: &'static [Visit],
-    counts: Counts,
+    alone: &'static [SignVisit],
+    counts: SignCounts,
     standing: AtomicU64,
     missed: AtomicU64,
 }
@@ -31,11 +31,11 @@ const MORE_TURNS: u32 = 1000;
 
 impl Meeting {
     /// Nobody has come yet.
-    pub fn new(stops: &'static [Stop], alone: &'static [Visit]) -> Meeting {
+    pub fn new(stops: &'static [Stop], alone: &'static [SignVisit]) -> Meeting {
         Meeting {
             stops,
             alone,
-            counts: Counts::new(),
+            counts: SignCounts::new(),
             standing: AtomicU64::new(0),
             missed: AtomicU64::new(0),
         }
@@ -59,14 +59,14 @@ impl Meeting {
 
     // Stands where the stop is at this sign and time.
     fn stop(&self, stop: &Stop, sign: Sign, time: u64) {
-        let Stop(Visit(at, which), theirs) = *stop;
+        let Stop(SignVisit(at, which), theirs) = *stop;
         if at == sign && which == time {
             self.stand(theirs);
         }
     }
 
     // Stands until the visit was made, and some turns more; where it isn't made it goes on, and the meeting has failed.
-    fn stand(&self, theirs: Visit) {
+    fn stand(&self, theirs: SignVisit) {
         self.standing.fetch_add(1, Ordering::SeqCst);
         if !self.is_made(theirs) {
             self.missed.store(1, Ordering::SeqCst);
@@ -78,7 +78,7 @@ impl Meeting {
     }
 
     // Whether the visit was made after some turns.
-    fn is_made(&self, visit: Visit) -> bool {
+    fn is_made(&self, visit: SignVisit) -> bool {
         for _ in 0..TURNS {
             if self.counts.get(visit.0) >= visit.1 {
                 return true;
@@ -89,8 +89,8 @@ impl Meeting {
     }
 
     // Where this is a visit that is made while nobody stands, and somebody does, the meeting has failed.
-    fn be_alone(&self, visit: &Visit, sign: Sign, time: u64) {
-        let Visit(at, which) = *visit;
+    fn be_alone(&self, visit: &SignVisit, sign: Sign, time: u64) {
+        let SignVisit(at, which) = *visit;
         if at == sign && which == time && self.standing.load(Ordering::SeqCst) > 0 {
             self.missed.store(1, Ordering::SeqCst);
         }
@@ -98,7 +98,7 @@ impl Meeting {
 }
 
 impl Gate for Meeting {
-    fn pass(&self, place: Place) {
+    fn pass(&self, place: GatePlace) {
         thread::yield_now();
         if let Some(sign) = sign_of(place) {
             self.come(sign);

@@ -19,12 +19,12 @@ pub enum Work {
     /// Of each session its transactions.
     Listed(&'static [&'static [Asks]]),
     /// So many sessions, so many transactions each, as they are made.
-    Made(u8, u16, Made),
+    Made(u8, u16, MadeJobs),
 }
 
 /// How transactions are made.
 #[derive(Clone, Copy)]
-pub enum Made {
+pub enum MadeJobs {
     /// One put of a key that no other transaction has.
     Apart,
     /// A read and two puts of three of ten keys, in an order that is the transaction's own.
@@ -79,7 +79,12 @@ fn listed(alloc: Global, sessions: &[&[Asks]]) -> Result<Vec<Vec<Job>>, Refusal>
     Ok(all)
 }
 
-fn all_made(alloc: Global, sessions: u8, count: u16, made: Made) -> Result<Vec<Vec<Job>>, Refusal> {
+fn all_made(
+    alloc: Global,
+    sessions: u8,
+    count: u16,
+    made: MadeJobs,
+) -> Result<Vec<Vec<Job>>, Refusal> {
     let mut all = Vec::new(alloc);
     for session in 0..sessions {
         all.push(made_by(alloc, session, count, made)?)?;
@@ -87,12 +92,12 @@ fn all_made(alloc: Global, sessions: u8, count: u16, made: Made) -> Result<Vec<V
     Ok(all)
 }
 
-fn made_by(alloc: Global, session: u8, count: u16, made: Made) -> Result<Vec<Job>, Refusal> {
+fn made_by(alloc: Global, session: u8, count: u16, made: MadeJobs) -> Result<Vec<Job>, Refusal> {
     let mut jobs = Vec::new(alloc);
     for number in 0..count {
         jobs.push(match made {
-            Made::Apart => job_apart(alloc, session, number)?,
-            Made::Crowded => job_in_crowd(alloc, session, number)?,
+            MadeJobs::Apart => job_apart(alloc, session, number)?,
+            MadeJobs::Crowded => job_in_crowd(alloc, session, number)?,
         })?;
     }
     Ok(jobs)

@@ -5,7 +5,7 @@ ghost use Rattle.pc_model.specs.History.{phase_of};
 ghost use Rattle.pc_board.specs.Passes.{IsOfBoard};
 
 use crate::audits::{right_files, take_parts};
-use crate::gate::{Meeting, Stop, Visit};
+use crate::gate::{Meeting, SignVisit, Stop};
 use crate::jobs::Work;
 use crate::receipts::{are_exact, count_of, reads_of};
 use crate::signs::Sign;
@@ -34,7 +34,7 @@ pub struct Plan {
     pub lag: Option<u32>,
     pub stops: &'static [Stop],
     /// The visits that are made while nobody stands.
-    pub alone: &'static [Visit],
+    pub alone: &'static [SignVisit],
 }
 
 /// What the threads leave.
@@ -80,7 +80,7 @@ struct Done {
 
 // What the threads have, beside what is their own.
 #[derive(Clone, Copy)]
-struct Room<'a, N: StoreName> {
+struct MeetingRoom<'a, N: StoreName> {
     alloc: Global,
     shared: &'a Shared<N>,
     plan: &'a Plan,
@@ -106,7 +106,7 @@ impl Done {
 // The jobs of the session at this place.
 fn run_client<N: StoreName, R: Wait>(
     rt: &R,
-    room: &Room<N>,
+    room: &MeetingRoom<N>,
     place: usize,
     session: &mut Session<N>,
 ) {
@@ -131,7 +131,7 @@ const MOST_THREADS: usize = 64;
 // All clients, each on a thread of its own.
 fn run_clients<N: StoreName + Send + Sync, R: Threads + Wait + Sync>(
     rt: &R,
-    room: &Room<N>,
+    room: &MeetingRoom<N>,
     sessions: &mut [Session<N>],
 ) {
     thread::for_each_mut(
@@ -144,7 +144,7 @@ fn run_clients<N: StoreName + Send + Sync, R: Threads + Wait + Sync>(
 
 // The end is marked, by which a collapser that waits for more points than there are is to be woken. Where he sleeps on, a change of
 // the phase wakes him, so that the program comes to its end.
-fn end<N: StoreName, R: Wait>(rt: &R, room: &Room<N>, seat: &mut CheckpointerSeat<N>) {
+fn end<N: StoreName, R: Wait>(rt: &R, room: &MeetingRoom<N>, seat: &mut CheckpointerSeat<N>) {
     let mut witness = room.shared.witness(rt);
     let _marked = room.shared.mark_end(rt, &mut witness);
     room.gate.come(Sign::EndIsMarked);
@@ -158,7 +158,7 @@ fn end<N: StoreName, R: Wait>(rt: &R, room: &Room<N>, seat: &mut CheckpointerSea
 // The clients and the checkpointer; once they are through, the end is marked.
 fn run_to_the_end<N: StoreName + Send + Sync, R: Threads + Wait + Sync>(
     rt: &R,
-    room: &Room<N>,
+    room: &MeetingRoom<N>,
     board: &Board,
     pass: &mut BoardPass,
     seat: &mut CheckpointerSeat<N>,
@@ -182,7 +182,7 @@ fn run_to_the_end<N: StoreName + Send + Sync, R: Threads + Wait + Sync>(
 // The collapser, where the plan has one, and the tickets that it is left with.
 fn collapse<N: StoreName, R: Wait>(
     rt: &R,
-    room: &Room<N>,
+    room: &MeetingRoom<N>,
     board: &Board,
     pass: &mut BoardPass,
 ) -> Result<Vec<PartTicket<N>>, Refusal>
@@ -210,7 +210,7 @@ fn collapse<N: StoreName, R: Wait>(
 // The logger; the number of the last entry that it was handed.
 fn log<N: StoreName, R: Wait>(
     rt: &R,
-    room: &Room<N>,
+    room: &MeetingRoom<N>,
     text: &mut Tally<Vec<u8>>,
     pass: &mut LogPass<N>,
 ) -> Result<Lsn, Refusal>
@@ -225,7 +225,7 @@ fn log<N: StoreName, R: Wait>(
 // The logger, and beside it the collapser.
 fn log_beside_collapser<N: StoreName + Send + Sync, R: Threads + Wait + Sync>(
     rt: &R,
-    room: &Room<N>,
+    room: &MeetingRoom<N>,
     board: &Board,
     theirs: &mut BoardPass,
     text: &mut Tally<Vec<u8>>,
@@ -250,7 +250,7 @@ fn log_beside_collapser<N: StoreName + Send + Sync, R: Threads + Wait + Sync>(
 // All of them on the board. The tickets are the collapser's.
 fn run_on<N: StoreName + Send + Sync, R: Threads + Wait + Sync>(
     rt: &R,
-    room: &Room<N>,
+    room: &MeetingRoom<N>,
     board: &Board,
     ours: &mut BoardPass,
     theirs: &mut BoardPass,
@@ -280,7 +280,7 @@ fn run_on<N: StoreName + Send + Sync, R: Threads + Wait + Sync>(
 // All of them. Then the other tickets are taken.
 fn run_all<N: StoreName + Send + Sync, R: Threads + Wait + Sync>(
     rt: &R,
-    room: &Room<N>,
+    room: &MeetingRoom<N>,
     text: &mut Tally<Vec<u8>>,
     pass: &mut LogPass<N>,
     seat: &mut CheckpointerSeat<N>,
@@ -323,7 +323,7 @@ pub fn meet<N: StoreName + Send + Sync, R: Threads + Wait + Sync>(
     let done = Done::new();
     let mut text = Tally::new(Vec::new(alloc));
     let (shared, mut sessions, mut seat, mut pass) = opened.named::<N>()?;
-    let room = Room {
+    let room = MeetingRoom {
         alloc,
         shared: &shared,
         plan,

@@ -1,6 +1,6 @@
 //! The meetings.
-use crate::gate::{Stop, Visit};
-use crate::jobs::{Ask, Asks, Made, Work};
+use crate::gate::{SignVisit, Stop};
+use crate::jobs::{Ask, Asks, MadeJobs, Work};
 use crate::meeting::Plan;
 use crate::signs::Sign;
 
@@ -16,11 +16,23 @@ const BESIDE_A_POINT: Plan = Plan {
     ]),
     lag: None,
     stops: &[
-        Stop(Visit(Sign::PrepareIsDue, 1), Visit(Sign::SecondCommits, 1)),
-        Stop(Visit(Sign::FirstStarts, 1), Visit(Sign::EntersResolve, 1)),
-        Stop(Visit(Sign::SecondStarts, 2), Visit(Sign::FirstSteps, 1)),
-        Stop(Visit(Sign::FirstSteps, 1), Visit(Sign::SecondCommits, 2)),
-        Stop(Visit(Sign::FirstSteps, 1), Visit(Sign::Takes, 1)),
+        Stop(
+            SignVisit(Sign::PrepareIsDue, 1),
+            SignVisit(Sign::SecondCommits, 1),
+        ),
+        Stop(
+            SignVisit(Sign::FirstStarts, 1),
+            SignVisit(Sign::EntersResolve, 1),
+        ),
+        Stop(
+            SignVisit(Sign::SecondStarts, 2),
+            SignVisit(Sign::FirstSteps, 1),
+        ),
+        Stop(
+            SignVisit(Sign::FirstSteps, 1),
+            SignVisit(Sign::SecondCommits, 2),
+        ),
+        Stop(SignVisit(Sign::FirstSteps, 1), SignVisit(Sign::Takes, 1)),
     ],
     alone: &[],
 };
@@ -34,8 +46,11 @@ const COLLAPSE_BESIDE: Plan = Plan {
     work: Work::Listed(&[&[&[Ask::Put(b'a', 1)]]]),
     lag: None,
     stops: &[
-        Stop(Visit(Sign::FirstStarts, 1), Visit(Sign::EntersResolve, 3)),
-        Stop(Visit(Sign::FirstSteps, 1), Visit(Sign::Pairs, 1)),
+        Stop(
+            SignVisit(Sign::FirstStarts, 1),
+            SignVisit(Sign::EntersResolve, 3),
+        ),
+        Stop(SignVisit(Sign::FirstSteps, 1), SignVisit(Sign::Pairs, 1)),
     ],
     alone: &[],
 };
@@ -49,8 +64,14 @@ const END_WAKES: Plan = Plan {
     work: Work::Listed(&[&SIXTY]),
     lag: None,
     stops: &[
-        Stop(Visit(Sign::FirstStarts, 1), Visit(Sign::EntersRest, 1)),
-        Stop(Visit(Sign::EndIsMarked, 1), Visit(Sign::CollapserEnds, 1)),
+        Stop(
+            SignVisit(Sign::FirstStarts, 1),
+            SignVisit(Sign::EntersRest, 1),
+        ),
+        Stop(
+            SignVisit(Sign::EndIsMarked, 1),
+            SignVisit(Sign::CollapserEnds, 1),
+        ),
     ],
     alone: &[],
 };
@@ -62,7 +83,10 @@ const READ_BACK: Plan = Plan {
     joins: 0,
     work: Work::Listed(&[&[&[Ask::Get(b'k')]], &[&[Ask::Put(b'k', 1)]]]),
     lag: None,
-    stops: &[Stop(Visit(Sign::FirstStarts, 1), Visit(Sign::SecondCommits, 1))],
+    stops: &[Stop(
+        SignVisit(Sign::FirstStarts, 1),
+        SignVisit(Sign::SecondCommits, 1),
+    )],
     alone: &[],
 };
 
@@ -74,8 +98,14 @@ const SESSIONS_MEET: Plan = Plan {
     work: Work::Listed(&[&[&[Ask::Put(b'a', 1)]], &[&[Ask::Put(b'b', 1)]]]),
     lag: None,
     stops: &[
-        Stop(Visit(Sign::FirstSteps, 1), Visit(Sign::SecondSteps, 1)),
-        Stop(Visit(Sign::SecondSteps, 1), Visit(Sign::FirstSteps, 1)),
+        Stop(
+            SignVisit(Sign::FirstSteps, 1),
+            SignVisit(Sign::SecondSteps, 1),
+        ),
+        Stop(
+            SignVisit(Sign::SecondSteps, 1),
+            SignVisit(Sign::FirstSteps, 1),
+        ),
     ],
     alone: &[],
 };
@@ -92,9 +122,18 @@ const YOUNGER_DIES: Plan = Plan {
     ]),
     lag: None,
     stops: &[
-        Stop(Visit(Sign::SecondStarts, 1), Visit(Sign::FirstSteps, 1)),
-        Stop(Visit(Sign::FirstSteps, 1), Visit(Sign::SecondStarts, 2)),
-        Stop(Visit(Sign::SecondStarts, 2), Visit(Sign::FirstCommits, 1)),
+        Stop(
+            SignVisit(Sign::SecondStarts, 1),
+            SignVisit(Sign::FirstSteps, 1),
+        ),
+        Stop(
+            SignVisit(Sign::FirstSteps, 1),
+            SignVisit(Sign::SecondStarts, 2),
+        ),
+        Stop(
+            SignVisit(Sign::SecondStarts, 2),
+            SignVisit(Sign::FirstCommits, 1),
+        ),
     ],
     alone: &[],
 };
@@ -118,10 +157,22 @@ const OLDER_WAITS: Plan = Plan {
     ]),
     lag: None,
     stops: &[
-        Stop(Visit(Sign::SecondStarts, 1), Visit(Sign::FirstSteps, 1)),
-        Stop(Visit(Sign::FirstSteps, 1), Visit(Sign::SecondSteps, 1)),
-        Stop(Visit(Sign::ThirdStarts, 1), Visit(Sign::SecondSteps, 1)),
-        Stop(Visit(Sign::SecondSteps, 1), Visit(Sign::ThirdCommits, 60)),
+        Stop(
+            SignVisit(Sign::SecondStarts, 1),
+            SignVisit(Sign::FirstSteps, 1),
+        ),
+        Stop(
+            SignVisit(Sign::FirstSteps, 1),
+            SignVisit(Sign::SecondSteps, 1),
+        ),
+        Stop(
+            SignVisit(Sign::ThirdStarts, 1),
+            SignVisit(Sign::SecondSteps, 1),
+        ),
+        Stop(
+            SignVisit(Sign::SecondSteps, 1),
+            SignVisit(Sign::ThirdCommits, 60),
+        ),
     ],
     alone: &[],
 };
@@ -140,12 +191,30 @@ const ABORT_WAKES: Plan = Plan {
     ]),
     lag: None,
     stops: &[
-        Stop(Visit(Sign::SecondStarts, 1), Visit(Sign::FirstSteps, 1)),
-        Stop(Visit(Sign::FirstSteps, 1), Visit(Sign::SecondSteps, 1)),
-        Stop(Visit(Sign::ThirdStarts, 1), Visit(Sign::SecondSteps, 1)),
-        Stop(Visit(Sign::SecondSteps, 1), Visit(Sign::ThirdCommits, 60)),
-        Stop(Visit(Sign::SecondStarts, 2), Visit(Sign::FirstCommits, 1)),
-        Stop(Visit(Sign::ThirdStarts, 61), Visit(Sign::FirstCommits, 1)),
+        Stop(
+            SignVisit(Sign::SecondStarts, 1),
+            SignVisit(Sign::FirstSteps, 1),
+        ),
+        Stop(
+            SignVisit(Sign::FirstSteps, 1),
+            SignVisit(Sign::SecondSteps, 1),
+        ),
+        Stop(
+            SignVisit(Sign::ThirdStarts, 1),
+            SignVisit(Sign::SecondSteps, 1),
+        ),
+        Stop(
+            SignVisit(Sign::SecondSteps, 1),
+            SignVisit(Sign::ThirdCommits, 60),
+        ),
+        Stop(
+            SignVisit(Sign::SecondStarts, 2),
+            SignVisit(Sign::FirstCommits, 1),
+        ),
+        Stop(
+            SignVisit(Sign::ThirdStarts, 61),
+            SignVisit(Sign::FirstCommits, 1),
+        ),
     ],
     alone: &[],
 };
@@ -155,7 +224,7 @@ const APART: Plan = Plan {
     sessions: 4,
     points: 0,
     joins: 0,
-    work: Work::Made(4, 1000, Made::Apart),
+    work: Work::Made(4, 1000, MadeJobs::Apart),
     lag: None,
     stops: &[],
     alone: &[],
@@ -166,7 +235,7 @@ const CROWD: Plan = Plan {
     sessions: 64,
     points: 8,
     joins: 0,
-    work: Work::Made(64, 2, Made::Crowded),
+    work: Work::Made(64, 2, MadeJobs::Crowded),
     lag: None,
     stops: &[],
     alone: &[],
@@ -185,10 +254,10 @@ const LOG_HOLDS: Plan = Plan {
     ]]),
     lag: Some(1),
     stops: &[Stop(
-        Visit(Sign::LoggerIsToWrite, 1),
-        Visit(Sign::FirstIsBehind, 1),
+        SignVisit(Sign::LoggerIsToWrite, 1),
+        SignVisit(Sign::FirstIsBehind, 1),
     )],
-    alone: &[Visit(Sign::FirstCommits, 2)],
+    alone: &[SignVisit(Sign::FirstCommits, 2)],
 };
 
 /// All of them, with their names.

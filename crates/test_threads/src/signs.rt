@@ -1,5 +1,5 @@
 //! What threads have passed of each other's ways.
-use pc_types::{Phase, Place, SessionNo};
+use pc_types::{GatePlace, Phase, SessionNo};
 use std::sync::atomic::{AtomicU64, Ordering};
 
 /// A place that is counted: of sessions 1 and 2 the beginnings of transactions, their first operations and their commits; of
@@ -28,38 +28,38 @@ pub enum Sign {
 }
 
 /// The sign of the place, where it is counted.
-pub fn sign_of(place: Place) -> Option<Sign> {
+pub fn sign_of(place: GatePlace) -> Option<Sign> {
     match place {
-        Place::Start(SessionNo(1)) => Some(Sign::FirstStarts),
-        Place::Start(SessionNo(2)) => Some(Sign::SecondStarts),
-        Place::Start(SessionNo(3)) => Some(Sign::ThirdStarts),
-        Place::Step(SessionNo(1), 1) => Some(Sign::FirstSteps),
-        Place::Step(SessionNo(2), 1) => Some(Sign::SecondSteps),
-        Place::Committed(SessionNo(1)) => Some(Sign::FirstCommits),
-        Place::Committed(SessionNo(2)) => Some(Sign::SecondCommits),
-        Place::Committed(SessionNo(3)) => Some(Sign::ThirdCommits),
-        Place::Behind(SessionNo(1)) => Some(Sign::FirstIsBehind),
-        Place::Writing(_) => Some(Sign::LoggerIsToWrite),
-        Place::Due(Phase::Prepare) => Some(Sign::PrepareIsDue),
-        Place::Entered(Phase::Resolve) => Some(Sign::EntersResolve),
-        Place::Entered(Phase::Complete) => Some(Sign::EntersComplete),
-        Place::Entered(Phase::Rest) => Some(Sign::EntersRest),
-        Place::Took => Some(Sign::Takes),
-        Place::Pair(0) => Some(Sign::Pairs),
+        GatePlace::Start(SessionNo(1)) => Some(Sign::FirstStarts),
+        GatePlace::Start(SessionNo(2)) => Some(Sign::SecondStarts),
+        GatePlace::Start(SessionNo(3)) => Some(Sign::ThirdStarts),
+        GatePlace::Step(SessionNo(1), 1) => Some(Sign::FirstSteps),
+        GatePlace::Step(SessionNo(2), 1) => Some(Sign::SecondSteps),
+        GatePlace::Committed(SessionNo(1)) => Some(Sign::FirstCommits),
+        GatePlace::Committed(SessionNo(2)) => Some(Sign::SecondCommits),
+        GatePlace::Committed(SessionNo(3)) => Some(Sign::ThirdCommits),
+        GatePlace::Behind(SessionNo(1)) => Some(Sign::FirstIsBehind),
+        GatePlace::Writing(_) => Some(Sign::LoggerIsToWrite),
+        GatePlace::Due(Phase::Prepare) => Some(Sign::PrepareIsDue),
+        GatePlace::Entered(Phase::Resolve) => Some(Sign::EntersResolve),
+        GatePlace::Entered(Phase::Complete) => Some(Sign::EntersComplete),
+        GatePlace::Entered(Phase::Rest) => Some(Sign::EntersRest),
+        GatePlace::Took => Some(Sign::Takes),
+        GatePlace::Pair(0) => Some(Sign::Pairs),
         _ => None,
     }
 }
 
 /// How often each was passed.
 #[derive(Drop)]
-pub struct Counts {
+pub struct SignCounts {
     counts: [AtomicU64; 18],
 }
 
-impl Counts {
+impl SignCounts {
     /// Nothing was passed.
-    pub fn new() -> Counts {
-        Counts {
+    pub fn new() -> SignCounts {
+        SignCounts {
             counts: [
                 AtomicU64::new(0),
                 AtomicU64::new(0),

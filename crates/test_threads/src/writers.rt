@@ -6,7 +6,7 @@ ghost use Rattle.pc_board.specs.Passes.{IsOfBoard};
 
 use pc_board::{Board, BoardPass};
 use pc_jobs::{Job, Op};
-use pc_shared::{Answer, CheckpointerSeat, PartTicket, Session, Shared};
+use pc_shared::{CallAnswer, CheckpointerSeat, PartTicket, Session, Shared};
 use pc_tie::StoreName;
 use pc_types::{Items, Key, OpenGate, Refusal, Value};
 use pc_workers::{Count, checkpoint_loop, client_loop, collapse_loop};
@@ -48,8 +48,8 @@ pub fn commit_one<N: StoreName, R: Wait>(
 }
 
 // The byte that follows the one that was found, or 0.
-fn next_byte<N: StoreName>(session: &Session<N>, answer: Answer) -> u8 {
-    if answer != Answer::Found {
+fn next_byte<N: StoreName>(session: &Session<N>, answer: CallAnswer) -> u8 {
+    if answer != CallAnswer::Found {
         return 0;
     }
     match session.found() {

@@ -5,7 +5,7 @@ use pc_collapse::{
     collapse_bag, collapse_bag_owned, collapse_rounds, collapse_rounds_owned, fold, fold_owned,
 };
 use pc_part::Part;
-use pc_types::{Gate, OpenGate, Place, Refusal, Tally};
+use pc_types::{Gate, GatePlace, OpenGate, Refusal, Tally};
 use std::alloc::{AllocError, Global};
 use std::sync::Wait;
 use std::sync::atomic::{AtomicU64, Ordering};
@@ -87,28 +87,28 @@ fn text_of(part: &Part, alloc: Global) -> Result<Vec<u8>, Refusal> {
 
 // How parts are joined.
 #[derive(Clone, Copy, Debug)]
-enum Call {
+enum CollapseWay {
     Fold,
     Rounds,
     Bag,
 }
 
-const CALLS: [Call; 3] = [Call::Fold, Call::Rounds, Call::Bag];
+const CALLS: [CollapseWay; 3] = [CollapseWay::Fold, CollapseWay::Rounds, CollapseWay::Bag];
 
 // The join of parts that stay.
 fn join_lent<R: Threads + Wait + Sync>(
     rt: &R,
     alloc: Global,
-    call: Call,
+    call: CollapseWay,
     parts: &[Part],
     workers: u8,
 ) -> Result<Part, Refusal>
     requires { (1 ≤ workers) × (workers ≤ 64) }
 {
     match call {
-        Call::Fold => fold(alloc, parts),
-        Call::Rounds => collapse_rounds(rt, alloc, parts, workers, &OpenGate),
-        Call::Bag => collapse_bag(rt, alloc, parts, workers, &OpenGate),
+        CollapseWay::Fold => fold(alloc, parts),
+        CollapseWay::Rounds => collapse_rounds(rt, alloc, parts, workers, &OpenGate),
+        CollapseWay::Bag => collapse_bag(rt, alloc, parts, workers, &OpenGate),
     }
 }
 
@@ -116,16 +116,16 @@ fn join_lent<R: Threads + Wait + Sync>(
 fn join_owned<R: Threads + Wait + Sync>(
     rt: &R,
     alloc: Global,
-    call: Call,
+    call: CollapseWay,
     parts: Vec<Part>,
     workers: u8,
 ) -> Result<Part, Refusal>
     requires { (1 ≤ workers) × (workers ≤ 64) }
 {
     match call {
-        Call::Fold => fold_owned(alloc, parts),
-        Call::Rounds => collapse_rounds_owned(rt, alloc, parts, workers, &OpenGate),
-        Call::Bag => collapse_bag_owned(rt, alloc, parts, workers, &OpenGate),
+        CollapseWay::Fold => fold_owned(alloc, parts),
+        CollapseWay::Rounds => collapse_rounds_owned(rt, alloc, parts, workers, &OpenGate),
+        CollapseWay::Bag => collapse_bag_owned(rt, alloc, parts, workers, &OpenGate),
     }
 }
 
@@ -133,7 +133,7 @@ fn join_owned<R: Threads + Wait + Sync>(
 fn gives<R: Threads + Wait + Sync>(
     rt: &R,
     alloc: Global,
-    call: Call,
+    call: CollapseWay,
     workers: u8,
     text: &[u8],
 ) -> Result<bool, Refusal>
@@ -174,8 +174,8 @@ struct Meeting {
 const TURNS: u32 = 10_000_000;
 
 impl Gate for Meeting {
-    fn pass(&self, place: Place) {
-        let Place::Pair(number) = place else {
+    fn pass(&self, place: GatePlace) {
+        let GatePlace::Pair(number) = place else {
             return;
         };
         let (own, other) = if number == 0 {
@@ -245,7 +245,7 @@ const REFUSED: [(&[(u64, u32, u8)], Option<Refusal>); 6] = [
 fn refusals<R: Threads + Wait + Sync>(
     rt: &R,
     alloc: Global,
-    call: Call,
+    call: CollapseWay,
     cases: &[(u64, u32, u8)],
 ) -> Result<(Option<Refusal>, Option<Refusal>), Refusal> {
     let mut parts = Vec::new(alloc);

@@ -1,10 +1,10 @@
 //! Tests of the two sets: worked rows, and a walk beside plain lists, over a row of links.
 ghost use Rattle.std.specs.Prelude.{◌≡◌, ◌≢◌, ◌<◌, ◌≤◌, IfOk, OnOk, IsTrue, length};
 ghost use Rattle.pc_chain.specs.Chains.{Avoids};
-ghost use Rattle.pc_chain.specs.declared.side.Place.{Place};
+ghost use Rattle.pc_chain.specs.declared.side.SideSlot.{SideSlot};
 ghost use Rattle.test_units.specs.Rows.{link_at, has_links, AreKept};
 
-use pc_chain::{Dirty, Links, Place, Side};
+use pc_chain::{Dirty, Links, Side, SideSlot};
 use pc_types::SlotId;
 use std::alloc::{AllocError, Global};
 use std::test::Fail;
@@ -12,20 +12,20 @@ use test_support::{drawn, following};
 
 // Two links for each number below a length.
 #[derive(Drop)]
-struct Row {
-    first: Vec<Option<Place>>,
-    second: Vec<Option<Place>>,
+struct RowOfPlaces {
+    first: Vec<Option<SideSlot>>,
+    second: Vec<Option<SideSlot>>,
 }
 
 // Its two words of links.
 struct BySide;
 
-impl Links<BySide> for Row {
+impl Links<BySide> for RowOfPlaces {
     ghost use Rattle.std.specs.Prelude.{◌≡◌, ◌≢◌, ⊤};
-    ghost use Rattle.pc_chain.specs.declared.side.Place.{Place};
+    ghost use Rattle.pc_chain.specs.declared.side.SideSlot.{SideSlot};
     ghost use Rattle.test_units.specs.Rows.{link_at, has_links};
 
-    type Id = Place;
+    type Id = SideSlot;
 
     ghost has = { λ row place. has_links row.first.items row.second.items place };
 
@@ -33,18 +33,18 @@ impl Links<BySide> for Row {
 
     ghost beside = { λ a b. ⊤ };
 
-    fn next(&self, id: Place) -> Option<Place> {
+    fn next(&self, id: SideSlot) -> Option<SideSlot> {
         match id.side {
             Side::First => self.first[id.slot.0 as usize],
             Side::Second => self.second[id.slot.0 as usize],
         }
     }
 
-    fn set_next(&mut self, id: Place, next: Option<Place>)
+    fn set_next(&mut self, id: SideSlot, next: Option<SideSlot>)
         requires { has_links self.old.first.items self.old.second.items id }
         ensures set { link_at self.new.first.items self.new.second.items id ≡ next }
-        ensures others { (other : Place) → other ≢ id → link_at self.new.first.items self.new.second.items other ≡ link_at self.old.first.items self.old.second.items other }
-        ensures has { (other : Place) → has_links self.old.first.items self.old.second.items other → has_links self.new.first.items self.new.second.items other }
+        ensures others { (other : SideSlot) → other ≢ id → link_at self.new.first.items self.new.second.items other ≡ link_at self.old.first.items self.old.second.items other }
+        ensures has { (other : SideSlot) → has_links self.old.first.items self.old.second.items other → has_links self.new.first.items self.new.second.items other }
     {
         match id.side {
             Side::First => self.first[id.slot.0 as usize] = next,
@@ -58,10 +58,10 @@ impl Links<BySide> for Row {
 }
 
 // A row of links to none.
-fn unlinked(alloc: Global, len: usize) -> Result<Row, AllocError>
+fn unlinked(alloc: Global, len: usize) -> Result<RowOfPlaces, AllocError>
     ensures { IfOk result (λ row. (length row.first.items ≡ len) × (length row.second.items ≡ len)) }
 {
-    Ok(Row {
+    Ok(RowOfPlaces {
         first: vec![in alloc; None; len]?,
         second: vec![in alloc; None; len]?,
     })
@@ -69,17 +69,17 @@ fn unlinked(alloc: Global, len: usize) -> Result<Row, AllocError>
 
 // The sets, the links of twelve slots, and which slots the open set has.
 #[derive(Drop)]
-struct Kept {
-    row: Row,
+struct KeptSets {
+    row: RowOfPlaces,
     sets: Dirty,
     opened: Vec<u32>,
 }
 
 // Two empty sets.
-fn nothing_kept(alloc: Global) -> Result<Kept, AllocError>
+fn nothing_kept(alloc: Global) -> Result<KeptSets, AllocError>
     ensures { IfOk result (λ kept. AreKept kept.row.first.items kept.row.second.items kept.sets kept.opened.items) }
 {
-    Ok(Kept {
+    Ok(KeptSets {
         row: unlinked(alloc, 12)?,
         sets: Dirty::new(),
         opened: Vec::new(alloc),
@@ -124,7 +124,7 @@ fn is_new(opened: &[u32], slot: u32) -> bool
     slot < 12 && opened.len() < 12 && !opened.contains(&slot)
 }
 
-fn added(kept: &mut Kept, slot: u32) -> Result<Told, AllocError>
+fn added(kept: &mut KeptSets, slot: u32) -> Result<Told, AllocError>
     requires { AreKept kept.old.row.first.items kept.old.row.second.items kept.old.sets kept.old.opened.items }
     ensures { OnOk result (AreKept kept.new.row.first.items kept.new.row.second.items kept.new.sets kept.new.opened.items) }
 {
@@ -136,7 +136,7 @@ fn added(kept: &mut Kept, slot: u32) -> Result<Told, AllocError>
     Ok(Done)
 }
 
-fn closed(kept: &mut Kept) -> Told
+fn closed(kept: &mut KeptSets) -> Told
     requires { AreKept kept.old.row.first.items kept.old.row.second.items kept.old.sets kept.old.opened.items }
     ensures { AreKept kept.new.row.first.items kept.new.row.second.items kept.new.sets kept.new.opened.items }
 {
@@ -148,14 +148,14 @@ fn closed(kept: &mut Kept) -> Told
     Done
 }
 
-fn popped(kept: &mut Kept) -> Told
+fn popped(kept: &mut KeptSets) -> Told
     requires { AreKept kept.old.row.first.items kept.old.row.second.items kept.old.sets kept.old.opened.items }
     ensures { AreKept kept.new.row.first.items kept.new.row.second.items kept.new.sets kept.new.opened.items }
 {
     slot_of(kept.sets.pop_closed(&kept.row))
 }
 
-fn answer(kept: &mut Kept, ask: Ask) -> Result<Told, AllocError>
+fn answer(kept: &mut KeptSets, ask: Ask) -> Result<Told, AllocError>
     requires { AreKept kept.old.row.first.items kept.old.row.second.items kept.old.sets kept.old.opened.items }
     ensures { OnOk result (AreKept kept.new.row.first.items kept.new.row.second.items kept.new.sets kept.new.opened.items) }
 {
@@ -172,7 +172,7 @@ fn answer(kept: &mut Kept, ask: Ask) -> Result<Told, AllocError>
 }
 
 // The number of the first row that is answered otherwise.
-fn first_wrong(kept: &mut Kept, rows: &[(Ask, Told)]) -> Result<Option<usize>, AllocError>
+fn first_wrong(kept: &mut KeptSets, rows: &[(Ask, Told)]) -> Result<Option<usize>, AllocError>
     requires { AreKept kept.old.row.first.items kept.old.row.second.items kept.old.sets kept.old.opened.items }
 {
     for (at, (ask, wanted)) in rows.iter().enumerate() {
@@ -267,12 +267,12 @@ fn count_of(slots: &[u32]) -> u32 {
 
 // The slots of the open and of the closed set, in their order.
 #[derive(Drop)]
-struct Lists {
+struct PlainSets {
     opened: Vec<u32>,
     closed: Vec<u32>,
 }
 
-impl Lists {
+impl PlainSets {
     fn add(&mut self, slot: u32) -> Result<Told, AllocError> {
         if slot >= 12 || self.opened.contains(&slot) {
             return Ok(Refused);
@@ -316,9 +316,9 @@ impl Lists {
 }
 
 // How many requests of each kind were answered so: done, refused, with a slot, with nothing, and with counts.
-type Tally = [u32; 5];
+type AnswerCounts = [u32; 5];
 
-fn note(tally: &mut Tally, told: Told) {
+fn note(tally: &mut AnswerCounts, told: Told) {
     let place = match told {
         Done => 0,
         Refused => 1,
@@ -330,11 +330,11 @@ fn note(tally: &mut Tally, told: Told) {
 }
 
 // The number of the first request that lists answer otherwise; nothing where none is, and each answer came often.
-fn first_other(kept: &mut Kept, lists: &mut Lists) -> Result<Option<u32>, AllocError>
+fn first_other(kept: &mut KeptSets, lists: &mut PlainSets) -> Result<Option<u32>, AllocError>
     requires { AreKept kept.old.row.first.items kept.old.row.second.items kept.old.sets kept.old.opened.items }
 {
     let mut seed = 1u64;
-    let mut tally: Tally = [0; 5];
+    let mut tally: AnswerCounts = [0; 5];
     for step in 0..STEPS {
         seed = following(seed);
         let ask = drawn_ask(seed);
@@ -354,7 +354,7 @@ fn first_other(kept: &mut Kept, lists: &mut Lists) -> Result<Option<u32>, AllocE
 #[test]
 fn sets_beside_lists(rt: HostRuntime) -> Result<(), Fail> {
     let mut kept = nothing_kept(rt.alloc())?;
-    let mut lists = Lists {
+    let mut lists = PlainSets {
         opened: Vec::new(rt.alloc()),
         closed: Vec::new(rt.alloc()),
     };

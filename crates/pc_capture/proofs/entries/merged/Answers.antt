@@ -4,7 +4,7 @@ use Rattle.std.proofs.lemmas.Iterator.Adapters.{YieldsList-from_vec}
 use Rattle.std.proofs.lemmas.Iterator.Consumers.{YieldsList-from_rest, YieldsList-turn, YieldsList-end}
 use Rattle.pc_model.proofs.MergeItemLaws.{items, items_taken}
 use Rattle.pc_model.specs.Merges.{with_item}
-use Rattle.pc_capture.specs.Takings.{Entry, newest}
+use Rattle.pc_capture.specs.Takings.{Captured, newest}
 use Rattle.pc_model.specs.TripleLists.{triple_at}
 use Rattle.pc_capture.proofs.TakenLaws.{moves_from, moves_all, moves_on, moved_on, moved_all, no_items, room_for, room_left}
 use Rattle.pc_capture.proofs.entries.merged.Goals as goal
@@ -25,7 +25,7 @@ turn c = YieldsList-turn (items_taken _ _ c.into_iter-item-iterator.ensures.into
     c.loop-item.yielded _ c.loop-item.yielded_by _ _ c.in-Some.item c.in-Some.is c.next.ensures.steps
 
 -- one less to come
-next : (c : In-Some) → (result : Entry) → with_item newest c.in-Some.item [] ≡ result ∷ [] → moves_from c.args.rising.items c.args.others.entries (length c.loop-item.yielded) ≡ result ∷ moves_from c.args.rising.items c.args.others.entries (length (c.loop-item.yielded ++ c.in-Some.item ∷ []))
+next : (c : In-Some) → (result : Captured) → with_item newest c.in-Some.item [] ≡ result ∷ [] → moves_from c.args.rising.items c.args.others.entries (length c.loop-item.yielded) ≡ result ∷ moves_from c.args.rising.items c.args.others.entries (length (c.loop-item.yielded ++ c.in-Some.item ∷ []))
 next c result made = moves_on c.args.rising.items c.args.others.entries _ _ c.in-Some.item result (turn c) (length_push c.loop-item.yielded c.in-Some.item) made
 
 pub push_reserved-requires : goal.push_reserved-requires

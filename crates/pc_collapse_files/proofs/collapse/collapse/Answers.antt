@@ -6,7 +6,7 @@ use Rattle.pc_types.specs.Tallies.{inner_of}
 use Rattle.pc_model.specs.Maps as map_of
 use Rattle.pc_model.specs.Sets as set
 use Rattle.pc_texts.specs.Texts.{joined_line}
-use Rattle.pc_collapse_files.specs.Collapses.{IsCause, IsLeft, IsUnwritten, IsWholeIn}
+use Rattle.pc_collapse_files.specs.Collapses.{IsCollapseCause, IsLeftByCollapse, IsUnwritten, IsWholeIn}
 use Rattle.pc_collapse_files.proofs.Ends.{unwritten_cause, unwritten_leaves}
 use Rattle.pc_collapse_files.proofs.collapse.collapse.Goals as goal
 
@@ -38,12 +38,12 @@ returns-in-Ok-print-clause-done g c =
 pub returns-clause-cause : goal.returns-clause-cause
 returns-clause-cause g c =
     let text = c.in-Ok.ensures.text in
-    subst (λ f. IsCause g.R.Read.remaining c.args.inputs.files.items f) (sym c.in-Err-print.ensures.failed.0) (c.in-Ok.ensures.opened, (text.0, text.1))
+    subst (λ f. IsCollapseCause g.R.Read.remaining c.args.inputs.files.items f) (sym c.in-Err-print.ensures.failed.0) (c.in-Ok.ensures.opened, (text.0, text.1))
 
 pub returns-clause-left : goal.returns-clause-left
 returns-clause-left g c =
     let text = c.in-Ok.ensures.text in
-    subst (λ f. IsLeft g.R.Read.remaining g.F.Write.contents g.W.Write.contents c.args.inputs.files.items f (Some c.in_ok-file.file) c.args.out.now c.print.new.out) (sym c.in-Err-print.ensures.failed.0) (record {
+    subst (λ f. IsLeftByCollapse g.R.Read.remaining g.F.Write.contents g.W.Write.contents c.args.inputs.files.items f (Some c.in_ok-file.file) c.args.out.now c.print.new.out) (sym c.in-Err-print.ensures.failed.0) (record {
       file = text.0;
       join = text.1;
       written = subst (λ t. IsWholeIn g.F.Write.contents t c.in_ok-file.file) (c.deref.ensures.value ∙ text.2.bytes) c.in_ok-file.ensures.written;

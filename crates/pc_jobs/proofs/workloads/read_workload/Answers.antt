@@ -1,5 +1,5 @@
 use Rattle.std.proofs.Common.{◌≡◌, rules, sym, ◌∙◌}
-use Rattle.pc_jobs.specs.declared.workloads.Reading.TheVariants.{Runs}
+use Rattle.pc_jobs.specs.declared.workloads.WorkloadReading.TheVariants.{Runs}
 use Rattle.pc_jobs.specs.Workloads.{phrases_in, reading_of}
 use Rattle.pc_jobs.proofs.ReadLemmas.{read_written}
 use Rattle.pc_jobs.proofs.workloads.read_workload.Goals as goal

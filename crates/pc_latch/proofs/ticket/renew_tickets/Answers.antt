@@ -4,7 +4,7 @@ use Rattle.pc_model.specs.Files.{File}
 use Rattle.pc_model.specs.History.{History, log_of}
 use Rattle.pc_model.specs.Replies.{IsLegalHistory}
 use Rattle.pc_model.specs.Standing.{IsOfItsPoints}
-use Rattle.pc_tie.specs.Seats.{Meeting}
+use Rattle.pc_tie.specs.Seats.{KeeperView}
 use Rattle.pc_latch.proofs.Growing.{same_at}
 use Rattle.pc_latch.proofs.Worths.{worth_more}
 use Rattle.pc_latch.proofs.ticket.renew_tickets.Goals as goal
@@ -19,7 +19,7 @@ loop-k-preserved g c =
     let hist = c.args.keeper.now.history in
     let within : k < length items = omega (arith, c.loop-k-test.true, c.len-k-end.ensures, ap length i.1) in
     let here : (d : File) → c.index_mut-ticket.result.now ≡ get_or items k d = (λ d. c.index_mut-ticket.ensures.value ∙ same_at items k _ d within) in
-    let same : c.loop-k.keeper.history ≡ hist = ap (λ (m : Meeting). m.history) i.0 in
+    let same : c.loop-k.keeper.history ≡ hist = ap (λ (m : KeeperView). m.history) i.0 in
     let new = c.renew.new.self in
     let kept : set items k new ≡ items = ap (set items k) (e.same ∙ here new) ∙ set-get_or items k new in (
       e.keeper ∙ i.0,

@@ -1,12 +1,12 @@
-use Rattle.pc_records.specs.Floor.{IsWhole, AreSound, IsOver, IsLeft, standing}
+use Rattle.pc_records.specs.Floor.{IsFloorWhole, AreSpotsSound, IsOver, IsFloorReleased, standing}
 use Rattle.std.proofs.Common.{ℕ}
 use Rattle.pc_records.proofs.records.release.Given as goal
 
 -- what is released in the end is what was to be released
 abbrev pub invariant-loop-transaction : goal.invariant-loop-transaction
 invariant-loop-transaction l = record {
-  whole : IsWhole l.slots;
-  left : (point : ℕ) → AreSound point l.fn.slots.spots → IsOver l.transaction l.fn.slots.spots → IsLeft point l.transaction l.fn.slots l.slots;
+  whole : IsFloorWhole l.slots;
+  left : (point : ℕ) → AreSpotsSound point l.fn.slots.spots → IsOver l.transaction l.fn.slots.spots → IsFloorReleased point l.transaction l.fn.slots l.slots;
 }
 
 -- the transaction has fewer requests

@@ -1,6 +1,6 @@
 use Rattle.std.proofs.Common.{eqb, length, ◌∙◌, ap, sym, subst, cond, Bool, refl}
 use Rattle.pc_types.specs.declared.Refusal.TheVariants.{Full, OutOfMemory}
-use Rattle.pc_records.specs.Floor.{Floor, IsWhole, asked, has_spot, waits_anywhere}
+use Rattle.pc_records.specs.Floor.{Floor, IsFloorWhole, asked, has_spot, waits_anywhere}
 use Rattle.pc_records.proofs.SpotLaws.{has_same}
 use Rattle.pc_records.proofs.SpotAnswers.{ready_made, first_granted, made_back, refused_same}
 use Rattle.pc_records.proofs.records.request_new.Goals as goal
@@ -17,11 +17,11 @@ tidy-requires c = record { there = ap (λ (f : Floor). has_spot f.spots c.in_ok-
 
 pub returns-in-Ok-clause-asked : goal.returns-in-Ok-clause-asked
 returns-in-Ok-clause-asked c =
-    first_granted 0 c.args.transaction c.args.mode c.args.slots.now c.request.new.self c.args.key.now c.in_ok-id.id c.requires.new (subst IsWhole c.in_ok-id.ensures.made c.make.ensures.whole)
+    first_granted 0 c.args.transaction c.args.mode c.args.slots.now c.request.new.self c.args.key.now c.in_ok-id.id c.requires.new (subst IsFloorWhole c.in_ok-id.ensures.made c.make.ensures.whole)
     c.make.new.self c.in-Ok.field-0 c.in_ok-id.ensures.made c.in-Ok.ensures.told c.in-Ok.ensures.asked
 
 pub returns-in-Ok-clause-made : goal.returns-in-Ok-clause-made
-returns-in-Ok-clause-made c = subst IsWhole c.in_ok-id.ensures.made c.make.ensures.whole
+returns-in-Ok-clause-made c = subst IsFloorWhole c.in_ok-id.ensures.made c.make.ensures.whole
 
 pub returns-in-Ok-clause-there : goal.returns-in-Ok-clause-there
 returns-in-Ok-clause-there c =
@@ -32,7 +32,7 @@ returns-in-Ok-clause-room c = c.in_ok-id.ensures.room
 
 pub returns-in-Err-clause-same : goal.returns-in-Err-clause-same
 returns-in-Err-clause-same c =
-    made_back 0 c.args.transaction c.args.mode c.args.slots.now c.tidy.new.self c.args.key.now c.in_ok-id.id c.requires.new (subst IsWhole c.in_ok-id.ensures.made c.make.ensures.whole)
+    made_back 0 c.args.transaction c.args.mode c.args.slots.now c.tidy.new.self c.args.key.now c.in_ok-id.id c.requires.new (subst IsFloorWhole c.in_ok-id.ensures.made c.make.ensures.whole)
     c.make.new.self c.request.new.self c.in_ok-id.ensures.made c.in-Err.ensures.same c.in_ok-id.ensures.fresh c.tidy.ensures.tidied
 
 pub returns-in-Err-clause-refusal : goal.returns-in-Err-clause-refusal

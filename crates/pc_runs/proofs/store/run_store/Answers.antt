@@ -8,7 +8,7 @@ use Rattle.pc_board.specs.declared.limits.TheConstants.{MOST_PASSES}
 use Rattle.pc_board.specs.Passes.{Pass}
 use Rattle.pc_jobs.specs.declared.works.Client.{Client}
 use Rattle.pc_outcomes.specs.Leaving.{IsLegacy, commits_in}
-use Rattle.pc_shared.specs.Sitters.{HasAll, IsSettled}
+use Rattle.pc_shared.specs.Sitters.{HasAll, IsSitterSettled}
 use Rattle.pc_threads.specs.Clients.{HaveWorked, IsFresh, clients_in, transactions_in}
 use Rattle.pc_workers.specs.Covering.{HaveJustTo}
 use Rattle.pc_runs.specs.Folders.{LeavesFiles, base_of}
@@ -65,7 +65,7 @@ returns-clause-run g c =
       clients_ran =
           have_run st left.0 c.args.crew.now.workers c.args.workload.clients c.in_ok-dealt.dealt.items ended.given_up seating.idle.items worked.0 c.args.crew.now.in_range.0 c.in_ok-dealt.ensures
           (subst (λ (all : List (List Client)). HaveWorked st (clients_in all) ended.given_up worked.0) c.in_ok-seating.ensures.clients worked.2) c.in_ok-seating.ensures.idle
-          (subst (All (IsSettled st left.0)) worked.1 left.1.settled) (subst (HasAll st.sessions) worked.1 (it_is _ _ closed.all c.if-not-closed.false c.close-closed.ensures.all));
+          (subst (All (IsSitterSettled st left.0)) worked.1 left.1.settled) (subst (HasAll st.sessions) worked.1 (it_is _ _ closed.all c.if-not-closed.false c.close-closed.ensures.all));
       commits_are = c.in_ok-left.ensures.commits ∙ ap commits_in left.1.log_is;
       points_are = refl;
       files = drop c.in_ok-tickets.singles closed.parts.items;

@@ -1,5 +1,5 @@
 use Rattle.std.proofs.Common.{refl}
-use Rattle.pc_script.specs.Scripts.Stage.{Reading}
+use Rattle.pc_script.specs.Scripts.ScriptStage.{Reading}
 use Rattle.pc_script.proofs.script.answer_base.Goals as goal
 
 pub returns-in-Sets-clause-answer : goal.returns-in-Sets-clause-answer

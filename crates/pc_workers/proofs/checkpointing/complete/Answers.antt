@@ -1,5 +1,5 @@
 use Rattle.std.proofs.Common.{ℕ, subst}
-use Rattle.pc_board.specs.declared.calls.Kind.TheVariants.{Publish}
+use Rattle.pc_board.specs.declared.calls.CallKind.TheVariants.{Publish}
 use Rattle.pc_board.specs.Passes.{MakesCall}
 use Rattle.pc_workers.proofs.checkpointing.complete.Goals as goal
 

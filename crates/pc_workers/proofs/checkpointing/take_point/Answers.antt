@@ -1,7 +1,7 @@
 use Rattle.std.proofs.Common.{◌≡◌, ◌+◌, ℕ, [], ◌∷◌, refl, sym, subst, ◌∙◌, arith}
 use Rattle.pc_types.specs.declared.Phase.TheVariants.{Rest, Prepare, Resolve, Capture, Complete}
 use Rattle.pc_model.specs.History.{point_of}
-use Rattle.pc_board.specs.declared.calls.Kind.TheVariants.{Publish}
+use Rattle.pc_board.specs.declared.calls.CallKind.TheVariants.{Publish}
 use Rattle.pc_board.specs.Passes.{Pass, MakesCall}
 use Rattle.pc_workers.specs.Checkpointing.{whole_cycle, HasPublished, HasBrokenOff, IsFull}
 use Rattle.pc_workers.proofs.BoardCalls.{published_none, published_one}

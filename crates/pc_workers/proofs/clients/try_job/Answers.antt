@@ -3,7 +3,7 @@ use Rattle.pc_jobs.specs.declared.works.Op.{Op}
 use Rattle.pc_workers.specs.Attempts.{IsAttempt}
 use Rattle.pc_workers.specs.Clients.{HasCommitted, done_by, wrote_all}
 use Rattle.pc_workers.specs.Courses.{IsRepeated}
-use Rattle.pc_workers.specs.declared.clients.Ended.TheVariants.{Died}
+use Rattle.pc_workers.specs.declared.clients.EndedTransaction.TheVariants.{Died}
 use Rattle.pc_model.specs.History.{is_open}
 use Rattle.std.specs.Prelude.{◌≡◌, false}
 use Rattle.pc_workers.proofs.AttemptLaws.{tried_once, tried_again}

@@ -1,6 +1,6 @@
 use Rattle.std.proofs.Common.{◌≡◌, ◌<◌, rules, refl, sym, ap, ◌∙◌, subst, arith}
 use Rattle.pc_board.specs.declared.limits.TheConstants.{MOST_CLAIMS}
-use Rattle.pc_board.specs.declared.calls.Kind.TheVariants.{Claim}
+use Rattle.pc_board.specs.declared.calls.CallKind.TheVariants.{Claim}
 use Rattle.pc_board.specs.Calls.{calls_by, claims_of}
 use Rattle.pc_board.specs.Passes.{Pass, MakesCall, claims_made}
 use Rattle.pc_board.specs.Rules.{number_of, seen_of}

@@ -1,6 +1,6 @@
 use Rattle.std.proofs.Common.{◌≡◌, [], ◌++◌, ap, sym, ◌∙◌, subst, arith, All, List}
 use Rattle.std.proofs.lemmas.List.{append-nil}
-use Rattle.pc_board.specs.Passes.{Board, Pass, IsEnd, IsOfBoard}
+use Rattle.pc_board.specs.Passes.{Board, Pass, IsBoardEnd, IsOfBoard}
 use Rattle.pc_board.proofs.Seats.{sits, takes_in_as}
 use Rattle.pc_board.proofs.Ends.{all_at, ends, is_point, nothing_left}
 use Rattle.pc_board.proofs.board.Board.close.Goals as goal
@@ -26,7 +26,7 @@ returns c =
     let board : Board = record { name = c.self.inside.table.shared.table_id; passes = c.self.inside.table.shared.key } in
     let empty : c.loop-pass.pass-iterator.rest.items ≡ [] = nothing_left c.loop-pass.pass-iterator.rest.items (sym i.3 ∙ c.in-None.ensures.steps.0) in
     let all : c.loop-pass.yielded ≡ c.args.passes.items = sym (append-nil c.loop-pass.yielded) ∙ (ap (λ r. c.loop-pass.yielded ++ r) (sym empty) ∙ i.2) in
-    subst (λ (x : Board × List Pass). IsEnd x.0 c.word-claims.result c.word-horizon.result x.1) (λ k. (c.self.view_is k, all k))
+    subst (λ (x : Board × List Pass). IsBoardEnd x.0 c.word-claims.result c.word-horizon.result x.1) (λ k. (c.self.view_is k, all k))
     (ends board c.loop-pass.closer.id c.loop-pass.closer.me.0 _ _ c.word-claims.result c.word-horizon.result c.close_with-closed.ensures.values.2 c.word-claims.ensures c.word-horizon.ensures
     c.loop-pass.yielded (ap (λ m. m.0) i.1))
 

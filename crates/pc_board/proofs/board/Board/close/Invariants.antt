@@ -1,5 +1,5 @@
 use Rattle.std.proofs.Common.{◌≡◌, [], ◌++◌, map, length}
-use Rattle.pc_board.specs.declared.sight.Sight.TheVariants.{Closer}
+use Rattle.pc_board.specs.declared.sight.PassSight.TheVariants.{Closer}
 use Rattle.pc_board.proofs.Ends.{account_of}
 use Rattle.pc_board.proofs.board.Board.close.Given as goal
 

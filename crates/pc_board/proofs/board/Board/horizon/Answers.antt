@@ -1,5 +1,5 @@
 use Rattle.std.proofs.Common.{sym, ap, ◌∙◌, subst, arith}
-use Rattle.pc_board.specs.declared.calls.Kind.TheVariants.{Look}
+use Rattle.pc_board.specs.declared.calls.CallKind.TheVariants.{Look}
 use Rattle.pc_board.specs.Calls.{NoneAbove}
 use Rattle.pc_board.specs.Passes.{Pass, MakesCall}
 use Rattle.pc_board.proofs.Steps.{looks_as}

@@ -1,6 +1,6 @@
 use Rattle.std.proofs.Common.{◌≡◌, ◌≤◌, []}
 use Rattle.std.specs.Vec.{vec_len, vec_capacity}
-use Rattle.pc_board.specs.declared.sight.Sight.TheVariants.{Dealer}
+use Rattle.pc_board.specs.declared.sight.PassSight.TheVariants.{Dealer}
 use Rattle.pc_board.specs.Passes.{new_passes}
 use Rattle.pc_board.proofs.board.Board.new.Given as goal
 

@@ -1,6 +1,6 @@
 use Rattle.std.proofs.Common.{ℕ, ◌<◌, ◌≤◌, rules, sym, ap, ◌∙◌, subst, arith}
 use Rattle.pc_types.specs.declared.limits.TheConstants.{MOST_POINTS}
-use Rattle.pc_board.specs.declared.calls.Kind.TheVariants.{Publish}
+use Rattle.pc_board.specs.declared.calls.CallKind.TheVariants.{Publish}
 use Rattle.pc_board.specs.Passes.{Pass, MakesCall}
 use Rattle.pc_board.proofs.Steps.{publishes_as}
 use Rattle.pc_board.proofs.Passing.{pass_at, still_holder, made_claims, makes_call}

@@ -1,5 +1,5 @@
 use Rattle.std.proofs.Common.{◌≡◌, ◌≢◌, map, sym, subst}
-use Rattle.pc_chain.specs.declared.side.Place.{Place}
+use Rattle.pc_chain.specs.declared.side.SideSlot.{SideSlot}
 use Rattle.pc_table.specs.Rows.{with_record_in, with_record}
 use Rattle.pc_slots.specs.declared.cells.Cell.{Cell}
 use Rattle.pc_records.specs.SetLists.{next_in, HasPlace, KeepRecords}
@@ -12,11 +12,11 @@ returns-clause-set c =
 
 pub returns-clause-others : goal.returns-clause-others
 returns-clause-others c =
-    subst (λ (y : Cell). (other : Place) → other ≢ c.args.id → next_in (map (with_record_in c.args.id.slot y) c.args.self.now.rows) other ≡ next_in c.args.self.now.rows other) (sym c.put_link.ensures) (link_kept c.args.self.now c.get_mut.ensures.slots c.args.id c.args.next c.get_mut.result.now c.get_mut.ensures.record_of)
+    subst (λ (y : Cell). (other : SideSlot) → other ≢ c.args.id → next_in (map (with_record_in c.args.id.slot y) c.args.self.now.rows) other ≡ next_in c.args.self.now.rows other) (sym c.put_link.ensures) (link_kept c.args.self.now c.get_mut.ensures.slots c.args.id c.args.next c.get_mut.result.now c.get_mut.ensures.record_of)
 
 pub returns-clause-has : goal.returns-clause-has
 returns-clause-has c =
-    subst (λ (y : Cell). (other : Place) → HasPlace c.args.self.now.rows other → HasPlace (map (with_record_in c.args.id.slot y) c.args.self.now.rows) other) (sym c.put_link.ensures) (place_stays c.args.self.now c.get_mut.ensures.slots c.args.id c.args.next c.get_mut.result.now c.get_mut.ensures.record_of)
+    subst (λ (y : Cell). (other : SideSlot) → HasPlace c.args.self.now.rows other → HasPlace (map (with_record_in c.args.id.slot y) c.args.self.now.rows) other) (sym c.put_link.ensures) (place_stays c.args.self.now c.get_mut.ensures.slots c.args.id c.args.next c.get_mut.result.now c.get_mut.ensures.record_of)
 
 pub returns-clause-beside : goal.returns-clause-beside
 returns-clause-beside c =

@@ -1,5 +1,5 @@
 use Rattle.std.proofs.Common.{◌∙◌, ap, sym, subst}
-use Rattle.pc_records.specs.Floor.{Floor, AreSound, rows_in, writes_in}
+use Rattle.pc_records.specs.Floor.{Floor, AreSpotsSound, rows_in, writes_in}
 use Rattle.pc_records.proofs.SpotSets.{sound_closed, rows_closed, writes_closed}
 use Rattle.pc_records.proofs.records.Records.close.Goals as goal
 
@@ -9,7 +9,7 @@ close-requires c = record { none = rw (← c.self.view_is) at c.requires.none }
 pub invariant_of-self : goal.invariant_of-self
 invariant_of-self c =
     let i = c.self.inside in
-    (c.close.ensures.whole, subst (λ (f : Floor). AreSound c.args.point f.spots) (sym c.close.ensures.closed) (sound_closed i.point c.args.point i.slots c.self.invariant.0 c.self.invariant.1 (rw (← c.self.view_is) at c.requires.later) (rw (← c.self.view_is) at c.requires.none) (rw (← c.self.view_is) at c.requires.during)))
+    (c.close.ensures.whole, subst (λ (f : Floor). AreSpotsSound c.args.point f.spots) (sym c.close.ensures.closed) (sound_closed i.point c.args.point i.slots c.self.invariant.0 c.self.invariant.1 (rw (← c.self.view_is) at c.requires.later) (rw (← c.self.view_is) at c.requires.none) (rw (← c.self.view_is) at c.requires.during)))
 
 pub returns-clause-closed : goal.returns-clause-closed
 returns-clause-closed c =

@@ -2,7 +2,7 @@ use Rattle.std.proofs.Common.{◌∙◌, ◌++◌, sym, ap, subst}
 use Rattle.std.specs.FinMap.{find, is_sorted}
 use Rattle.pc_model.specs.Database.{key_cmp}
 use Rattle.pc_slots.specs.Slots.{settled}
-use Rattle.pc_records.specs.Floor.{Floor, AreSound, rows_in, writes_in}
+use Rattle.pc_records.specs.Floor.{Floor, AreSpotsSound, rows_in, writes_in}
 use Rattle.pc_records.proofs.Moments.{settled_key, settled_writer, settled_again, settled_sound}
 use Rattle.pc_records.proofs.SpotWrites.{sound_writes, writes_gone, rows_settled, keys_opened}
 use Rattle.pc_records.proofs.records.Records.commit.Goals as goal
@@ -13,7 +13,7 @@ settle_all-requires-clause-whole c = c.self.invariant.0
 pub invariant_of-self : goal.invariant_of-self
 invariant_of-self c =
     let p = c.self.inside.point in
-    (c.settle_all.ensures.whole, subst (λ (f : Floor). AreSound p f.spots) (sym c.settle_all.ensures.settled) (sound_writes (settled p) (settled_key p) (settled_writer p) (settled_again p) p (settled_sound p) c.args.writes.now c.self.inside.slots.spots c.self.invariant.1))
+    (c.settle_all.ensures.whole, subst (λ (f : Floor). AreSpotsSound p f.spots) (sym c.settle_all.ensures.settled) (sound_writes (settled p) (settled_key p) (settled_writer p) (settled_again p) p (settled_sound p) c.args.writes.now c.self.inside.slots.spots c.self.invariant.1))
 
 pub returns-clause-rows : goal.returns-clause-rows
 returns-clause-rows c =

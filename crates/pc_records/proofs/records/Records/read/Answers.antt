@@ -2,19 +2,19 @@ use Rattle.std.proofs.Common.{◌∙◌, ap, sym, subst, cond, Bool}
 use Rattle.pc_types.specs.declared.Mode.TheVariants.{Shared}
 use Rattle.pc_types.specs.declared.Refusal.TheVariants.{Full, OutOfMemory}
 use Rattle.pc_records.specs.RowSteps.{is_waiting}
-use Rattle.pc_records.specs.Tables.{Table}
-use Rattle.pc_records.specs.Floor.{Floor, AreSound, table_on}
+use Rattle.pc_records.specs.Tables.{RecordsView}
+use Rattle.pc_records.specs.Floor.{Floor, AreSpotsSound, table_on}
 use Rattle.pc_records.proofs.SpotLaws.{found}
 use Rattle.pc_records.proofs.SpotAnswers.{waits_same, told_there, latest_there, clear_there, told_new, latest_new, clear_new, table_asked, table_first, sound_answered, sound_first, full, full_there, full_new, ran_out, refused_same, on_err}
 use Rattle.pc_records.proofs.records.Records.read.Goals as goal
 
 pub request-requires-clause-ready : goal.request-requires-clause-ready
 request-requires-clause-ready c =
-    waits_same c.args.transaction c.self.inside.slots.spots ∙ ap (λ (k : Table). is_waiting k.rows c.args.transaction) c.self.view_is ∙ c.requires.ready
+    waits_same c.args.transaction c.self.inside.slots.spots ∙ ap (λ (k : RecordsView). is_waiting k.rows c.args.transaction) c.self.view_is ∙ c.requires.ready
 
 pub request_new-requires-clause-ready : goal.request_new-requires-clause-ready
 request_new-requires-clause-ready c =
-    waits_same c.args.transaction c.self.inside.slots.spots ∙ ap (λ (k : Table). is_waiting k.rows c.args.transaction) c.self.view_is ∙ c.requires.ready
+    waits_same c.args.transaction c.self.inside.slots.spots ∙ ap (λ (k : RecordsView). is_waiting k.rows c.args.transaction) c.self.view_is ∙ c.requires.ready
 
 pub request_new-requires-clause-new : goal.request_new-requires-clause-new
 request_new-requires-clause-new c =
@@ -30,7 +30,7 @@ invariant_of-self-in-Some c =
 
 pub invariant_of-self-in_err-request_new-in-None : goal.invariant_of-self-in_err-request_new-in-None
 invariant_of-self-in_err-request_new-in-None c =
-    (c.request_new.ensures.whole, subst (λ (f : Floor). AreSound c.self.inside.point f.spots) (sym c.in_err-request_new-in-None.ensures.same) c.self.invariant.1)
+    (c.request_new.ensures.whole, subst (λ (f : Floor). AreSpotsSound c.self.inside.point f.spots) (sym c.in_err-request_new-in-None.ensures.same) c.self.invariant.1)
 
 pub invariant_of-self-in-None : goal.invariant_of-self-in-None
 invariant_of-self-in-None c =
@@ -53,7 +53,7 @@ returns-in_ok-outcome-in-Some-clause-rows c =
 pub returns-in_ok-outcome-in-Some-clause-clear : goal.returns-in_ok-outcome-in-Some-clause-clear
 returns-in_ok-outcome-in-Some-clause-clear c =
     let f = found c.self.inside.slots c.args.key.now c.in-Some.id c.self.invariant.0 (sym c.in-Some.ensures.found) in
-    rw (← c.self.view_is) (clear_there c.self.inside.slots c.self.invariant.0 c.args.key.now c.in-Some.id f.0 f.1 c.self.inside.point c.args.transaction c.self.invariant.1 (waits_same c.args.transaction c.self.inside.slots.spots ∙ ap (λ (k : Table). is_waiting k.rows c.args.transaction) c.self.view_is ∙ c.requires.ready) Shared c.in_ok-outcome-in-Some.outcome c.in_ok-outcome-in-Some.ensures.told)
+    rw (← c.self.view_is) (clear_there c.self.inside.slots c.self.invariant.0 c.args.key.now c.in-Some.id f.0 f.1 c.self.inside.point c.args.transaction c.self.invariant.1 (waits_same c.args.transaction c.self.inside.slots.spots ∙ ap (λ (k : RecordsView). is_waiting k.rows c.args.transaction) c.self.view_is ∙ c.requires.ready) Shared c.in_ok-outcome-in-Some.outcome c.in_ok-outcome-in-Some.ensures.told)
 
 pub returns-in_ok-outcome-in-Some-clause-room : goal.returns-in_ok-outcome-in-Some-clause-room
 returns-in_ok-outcome-in-Some-clause-room c =

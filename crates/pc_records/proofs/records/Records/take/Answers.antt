@@ -1,5 +1,5 @@
 use Rattle.std.proofs.Common.{◌≡◌, ◌∷◌, [], List, sym, subst}
-use Rattle.pc_records.specs.Floor.{Floor, AreSound}
+use Rattle.pc_records.specs.Floor.{Floor, AreSpotsSound}
 use Rattle.pc_records.proofs.SpotTidying.{sound_take, table_take, taken_there}
 use Rattle.pc_records.proofs.records.Records.take.Goals as goal
 
@@ -15,7 +15,7 @@ invariant_of-self c =
     (c.tidy.ensures.whole, sound_take c.self.inside.point c.in-Some.id c.self.inside.slots c.take_first.new.self c.tidy.new.self c.self.invariant.0 c.self.invariant.1 c.in-Some.ensures.taken c.tidy.ensures.tidied given.0 given.1 given.2 given.3)
 
 pub invariant_of-self-in_default : goal.invariant_of-self-in_default
-invariant_of-self-in_default c = (c.take_first.ensures.whole, subst (λ (f : Floor). AreSound c.self.inside.point f.spots) (sym c.in_default.ensures.none.1) c.self.invariant.1)
+invariant_of-self-in_default c = (c.take_first.ensures.whole, subst (λ (f : Floor). AreSpotsSound c.self.inside.point f.spots) (sym c.in_default.ensures.none.1) c.self.invariant.1)
 
 pub returns-in-Some-clause-taken : goal.returns-in-Some-clause-taken
 returns-in-Some-clause-taken c =

@@ -2,7 +2,7 @@ use Rattle.std.proofs.Common.{◌∙◌, sym, ap, subst}
 use Rattle.std.specs.FinMap.{find, is_sorted}
 use Rattle.pc_model.specs.Database.{key_cmp}
 use Rattle.pc_slots.specs.Slots.{undone}
-use Rattle.pc_records.specs.Floor.{Floor, AreSound, rows_in, writes_in}
+use Rattle.pc_records.specs.Floor.{Floor, AreSpotsSound, rows_in, writes_in}
 use Rattle.pc_records.proofs.Moments.{undone_key, undone_writer, undone_again, undone_sound}
 use Rattle.pc_records.proofs.SpotWrites.{sound_writes, writes_gone, rows_undone}
 use Rattle.pc_records.proofs.records.Records.undo.Goals as goal
@@ -13,7 +13,7 @@ undo_all-requires c = record { whole = c.self.invariant.0 }
 pub invariant_of-self : goal.invariant_of-self
 invariant_of-self c =
     let p = c.self.inside.point in
-    (c.undo_all.ensures.whole, subst (λ (f : Floor). AreSound p f.spots) (sym c.undo_all.ensures.undone) (sound_writes (undone p) (undone_key p) (undone_writer p) (undone_again p) p (undone_sound p) c.args.writes.now c.self.inside.slots.spots c.self.invariant.1))
+    (c.undo_all.ensures.whole, subst (λ (f : Floor). AreSpotsSound p f.spots) (sym c.undo_all.ensures.undone) (sound_writes (undone p) (undone_key p) (undone_writer p) (undone_again p) p (undone_sound p) c.args.writes.now c.self.inside.slots.spots c.self.invariant.1))
 
 pub returns-clause-rows : goal.returns-clause-rows
 returns-clause-rows c =

@@ -3,8 +3,8 @@ use Rattle.pc_types.specs.declared.Mode.TheVariants.{Exclusive}
 use Rattle.pc_types.specs.declared.Outcome.TheVariants.{Granted}
 use Rattle.pc_types.specs.declared.Refusal.TheVariants.{Full, OutOfMemory}
 use Rattle.pc_records.specs.RowSteps.{is_waiting}
-use Rattle.pc_records.specs.Tables.{Table}
-use Rattle.pc_records.specs.Floor.{Floor, AreSound, table_on, asked, has_spot}
+use Rattle.pc_records.specs.Tables.{RecordsView}
+use Rattle.pc_records.specs.Floor.{Floor, AreSpotsSound, table_on, asked, has_spot}
 use Rattle.pc_records.proofs.SpotLaws.{found, has_same}
 use Rattle.pc_records.proofs.SpotAnswers.{waits_same, told_there, clear_there, told_new, clear_new, sound_answered, IsWritten, written_there, written_first, full, full_there, full_new, ran_out, refused_same, on_err}
 use Rattle.pc_records.proofs.records.Records.write.Goals as goal
@@ -12,11 +12,11 @@ use Rattle.pc_records.proofs.records.Records.write.Goals.{After-put_granted, Aft
 
 pub request-requires-clause-ready : goal.request-requires-clause-ready
 request-requires-clause-ready c =
-    waits_same c.args.transaction c.self.inside.slots.spots ∙ ap (λ (k : Table). is_waiting k.rows c.args.transaction) c.self.view_is ∙ c.requires.ready
+    waits_same c.args.transaction c.self.inside.slots.spots ∙ ap (λ (k : RecordsView). is_waiting k.rows c.args.transaction) c.self.view_is ∙ c.requires.ready
 
 pub request_new-requires-clause-ready : goal.request_new-requires-clause-ready
 request_new-requires-clause-ready c =
-    waits_same c.args.transaction c.self.inside.slots.spots ∙ ap (λ (k : Table). is_waiting k.rows c.args.transaction) c.self.view_is ∙ c.requires.ready
+    waits_same c.args.transaction c.self.inside.slots.spots ∙ ap (λ (k : RecordsView). is_waiting k.rows c.args.transaction) c.self.view_is ∙ c.requires.ready
 
 pub request_new-requires-clause-new : goal.request_new-requires-clause-new
 request_new-requires-clause-new c =
@@ -35,7 +35,7 @@ put_granted-requires-clause-there c =
 there : (c : After-put_granted) → IsWritten c.self.inside.point c.args.transaction c.args.class c.args.value c.self.inside.slots c.put_granted.new.slots c.args.key.now c.in_ok-outcome-in-Some.outcome
 there c =
     written_there c.self.inside.point c.args.transaction c.args.class c.in_ok-copy-in-Some.copy c.args.value c.self.inside.slots c.request.new.self c.put_granted.new.slots c.args.key.now c.in-Some.id c.in_ok-outcome-in-Some.outcome c.self.invariant.0 c.self.invariant.1
-    (waits_same c.args.transaction c.self.inside.slots.spots ∙ ap (λ (k : Table). is_waiting k.rows c.args.transaction) c.self.view_is ∙ c.requires.ready)
+    (waits_same c.args.transaction c.self.inside.slots.spots ∙ ap (λ (k : RecordsView). is_waiting k.rows c.args.transaction) c.self.view_is ∙ c.requires.ready)
     (sym c.in-Some.ensures.found) c.in_ok-outcome-in-Some.ensures.told c.in_ok-copy-in-Some.ensures (rw (← c.self.view_is) at c.requires.outside) (rw (← c.self.view_is) at c.requires.again)
     c.in_ok-outcome-in-Some.ensures.asked c.put_granted.ensures.put c.put_granted.ensures.whole
 
@@ -43,7 +43,7 @@ there c =
 first : (c : After-put) → IsWritten c.self.inside.point c.args.transaction c.args.class c.args.value c.self.inside.slots c.put.new.self c.args.key.now Granted
 first c =
     written_first c.self.inside.point c.args.transaction c.args.class c.args.value c.self.inside.slots c.request_new.new.slots c.put.new.self c.args.key.now c.in_ok-id-in-None.id (sym c.in-None.ensures.found) c.in_ok-id-in-None.ensures.made c.self.invariant.1
-    (waits_same c.args.transaction c.self.inside.slots.spots ∙ ap (λ (k : Table). is_waiting k.rows c.args.transaction) c.self.view_is ∙ c.requires.ready)
+    (waits_same c.args.transaction c.self.inside.slots.spots ∙ ap (λ (k : RecordsView). is_waiting k.rows c.args.transaction) c.self.view_is ∙ c.requires.ready)
     c.in_ok-id-in-None.ensures.asked c.put.ensures.put c.put.ensures.whole
 
 pub invariant_of-self : goal.invariant_of-self
@@ -56,7 +56,7 @@ invariant_of-self-in-Some c =
 
 pub invariant_of-self-in_err-id-in-None : goal.invariant_of-self-in_err-id-in-None
 invariant_of-self-in_err-id-in-None c =
-    (c.request_new.ensures.whole, subst (λ (f : Floor). AreSound c.self.inside.point f.spots) (sym c.in_err-id-in-None.ensures.same) c.self.invariant.1)
+    (c.request_new.ensures.whole, subst (λ (f : Floor). AreSpotsSound c.self.inside.point f.spots) (sym c.in_err-id-in-None.ensures.same) c.self.invariant.1)
 
 pub invariant_of-self-in-None : goal.invariant_of-self-in-None
 invariant_of-self-in-None c =
@@ -79,7 +79,7 @@ pub returns-in_ok-outcome-in-Some-clause-clear : goal.returns-in_ok-outcome-in-S
 returns-in_ok-outcome-in-Some-clause-clear c =
     let f = found c.self.inside.slots c.args.key.now c.in-Some.id c.self.invariant.0 (sym c.in-Some.ensures.found) in
     rw (← c.self.view_is) (clear_there c.self.inside.slots c.self.invariant.0 c.args.key.now c.in-Some.id f.0 f.1 c.self.inside.point c.args.transaction c.self.invariant.1
-    (waits_same c.args.transaction c.self.inside.slots.spots ∙ ap (λ (k : Table). is_waiting k.rows c.args.transaction) c.self.view_is ∙ c.requires.ready) Exclusive c.in_ok-outcome-in-Some.outcome c.in_ok-outcome-in-Some.ensures.told)
+    (waits_same c.args.transaction c.self.inside.slots.spots ∙ ap (λ (k : RecordsView). is_waiting k.rows c.args.transaction) c.self.view_is ∙ c.requires.ready) Exclusive c.in_ok-outcome-in-Some.outcome c.in_ok-outcome-in-Some.ensures.told)
 
 pub returns-in_ok-outcome-in-Some-clause-opened : goal.returns-in_ok-outcome-in-Some-clause-opened
 returns-in_ok-outcome-in-Some-clause-opened c =

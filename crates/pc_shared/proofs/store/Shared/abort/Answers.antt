@@ -5,7 +5,7 @@ use Rattle.pc_types.specs.declared.Reply.TheVariants.{Aborted, Refused}
 use Rattle.pc_model.specs.Calls.{step_of, IsAnswered}
 use Rattle.pc_model.specs.Calls.AsksOpen.{Aborts}
 use Rattle.pc_txn.specs.Notes.{kept_in}
-use Rattle.pc_shared.specs.Sitters.{Sitter, Keeps}
+use Rattle.pc_shared.specs.Sitters.{Sitter, SessionKeeps}
 use Rattle.pc_shared.proofs.Keeping.{abort_keeps, step_found}
 use Rattle.pc_shared.proofs.store.Shared.abort.Goals as goal
 
@@ -16,7 +16,7 @@ invariant_of-session-2 g c =
     let after = c.abort_as.new.seat.seen in
     let v = c.abort.new.self in
     let e = c.abort.ensures in (
-      subst (λ (m : ℕ). Keeps v.busy v.writes.items v.reads.items v.receipts.items m after) (sym c.abort_as.ensures.number)
+      subst (λ (m : ℕ). SessionKeeps v.busy v.writes.items v.reads.items v.receipts.items m after) (sym c.abort_as.ensures.number)
           (abort_keeps g.N.StoreName.name.setting f.number f.seen after w.busy v.busy w.writes.items v.writes.items w.reads.items v.reads.items w.receipts.items v.receipts.items (c.session.invariant.0.while_busy c.if-not-session.false) c.in-Ok.ensures.call e.0 e.1),
       ap (λ l. kept_in l v.reads.items) e.2 ∙ sym (step_found g.N.StoreName.name.setting f.seen after (step_of (asked.Abort f.number) Aborted) c.in-Ok.ensures.call),
     )

@@ -8,7 +8,7 @@ use Rattle.pc_model.specs.Calls.{step_of, IsAnswered}
 use Rattle.pc_model.specs.Calls.AsksOpen.{Commits}
 use Rattle.pc_model.specs.Receipts.{own_of}
 use Rattle.pc_txn.specs.Notes.{kept_in}
-use Rattle.pc_shared.specs.Sitters.{Sitter, Keeps}
+use Rattle.pc_shared.specs.Sitters.{Sitter, SessionKeeps}
 use Rattle.pc_shared.proofs.Keeping.{commit_keeps, step_found}
 use Rattle.pc_shared.proofs.store.Shared.commit.Goals as goal
 
@@ -21,7 +21,7 @@ invariant_of-session-2 g c =
     let e = c.commit.ensures in
     let added : (n : ℕ) → (ks : List Receipt) → List Receipt = (λ n ks. ks ++ receipt_of n c.in-Ok.n (own w.busy w.writes.items w.reads.items ks) ∷ []) in
     let receipts : v.receipts.items ≡ added f.number w.receipts.items = e.1 ∙ (ap (λ (n : ℕ). added n c.has_room_for_receipt-has_room.new.receipts.items) c.number-number.ensures.number ∙ ap (added f.number) c.has_room_for_receipt-has_room.ensures.same) in (
-      subst (λ (m : ℕ). Keeps v.busy v.writes.items v.reads.items v.receipts.items m after) (sym c.commit_as.ensures.number)
+      subst (λ (m : ℕ). SessionKeeps v.busy v.writes.items v.reads.items v.receipts.items m after) (sym c.commit_as.ensures.number)
           (commit_keeps g.N.StoreName.name.setting f.number f.seen after w.busy v.busy w.writes.items v.writes.items w.reads.items v.reads.items w.receipts.items v.receipts.items (c.session.invariant.0.while_busy c.if-not-session.false) c.in-Ok.n c.in-Ok.ensures.call e.0 receipts),
       ap (λ l. kept_in l v.reads.items) e.2 ∙ sym (step_found g.N.StoreName.name.setting f.seen after (step_of (asked.Commit f.number) (Committed c.in-Ok.n)) c.in-Ok.ensures.call),
     )

@@ -7,7 +7,7 @@ use Rattle.pc_types.specs.declared.Refusal.{Refusal}
 use Rattle.pc_types.specs.declared.Reply.TheVariants.{Refused}
 use Rattle.pc_model.specs.Calls.{IsAnswered}
 use Rattle.pc_model.specs.Calls.AsksOpen.{Gets}
-use Rattle.pc_shared.specs.Sitters.{Sitter, Keeps}
+use Rattle.pc_shared.specs.Sitters.{Sitter, SessionKeeps}
 use Rattle.pc_shared.proofs.Keeping.{read_keeps, got_found}
 use Rattle.pc_shared.proofs.store.Shared.get.Goals as goal
 
@@ -22,7 +22,7 @@ invariant_of-session-2 g c =
     let same : c.has_room_to_read-has_room.new.reads.items ≡ w.reads.items = c.has_room_to_read-has_room.ensures.same in
     let reads : v.reads.items ≡ reads_after got w.writes.items w.reads.items key = c.read.ensures.reads ∙ ap (λ (l : List Read). reads_after got w.writes.items l key) same in
     let call : IsGot g.N.StoreName.name.setting f.seen f.number key got after = subst (λ (k : List ℕ). IsGot g.N.StoreName.name.setting f.seen f.number k got after) (sym c.in-Ok.ensures.key) c.in-Ok.ensures.call in (
-      subst (λ (m : ℕ). Keeps v.busy v.writes.items v.reads.items v.receipts.items m after) (sym c.get_as.ensures.number)
+      subst (λ (m : ℕ). SessionKeeps v.busy v.writes.items v.reads.items v.receipts.items m after) (sym c.get_as.ensures.number)
           (read_keeps g.N.StoreName.name.setting f.number f.seen after w.busy v.busy w.writes.items v.writes.items w.reads.items v.reads.items w.receipts.items v.receipts.items (c.session.invariant.0.while_busy c.if-not-session.false) key got call c.read.ensures.others.0 c.read.ensures.others.1 reads c.read.ensures.others.2),
       c.read.ensures.latest ∙ sym (got_found g.N.StoreName.name.setting f.number f.seen after key got call),
     )

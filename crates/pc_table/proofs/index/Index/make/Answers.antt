@@ -1,6 +1,6 @@
 use Rattle.std.proofs.Common.{ℕ, List, Option, Some, set, refl, sym, ap, ◌∙◌, subst}
 use Rattle.pc_table.specs.Slots.{Slots}
-use Rattle.pc_table.specs.Indexes.{Table, place_of, chain_at, IsIndex}
+use Rattle.pc_table.specs.Indexes.{IndexView, place_of, chain_at, IsIndex}
 use Rattle.pc_table.specs.Keys.{IsSlotOf}
 use Rattle.pc_table.proofs.Places.{chain_read, table_written}
 use Rattle.pc_table.proofs.Making.{line_taken, free_avoids, index_made, slot_made}
@@ -8,7 +8,7 @@ use Rattle.pc_table.proofs.index.Index.make.Goals as goal
 
 pub returns-clause-index : goal.returns-clause-index
 returns-clause-index g c =
-    let t : Table = c.args.self.now in
+    let t : IndexView = c.args.self.now in
     let i = c.requires.index in
     let old = c.args.arena.now in
     let id : ℕ = c.in_ok-id.id in

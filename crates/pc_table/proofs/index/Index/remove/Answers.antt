@@ -1,6 +1,6 @@
 use Rattle.std.proofs.Common.{◌≡◌, ℕ, List, None, sym, ap, ◌∙◌, subst, set, Option, arith}
 use Rattle.pc_table.specs.Slots.{at}
-use Rattle.pc_table.specs.Indexes.{Table, place_of, chain_at, IsIndex}
+use Rattle.pc_table.specs.Indexes.{IndexView, place_of, chain_at, IsIndex}
 use Rattle.pc_table.specs.Keys.{IsSlotOf}
 use Rattle.pc_table.proofs.Places.{chain_read, table_written}
 use Rattle.pc_table.proofs.Removing.{standing, others_apart, absent_removed, slot_removed, index_removed}
@@ -8,7 +8,7 @@ use Rattle.pc_table.proofs.index.Index.remove.Goals as goal
 
 pub unlink-requires-clause-stands : goal.unlink-requires-clause-stands
 unlink-requires-clause-stands g c =
-    let t : Table = c.args.self.now in
+    let t : IndexView = c.args.self.now in
     let item = c.get.result.now in
     let p : ℕ = place_of t (g.T.Keyed.key_of item) in
     let here = chain_read _ t c.place-place.result p c.index.result.now c.self.view_is (c.place-place.ensures.place ∙ ap (place_of t) c.key.ensures) c.place-place.ensures.within c.index.ensures in
@@ -23,7 +23,7 @@ returns-clause-gone g c =
 
 pub returns-clause-index : goal.returns-clause-index
 returns-clause-index g c =
-    let t : Table = c.args.self.now in
+    let t : IndexView = c.args.self.now in
     let i = c.requires.index in
     let old = c.args.arena.now in
     let item = c.get.result.now in

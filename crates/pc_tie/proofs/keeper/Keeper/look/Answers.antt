@@ -1,6 +1,6 @@
 use Rattle.std.proofs.Common.{sym, ◌∙◌, arith, subst}
 use Rattle.pc_tie.specs.Rules.{AreTold}
-use Rattle.pc_tie.specs.Seats.{Meeting}
+use Rattle.pc_tie.specs.Seats.{KeeperView}
 use Rattle.pc_tie.proofs.Visits.{compares_at}
 use Rattle.pc_tie.proofs.keeper.Keeper.look.Goals as goal
 
@@ -10,4 +10,4 @@ load-found-requires g c =
     (i.0 ∙ sym c.args.tie.now.named, omega (arith, c.args.tie.now.one), compares_at _ _ _ _ _ _ _ i.1)
 
 pub returns-clause-told : goal.returns-clause-told
-returns-clause-told g c = subst (λ (m : Meeting). AreTold m.history m.guests) c.self.view_is c.load-found.ensures.2.1
+returns-clause-told g c = subst (λ (m : KeeperView). AreTold m.history m.guests) c.self.view_is c.load-found.ensures.2.1

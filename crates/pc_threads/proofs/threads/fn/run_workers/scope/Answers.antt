@@ -8,7 +8,7 @@ use Rattle.pc_model.specs.History.{History}
 use Rattle.pc_workers.specs.Checkpointing.{HasCycled}
 use Rattle.pc_workers.proofs.WholeCycles.{cycled_none}
 use Rattle.pc_threads.specs.Clients.{HaveWorked, clients_in, transactions_in}
-use Rattle.pc_threads.specs.Faults.{IsEnd}
+use Rattle.pc_threads.specs.Faults.{IsThreadsEnd}
 use Rattle.pc_threads.proofs.StopLaws.{left_true, more_end, point_ends}
 use Rattle.pc_threads.proofs.threads.fn.run_workers.scope.Goals as goal
 
@@ -69,7 +69,7 @@ returns-in_err-ran g c =
       points = λ first had. tt;
       ended = λ fresh.
           more_end has_log (has_log || there) n n 0 c.captures.points fault (left_true has_log there) (omega arith) (omega arith)
-          (subst (λ (workers : List (List Client)). IsEnd has_log (transactions_in (clients_in workers)) 0 fault) all (c.in_err-ran.ensures.ended has_log c.loop-worker.invariant.3));
+          (subst (λ (workers : List (List Client)). IsThreadsEnd has_log (transactions_in (clients_in workers)) 0 fault) all (c.in_err-ran.ensures.ended has_log c.loop-worker.invariant.3));
     })
 
 pub returns-in_err-checkpointer : goal.returns-in_err-checkpointer
@@ -105,5 +105,5 @@ returns-in_err-checkpointer-2 g c =
       ended = λ fresh.
           let none : HasCycled st 0 [] seat = subst (λ (h : History). HasCycled st 0 h seat) fresh (cycled_none st seat c.requires.rest) in
           point_ends c.captures.has_log (is_some c.captures.checkpointer.folder) (transactions_in (clients_in c.captures.workers.items)) points points fault (omega arith)
-          (subst (λ (b : Bool). IsEnd b 0 points fault) c.in_ok-checkpointer.ensures.there (c.in_err-checkpointer-2.ensures.ended (c.in_ok-checkpointer.ensures.cycles [] none)));
+          (subst (λ (b : Bool). IsThreadsEnd b 0 points fault) c.in_ok-checkpointer.ensures.there (c.in_err-checkpointer-2.ensures.ended (c.in_ok-checkpointer.ensures.cycles [] none)));
     })
