@@ -6,6 +6,8 @@
     try_bodies.py NAME/BODY..       these alone
     try_bodies.py --since           those that weren't tried on the text of their crate, and of those below it, as it is now
     try_bodies.py --list            tells of each crate how many were tried on this text
+    try_bodies.py --copy FOLDER     makes the copy alone, in which `rt ci NAME..` tries them over what the gate has proved on this machine
+    try_bodies.py --read LOG        notes what such a run refused, of the text as it stands
 
 They are tried on a copy of the repository, by `rt must-fail`, as many crates side by side as --lanes N says (one where it isn't given),
 once the libraries below them are built. What was refused is noted in tools/tried: the crate, the checksum of the text that it was tried on, the
@@ -151,6 +153,21 @@ def try_all(chosen, lanes):
     return 1 if any(None in it for it in done.values()) else 0
 
 
+def read_log(path):
+    """Notes what a run of `rt ci` in such a copy refused."""
+    with open(path, encoding="utf-8", errors="replace") as it:
+        found = re.findall(r"must-fail (\w+)/([\w.-]+)\.edit: refused, as it must be", it.read())
+    record, known, texts = Record(), crates(), {}
+    tried = [(name, body) for name, body in found if name in known and body in bodies_of(name)]
+    for name, body in tried:
+        if name not in texts:
+            texts[name] = text_sum(known[name])
+        record.note(name, body, texts[name])
+    record.write()
+    print(f"{len(tried)} bodies were refused")
+    return 0
+
+
 def tell():
     record = Record()
     for name, below in crates().items():
@@ -180,9 +197,15 @@ def main():
     reader.add_argument("--since", action="store_true")
     reader.add_argument("--list", action="store_true")
     reader.add_argument("--lanes", type=int, default=1)
+    reader.add_argument("--copy")
+    reader.add_argument("--read")
     given = reader.parse_args()
     if given.list:
         return tell()
+    if given.read:
+        return read_log(given.read)
+    if given.copy:
+        return copy_with(given.copy, chosen_of(given.names, given.since))
     return try_all(chosen_of(given.names, given.since), given.lanes)
 
 

@@ -75,6 +75,13 @@ class Bodies(InFolder):
         self.write("crates/pc_mid/src/lib.rt", "b\n")
         self.assertEqual(try_bodies.chosen_of([], True), {"pc_high": ["one", "two"]})
 
+    def test_what_a_run_of_the_gate_refused_is_noted(self):
+        """Bodies of the gate, and those that were not refused, are no part of it."""
+        said = ("one.edit: refused, as it must be", "two.edit: NOT REFUSED: x", "three.edit: refused, as it must be")
+        log = self.write("log", "".join(f"rt: must-fail pc_high/{it}\n" for it in said))
+        self.assertEqual(self.printed(try_bodies.read_log, log), (0, "1 bodies were refused\n"))
+        self.assertEqual(try_bodies.chosen_of([], True), {"pc_low": ["one"], "pc_high": ["two"]})
+
     def test_the_record_has_a_body_once_and_none_that_is_gone(self):
         self.noted(("pc_low", "one"), ("pc_high", "one"))
         self.write("crates/pc_low/src/lib.rt", "b\n")
