@@ -92,7 +92,8 @@ class Times(InFolder):
     def test_checks_at_work(self):
         """Those below a process are noted, with the most that was seen of them."""
         words = ["/kit/bin/rattle", "-c", f"sleep {SECONDS}; true", "--crate-name", "pc_low"]
-        with subprocess.Popen(words, executable="/bin/sh", stdin=subprocess.DEVNULL, start_new_session=True) as check:
+        settings = {"stdin": subprocess.DEVNULL, "start_new_session": True}
+        with subprocess.Popen(words, executable="/bin/sh", **settings) as check, subprocess.Popen(["sleep", str(SECONDS)], **settings) as idle:
             try:
                 key = (str(check.pid), "pc_low", "proof")
                 while gate_times.part_of(self.words_of(check.pid)) is None:
@@ -100,9 +101,10 @@ class Times(InFolder):
                 seen, others = {key: 5.0}, {}
                 self.assertEqual(gate_times.look(os.getpid(), seen), {("pc_low", "proof")})
                 self.assertEqual(seen, {key: 5.0})
-                self.assertEqual((gate_times.look(check.pid + 1, others), others), (set(), {}))
+                self.assertEqual((gate_times.look(idle.pid, others), others), (set(), {}))
             finally:
-                os.killpg(check.pid, signal.SIGKILL)
+                for it in (check, idle):
+                    os.killpg(it.pid, signal.SIGKILL)
 
     def words_of(self, pid):
         with open(f"/proc/{pid}/cmdline", encoding="utf-8") as it:
