@@ -8,7 +8,7 @@ use Rattle.pc_types.specs.declared.refusal.Refusal.TheVariants.{OutOfMemory, Dev
 use Rattle.pc_types.specs.declared.tally.Tally.{Tally}
 use Rattle.pc_types.specs.Counted.{HasRisen, AppendsBeginning}
 use Rattle.pc_types.specs.Fields.{◌>>=◌}
-use Rattle.pc_types.specs.Tallies.{inner_of, failures_of}
+use Rattle.pc_types.specs.Tallies.{Puts, inner_of, failures_of}
 use Rattle.pc_model.specs.Maps as map_of
 use Rattle.pc_model.specs.Sets as set
 use Rattle.pc_model.specs.Files.{File}
@@ -30,6 +30,10 @@ is_one_of files name = list_any (λ file. bytes_eq file.name.items name) files
 -- what is told where the file that is to be written has the name of an input
 abbrev pub usage_text : List ℕ → List ℕ
 usage_text name = codes "pcalc: " ++ (name ++ codes ": an input has this name\n")
+
+-- it is told, as far as the writer takes it
+abbrev pub TellsUsage : {T : Type 0} → (T → Option (List ℕ)) → Tally T → Tally T → List ℕ → Type 0
+TellsUsage contents old new name = (told : Result (Unit {0}) Refusal) × Puts contents old new told (usage_text name)
 
 -- files that were opened hold these texts, each its own
 abbrev pub HoldTexts : {R : Type 0} → (R → Option (List ℕ)) → List (NamedFile R) → List (List ℕ) → Type 0
@@ -161,3 +165,7 @@ IsCollapseTold contents old new name (fault.Refused why) = TellsOf contents old 
 IsCollapseTold contents old new name (fault.Unmade why) = TellsOf contents old new name why
 IsCollapseTold contents old new name fault.Unwritten = TellsOf contents old new name Device
 IsCollapseTold contents old new name fault.Output = new ≡ old
+
+-- a fault has ended a collapse: it is a cause, this is left, and it was told
+abbrev pub IsCollapseFailed : {R F W : Type 0} → (R → Option (List ℕ)) → (F → Option (List ℕ)) → (W → Option (List ℕ)) → List (NamedFile R) → Option (Tally F) → Tally W → Tally W → (Fault → Type 0) → Type 0
+IsCollapseFailed remaining contents printed files made old new Told = (fault : Fault) × IsCollapseCause remaining files fault × IsLeftByCollapse remaining contents printed files fault made old new × Told fault

@@ -5,7 +5,7 @@ ghost use Rattle.pc_types.specs.declared.refusal.Refusal.{Refusal};
 ghost use Rattle.pc_types.specs.Tallies.{Puts};
 ghost use Rattle.pc_model.specs.Files.{File};
 ghost use Rattle.pc_texts.specs.Files.{AreOpened};
-ghost use Rattle.pc_collapse_files.specs.Collapses.{IsCollapseCause, IsCollapseDone, IsInputFault, IsJoinOf, IsLeftByCollapse, IsTextOf, IsCollapseTold, is_one_of, usage_text};
+ghost use Rattle.pc_collapse_files.specs.Collapses.{IsCollapseCause, IsCollapseDone, IsCollapseFailed, IsInputFault, IsJoinOf, IsLeftByCollapse, IsTextOf, IsCollapseTold, TellsUsage, is_one_of, usage_text};
 ghost use Rattle.pc_collapse_files.specs.declared.inputs.Fault.{Fault};
 
 use crate::inputs::{Fault, Inputs, is_input, join_files};
@@ -54,11 +54,10 @@ pub fn run_collapse<
 ) -> EndedCollapse<F>
     ensures status { (result.status ≡ 0) ⊎ (result.status ≡ 1) ⊎ (result.status ≡ 2) }
     ensures usage { MatchBool (is_one_of inputs.files.items name.now)
-        ((result.status ≡ 2) × (result.file ≡ None) × (out.new ≡ out.old) × ((told : Result (Unit {0}) Refusal) × Puts E.contents errors.old errors.new told (usage_text name.now)))
+        ((result.status ≡ 2) × (result.file ≡ None) × (out.new ≡ out.old) × TellsUsage E.contents errors.old errors.new name.now)
         (¬ (result.status ≡ 2)) }
     ensures done { result.status ≡ 0 → IsCollapseDone R.remaining F.contents W.contents inputs.files.items result.file out.old out.new × (errors.new ≡ errors.old) }
-    ensures cause { result.status ≡ 1 → (fault : Fault) × IsCollapseCause R.remaining inputs.files.items fault
-        × IsLeftByCollapse R.remaining F.contents W.contents inputs.files.items fault result.file out.old out.new × IsCollapseTold E.contents errors.old errors.new name.now fault }
+    ensures cause { result.status ≡ 1 → IsCollapseFailed R.remaining F.contents W.contents inputs.files.items result.file out.old out.new (IsCollapseTold E.contents errors.old errors.new name.now) }
 {
     if is_input(&inputs.files, name.as_bytes()) {
         let _ = put_usage(name, errors);

@@ -10,7 +10,7 @@ ghost use Rattle.pc_collapse_files.specs.declared.inputs.Fault.{Fault};
 
 use crate::inputs::Fault;
 use pc_part::Part;
-use pc_texts::put_joined;
+use pc_texts::{end_output, put_joined};
 use pc_types::{Items, Point, Refusal, Tally};
 use std::alloc::Global;
 use std::io::Write;
@@ -93,9 +93,8 @@ pub(crate) fn print<W: Write>(
         × AppendsBeginning (W.contents (inner_of out.old)) (W.contents (inner_of out.new)) (joined_line points.now entries)) }
 {
     let put = put_joined(out, points, entries);
-    let flushed = out.flush();
-    match put {
-        Ok(()) if flushed.is_ok() => Ok(()),
-        _ => Err(Fault::Output),
+    match end_output(put, out) {
+        Ok(()) => Ok(()),
+        Err(_) => Err(Fault::Output),
     }
 }

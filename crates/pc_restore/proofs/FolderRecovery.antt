@@ -1,9 +1,5 @@
 -- What is recovered of a folder whose files were read.
-use Rattle.std.proofs.Common.{◌≡◌, ◌≢◌, ◌⊎◌, inl, inr, ℕ, List, Option, Result, Ok, Err, refl}
-use Rattle.std.specs.Io.KnownBytes.{Keeps}
-use Rattle.pc_types.proofs.KnownBytesLaws.{part_begins}
-use Rattle.pc_types.specs.Counted.{AppendsBeginning}
-use Rattle.pc_types.specs.Tallies.{Puts}
+use Rattle.std.proofs.Common.{◌≡◌, ◌≢◌, ◌⊎◌, inl, inr, ℕ, List, Option, Result, refl}
 use Rattle.pc_types.specs.declared.tally.Tally.{Tally}
 use Rattle.pc_types.specs.declared.refusal.Refusal.{Refusal}
 use Rattle.pc_types.specs.declared.refusal.Refusal.TheVariants as why
@@ -12,7 +8,6 @@ use Rattle.pc_restore.specs.declared.recovery.Folder.{Folder}
 use Rattle.pc_restore.specs.declared.recovery.Lost.{Lost}
 use Rattle.pc_restore.specs.declared.recovery.Lost.TheVariants as lost
 use Rattle.pc_restore.specs.Recoveries.{GoesOutUnrecovered}
-use Rattle.pc_texts.proofs.Begun.{begins_kept, whole_begins}
 
 -- a refusal is for want of memory, or it isn't
 pub memory_or : (refusal : Refusal) → (refusal ≡ why.OutOfMemory) ⊎ (refusal ≢ why.OutOfMemory)
@@ -31,8 +26,3 @@ nothing_out remaining contents folder out (lost.Part name why) other = refl
 nothing_out remaining contents folder out (lost.Log why) other = refl
 nothing_out remaining contents folder out (lost.Folder why) other = refl
 nothing_out remaining contents folder out lost.Output other = absurd (other refl)
-
--- a text that went out, or a beginning of it, and then a flush
-pub puts_begin : {T : Type 0} (contents : T → Option (List ℕ)) (a b c : Tally T) (put : Result (Unit {0}) Refusal) (x : List ℕ) → Puts contents a b put x → Keeps (contents b.inner) (contents c.inner) → AppendsBeginning (contents a.inner) (contents c.inner) x
-puts_begin contents a b c (Ok u) x p kept = begins_kept (contents a.inner) (contents b.inner) (contents c.inner) x (whole_begins (contents a.inner) (contents b.inner) x p.0) kept
-puts_begin contents a b c (Err e) x p kept = begins_kept (contents a.inner) (contents b.inner) (contents c.inner) x (part_begins (contents a.inner) (contents b.inner) x p.2) kept

@@ -2,6 +2,7 @@
 use Rattle.std.specs.Prelude.{◌≡◌, ◌≢◌, ◌⊎◌, ℕ, List, [], ◌∷◌, ◌++◌, Option, Some, map, codes, Ok, Err, IsOk, IfErr, ⊤}
 use Rattle.std.specs.declared.result.Result.{Result}
 use Rattle.std.specs.Global.{Vec}
+use Rattle.std.specs.Io.KnownBytes.{Appends}
 use Rattle.pc_types.specs.declared.refusal.Refusal.{Refusal}
 use Rattle.pc_types.specs.declared.refusal.Refusal.TheVariants.{OutOfMemory, NoFile}
 use Rattle.pc_types.specs.Counted.{HasRisen, AppendsBeginning}
@@ -94,6 +95,11 @@ IsLost remaining folder (lost.Part name why) = IsOk folder.base × IsListLost fo
 IsLost remaining folder (lost.Log why) = IsOk folder.base × ArePartsOpened folder.parts × IsLogFault folder.log why
 IsLost remaining folder (lost.Folder why) = (IsOk folder.base × IsListLost folder.parts (lost.Folder why)) ⊎ (AreAllOpened folder × IsRecoveryRefused remaining folder why)
 IsLost remaining folder lost.Output = AreAllOpened folder
+
+-- what is recovered of the folder was printed: all of it went out; said where the files' bytes are known
+abbrev pub PrintsAll : {R T : Type 0} → (R → Option (List ℕ)) → (T → Option (List ℕ)) → Folder R → Tally T → Tally T → Type 0
+PrintsAll remaining contents folder old new = (base : List ℕ) (names parts : List (List ℕ)) (log : List ℕ) → HoldsAll remaining folder base names parts log →
+    (found : Recovery) × (recovery base parts log ≡ Ok found) × Appends (contents (inner_of old)) (contents (inner_of new)) (recovery_text names found)
 
 -- a beginning of what is printed of what is recovered went out, and nothing else; said where the files' bytes are known
 abbrev pub PrintsInPart : {R T : Type 0} → (R → Option (List ℕ)) → (T → Option (List ℕ)) → Folder R → Tally T → Tally T → Type 0

@@ -1,20 +1,19 @@
 //! A recovery of a folder, from its readers to the status.
 ghost use Rattle.std.specs.Prelude.{◌≡◌, ◌≢◌, ◌⊎◌, ◌++◌, [], ◌∷◌, ℕ, List, map, IsOk, IfOk, IfErr, OnOk};
 ghost use Rattle.std.specs.declared.result.Result.{Result};
-ghost use Rattle.std.specs.Io.KnownBytes.{Appends, Keeps};
+ghost use Rattle.std.specs.Io.KnownBytes.{Keeps};
 ghost use Rattle.pc_types.specs.declared.refusal.Refusal.{Refusal};
 ghost use Rattle.pc_types.specs.Tallies.{inner_of, failures_of};
 ghost use Rattle.pc_types.specs.Fields.{Gives};
 ghost use Rattle.pc_model.specs.Database.{KeysRise};
-ghost use Rattle.pc_recover.specs.Recovery.{IsOfRun, Recovery, recovery, recovery_of};
+ghost use Rattle.pc_recover.specs.Recovery.{IsOfRun, recovery, recovery_of};
 ghost use Rattle.pc_restore.specs.declared.recovery.Lost.{Lost};
 ghost use Rattle.pc_texts.specs.Files.{IsScriptFault, HoldsBytes, AreOpened};
-ghost use Rattle.pc_restore.specs.Reports.{recovery_text};
-ghost use Rattle.pc_restore.specs.Recoveries.{AreAllOpened, ArePartsOpened, GoesOutUnrecovered, HoldsLog, HoldEach, HoldParts, HoldsAll, IsEachLost, IsListLost, IsLogFault, IsLogOpened, IsLost, IsRecoveryTold, bytes_of, names_of};
+ghost use Rattle.pc_restore.specs.Recoveries.{AreAllOpened, ArePartsOpened, GoesOutUnrecovered, HoldsLog, HoldEach, HoldParts, HoldsAll, IsEachLost, IsListLost, IsLogFault, IsLogOpened, IsLost, IsRecoveryTold, PrintsAll, bytes_of, names_of};
 
 use crate::reports::put_recovered;
 use pc_recover::{Recovered, recover};
-use pc_texts::{NamedFile, read_opened, report};
+use pc_texts::{NamedFile, end_output, read_opened, report};
 use pc_types::{Refusal, Tally};
 use std::alloc::{AllocError, Global};
 use std::io::{Read, Write};
@@ -70,8 +69,7 @@ pub fn run_recover<R: Read + Drop, W: Write, E: Write>(
     errors: &mut Tally<E>,
 ) -> u8
     ensures status { (result ≡ 0) ⊎ (result ≡ 1) }
-    ensures recovered { result ≡ 0 → (base : List ℕ) (names parts : List (List ℕ)) (log : List ℕ) → HoldsAll R.remaining folder base names parts log →
-        (found : Recovery) × (recovery base parts log ≡ Ok found) × Appends (W.contents (inner_of out.old)) (W.contents (inner_of out.new)) (recovery_text names found) }
+    ensures recovered { result ≡ 0 → PrintsAll R.remaining W.contents folder out.old out.new }
     ensures sound { result ≡ 0 → failures_of out.new ≡ failures_of out.old }
     ensures quiet { result ≡ 0 → Keeps (E.contents (inner_of errors.old)) (E.contents (inner_of errors.new)) }
     ensures cause { result ≡ 1 → (lost : Lost) × IsLost R.remaining folder lost × GoesOutUnrecovered R.remaining W.contents folder out.old out.new lost
@@ -91,18 +89,16 @@ fn recover_folder<R: Read + Drop, W: Write>(
     folder: Folder<R>,
     out: &mut Tally<W>,
 ) -> Result<(), Lost>
-    ensures recovered { OnOk result ((base : List ℕ) (names parts : List (List ℕ)) (log : List ℕ) → HoldsAll R.remaining folder base names parts log →
-        (found : Recovery) × (recovery base parts log ≡ Ok found) × Appends (W.contents (inner_of out.old)) (W.contents (inner_of out.new)) (recovery_text names found)) }
+    ensures recovered { OnOk result (PrintsAll R.remaining W.contents folder out.old out.new) }
     ensures sound { OnOk result (failures_of out.new ≡ failures_of out.old) }
     ensures cause { IfErr result (IsLost R.remaining folder) }
     ensures goes_out { IfErr result (GoesOutUnrecovered R.remaining W.contents folder out.old out.new) }
 {
     let Worth { parts, recovered } = recover_read(alloc, folder)?;
     let put = put_recovered(out, &parts, &recovered);
-    let flushed = out.flush();
-    match put {
-        Ok(()) if flushed.is_ok() => Ok(()),
-        _ => Err(Lost::Output),
+    match end_output(put, out) {
+        Ok(()) => Ok(()),
+        Err(_) => Err(Lost::Output),
     }
 }
 

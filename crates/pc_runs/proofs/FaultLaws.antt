@@ -1,5 +1,5 @@
 -- Which faults end a run that has begun.
-use Rattle.std.proofs.Common.{◌≡◌, ◌⊎◌, inl, inr, ℕ, ◌+◌, ◌<◌, ◌≤◌, ◌++◌, Bool, true, false, List, [], ◌∷◌, Option, Some, None, length, length-append, All, refl, ap, sym, subst, ◌∙◌, arith}
+use Rattle.std.proofs.Common.{◌≡◌, ◌⊎◌, inl, inr, ℕ, ◌<◌, ◌≤◌, Bool, true, false, List, [], ◌∷◌, Option, Some, None, length, length-append, All, refl, ap, sym, subst, ◌∙◌, arith}
 use Rattle.std.specs.Prelude.{IfErr, IsTrue, Result, Ok, Err, ◌||◌, is_some}
 use Rattle.std.specs.List.{flat_map}
 use Rattle.std.proofs.lemmas.Bool.Decides.{nat_tests}
@@ -22,7 +22,7 @@ use Rattle.pc_jobs.specs.declared.works.Client.{Client}
 use Rattle.pc_jobs.specs.declared.works.Workload.{Workload}
 use Rattle.pc_texts.specs.declared.file_names.FileName.{FileName}
 use Rattle.pc_texts.proofs.StatePairLaws.{pairs_of}
-use Rattle.pc_outcomes.specs.Leaving.{IsMissing, IsUntoldAfter, has_point}
+use Rattle.pc_outcomes.specs.Leaving.{IsUntoldAfter, has_point}
 use Rattle.pc_threads.specs.Clients.{clients_in, jobs_of, transactions_in}
 use Rattle.pc_threads.specs.Faults.{IsThreadsEnd, IsFileLost}
 use Rattle.pc_threads.specs.Files.{HasWritten}
@@ -107,10 +107,9 @@ module _ (st : Setting) (workload : Workload) (there : Bool) where
   not_opened given (inl (full, few)) = subst (IsRunRefused st workload there) (sym full) (inl few)
   not_opened given (inr memory) = subst (IsRunRefused st workload there) (sym memory) tt
 
-  -- a session that isn't there
-  pub seatless : (given : Refusal) → (given ≡ why.NoSession) ⊎ (given ≡ why.OutOfMemory) → IsRunRefused st workload there given
-  seatless given (inl none) = subst (IsRunRefused st workload there) (sym none) tt
-  seatless given (inr memory) = subst (IsRunRefused st workload there) (sym memory) tt
+  -- memory that was wanting
+  pub no_memory : (given : Refusal) → given ≡ why.OutOfMemory → IsRunRefused st workload there given
+  no_memory given is = subst (IsRunRefused st workload there) (sym is) tt
 
 -- the base has more pairs than there is room for
 pub too_large : (capacity : ℕ) (items : List (List ℕ × List ℕ)) (pairs : Database) → KeysRise items → database_of items ≡ pairs → capacity < length items → capacity < len pairs

@@ -1,6 +1,5 @@
 -- What a closed store leaves, as what is asked of files that a legal history left.
-use Rattle.std.proofs.Common.{◌≡◌, ℕ, Bool, true, false, List, [], ◌∷◌, ◌++◌, All, drop, length, refl, sym, subst}
-use Rattle.std.specs.Prelude.{MatchBool}
+use Rattle.std.proofs.Common.{◌≡◌, ℕ, List, [], ◌∷◌, ◌++◌, All, drop, length, refl, sym, subst}
 use Rattle.std.proofs.lemmas.List.Elements.{All-nil, All-cons, All-head, All-tail}
 use Rattle.pc_types.specs.declared.Entry.{Entry}
 use Rattle.pc_model.specs.Files.{BaseFile, File}
@@ -14,11 +13,6 @@ pub left_after : (st : Setting) (base : BaseFile) (log : List Entry) (logged : �
     → (h : History) × IsLeftByStore st base log logged sessions seat tickets given h → (history : History) × AreLeftAfter st history base log files
 left_after st base log logged sessions seat tickets files given same (h, left) =
     (h, record { legal = left.legal; start = left.base; log_is = left.log_is; worth = subst (All (IsOfItsPoints st.run st.base log)) (sym same) left.worth })
-
--- what a test that came out well says
-pub it_is : (A B : Type 0) (b : Bool) → b ≡ true → MatchBool b A B → A
-it_is A B true is m = m
-it_is A B false is m = absurd (cc (is))
 
 -- of some things and others, what holds of all holds of the first ones
 pub first_ones : {X : Type 0} (P : X → Type 0) (xs ys : List X) → All P (xs ++ ys) → All P xs

@@ -4,5 +4,6 @@ pub mod NewPasses
 mod CommitLaws
 mod DealingLaws
 mod FaultLaws
+mod SeatingLaws
 mod WorkLaws
 mod FolderLaws

@@ -10,8 +10,8 @@ use Rattle.pc_jobs.specs.declared.works.Client.{Client}
 use Rattle.pc_jobs.specs.Dealing.{IsDealt}
 use Rattle.pc_shared.specs.Sitters.{Sitter, IsSitterSettled, HasAll, is_there, new_sitters, sitter}
 use Rattle.pc_workers.specs.Clients.{marked}
-use Rattle.pc_threads.specs.Clients.{HasWorked, HaveWorked, IsFresh, clients_in, jobs_of}
-use Rattle.pc_runs.specs.Worked.{HasRunBy, HaveRunBy, commits_of, is_taken, left_over}
+use Rattle.pc_threads.specs.Clients.{HasWorked, HaveWorked, IsFresh, clients_in, is_taken, jobs_of}
+use Rattle.pc_runs.specs.Worked.{HasRunBy, HaveRunBy, commits_of, left_over}
 use Rattle.pc_runs.proofs.CommitLaws.{receipts_are_commits, written_in}
 use Rattle.pc_runs.proofs.HistoryLaws.{first_ones}
 use Rattle.pc_runs.proofs.DealingLaws.{of_dealt, same_total, to_dealt, total}

@@ -16,8 +16,7 @@ use Rattle.pc_threads.specs.declared.fault.Fault.TheVariants as fault
 -- * the store has no room for all pairs of its base, more transactions were given up than 64 bits can count, or there are points,
 --   and too many of them or too many keys in the file of all;
 -- * there are too many points;
--- * there are points, and the log or the shelf has no place left, or the file of one of them isn't there;
--- * a session isn't there.
+-- * there are points, and the log or the shelf has no place left, or the file of one of them isn't there.
 abbrev pub IsRunRefused : Setting → Workload → Bool → Refusal → Type 0
 IsRunRefused st workload there refusal.OutOfMemory = ⊤
 IsRunRefused st workload there refusal.Device = IsTrue there
@@ -26,7 +25,6 @@ IsRunRefused st workload there refusal.PointsFull = MOST_POINTS < workload.point
 IsRunRefused st workload there refusal.LogFull = 0 < workload.points
 IsRunRefused st workload there refusal.ShelfFull = 0 < workload.points
 IsRunRefused st workload there refusal.NoFile = 0 < workload.points
-IsRunRefused st workload there refusal.NoSession = ⊤
 IsRunRefused st workload there other = ⊥
 
 -- The fault ends such a run: it is refused for one of these, a file of the folder can't be made, or a thread can't be started.

@@ -1,6 +1,5 @@
 -- What the clients of a workload have done, by the one history of their store.
 use Rattle.std.specs.Prelude.{◌≡◌, ◌≤◌, ◌+◌, ◌-◌, ◌==◌, ℕ, Bool, List, [], ◌∷◌, IsFalse, All, if◌then◌else◌, length}
-use Rattle.std.specs.List.{list_any}
 use Rattle.pc_types.specs.declared.Entry.{Entry}
 use Rattle.pc_types.specs.declared.Entry.TheVariants.{Commit, Token}
 use Rattle.pc_types.specs.declared.Write.{Write}
@@ -8,7 +7,7 @@ use Rattle.pc_model.specs.Calls.{HasCallsOf}
 use Rattle.pc_model.specs.History.{History, log_of}
 use Rattle.pc_model.specs.Replies.{Setting}
 use Rattle.pc_jobs.specs.declared.works.Client.{Client}
-use Rattle.pc_threads.specs.Clients.{AreDone, jobs_of}
+use Rattle.pc_threads.specs.Clients.{AreDone, is_taken, jobs_of}
 use Rattle.pc_workers.specs.Clients.{marked}
 
 -- what the session has committed: the writes of each of its commits in the log, in order
@@ -32,10 +31,6 @@ pub record HasRunBy (st : Setting) (history : History) (client : Client) : Type 
 abbrev pub left_over : List Entry → List Client → ℕ
 left_over log [] = 0
 left_over log (client ∷ clients) = (length (jobs_of client) - length (commits_of client.session log)) + left_over log clients
-
--- the session is that of one of the clients
-abbrev pub is_taken : List Client → ℕ → Bool
-is_taken clients session = list_any (λ client. client.session == session) clients
 
 -- Each client has run, and all transactions that have not committed were given up; of the store's sessions, no other has committed
 -- anything.

@@ -9,7 +9,7 @@ ghost use Rattle.pc_runs.specs.Runs.{IsRunTold, IsUsable, IsUnusable, reason_tex
 use crate::files::{RunFolder, Unusable, report_unmade};
 use pc_outcomes::Printed;
 use pc_restore::{Lost, tell_lost};
-use pc_texts::report;
+use pc_texts::{end_output, report};
 use pc_threads::Fault;
 use pc_types::{Refusal, Tally};
 use std::io::Write;
@@ -70,10 +70,9 @@ pub fn print<W: Write>(printed: &Printed, out: &mut Tally<W>) -> Result<(), Fail
         × AppendsBeginning (W.contents (inner_of out.old)) (W.contents (inner_of out.new)) (printed_text printed.now)) }
 {
     let put = printed.put(out);
-    let flushed = out.flush();
-    match put {
-        Ok(()) if flushed.is_ok() => Ok(()),
-        _ => Err(Failure::Output),
+    match end_output(put, out) {
+        Ok(()) => Ok(()),
+        Err(_) => Err(Failure::Output),
     }
 }
 

@@ -1,7 +1,9 @@
 //! A run of a workload, from its reader to the status.
 ghost use Rattle.std.specs.Prelude.{◌≡◌, ◌⊎◌, ◌≤◌, is_some, IsOk, IsTrue, IfOk, IfErr, OnOk};
-ghost use Rattle.pc_types.specs.declared.limits.TheConstants.{MOST_KEYS};
+ghost use Rattle.pc_types.specs.declared.limits.TheConstants.{MOST_KEYS, MOST_SESSIONS};
 ghost use Rattle.pc_texts.specs.declared.file_names.FileName.TheVariants as file;
+ghost use Rattle.pc_shared.specs.Sitters.{new_sitters};
+ghost use Rattle.pc_threads.specs.Clients.{HaveSeats};
 ghost use Rattle.pc_threads.specs.Faults.{IsFileLost};
 ghost use Rattle.pc_runs.specs.Faults.{EndsRun};
 ghost use Rattle.pc_runs.specs.Folders.{HasBegunFiles};
@@ -179,6 +181,7 @@ fn run_read<
 ) -> Result<(RunReport, Option<D>), Fault>
     requires start { base.point ≡ 0 }
     requires capacity { (1 ≤ capacity) × (capacity ≤ MOST_KEYS) }
+    requires seats { HaveSeats (new_sitters MOST_SESSIONS) workload.clients }
     ensures run { IfOk result (λ r. IsWorkloadRun D.holds (run_setting base capacity) workload (is_some folder) r.1 r.0) }
     ensures ended { IfErr result (EndsRun (run_setting base capacity) workload (is_some folder)) }
 {

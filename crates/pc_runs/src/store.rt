@@ -6,8 +6,8 @@ ghost use Rattle.pc_model.specs.History.{History};
 ghost use Rattle.pc_board.specs.declared.limits.TheConstants.{MOST_PASSES};
 ghost use Rattle.pc_board.specs.Passes.{IsOfBoard};
 ghost use Rattle.pc_outcomes.specs.Leaving.{AreLeftAfter, IsLegacy, IsUntoldAfter, commits_in};
-ghost use Rattle.pc_shared.specs.Sitters.{Sitter};
-ghost use Rattle.pc_threads.specs.Clients.{HaveWorked, clients_in, transactions_in};
+ghost use Rattle.pc_shared.specs.Sitters.{Sitter, new_sitters};
+ghost use Rattle.pc_threads.specs.Clients.{HaveSeats, HaveWorked, clients_in, transactions_in};
 ghost use Rattle.pc_threads.specs.Faults.{IsThreadsEnd, IsFileLost};
 ghost use Rattle.pc_threads.specs.declared.fault.Fault.TheVariants as Fault;
 ghost use Rattle.pc_texts.specs.declared.file_names.FileName.TheVariants as file;
@@ -33,7 +33,7 @@ use pc_threads::{
     run_threads, seat_workers,
 };
 use pc_tie::StoreName;
-use pc_types::{Gate, Refusal, Tally};
+use pc_types::{Gate, Tally};
 use pc_workers::{log_rest, with_missing_points};
 use std::alloc::{AllocError, Global};
 use std::io::Write;
@@ -146,9 +146,10 @@ fn all_tickets<N: StoreName>(
     Ok((tickets, singles))
 }
 
-/// Runs the workload over the store, to its close, and tells what it leaves. Where there is a folder, which has the base's file and
-/// that of the log, which is blank, the log is written to it beside the threads, and its rest once the store is closed; and so is
-/// the file of each point, once the point was taken. It fails for nothing but what `specs/Faults` names.
+/// Runs the workload over the store, which has a session for each of its clients, to its close, and tells what it leaves. Where there
+/// is a folder, which has the base's file and that of the log, which is blank, the log is written to it beside the threads, and its
+/// rest once the store is closed; and so is the file of each point, once the point was taken. It fails for nothing but what
+/// `specs/Faults` names.
 pub fn run_store<
     N: StoreName + Send + Sync,
     F: Write + Drop + Send,
@@ -165,6 +166,7 @@ pub fn run_store<
     log: Option<Tally<F>>,
 ) -> Result<(RunReport, Option<D>), Fault>
     requires name { opened ≡ N.name }
+    requires seats { HaveSeats (new_sitters N.name.setting.sessions) workload.clients }
     requires begun { HasBegunFiles D.holds F.contents D.blank (base_of N.name.setting) folder log }
     ensures run { IfOk result (λ r. IsWorkloadRun D.holds N.name.setting workload (is_some folder) r.1 r.0) }
     ensures ended { IfErr result (EndsRun N.name.setting workload (is_some folder)) }
@@ -199,9 +201,6 @@ pub fn run_store<
     let (tickets, singles) = all_tickets(written, joined)?;
     let Written { pass, out } = logged;
     let closed = shared.close(sessions, seat, tickets, pass);
-    if !closed.all {
-        return Err(Fault::Refused(Refusal::NoSession));
-    }
     let folder = finish_log(&closed, folder, out)?;
     let left = leave(rt, alloc, closed, singles, crew)?;
     let outcome = RunReport {

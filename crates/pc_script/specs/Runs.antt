@@ -1,6 +1,7 @@
 -- The exit status of a run, and what it tells of a fault.
-use Rattle.std.specs.Prelude.{◌≡◌, ◌⊎◌, ℕ, List, Option, IfOk, IfSome}
+use Rattle.std.specs.Prelude.{◌≡◌, ◌⊎◌, ℕ, List, Option, IsOk, IfOk, IfSome}
 use Rattle.std.specs.declared.result.Result.{Result}
+use Rattle.std.specs.Io.KnownBytes.{Appends}
 use Rattle.pc_types.specs.declared.refusal.Refusal.{Refusal}
 use Rattle.pc_types.specs.declared.refusal.Refusal.TheVariants.{OutOfMemory}
 use Rattle.pc_types.specs.Counted.{HasRisen, AppendsBeginning}
@@ -11,7 +12,7 @@ use Rattle.pc_script.specs.declared.run.Fault.{Fault}
 use Rattle.pc_script.specs.declared.run.Fault.TheVariants as fault
 use Rattle.pc_script.specs.declared.script.Status.{Status}
 use Rattle.pc_script.specs.declared.script.Status.TheVariants as status
-use Rattle.pc_script.specs.Scripts.{IsAnsweredInPart}
+use Rattle.pc_script.specs.Scripts.{IsScriptAnswered, IsAnsweredInPart}
 use Rattle.pc_texts.specs.Files.{IsScriptFault}
 
 -- the exit status of a script that was answered
@@ -30,7 +31,19 @@ abbrev pub IsFault : {R T : Type 0} → Result R Refusal → Tally T → Tally T
 IsFault opened old new (fault.Script why) = IsScriptUnanswered opened old new why
 IsFault opened old new fault.Output = HasRisen (failures_of old) (failures_of new)
 
+-- The script was opened, and all of its lines were answered, with this status: what they may print went out, and nothing failed; said
+-- of what is printed where the bytes are known.
+abbrev pub AnswersAll : {R T : Type 0} → (R → Option (List ℕ)) → (T → Option (List ℕ)) → Setup → Result R Refusal → Tally T → Tally T → Status → Type 0
+AnswersAll remaining contents setup opened old new status = IsOk opened × (failures_of new ≡ failures_of old)
+    × IfOk opened (λ reader. IfSome (remaining reader) (λ script. (text : List ℕ) × Appends (contents (inner_of old)) (contents (inner_of new)) text × IsScriptAnswered setup script status text))
+
 -- a beginning of what some first lines of the script may print went out, and nothing else; said where the bytes are known
 abbrev pub AnswersInPart : {R T : Type 0} → (R → Option (List ℕ)) → (T → Option (List ℕ)) → Setup → Result R Refusal → Tally T → Tally T → Type 0
 AnswersInPart remaining contents setup opened old new = IfOk opened (λ reader. IfSome (remaining reader) (λ script.
     (text : List ℕ) × AppendsBeginning (contents (inner_of old)) (contents (inner_of new)) text × IsAnsweredInPart setup script text))
+
+-- Why the status is 1, and what is told of it: the output failed, which was counted, or the store couldn't be made, and nothing is told;
+-- or there is a reason, which is.
+abbrev pub IsCause : {R T : Type 0} → (R → Option (List ℕ)) → (T → Option (List ℕ)) → Setup → Result R Refusal → Tally T → Tally T → Type 0 → (Refusal → Type 0) → Type 0
+IsCause remaining contents setup opened old new Quiet Told = (HasRisen (failures_of old) (failures_of new) × Quiet)
+    ⊎ (((why : Refusal) × IsScriptUnanswered opened old new why × Told why) ⊎ (Quiet × AnswersAll remaining contents setup opened old new status.NoStore))

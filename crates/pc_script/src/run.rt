@@ -1,19 +1,16 @@
 //! A run of a script, from its reader to the status.
-ghost use Rattle.std.specs.Prelude.{◌≡◌, ◌⊎◌, ℕ, List, IsOk, IfOk, IfErr, IfSome, OnOk};
-ghost use Rattle.std.specs.declared.result.Result.{Result};
-ghost use Rattle.std.specs.Io.KnownBytes.{Appends, Keeps};
+ghost use Rattle.std.specs.Prelude.{◌≡◌, IfOk, IfErr};
+ghost use Rattle.std.specs.Io.KnownBytes.{Keeps};
 ghost use Rattle.pc_types.specs.declared.refusal.Refusal.{Refusal};
-ghost use Rattle.pc_types.specs.Tallies.{inner_of, failures_of, Puts};
+ghost use Rattle.pc_types.specs.Tallies.{inner_of, failures_of};
 ghost use Rattle.pc_types.specs.Counted.{HasRisen};
 ghost use Rattle.pc_script.specs.declared.script.Status.{Status};
-ghost use Rattle.pc_script.specs.declared.script.Status.TheVariants.{NoStore};
-ghost use Rattle.pc_script.specs.Scripts.{IsScriptAnswered};
-ghost use Rattle.pc_script.specs.Runs.{exit_of, AnswersInPart, IsFault, IsScriptUnanswered};
-ghost use Rattle.pc_texts.specs.Files.{report_text};
+ghost use Rattle.pc_script.specs.Runs.{exit_of, AnswersAll, AnswersInPart, IsCause, IsFault};
+ghost use Rattle.pc_texts.specs.Files.{TellsOf};
 
 use crate::script::{Status, answer_script};
 use crate::setup::Setup;
-use pc_texts::{read_opened, report};
+use pc_texts::{end_output, read_opened, report};
 use pc_types::{Refusal, Tally};
 use std::alloc::Global;
 use std::hash::RandomState;
@@ -44,19 +41,11 @@ pub fn run_script<R: Read + Drop, W: Write, E: Write>(
     out: &mut Tally<W>,
     errors: &mut Tally<E>,
 ) -> u8
-    ensures opened { ¬ (result ≡ 1) → IsOk opened }
-    ensures answered { ¬ (result ≡ 1) → IfOk opened (λ reader. IfSome (R.remaining reader) (λ script.
-        (status : Status) × (text : List ℕ) × (result ≡ exit_of status)
-        × Appends (W.contents (inner_of out.old)) (W.contents (inner_of out.new)) text × IsScriptAnswered setup script status text)) }
-    ensures sound { ¬ (result ≡ 1) → failures_of out.new ≡ failures_of out.old }
+    ensures answered { ¬ (result ≡ 1) → (status : Status) × (result ≡ exit_of status) × AnswersAll R.remaining W.contents setup opened out.old out.new status }
     ensures quiet { ¬ (result ≡ 1) → Keeps (E.contents (inner_of errors.old)) (E.contents (inner_of errors.new)) }
-    ensures told { IfErr opened (λ why. (result ≡ 1) × (out.new ≡ out.old)
-        × ((told : Result (Unit {0}) Refusal) × Puts E.contents errors.old errors.new told (report_text name.now why))) }
+    ensures told { IfErr opened (λ why. (result ≡ 1) × (out.new ≡ out.old) × TellsOf E.contents errors.old errors.new name.now why) }
     ensures in_part { result ≡ 1 → AnswersInPart R.remaining W.contents setup opened out.old out.new }
-    ensures cause { result ≡ 1 → (HasRisen (failures_of out.old) (failures_of out.new) × (errors.new ≡ errors.old))
-        ⊎ (((why : Refusal) × IsScriptUnanswered opened out.old out.new why × ((told : Result (Unit {0}) Refusal) × Puts E.contents errors.old errors.new told (report_text name.now why)))
-        ⊎ ((errors.new ≡ errors.old) × IfOk opened (λ reader. IfSome (R.remaining reader) (λ script. (text : List ℕ)
-        × Appends (W.contents (inner_of out.old)) (W.contents (inner_of out.new)) text × IsScriptAnswered setup script NoStore text)))) }
+    ensures cause { result ≡ 1 → IsCause R.remaining W.contents setup opened out.old out.new (errors.new ≡ errors.old) (TellsOf E.contents errors.old errors.new name.now) }
 {
     match answer_opened(alloc, setup, seed, opened, out) {
         Ok(status) => exit_code(status),
@@ -85,10 +74,7 @@ fn answer_opened<R: Read + Drop, W: Write>(
     opened: Result<R, Refusal>,
     out: &mut Tally<W>,
 ) -> Result<Status, Fault>
-    ensures opened { OnOk result (IsOk opened) }
-    ensures answered { IfOk result (λ status. IfOk opened (λ reader. IfSome (R.remaining reader) (λ script. (text : List ℕ)
-        × Appends (W.contents (inner_of out.old)) (W.contents (inner_of out.new)) text × IsScriptAnswered setup script status text))) }
-    ensures sound { OnOk result (failures_of out.new ≡ failures_of out.old) }
+    ensures answered { IfOk result (AnswersAll R.remaining W.contents setup opened out.old out.new) }
     ensures unopened { IfErr opened (λ why. (result ≡ Err (Fault.Script why)) × (out.new ≡ out.old)) }
     ensures in_part { AnswersInPart R.remaining W.contents setup opened out.old out.new }
     ensures cause { IfErr result (IsFault opened out.old out.new) }
@@ -98,10 +84,8 @@ fn answer_opened<R: Read + Drop, W: Write>(
         Err(why) => return Err(Fault::Script(why)),
     };
     let answered = answer_script(alloc, setup, seed, &script, out);
-    let flushed = out.flush();
-    match answered {
-        Ok(status) if flushed.is_ok() => Ok(status),
-        Ok(_) => Err(Fault::Output),
+    match end_output(answered, out) {
+        Ok(status) => Ok(status),
         Err(Refusal::Device) => Err(Fault::Output),
         Err(why) => Err(Fault::Script(why)),
     }

@@ -2,3 +2,4 @@ mod RangeLemmas
 pub mod SentLaws
 pub mod StatePairLaws
 pub mod Begun
+pub mod OutputLaws

@@ -1,3 +1,4 @@
 pub mod Texts
 pub mod FileNames
 pub mod Files
+pub mod Outputs

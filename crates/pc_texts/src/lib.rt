@@ -1,13 +1,15 @@
-//! The texts of replies, states and files, and the names of files; files that may have been opened: their bytes, and what is told
-//! where a command fails.
+//! The texts of replies, states and files, and the names of files; files that may have been opened: their bytes; how a command's
+//! output ends, and what is told where a command fails.
 #![tactic(auto)]
 
 mod file_names;
 mod files;
+mod output;
 mod texts;
 
 pub use file_names::{FileName, part_name};
 pub use files::{NamedFile, read_opened, report};
+pub use output::end_output;
 pub use texts::{
     put_check, put_collapsed, put_joined, put_pairs, put_reason, put_reply, put_state, put_text,
 };

@@ -2,5 +2,6 @@ mod DoneLaws
 mod FullLaws
 mod StopLaws
 pub mod ClientLaws
+pub mod SeatLaws
 pub mod FileLaws
 mod Numbering

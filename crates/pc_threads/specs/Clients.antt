@@ -1,6 +1,6 @@
 -- What the clients of a run have done, each as its session.
-use Rattle.std.specs.Prelude.{◌≡◌, ◌⊎◌, ◌≤◌, ◌+◌, ◌^◌, ℕ, zero, suc, Bool, false, IsTrue, List, [], ◌∷◌, ◌++◌, length}
-use Rattle.std.specs.List.{flat_map}
+use Rattle.std.specs.Prelude.{◌≡◌, ◌⊎◌, ◌≤◌, ◌+◌, ◌^◌, ◌==◌, ◌||◌, ⊤, ℕ, zero, suc, Bool, true, false, IsTrue, List, [], ◌∷◌, ◌++◌, length}
+use Rattle.std.specs.List.{flat_map, list_any}
 use Rattle.pc_types.specs.declared.refusal.Refusal.{Refusal}
 use Rattle.pc_types.specs.declared.refusal.Refusal.TheVariants.{Device, Full, OutOfMemory}
 use Rattle.pc_model.specs.History.{History, is_open}
@@ -12,7 +12,7 @@ use Rattle.pc_jobs.specs.declared.works.Op.{Op}
 use Rattle.pc_jobs.specs.declared.works.ClientTask.{ClientTask}
 use Rattle.pc_jobs.specs.declared.works.ClientTask.TheVariants as work
 use Rattle.pc_jobs.specs.Jobs.{job_of}
-use Rattle.pc_shared.specs.Sitters.{Sitter, sitter}
+use Rattle.pc_shared.specs.Sitters.{Sitter, is_there, sitter}
 use Rattle.pc_workers.specs.Attempts.{TakesMemory, IsTried, AreTried}
 use Rattle.pc_workers.specs.Clients.{HasRun}
 
@@ -37,6 +37,19 @@ transactions_in clients = length (flat_map jobs_of clients)
 -- nothing was asked as the session
 abbrev pub IsFresh : Sitter → Type 0
 IsFresh s = s ≡ sitter s.number [] []
+
+-- the session is that of one of the clients
+abbrev pub is_taken : List Client → ℕ → Bool
+is_taken clients session = list_any (λ client. client.session == session) clients
+
+-- each client's session is there, and no two clients have one session
+abbrev pub HaveSeats : List Sitter → List Client → Type 0
+HaveSeats sessions [] = ⊤
+HaveSeats sessions (client ∷ clients) = (is_there sessions client.session ≡ true) × (is_taken clients client.session ≡ false) × HaveSeats sessions clients
+
+-- each session that was there is there still, or one of the clients has it
+abbrev pub AreSeated : List Client → List Sitter → List Sitter → Type 0
+AreSeated clients old new = (session : ℕ) → is_there old session ≡ true → (is_there new session || is_taken clients session) ≡ true
 
 -- Memory was wanting to make a transaction, which names a key or a value of more than 16 bytes: it isn't marked as committed, and
 -- nothing was asked for it.

@@ -1,11 +1,11 @@
 //! The clients of a workload: each has a session, and each worker runs its own clients, one after the other.
-ghost use Rattle.std.specs.Prelude.{◌≡◌, ◌⊎◌, ◌≤◌, ◌+◌, ◌^◌, ◌++◌, [], ◌∷◌, All, IfOk, IfErr, List, is_some, length, map};
+ghost use Rattle.std.specs.Prelude.{◌≡◌, ◌⊎◌, ◌≤◌, ◌+◌, ◌^◌, ◌==◌, ◌||◌, ◌++◌, [], ◌∷◌, ℕ, true, All, IfOk, IfErr, List, is_some, length, map};
 ghost use Rattle.std.specs.List.{flat_map};
-ghost use Rattle.pc_types.specs.declared.refusal.Refusal.TheVariants.{Full, NoSession, OutOfMemory};
+ghost use Rattle.pc_types.specs.declared.refusal.Refusal.TheVariants.{Full, OutOfMemory};
 ghost use Rattle.pc_jobs.specs.Jobs.{job_of};
 ghost use Rattle.pc_jobs.specs.declared.works.Client.{Client};
-ghost use Rattle.pc_shared.specs.Sitters.{sitter};
-ghost use Rattle.pc_threads.specs.Clients.{AreDone, AreFillsTried, HasDone, ClientHasStopped, HasWorked, HaveStopped, HaveWorked, IsTaskDone, IsFresh, first_of, jobs_in, jobs_of};
+ghost use Rattle.pc_shared.specs.Sitters.{is_there, sitter};
+ghost use Rattle.pc_threads.specs.Clients.{AreDone, AreFillsTried, AreSeated, HasDone, ClientHasStopped, HasWorked, HaveSeats, HaveStopped, HaveWorked, IsTaskDone, IsFresh, clients_in, first_of, jobs_in, jobs_of};
 
 use crate::room::Room;
 use pc_jobs::{Client, ClientTask, Fill, FillJob, Job};
@@ -56,22 +56,20 @@ pub struct Seating<N: StoreName> {
     pub idle: Vec<Session<N>>,
 }
 
-// The session of the number is taken out. Refuses with `NoSession` where it isn't there.
-fn take_session<N: StoreName>(
-    sessions: &mut Vec<Session<N>>,
-    number: SessionNo,
-) -> Result<Session<N>, Refusal>
-    requires { All IsFresh sessions.old.items }
-    ensures own { IfOk result (λ session. session ≡ sitter number [] []) }
+// The session of the number, which is there, is taken out.
+fn take_session<N: StoreName>(sessions: &mut Vec<Session<N>>, number: SessionNo) -> Session<N>
+    requires fresh { All IsFresh sessions.old.items }
+    requires there { is_there sessions.old.items number ≡ true }
+    ensures own { result ≡ sitter number [] [] }
     ensures fresh { All IsFresh sessions.new.items }
-    ensures refused { IfErr result (λ why. why ≡ NoSession) }
+    ensures others { (n : ℕ) → is_there sessions.old.items n ≡ true → (is_there sessions.new.items n || (number == n)) ≡ true }
 {
     for place in 0..sessions.len() {
         if sessions[place].number() == number {
-            return Ok(sessions.remove(place));
+            return sessions.remove(place);
         }
     }
-    Err(Refusal::NoSession)
+    unreachable!()
 }
 
 // A worker with these clients, for each of which the session of its number is taken out.
@@ -80,30 +78,34 @@ fn seat_worker<N: StoreName>(
     clients: Items<Client>,
     sessions: &mut Vec<Session<N>>,
 ) -> Result<Worker<N>, Refusal>
-    requires { All IsFresh sessions.old.items }
+    requires fresh { All IsFresh sessions.old.items }
+    requires seats { HaveSeats sessions.old.items clients }
     ensures clients { IfOk result (λ worker. worker ≡ clients) }
     ensures fresh { All IsFresh sessions.new.items }
-    ensures refused { IfErr result (λ why. (why ≡ NoSession) ⊎ (why ≡ OutOfMemory)) }
+    ensures seated { IfOk result (λ worker. AreSeated clients sessions.old.items sessions.new.items) }
+    ensures refused { IfErr result (λ why. why ≡ OutOfMemory) }
 {
     let mut seats = Vec::new(alloc);
     for client in clients.into_vec() {
-        let session = take_session(sessions, client.session)?;
+        let session = take_session(sessions, client.session);
         seats.push(Seated { session, client })?;
     }
     Ok(Worker { seats })
 }
 
-/// Gives each client the session of its number; of none of the sessions anything was asked yet. Refuses with `NoSession` where a
-/// session isn't there, and else with `OutOfMemory` alone.
+/// Gives each client the session of its number, which is there; of none of the sessions anything was asked yet. Refuses with
+/// `OutOfMemory` alone.
 pub fn seat_workers<N: StoreName>(
     alloc: Global,
     dealt: Vec<Items<Client>>,
     sessions: Vec<Session<N>>,
 ) -> Result<Seating<N>, Refusal>
-    requires { All IsFresh sessions.items }
+    requires fresh { All IsFresh sessions.items }
+    requires seats { HaveSeats sessions.items (clients_in dealt.items) }
     ensures clients { IfOk result (λ seating. seating.workers.items ≡ dealt.items) }
     ensures idle { IfOk result (λ seating. All IsFresh seating.idle.items) }
-    ensures refused { IfErr result (λ why. (why ≡ NoSession) ⊎ (why ≡ OutOfMemory)) }
+    ensures seated { IfOk result (λ seating. AreSeated (clients_in dealt.items) sessions.items seating.idle.items) }
+    ensures refused { IfErr result (λ why. why ≡ OutOfMemory) }
 {
     let mut idle = sessions;
     let mut workers = Vec::new(alloc);

@@ -1,11 +1,5 @@
-use Rattle.std.proofs.Common.{◌≡◌, Some, sym, ap, subst, ◌∙◌}
+use Rattle.std.proofs.Common.{Some, sym, subst, ◌∙◌}
 use Rattle.std.proofs.lemmas.Result.{err_from_is_err_and}
-use Rattle.std.specs.Io.KnownBytes.{Appends}
-use Rattle.pc_types.specs.Counted.{AppendsBeginning}
-use Rattle.pc_types.specs.Tallies.{inner_of}
-use Rattle.pc_model.specs.Maps as map_of
-use Rattle.pc_model.specs.Sets as set
-use Rattle.pc_texts.specs.Texts.{joined_line}
 use Rattle.pc_collapse_files.specs.Collapses.{IsCollapseCause, IsLeftByCollapse, IsUnwritten, IsWholeIn}
 use Rattle.pc_collapse_files.proofs.Ends.{unwritten_cause, unwritten_leaves}
 use Rattle.pc_collapse_files.proofs.collapse.collapse.Goals as goal

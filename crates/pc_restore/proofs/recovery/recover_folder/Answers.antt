@@ -1,4 +1,4 @@
-use Rattle.std.proofs.Common.{ap, subst, ◌∙◌, rules}
+use Rattle.std.proofs.Common.{ap, subst, ◌∙◌}
 use Rattle.std.proofs.lemmas.Result.{err_from_is_err_and}
 use Rattle.std.specs.Io.KnownBytes.{Appends}
 use Rattle.pc_types.specs.Counted.{AppendsBeginning}
@@ -6,8 +6,8 @@ use Rattle.pc_types.specs.Tallies.{inner_of}
 use Rattle.pc_recover.specs.Recovery.{recovery_of}
 use Rattle.pc_restore.specs.Reports.{recovery_text}
 use Rattle.pc_restore.specs.Recoveries.{names_of}
-use Rattle.pc_texts.proofs.Begun.{appends_kept}
-use Rattle.pc_restore.proofs.FolderRecovery.{nothing_out, puts_begin}
+use Rattle.pc_texts.proofs.OutputLaws.{whole_printed, part_printed}
+use Rattle.pc_restore.proofs.FolderRecovery.{nothing_out}
 use Rattle.pc_restore.proofs.recovery.recover_folder.Goals as goal
 
 pub returns-in_err-parts-clause-cause : goal.returns-in_err-parts-clause-cause
@@ -26,20 +26,23 @@ returns-in-Ok-clause-recovered g c = λ base names parts log holds.
     let found = recovery_of c.in_ok-parts.field-0.recovered in (
       found,
       worth.1,
-      appends_kept _ _ _ (recovery_text names found)
-          (subst (λ ns. Appends (g.W.Write.contents (inner_of c.args.out.now)) (g.W.Write.contents (inner_of c.put_recovered-put.new.out)) (recovery_text ns found)) (ap names_of c.deref.ensures.value ∙ worth.0) c.in-Ok.ensures.0)
-          c.flush-flushed.ensures.bytes,
+      subst (λ ns. Appends (g.W.Write.contents (inner_of c.args.out.now)) (g.W.Write.contents (inner_of c.end_output.new.out)) (recovery_text ns found)) (ap names_of c.deref.ensures.value ∙ worth.0)
+          (whole_printed g.W.Write.contents c.args.out.now c.put_recovered-put.new.out c.end_output.new.out (recovery_text (names_of c.deref.result.now) found) c.put_recovered-put.result c.put_recovered-put.ensures c.in-Ok.ensures.stays c.in-Ok.ensures.printed).0,
     )
 
+pub returns-in-Ok-clause-sound : goal.returns-in-Ok-clause-sound
+returns-in-Ok-clause-sound g c =
+    (whole_printed g.W.Write.contents c.args.out.now c.put_recovered-put.new.out c.end_output.new.out _ c.put_recovered-put.result c.put_recovered-put.ensures c.in-Ok.ensures.stays c.in-Ok.ensures.printed).1
+
 pub returns-clause-goes_out : goal.returns-clause-goes_out
-returns-clause-goes_out g c = (
-  search rules,
-  λ base names parts log holds.
-      let worth = c.in_ok-parts.ensures.worth base names parts log holds in
-      let found = recovery_of c.in_ok-parts.field-0.recovered in (
-        found,
-        worth.1,
-        subst (λ ns. AppendsBeginning (g.W.Write.contents (inner_of c.args.out.now)) (g.W.Write.contents (inner_of c.flush-flushed.new.self)) (recovery_text ns found)) (ap names_of c.deref.ensures.value ∙ worth.0)
-            (puts_begin g.W.Write.contents c.args.out.now c.put_recovered-put.new.out c.flush-flushed.new.self c.put_recovered-put.result (recovery_text (names_of c.deref.result.now) found) c.put_recovered-put.ensures c.flush-flushed.ensures.bytes),
-      ),
-)
+returns-clause-goes_out g c =
+    let found = recovery_of c.in_ok-parts.field-0.recovered in
+    let part = part_printed g.W.Write.contents c.args.out.now c.put_recovered-put.new.out c.end_output.new.out (recovery_text (names_of c.deref.result.now) found) c.put_recovered-put.result _ c.put_recovered-put.ensures c.in-Err.ensures.stays c.in-Err.ensures.unprinted in (
+      part.0,
+      λ base names parts log holds.
+          let worth = c.in_ok-parts.ensures.worth base names parts log holds in (
+            found,
+            worth.1,
+            subst (λ ns. AppendsBeginning (g.W.Write.contents (inner_of c.args.out.now)) (g.W.Write.contents (inner_of c.end_output.new.out)) (recovery_text ns found)) (ap names_of c.deref.ensures.value ∙ worth.0) part.1,
+          ),
+    )

@@ -1,10 +1,17 @@
-use Rattle.std.proofs.Common.{Bool, refl, subst}
+use Rattle.std.proofs.Common.{Bool, refl, subst, sym, ◌∙◌}
 use Rattle.std.proofs.lemmas.Result.{err_from_is_err_and}
+use Rattle.pc_types.specs.declared.limits.TheConstants.{MOST_SESSIONS}
 use Rattle.pc_jobs.specs.declared.workloads.WorkloadReading.TheVariants.{Runs}
 use Rattle.pc_runs.specs.Faults.{EndsRun}
 use Rattle.pc_runs.specs.Runs.{RunBegins, CanRun, IsWorkloadRun, run_setting}
 use Rattle.pc_runs.proofs.BeginLaws.{not_started, out_of_memory, read_as, run_failed, unread}
+use Rattle.pc_runs.proofs.SeatingLaws.{new_seats, read_range}
 use Rattle.pc_runs.proofs.run.answer.Goals as goal
+
+pub run_read-requires-clause-seats : goal.run_read-requires-clause-seats
+run_read-requires-clause-seats g c κs within =
+    new_seats MOST_SESSIONS c.in-Runs.workload.clients (c.in_ok-line.ensures.written c.in-Runs.workload c.in-Runs.is).0
+    (read_range c.deref.result.now c.in-Runs.workload (sym c.in_ok-line.ensures.reading ∙ c.in-Runs.is))
 
 pub returns-in_err-base-in-Runs-clause-cause : goal.returns-in_err-base-in-Runs-clause-cause
 returns-in_err-base-in-Runs-clause-cause g c =

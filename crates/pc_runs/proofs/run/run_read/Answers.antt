@@ -1,10 +1,16 @@
-use Rattle.std.proofs.Common.{inl}
+use Rattle.std.proofs.Common.{inl, subst, sym}
 use Rattle.std.specs.Prelude.{is_some}
 use Rattle.std.proofs.lemmas.Result.{err_from_is_err_and}
+use Rattle.pc_model.specs.Replies.{Setting}
+use Rattle.pc_shared.specs.Sitters.{new_sitters}
+use Rattle.pc_threads.specs.Clients.{HaveSeats}
 use Rattle.pc_texts.specs.declared.file_names.FileName.TheVariants.{Base, Log}
 use Rattle.pc_runs.specs.Runs.{run_setting}
 use Rattle.pc_runs.proofs.FaultLaws.{begins_badly, not_opened, too_large}
 use Rattle.pc_runs.proofs.run.run_read.Goals as goal
+
+pub run_store-requires-clause-seats : goal.run_store-requires-clause-seats
+run_store-requires-clause-seats g c κs within = subst (λ (st : Setting). HaveSeats (new_sitters st.sessions) c.args.workload.clients) (sym c.in_ok-opened.ensures.setting) c.requires.seats
 
 pub returns-in_err-folder-clause-ended : goal.returns-in_err-folder-clause-ended
 returns-in_err-folder-clause-ended g c =

@@ -1,4 +1,4 @@
-use Rattle.std.proofs.Common.{◌≡◌, ◌<◌, ◌≤◌, ◌+◌, ◌++◌, List, All, length, length-append, drop, refl, sym, ap, subst, ◌∙◌, inr, arith}
+use Rattle.std.proofs.Common.{◌≡◌, ◌<◌, ◌≤◌, ◌+◌, ◌++◌, List, All, length, length-append, drop, refl, sym, ap, subst, ◌∙◌, arith}
 use Rattle.std.specs.Prelude.{IsTrue, is_some}
 use Rattle.pc_types.specs.declared.Entry.{Entry}
 use Rattle.pc_model.specs.Files.{BaseFile}
@@ -8,16 +8,17 @@ use Rattle.pc_board.specs.declared.limits.TheConstants.{MOST_PASSES}
 use Rattle.pc_board.specs.Passes.{Pass}
 use Rattle.pc_jobs.specs.declared.works.Client.{Client}
 use Rattle.pc_outcomes.specs.Leaving.{IsLegacy, commits_in}
-use Rattle.pc_shared.specs.Sitters.{HasAll, IsSitterSettled}
-use Rattle.pc_threads.specs.Clients.{HaveWorked, IsFresh, clients_in, transactions_in}
+use Rattle.pc_shared.specs.Sitters.{IsSitterSettled, Sitter, new_sitters}
+use Rattle.pc_threads.specs.Clients.{AreSeated, HaveSeats, HaveWorked, IsFresh, clients_in, transactions_in}
 use Rattle.pc_workers.specs.Covering.{HaveJustTo}
 use Rattle.pc_runs.specs.Folders.{LeavesFiles, base_of}
-use Rattle.pc_runs.proofs.HistoryLaws.{behind_first, first_ones, it_is, left_after}
+use Rattle.pc_runs.proofs.HistoryLaws.{behind_first, first_ones, left_after}
 use Rattle.std.proofs.lemmas.Result.{err_from_is_err_and}
 use Rattle.std.proofs.lemmas.List.Elements.{All-drop}
 use Rattle.pc_texts.specs.declared.file_names.FileName.TheVariants.{Log}
-use Rattle.pc_runs.proofs.FaultLaws.{folder_there, log_there, lost_ends, of_threads, one_there, same_transactions, seatless, untold_ends}
+use Rattle.pc_runs.proofs.FaultLaws.{folder_there, log_there, lost_ends, no_memory, of_threads, one_there, same_transactions, untold_ends}
 use Rattle.pc_runs.proofs.NewPasses.{as_many, some_passes}
+use Rattle.pc_runs.proofs.SeatingLaws.{all_back, dealt_seats}
 use Rattle.pc_runs.proofs.WorkLaws.{all_fresh, have_run}
 use Rattle.pc_runs.proofs.FolderLaws.{files_left}
 use Rattle.pc_runs.proofs.store.run_store.Goals as goal
@@ -31,8 +32,13 @@ use_store-requires-clause-few g c κs bounds =
     subst (λ (passes : List Pass). length passes ≤ MOST_PASSES) (sym c.in_ok-board.ensures.passes)
     (let all = as_many c.in_ok-board.board (c.args.crew.now.collapsers + 1) in omega (arith, all, c.args.crew.now.in_range.3))
 
-pub seat_workers-requires : goal.seat_workers-requires
-seat_workers-requires g c = subst (All IsFresh) (sym c.in_ok-shared.ensures.sessions) (all_fresh g.N.StoreName.name.setting.sessions)
+pub seat_workers-requires-clause-fresh : goal.seat_workers-requires-clause-fresh
+seat_workers-requires-clause-fresh g c = subst (All IsFresh) (sym c.in_ok-shared.ensures.sessions) (all_fresh g.N.StoreName.name.setting.sessions)
+
+pub seat_workers-requires-clause-seats : goal.seat_workers-requires-clause-seats
+seat_workers-requires-clause-seats g c =
+    subst (λ (sessions : List Sitter). HaveSeats sessions (clients_in c.in_ok-dealt.dealt.items)) (sym c.in_ok-shared.ensures.sessions)
+    (dealt_seats (new_sitters g.N.StoreName.name.setting.sessions) c.args.crew.now.workers c.args.workload.clients c.in_ok-dealt.dealt.items c.args.crew.now.in_range.0 c.in_ok-dealt.ensures c.requires.seats)
 
 pub leave-requires-clause-singles : goal.leave-requires-clause-singles
 leave-requires-clause-singles g c κs bounds =
@@ -56,6 +62,8 @@ returns-clause-run g c =
     let ended = c.in_ok-ended.ended in
     let seating = c.in_ok-seating.seating in
     let worked = c.in_ok-ended.ensures.clients in
+    let have = subst (λ (all : List (List Client)). HaveWorked st (clients_in all) ended.given_up worked.0) c.in_ok-seating.ensures.clients worked.2 in
+    let seated = subst (λ (sessions : List Sitter). AreSeated (clients_in c.in_ok-dealt.dealt.items) sessions seating.idle.items) c.in_ok-shared.ensures.sessions c.in_ok-seating.ensures.seated in
     let parts : closed.parts.items ≡ ended.written.items ++ ended.joined.items = c.close-closed.ensures.parts ∙ c.in_ok-tickets.ensures.0 in
     let joined : drop c.in_ok-tickets.singles closed.parts.items ≡ ended.joined.items =
     (λ k. drop (c.in_ok-tickets.ensures.1 k) (parts k)) ∙ behind_first ended.written.items ended.joined.items in
@@ -64,8 +72,8 @@ returns-clause-run g c =
       legal = left.1.legal;
       clients_ran =
           have_run st left.0 c.args.crew.now.workers c.args.workload.clients c.in_ok-dealt.dealt.items ended.given_up seating.idle.items worked.0 c.args.crew.now.in_range.0 c.in_ok-dealt.ensures
-          (subst (λ (all : List (List Client)). HaveWorked st (clients_in all) ended.given_up worked.0) c.in_ok-seating.ensures.clients worked.2) c.in_ok-seating.ensures.idle
-          (subst (All (IsSitterSettled st left.0)) worked.1 left.1.settled) (subst (HasAll st.sessions) worked.1 (it_is _ _ closed.all c.if-not-closed.false c.close-closed.ensures.all));
+          have c.in_ok-seating.ensures.idle
+          (subst (All (IsSitterSettled st left.0)) worked.1 left.1.settled) (all_back st st.sessions (clients_in c.in_ok-dealt.dealt.items) ended.given_up seating.idle.items worked.0 seated have);
       commits_are = c.in_ok-left.ensures.commits ∙ ap commits_in left.1.log_is;
       points_are = refl;
       files = drop c.in_ok-tickets.singles closed.parts.items;
@@ -83,12 +91,12 @@ returns-clause-run g c =
 pub returns-in_err-shared-clause-ended : goal.returns-in_err-shared-clause-ended
 returns-in_err-shared-clause-ended g c =
     let p = err_from_is_err_and c.from_residual.result c.from_residual.ensures.1 in
-    rw (p.1, p.2) (seatless g.N.StoreName.name.setting c.args.workload (is_some c.args.folder) c.in_err-shared.field-0.0 (inr c.in_err-shared.ensures.memory))
+    rw (p.1, p.2) (no_memory g.N.StoreName.name.setting c.args.workload (is_some c.args.folder) c.in_err-shared.field-0.0 c.in_err-shared.ensures.memory)
 
 pub returns-in_err-board-clause-ended : goal.returns-in_err-board-clause-ended
 returns-in_err-board-clause-ended g c =
     let p = err_from_is_err_and c.from_residual-in_err-board.result c.from_residual-in_err-board.ensures.1 in
-    rw (p.1, p.2) (seatless g.N.StoreName.name.setting c.args.workload (is_some c.args.folder) c.in_err-board.field-0.0 (inr c.in_err-board.ensures.memory))
+    rw (p.1, p.2) (no_memory g.N.StoreName.name.setting c.args.workload (is_some c.args.folder) c.in_err-board.field-0.0 c.in_err-board.ensures.memory)
 
 pub returns-in_err-dealt-clause-ended : goal.returns-in_err-dealt-clause-ended
 returns-in_err-dealt-clause-ended g c =
@@ -98,7 +106,7 @@ returns-in_err-dealt-clause-ended g c =
 pub returns-in_err-seating-clause-ended : goal.returns-in_err-seating-clause-ended
 returns-in_err-seating-clause-ended g c =
     let p = err_from_is_err_and c.from_residual-in_err-seating.result c.from_residual-in_err-seating.ensures.1 in
-    rw (p.1, p.2) (seatless g.N.StoreName.name.setting c.args.workload (is_some c.args.folder) c.in_err-seating.field-0.0 c.in_err-seating.ensures.refused)
+    rw (p.1, p.2) (no_memory g.N.StoreName.name.setting c.args.workload (is_some c.args.folder) c.in_err-seating.field-0.0 c.in_err-seating.ensures.refused)
 
 pub returns-in_err-ended-clause-ended : goal.returns-in_err-ended-clause-ended
 returns-in_err-ended-clause-ended g c =

@@ -1,17 +1,36 @@
-use Rattle.pc_script.proofs.RunLemmas.{answers_begin, in_part_of_read, in_part_of_none}
+use Rattle.std.proofs.Common.{◌≡◌, ◌∙◌, inr, rules}
+use Rattle.pc_types.specs.declared.refusal.Refusal.TheVariants.{Device}
+use Rattle.pc_script.proofs.RunLemmas.{all_of_read, part_of_read, in_part_of_none, not_lost, output_failed, memory_failed, memory_faults}
 use Rattle.pc_script.proofs.run.answer_opened.Goals as goal
 
 pub returns-in-Err-clause-in_part : goal.returns-in-Err-clause-in_part
 returns-in-Err-clause-in_part g c = in_part_of_none g.R.Read.remaining g.W.Write.contents c.args.setup c.args.opened c.args.out.now
 
-pub returns-in-Ok-answered-clause-in_part : goal.returns-in-Ok-answered-clause-in_part
-returns-in-Ok-answered-clause-in_part g c =
-    let contents = g.W.Write.contents in
-    in_part_of_read g.R.Read.remaining contents c.args.setup c.args.out.now c.flush-flushed.new.self c.args.opened c.in-Ok.script.items c.in-Ok.ensures.script
-    (answers_begin c.args.setup c.in-Ok.script.items (contents c.args.out.now.inner) (contents c.answer_script-answered.new.out.inner) (contents c.flush-flushed.new.self.inner) c.answer_script-answered.result c.flush-flushed.ensures.bytes (rw c.deref.ensures.value at c.answer_script-answered.ensures.answered) (rw c.deref.ensures.value at c.answer_script-answered.ensures.in_part))
+pub returns-in-Ok-end_output-clause-answered : goal.returns-in-Ok-end_output-clause-answered
+returns-in-Ok-end_output-clause-answered g c =
+    let printed = c.in-Ok-end_output.ensures.printed in (
+      c.in-Ok.ensures.opened,
+      printed.1 ∙ c.answer_script-answered.ensures.sound (not_lost c.answer_script-answered.result c.in-Ok-end_output.status printed.0),
+      all_of_read g.R.Read.remaining g.W.Write.contents c.args.setup c.args.out.now c.answer_script-answered.new.out c.end_output.new.out c.args.opened c.in-Ok.script.items c.in-Ok.ensures.script c.answer_script-answered.result (rw c.deref.ensures.value at c.answer_script-answered.ensures.answered) c.in-Ok-end_output.ensures.stays c.in-Ok-end_output.status printed.0,
+    )
 
-pub returns-in-Ok-2-clause-in_part : goal.returns-in-Ok-2-clause-in_part
-returns-in-Ok-2-clause-in_part g c =
-    let contents = g.W.Write.contents in
-    in_part_of_read g.R.Read.remaining contents c.args.setup c.args.out.now c.flush-flushed.new.self c.args.opened c.in-Ok.script.items c.in-Ok.ensures.script
-    (answers_begin c.args.setup c.in-Ok.script.items (contents c.args.out.now.inner) (contents c.answer_script-answered.new.out.inner) (contents c.flush-flushed.new.self.inner) c.answer_script-answered.result c.flush-flushed.ensures.bytes (rw c.deref.ensures.value at c.answer_script-answered.ensures.answered) (rw c.deref.ensures.value at c.answer_script-answered.ensures.in_part))
+pub returns-in-Ok-end_output-clause-in_part : goal.returns-in-Ok-end_output-clause-in_part
+returns-in-Ok-end_output-clause-in_part g c =
+    part_of_read g.R.Read.remaining g.W.Write.contents c.args.setup c.args.out.now c.answer_script-answered.new.out c.end_output.new.out c.args.opened c.in-Ok.script.items c.in-Ok.ensures.script c.answer_script-answered.result (rw c.deref.ensures.value at c.answer_script-answered.ensures.answered) c.in-Ok-end_output.ensures.stays (rw c.deref.ensures.value at c.answer_script-answered.ensures.in_part)
+
+pub returns-in-Err-Device-clause-in_part : goal.returns-in-Err-Device-clause-in_part
+returns-in-Err-Device-clause-in_part g c =
+    part_of_read g.R.Read.remaining g.W.Write.contents c.args.setup c.args.out.now c.answer_script-answered.new.out c.end_output.new.out c.args.opened c.in-Ok.script.items c.in-Ok.ensures.script c.answer_script-answered.result (rw c.deref.ensures.value at c.answer_script-answered.ensures.answered) c.in-Err-Device.ensures.stays (rw c.deref.ensures.value at c.answer_script-answered.ensures.in_part)
+
+pub returns-in-Err-Device-clause-cause : goal.returns-in-Err-Device-clause-cause
+returns-in-Err-Device-clause-cause g c =
+    output_failed c.args.out.now c.answer_script-answered.new.out c.end_output.new.out c.answer_script-answered.result c.answer_script-answered.ensures.refusals c.answer_script-answered.ensures.device c.answer_script-answered.ensures.sound (rw c.in-Err-Device.field-0-is at c.in-Err-Device.ensures.unprinted)
+
+pub returns-clause-in_part : goal.returns-clause-in_part
+returns-clause-in_part g c =
+    part_of_read g.R.Read.remaining g.W.Write.contents c.args.setup c.args.out.now c.answer_script-answered.new.out c.end_output.new.out c.args.opened c.in-Ok.script.items c.in-Ok.ensures.script c.answer_script-answered.result (rw c.deref.ensures.value at c.answer_script-answered.ensures.answered) c.in-Err-end_output.ensures.stays (rw c.deref.ensures.value at c.answer_script-answered.ensures.in_part)
+
+pub returns-clause-cause : goal.returns-clause-cause
+returns-clause-cause g c =
+    let memory = memory_failed c.args.out.now c.answer_script-answered.new.out c.end_output.new.out c.answer_script-answered.result c.in-Err-end_output.why c.answer_script-answered.ensures.refusals (λ (is : c.in-Err-end_output.why ≡ Device). search rules) c.in-Err-end_output.ensures.unprinted in
+    (memory_faults c.args.opened c.in-Err-end_output.why c.in-Ok.ensures.opened memory, inr memory)

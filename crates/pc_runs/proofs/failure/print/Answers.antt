@@ -1,0 +1,12 @@
+use Rattle.std.proofs.Common.{refl}
+use Rattle.pc_outcomes.specs.Outcomes.{printed_text}
+use Rattle.pc_texts.proofs.OutputLaws.{whole_printed, part_printed}
+use Rattle.pc_runs.proofs.failure.print.Goals as goal
+
+pub returns-in-Ok-clause-printed : goal.returns-in-Ok-clause-printed
+returns-in-Ok-clause-printed g c =
+    whole_printed g.W.Write.contents c.args.out.now c.put-put.new.out c.end_output.new.out (printed_text c.args.printed.now) c.put-put.result c.put-put.ensures c.in-Ok.ensures.stays c.in-Ok.ensures.printed
+
+pub returns-in-Err-clause-failed : goal.returns-in-Err-clause-failed
+returns-in-Err-clause-failed g c =
+    let part = part_printed g.W.Write.contents c.args.out.now c.put-put.new.out c.end_output.new.out (printed_text c.args.printed.now) c.put-put.result _ c.put-put.ensures c.in-Err.ensures.stays c.in-Err.ensures.unprinted in (refl, part.0, part.1)

@@ -1,0 +1,26 @@
+//! How a command's output ends.
+ghost use Rattle.std.specs.Prelude.{◌≡◌, IfOk, IfErr};
+ghost use Rattle.std.specs.Io.KnownBytes.{Keeps};
+ghost use Rattle.pc_types.specs.Tallies.{failures_of, inner_of};
+ghost use Rattle.pc_texts.specs.Outputs.{IsUnprinted};
+
+use pc_types::{Refusal, Tally};
+use std::io::Write;
+
+/// Ends what a command prints: what was put goes out of whatever keeps it. It is what the put gave, where that was refused, or where
+/// all has gone out; else the device has failed now.
+pub fn end_output<T: Copy, W: Write>(
+    put: Result<T, Refusal>,
+    out: &mut Tally<W>,
+) -> Result<T, Refusal>
+    ensures stays { Keeps (W.contents (inner_of out.old)) (W.contents (inner_of out.new)) }
+    ensures printed { IfOk result (λ what. (put ≡ Ok what) × (failures_of out.new ≡ failures_of out.old)) }
+    ensures unprinted { IfErr result (IsUnprinted put out.old out.new) }
+{
+    let flushed = out.flush();
+    match put {
+        Ok(what) if flushed.is_ok() => Ok(what),
+        Ok(_) => Err(Refusal::Device),
+        Err(why) => Err(why),
+    }
+}
