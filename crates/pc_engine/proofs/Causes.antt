@@ -10,8 +10,8 @@ use Rattle.pc_types.specs.declared.Mode.TheVariants.{Exclusive}
 use Rattle.pc_types.specs.declared.Outcome.{Outcome}
 use Rattle.pc_model.specs.Replies.{first_refusal, by_outcome}
 use Rattle.pc_engine.specs.Sessions.{with_session, after_writing, if_granted}
-use Rattle.pc_engine.specs.Steps.{OpenCause, WriteCause, Gets, WritesKey, Commits, is_log_full, Owes, why_refused, outcome_in, after_asking}
-use Rattle.pc_records.specs.RowSteps.{is_full_for}
+use Rattle.pc_engine.specs.Steps.{OpenCause, WriteCause, Gets, WritesKey, Commits, is_log_full, Owes, outcome_in, after_asking}
+use Rattle.pc_records.specs.RowSteps.{is_full_for, why_refused}
 
 -- the refusal of an open transaction's event is due, whatever else the event asks
 pub get_refused : (w : Store) (s : ℕ) (key : List ℕ) (r : Refusal) → OpenCause w s (Some r) → Gets w s key (told.Refused r) w

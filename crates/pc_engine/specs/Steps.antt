@@ -78,10 +78,6 @@ after_asking w s key mode o sessions = record w { kept = record w.kept { rows = 
 abbrev pub outcome_in : Store → ℕ → List ℕ → Mode → Outcome
 outcome_in w s key mode = outcome (requests_on (record_of w.kept.rows key)) (number_in (active w s)) mode
 
--- why a request of the key is refused that isn't answered: it has no record and can't get one, or memory ran out
-abbrev pub why_refused : Kept → List ℕ → Refusal
-why_refused kept key = if is_full_for kept key then why.Full else why.OutOfMemory
-
 -- the transaction's own write is read, or else what is committed, where the request is granted
 abbrev pub Gets : Store → ℕ → List ℕ → Reply → Store → Type 0
 Gets old s key reply new =

@@ -11,14 +11,13 @@ ghost use Rattle.pc_model.specs.Database.{KeysRise, database_of, with_write, wri
 ghost use Rattle.pc_model.specs.Replies.{by_outcome, read_reply, value_read};
 ghost use Rattle.pc_phase.specs.Phases.{held_back};
 ghost use Rattle.pc_records.specs.Rows.{record_of, stored};
-ghost use Rattle.pc_records.specs.RowSteps.{is_full_for, is_waiting};
+ghost use Rattle.pc_records.specs.RowSteps.{is_full_for, why_refused, is_waiting};
 ghost use Rattle.pc_records.specs.NewKeys.{is_one_too_many};
 ghost use Rattle.pc_records.specs.Tables.{content_behind, first_pinned, kept_of};
 ghost use Rattle.pc_engine.specs.Counts.{AreCounted};
 ghost use Rattle.pc_engine.specs.Sessions.{active_of, actives_of, number_in, writes_in, after_writing, after_dying, if_died, if_granted, with_session};
 ghost use Rattle.pc_engine.specs.Ongoing.{own, at_start, answer_to, after_answer, after_beginning, after_committing, after_aborting, after_taking, changed};
 ghost use Rattle.pc_engine.specs.Store.{active_in};
-ghost use Rattle.pc_engine.specs.Steps.{why_refused};
 
 use pc_phase::{Change, Held, Phases};
 use pc_records::{Reading, Records, Requested};

@@ -8,11 +8,11 @@ use Rattle.pc_types.specs.declared.Request.{Request}
 use Rattle.pc_model.specs.Locks.{outcome, outcome_of_new, queue_after, queue_without}
 use Rattle.pc_model.specs.Queues.{stands_in}
 use Rattle.pc_model.proofs.QueueLaws.{new_outcome, with_new}
-use Rattle.pc_locks.specs.States.{State, queue_at, slots_of, slots_after, SetsAt, AreAlike, IsEntered, IsReleased, IsAnswered}
+use Rattle.pc_locks.specs.States.{State, queue_at, slots_of, slots_after, SetsAt, AreAlike, IsEntered, IsReleased, IsRequestAnswered}
 
 -- a first request that died, or was entered
 module _ (old : State) (t slot : ℕ) (mode : Mode) (answer : Outcome) (fresh : stands_in (queue_at old.queues slot) t ≡ false) (told : answer ≡ outcome_of_new (queue_at old.queues slot) t mode) where
-  pub first_died : answer ≡ Died → IsAnswered old old t slot mode answer
+  pub first_died : answer ≡ Died → IsRequestAnswered old old t slot mode answer
   first_died is = record {
     told = told ∙ sym (new_outcome (queue_at old.queues slot) t mode fresh);
     turned = record {
@@ -22,7 +22,7 @@ module _ (old : State) (t slot : ℕ) (mode : Mode) (answer : Outcome) (fresh : 
     };
   }
 
-  pub first_queued : (new : State) → answer ≡ Queued → IsEntered old new slot (record { transaction = t; mode = mode; granted = false }) → IsAnswered old new t slot mode answer
+  pub first_queued : (new : State) → answer ≡ Queued → IsEntered old new slot (record { transaction = t; mode = mode; granted = false }) → IsRequestAnswered old new t slot mode answer
   first_queued new is e = record {
     told = told ∙ sym (new_outcome (queue_at old.queues slot) t mode fresh);
     turned = record {
@@ -32,7 +32,7 @@ module _ (old : State) (t slot : ℕ) (mode : Mode) (answer : Outcome) (fresh : 
     };
   }
 
-  pub first_granted : (new : State) → answer ≡ Granted → IsEntered old new slot (record { transaction = t; mode = mode; granted = true }) → IsAnswered old new t slot mode answer
+  pub first_granted : (new : State) → answer ≡ Granted → IsEntered old new slot (record { transaction = t; mode = mode; granted = true }) → IsRequestAnswered old new t slot mode answer
   first_granted new is e =
       let n : Request = record { transaction = t; mode = mode; granted = true } in
       record {
@@ -46,24 +46,24 @@ module _ (old : State) (t slot : ℕ) (mode : Mode) (answer : Outcome) (fresh : 
 
 -- the parts of an answer
 module _ {E : Type 0} (old new : State) (t slot : ℕ) (mode : Mode) where
-  pub answer_told : (r : Result Outcome E) → IfOk r (IsAnswered old new t slot mode) → IfOk r (λ answer. answer ≡ outcome (queue_at old.queues slot) t mode)
+  pub answer_told : (r : Result Outcome E) → IfOk r (IsRequestAnswered old new t slot mode) → IfOk r (λ answer. answer ≡ outcome (queue_at old.queues slot) t mode)
   answer_told (Ok answer) a = a.told
   answer_told (Err e) a = tt
 
-  pub answer_queues : (r : Result Outcome E) → IfOk r (IsAnswered old new t slot mode) → IfOk r (λ answer. SetsAt old.queues new.queues slot (queue_after (queue_at old.queues slot) t mode answer))
+  pub answer_queues : (r : Result Outcome E) → IfOk r (IsRequestAnswered old new t slot mode) → IfOk r (λ answer. SetsAt old.queues new.queues slot (queue_after (queue_at old.queues slot) t mode answer))
   answer_queues (Ok answer) a = a.turned.queues
   answer_queues (Err e) a = tt
 
-  pub answer_others : (r : Result Outcome E) → IfOk r (IsAnswered old new t slot mode) → OnErr r (AreAlike new old) → (other : ℕ) → other ≢ t → slots_of new.lists other ≡ slots_of old.lists other
+  pub answer_others : (r : Result Outcome E) → IfOk r (IsRequestAnswered old new t slot mode) → OnErr r (AreAlike new old) → (other : ℕ) → other ≢ t → slots_of new.lists other ≡ slots_of old.lists other
   answer_others (Ok answer) a same = a.turned.others
   answer_others (Err e) a same = λ other n. ap (λ lists. slots_of lists other) same.lists
 
   -- the same of a first request
-  pub first_told : (r : Result Outcome E) → stands_in (queue_at old.queues slot) t ≡ false → IfOk r (IsAnswered old new t slot mode) → IfOk r (λ answer. answer ≡ outcome_of_new (queue_at old.queues slot) t mode)
+  pub first_told : (r : Result Outcome E) → stands_in (queue_at old.queues slot) t ≡ false → IfOk r (IsRequestAnswered old new t slot mode) → IfOk r (λ answer. answer ≡ outcome_of_new (queue_at old.queues slot) t mode)
   first_told (Ok answer) fresh a = a.told ∙ new_outcome (queue_at old.queues slot) t mode fresh
   first_told (Err e) fresh a = tt
 
-  pub first_list : (r : Result Outcome E) → stands_in (queue_at old.queues slot) t ≡ false → IfOk r (IsAnswered old new t slot mode) → IfOk r (λ answer. slots_of new.lists t ≡ slots_after (slots_of old.lists t) slot false answer)
+  pub first_list : (r : Result Outcome E) → stands_in (queue_at old.queues slot) t ≡ false → IfOk r (IsRequestAnswered old new t slot mode) → IfOk r (λ answer. slots_of new.lists t ≡ slots_after (slots_of old.lists t) slot false answer)
   first_list (Ok answer) fresh a = a.turned.list ∙ ap (λ (b : Bool). slots_after (slots_of old.lists t) slot b answer) fresh
   first_list (Err e) fresh a = tt
 

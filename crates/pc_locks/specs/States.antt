@@ -96,7 +96,7 @@ abbrev pub IsReleased : State → State → ℕ → ℕ → Type 0
 IsReleased old new t slot = TurnsInto old new slot t (queue_without (queue_at old.queues slot) t) (rest_of (slots_of old.lists t))
 
 -- the transaction's request of the slot was so answered, and stands where it didn't die
-pub record IsAnswered (old new : State) (t slot : ℕ) (mode : Mode) (answer : Outcome) : Type 0 where
+pub record IsRequestAnswered (old new : State) (t slot : ℕ) (mode : Mode) (answer : Outcome) : Type 0 where
   pub told : answer ≡ outcome (queue_at old.queues slot) t mode
   pub turned : TurnsInto old new slot t (queue_after (queue_at old.queues slot) t mode answer) (slots_after (slots_of old.lists t) slot (stands_in (queue_at old.queues slot) t) answer)
 

@@ -2,7 +2,7 @@
 ghost use Rattle.std.specs.Prelude.{◌≡◌, ◌==◌, [], not, true, false, ℕ, length, IfOk, OnErr, IfSome, IfNone};
 ghost use Rattle.pc_chain.specs.declared.chain.Chain.{Chain};
 ghost use Rattle.pc_chain.specs.Chains.{IsEmpty};
-ghost use Rattle.pc_locks.specs.States.{queue_at, slots_of, first_of, is_waiting, IsAnswered, IsReleased, AreAlike};
+ghost use Rattle.pc_locks.specs.States.{queue_at, slots_of, first_of, is_waiting, IsRequestAnswered, IsReleased, AreAlike};
 ghost use Rattle.pc_locks.specs.Keepers.{queues_of, lists_of, state_of, AreEnds, AreLocksSound};
 
 use crate::keeper::QueueEnds;
@@ -58,7 +58,7 @@ impl Locks {
         requires has { E.has keeper.old slot }
         requires ready { is_waiting (state_of (E.ends_of keeper.old) self.old) transaction ≡ false }
         ensures sound { AreLocksSound (E.has keeper.new) (E.ends_of keeper.new) self.new }
-        ensures answered { IfOk result (IsAnswered (state_of (E.ends_of keeper.old) self.old) (state_of (E.ends_of keeper.new) self.new) transaction slot mode) }
+        ensures answered { IfOk result (IsRequestAnswered (state_of (E.ends_of keeper.old) self.old) (state_of (E.ends_of keeper.new) self.new) transaction slot mode) }
         ensures err { OnErr result (AreAlike (state_of (E.ends_of keeper.new) self.new) (state_of (E.ends_of keeper.old) self.old)) }
         ensures keeper { OnErr result (keeper.new ≡ keeper.old) }
         ensures beside { E.beside keeper.old keeper.new }

@@ -5,7 +5,7 @@ ghost use Rattle.pc_model.specs.Locks.{is_exclusive, outcome_of_new, outcome_bes
 ghost use Rattle.pc_model.specs.Queues.{stands_in, AreOnce};
 ghost use Rattle.pc_locks.specs.declared.node.Node.{Node};
 ghost use Rattle.pc_locks.specs.Lines.{ids_by, IsQueue, AreLines};
-ghost use Rattle.pc_locks.specs.States.{slots_of, first_of, last_of, queue_at, IsEntered, IsTakenOut, IsAnswered, AreAlike, AreAmong, AreDifferent};
+ghost use Rattle.pc_locks.specs.States.{slots_of, first_of, last_of, queue_at, IsEntered, IsTakenOut, IsRequestAnswered, AreAlike, AreAmong, AreDifferent};
 ghost use Rattle.pc_locks.specs.Tables.{passes, node_at, request_at, slot_at, requests, HasRoomForRequest, IsIdFound, IsOwn, IsUnlinked, KeepPlaces, KeepOutside, AreHeld};
 ghost use Rattle.pc_locks.specs.Keepers.{kept_of, ids_along, queue_along, queues_of, lists_of, state_of, AreTied};
 
@@ -165,7 +165,7 @@ impl RequestTable {
         requires queue { queue ≡ E.ends_of keeper.old slot }
         requires fresh { stands_in (queue_at (queues_of (E.ends_of keeper.old) (kept_of self.old)) slot) transaction ≡ false }
         ensures tied { AreTied (E.ends_of keeper.new) (kept_of self.new) }
-        ensures answered { IfOk result (IsAnswered (state_of (E.ends_of keeper.old) (kept_of self.old)) (state_of (E.ends_of keeper.new) (kept_of self.new)) transaction slot mode) }
+        ensures answered { IfOk result (IsRequestAnswered (state_of (E.ends_of keeper.old) (kept_of self.old)) (state_of (E.ends_of keeper.new) (kept_of self.new)) transaction slot mode) }
         ensures err { OnErr result (AreAlike (state_of (E.ends_of keeper.new) (kept_of self.new)) (state_of (E.ends_of keeper.old) (kept_of self.old))) }
         ensures keeper { OnErr result (keeper.new ≡ keeper.old) }
         ensures beside { E.beside keeper.old keeper.new }

@@ -10,7 +10,7 @@ use Rattle.pc_collapse.specs.Laws.{FilesFoldWell}
 use Rattle.pc_engine.specs.Checks.{IsFileRight}
 use Rattle.pc_engine.specs.Laws.{FilesOfTheirPointsAreRight}
 use Rattle.pc_outcomes.specs.Leaving.{with_file, Folded, IsStoreReport, AreLeftAfter, IsOfAll, IsLegacy}
-use Rattle.pc_outcomes.specs.declared.outcome.StoreReport.{StoreReport}
+use Rattle.pc_outcomes.specs.declared.run_report.StoreReport.{StoreReport}
 
 -- the fold of files of a log is the file of the points of all
 pub of_all : FilesFoldWell → (base : BaseFile) (log : List Entry) (files : List File) (collapsed : Option File) → All (IsOfItsPoints base.run base.pairs log) files → Folded files collapsed → IsOfAll base log files collapsed

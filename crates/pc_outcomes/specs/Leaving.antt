@@ -18,8 +18,8 @@ use Rattle.pc_part.specs.Layings.{lay_causes}
 use Rattle.pc_collapse.specs.Folds.{Folds}
 use Rattle.pc_collapse.specs.Laws.{IsOfAllPoints}
 use Rattle.pc_engine.specs.Checks.{IsFileRight}
-use Rattle.pc_outcomes.specs.declared.outcome.Collapsed.{Collapsed}
-use Rattle.pc_outcomes.specs.declared.outcome.StoreReport.{StoreReport}
+use Rattle.pc_outcomes.specs.declared.run_report.Collapsed.{Collapsed}
+use Rattle.pc_outcomes.specs.declared.run_report.StoreReport.{StoreReport}
 
 -- whether the entry is a commit
 abbrev pub is_commit : Entry → Bool

@@ -1,11 +1,11 @@
 -- What is printed of a run, and the status.
 use Rattle.std.specs.Prelude.{ℕ, List, ◌++◌, Option, Some, None, codes, decimal}
 use Rattle.pc_texts.specs.Texts.{collapsed_line, check_line}
-use Rattle.pc_outcomes.specs.declared.outcome.Collapsed.{Collapsed}
-use Rattle.pc_outcomes.specs.declared.outcome.StoreReport.{StoreReport}
-use Rattle.pc_outcomes.specs.declared.outcome.RunReport.{RunReport}
-use Rattle.pc_outcomes.specs.declared.outcome.Printed.{Printed}
-use Rattle.pc_outcomes.specs.declared.outcome.Printed.TheVariants as printed
+use Rattle.pc_outcomes.specs.declared.run_report.Collapsed.{Collapsed}
+use Rattle.pc_outcomes.specs.declared.run_report.StoreReport.{StoreReport}
+use Rattle.pc_outcomes.specs.declared.run_report.RunReport.{RunReport}
+use Rattle.pc_outcomes.specs.declared.run_report.Printed.{Printed}
+use Rattle.pc_outcomes.specs.declared.run_report.Printed.TheVariants as printed
 
 -- a word and a number, alone in a line
 abbrev pub number_line : List ℕ → ℕ → List ℕ

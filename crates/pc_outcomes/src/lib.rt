@@ -2,7 +2,7 @@
 #![tactic(auto)]
 
 mod leaving;
-mod outcome;
+mod run_report;
 
 pub use leaving::{commits_in, left_by};
-pub use outcome::{Collapsed, Printed, RunReport, StoreReport};
+pub use run_report::{Collapsed, Printed, RunReport, StoreReport};

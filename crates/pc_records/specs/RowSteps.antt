@@ -3,10 +3,12 @@ use Rattle.std.specs.Prelude.{ℕ, ◌==◌, ◌&&◌, not, Bool, true, false, L
 use Rattle.std.specs.List.{list_any}
 use Rattle.std.specs.FinMap.{put as put_entry}
 use Rattle.pc_types.specs.declared.Mode.{Mode}
+use Rattle.pc_types.specs.declared.Refusal.{Refusal}
+use Rattle.pc_types.specs.declared.Refusal.TheVariants.{Full, OutOfMemory}
 use Rattle.pc_types.specs.declared.Write.{Write}
 use Rattle.pc_model.specs.Database.{key_cmp, same_bytes, written}
 use Rattle.pc_types.specs.declared.Outcome.{Outcome}
-use Rattle.pc_model.specs.Locks.{Queue, request_in, is_ungranted, queue_after, queue_without}
+use Rattle.pc_model.specs.Locks.{Queue, request_in, is_ungranted, outcome, queue_after, queue_without}
 use Rattle.pc_types.specs.declared.Outcome.TheVariants.{Granted, Queued, Died}
 use Rattle.pc_model.specs.Queues.{stands_in}
 use Rattle.pc_records.specs.Rows.{Kept, Record, Row, is_kept, record_of, requests_on}
@@ -27,6 +29,14 @@ committed_row pair = (pair.0, record { value = Some pair.1; is_in_open_set = fal
 -- the key has no record, and there are as many as there may be
 abbrev pub is_full_for : Kept → List ℕ → Bool
 is_full_for kept key = is_none (record_of kept.rows key) && (length kept.rows == kept.capacity)
+
+-- why a request of the key is refused that isn't answered: it has no record and can't get one, or memory ran out
+abbrev pub why_refused : Kept → List ℕ → Refusal
+why_refused kept key = if is_full_for kept key then Full else OutOfMemory
+
+-- how the transaction's request of the key is answered
+abbrev pub outcome_on : List Row → List ℕ → ℕ → Mode → Outcome
+outcome_on rows key t mode = outcome (requests_on (record_of rows key)) t mode
 
 -- a request of the transaction waits
 abbrev pub is_waiting : List Row → ℕ → Bool

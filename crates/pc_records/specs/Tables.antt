@@ -5,10 +5,14 @@ use Rattle.std.specs.FinMap.{find}
 use denote.Ref.{Bor}
 use Rattle.pc_types.specs.declared.Write.{Write}
 use Rattle.pc_model.specs.Database.{key_cmp, same_bytes, written}
+use Rattle.pc_types.specs.declared.Class.{Class}
+use Rattle.pc_types.specs.declared.Mode.{Mode}
+use Rattle.pc_types.specs.declared.Mode.TheVariants.{Exclusive}
 use Rattle.pc_types.specs.declared.Outcome.{Outcome}
 use Rattle.pc_types.specs.declared.Outcome.TheVariants.{Granted, Queued, Died}
 use Rattle.pc_model.specs.Points.{is_among}
 use Rattle.pc_slots.specs.Slots.{Pending}
+use Rattle.pc_records.specs.RowSteps.{rows_after}
 use Rattle.pc_records.specs.Rows.{Row, Kept, record_of, stored, is_in_open_set, is_in_closed_set, at_point}
 
 -- the records: the rows, the writes of open transactions, rising by key, the point of the last closed set, and the keys of the
@@ -51,6 +55,24 @@ abbrev pub pending_after : Outcome → RecordsView → List ℕ → Pending → 
 pending_after Granted t key p q = if same_bytes key q then Some p else pending_at t q
 pending_after Queued t key p q = pending_at t q
 pending_after Died t key p q = pending_at t q
+
+-- the transaction's write in the key's place, if it has one there, is of the class
+abbrev pub IsOfClass : RecordsView → List ℕ → ℕ → Class → Type 0
+IsOfClass t key transaction class = (p : Pending) → pending_at t key ≡ Some p → p.by ≡ transaction → p.class ≡ class
+
+-- the records once the transaction's request of the key was so answered
+abbrev pub once_asked : RecordsView → List ℕ → ℕ → Mode → Outcome → RecordsView
+once_asked t key transaction mode answer = record t { rows = rows_after t.rows key transaction mode answer }
+
+-- the transaction's request to write the key was so answered: its request is in the rows, and where it is granted the write stands in
+-- the key's place, in which no other transaction has one
+pub record IsAsked (old new : RecordsView) (transaction : ℕ) (class : Class) (key : List ℕ) (value : Option (List ℕ)) (answer : Outcome) : Type 0 where
+  pub rows : kept_of new ≡ record (kept_of old) { rows = rows_after old.rows key transaction Exclusive answer }
+  pub pending : (q : List ℕ) → pending_at new q ≡ pending_after answer old key (record { by = transaction; class = class; value = value }) q
+  pub clear : answer ≡ Granted → IsClearFor old key transaction
+  pub point : new.point ≡ old.point
+  pub opened : new.opened ≡ old.opened
+  pub shut : new.shut ≡ old.shut
 
 -- what stands of the key once the transaction of these writes is over
 abbrev pub pending_without : List Write → RecordsView → List ℕ → Option Pending

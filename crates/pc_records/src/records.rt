@@ -7,12 +7,11 @@ ghost use Rattle.pc_types.specs.Phases.{same_class};
 ghost use Rattle.pc_model.specs.Maps.{get};
 ghost use Rattle.pc_model.specs.Database.{KeysRise, database_of, written};
 ghost use Rattle.pc_model.specs.DistinctWrites.{AreDistinct};
-ghost use Rattle.pc_model.specs.Locks.{outcome};
 ghost use Rattle.pc_slots.specs.Slots.{Pending, nothing_aside, granted_slot};
-ghost use Rattle.pc_records.specs.Rows.{record_of, stored, is_in_closed_set, requests_on};
+ghost use Rattle.pc_records.specs.Rows.{record_of, stored, is_in_closed_set};
 ghost use Rattle.pc_records.specs.NewKeys.{new_keys};
-ghost use Rattle.pc_records.specs.RowSteps.{is_full_for, is_waiting, rows_after, released_rows, written_row, closed_row, left_rows, committed_row};
-ghost use Rattle.pc_records.specs.Tables.{kept_of, pending_at, value_of, latest, IsClearFor, pending_after, pending_without, AreListed, first_content, content_behind};
+ghost use Rattle.pc_records.specs.RowSteps.{is_full_for, why_refused, outcome_on, is_waiting, released_rows, written_row, closed_row, left_rows, committed_row};
+ghost use Rattle.pc_records.specs.Tables.{kept_of, pending_at, value_of, latest, IsClearFor, IsOfClass, once_asked, IsAsked, pending_without, AreListed, first_content, content_behind};
 ghost use Rattle.pc_records.specs.Floor.{IsFloorWhole, AreSpotsSound, IsOver, IsFloorReleased, standing, stands_anywhere, waits_anywhere, number_of, has_spot, with_spot, with_new_spot, asked, changed, with_settled, with_all_settled, with_undone, with_all_undone};
 
 use crate::floor::KeySlots;
@@ -107,13 +106,13 @@ impl Records {
     /// there may be, and else only where memory ran out; the records are then as they were.
     pub fn read(&mut self, alloc: Global, transaction: TxnNo, key: &Key) -> Result<Reading, Refusal>
         requires ready { is_waiting self.old.rows transaction ≡ false }
-        ensures told { IfOk result (λ answer. answer.outcome ≡ outcome (requests_on (record_of self.old.rows key.now)) transaction Shared) }
+        ensures told { IfOk result (λ answer. answer.outcome ≡ outcome_on self.old.rows key.now transaction Shared) }
         ensures found { IfOk result (λ answer. answer.found ≡ latest self.old key.now) }
-        ensures rows { IfOk result (λ answer. self.new ≡ record self.old { rows = rows_after self.old.rows key.now transaction Shared answer.outcome }) }
+        ensures rows { IfOk result (λ answer. self.new ≡ once_asked self.old key.now transaction Shared answer.outcome) }
         ensures clear { IfOk result (λ answer. answer.outcome ≡ Granted → IsClearFor self.old key.now transaction) }
         ensures err { OnErr result (self.new ≡ self.old) }
         ensures room { IfOk result (λ answer. is_full_for (kept_of self.old) key.now ≡ false) }
-        ensures refusal { IfErr result (λ e. e ≡ (if is_full_for (kept_of self.old) key.now then Refusal.Full else Refusal.OutOfMemory)) }
+        ensures refusal { IfErr result (λ e. e ≡ why_refused (kept_of self.old) key.now) }
     {
         match self.slots.find(key, None) {
             Some(id) => {
@@ -144,17 +143,12 @@ impl Records {
     ) -> Result<Requested, Refusal>
         requires ready { is_waiting self.old.rows transaction ≡ false }
         requires outside { class ≡ Before → is_in_closed_set (record_of self.old.rows key.now) ≡ false }
-        requires again { (p : Pending) → pending_at self.old key.now ≡ Some p → p.by ≡ transaction → p.class ≡ class }
-        ensures told { IfOk result (λ answer. answer.outcome ≡ outcome (requests_on (record_of self.old.rows key.now)) transaction Exclusive) }
-        ensures rows { IfOk result (λ answer. kept_of self.new ≡ record (kept_of self.old) { rows = rows_after self.old.rows key.now transaction Exclusive answer.outcome }) }
-        ensures pending { IfOk result (λ answer. (q : List ℕ) → pending_at self.new q ≡ pending_after answer.outcome self.old key.now (record { by = transaction; class = class; value = value }) q) }
-        ensures clear { IfOk result (λ answer. answer.outcome ≡ Granted → IsClearFor self.old key.now transaction) }
-        ensures point { IfOk result (λ answer. self.new.point ≡ self.old.point) }
-        ensures opened { self.new.opened ≡ self.old.opened }
-        ensures shut { self.new.shut ≡ self.old.shut }
+        requires again { IsOfClass self.old key.now transaction class }
+        ensures told { IfOk result (λ answer. answer.outcome ≡ outcome_on self.old.rows key.now transaction Exclusive) }
+        ensures written { IfOk result (λ answer. IsAsked self.old self.new transaction class key.now value answer.outcome) }
         ensures err { OnErr result (self.new ≡ self.old) }
         ensures room { IfOk result (λ answer. is_full_for (kept_of self.old) key.now ≡ false) }
-        ensures refusal { IfErr result (λ e. e ≡ (if is_full_for (kept_of self.old) key.now then Refusal.Full else Refusal.OutOfMemory)) }
+        ensures refusal { IfErr result (λ e. e ≡ why_refused (kept_of self.old) key.now) }
     {
         match self.slots.find(key, None) {
             Some(id) => {

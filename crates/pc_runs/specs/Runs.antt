@@ -27,9 +27,9 @@ use Rattle.pc_runs.specs.declared.files.Unusable.TheVariants as unusable
 use Rattle.pc_runs.specs.declared.origin.Origin.{Origin}
 use Rattle.pc_runs.specs.declared.origin.Start.{Start}
 use Rattle.pc_runs.specs.declared.origin.Start.TheVariants as start
-use Rattle.pc_outcomes.specs.declared.outcome.RunReport.{RunReport}
-use Rattle.pc_outcomes.specs.declared.outcome.Printed.{Printed}
-use Rattle.pc_outcomes.specs.declared.outcome.Printed.TheVariants as printed
+use Rattle.pc_outcomes.specs.declared.run_report.RunReport.{RunReport}
+use Rattle.pc_outcomes.specs.declared.run_report.Printed.{Printed}
+use Rattle.pc_outcomes.specs.declared.run_report.Printed.TheVariants as printed
 use Rattle.pc_outcomes.specs.Leaving.{commits_in, IsLegacy}
 use Rattle.pc_outcomes.specs.Outcomes.{printed_text, status_of}
 use Rattle.pc_workers.specs.Covering.{HaveJustTo}

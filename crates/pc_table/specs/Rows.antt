@@ -47,8 +47,8 @@ module _ {T : Type 0} where
   without_slot table id = record table { rows = filter (λ row. not (row.1.0 == id)) table.rows }
 
   -- as many keys have a row as may have one
-  abbrev pub IsFull : Contents T → Type 0
-  IsFull table = length table.rows ≡ table.capacity
+  abbrev pub IsTableFull : Contents T → Type 0
+  IsTableFull table = length table.rows ≡ table.capacity
 
   -- why a key gets no row: the table is full, or else memory ran out
   abbrev pub why_refused : Contents T → Refusal

@@ -1,7 +1,7 @@
 //! The table itself.
 ghost use Rattle.std.specs.Prelude.{◌≡◌, ◌≤◌, ◌==◌, [], true, length, IfOk, IfErr, IfSome, OnErr, Err, Some, None, option_map};
 ghost use Rattle.std.specs.Borrow.{sem};
-ghost use Rattle.pc_table.specs.Rows.{slot_of, in_slot, without_slot, pair_behind, with_record, with_row, why_refused, HasRow, IsNewSlot, IsFull, AreInSlots};
+ghost use Rattle.pc_table.specs.Rows.{slot_of, in_slot, without_slot, pair_behind, with_record, with_row, why_refused, HasRow, IsNewSlot, IsTableFull, AreInSlots};
 ghost use Rattle.pc_table.specs.Lending.{LendsRow};
 
 use crate::arena::Arena;
@@ -147,7 +147,7 @@ impl<T: Blank> Table<T> {
         ensures slot { IfOk result (λ id. slot_of self.new.rows key.now ≡ Some id) }
         ensures row { IfOk result (HasRow self.new.rows) }
         ensures changed { IfOk result (λ id. (x : T) → with_record self.new id x ≡ with_row self.old key.now id x) }
-        ensures full { IsFull self.old → result ≡ Err Refusal.Full }
+        ensures full { IsTableFull self.old → result ≡ Err Refusal.Full }
         ensures refusal { IfErr result (λ e. e ≡ why_refused self.old) }
         ensures err { OnErr result (self.new ≡ self.old) }
         ensures before { AreInSlots self.old }

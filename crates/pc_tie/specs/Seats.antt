@@ -21,6 +21,18 @@ abbrev pub sitting_in : List Sight → Sitting
 sitting_in [] = sitting a_witness []
 sitting_in (v ∷ vs) = sitting (number_of v) (hist_of v)
 
+-- what the seat of the badge knows
+abbrev pub seat_of : Badge Sight → Sitting
+seat_of badge = sitting_in badge.views
+
+-- its number
+abbrev pub number_at : Badge Sight → ℕ
+number_at badge = (seat_of badge).number
+
+-- the history that it has seen
+abbrev pub seen_at : Badge Sight → History
+seen_at badge = (seat_of badge).seen
+
 -- the badge is that of a seat at the word which isn't the keeper's
 abbrev pub IsSeatAt : TableId → Badge Sight → Type 0
 IsSeatAt table badge = (badge.table_id ≡ table) × (badge.views ≡ Front (sitting_in badge.views).number (sitting_in badge.views).seen ∷ [])
@@ -54,6 +66,10 @@ first_number (s ∷ ss) = s.number
 abbrev pub NoTwoAlike : List Sitting → Type 0
 NoTwoAlike ss = (i j : ℕ) (d : Sitting) → i < length ss → j < length ss → Speaks (get_or ss i d).number → (get_or ss i d).number ≡ (get_or ss j d).number → i ≡ j
 
+-- the seat has seen all calls of its number
+abbrev pub HasOwnCalls : History → Sitting → Type 0
+HasOwnCalls history s = HasCallsOf history s.number s.seen
+
 -- the seat has seen a beginning of the history; and where it is no witness's, all calls of its number
 abbrev pub IsFrontOf : History → Sitting → Type 0
-IsFrontOf history s = IsBeginning s.seen history × (Speaks s.number → HasCallsOf history s.number s.seen)
+IsFrontOf history s = IsBeginning s.seen history × (Speaks s.number → HasOwnCalls history s)

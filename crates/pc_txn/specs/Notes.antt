@@ -4,8 +4,8 @@ use Rattle.pc_types.specs.declared.Write.{Write}
 use Rattle.pc_model.specs.Receipts.{Read, with_read}
 use Rattle.pc_txn.specs.declared.got.Got.{Got}
 use Rattle.pc_txn.specs.declared.got.Got.TheVariants as got
-use Rattle.pc_txn.specs.declared.work.Latest.{Latest}
-use Rattle.pc_txn.specs.declared.work.Latest.TheVariants as latest
+use Rattle.pc_txn.specs.declared.session_notes.Latest.{Latest}
+use Rattle.pc_txn.specs.declared.session_notes.Latest.TheVariants as latest
 
 -- the reads after such an answer
 abbrev pub reads_after : Got → List Write → List Read → List ℕ → List Read

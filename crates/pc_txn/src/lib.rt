@@ -6,11 +6,13 @@ mod got;
 mod order;
 mod reads;
 mod receipts;
-mod work;
+mod session_notes;
 mod writes;
 
 pub use got::Got;
 pub use reads::ReadSet;
 pub use receipts::{Head, Receipts};
-pub use work::{Latest, SessionNotes, has_room_for_receipt, has_room_to_read, has_room_to_write};
+pub use session_notes::{
+    Latest, SessionNotes, has_room_for_receipt, has_room_to_read, has_room_to_write,
+};
 pub use writes::WriteSet;

@@ -5,7 +5,7 @@ use Rattle.pc_model.specs.Replies.{Setting}
 use Rattle.pc_jobs.specs.Workloads.{reading_of}
 use Rattle.pc_jobs.specs.declared.works.Workload.{Workload}
 use Rattle.pc_jobs.specs.declared.workloads.WorkloadReading.TheVariants.{Runs}
-use Rattle.pc_outcomes.specs.declared.outcome.RunReport.{RunReport}
+use Rattle.pc_outcomes.specs.declared.run_report.RunReport.{RunReport}
 use Rattle.pc_texts.specs.declared.file_names.FileName.{FileName}
 use Rattle.pc_runs.specs.Runs.{IsWorkloadRun, run_setting}
 use Rattle.test_folders.specs.declared.memory.MemoryFolder.{MemoryFolder}

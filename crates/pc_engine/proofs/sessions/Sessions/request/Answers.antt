@@ -42,11 +42,11 @@ invariant_of-self-2 c =
     let own = seen_before c.self.inside.transactions.items c.args.session c.place.result c.index_mut.result.now c.in-Some.transaction c.prepared.new.self c.args.write c.place.ensures inside c.index_mut.ensures.value c.in-Some.is ∙ ap (λ (a : Active). Some a) (sym c.prepared.ensures.same) in
     let then = answered_after c.self.inside.transactions.items c.args.session c.place.result c.index_mut.result.now c.in-Some.transaction c.answered.new.self c.args.write c.place.ensures inside c.index_mut.ensures.value c.in-Some.is c.prepared.new.self c.in_ok-outcome.field-0.outcome c.prepared.ensures.same c.answered.ensures in
     request_stands _ _ _ _ c.self.invariant _ _ c.place.result _ c.args.write _ (rw (← c.place.ensures, ← c.self.view_is) at c.requires.place) own (sym (ap (λ (a : Option Active). is_one_too_many (writes_in a) c.args.write.key) own) ∙ rw (← c.place.ensures, ← c.self.view_is) at c.requires.one) then
-    c.in_ok-outcome.ensures.rows (rw c.in-Ok.ensures.copy at c.in_ok-outcome.ensures.pending) c.in_ok-outcome.ensures.clear c.in_ok-outcome.ensures.point c.in_ok-outcome.ensures.opened c.in_ok-outcome.ensures.shut
+    c.in_ok-outcome.ensures.written.rows (rw c.in-Ok.ensures.copy at c.in_ok-outcome.ensures.written.pending) c.in_ok-outcome.ensures.written.clear c.in_ok-outcome.ensures.written.point c.in_ok-outcome.ensures.written.opened c.in_ok-outcome.ensures.written.shut
 
 pub returns-clause-answered : goal.returns-clause-answered
 returns-clause-answered c =
     let inside = inside_of c.self.inside.transactions.items (rw (← c.place.ensures, ← c.self.view_is) at c.requires.place) in
     let own = seen_before c.self.inside.transactions.items c.args.session c.place.result c.index_mut.result.now c.in-Some.transaction c.prepared.new.self c.args.write c.place.ensures inside c.index_mut.ensures.value c.in-Some.is ∙ ap (λ (a : Active). Some a) (sym c.prepared.ensures.same) in
     let then = answered_after c.self.inside.transactions.items c.args.session c.place.result c.index_mut.result.now c.in-Some.transaction c.answered.new.self c.args.write c.place.ensures inside c.index_mut.ensures.value c.in-Some.is c.prepared.new.self c.in_ok-outcome.field-0.outcome c.prepared.ensures.same c.answered.ensures in
-    rw (← c.self.view_is) (answered_view c.self.inside.records c.write-2.new.self c.self.inside.phases c.self.inside.begun _ _ c.args.session c.place.result _ c.args.write _ c.place.ensures own then c.in_ok-outcome.ensures.rows c.in_ok-outcome.ensures.opened c.in_ok-outcome.ensures.shut)
+    rw (← c.self.view_is) (answered_view c.self.inside.records c.write-2.new.self c.self.inside.phases c.self.inside.begun _ _ c.args.session c.place.result _ c.args.write _ c.place.ensures own then c.in_ok-outcome.ensures.written.rows c.in_ok-outcome.ensures.written.opened c.in_ok-outcome.ensures.written.shut)

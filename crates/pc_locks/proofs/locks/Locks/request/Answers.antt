@@ -4,7 +4,7 @@ use Rattle.pc_model.specs.Locks.{outcome, queue_after}
 use Rattle.pc_model.specs.Queues.{stands_in}
 use Rattle.pc_model.proofs.QueueLaws.{stands_is}
 use Rattle.pc_locks.specs.Lines.{ids_of, ids_by}
-use Rattle.pc_locks.specs.States.{queue_at, slots_of, slots_after, is_waiting, SetsAt, IsAnswered}
+use Rattle.pc_locks.specs.States.{queue_at, slots_of, slots_after, is_waiting, SetsAt, IsRequestAnswered}
 use Rattle.pc_locks.specs.Tables.{requests, IsOwn}
 use Rattle.pc_locks.specs.Keepers.{KeptRequests, kept_of, queues_of, lists_of, state_of, AreLocksSound}
 use Rattle.pc_locks.proofs.StateLaws.{list_again}
@@ -84,4 +84,4 @@ pub returns-in-None-clause-answered : goal.returns-in-None-clause-answered
 returns-in-None-clause-answered g c =
     let ends = g.E.QueueEnds.ends_of c.args.keeper.now in
     let new_ends = g.E.QueueEnds.ends_of c.first.new.keeper in
-    subst (λ (k : KeptRequests). IfOk c.first.result (IsAnswered (state_of ends k) (state_of new_ends (kept_of c.first.new.self)) c.args.transaction c.args.slot c.args.mode)) c.self.view_is c.first.ensures.answered
+    subst (λ (k : KeptRequests). IfOk c.first.result (IsRequestAnswered (state_of ends k) (state_of new_ends (kept_of c.first.new.self)) c.args.transaction c.args.slot c.args.mode)) c.self.view_is c.first.ensures.answered

@@ -67,27 +67,23 @@ returns-in_ok-outcome-in-Some-clause-told c =
     let f = found c.self.inside.slots c.args.key.now c.in-Some.id c.self.invariant.0 (sym c.in-Some.ensures.found) in
     rw (← c.self.view_is) (told_there c.self.inside.slots c.self.invariant.0 c.args.key.now c.in-Some.id f.0 f.1 c.args.transaction Exclusive c.in_ok-outcome-in-Some.outcome c.in_ok-outcome-in-Some.ensures.told)
 
-pub returns-in_ok-outcome-in-Some-clause-rows : goal.returns-in_ok-outcome-in-Some-clause-rows
-returns-in_ok-outcome-in-Some-clause-rows c =
-    rw (← c.self.view_is) (λ i. record { capacity = ((there c).same i).capacity; rows = (there c).rows i })
-
-pub returns-in_ok-outcome-in-Some-clause-pending : goal.returns-in_ok-outcome-in-Some-clause-pending
-returns-in_ok-outcome-in-Some-clause-pending c =
-    rw (← c.self.view_is) (there c).pending
-
-pub returns-in_ok-outcome-in-Some-clause-clear : goal.returns-in_ok-outcome-in-Some-clause-clear
-returns-in_ok-outcome-in-Some-clause-clear c =
-    let f = found c.self.inside.slots c.args.key.now c.in-Some.id c.self.invariant.0 (sym c.in-Some.ensures.found) in
-    rw (← c.self.view_is) (clear_there c.self.inside.slots c.self.invariant.0 c.args.key.now c.in-Some.id f.0 f.1 c.self.inside.point c.args.transaction c.self.invariant.1
-    (waits_same c.args.transaction c.self.inside.slots.spots ∙ ap (λ (k : RecordsView). is_waiting k.rows c.args.transaction) c.self.view_is ∙ c.requires.ready) Exclusive c.in_ok-outcome-in-Some.outcome c.in_ok-outcome-in-Some.ensures.told)
-
-pub returns-in_ok-outcome-in-Some-clause-opened : goal.returns-in_ok-outcome-in-Some-clause-opened
-returns-in_ok-outcome-in-Some-clause-opened c =
-    rw (← c.self.view_is) (ap (λ (f : Floor). f.opened) (there c).same)
-
-pub returns-in_ok-outcome-in-Some-clause-shut : goal.returns-in_ok-outcome-in-Some-clause-shut
-returns-in_ok-outcome-in-Some-clause-shut c =
-    rw (← c.self.view_is) (ap (λ (f : Floor). f.closed) (there c).same)
+pub returns-in_ok-outcome-in-Some-clause-written : goal.returns-in_ok-outcome-in-Some-clause-written
+returns-in_ok-outcome-in-Some-clause-written c = record {
+  rows =
+      rw (← c.self.view_is) (λ i. record { capacity = ((there c).same i).capacity; rows = (there c).rows i });
+  pending =
+      rw (← c.self.view_is) (there c).pending;
+  clear =
+      let f = found c.self.inside.slots c.args.key.now c.in-Some.id c.self.invariant.0 (sym c.in-Some.ensures.found) in
+      rw (← c.self.view_is) (clear_there c.self.inside.slots c.self.invariant.0 c.args.key.now c.in-Some.id f.0 f.1 c.self.inside.point c.args.transaction c.self.invariant.1
+      (waits_same c.args.transaction c.self.inside.slots.spots ∙ ap (λ (k : RecordsView). is_waiting k.rows c.args.transaction) c.self.view_is ∙ c.requires.ready) Exclusive c.in_ok-outcome-in-Some.outcome c.in_ok-outcome-in-Some.ensures.told);
+  point =
+      ap (λ (k : RecordsView). k.point) c.self.view_is;
+  opened =
+      rw (← c.self.view_is) (ap (λ (f : Floor). f.opened) (there c).same);
+  shut =
+      rw (← c.self.view_is) (ap (λ (f : Floor). f.closed) (there c).same);
+}
 
 pub returns-in_ok-outcome-in-Some-clause-room : goal.returns-in_ok-outcome-in-Some-clause-room
 returns-in_ok-outcome-in-Some-clause-room c =
@@ -119,49 +115,29 @@ pub returns-in_err-outcome-in-Some-clause-err : goal.returns-in_err-outcome-in-S
 returns-in_err-outcome-in-Some-clause-err c =
     rw (← c.self.view_is) (on_err c.from_residual-in_err-outcome-in-Some.result (ap (table_on c.self.inside.point) c.in_err-outcome-in-Some.ensures.same))
 
-pub returns-in_err-outcome-in-Some-clause-opened : goal.returns-in_err-outcome-in-Some-clause-opened
-returns-in_err-outcome-in-Some-clause-opened c =
-    rw (← c.self.view_is) (ap (λ (f : Floor). f.opened) c.in_err-outcome-in-Some.ensures.same)
-
-pub returns-in_err-outcome-in-Some-clause-shut : goal.returns-in_err-outcome-in-Some-clause-shut
-returns-in_err-outcome-in-Some-clause-shut c =
-    rw (← c.self.view_is) (ap (λ (f : Floor). f.closed) c.in_err-outcome-in-Some.ensures.same)
-
 pub returns-in_err-id-in-None-clause-err : goal.returns-in_err-id-in-None-clause-err
 returns-in_err-id-in-None-clause-err c =
     rw (← c.self.view_is) (on_err c.from_residual-in_err-id-in-None.result (ap (table_on c.self.inside.point) c.in_err-id-in-None.ensures.same))
-
-pub returns-in_err-id-in-None-clause-opened : goal.returns-in_err-id-in-None-clause-opened
-returns-in_err-id-in-None-clause-opened c =
-    rw (← c.self.view_is) (ap (λ (f : Floor). f.opened) c.in_err-id-in-None.ensures.same)
-
-pub returns-in_err-id-in-None-clause-shut : goal.returns-in_err-id-in-None-clause-shut
-returns-in_err-id-in-None-clause-shut c =
-    rw (← c.self.view_is) (ap (λ (f : Floor). f.closed) c.in_err-id-in-None.ensures.same)
 
 pub returns-in_ok-id-in-None-clause-told : goal.returns-in_ok-id-in-None-clause-told
 returns-in_ok-id-in-None-clause-told c =
     rw (← c.self.view_is) (told_new c.self.inside.slots c.args.key.now (sym c.in-None.ensures.found) c.args.transaction Exclusive)
 
-pub returns-in_ok-id-in-None-clause-rows : goal.returns-in_ok-id-in-None-clause-rows
-returns-in_ok-id-in-None-clause-rows c =
-    rw (← c.self.view_is) (λ i. record { capacity = ((first c).same i).capacity; rows = (first c).rows i })
-
-pub returns-in_ok-id-in-None-clause-pending : goal.returns-in_ok-id-in-None-clause-pending
-returns-in_ok-id-in-None-clause-pending c =
-    rw (← c.self.view_is) (first c).pending
-
-pub returns-in_ok-id-in-None-clause-clear : goal.returns-in_ok-id-in-None-clause-clear
-returns-in_ok-id-in-None-clause-clear c =
-    rw (← c.self.view_is) (λ granted. clear_new c.self.inside.slots c.args.key.now (sym c.in-None.ensures.found) c.self.invariant.0.rise c.self.inside.point c.args.transaction)
-
-pub returns-in_ok-id-in-None-clause-opened : goal.returns-in_ok-id-in-None-clause-opened
-returns-in_ok-id-in-None-clause-opened c =
-    rw (← c.self.view_is) (ap (λ (f : Floor). f.opened) (first c).same)
-
-pub returns-in_ok-id-in-None-clause-shut : goal.returns-in_ok-id-in-None-clause-shut
-returns-in_ok-id-in-None-clause-shut c =
-    rw (← c.self.view_is) (ap (λ (f : Floor). f.closed) (first c).same)
+pub returns-in_ok-id-in-None-clause-written : goal.returns-in_ok-id-in-None-clause-written
+returns-in_ok-id-in-None-clause-written c = record {
+  rows =
+      rw (← c.self.view_is) (λ i. record { capacity = ((first c).same i).capacity; rows = (first c).rows i });
+  pending =
+      rw (← c.self.view_is) (first c).pending;
+  clear =
+      rw (← c.self.view_is) (λ granted. clear_new c.self.inside.slots c.args.key.now (sym c.in-None.ensures.found) c.self.invariant.0.rise c.self.inside.point c.args.transaction);
+  point =
+      ap (λ (k : RecordsView). k.point) c.self.view_is;
+  opened =
+      rw (← c.self.view_is) (ap (λ (f : Floor). f.opened) (first c).same);
+  shut =
+      rw (← c.self.view_is) (ap (λ (f : Floor). f.closed) (first c).same);
+}
 
 pub returns-in_ok-id-in-None-clause-room : goal.returns-in_ok-id-in-None-clause-room
 returns-in_ok-id-in-None-clause-room c =

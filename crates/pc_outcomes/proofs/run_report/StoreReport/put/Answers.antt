@@ -2,7 +2,7 @@ use Rattle.std.proofs.lemmas.Result.{err_from_is_err_and}
 use Rattle.pc_types.proofs.PutsLaws.{puts_then, puts_stop}
 use Rattle.pc_texts.specs.Texts.{check_line}
 use Rattle.pc_outcomes.specs.Outcomes.{file_lines}
-use Rattle.pc_outcomes.proofs.outcome.StoreReport.put.Goals as goal
+use Rattle.pc_outcomes.proofs.run_report.StoreReport.put.Goals as goal
 
 pub returns-in_err-put_file : goal.returns-in_err-put_file
 returns-in_err-put_file g c =

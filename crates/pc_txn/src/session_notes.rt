@@ -4,7 +4,7 @@ ghost use Rattle.pc_model.specs.Database.{with_write};
 ghost use Rattle.pc_model.specs.Receipts.{own, receipt_of, with_read};
 ghost use Rattle.pc_txn.specs.Filed.{HasRoomFor};
 ghost use Rattle.pc_txn.specs.Notes.{reads_after, content_of, kept_in, value_of};
-ghost use Rattle.pc_txn.specs.declared.work.Latest.TheVariants.{Nothing};
+ghost use Rattle.pc_txn.specs.declared.session_notes.Latest.TheVariants.{Nothing};
 
 use crate::got::Got;
 use crate::reads::ReadSet;

@@ -3,7 +3,7 @@ use Rattle.pc_types.proofs.PutsLaws.{puts_then, puts_stop}
 use Rattle.std.proofs.Common.{codes}
 use Rattle.pc_texts.specs.Texts.{collapsed_line}
 use Rattle.pc_outcomes.specs.Outcomes.{number_line}
-use Rattle.pc_outcomes.proofs.outcome.Collapsed.put.Goals as goal
+use Rattle.pc_outcomes.proofs.run_report.Collapsed.put.Goals as goal
 
 pub returns-in_err-put_collapsed : goal.returns-in_err-put_collapsed
 returns-in_err-put_collapsed g c =

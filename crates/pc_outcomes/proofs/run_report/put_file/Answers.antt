@@ -1,4 +1,4 @@
-use Rattle.pc_outcomes.proofs.outcome.put_file.Goals as goal
+use Rattle.pc_outcomes.proofs.run_report.put_file.Goals as goal
 
 pub returns-in-None : goal.returns-in-None
 returns-in-None g c = rw c.in-None.is c.put.ensures

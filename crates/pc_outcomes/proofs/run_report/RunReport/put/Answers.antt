@@ -1,7 +1,7 @@
 use Rattle.std.proofs.lemmas.Result.{err_from_is_err_and}
 use Rattle.pc_types.proofs.PutsLaws.{puts_then, puts_stop}
 use Rattle.pc_outcomes.specs.Outcomes.{counts_text, left_text}
-use Rattle.pc_outcomes.proofs.outcome.RunReport.put.Goals as goal
+use Rattle.pc_outcomes.proofs.run_report.RunReport.put.Goals as goal
 
 pub returns-in_err-put_counts : goal.returns-in_err-put_counts
 returns-in_err-put_counts g c =
