@@ -1,7 +1,7 @@
 //! The calls of a store that one thread uses, each by itself.
 ghost use Rattle.std.specs.Prelude.{◌≡◌};
 
-use crate::failure::Failure;
+use crate::failure::BenchFailure;
 use crate::options::Crowd;
 use crate::pairs::{pair_of, scattered};
 use pc_shared::{CheckpointerSeat, LogPass, Opened, Session, Shared};
@@ -58,7 +58,7 @@ impl Calls {
 
 impl Timed {
     // Counts a call that began then.
-    fn note(&mut self, host: &HostRuntime, start: Instant) -> Result<(), Failure> {
+    fn note(&mut self, host: &HostRuntime, start: Instant) -> Result<(), BenchFailure> {
         let took = start.elapsed(host)?.as_nanos();
         self.count = self.count.saturating_add(1);
         self.whole = self.whole.saturating_add(took);
@@ -73,7 +73,7 @@ fn time_begin<N: StoreName, R: Wait>(
     shared: &Shared<N>,
     session: &mut Session<N>,
     timed: &mut Timed,
-) -> Result<(), Failure> {
+) -> Result<(), BenchFailure> {
     let start = Instant::now(host)?;
     shared.begin(rt, session)?;
     timed.note(host, start)
@@ -86,7 +86,7 @@ fn time_put<N: StoreName, R: Wait>(
     session: &mut Session<N>,
     number: u32,
     timed: &mut Timed,
-) -> Result<(), Failure> {
+) -> Result<(), BenchFailure> {
     let (key, value) = pair_of(host.alloc(), scattered(number))?;
     let start = Instant::now(host)?;
     shared.put(rt, session, key, value)?;
@@ -99,7 +99,7 @@ fn time_commit<N: StoreName, R: Wait>(
     shared: &Shared<N>,
     session: &mut Session<N>,
     timed: &mut Timed,
-) -> Result<(), Failure> {
+) -> Result<(), BenchFailure> {
     let start = Instant::now(host)?;
     shared.commit(rt, session)?;
     timed.note(host, start)
@@ -113,7 +113,7 @@ fn time_transaction<N: StoreName, R: Wait>(
     session: &mut Session<N>,
     number: u32,
     calls: &mut Calls,
-) -> Result<(), Failure> {
+) -> Result<(), BenchFailure> {
     time_begin(rt, host, shared, session, &mut calls.begin)?;
     time_put(rt, host, shared, session, number, &mut calls.put)?;
     time_commit(rt, host, shared, session, &mut calls.commit)
@@ -126,7 +126,7 @@ fn time_advance<N: StoreName, R: Wait>(
     shared: &Shared<N>,
     seat: &mut CheckpointerSeat<N>,
     timed: &mut Timed,
-) -> Result<(), Failure> {
+) -> Result<(), BenchFailure> {
     let start = Instant::now(host)?;
     let reply = shared.advance(rt, seat);
     let noted = timed.note(host, start);
@@ -135,10 +135,10 @@ fn time_advance<N: StoreName, R: Wait>(
 }
 
 // Whether more is left to take, where the call wasn't refused.
-fn has_more(reply: &Reply) -> Result<bool, Failure> {
+fn has_more(reply: &Reply) -> Result<bool, BenchFailure> {
     match reply {
         Reply::NoneLeft => Ok(false),
-        Reply::Refused(why) => Err(Failure::Refused(*why)),
+        Reply::Refused(why) => Err(BenchFailure::Refused(*why)),
         _ => Ok(true),
     }
 }
@@ -150,7 +150,7 @@ fn time_takes<N: StoreName, R: Wait>(
     shared: &Shared<N>,
     seat: &mut CheckpointerSeat<N>,
     timed: &mut Timed,
-) -> Result<(), Failure> {
+) -> Result<(), BenchFailure> {
     for _ in rt.forever() {
         let start = Instant::now(host)?;
         let reply = shared.take(rt, seat);
@@ -173,7 +173,7 @@ fn time_ticket<N: StoreName, R: Wait>(
     seat: &mut CheckpointerSeat<N>,
     number: u32,
     timed: &mut Timed,
-) -> Result<(), Failure> {
+) -> Result<(), BenchFailure> {
     let start = Instant::now(host)?;
     let ticket = shared.take_part(rt, seat, FileNo(number))?;
     let noted = timed.note(host, start);
@@ -189,7 +189,7 @@ fn time_point<N: StoreName, R: Wait>(
     seat: &mut CheckpointerSeat<N>,
     number: u32,
     calls: &mut Calls,
-) -> Result<(), Failure> {
+) -> Result<(), BenchFailure> {
     for _ in 0..3 {
         time_advance(rt, host, shared, seat, &mut calls.advance)?;
     }
@@ -207,7 +207,7 @@ fn time_logging<N: StoreName, R: Wait>(
     shared: &Shared<N>,
     pass: &mut LogPass<N>,
     timed: &mut Timed,
-) -> Result<(), Failure> {
+) -> Result<(), BenchFailure> {
     for _ in rt.forever() {
         let start = Instant::now(host)?;
         let entries = shared.log_next(rt, pass, ROOM)?;
@@ -230,7 +230,7 @@ fn time_calls<N: StoreName, R: Wait>(
     seat: &mut CheckpointerSeat<N>,
     pass: &mut LogPass<N>,
     crowd: &Crowd,
-) -> Result<Calls, Failure> {
+) -> Result<Calls, BenchFailure> {
     let mut calls = Calls::new();
     let mut points = 0u32;
     for count in 0..crowd.commits {
@@ -252,12 +252,12 @@ pub fn call_by_one<N: StoreName, R: Wait>(
     host: &HostRuntime,
     opened: Opened,
     crowd: &Crowd,
-) -> Result<Calls, Failure>
+) -> Result<Calls, BenchFailure>
     requires { opened ≡ N.name }
 {
     let (shared, mut sessions, mut seat, mut pass) = opened.named::<N>()?;
     let Some(session) = sessions.first_mut() else {
-        return Err(Failure::Refused(Refusal::NoSession));
+        return Err(BenchFailure::Refused(Refusal::NoSession));
     };
     time_calls(rt, host, &shared, session, &mut seat, &mut pass, crowd)
 }

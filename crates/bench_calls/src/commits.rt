@@ -2,7 +2,7 @@
 ghost use Rattle.std.specs.Prelude.{◌≡◌, ◌<◌, ◌≤◌, ◌^◌, ◌+◌, true, false, IfOk};
 ghost use Rattle.bench_calls.specs.Commits.{events_of};
 
-use crate::failure::Failure;
+use crate::failure::BenchFailure;
 use crate::options::Rounds;
 use crate::pairs::scattered;
 use crate::stepped::{SESSION, ask, put, step};
@@ -62,7 +62,7 @@ pub fn measure_commits(
     clock: &impl Clock,
     seed: RandomState,
     rounds: Rounds,
-) -> Result<Committed, Failure>
+) -> Result<Committed, BenchFailure>
     ensures committed { IfOk result (λ done. done.committed ≡ rounds.commits) }
     ensures points { rounds.has_points ≡ true → IfOk result (λ done. events_of done.asked ≡ rounds.commits) }
     ensures none { rounds.has_points ≡ false → IfOk result (λ done. events_of done.asked ≡ 0) }
@@ -77,7 +77,7 @@ fn commit_timed(
     clock: &impl Clock,
     world: &mut World,
     rounds: Rounds,
-) -> Result<Committed, Failure>
+) -> Result<Committed, BenchFailure>
     ensures committed { IfOk result (λ done. done.committed ≡ rounds.commits) }
     ensures points { rounds.has_points ≡ true → IfOk result (λ done. events_of done.asked ≡ rounds.commits) }
     ensures none { rounds.has_points ≡ false → IfOk result (λ done. events_of done.asked ≡ 0) }

@@ -13,7 +13,7 @@ mod runs;
 mod shared;
 mod stepped;
 
-use failure::Failure;
+use failure::BenchFailure;
 use options::{Options, USAGE, Work, options_of};
 use runs::{run_calls, run_commits, run_floor, run_mutex, run_points, run_shared};
 use std::env;
@@ -28,7 +28,10 @@ fn main(rt: HostRuntime) -> ExitCode {
     }
 }
 
-fn run_command<H: Threads + Wait + Sync>(rt: &HostRuntime, threads: &H) -> Result<u8, Failure> {
+fn run_command<H: Threads + Wait + Sync>(
+    rt: &HostRuntime,
+    threads: &H,
+) -> Result<u8, BenchFailure> {
     let texts = arguments(rt)?;
     let mut words: Vec<&str> = Vec::new(rt.alloc());
     for text in &texts {
@@ -43,7 +46,7 @@ fn run_command<H: Threads + Wait + Sync>(rt: &HostRuntime, threads: &H) -> Resul
     }
 }
 
-fn arguments(rt: &HostRuntime) -> Result<Vec<String>, Failure> {
+fn arguments(rt: &HostRuntime) -> Result<Vec<String>, BenchFailure> {
     let mut texts = Vec::new(rt.alloc());
     for text in env::args(rt)? {
         texts.push(text)?;
@@ -56,11 +59,11 @@ fn run_work<H: Threads + Wait + Sync>(
     rt: &HostRuntime,
     threads: &H,
     options: &Options,
-) -> Result<u8, Failure> {
+) -> Result<u8, BenchFailure> {
     match measure(rt, threads, options) {
         Ok(()) => Ok(0),
-        Err(Failure::System) => Ok(1),
-        Err(Failure::Refused(why)) => {
+        Err(BenchFailure::System) => Ok(1),
+        Err(BenchFailure::Refused(why)) => {
             eprintln!(rt; "bench_calls: {why}")?;
             Ok(1)
         }
@@ -71,7 +74,7 @@ fn measure<H: Threads + Wait + Sync>(
     rt: &HostRuntime,
     threads: &H,
     options: &Options,
-) -> Result<(), Failure> {
+) -> Result<(), BenchFailure> {
     let is_timed = options.is_timed;
     match options.work {
         Work::Points(cycles) => run_points(rt, cycles, is_timed),

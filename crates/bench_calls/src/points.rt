@@ -1,7 +1,7 @@
 //! Cycles over keys that are all written before each point.
 ghost use Rattle.std.specs.Prelude.{◌≡◌, ◌≤◌, length, All, IfOk};
 
-use crate::failure::Failure;
+use crate::failure::BenchFailure;
 use crate::options::Cycles;
 use crate::stepped::{SESSION, ask, put, step};
 use pc_engine::World;
@@ -34,7 +34,7 @@ pub fn measure_points(
     clock: &impl Clock,
     seed: RandomState,
     cycles: Cycles,
-) -> Result<Vec<TimedCycle>, Failure>
+) -> Result<Vec<TimedCycle>, BenchFailure>
     ensures cycles { IfOk result (λ done. length done.items ≡ cycles.points) }
     ensures taken { IfOk result (λ done. All (λ cycle. cycle.taken ≤ cycles.keys) done.items) }
 {
@@ -48,7 +48,7 @@ fn take_points(
     clock: &impl Clock,
     world: &mut World,
     cycles: Cycles,
-) -> Result<Vec<TimedCycle>, Failure>
+) -> Result<Vec<TimedCycle>, BenchFailure>
     ensures cycles { IfOk result (λ done. length done.items ≡ cycles.points) }
     ensures taken { IfOk result (λ done. All (λ cycle. cycle.taken ≤ cycles.keys) done.items) }
 {
@@ -75,7 +75,7 @@ fn write_all(alloc: Global, world: &mut World, keys: u32) -> Result<(), Refusal>
 }
 
 // A cycle, from its start to rest.
-fn take_point(clock: &impl Clock, world: &mut World, keys: u32) -> Result<TimedCycle, Failure>
+fn take_point(clock: &impl Clock, world: &mut World, keys: u32) -> Result<TimedCycle, BenchFailure>
     ensures { IfOk result (λ cycle. cycle.taken ≤ keys) }
 {
     step(world, &Event::StartPoint)?;
@@ -95,7 +95,7 @@ fn take_point(clock: &impl Clock, world: &mut World, keys: u32) -> Result<TimedC
 }
 
 // How long the store takes to answer the event, which isn't refused.
-fn time_of(clock: &impl Clock, world: &mut World, event: &Event) -> Result<Duration, Failure> {
+fn time_of(clock: &impl Clock, world: &mut World, event: &Event) -> Result<Duration, BenchFailure> {
     let start = Instant::now(clock)?;
     step(world, event)?;
     Ok(start.elapsed(clock)?)

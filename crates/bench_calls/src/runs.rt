@@ -2,7 +2,7 @@
 use crate::bare::lock_by_all;
 use crate::calls::{Calls, Timed, call_by_one};
 use crate::commits::{Committed, measure_commits};
-use crate::failure::Failure;
+use crate::failure::BenchFailure;
 use crate::floor::{fill_bare, world_of};
 use crate::options::{Crowd, Cycles, Rounds};
 use crate::points::{TimedCycle, measure_points};
@@ -15,7 +15,7 @@ use std::thread::Threads;
 use std::time::{Duration, Instant};
 
 /// Goes through cycles, and tells of each how many keys were taken.
-pub fn run_points(rt: &HostRuntime, cycles: Cycles, is_timed: bool) -> Result<(), Failure> {
+pub fn run_points(rt: &HostRuntime, cycles: Cycles, is_timed: bool) -> Result<(), BenchFailure> {
     let done = measure_points(rt.alloc(), rt, RandomState::new(rt)?, cycles)?;
     tell_points(rt, &done, is_timed)?;
     Ok(())
@@ -35,7 +35,7 @@ fn tell_points(rt: &HostRuntime, done: &[TimedCycle], is_timed: bool) -> io::Res
 }
 
 /// Commits transactions of one write each, and tells how many, with the points and the taken keys beside them.
-pub fn run_commits(rt: &HostRuntime, rounds: Rounds, is_timed: bool) -> Result<(), Failure> {
+pub fn run_commits(rt: &HostRuntime, rounds: Rounds, is_timed: bool) -> Result<(), BenchFailure> {
     let seed = RandomState::new(rt)?;
     match measure_commits(rt.alloc(), rt, seed, rounds) {
         Ok(done) => Ok(tell_commits(rt, &done, is_timed)?),
@@ -59,7 +59,7 @@ pub fn run_mutex<H: Threads + Wait + Sync>(
     threads: &H,
     crowd: &Crowd,
     is_timed: bool,
-) -> Result<(), Failure> {
+) -> Result<(), BenchFailure> {
     let start = Instant::now(rt)?;
     let locks = lock_by_all(threads, crowd);
     let time = start.elapsed(rt)?;
@@ -74,7 +74,7 @@ pub fn run_shared<H: Threads + Wait + Sync>(
     threads: &H,
     crowd: &Crowd,
     is_timed: bool,
-) -> Result<(), Failure> {
+) -> Result<(), BenchFailure> {
     let opened = open(rt.alloc(), RandomState::new(rt)?, crowd)?;
     let start = Instant::now(rt)?;
     let commits = share::<Brand, _>(threads, rt.alloc(), opened, crowd)?;
@@ -89,7 +89,7 @@ pub fn run_floor<H: Threads + Wait + Sync>(
     threads: &H,
     crowd: &Crowd,
     is_timed: bool,
-) -> Result<(), Failure> {
+) -> Result<(), BenchFailure> {
     let world = world_of(rt.alloc(), RandomState::new(rt)?, crowd)?;
     let start = Instant::now(rt)?;
     let commits = fill_bare(threads, rt.alloc(), world, crowd);
@@ -104,7 +104,7 @@ pub fn run_calls<H: Threads + Wait + Sync>(
     threads: &H,
     crowd: &Crowd,
     is_timed: bool,
-) -> Result<(), Failure> {
+) -> Result<(), BenchFailure> {
     let opened = open(rt.alloc(), RandomState::new(rt)?, crowd)?;
     let calls = call_by_one::<Brand, _>(threads, rt, opened, crowd)?;
     tell_calls(rt, &calls, is_timed)?;

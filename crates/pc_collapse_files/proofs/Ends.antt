@@ -10,14 +10,14 @@ use Rattle.pc_part.specs.Reading.{part_at}
 use Rattle.pc_part.proofs.CutPartLaws.{part_cut}
 use Rattle.pc_texts.specs.declared.files.NamedFile.{NamedFile}
 use Rattle.pc_texts.specs.Files.{AreOpened}
-use Rattle.pc_collapse_files.specs.declared.inputs.Fault.{Fault}
-use Rattle.pc_collapse_files.specs.declared.inputs.Fault.TheVariants as fault
+use Rattle.pc_collapse_files.specs.declared.inputs.CollapseFault.{CollapseFault}
+use Rattle.pc_collapse_files.specs.declared.inputs.CollapseFault.TheVariants as fault
 use Rattle.pc_collapse_files.specs.declared.output.Text.{Text}
 use Rattle.pc_collapse_files.specs.Collapses.{IsCollapseCause, IsInputFault, IsJoinOf, IsLeftByCollapse, IsTextOf, IsUnwritten}
 
 module _ {R : Type 0} (remaining : R → Option (List ℕ)) (files : List (NamedFile R)) where
   -- a fault of the inputs is a cause
-  pub input_cause : (f : Fault) → IsInputFault remaining files f → IsCollapseCause remaining files f
+  pub input_cause : (f : CollapseFault) → IsInputFault remaining files f → IsCollapseCause remaining files f
   input_cause (fault.Unopened name why) is = is
   input_cause (fault.Refused why) is = is
   input_cause (fault.Unmade why) is = absurd is
@@ -26,7 +26,7 @@ module _ {R : Type 0} (remaining : R → Option (List ℕ)) (files : List (Named
 
   module _ {F W : Type 0} (contents : F → Option (List ℕ)) (printed : W → Option (List ℕ)) (out : Tally W) where
     -- it leaves no file, and prints nothing
-    pub input_leaves : (f : Fault) → IsInputFault remaining files f → IsLeftByCollapse remaining contents printed files f None out out
+    pub input_leaves : (f : CollapseFault) → IsInputFault remaining files f → IsLeftByCollapse remaining contents printed files f None out out
     input_leaves (fault.Unopened name why) is = (refl, refl)
     input_leaves (fault.Refused why) is = (refl, refl)
     input_leaves (fault.Unmade why) is = absurd is
@@ -34,7 +34,7 @@ module _ {R : Type 0} (remaining : R → Option (List ℕ)) (files : List (Named
     input_leaves fault.Output is = absurd is
 
   -- a text that isn't written is a cause, where there was one
-  pub unwritten_cause : {F : Type 0} (contents : F → Option (List ℕ)) (text : List ℕ) (made : Option (Tally F)) (f : Fault) (file : File) → IsUnwritten contents text made f → AreOpened files → IsJoinOf remaining files file
+  pub unwritten_cause : {F : Type 0} (contents : F → Option (List ℕ)) (text : List ℕ) (made : Option (Tally F)) (f : CollapseFault) (file : File) → IsUnwritten contents text made f → AreOpened files → IsJoinOf remaining files file
       → IsCollapseCause remaining files f
   unwritten_cause contents text made (fault.Unopened name why) file is opened join = absurd is
   unwritten_cause contents text made (fault.Refused why) file is opened join = absurd is
@@ -44,7 +44,7 @@ module _ {R : Type 0} (remaining : R → Option (List ℕ)) (files : List (Named
 
   module _ {F W : Type 0} (contents : F → Option (List ℕ)) (printed : W → Option (List ℕ)) (out : Tally W) where
     -- what is left of a text that isn't written
-    pub unwritten_leaves : (made : Option (Tally F)) (f : Fault) (file : File) (text : Text) → IsTextOf file text → IsUnwritten contents text.bytes.items made f → IsLeftByCollapse remaining contents printed files f made out out
+    pub unwritten_leaves : (made : Option (Tally F)) (f : CollapseFault) (file : File) (text : Text) → IsTextOf file text → IsUnwritten contents text.bytes.items made f → IsLeftByCollapse remaining contents printed files f made out out
     unwritten_leaves made (fault.Unopened name why) file text of is = absurd is
     unwritten_leaves made (fault.Refused why) file text of is = absurd is
     unwritten_leaves made (fault.Unmade why) file text of is = (is, refl)

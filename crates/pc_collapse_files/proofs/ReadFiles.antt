@@ -8,8 +8,8 @@ use Rattle.pc_model.specs.Files.{File}
 use Rattle.pc_part.specs.Reading.{part_at}
 use Rattle.pc_texts.specs.declared.files.NamedFile.{NamedFile}
 use Rattle.pc_texts.specs.Files.{AreOpened}
-use Rattle.pc_collapse_files.specs.declared.inputs.Fault.{Fault}
-use Rattle.pc_collapse_files.specs.declared.inputs.Fault.TheVariants as fault
+use Rattle.pc_collapse_files.specs.declared.inputs.CollapseFault.{CollapseFault}
+use Rattle.pc_collapse_files.specs.declared.inputs.CollapseFault.TheVariants as fault
 use Rattle.pc_collapse_files.specs.Collapses.{AreReadAs, HoldTexts, IsBadPart, IsInputFault, IsFileReached, IsReadAs, parts_at}
 
 -- the files left are the last ones; those before them were opened, and are read as these parts
@@ -87,7 +87,7 @@ module _ {R : Type 0} (remaining : R → Option (List ℕ)) where
     is_reached left file parts are = record { before = are.0; behind = left; split = are.1; opened = are.2; parts = parts; read = are.3 }
 
 -- of a file that is reached no part was read: so no join comes of all
-pub unread : {R : Type 0} (remaining : R → Option (List ℕ)) (files left : List (NamedFile R)) (file : NamedFile R) (parts : List File) (why : Fault) → AreLeft remaining files (file ∷ left) parts
+pub unread : {R : Type 0} (remaining : R → Option (List ℕ)) (files left : List (NamedFile R)) (file : NamedFile R) (parts : List File) (why : CollapseFault) → AreLeft remaining files (file ∷ left) parts
     → IsBadPart remaining file why → IsInputFault remaining files why
 unread remaining files left file parts (fault.Unopened name why) are bad = (file, is_reached remaining files left file parts are, bad)
 unread remaining files left file parts (fault.Refused why) are bad = inr (inl (file, is_reached remaining files left file parts are, bad))

@@ -19,8 +19,8 @@ use Rattle.pc_collapse.specs.Folds.{Folds}
 use Rattle.pc_texts.specs.Texts.{joined_line}
 use Rattle.pc_texts.specs.declared.files.NamedFile.{NamedFile}
 use Rattle.pc_texts.specs.Files.{TellsOf, AreOpened, HoldsBytes}
-use Rattle.pc_collapse_files.specs.declared.inputs.Fault.{Fault}
-use Rattle.pc_collapse_files.specs.declared.inputs.Fault.TheVariants as fault
+use Rattle.pc_collapse_files.specs.declared.inputs.CollapseFault.{CollapseFault}
+use Rattle.pc_collapse_files.specs.declared.inputs.CollapseFault.TheVariants as fault
 use Rattle.pc_collapse_files.specs.declared.output.Text.{Text}
 
 -- one of the files has this name
@@ -75,7 +75,7 @@ abbrev pub IsRefusedText : {R : Type 0} → (R → Option (List ℕ)) → NamedF
 IsRefusedText remaining file why = IsOk file.opened × ((why ≡ OutOfMemory) ⊎ (why ≡ Device) ⊎ ((text : List ℕ) → HoldsBytes remaining file.opened text → part_at text ≡ Err why))
 
 -- no part was read of the file: it can't be opened, or else not read as one
-abbrev pub IsBadPart : {R : Type 0} → (R → Option (List ℕ)) → NamedFile R → Fault → Type 0
+abbrev pub IsBadPart : {R : Type 0} → (R → Option (List ℕ)) → NamedFile R → CollapseFault → Type 0
 IsBadPart remaining file (fault.Unopened name why) = (name ≡ file.name) × (file.opened ≡ Err why)
 IsBadPart remaining file (fault.Refused why) = IsRefusedText remaining file why
 IsBadPart remaining file other = ⊥
@@ -85,14 +85,14 @@ abbrev pub IsUnjoined : {R : Type 0} → (R → Option (List ℕ)) → List (Nam
 IsUnjoined remaining files why = AreOpened files × ((parts : List File) × AreReadAs remaining files parts × Folds parts (Err why))
 
 -- the files give no join: of one of them no part was read, memory ran out, or the fold is refused
-abbrev pub IsInputFault : {R : Type 0} → (R → Option (List ℕ)) → List (NamedFile R) → Fault → Type 0
+abbrev pub IsInputFault : {R : Type 0} → (R → Option (List ℕ)) → List (NamedFile R) → CollapseFault → Type 0
 IsInputFault {R} remaining files (fault.Unopened name why) = (file : NamedFile R) × IsFileReached remaining files file × IsBadPart remaining file (fault.Unopened name why)
 IsInputFault {R} remaining files (fault.Refused why) =
     (why ≡ OutOfMemory) ⊎ ((file : NamedFile R) × IsFileReached remaining files file × IsRefusedText remaining file why) ⊎ IsUnjoined remaining files why
 IsInputFault remaining files other = ⊥
 
 -- Why a collapse failed: the files give no join, or else, since they did, what is to be made of it failed.
-abbrev pub IsCollapseCause : {R : Type 0} → (R → Option (List ℕ)) → List (NamedFile R) → Fault → Type 0
+abbrev pub IsCollapseCause : {R : Type 0} → (R → Option (List ℕ)) → List (NamedFile R) → CollapseFault → Type 0
 IsCollapseCause remaining files (fault.Unopened name why) = IsInputFault remaining files (fault.Unopened name why)
 IsCollapseCause remaining files (fault.Refused why) = IsInputFault remaining files (fault.Refused why)
 IsCollapseCause remaining files other = AreOpened files × ((file : File) × IsJoinOf remaining files file)
@@ -125,7 +125,7 @@ abbrev pub HasFailed : {F : Type 0} → Tally F → Type 0
 HasFailed file = 0 < failures_of file
 
 -- the text wasn't written: no file was made, or one that failed and holds a beginning alone
-abbrev pub IsUnwritten : {F : Type 0} → (F → Option (List ℕ)) → List ℕ → Option (Tally F) → Fault → Type 0
+abbrev pub IsUnwritten : {F : Type 0} → (F → Option (List ℕ)) → List ℕ → Option (Tally F) → CollapseFault → Type 0
 IsUnwritten contents text file (fault.Unmade why) = file ≡ None
 IsUnwritten contents text file fault.Unwritten = MatchOption file ⊥ (λ f. HasFailed f × IsPartIn contents text f)
 IsUnwritten contents text file other = ⊥
@@ -153,13 +153,13 @@ pub record IsCollapseUntold {R F W : Type 0} (remaining : R → Option (List ℕ
 
 -- What a fault leaves: a file only where it was begun, which failed and is read as Short unless it was the output that failed;
 -- and nothing printed but a beginning of the line where it was.
-abbrev pub IsLeftByCollapse : {R F W : Type 0} → (R → Option (List ℕ)) → (F → Option (List ℕ)) → (W → Option (List ℕ)) → List (NamedFile R) → Fault → Option (Tally F) → Tally W → Tally W → Type 0
+abbrev pub IsLeftByCollapse : {R F W : Type 0} → (R → Option (List ℕ)) → (F → Option (List ℕ)) → (W → Option (List ℕ)) → List (NamedFile R) → CollapseFault → Option (Tally F) → Tally W → Tally W → Type 0
 IsLeftByCollapse remaining contents printed files fault.Unwritten made old new = MatchOption made ⊥ (λ f. HasFailed f × IsShortIn contents f) × (new ≡ old)
 IsLeftByCollapse remaining contents printed files fault.Output made old new = IsCollapseUntold remaining contents printed files made old new
 IsLeftByCollapse remaining contents printed files other made old new = (made ≡ None) × (new ≡ old)
 
 -- what is told of a fault, where the file that is to be written has this name; of an output that failed nothing
-abbrev pub IsCollapseTold : {T : Type 0} → (T → Option (List ℕ)) → Tally T → Tally T → List ℕ → Fault → Type 0
+abbrev pub IsCollapseTold : {T : Type 0} → (T → Option (List ℕ)) → Tally T → Tally T → List ℕ → CollapseFault → Type 0
 IsCollapseTold contents old new name (fault.Unopened input why) = TellsOf contents old new input.items why
 IsCollapseTold contents old new name (fault.Refused why) = TellsOf contents old new name why
 IsCollapseTold contents old new name (fault.Unmade why) = TellsOf contents old new name why
@@ -167,5 +167,5 @@ IsCollapseTold contents old new name fault.Unwritten = TellsOf contents old new 
 IsCollapseTold contents old new name fault.Output = new ≡ old
 
 -- a fault has ended a collapse: it is a cause, this is left, and it was told
-abbrev pub IsCollapseFailed : {R F W : Type 0} → (R → Option (List ℕ)) → (F → Option (List ℕ)) → (W → Option (List ℕ)) → List (NamedFile R) → Option (Tally F) → Tally W → Tally W → (Fault → Type 0) → Type 0
-IsCollapseFailed remaining contents printed files made old new Told = (fault : Fault) × IsCollapseCause remaining files fault × IsLeftByCollapse remaining contents printed files fault made old new × Told fault
+abbrev pub IsCollapseFailed : {R F W : Type 0} → (R → Option (List ℕ)) → (F → Option (List ℕ)) → (W → Option (List ℕ)) → List (NamedFile R) → Option (Tally F) → Tally W → Tally W → (CollapseFault → Type 0) → Type 0
+IsCollapseFailed remaining contents printed files made old new Told = (fault : CollapseFault) × IsCollapseCause remaining files fault × IsLeftByCollapse remaining contents printed files fault made old new × Told fault

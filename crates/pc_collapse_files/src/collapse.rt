@@ -6,9 +6,9 @@ ghost use Rattle.pc_types.specs.Tallies.{Puts};
 ghost use Rattle.pc_model.specs.Files.{File};
 ghost use Rattle.pc_texts.specs.Files.{AreOpened};
 ghost use Rattle.pc_collapse_files.specs.Collapses.{IsCollapseCause, IsCollapseDone, IsCollapseFailed, IsInputFault, IsJoinOf, IsLeftByCollapse, IsTextOf, IsCollapseTold, TellsUsage, is_one_of, usage_text};
-ghost use Rattle.pc_collapse_files.specs.declared.inputs.Fault.{Fault};
+ghost use Rattle.pc_collapse_files.specs.declared.inputs.CollapseFault.{CollapseFault};
 
-use crate::inputs::{Fault, Inputs, is_input, join_files};
+use crate::inputs::{CollapseFault, Inputs, is_input, join_files};
 use crate::output::{Maker, Text, Unfinished, print, text_of, write_file};
 use pc_texts::report;
 use pc_types::{Refusal, Tally};
@@ -84,15 +84,15 @@ fn put_usage<E: Write>(name: &str, errors: &mut Tally<E>) -> Result<(), Refusal>
 }
 
 // Tells of the fault.
-fn tell<E: Write>(name: &str, fault: &Fault, errors: &mut Tally<E>)
+fn tell<E: Write>(name: &str, fault: &CollapseFault, errors: &mut Tally<E>)
     ensures { IsCollapseTold E.contents errors.old errors.new name.now fault.now }
 {
     let _ = match fault {
-        Fault::Unopened(input, why) => report(input, *why, errors),
-        Fault::Refused(why) => report(name.as_bytes(), *why, errors),
-        Fault::Unmade(why) => report(name.as_bytes(), *why, errors),
-        Fault::Unwritten => report(name.as_bytes(), Refusal::Device, errors),
-        Fault::Output => Ok(()),
+        CollapseFault::Unopened(input, why) => report(input, *why, errors),
+        CollapseFault::Refused(why) => report(name.as_bytes(), *why, errors),
+        CollapseFault::Unmade(why) => report(name.as_bytes(), *why, errors),
+        CollapseFault::Unwritten => report(name.as_bytes(), Refusal::Device, errors),
+        CollapseFault::Output => Ok(()),
     };
 }
 
@@ -133,7 +133,7 @@ fn join_text<R: Read + Drop, H: Threads + Wait + Sync>(
     rt: &H,
     alloc: Global,
     inputs: Inputs<R>,
-) -> Result<Text, Fault>
+) -> Result<Text, CollapseFault>
     ensures text { IfOk result (λ text. (file : File) × IsJoinOf R.remaining inputs.files.items file × IsTextOf file text) }
     ensures opened { OnOk result (AreOpened inputs.files.items) }
     ensures cause { IfErr result (IsInputFault R.remaining inputs.files.items) }
@@ -141,6 +141,6 @@ fn join_text<R: Read + Drop, H: Threads + Wait + Sync>(
     let joined = join_files(rt, alloc, inputs)?;
     match text_of(alloc, &joined) {
         Ok(text) => Ok(text),
-        Err(why) => Err(Fault::Refused(why)),
+        Err(why) => Err(CollapseFault::Refused(why)),
     }
 }

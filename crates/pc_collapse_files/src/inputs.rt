@@ -6,7 +6,7 @@ ghost use Rattle.pc_collapse.specs.declared.limits.TheConstants.{MOST_COLLAPSERS
 ghost use Rattle.pc_part.specs.Reading.{part_at};
 ghost use Rattle.pc_texts.specs.Files.{AreOpened};
 ghost use Rattle.pc_collapse_files.specs.Collapses.{AreReadAs, IsBadPart, IsInputFault, IsJoinOf, IsReadAs, is_one_of};
-ghost use Rattle.pc_collapse_files.specs.declared.inputs.Fault.{Fault};
+ghost use Rattle.pc_collapse_files.specs.declared.inputs.CollapseFault.{CollapseFault};
 
 use pc_collapse::collapse_bag_owned;
 use pc_part::Part;
@@ -28,7 +28,7 @@ pub struct Inputs<R> {
 
 /// Why no file was written, or why it isn't told of.
 #[derive(Drop)]
-pub enum Fault {
+pub enum CollapseFault {
     /// The part file of this name can't be opened.
     Unopened(Vec<u8>, Refusal),
     /// A part file can't be read, its bytes or the join are refused, or memory ran out: no file was made.
@@ -53,7 +53,7 @@ pub(crate) fn join_files<R: Read + Drop, H: Threads + Wait + Sync>(
     rt: &H,
     alloc: Global,
     inputs: Inputs<R>,
-) -> Result<Part, Fault>
+) -> Result<Part, CollapseFault>
     ensures opened { OnOk result (AreOpened inputs.files.items) }
     ensures joined { IfOk result (IsJoinOf R.remaining inputs.files.items) }
     ensures cause { IfErr result (IsInputFault R.remaining inputs.files.items) }
@@ -62,12 +62,15 @@ pub(crate) fn join_files<R: Read + Drop, H: Threads + Wait + Sync>(
     let parts = read_parts(alloc, files)?;
     match collapse_bag_owned(rt, alloc, parts, collapsers, &OpenGate) {
         Ok(joined) => Ok(joined),
-        Err(why) => Err(Fault::Refused(why)),
+        Err(why) => Err(CollapseFault::Refused(why)),
     }
 }
 
 // The parts, in the order of the files.
-fn read_parts<R: Read + Drop>(alloc: Global, files: Vec<NamedFile<R>>) -> Result<Vec<Part>, Fault>
+fn read_parts<R: Read + Drop>(
+    alloc: Global,
+    files: Vec<NamedFile<R>>,
+) -> Result<Vec<Part>, CollapseFault>
     ensures opened { OnOk result (AreOpened files.items) }
     ensures read { IfOk result (λ parts. AreReadAs R.remaining files.items parts.items) }
     ensures cause { IfErr result (IsInputFault R.remaining files.items) }
@@ -80,18 +83,18 @@ fn read_parts<R: Read + Drop>(alloc: Global, files: Vec<NamedFile<R>>) -> Result
     Ok(parts)
 }
 
-fn push_part(parts: &mut Vec<Part>, part: Part) -> Result<(), Fault>
+fn push_part(parts: &mut Vec<Part>, part: Part) -> Result<(), CollapseFault>
     ensures ok { OnOk result (parts.new.items ≡ parts.old.items ++ part ∷ []) }
-    ensures err { IfErr result (λ fault. fault ≡ Fault.Refused Refusal.OutOfMemory) }
+    ensures err { IfErr result (λ fault. fault ≡ CollapseFault.Refused Refusal.OutOfMemory) }
 {
     match parts.push(part) {
         Ok(()) => Ok(()),
-        Err(_) => Err(Fault::Refused(Refusal::OutOfMemory)),
+        Err(_) => Err(CollapseFault::Refused(Refusal::OutOfMemory)),
     }
 }
 
 // The part that a file holds.
-fn read_file<R: Read + Drop>(alloc: Global, file: NamedFile<R>) -> Result<Part, Fault>
+fn read_file<R: Read + Drop>(alloc: Global, file: NamedFile<R>) -> Result<Part, CollapseFault>
     ensures opened { OnOk result (IsOk file.opened) }
     ensures read { IfOk result (IsReadAs R.remaining file) }
     ensures cause { IfErr result (IsBadPart R.remaining file) }
@@ -99,14 +102,14 @@ fn read_file<R: Read + Drop>(alloc: Global, file: NamedFile<R>) -> Result<Part, 
     let NamedFile { name, opened } = file;
     let reader = match opened {
         Ok(reader) => reader,
-        Err(why) => return Err(Fault::Unopened(name, why)),
+        Err(why) => return Err(CollapseFault::Unopened(name, why)),
     };
     let bytes = match read_all(alloc, &mut Tally::new(reader)) {
         Ok(bytes) => bytes,
-        Err(why) => return Err(Fault::Refused(why)),
+        Err(why) => return Err(CollapseFault::Refused(why)),
     };
     match Part::decode(alloc, &bytes) {
         Ok(part) => Ok(part),
-        Err(why) => Err(Fault::Refused(why)),
+        Err(why) => Err(CollapseFault::Refused(why)),
     }
 }

@@ -6,9 +6,9 @@ ghost use Rattle.pc_types.specs.Counted.{HasRisen, AppendsBeginning};
 ghost use Rattle.pc_types.specs.Tallies.{inner_of, failures_of};
 ghost use Rattle.pc_texts.specs.Texts.{joined_line};
 ghost use Rattle.pc_collapse_files.specs.Collapses.{IsTextOf, IsUnwritten, IsWholeIn};
-ghost use Rattle.pc_collapse_files.specs.declared.inputs.Fault.{Fault};
+ghost use Rattle.pc_collapse_files.specs.declared.inputs.CollapseFault.{CollapseFault};
 
-use crate::inputs::Fault;
+use crate::inputs::CollapseFault;
 use pc_part::Part;
 use pc_texts::{end_output, put_joined};
 use pc_types::{Items, Point, Refusal, Tally};
@@ -53,7 +53,7 @@ pub(crate) fn text_of(alloc: Global, part: &Part) -> Result<Text, Refusal>
 #[derive(Drop)]
 pub(crate) struct Unfinished<F> {
     pub(crate) file: Option<Tally<F>>,
-    pub(crate) fault: Fault,
+    pub(crate) fault: CollapseFault,
 }
 
 // Makes the file and writes the bytes to it.
@@ -67,7 +67,7 @@ pub(crate) fn write_file<F: Write + Drop, M: Maker<F>>(
     let file = match maker.make() {
         Ok(file) => file,
         Err(why) => {
-            let (file, fault) = (None, Fault::Unmade(why));
+            let (file, fault) = (None, CollapseFault::Unmade(why));
             return Err(Unfinished { file, fault });
         }
     };
@@ -76,7 +76,7 @@ pub(crate) fn write_file<F: Write + Drop, M: Maker<F>>(
     match put {
         Ok(()) => Ok(file),
         Err(_) => {
-            let (file, fault) = (Some(file), Fault::Unwritten);
+            let (file, fault) = (Some(file), CollapseFault::Unwritten);
             Err(Unfinished { file, fault })
         }
     }
@@ -87,14 +87,14 @@ pub(crate) fn print<W: Write>(
     out: &mut Tally<W>,
     points: &[Point],
     entries: u64,
-) -> Result<(), Fault>
+) -> Result<(), CollapseFault>
     ensures printed { OnOk result (Appends (W.contents (inner_of out.old)) (W.contents (inner_of out.new)) (joined_line points.now entries) × (failures_of out.new ≡ failures_of out.old)) }
-    ensures failed { IfErr result (λ why. (why ≡ Fault.Output) × HasRisen (failures_of out.old) (failures_of out.new)
+    ensures failed { IfErr result (λ why. (why ≡ CollapseFault.Output) × HasRisen (failures_of out.old) (failures_of out.new)
         × AppendsBeginning (W.contents (inner_of out.old)) (W.contents (inner_of out.new)) (joined_line points.now entries)) }
 {
     let put = put_joined(out, points, entries);
     match end_output(put, out) {
         Ok(()) => Ok(()),
-        Err(_) => Err(Fault::Output),
+        Err(_) => Err(CollapseFault::Output),
     }
 }

@@ -10,10 +10,10 @@ use Rattle.pc_jobs.specs.declared.works.Workload.{Workload}
 use Rattle.pc_jobs.specs.declared.workloads.WorkloadReading.{WorkloadReading}
 use Rattle.pc_jobs.specs.declared.workloads.WorkloadReading.TheVariants as reading
 use Rattle.pc_texts.specs.Files.{IsScriptFault}
-use Rattle.pc_threads.specs.declared.fault.Fault.{Fault}
-use Rattle.pc_threads.specs.declared.fault.Fault.TheVariants as fault
-use Rattle.pc_runs.specs.declared.failure.Failure.{Failure}
-use Rattle.pc_runs.specs.declared.failure.Failure.TheVariants as failure
+use Rattle.pc_threads.specs.declared.fault.ThreadsFault.{ThreadsFault}
+use Rattle.pc_threads.specs.declared.fault.ThreadsFault.TheVariants as fault
+use Rattle.pc_runs.specs.declared.failure.RunFailure.{RunFailure}
+use Rattle.pc_runs.specs.declared.failure.RunFailure.TheVariants as failure
 use Rattle.pc_runs.specs.declared.files.RunFolder.{RunFolder}
 use Rattle.pc_runs.specs.declared.origin.Start.{Start}
 use Rattle.pc_runs.specs.declared.origin.Start.TheVariants as start
@@ -43,14 +43,14 @@ module _ {R D : Type 0} (remaining : R → Option (List ℕ)) (folder : Option (
   unread opened why fault none = inl (fault, none)
 
   -- the run has begun, and failed
-  pub run_failed : (opened : Result R Refusal) (workload : Workload) (why : Fault) (st : Setting) → IsOk opened → IsWorkloadReadAs remaining opened (reading.Runs workload) → IsUsable folder → begins (Begun st)
+  pub run_failed : (opened : Result R Refusal) (workload : Workload) (why : ThreadsFault) (st : Setting) → IsOk opened → IsWorkloadReadAs remaining opened (reading.Runs workload) → IsUsable folder → begins (Begun st)
       → EndsRun st workload (is_some folder) why → IsRunUnanswered remaining opened folder begins (failure.Run why)
   run_failed opened workload (fault.Refused why) st there read usable begun ends = inr (there, usable, (workload, read, (st, begun, ends)))
   run_failed opened workload (fault.Unmade name why) st there read usable begun ends = (there, usable, (workload, read, (st, begun, ends)))
   run_failed opened workload fault.NoThread st there read usable begun ends = (there, usable, (workload, read, (st, begun, ends)))
 
   -- it has nothing to start from
-  pub not_started : {S : Type 0} (theirs : S → Option (List ℕ)) (opened : Result R Refusal) (first : Start S) (why : Failure) → CanRun remaining opened → IsUsable folder
+  pub not_started : {S : Type 0} (theirs : S → Option (List ℕ)) (opened : Result R Refusal) (first : Start S) (why : RunFailure) → CanRun remaining opened → IsUsable folder
       → IsUnstarted theirs first why → begins (Unstarted why) → IsRunUnanswered remaining opened folder begins why
   not_started theirs opened (start.Folder old) (failure.Start name lost) can usable is begun = (can, usable, begun)
   not_started theirs opened (start.Folder old) (failure.Run why) can usable is begun = absurd is

@@ -26,8 +26,8 @@ use Rattle.pc_outcomes.specs.Leaving.{IsUntoldAfter, has_point}
 use Rattle.pc_threads.specs.Clients.{clients_in, jobs_of, transactions_in}
 use Rattle.pc_threads.specs.Faults.{IsThreadsEnd, IsFileLost}
 use Rattle.pc_threads.specs.Files.{HasWritten}
-use Rattle.pc_threads.specs.declared.fault.Fault.{Fault}
-use Rattle.pc_threads.specs.declared.fault.Fault.TheVariants as fault
+use Rattle.pc_threads.specs.declared.fault.ThreadsFault.{ThreadsFault}
+use Rattle.pc_threads.specs.declared.fault.ThreadsFault.TheVariants as fault
 use Rattle.pc_workers.specs.Covering.{HaveJustTo, HaveOnlyTo}
 use Rattle.pc_runs.specs.Faults.{EndsRun, IsRunRefused}
 use Rattle.pc_runs.specs.Folders.{HasBegunFiles}
@@ -57,11 +57,11 @@ folder_there holds points None (Some new) files written = absurd written
 folder_there holds points (Some old) None files written = absurd written
 
 -- a file that was lost to the device
-pub device_lost : (name : FileName) (given : Fault) (cause : Refusal) → given ≡ fault.Refused cause → cause ≡ why.Device → IsFileLost name given
+pub device_lost : (name : FileName) (given : ThreadsFault) (cause : Refusal) → given ≡ fault.Refused cause → cause ≡ why.Device → IsFileLost name given
 device_lost name given cause is device = subst (IsFileLost name) (sym is) device
 
 -- it is one of two
-pub later_lost : {T : Type 0} (result : Result T Fault) (a b : FileName) → IfErr result (IsFileLost b) → IfErr result (λ given. IsFileLost a given ⊎ IsFileLost b given)
+pub later_lost : {T : Type 0} (result : Result T ThreadsFault) (a b : FileName) → IfErr result (IsFileLost b) → IfErr result (λ given. IsFileLost a given ⊎ IsFileLost b given)
 later_lost (Ok made) a b lost = tt
 later_lost (Err given) a b lost = inr lost
 
@@ -75,7 +75,7 @@ one_there false false false false x y z is = cc (is)
 
 module _ (st : Setting) (workload : Workload) (there : Bool) where
   -- a fault of the threads
-  pub of_threads : (writes : Bool) (count : ℕ) (given : Fault) → (IsTrue writes → IsTrue there) → count ≡ transactions_in workload.clients → IsThreadsEnd writes count workload.points given → EndsRun st workload there given
+  pub of_threads : (writes : Bool) (count : ℕ) (given : ThreadsFault) → (IsTrue writes → IsTrue there) → count ≡ transactions_in workload.clients → IsThreadsEnd writes count workload.points given → EndsRun st workload there given
   of_threads writes count (fault.Refused why.OutOfMemory) on same end = tt
   of_threads writes count (fault.Refused why.Device) on same end = on end
   of_threads writes count (fault.Refused why.Full) on same (inl many) = inr (inl (omega (arith, same, many)))
@@ -88,17 +88,17 @@ module _ (st : Setting) (workload : Workload) (there : Bool) where
   of_threads writes count (fault.Unmade file why) on same end = on end
   of_threads writes count fault.NoThread on same end = tt
 
-  pub memory_ends : (given : Fault) → given ≡ fault.Refused why.OutOfMemory → EndsRun st workload there given
+  pub memory_ends : (given : ThreadsFault) → given ≡ fault.Refused why.OutOfMemory → EndsRun st workload there given
   memory_ends given is = subst (EndsRun st workload there) (sym is) tt
 
   -- one of a file of the folder
-  pub lost_ends : (name : FileName) (given : Fault) → IsTrue there → IsFileLost name given → EndsRun st workload there given
+  pub lost_ends : (name : FileName) (given : ThreadsFault) → IsTrue there → IsFileLost name given → EndsRun st workload there given
   lost_ends name (fault.Refused why) is lost = subst (IsRunRefused st workload there) (sym lost) is
   lost_ends name (fault.Unmade file why) is lost = is
   lost_ends name fault.NoThread is lost = absurd lost
 
   -- the base's file, or that of the log
-  pub begins_badly : (a b : FileName) (given : Fault) → IsTrue there → IsFileLost a given ⊎ IsFileLost b given → EndsRun st workload there given
+  pub begins_badly : (a b : FileName) (given : ThreadsFault) → IsTrue there → IsFileLost a given ⊎ IsFileLost b given → EndsRun st workload there given
   begins_badly a b given is (inl lost) = lost_ends a given is lost
   begins_badly a b given is (inr lost) = lost_ends b given is lost
 

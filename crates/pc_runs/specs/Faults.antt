@@ -7,8 +7,8 @@ use Rattle.pc_model.specs.Maps.{len}
 use Rattle.pc_model.specs.Replies.{Setting}
 use Rattle.pc_jobs.specs.declared.works.Workload.{Workload}
 use Rattle.pc_threads.specs.Clients.{transactions_in}
-use Rattle.pc_threads.specs.declared.fault.Fault.{Fault}
-use Rattle.pc_threads.specs.declared.fault.Fault.TheVariants as fault
+use Rattle.pc_threads.specs.declared.fault.ThreadsFault.{ThreadsFault}
+use Rattle.pc_threads.specs.declared.fault.ThreadsFault.TheVariants as fault
 
 -- Why a run of the workload is refused, over a store of this setting, where there is a folder or not:
 -- * memory ran out;
@@ -28,7 +28,7 @@ IsRunRefused st workload there refusal.NoFile = 0 < workload.points
 IsRunRefused st workload there other = ⊥
 
 -- The fault ends such a run: it is refused for one of these, a file of the folder can't be made, or a thread can't be started.
-abbrev pub EndsRun : Setting → Workload → Bool → Fault → Type 0
+abbrev pub EndsRun : Setting → Workload → Bool → ThreadsFault → Type 0
 EndsRun st workload there (fault.Refused why) = IsRunRefused st workload there why
 EndsRun st workload there (fault.Unmade file why) = IsTrue there
 EndsRun st workload there fault.NoThread = ⊤

@@ -18,10 +18,10 @@ use Rattle.pc_jobs.specs.declared.workloads.WorkloadReading.TheVariants as readi
 use Rattle.pc_restore.specs.Bases.{IsBaseMade, IsBaseUnmade}
 use Rattle.pc_texts.specs.Files.{TellsOf, IsScriptFault}
 use Rattle.pc_restore.specs.Recoveries as recoveries
-use Rattle.pc_threads.specs.declared.fault.Fault.{Fault}
-use Rattle.pc_threads.specs.declared.fault.Fault.TheVariants as fault
-use Rattle.pc_runs.specs.declared.failure.Failure.{Failure}
-use Rattle.pc_runs.specs.declared.failure.Failure.TheVariants as failure
+use Rattle.pc_threads.specs.declared.fault.ThreadsFault.{ThreadsFault}
+use Rattle.pc_threads.specs.declared.fault.ThreadsFault.TheVariants as fault
+use Rattle.pc_runs.specs.declared.failure.RunFailure.{RunFailure}
+use Rattle.pc_runs.specs.declared.failure.RunFailure.TheVariants as failure
 use Rattle.pc_runs.specs.declared.files.RunFolder.{RunFolder}
 use Rattle.pc_runs.specs.declared.files.Unusable.TheVariants as unusable
 use Rattle.pc_runs.specs.declared.origin.Origin.{Origin}
@@ -50,14 +50,14 @@ IsStart remaining contents (start.Empty run) old new base = (base ≡ record { r
 IsStart remaining contents (start.Folder old_run) old new base = IsBaseMade remaining contents old_run.folder old new base
 
 -- a run was to start from the folder of this name, and there is no base of it for this reason
-abbrev pub IsUnstarted : {S : Type 0} → (S → Option (List ℕ)) → Start S → Failure → Type 0
+abbrev pub IsUnstarted : {S : Type 0} → (S → Option (List ℕ)) → Start S → RunFailure → Type 0
 IsUnstarted remaining (start.Folder old_run) (failure.Start name lost) = (name ≡ old_run.name) × IsBaseUnmade remaining old_run.folder lost
 IsUnstarted remaining other why = ⊥
 
 -- how far a run has come: nothing was begun; it has nothing to start from, for this reason; or its store was to be opened so
 pub data Beginning : Type 0 where
   NotBegun : Beginning
-  Unstarted : (why : Failure) → Beginning
+  Unstarted : (why : RunFailure) → Beginning
   Begun : (st : Setting) → Beginning
 
 -- A run has come so far, and this was told till then: what is damaged of the folder that it starts from, once it has begun.
@@ -89,7 +89,7 @@ abbrev pub IsUsable : {D : Type 0} → Option (RunFolder D) → Type 0
 IsUsable folder = IfSome folder (λ f. IsOk f.files)
 
 -- there is a folder of this name, and this keeps files from being made there
-abbrev pub IsUnusable : {D : Type 0} → Option (RunFolder D) → Failure → Type 0
+abbrev pub IsUnusable : {D : Type 0} → Option (RunFolder D) → RunFailure → Type 0
 IsUnusable folder (failure.Folder name why) = MatchOption folder ⊥ (λ f. (name ≡ f.name) × (f.files ≡ Err why))
 IsUnusable folder other = ⊥
 
@@ -99,7 +99,7 @@ CanRun remaining opened = IsOk opened × ((workload : Workload) × IsWorkloadRea
 
 -- The workload that the file holds was run, where the folder is usable, over a store with which the run has begun; and this fault has
 -- ended it.
-abbrev pub RunHasFailed : {R D : Type 0} → (R → Option (List ℕ)) → Result R Refusal → Option (RunFolder D) → (Beginning → Type 0) → Fault → Type 0
+abbrev pub RunHasFailed : {R D : Type 0} → (R → Option (List ℕ)) → Result R Refusal → Option (RunFolder D) → (Beginning → Type 0) → ThreadsFault → Type 0
 RunHasFailed remaining opened folder begins why = IsOk opened × IsUsable folder
     × ((workload : Workload) × IsWorkloadReadAs remaining opened (reading.Runs workload)
     × ((st : Setting) × begins (Begun st) × EndsRun st workload (is_some folder) why))
@@ -121,7 +121,7 @@ GoesOut remaining holds contents opened folder begins old new left status = (som
 -- Why nothing is printed: where the file wasn't opened, the reason for that; where it was, that it couldn't be read, or that memory
 -- ran out; where its workload can be run, and the folder can't be used, the reason for this; where it can be used, and there is
 -- nothing to start from, that; and else the fault that has ended the run.
-abbrev pub IsRunUnanswered : {R D : Type 0} → (R → Option (List ℕ)) → Result R Refusal → Option (RunFolder D) → (Beginning → Type 0) → Failure → Type 0
+abbrev pub IsRunUnanswered : {R D : Type 0} → (R → Option (List ℕ)) → Result R Refusal → Option (RunFolder D) → (Beginning → Type 0) → RunFailure → Type 0
 IsRunUnanswered remaining opened folder begins (failure.Run (fault.Refused why)) = (IsScriptFault opened why × begins NotBegun) ⊎ RunHasFailed remaining opened folder begins (fault.Refused why)
 IsRunUnanswered remaining opened folder begins (failure.Run other) = RunHasFailed remaining opened folder begins other
 IsRunUnanswered remaining opened folder begins (failure.Folder name why) = CanRun remaining opened × IsUnusable folder (failure.Folder name why) × begins NotBegun
@@ -131,7 +131,7 @@ IsRunUnanswered remaining opened folder begins failure.Output = ⊥
 -- Why not all was printed: the output failed, which was counted, and a beginning of what is printed went out; or there is nothing
 -- to print.
 abbrev pub IsCauseOfUnprinted : {R D T : Type 0} → (R → Option (List ℕ)) → (D → FileName → List ℕ → Type 0) → (T → Option (List ℕ)) → Result R Refusal → Option (RunFolder D) → (Beginning → Type 0) → Tally T → Tally T
-    → Failure → Type 0
+    → RunFailure → Type 0
 IsCauseOfUnprinted {R} {D} remaining holds contents opened folder begins old new failure.Output = HasRisen (failures_of old) (failures_of new)
     × ((left : Option D) × (some : Printed) × IsAnswer remaining holds opened folder begins left some × AppendsBeginning (contents (inner_of old)) (contents (inner_of new)) (printed_text some))
 IsCauseOfUnprinted remaining holds contents opened folder begins old new other = (new ≡ old) × IsRunUnanswered remaining opened folder begins other
@@ -145,7 +145,7 @@ abbrev pub TellsReason : {T : Type 0} → (T → Option (List ℕ)) → Tally T 
 TellsReason contents old new name reason = (told : Result (Unit {0}) Refusal) × Puts contents old new told (reason_text name reason)
 
 -- what is told of a failure, where the workload has this name; of an output that failed nothing
-abbrev pub IsRunTold : {T : Type 0} → (T → Option (List ℕ)) → Tally T → Tally T → List ℕ → Failure → Type 0
+abbrev pub IsRunTold : {T : Type 0} → (T → Option (List ℕ)) → Tally T → Tally T → List ℕ → RunFailure → Type 0
 IsRunTold contents old new name (failure.Run (fault.Refused why)) = TellsOf contents old new name why
 IsRunTold contents old new name (failure.Run (fault.Unmade file why)) = TellsOf contents old new (name_of file) why
 IsRunTold contents old new name (failure.Run fault.NoThread) = TellsReason contents old new name (codes "NoThread")
@@ -155,5 +155,5 @@ IsRunTold contents old new name (failure.Start folder lost) = recoveries.IsRecov
 IsRunTold contents old new name failure.Output = new ≡ old
 
 -- there is a cause by what was told till then, and it was told behind that
-abbrev pub IsFailed : {T : Type 0} → (T → Option (List ℕ)) → List ℕ → Tally T → (Tally T → Failure → Type 0) → Type 0
-IsFailed {T} contents name new cause = (why : Failure) × (between : Tally T) × cause between why × IsRunTold contents between new name why
+abbrev pub IsFailed : {T : Type 0} → (T → Option (List ℕ)) → List ℕ → Tally T → (Tally T → RunFailure → Type 0) → Type 0
+IsFailed {T} contents name new cause = (why : RunFailure) × (between : Tally T) × cause between why × IsRunTold contents between new name why

@@ -10,15 +10,15 @@ use crate::files::{RunFolder, Unusable, report_unmade};
 use pc_outcomes::Printed;
 use pc_restore::{Lost, tell_lost};
 use pc_texts::{end_output, report};
-use pc_threads::Fault;
+use pc_threads::ThreadsFault;
 use pc_types::{Refusal, Tally};
 use std::io::Write;
 
 /// Why nothing, or not all, is printed of a workload.
 #[derive(Drop)]
-pub enum Failure {
+pub enum RunFailure {
     /// Its run failed.
-    Run(Fault),
+    Run(ThreadsFault),
     /// It was not run: the folder of this name can't be used for its files.
     Folder(Vec<u8>, Unusable),
     /// It was not run: nothing can be recovered of the folder of this name, which it was to start from.
@@ -27,29 +27,29 @@ pub enum Failure {
     Output,
 }
 
-impl From<Fault> for Failure {
-    ghost use Rattle.pc_runs.specs.declared.failure.Failure.TheVariants.{Run};
+impl From<ThreadsFault> for RunFailure {
+    ghost use Rattle.pc_runs.specs.declared.failure.RunFailure.TheVariants.{Run};
 
     ghost from_gives = { λ fault failure. failure ≡ Run fault };
 
-    fn from(fault: Fault) -> Failure {
-        Failure::Run(fault)
+    fn from(fault: ThreadsFault) -> RunFailure {
+        RunFailure::Run(fault)
     }
 }
 
-impl From<Refusal> for Failure {
-    ghost use Rattle.pc_threads.specs.declared.fault.Fault.TheVariants.{Refused};
-    ghost use Rattle.pc_runs.specs.declared.failure.Failure.TheVariants.{Run};
+impl From<Refusal> for RunFailure {
+    ghost use Rattle.pc_threads.specs.declared.fault.ThreadsFault.TheVariants.{Refused};
+    ghost use Rattle.pc_runs.specs.declared.failure.RunFailure.TheVariants.{Run};
 
     ghost from_gives = { λ why failure. failure ≡ Run (Refused why) };
 
-    fn from(why: Refusal) -> Failure {
-        Failure::Run(Fault::Refused(why))
+    fn from(why: Refusal) -> RunFailure {
+        RunFailure::Run(ThreadsFault::Refused(why))
     }
 }
 
 /// What makes the files of the folder, where there is one.
-pub fn usable<D: Drop>(folder: Option<RunFolder<D>>) -> Result<Option<D>, Failure>
+pub fn usable<D: Drop>(folder: Option<RunFolder<D>>) -> Result<Option<D>, RunFailure>
     ensures usable { OnOk result (IsUsable folder) }
     ensures there { IfOk result (λ files. is_some files ≡ is_some folder) }
     ensures unusable { IfErr result (IsUnusable folder) }
@@ -59,43 +59,43 @@ pub fn usable<D: Drop>(folder: Option<RunFolder<D>>) -> Result<Option<D>, Failur
     };
     match files {
         Ok(files) => Ok(Some(files)),
-        Err(why) => Err(Failure::Folder(name, why)),
+        Err(why) => Err(RunFailure::Folder(name, why)),
     }
 }
 
 /// Writes the lines out, or else the output has failed, and a beginning went out.
-pub fn print<W: Write>(printed: &Printed, out: &mut Tally<W>) -> Result<(), Failure>
+pub fn print<W: Write>(printed: &Printed, out: &mut Tally<W>) -> Result<(), RunFailure>
     ensures printed { OnOk result (Appends (W.contents (inner_of out.old)) (W.contents (inner_of out.new)) (printed_text printed.now) × (failures_of out.new ≡ failures_of out.old)) }
-    ensures failed { IfErr result (λ why. (why ≡ Failure.Output) × HasRisen (failures_of out.old) (failures_of out.new)
+    ensures failed { IfErr result (λ why. (why ≡ RunFailure.Output) × HasRisen (failures_of out.old) (failures_of out.new)
         × AppendsBeginning (W.contents (inner_of out.old)) (W.contents (inner_of out.new)) (printed_text printed.now)) }
 {
     let put = printed.put(out);
     match end_output(put, out) {
         Ok(()) => Ok(()),
-        Err(_) => Err(Failure::Output),
+        Err(_) => Err(RunFailure::Output),
     }
 }
 
-impl Failure {
+impl RunFailure {
     /// Writes the line that tells why, by the name of the workload, of a file or of a folder; of an output that failed nothing.
     pub fn report<E: Write>(self, workload: &[u8], errors: &mut Tally<E>)
         ensures { IsRunTold E.contents errors.old errors.new workload.now self }
     {
         let _ = match self {
-            Failure::Run(fault) => match fault {
-                Fault::Refused(why) => report(workload, why, errors),
-                Fault::Unmade(file, why) => report_unmade(file, why, errors),
-                Fault::NoThread => put_reason(workload, b"NoThread", errors),
+            RunFailure::Run(fault) => match fault {
+                ThreadsFault::Refused(why) => report(workload, why, errors),
+                ThreadsFault::Unmade(file, why) => report_unmade(file, why, errors),
+                ThreadsFault::NoThread => put_reason(workload, b"NoThread", errors),
             },
-            Failure::Folder(folder, unusable) => match unusable {
+            RunFailure::Folder(folder, unusable) => match unusable {
                 Unusable::NotEmpty => put_reason(&folder, b"NotEmpty", errors),
                 Unusable::Unlisted(why) => report(&folder, why, errors),
             },
-            Failure::Start(old, lost) => {
+            RunFailure::Start(old, lost) => {
                 tell_lost(&old, &lost, errors);
                 Ok(())
             }
-            Failure::Output => Ok(()),
+            RunFailure::Output => Ok(()),
         };
     }
 }

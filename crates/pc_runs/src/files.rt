@@ -9,7 +9,7 @@ ghost use Rattle.pc_threads.specs.Faults.{IsFileLost};
 
 use pc_part::Base;
 use pc_texts::{FileName, part_name, report};
-use pc_threads::{Fault, NewFiles, finish_file, make_file};
+use pc_threads::{NewFiles, ThreadsFault, finish_file, make_file};
 use pc_types::{Refusal, Tally};
 use std::io::Write;
 
@@ -48,7 +48,7 @@ pub fn report_unmade<E: Write>(
 pub fn begin_files<F: Write + Drop, D: NewFiles<F>>(
     folder: &mut D,
     base: &Base,
-) -> Result<Tally<F>, Fault>
+) -> Result<Tally<F>, ThreadsFault>
     ensures base { OnOk result (D.holds folder.new file.Base (base_text base.now)) }
     ensures log { IfOk result (λ log. F.contents (inner_of log) ≡ D.blank) }
     ensures lost { IfErr result (λ why. IsFileLost file.Base why ⊎ IsFileLost file.Log why) }

@@ -10,7 +10,7 @@ ghost use Rattle.pc_runs.specs.Folders.{HasBegunFiles};
 ghost use Rattle.pc_runs.specs.Runs.{RunBegins, GoesOut, IsAnswer, IsCauseOfUnprinted, IsFailed, IsWorkloadRun, IsRunUnanswered, run_setting};
 
 use crate::crew::Crew;
-use crate::failure::{Failure, print, usable};
+use crate::failure::{RunFailure, print, usable};
 use crate::files::{RunFolder, begin_files};
 use crate::origin::Origin;
 use crate::starting::base_of;
@@ -20,7 +20,7 @@ use pc_outcomes::{Printed, RunReport};
 use pc_part::Base;
 use pc_shared::Opened;
 use pc_texts::{NamedFile, read_opened};
-use pc_threads::{Fault, NewFiles};
+use pc_threads::{NewFiles, ThreadsFault};
 use pc_types::{Gate, MOST_SESSIONS, Refusal, Tally};
 use std::alloc::Global;
 use std::hash::RandomState;
@@ -113,7 +113,7 @@ fn run_opened<
     folder: Option<RunFolder<D>>,
     out: &mut Tally<W>,
     errors: &mut Tally<E>,
-) -> Result<Finished<D>, Failure>
+) -> Result<Finished<D>, RunFailure>
     ensures opened { OnOk result (IsOk opened) }
     ensures printed { IfOk result (λ finished. GoesOut R.remaining D.holds W.contents opened folder (RunBegins S.remaining E.contents origin errors.old errors.new) out.old out.new finished.folder finished.status) }
     ensures cause { IfErr result (IsCauseOfUnprinted R.remaining D.holds W.contents opened folder (RunBegins S.remaining E.contents origin errors.old errors.new) out.old out.new) }
@@ -142,7 +142,7 @@ fn answer<
     crew: &Crew<'_, G>,
     folder: Option<RunFolder<D>>,
     errors: &mut Tally<E>,
-) -> Result<(Printed, Option<D>), Failure>
+) -> Result<(Printed, Option<D>), RunFailure>
     ensures opened { OnOk result (IsOk opened) }
     ensures answer { IfOk result (λ r. IsAnswer R.remaining D.holds opened folder (RunBegins S.remaining E.contents origin errors.old errors.new) r.1 r.0) }
     ensures cause { IfErr result (IsRunUnanswered R.remaining opened folder (RunBegins S.remaining E.contents origin errors.old errors.new)) }
@@ -178,7 +178,7 @@ fn run_read<
     capacity: u32,
     crew: &Crew<'_, G>,
     folder: Option<D>,
-) -> Result<(RunReport, Option<D>), Fault>
+) -> Result<(RunReport, Option<D>), ThreadsFault>
     requires start { base.point ≡ 0 }
     requires capacity { (1 ≤ capacity) × (capacity ≤ MOST_KEYS) }
     requires seats { HaveSeats (new_sitters MOST_SESSIONS) workload.clients }
@@ -186,7 +186,7 @@ fn run_read<
     ensures ended { IfErr result (EndsRun (run_setting base capacity) workload (is_some folder)) }
 {
     if base.pairs().len() > capacity as usize {
-        return Err(Fault::Refused(Refusal::Full));
+        return Err(ThreadsFault::Refused(Refusal::Full));
     }
     let (folder, log) = begin(folder, &base)?;
     let opened = Opened::new(alloc, base, MOST_SESSIONS, capacity, seed)?;
@@ -197,7 +197,7 @@ fn run_read<
 fn begin<F: Write + Drop, D: NewFiles<F> + Drop>(
     folder: Option<D>,
     base: &Base,
-) -> Result<(Option<D>, Option<Tally<F>>), Fault>
+) -> Result<(Option<D>, Option<Tally<F>>), ThreadsFault>
     ensures there { IfOk result (λ r. is_some r.0 ≡ is_some folder) }
     ensures begun { IfOk result (λ r. HasBegunFiles D.holds F.contents D.blank base.now r.0 r.1) }
     ensures lost { IfErr result (λ why. IsTrue (is_some folder) × (IsFileLost file.Base why ⊎ IsFileLost file.Log why)) }

@@ -2,7 +2,7 @@
 ghost use Rattle.std.specs.Prelude.{◌≡◌, IfErr, IfOk};
 ghost use Rattle.pc_runs.specs.Runs.{IsStart, IsUnstarted};
 
-use crate::failure::Failure;
+use crate::failure::RunFailure;
 use crate::origin::{NamedFolder, Start};
 use pc_part::Base;
 use pc_restore::recover_base;
@@ -16,7 +16,7 @@ pub fn base_of<R: Read + Drop, E: Write>(
     alloc: Global,
     start: Start<R>,
     errors: &mut Tally<E>,
-) -> Result<Base, Failure>
+) -> Result<Base, RunFailure>
     ensures point { IfOk result (λ base. base.point ≡ 0) }
     ensures start { IfOk result (IsStart R.remaining E.contents start errors.old errors.new) }
     ensures cause { IfErr result (λ failure. IsUnstarted R.remaining start failure × (errors.new ≡ errors.old)) }
@@ -27,7 +27,7 @@ pub fn base_of<R: Read + Drop, E: Write>(
             let NamedFolder { name, folder } = named;
             match recover_base(alloc, folder, errors) {
                 Ok(base) => Ok(base),
-                Err(lost) => Err(Failure::Start(name, lost)),
+                Err(lost) => Err(RunFailure::Start(name, lost)),
             }
         }
     }

@@ -9,7 +9,7 @@ ghost use Rattle.pc_outcomes.specs.Leaving.{AreLeftAfter, IsLegacy, IsUntoldAfte
 ghost use Rattle.pc_shared.specs.Sitters.{Sitter, new_sitters};
 ghost use Rattle.pc_threads.specs.Clients.{HaveSeats, HaveWorked, clients_in, transactions_in};
 ghost use Rattle.pc_threads.specs.Faults.{IsThreadsEnd, IsFileLost};
-ghost use Rattle.pc_threads.specs.declared.fault.Fault.TheVariants as Fault;
+ghost use Rattle.pc_threads.specs.declared.fault.ThreadsFault.TheVariants as ThreadsFault;
 ghost use Rattle.pc_texts.specs.declared.file_names.FileName.TheVariants as file;
 ghost use Rattle.pc_workers.specs.Checkpointing.{HasCycled};
 ghost use Rattle.pc_workers.specs.Covering.{HaveOnlyTo, HaveJustTo};
@@ -29,8 +29,8 @@ use pc_outcomes::{RunReport, StoreReport, commits_in, left_by};
 use pc_shared::{CheckpointerSeat, Closed, Opened, PartTicket, Session, Shared};
 use pc_texts::FileName;
 use pc_threads::{
-    Fault, Logger, NewFiles, Ran, Rested, Room, Seating, Worked, Written, finish_file, hands_of,
-    run_threads, seat_workers,
+    Logger, NewFiles, Ran, Rested, Room, Seating, ThreadsFault, Worked, Written, finish_file,
+    hands_of, run_threads, seat_workers,
 };
 use pc_tie::StoreName;
 use pc_types::{Gate, Tally};
@@ -63,7 +63,7 @@ fn take_back<N: StoreName, D: Drop, R: Wait>(
     points: u32,
     idle: Vec<Session<N>>,
     rested: Rested<N, D>,
-) -> Result<EndedStore<N, D>, Fault>
+) -> Result<EndedStore<N, D>, ThreadsFault>
     requires only { HaveOnlyTo points rested.held.items }
     requires cycles { HasCycled N.name.setting points [] rested.worked.seat }
     ensures sessions { IfOk result (λ ended. ended.sessions.items ≡ idle.items ++ rested.worked.ran.sessions.items) }
@@ -71,7 +71,7 @@ fn take_back<N: StoreName, D: Drop, R: Wait>(
     ensures cover { IfOk result (λ ended. HaveJustTo points ended.joined.items) }
     ensures written { IfOk result (λ ended. ended.written.items ≡ rested.worked.written.items) }
     ensures folder { IfOk result (λ ended. ended.folder ≡ rested.worked.folder) }
-    ensures memory { IfErr result (λ why. why ≡ Fault.Refused OutOfMemory) }
+    ensures memory { IfErr result (λ why. why ≡ ThreadsFault.Refused OutOfMemory) }
 {
     let Rested { worked, held } = rested;
     let Worked {
@@ -114,7 +114,7 @@ fn use_store<
     folder: Option<D>,
     every: u32,
     logger: Logger<N, F>,
-) -> Result<(EndedStore<N, D>, Written<N, F>), Fault>
+) -> Result<(EndedStore<N, D>, Written<N, F>), ThreadsFault>
     requires fresh { seat ≡ [] }
     requires some { 0 < length passes.items }
     requires few { length passes.items ≤ MOST_PASSES }
@@ -164,7 +164,7 @@ pub fn run_store<
     crew: &Crew<'_, G>,
     folder: Option<D>,
     log: Option<Tally<F>>,
-) -> Result<(RunReport, Option<D>), Fault>
+) -> Result<(RunReport, Option<D>), ThreadsFault>
     requires name { opened ≡ N.name }
     requires seats { HaveSeats (new_sitters N.name.setting.sessions) workload.clients }
     requires begun { HasBegunFiles D.holds F.contents D.blank (base_of N.name.setting) folder log }
@@ -226,12 +226,12 @@ fn leave<N: StoreName, G: Gate + Sync, R: Threads + Wait + Sync>(
     closed: Closed<N>,
     singles: usize,
     crew: &Crew<'_, G>,
-) -> Result<Legacy, Fault>
+) -> Result<Legacy, ThreadsFault>
     requires singles { singles ≤ length closed.parts.items }
     requires after { (history : History) × AreLeftAfter N.name.setting history closed.world.base closed.world.log closed.parts.items }
     ensures commits { IfOk result (λ legacy. legacy.commits ≡ commits_in closed.world.log) }
     ensures files { IfOk result (λ legacy. IsLegacy closed.world.base closed.world.log (drop singles closed.parts.items) legacy.files) }
-    ensures untold { IfErr result (λ fault. (why : Refusal) × (fault ≡ Fault.Refused why) × IsUntoldAfter (drop singles closed.parts.items) why) }
+    ensures untold { IfErr result (λ fault. (why : Refusal) × (fault ≡ ThreadsFault.Refused why) × IsUntoldAfter (drop singles closed.parts.items) why) }
 {
     let mut closed = closed;
     let files = files_of(alloc, &mut closed)?;
@@ -272,7 +272,7 @@ fn finish_log<N: StoreName, F: Write + Drop, D: NewFiles<F> + Drop>(
     closed: &Closed<N>,
     folder: Option<D>,
     log: Option<Tally<F>>,
-) -> Result<Option<D>, Fault>
+) -> Result<Option<D>, ThreadsFault>
     requires { closed.now.logged ≤ length closed.now.world.log }
     ensures finished { IfOk result (λ later. HasFinished D.holds F.contents D.blank (rest_text closed.now.logged closed.now.world.log) folder log later) }
     ensures lost { IfErr result (λ why. IsTrue (is_some folder) × IsFileLost file.Log why) }

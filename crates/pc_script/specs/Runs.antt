@@ -8,8 +8,8 @@ use Rattle.pc_types.specs.Counted.{HasRisen, AppendsBeginning}
 use Rattle.pc_types.specs.Tallies.{inner_of, failures_of}
 use Rattle.pc_types.specs.declared.tally.Tally.{Tally}
 use Rattle.pc_script.specs.declared.setup.Setup.{Setup}
-use Rattle.pc_script.specs.declared.run.Fault.{Fault}
-use Rattle.pc_script.specs.declared.run.Fault.TheVariants as fault
+use Rattle.pc_script.specs.declared.run.ScriptFault.{ScriptFault}
+use Rattle.pc_script.specs.declared.run.ScriptFault.TheVariants as fault
 use Rattle.pc_script.specs.declared.script.Status.{Status}
 use Rattle.pc_script.specs.declared.script.Status.TheVariants as status
 use Rattle.pc_script.specs.Scripts.{IsScriptAnswered, IsAnsweredInPart}
@@ -27,7 +27,7 @@ abbrev pub IsScriptUnanswered : {R T : Type 0} → Result R Refusal → Tally T 
 IsScriptUnanswered opened old new why = IsScriptFault opened why × ((new ≡ old) ⊎ (why ≡ OutOfMemory))
 
 -- a run ended without a status of the script's own, for a fault of the script, or for one of the output, which was counted
-abbrev pub IsFault : {R T : Type 0} → Result R Refusal → Tally T → Tally T → Fault → Type 0
+abbrev pub IsFault : {R T : Type 0} → Result R Refusal → Tally T → Tally T → ScriptFault → Type 0
 IsFault opened old new (fault.Script why) = IsScriptUnanswered opened old new why
 IsFault opened old new fault.Output = HasRisen (failures_of old) (failures_of new)
 

@@ -18,7 +18,7 @@ use std::io::{Read, Write};
 
 /// Why a run ended without a status of the script's own.
 #[derive(Drop)]
-enum Fault {
+enum ScriptFault {
     /// The script isn't there, can't be read, or is too large for memory.
     Script(Refusal),
     /// The output failed.
@@ -49,11 +49,11 @@ pub fn run_script<R: Read + Drop, W: Write, E: Write>(
 {
     match answer_opened(alloc, setup, seed, opened, out) {
         Ok(status) => exit_code(status),
-        Err(Fault::Script(why)) => {
+        Err(ScriptFault::Script(why)) => {
             let _ = report(name.as_bytes(), why, errors);
             1
         }
-        Err(Fault::Output) => 1,
+        Err(ScriptFault::Output) => 1,
     }
 }
 
@@ -73,20 +73,20 @@ fn answer_opened<R: Read + Drop, W: Write>(
     seed: RandomState,
     opened: Result<R, Refusal>,
     out: &mut Tally<W>,
-) -> Result<Status, Fault>
+) -> Result<Status, ScriptFault>
     ensures answered { IfOk result (AnswersAll R.remaining W.contents setup opened out.old out.new) }
-    ensures unopened { IfErr opened (λ why. (result ≡ Err (Fault.Script why)) × (out.new ≡ out.old)) }
+    ensures unopened { IfErr opened (λ why. (result ≡ Err (ScriptFault.Script why)) × (out.new ≡ out.old)) }
     ensures in_part { AnswersInPart R.remaining W.contents setup opened out.old out.new }
     ensures cause { IfErr result (IsFault opened out.old out.new) }
 {
     let script = match read_opened(alloc, opened) {
         Ok(script) => script,
-        Err(why) => return Err(Fault::Script(why)),
+        Err(why) => return Err(ScriptFault::Script(why)),
     };
     let answered = answer_script(alloc, setup, seed, &script, out);
     match end_output(answered, out) {
         Ok(status) => Ok(status),
-        Err(Refusal::Device) => Err(Fault::Output),
-        Err(why) => Err(Fault::Script(why)),
+        Err(Refusal::Device) => Err(ScriptFault::Output),
+        Err(why) => Err(ScriptFault::Script(why)),
     }
 }

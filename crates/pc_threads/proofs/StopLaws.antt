@@ -22,8 +22,8 @@ use Rattle.pc_board.specs.Passes.{Pass}
 use Rattle.pc_workers.specs.Collapsing.{IsShown}
 use Rattle.pc_workers.specs.Collapsing as collapsing
 use Rattle.pc_workers.specs.Logging.{LogGoesOut}
-use Rattle.pc_threads.specs.declared.fault.Fault.{Fault}
-use Rattle.pc_threads.specs.declared.fault.Fault.TheVariants as fault
+use Rattle.pc_threads.specs.declared.fault.ThreadsFault.{ThreadsFault}
+use Rattle.pc_threads.specs.declared.fault.ThreadsFault.TheVariants as fault
 use Rattle.pc_threads.specs.Clients.{HasDone, ClientHasStopped, HaveStopped, HaveWorked, clients_in, first_of, jobs_in, jobs_of, transactions_in}
 use Rattle.pc_threads.specs.Faults.{IsThreadsEnd, IsFileLost, IsStop}
 
@@ -118,7 +118,7 @@ wider_stop a b m n p q why.ShelfFull on low few stop = omega (arith, few, stop)
 wider_stop a b m n p q why.NoFile on low few stop = omega (arith, few, stop)
 wider_stop a b m n p q other on low few stop = absurd stop
 
-pub more_end : (a b : Bool) (m n p q : ℕ) (given : Fault) → (IsTrue a → IsTrue b) → m ≤ n → p ≤ q → IsThreadsEnd a m p given → IsThreadsEnd b n q given
+pub more_end : (a b : Bool) (m n p q : ℕ) (given : ThreadsFault) → (IsTrue a → IsTrue b) → m ≤ n → p ≤ q → IsThreadsEnd a m p given → IsThreadsEnd b n q given
 more_end a b m n p q (fault.Refused why) on low few end = wider_stop a b m n p q why on low few end
 more_end a b m n p q (fault.Unmade file why) on low few end = on end
 more_end a b m n p q fault.NoThread on low few end = tt
@@ -131,12 +131,12 @@ module _ (writes : Bool) (transactions points : ℕ) where
   device_stops given there is = subst (IsStop writes transactions points) (sym is) there
 
 -- a file that was lost ends it
-pub lost_ends : (name : FileName) (given : Fault) → IsFileLost name given → IsThreadsEnd true 0 0 given
+pub lost_ends : (name : FileName) (given : ThreadsFault) → IsFileLost name given → IsThreadsEnd true 0 0 given
 lost_ends name (fault.Refused why) lost = device_stops true 0 0 why refl lost
 lost_ends name (fault.Unmade file why) lost = refl
 lost_ends name fault.NoThread lost = absurd lost
 
-pub lost_device : (name : FileName) (given : Fault) (why : Refusal) → given ≡ fault.Refused why → why ≡ Device → IsFileLost name given
+pub lost_device : (name : FileName) (given : ThreadsFault) (why : Refusal) → given ≡ fault.Refused why → why ≡ Device → IsFileLost name given
 lost_device name given why is device = subst (IsFileLost name) (sym is) device
 
 -- what clients stop for
@@ -196,11 +196,11 @@ collapser_stops st points seen before after given stopped (inl none) = elim stop
 ]
 
 -- what the checkpointer stops for, who takes some of the points
-pub point_ends : (has_log there : Bool) (n some points : ℕ) (given : Fault) → some ≤ points → IsThreadsEnd there 0 some given → IsThreadsEnd (has_log || there) n points given
+pub point_ends : (has_log there : Bool) (n some points : ℕ) (given : ThreadsFault) → some ≤ points → IsThreadsEnd there 0 some given → IsThreadsEnd (has_log || there) n points given
 point_ends has_log there n some points given low end = more_end there (has_log || there) 0 n some points given (right_true has_log there) (omega arith) low end
 
 -- what keeps the hands of a run from their end is a cause for the whole run
-pub hands_end : (hands out : Bool) (n points : ℕ) (given : Fault) → IsThreadsEnd hands n points given → IsThreadsEnd (hands || out) n points given
+pub hands_end : (hands out : Bool) (n points : ℕ) (given : ThreadsFault) → IsThreadsEnd hands n points given → IsThreadsEnd (hands || out) n points given
 hands_end hands out n points given end = more_end hands (hands || out) n n points points given (left_true hands out) (omega arith) (omega arith) end
 
 -- and so is what the logger stops for

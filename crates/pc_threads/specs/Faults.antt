@@ -4,11 +4,11 @@ use Rattle.pc_types.specs.declared.limits.TheConstants.{MOST_POINTS}
 use Rattle.pc_types.specs.declared.refusal.Refusal.{Refusal}
 use Rattle.pc_types.specs.declared.refusal.Refusal.TheVariants as refusal
 use Rattle.pc_texts.specs.declared.file_names.FileName.{FileName}
-use Rattle.pc_threads.specs.declared.fault.Fault.{Fault}
-use Rattle.pc_threads.specs.declared.fault.Fault.TheVariants as fault
+use Rattle.pc_threads.specs.declared.fault.ThreadsFault.{ThreadsFault}
+use Rattle.pc_threads.specs.declared.fault.ThreadsFault.TheVariants as fault
 
 -- the file of this name can't be made, or it can't be written
-abbrev pub IsFileLost : FileName → Fault → Type 0
+abbrev pub IsFileLost : FileName → ThreadsFault → Type 0
 IsFileLost name (fault.Refused why) = why ≡ refusal.Device
 IsFileLost name (fault.Unmade file why) = file ≡ name
 IsFileLost name fault.NoThread = ⊥
@@ -27,7 +27,7 @@ IsStop writes transactions points refusal.NoFile = 0 < points
 IsStop writes transactions points other = ⊥
 
 -- the fault that this is of the run: besides, a file that is to be written can't be made, or a thread can't be started
-abbrev pub IsThreadsEnd : Bool → ℕ → ℕ → Fault → Type 0
+abbrev pub IsThreadsEnd : Bool → ℕ → ℕ → ThreadsFault → Type 0
 IsThreadsEnd writes transactions points (fault.Refused why) = IsStop writes transactions points why
 IsThreadsEnd writes transactions points (fault.Unmade file why) = IsTrue writes
 IsThreadsEnd writes transactions points fault.NoThread = ⊤

@@ -8,7 +8,7 @@ use std::alloc::{AllocError, AllocFailed};
 
 /// Why a run failed.
 #[derive(Clone, Copy, Debug, PartialEq, Eq)]
-pub enum Fault {
+pub enum ThreadsFault {
     /// The workload can't be had, a file can't be written, memory ran out, or another call was refused.
     Refused(Refusal),
     /// The file can't be made.
@@ -17,32 +17,32 @@ pub enum Fault {
     NoThread,
 }
 
-impl From<Refusal> for Fault {
-    ghost use Rattle.pc_threads.specs.declared.fault.Fault.TheVariants.{Refused};
+impl From<Refusal> for ThreadsFault {
+    ghost use Rattle.pc_threads.specs.declared.fault.ThreadsFault.TheVariants.{Refused};
 
     ghost from_gives = { λ why fault. fault ≡ Refused why };
 
-    fn from(why: Refusal) -> Fault {
-        Fault::Refused(why)
+    fn from(why: Refusal) -> ThreadsFault {
+        ThreadsFault::Refused(why)
     }
 }
 
-impl From<AllocError> for Fault {
-    ghost use Rattle.pc_threads.specs.declared.fault.Fault.TheVariants.{Refused};
+impl From<AllocError> for ThreadsFault {
+    ghost use Rattle.pc_threads.specs.declared.fault.ThreadsFault.TheVariants.{Refused};
 
     ghost from_gives = { λ _ fault. fault ≡ Refused OutOfMemory };
 
-    fn from(_e: AllocError) -> Fault {
-        Fault::Refused(Refusal::OutOfMemory)
+    fn from(_e: AllocError) -> ThreadsFault {
+        ThreadsFault::Refused(Refusal::OutOfMemory)
     }
 }
 
-impl<T: Drop> From<AllocFailed<T>> for Fault {
-    ghost use Rattle.pc_threads.specs.declared.fault.Fault.TheVariants.{Refused};
+impl<T: Drop> From<AllocFailed<T>> for ThreadsFault {
+    ghost use Rattle.pc_threads.specs.declared.fault.ThreadsFault.TheVariants.{Refused};
 
     ghost from_gives = { λ _ fault. fault ≡ Refused OutOfMemory };
 
-    fn from(_e: AllocFailed<T>) -> Fault {
-        Fault::Refused(Refusal::OutOfMemory)
+    fn from(_e: AllocFailed<T>) -> ThreadsFault {
+        ThreadsFault::Refused(Refusal::OutOfMemory)
     }
 }

@@ -8,9 +8,9 @@ ghost use Rattle.pc_part.specs.Texts.{part_text};
 ghost use Rattle.pc_texts.specs.declared.file_names.FileName.TheVariants as file;
 ghost use Rattle.pc_threads.specs.Faults.{IsFileLost};
 ghost use Rattle.pc_threads.specs.Files.{KeepsOtherFiles};
-ghost use Rattle.pc_threads.specs.declared.fault.Fault.TheVariants as Fault;
+ghost use Rattle.pc_threads.specs.declared.fault.ThreadsFault.TheVariants as ThreadsFault;
 
-use crate::fault::Fault;
+use crate::fault::ThreadsFault;
 use pc_part::Part;
 use pc_texts::FileName;
 use pc_types::{Point, Refusal, Tally};
@@ -47,25 +47,25 @@ pub trait NewFiles<F: Write> {
 pub fn make_file<F: Write, D: NewFiles<F>>(
     folder: &mut D,
     name: FileName,
-) -> Result<Tally<F>, Fault>
+) -> Result<Tally<F>, ThreadsFault>
     ensures blank { IfOk result (λ file. F.contents (inner_of file) ≡ D.blank) }
     ensures others { KeepsOtherFiles (D.holds folder.old) (D.holds folder.new) name }
     ensures lost { IfErr result (IsFileLost name) }
 {
     match folder.make(&name) {
         Ok(file) => Ok(Tally::new(file)),
-        Err(why) => Err(Fault::Unmade(name, why)),
+        Err(why) => Err(ThreadsFault::Unmade(name, why)),
     }
 }
 
 // What was written goes out of whatever keeps it.
-fn flush_file<F: Write>(file: &mut Tally<F>) -> Result<(), Fault>
+fn flush_file<F: Write>(file: &mut Tally<F>) -> Result<(), ThreadsFault>
     ensures stays { Keeps (F.contents (inner_of file.old)) (F.contents (inner_of file.new)) }
-    ensures device { IfErr result (λ fault. fault ≡ Fault.Refused Device) }
+    ensures device { IfErr result (λ fault. fault ≡ ThreadsFault.Refused Device) }
 {
     match file.flush() {
         Ok(()) => Ok(()),
-        Err(_) => Err(Fault::Refused(Refusal::Device)),
+        Err(_) => Err(ThreadsFault::Refused(Refusal::Device)),
     }
 }
 
@@ -74,7 +74,7 @@ pub fn finish_file<F: Write + Drop, D: NewFiles<F>>(
     folder: &mut D,
     name: FileName,
     file: Tally<F>,
-) -> Result<(), Fault>
+) -> Result<(), ThreadsFault>
     ensures whole { OnOk result ((text : List ℕ) → Appends D.blank (F.contents (inner_of file)) text → D.holds folder.new name text) }
     ensures others { KeepsOtherFiles (D.holds folder.old) (D.holds folder.new) name }
     ensures lost { IfErr result (IsFileLost name) }
@@ -83,7 +83,7 @@ pub fn finish_file<F: Write + Drop, D: NewFiles<F>>(
     flush_file(&mut file)?;
     match folder.finish(&name, file.into_inner()) {
         Ok(()) => Ok(()),
-        Err(why) => Err(Fault::Unmade(name, why)),
+        Err(why) => Err(ThreadsFault::Unmade(name, why)),
     }
 }
 
@@ -92,7 +92,7 @@ pub fn write_part<F: Write + Drop, D: NewFiles<F>>(
     folder: &mut D,
     point: Point,
     part: &Part,
-) -> Result<(), Fault>
+) -> Result<(), ThreadsFault>
     requires { part.now.points ≡ set.insert set.empty point }
     ensures whole { OnOk result (D.holds folder.new (file.Part point) (part_text part.now)) }
     ensures others { KeepsOtherFiles (D.holds folder.old) (D.holds folder.new) (file.Part point) }

@@ -10,7 +10,7 @@ mod room;
 mod threads;
 
 pub use clients::{Ran, Seated, Seating, Worker, seat_workers};
-pub use fault::Fault;
+pub use fault::ThreadsFault;
 pub use files::{NewFiles, finish_file, make_file, write_part};
 pub use hands::{Collapser, Hands, Seat, hands_of};
 pub use points::Checkpointer;

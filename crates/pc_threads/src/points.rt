@@ -7,7 +7,7 @@ ghost use Rattle.pc_texts.specs.declared.file_names.FileName.TheVariants as file
 ghost use Rattle.pc_threads.specs.Faults.{IsThreadsEnd};
 ghost use Rattle.pc_threads.specs.Files.{HasParts, HasWritten};
 
-use crate::fault::Fault;
+use crate::fault::ThreadsFault;
 use crate::files::{NewFiles, write_part};
 use crate::hands::Seat;
 use crate::room::Room;
@@ -42,7 +42,7 @@ fn write_point<N: StoreName, F: Write + Drop, D: NewFiles<F>, G: Gate, R: Wait>(
     folder: &mut D,
     written: &mut Vec<PartTicket<N>>,
     point: Point,
-) -> Result<(), Fault>
+) -> Result<(), ThreadsFault>
     ensures parts { HasParts (D.holds folder.old) written.old.items → point ≡ length written.old.items + 1 → OnOk result (HasParts (D.holds folder.new) written.new.items) }
     ensures count { OnOk result (length written.new.items ≡ length written.old.items + 1) }
     ensures base { (text : List ℕ) → D.holds folder.old file.Base text → D.holds folder.new file.Base text }
@@ -76,7 +76,7 @@ impl<'a, N: StoreName, D: Drop> Checkpointer<'a, N, D> {
         rt: &R,
         room: &Room<'_, N, G>,
         point: Point,
-    ) -> Result<Checkpointer<'a, N, D>, Fault>
+    ) -> Result<Checkpointer<'a, N, D>, ThreadsFault>
     where
         D: NewFiles<F>,
         requires { phase_of self.at_store ≡ Rest }
@@ -137,7 +137,7 @@ pub(crate) fn take_points<
     checkpointer: Checkpointer<'a, N, D>,
     taken: u32,
     last: u32,
-) -> Result<Checkpointer<'a, N, D>, Fault>
+) -> Result<Checkpointer<'a, N, D>, ThreadsFault>
     requires order { taken ≤ last }
     requires rest { phase_of checkpointer.at_store ≡ Rest }
     ensures rest { IfOk result (λ later. phase_of later.at_store ≡ Rest) }
@@ -149,7 +149,7 @@ pub(crate) fn take_points<
     let mut checkpointer = checkpointer;
     for others in taken..last {
         let Ok(point) = u16::try_from(others + 1) else {
-            return Err(Fault::Refused(Refusal::Full));
+            return Err(ThreadsFault::Refused(Refusal::Full));
         };
         checkpointer.await_commits(rt, room);
         checkpointer = checkpointer.take(rt, room, Point(point))?;

@@ -11,7 +11,7 @@ ghost use Rattle.pc_threads.specs.Files.{HasWritten};
 ghost use Rattle.pc_threads.specs.Logs.{HasLogged};
 
 use crate::clients::{Ran, Worker};
-use crate::fault::Fault;
+use crate::fault::ThreadsFault;
 use crate::files::NewFiles;
 use crate::hands::{Collapser, Hands, Seat};
 use crate::points::{Checkpointer, take_points};
@@ -141,7 +141,7 @@ fn join_collapsers<N: StoreName, R: Threads>(
     rt: &R,
     alloc: Global,
     handles: Vec<PromisedHandle<Result<Vec<PartTicket<N>>, Refusal>, UpTo>>,
-) -> Result<Vec<PartTicket<N>>, Fault>
+) -> Result<Vec<PartTicket<N>>, ThreadsFault>
     ensures only { (points : ℕ) → All (λ handle. handle.promise.0 ≡ points) handles.items → IfOk result (λ held. HaveOnlyTo points held.items) }
     ensures ended { (points : ℕ) → All (λ handle. handle.promise.0 ≡ points) handles.items → IfErr result (IsThreadsEnd false 0 points) }
 {
@@ -169,7 +169,7 @@ fn join_workers<N: StoreName, R: Threads>(
     rt: &R,
     alloc: Global,
     handles: Vec<PromisedHandle<Result<Ran<N>, Refusal>, ClientsOf<N>>>,
-) -> Result<Ran<N>, Fault>
+) -> Result<Ran<N>, ThreadsFault>
     ensures clients { IfOk result (λ ran. HaveWorked N.name.setting (clients_in (map (λ handle. handle.promise.0.value) handles.items)) ran.given_up ran.sessions.items) }
     ensures ended { (has_log : Bool) → All (λ handle. handle.promise.1 ≡ has_log) handles.items → IfErr result (IsThreadsEnd has_log (transactions_in (clients_in (map (λ handle. handle.promise.0.value) handles.items))) 0) }
 {
@@ -203,7 +203,7 @@ fn run_workers<
     room: &'x Room<'x, N, G>,
     checkpointer: Checkpointer<'x, N, D>,
     workers: Vec<Worker<N>>,
-) -> Result<Worked<N, D>, Fault>
+) -> Result<Worked<N, D>, ThreadsFault>
     requires rest { phase_of checkpointer.at_store ≡ Rest }
     ensures clients { IfOk result (λ worked. HaveWorked N.name.setting (clients_in workers.items) worked.ran.given_up worked.ran.sessions.items) }
     ensures cycles { IfOk result (λ worked. HasCycled N.name.setting room.now.points checkpointer.entry.at_store worked.seat) }
@@ -215,7 +215,7 @@ fn run_workers<
     thread::scope(
         thread::scope_env(),
         rt,
-        |scope| -> Result<Worked<N, D>, Fault>
+        |scope| -> Result<Worked<N, D>, ThreadsFault>
             requires handles { handles.items ≡ [] }
             requires has_log { has_log ≡ is_some room.now.lag }
             requires rest { phase_of checkpointer.at_store ≡ Rest }
@@ -229,7 +229,7 @@ fn run_workers<
                 let given = Snapshot::of(&worker);
                 match scope.spawn_with(ClientsOf(given, has_log), move || worker.run(rt, room)) {
                     Ok(handle) => handles.push(handle)?,
-                    Err(_) => return Err(Fault::NoThread),
+                    Err(_) => return Err(ThreadsFault::NoThread),
                 }
             }
             let beside = points.saturating_sub(1);
@@ -262,7 +262,7 @@ fn run_hands<
     D: NewFiles<F> + Drop,
     G: Gate + Sync,
     R: Threads + Wait + Sync,
->(rt: &'x R, room: &'x Room<'x, N, G>, hands: Hands<'x, N, D>) -> Result<Rested<N, D>, Fault>
+>(rt: &'x R, room: &'x Room<'x, N, G>, hands: Hands<'x, N, D>) -> Result<Rested<N, D>, ThreadsFault>
     requires rest { phase_of hands.checkpointer.at_store ≡ Rest }
     ensures clients { IfOk result (λ rested. HaveWorked N.name.setting (clients_in hands.entry.workers.items) rested.worked.ran.given_up rested.worked.ran.sessions.items) }
     ensures cycles { IfOk result (λ rested. HasCycled N.name.setting room.now.points hands.entry.checkpointer.at_store rested.worked.seat) }
@@ -280,7 +280,7 @@ fn run_hands<
     thread::scope(
         thread::scope_env(),
         rt,
-        |scope| -> Result<Rested<N, D>, Fault>
+        |scope| -> Result<Rested<N, D>, ThreadsFault>
             requires handles { handles.items ≡ [] }
             requires points { points ≡ room.now.points }
             requires rest { phase_of checkpointer.at_store ≡ Rest }
@@ -303,12 +303,12 @@ fn run_hands<
                     Ok(handle) => {
                         let Ok(()) = handles.push(handle) else {
                             mark_end(rt, room.shared);
-                            return Err(Fault::Refused(Refusal::OutOfMemory));
+                            return Err(ThreadsFault::Refused(Refusal::OutOfMemory));
                         };
                     }
                     Err(_) => {
                         mark_end(rt, room.shared);
-                        return Err(Fault::NoThread);
+                        return Err(ThreadsFault::NoThread);
                     }
                 }
             }
@@ -336,7 +336,7 @@ pub fn run_threads<
     room: &'x Room<'x, N, G>,
     hands: Hands<'x, N, D>,
     logger: Logger<N, F>,
-) -> Result<(Rested<N, D>, Written<N, F>), Fault>
+) -> Result<(Rested<N, D>, Written<N, F>), ThreadsFault>
     requires rest { phase_of hands.checkpointer.at_store ≡ Rest }
     ensures clients { IfOk result (λ r. HaveWorked N.name.setting (clients_in hands.entry.workers.items) r.0.worked.ran.given_up r.0.worked.ran.sessions.items) }
     ensures cycles { IfOk result (λ r. HasCycled N.name.setting room.now.points hands.entry.checkpointer.at_store r.0.worked.seat) }
@@ -352,7 +352,7 @@ pub fn run_threads<
     thread::scope(
         thread::scope_env(),
         rt,
-        |scope| -> Result<(Rested<N, D>, Written<N, F>), Fault>
+        |scope| -> Result<(Rested<N, D>, Written<N, F>), ThreadsFault>
             requires { phase_of hands.checkpointer.at_store ≡ Rest }
             ensures clients { IfOk result (λ r. HaveWorked N.name.setting (clients_in hands.entry.workers.items) r.0.worked.ran.given_up r.0.worked.ran.sessions.items) }
             ensures cycles { IfOk result (λ r. HasCycled N.name.setting room.entry.now.points hands.entry.checkpointer.at_store r.0.worked.seat) }
@@ -363,7 +363,7 @@ pub fn run_threads<
         {
             let given = Snapshot::of(&logger);
             let Ok(logging) = scope.spawn_with(LogOf(given), move || logger.run(rt, room)) else {
-                return Err(Fault::NoThread);
+                return Err(ThreadsFault::NoThread);
             };
             let ended = run_hands(rt, room, hands);
             mark_end(rt, room.shared);
