@@ -3,3 +3,4 @@ pub mod Faults
 pub mod Files
 pub mod Hands
 pub mod Logs
+pub mod Rested

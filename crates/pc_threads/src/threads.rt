@@ -1,14 +1,13 @@
 //! The threads of a run: workers beside the checkpointer, and beside all of them collapsers and the logger.
-ghost use Rattle.std.specs.Prelude.{◌≡◌, ◌||◌, ℕ, Bool, false, [], All, Option, IfErr, IfOk, is_some, map};
+ghost use Rattle.std.specs.Prelude.{◌≡◌, ◌||◌, ℕ, Bool, false, [], All, IfErr, IfOk, is_some, map};
 ghost use Rattle.pc_board.specs.Passes.{IsOfBoard};
 ghost use Rattle.pc_types.specs.declared.Phase.TheVariants.{Rest};
 ghost use Rattle.pc_model.specs.History.{phase_of};
-ghost use Rattle.pc_workers.specs.Checkpointing.{HasCycled};
 ghost use Rattle.pc_workers.specs.Covering.{HaveOnlyTo};
 ghost use Rattle.pc_threads.specs.Clients.{HaveWorked, clients_in, transactions_in};
 ghost use Rattle.pc_threads.specs.Faults.{IsThreadsEnd, IsStop};
-ghost use Rattle.pc_threads.specs.Files.{HasWritten};
 ghost use Rattle.pc_threads.specs.Logs.{HasLogged};
+ghost use Rattle.pc_threads.specs.Rested.{IsLeftByHands, IsLeftByWorkers};
 
 use crate::clients::{Ran, Worker};
 use crate::fault::ThreadsFault;
@@ -205,9 +204,7 @@ fn run_workers<
     workers: Vec<Worker<N>>,
 ) -> Result<Worked<N, D>, ThreadsFault>
     requires rest { phase_of checkpointer.at_store ≡ Rest }
-    ensures clients { IfOk result (λ worked. HaveWorked N.name.setting (clients_in workers.items) worked.ran.given_up worked.ran.sessions.items) }
-    ensures cycles { IfOk result (λ worked. HasCycled N.name.setting room.now.points checkpointer.entry.at_store worked.seat) }
-    ensures points { (first : Option D) → HasWritten D.holds 0 first checkpointer.entry.folder checkpointer.entry.written.items → IfOk result (λ worked. HasWritten D.holds room.now.points first worked.folder worked.written.items) }
+    ensures left { IfOk result (IsLeftByWorkers D.holds N.name.setting room.now.points workers.items checkpointer.entry) }
     ensures ended { checkpointer.entry.at_store ≡ [] → IfErr result (IsThreadsEnd (is_some room.now.lag || is_some checkpointer.entry.folder) (transactions_in (clients_in workers.items)) room.now.points) }
 {
     let handles = Vec::with_capacity(room.alloc, workers.len())?;
@@ -219,9 +216,7 @@ fn run_workers<
             requires handles { handles.items ≡ [] }
             requires has_log { has_log ≡ is_some room.now.lag }
             requires rest { phase_of checkpointer.at_store ≡ Rest }
-            ensures cycles { IfOk result (λ worked. HasCycled N.name.setting points checkpointer.entry.at_store worked.seat) }
-            ensures clients { IfOk result (λ worked. HaveWorked N.name.setting (clients_in workers.items) worked.ran.given_up worked.ran.sessions.items) }
-            ensures points { (first : Option D) → HasWritten D.holds 0 first checkpointer.entry.folder checkpointer.entry.written.items → IfOk result (λ worked. HasWritten D.holds points first worked.folder worked.written.items) }
+            ensures left { IfOk result (IsLeftByWorkers D.holds N.name.setting points workers.items checkpointer.entry) }
             ensures ended { checkpointer.entry.at_store ≡ [] → IfErr result (IsThreadsEnd (has_log || is_some checkpointer.entry.folder) (transactions_in (clients_in workers.items)) points) }
         {
             let mut handles = handles;
@@ -264,10 +259,7 @@ fn run_hands<
     R: Threads + Wait + Sync,
 >(rt: &'x R, room: &'x Room<'x, N, G>, hands: Hands<'x, N, D>) -> Result<Rested<N, D>, ThreadsFault>
     requires rest { phase_of hands.checkpointer.at_store ≡ Rest }
-    ensures clients { IfOk result (λ rested. HaveWorked N.name.setting (clients_in hands.entry.workers.items) rested.worked.ran.given_up rested.worked.ran.sessions.items) }
-    ensures cycles { IfOk result (λ rested. HasCycled N.name.setting room.now.points hands.entry.checkpointer.at_store rested.worked.seat) }
-    ensures points { (first : Option D) → HasWritten D.holds 0 first hands.entry.checkpointer.folder hands.entry.checkpointer.written.items → IfOk result (λ rested. HasWritten D.holds room.now.points first rested.worked.folder rested.worked.written.items) }
-    ensures held { IfOk result (λ rested. HaveOnlyTo room.now.points rested.held.items) }
+    ensures left { IfOk result (IsLeftByHands D.holds N.name.setting room.now.points hands.entry.workers.items hands.entry.checkpointer) }
     ensures ended { hands.entry.checkpointer.at_store ≡ [] → IfErr result (IsThreadsEnd (is_some room.now.lag || is_some hands.entry.checkpointer.folder) (transactions_in (clients_in hands.entry.workers.items)) room.now.points) }
 {
     let Hands {
@@ -284,10 +276,7 @@ fn run_hands<
             requires handles { handles.items ≡ [] }
             requires points { points ≡ room.now.points }
             requires rest { phase_of checkpointer.at_store ≡ Rest }
-            ensures cycles { IfOk result (λ rested. HasCycled N.name.setting room.entry.now.points checkpointer.entry.at_store rested.worked.seat) }
-            ensures clients { IfOk result (λ rested. HaveWorked N.name.setting (clients_in workers.items) rested.worked.ran.given_up rested.worked.ran.sessions.items) }
-            ensures points { (first : Option D) → HasWritten D.holds 0 first checkpointer.entry.folder checkpointer.entry.written.items → IfOk result (λ rested. HasWritten D.holds room.entry.now.points first rested.worked.folder rested.worked.written.items) }
-            ensures held { IfOk result (λ rested. HaveOnlyTo points rested.held.items) }
+            ensures left { IfOk result (IsLeftByHands D.holds N.name.setting room.entry.now.points workers.items checkpointer.entry) }
             ensures ended { checkpointer.entry.at_store ≡ [] → IfErr result (IsThreadsEnd (is_some room.entry.now.lag || is_some checkpointer.entry.folder) (transactions_in (clients_in workers.items)) room.entry.now.points) }
         {
             let mut handles = handles;
@@ -338,10 +327,7 @@ pub fn run_threads<
     logger: Logger<N, F>,
 ) -> Result<(Rested<N, D>, Written<N, F>), ThreadsFault>
     requires rest { phase_of hands.checkpointer.at_store ≡ Rest }
-    ensures clients { IfOk result (λ r. HaveWorked N.name.setting (clients_in hands.entry.workers.items) r.0.worked.ran.given_up r.0.worked.ran.sessions.items) }
-    ensures cycles { IfOk result (λ r. HasCycled N.name.setting room.now.points hands.entry.checkpointer.at_store r.0.worked.seat) }
-    ensures points { (first : Option D) → HasWritten D.holds 0 first hands.entry.checkpointer.folder hands.entry.checkpointer.written.items → IfOk result (λ r. HasWritten D.holds room.now.points first r.0.worked.folder r.0.worked.written.items) }
-    ensures held { IfOk result (λ r. HaveOnlyTo room.now.points r.0.held.items) }
+    ensures left { IfOk result (λ r. IsLeftByHands D.holds N.name.setting room.now.points hands.entry.workers.items hands.entry.checkpointer r.0) }
     ensures logged { IfOk result (λ r. HasLogged F.contents N.name.setting.run logger.out r.1.out r.1.pass) }
     ensures ended { hands.entry.checkpointer.at_store ≡ [] → IfErr result (IsThreadsEnd (is_some room.now.lag || is_some hands.entry.checkpointer.folder || is_some logger.out) (transactions_in (clients_in hands.entry.workers.items)) room.now.points) }
 {
@@ -354,10 +340,7 @@ pub fn run_threads<
         rt,
         |scope| -> Result<(Rested<N, D>, Written<N, F>), ThreadsFault>
             requires { phase_of hands.checkpointer.at_store ≡ Rest }
-            ensures clients { IfOk result (λ r. HaveWorked N.name.setting (clients_in hands.entry.workers.items) r.0.worked.ran.given_up r.0.worked.ran.sessions.items) }
-            ensures cycles { IfOk result (λ r. HasCycled N.name.setting room.entry.now.points hands.entry.checkpointer.at_store r.0.worked.seat) }
-            ensures points { (first : Option D) → HasWritten D.holds 0 first hands.entry.checkpointer.folder hands.entry.checkpointer.written.items → IfOk result (λ r. HasWritten D.holds room.entry.now.points first r.0.worked.folder r.0.worked.written.items) }
-            ensures held { IfOk result (λ r. HaveOnlyTo room.entry.now.points r.0.held.items) }
+            ensures left { IfOk result (λ r. IsLeftByHands D.holds N.name.setting room.entry.now.points hands.entry.workers.items hands.entry.checkpointer r.0) }
             ensures logged { IfOk result (λ r. HasLogged F.contents N.name.setting.run logger.out r.1.out r.1.pass) }
             ensures ended { hands.entry.checkpointer.at_store ≡ [] → IfErr result (IsThreadsEnd (is_some room.entry.now.lag || is_some hands.entry.checkpointer.folder || is_some logger.out) (transactions_in (clients_in hands.entry.workers.items)) room.entry.now.points) }
         {

@@ -2,6 +2,7 @@ use Rattle.std.proofs.Common.{◌≡◌, ◌≤◌, false, [], ◌∷◌, All, s
 use Rattle.std.specs.Prelude.{◌||◌, is_some}
 use Rattle.std.proofs.lemmas.Result.{err_from_is_err_and}
 use Rattle.std.proofs.lemmas.List.Elements.{All-nil, All-cons, All-append}
+use Rattle.pc_workers.specs.Covering.{HaveOnlyTo}
 use Rattle.pc_threads.specs.Clients.{clients_in, transactions_in}
 use Rattle.pc_threads.proofs.StopLaws.{from_none, more_end}
 use Rattle.pc_threads.proofs.threads.fn.run_hands.scope.Goals as goal
@@ -20,18 +21,16 @@ loop-collapser-preserved g c =
 
 pub returns : goal.returns
 returns g c =
+    let only = c.in_ok-held.ensures.only c.captures.points c.loop-collapser.invariant.2 in
     record {
-      clients = c.in_ok-worked.ensures.clients;
-      cycles = c.in_ok-worked.ensures.cycles;
-      points = c.in_ok-worked.ensures.points;
-      held = c.in_ok-held.ensures.only c.captures.points c.loop-collapser.invariant.2;
+      left = record { worked = c.in_ok-worked.ensures.left; held = subst (λ n. HaveOnlyTo n c.in_ok-held.held.items) c.requires.points only };
       ended = λ fresh. tt;
     }
 
 pub returns-in_err-worked : goal.returns-in_err-worked
 returns-in_err-worked g c =
     let p = err_from_is_err_and c.from_residual.result c.from_residual.ensures.1 in
-    rw (p.1, p.2) (record { cycles = tt; clients = tt; points = λ first had. tt; held = tt; ended = λ fresh. c.in_err-worked.ensures.ended fresh })
+    rw (p.1, p.2) (record { left = tt; ended = λ fresh. c.in_err-worked.ensures.ended fresh })
 
 pub returns-in_err-held : goal.returns-in_err-held
 returns-in_err-held g c =
@@ -42,10 +41,7 @@ returns-in_err-held g c =
     let same : points ≡ c.captures.room.now.points = c.requires.points in
     rw (p.1, p.2)
     (record {
-      cycles = tt;
-      clients = tt;
-      points = λ first had. tt;
-      held = tt;
+      left = tt;
       ended = λ fresh.
           more_end false writes 0 n points c.captures.room.now.points c.in_err-held.field-0.0 (from_none writes) (omega arith) (omega (arith, same)) (c.in_err-held.ensures.ended points c.loop-collapser.invariant.2);
     })

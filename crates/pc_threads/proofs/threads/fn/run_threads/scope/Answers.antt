@@ -14,10 +14,7 @@ returns-in_err-written g c =
     let its : is_some c.in-Ok.logging.promise.0.value.out ≡ is_some c.captures.logger.out = ap (λ promise. is_some promise.0.value.out) c.in-Ok.ensures.ok ∙ ap (λ logger. is_some logger.out) c.of-given.ensures in
     rw (p.1, p.2)
     (record {
-      clients = tt;
-      cycles = tt;
-      points = λ first had. tt;
-      held = tt;
+      left = tt;
       logged = tt;
       ended = λ fresh.
           logger_ends (is_some c.captures.room.now.lag || is_some hands.checkpointer.folder) (is_some c.captures.logger.out) (transactions_in (clients_in hands.workers.items)) c.captures.room.now.points

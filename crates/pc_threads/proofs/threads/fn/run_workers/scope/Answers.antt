@@ -42,11 +42,15 @@ returns g c =
     let all : promised ≡ c.captures.workers.items =
     sym (append-nil promised) ∙ ap (λ (more : List (List Client)). promised ++ more) (sym none) ∙ c.loop-worker.invariant.2 ∙ c.into_iter-worker-iterator.ensures.into_iter_gives.0 in
     record {
-      clients = subst (λ (workers : List (List Client)). HaveWorked g.N.StoreName.name.setting (clients_in workers) c.in_ok-ran.ran.given_up c.in_ok-ran.ran.sessions.items) all c.in_ok-ran.ensures.clients;
-      cycles =
-          c.in_ok-checkpointer-2.ensures.cycles c.captures.checkpointer.at_store
-          (c.in_ok-checkpointer.ensures.cycles c.captures.checkpointer.at_store (cycled_none g.N.StoreName.name.setting c.captures.checkpointer.at_store c.requires.rest));
-      points = λ first had. c.in_ok-checkpointer-2.ensures.written first (c.in_ok-checkpointer.ensures.written first had);
+      left =
+          record {
+            clients =
+                subst (λ (workers : List (List Client)). HaveWorked g.N.StoreName.name.setting (clients_in workers) c.in_ok-ran.ran.given_up c.in_ok-ran.ran.sessions.items) all c.in_ok-ran.ensures.clients;
+            cycles =
+                c.in_ok-checkpointer-2.ensures.cycles c.captures.checkpointer.at_store
+                (c.in_ok-checkpointer.ensures.cycles c.captures.checkpointer.at_store (cycled_none g.N.StoreName.name.setting c.captures.checkpointer.at_store c.requires.rest));
+            files = λ first had. c.in_ok-checkpointer-2.ensures.written first (c.in_ok-checkpointer.ensures.written first had);
+          };
       ended = λ fresh. tt;
     }
 
@@ -64,9 +68,7 @@ returns-in_err-ran g c =
     let n = transactions_in (clients_in c.captures.workers.items) in
     rw (p.1, p.2)
     (record {
-      cycles = tt;
-      clients = tt;
-      points = λ first had. tt;
+      left = tt;
       ended = λ fresh.
           more_end has_log (has_log || there) n n 0 c.captures.points fault (left_true has_log there) (omega arith) (omega arith)
           (subst (λ (workers : List (List Client)). IsThreadsEnd has_log (transactions_in (clients_in workers)) 0 fault) all (c.in_err-ran.ensures.ended has_log c.loop-worker.invariant.3));
@@ -81,9 +83,7 @@ returns-in_err-checkpointer g c =
     let low : c.saturating_sub-beside.result ≤ points = search rules in
     rw (p.1, p.2)
     (record {
-      cycles = tt;
-      clients = tt;
-      points = λ first had. tt;
+      left = tt;
       ended = λ fresh.
           let none : HasCycled st 0 [] seat = subst (λ (h : History). HasCycled st 0 h seat) fresh (cycled_none st seat c.requires.rest) in
           point_ends c.captures.has_log (is_some c.captures.checkpointer.folder) (transactions_in (clients_in c.captures.workers.items)) c.saturating_sub-beside.result points c.in_err-checkpointer.field-0.0 low
@@ -99,9 +99,7 @@ returns-in_err-checkpointer-2 g c =
     let fault = c.in_err-checkpointer-2.field-0.0 in
     rw (p.1, p.2)
     (record {
-      cycles = tt;
-      clients = tt;
-      points = λ first had. tt;
+      left = tt;
       ended = λ fresh.
           let none : HasCycled st 0 [] seat = subst (λ (h : History). HasCycled st 0 h seat) fresh (cycled_none st seat c.requires.rest) in
           point_ends c.captures.has_log (is_some c.captures.checkpointer.folder) (transactions_in (clients_in c.captures.workers.items)) points points fault (omega arith)
