@@ -91,8 +91,9 @@ class Times(InFolder):
 
     def test_checks_at_work(self):
         """Those below a process are noted, with the most that was seen of them."""
-        words = ["/kit/bin/rattle", "-c", f"sleep {SECONDS}; true", "--crate-name", "pc_low"]
-        settings = {"stdin": subprocess.DEVNULL, "start_new_session": True}
+        # A shell that waits for a line, and so starts no process of its own: until that runs its program it has the shell's words.
+        words = ["/kit/bin/rattle", "-c", "read line", "--crate-name", "pc_low"]
+        settings = {"stdin": subprocess.PIPE, "start_new_session": True}
         with subprocess.Popen(words, executable="/bin/sh", **settings) as check, subprocess.Popen(["sleep", str(SECONDS)], **settings) as idle:
             try:
                 key = (str(check.pid), "pc_low", "proof")
