@@ -1,6 +1,6 @@
 //! The sessions, with the transactions that they have open: over the records in which these write in place, and in the phases that
 //! count them.
-ghost use Rattle.std.specs.Prelude.{◌≡◌, ◌<◌, ◌≤◌, ◌⊎◌, ◌-◌, ◌+◌, length, [], ◌∷◌, option_map, option_copied, None, Some, List, ℕ, IfOk, IfErr, OnErr, OnOk, is_none, replicate, true, false};
+ghost use Rattle.std.specs.Prelude.{◌≡◌, ◌<◌, ◌≤◌, ◌⊎◌, ◌-◌, ◌+◌, length, [], ◌∷◌, option_map, option_copied, None, Some, List, ℕ, IfOk, IfErr, OnErr, OnOk, is_none, is_some, replicate, true, false};
 ghost use Rattle.smallvec.specs.SmallVec.{HasRoomFor};
 ghost use Rattle.pc_types.specs.declared.limits.TheConstants.{MOST_KEYS, MOST_SESSIONS, MOST_TRANSACTIONS, MOST_WRITES};
 ghost use Rattle.pc_types.specs.declared.Mode.TheVariants.{Shared, Exclusive};
@@ -132,6 +132,16 @@ impl Sessions {
         ensures { result ≡ is_waiting self.now.kept.rows transaction }
     {
         self.records.is_waiting(transaction)
+    }
+
+    /// Whether the session's open transaction has written the key; false where it has none open.
+    pub(crate) fn has_written(&self, session: SessionNo, key: &Key) -> bool
+        ensures { result ≡ is_some (written (writes_in (own self.now session)) key.now) }
+    {
+        match self.active(session) {
+            Some(transaction) => transaction.writes.has(key),
+            None => false,
+        }
     }
 
     /// Whether a write of the key would be of a 257th key of the session's open transaction.

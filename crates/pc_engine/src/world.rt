@@ -1,16 +1,17 @@
 //! The world, and its run over a list of events.
-ghost use Rattle.std.specs.Prelude.{◌≡◌, ◌≤◌, ◌<◌, ◌⊎◌, ◌↔◌, [], List, ℕ, length, true, IsTrue, All, None, Some, Err, IfOk, IfErr, option_copied};
+ghost use Rattle.std.specs.Prelude.{◌≡◌, ◌≤◌, ◌<◌, ◌⊎◌, ◌↔◌, [], List, ℕ, length, true, IsTrue, All, None, Some, Err, IfOk, IfErr, option_copied, is_some};
 ghost use Rattle.pc_types.specs.declared.limits.TheConstants.{MOST_LOG_ENTRIES};
 ghost use Rattle.pc_model.specs.Maps.{get, len};
 ghost use Rattle.pc_model.specs.Files.{file_at};
-ghost use Rattle.pc_model.specs.Database.{KeysRise, database_of};
+ghost use Rattle.pc_model.specs.Database.{KeysRise, database_of, written};
 ghost use Rattle.pc_model.specs.History.{History};
 ghost use Rattle.pc_model.specs.Limits.{IsInLimits};
 ghost use Rattle.pc_model.specs.FewWrites.{HasFewWrites};
 ghost use Rattle.pc_model.specs.Log.{after};
 ghost use Rattle.pc_log.specs.Laws.{IsLog};
 ghost use Rattle.pc_records.specs.Rows.{record_of, stored};
-ghost use Rattle.pc_engine.specs.Store.{setting_of};
+ghost use Rattle.pc_engine.specs.Sessions.{writes_in};
+ghost use Rattle.pc_engine.specs.Store.{active, setting_of};
 ghost use Rattle.pc_engine.specs.Stands.{Stands, Follows, IfRefused};
 ghost use Rattle.pc_engine.specs.Checks.{IsStoreSound};
 ghost use Rattle.pc_engine.specs.Runs.{starting, IsRun};
@@ -22,7 +23,9 @@ use pc_capture::{SharedPart, Taken};
 use pc_log::Log;
 use pc_part::{Base, Part};
 use pc_phase::Change;
-use pc_types::{Entry, Event, FileNo, Key, MOST_KEYS, MOST_SESSIONS, Phase, Refusal, Reply, Value};
+use pc_types::{
+    Entry, Event, FileNo, Key, MOST_KEYS, MOST_SESSIONS, Phase, Refusal, Reply, SessionNo, Value,
+};
 use std::alloc::Global;
 use std::hash::RandomState;
 use std::marker::Model;
@@ -145,6 +148,13 @@ impl World {
         ensures lawful { (history : History) → Stands self.now history → IsLog result.now }
     {
         self.log.entries()
+    }
+
+    /// Whether the session's open transaction has written the key; false where it has none open.
+    pub fn has_written(&self, session: SessionNo, key: &Key) -> bool
+        ensures { result ≡ is_some (written (writes_in (active self.now session)) key.now) }
+    {
+        self.sessions.has_written(session, key)
     }
 
     /// The phase of the checkpoint's cycle.

@@ -4,3 +4,4 @@ mod Calling
 mod Growing
 mod Passing
 mod Worths
+pub mod OwnReading

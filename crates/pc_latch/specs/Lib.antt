@@ -1,3 +1,4 @@
 pub mod Cycles
 pub mod Tickets
 pub mod Batches
+pub mod OwnReads

@@ -4,15 +4,18 @@ ghost use mathlib.Core.List.{IsPrefix};
 ghost use Rattle.pc_types.specs.declared.Event.TheVariants.{Take};
 ghost use Rattle.pc_model.specs.FewWrites.{HasFewWrites};
 ghost use Rattle.pc_model.specs.Files.{file_at, shelf};
-ghost use Rattle.pc_model.specs.History.{History, log_of, phase_of};
+ghost use Rattle.pc_model.specs.History.{History, is_open, log_of, phase_of};
+ghost use Rattle.pc_model.specs.Receipts.{own_of};
 ghost use Rattle.pc_model.specs.Replies.{IsLegalHistory};
 ghost use Rattle.pc_model.specs.Calls.{step_of, session_of, counts, IsAnswered, IsBeginning, HasCallsOf};
 ghost use Rattle.pc_model.specs.ReplyKinds.{IsReplyTo};
 ghost use Rattle.pc_model.specs.SessionLaws.{IsNoJoin};
 ghost use Rattle.pc_engine.specs.Asking.{AsksOfOpen};
-ghost use Rattle.pc_engine.specs.Store.{setting_of};
+ghost use Rattle.pc_engine.specs.Sessions.{writes_in};
+ghost use Rattle.pc_engine.specs.Store.{active, setting_of};
 ghost use Rattle.pc_engine.specs.Stands.{Stands, Follows};
 ghost use Rattle.pc_tie.specs.Seats.{MovesOn};
+ghost use Rattle.pc_latch.specs.OwnReads.{reads_one_of};
 ghost use Rattle.pc_latch.specs.Batches.{batch};
 ghost use Rattle.pc_latch.specs.Cycles.{next_event, IsCalled, IsAdvance, IsTakeCalled};
 ghost use Rattle.pc_model.specs.Sets as set;
@@ -22,7 +25,7 @@ use crate::pass::{LogPass, next_of};
 use crate::ticket::PartTicket;
 use pc_engine::World;
 use pc_tie::{CheckpointerSeat, Keeper, Milestone, SessionSeat, StoreName, Tie, Witness};
-use pc_types::{Entry, Event, FileNo, Phase, Refusal, Reply, Step};
+use pc_types::{Entry, Event, FileNo, Phase, Refusal, Reply, SessionNo, Step};
 use std::alloc::Global;
 use std::marker::Model;
 
@@ -74,6 +77,16 @@ fn next_event(phase: Phase) -> Event
     }
 }
 
+// Whether the event reads a key that the session's open transaction has written.
+fn reads_own_write(world: &World, session: SessionNo, event: &Event) -> bool
+    ensures { result ≡ reads_one_of (writes_in (active world.now session)) event.now }
+{
+    match event {
+        Event::Get(_, key) => world.has_written(session, key),
+        _ => false,
+    }
+}
+
 impl<N: StoreName> Latched<N> {
     /// A world in which nothing has happened, and the keeper of its history.
     pub fn new(world: World, keeper: Keeper<N>) -> Latched<N>
@@ -86,14 +99,15 @@ impl<N: StoreName> Latched<N> {
 
     /// The session asks the step's event, and the step has its reply then, in place of the one that it had. Where the session
     /// has no room for the answer, the event is refused: with the cause that stands before, or else with `OutOfMemory`. What the
-    /// session has seen moves on by the step, where that counts.
+    /// session has seen moves on by the step, where that counts. It tells whether the event reads a key that the session's own
+    /// open transaction has written.
     pub fn call(
         &mut self,
         tie: &Tie<N>,
         session: &mut SessionSeat<N>,
         step: &mut Step,
         has_room: bool,
-    )
+    ) -> bool
         requires own { session_of step.old.event ≡ session.old.number }
         requires asks { has_room ≡ false → AsksOfOpen step.old.event }
         requires no_join { IsNoJoin step.old.event }
@@ -104,11 +118,14 @@ impl<N: StoreName> Latched<N> {
         ensures moves { MovesOn N.name.setting session.old.seen step.new session.new.seen }
         ensures answered { IsAnswered N.name.setting session.old.number session.old.seen step.new.event step.new.reply }
         ensures room { has_room ≡ false → counts step.new.reply ≡ false }
+        ensures own_write { is_open session.old.number session.old.seen ≡ true → result ≡ reads_one_of (own_of session.old.number session.old.seen).writes step.new.event }
     {
+        let own_write = reads_own_write(&self.world, session.number(), &step.event);
         let before = self.world.log().len() as u64;
         step.reply = ask(&mut self.world, &step.event, has_room);
         let after = self.world.log().len() as u64;
         self.keeper.note(tie, session, before, after, step);
+        own_write
     }
 
     // The checkpointer asks the event.

@@ -10,7 +10,7 @@ ghost use Rattle.pc_records.specs.Floor.{with_spot, changed, let_go, asked, queu
 use crate::slots;
 use pc_chain::Dirty;
 use pc_locks::Locks;
-use pc_slots::{Cell, Stage, Writing};
+use pc_slots::{Aside, Cell, Spares, Stage, Writing};
 use pc_table::Table;
 use pc_types::{
     Class, Key, MOST_KEYS, Mode, Outcome, Point, Refusal, SlotId, TxnNo, Value, copy_content,
@@ -20,12 +20,14 @@ use std::hash::RandomState;
 use std::marker::Model;
 
 /// The slots of keys, each with the queue of its requests, and the two sets. The locks have the requests of a slot at its number,
-/// and the slot has the ends of their queue; the sets are linked through the slots.
+/// and the slot has the ends of their queue; the sets are linked through the slots. Nothing is seen of the boxes for later
+/// writes.
 #[derive(Drop)]
 pub(crate) struct KeySlots {
     table: Table<Cell>,
     locks: Locks,
     sets: Dirty,
+    spares: Spares,
 }
 
 impl Model for KeySlots {
@@ -58,7 +60,13 @@ impl KeySlots {
         let table = slots::table_of(alloc, capacity, pairs, seed)?;
         let locks = Locks::new(alloc);
         let sets = Dirty::new();
-        Ok(KeySlots { table, locks, sets })
+        let spares = Spares::new(alloc)?;
+        Ok(KeySlots {
+            table,
+            locks,
+            sets,
+            spares,
+        })
     }
 
     /// The number of the key's slot; None where it has none. It is looked for near the slot first.
@@ -114,6 +122,22 @@ impl KeySlots {
         pc_slots::copy_to_keep(alloc, self.table.get(id), Stage { side, point }, class)
     }
 
+    /// A box in which nothing is kept yet, for a write; an error where memory ran out.
+    pub(crate) fn room(&mut self, alloc: Global) -> Result<Box<Aside>, AllocError>
+        ensures room { IfOk result (λ room. room.value ≡ nothing_aside) }
+        ensures same { self.new ≡ self.old }
+    {
+        self.spares.take_out(alloc)
+    }
+
+    /// Takes back a box that no write needs.
+    pub(crate) fn put_back(&mut self, room: Box<Aside>)
+        requires { room.value ≡ nothing_aside }
+        ensures { self.new ≡ self.old }
+    {
+        self.spares.put_back(room);
+    }
+
     /// A slot for the key, which has none: it keeps nothing, and no request stands there. It is refused with `Full` where there
     /// are as many slots as there may be, and else only where memory ran out; then nothing changed.
     pub(crate) fn make(&mut self, alloc: Global, key: &Key) -> Result<SlotId, Refusal>
@@ -137,7 +161,13 @@ impl KeySlots {
         ensures whole { IsFloorWhole self.new }
     {
         let side = self.sets.open_side();
-        slots::put_at(&mut self.table, Stage { side, point }, id, write);
+        slots::put_at(
+            &mut self.table,
+            &mut self.spares,
+            Stage { side, point },
+            id,
+            write,
+        );
     }
 
     /// The write that stands in the slot is committed; its key goes to the end of the open set where it isn't in it.
@@ -146,7 +176,7 @@ impl KeySlots {
         ensures settled { self.new ≡ record (with_spot (changed (settled point)) id self.old) { opened = self.old.opened ++ newly_opened self.old.spots id } }
         ensures whole { IsFloorWhole self.new }
     {
-        slots::settle_slot(&mut self.table, &mut self.sets, id, point);
+        slots::settle_slot(&mut self.table, &mut self.sets, &mut self.spares, id, point);
     }
 
     /// The write that stands in the slot is undone.
@@ -156,7 +186,7 @@ impl KeySlots {
         ensures whole { IsFloorWhole self.new }
     {
         let side = self.sets.open_side();
-        slots::undo_slot(&mut self.table, Stage { side, point }, id);
+        slots::undo_slot(&mut self.table, &mut self.spares, Stage { side, point }, id);
     }
 
     /// The slot is free where nothing keeps it.
@@ -212,7 +242,7 @@ impl KeySlots {
         let side = self.sets.open_side();
         match self.sets.pop_closed(&self.table) {
             Some(id) => {
-                slots::mark_taken(&mut self.table, side, id);
+                slots::mark_taken(&mut self.table, &mut self.spares, side, id);
                 Some(id)
             }
             None => None,

@@ -152,8 +152,8 @@ impl Records {
     {
         match self.slots.find(key, None) {
             Some(id) => {
-                let room = pc_slots::room(alloc)?;
                 let copy = self.slots.copy_to_keep(alloc, id, self.point, class)?;
+                let room = self.slots.room(alloc)?;
                 let outcome = self.slots.request(transaction, id, Mode::Exclusive)?;
                 let author = Author { transaction, class };
                 let write = Writing {
@@ -166,7 +166,7 @@ impl Records {
                 Ok(Requested { outcome, slot: id })
             }
             None => {
-                let room = room_in(alloc, &self.slots)?;
+                let room = room_in(alloc, &mut self.slots)?;
                 let id = request_new(alloc, &mut self.slots, transaction, key, Mode::Exclusive)?;
                 let author = Author { transaction, class };
                 let write = Writing {
@@ -266,11 +266,12 @@ impl Records {
 
 // Room for what a slot that is still to be made keeps aside; it is refused with `Full` where there are as many slots as there
 // may be, and else only where memory ran out.
-fn room_in(alloc: Global, slots: &KeySlots) -> Result<Box<Aside>, Refusal>
+fn room_in(alloc: Global, slots: &mut KeySlots) -> Result<Box<Aside>, Refusal>
     ensures room { IfOk result (λ room. room.value ≡ nothing_aside) }
-    ensures refusal { IfErr result (λ e. e ≡ (if length slots.now.spots == slots.now.capacity then Refusal.Full else Refusal.OutOfMemory)) }
+    ensures refusal { IfErr result (λ e. e ≡ (if length slots.old.spots == slots.old.capacity then Refusal.Full else Refusal.OutOfMemory)) }
+    ensures same { slots.new ≡ slots.old }
 {
-    match pc_slots::room(alloc) {
+    match slots.room(alloc) {
         Ok(room) => Ok(room),
         Err(_) => {
             if slots.is_full() {
@@ -311,7 +312,7 @@ fn request_new(
     }
 }
 
-// The write stands in the slot where its request was granted.
+// The write stands in the slot where its request was granted; else its room is taken back.
 fn put_granted(slots: &mut KeySlots, id: SlotId, point: Point, write: Writing, answer: Outcome)
     requires whole { IsFloorWhole slots.old }
     requires there { has_spot slots.old.spots id ≡ true }
@@ -319,8 +320,9 @@ fn put_granted(slots: &mut KeySlots, id: SlotId, point: Point, write: Writing, a
     ensures put { slots.new ≡ with_spot (changed (granted_slot answer point write.author.transaction write.author.class write.copy write.value)) id slots.old }
     ensures whole { IsFloorWhole slots.new }
 {
-    if let Outcome::Granted = answer {
-        slots.put(id, point, write);
+    match answer {
+        Outcome::Granted => slots.put(id, point, write),
+        _ => slots.put_back(write.room),
     }
 }
 

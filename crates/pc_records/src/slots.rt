@@ -15,7 +15,7 @@ ghost use Rattle.pc_records.specs.Slots.{slots_in, with_entry, content_in, cells
 
 use pc_chain::{Dirty, Side};
 use pc_replay::first_of_each;
-use pc_slots::{Cell, Stage, Writing, cell_with};
+use pc_slots::{Cell, Spares, Stage, Writing, cell_with};
 use pc_table::Table;
 use pc_types::{Key, MOST_KEYS, Point, Refusal, SlotId, Value};
 use std::alloc::{AllocError, Global};
@@ -137,7 +137,7 @@ fn push_content(
 }
 
 // The key of the slot is taken.
-pub(crate) fn mark_taken(table: &mut Table<Cell>, side: Side, id: SlotId)
+pub(crate) fn mark_taken(table: &mut Table<Cell>, spares: &mut Spares, side: Side, id: SlotId)
     requires { HasRow table.old.rows id }
     ensures slots { slots_in side table.new.rows ≡ map (at_number taken_slot id) (slots_in side table.old.rows) }
     ensures row { HasRow table.new.rows id }
@@ -146,11 +146,17 @@ pub(crate) fn mark_taken(table: &mut Table<Cell>, side: Side, id: SlotId)
     ensures capacity { table.new.capacity ≡ table.old.capacity }
     ensures ends { ends_in table.new.rows ≡ ends_in table.old.rows }
 {
-    pc_slots::take(table.get_mut(id), side);
+    pc_slots::take(table.get_mut(id), side, spares);
 }
 
 // The write stands in the slot.
-pub(crate) fn put_at(table: &mut Table<Cell>, stage: Stage, id: SlotId, write: Writing)
+pub(crate) fn put_at(
+    table: &mut Table<Cell>,
+    spares: &mut Spares,
+    stage: Stage,
+    id: SlotId,
+    write: Writing,
+)
     requires row { HasRow table.old.rows id }
     requires room { write.room.value ≡ nothing_aside }
     ensures slots { slots_in stage.side table.new.rows ≡ map (at_number (put_slot stage.point write.author.transaction write.author.class write.copy write.value) id) (slots_in stage.side table.old.rows) }
@@ -158,11 +164,17 @@ pub(crate) fn put_at(table: &mut Table<Cell>, stage: Stage, id: SlotId, write: W
     ensures ends { ends_in table.new.rows ≡ ends_in table.old.rows }
     ensures sets { KeepSets table.old.rows table.new.rows }
 {
-    pc_slots::put(table.get_mut(id), stage, write);
+    pc_slots::put(table.get_mut(id), stage, write, spares);
 }
 
 // The write that stands in the slot is committed, and the slot goes into the open set where it isn't in it.
-pub(crate) fn settle_slot(table: &mut Table<Cell>, sets: &mut Dirty, id: SlotId, point: Point)
+pub(crate) fn settle_slot(
+    table: &mut Table<Cell>,
+    sets: &mut Dirty,
+    spares: &mut Spares,
+    id: SlotId,
+    point: Point,
+)
     requires row { HasRow table.old.rows id }
     requires listed { IsListed table.old.rows sets.old }
     ensures slots { slots_in sets.old.side table.new.rows ≡ map (at_number (settled point) id) (slots_in sets.old.side table.old.rows) }
@@ -175,19 +187,19 @@ pub(crate) fn settle_slot(table: &mut Table<Cell>, sets: &mut Dirty, id: SlotId,
 {
     let side = sets.open_side();
     let stage = Stage { side, point };
-    let is_new = pc_slots::settle(table.get_mut(id), stage);
+    let is_new = pc_slots::settle(table.get_mut(id), stage, spares);
     if is_new {
         sets.add(table, id);
     }
 }
 
 // The write that stands in the slot is undone.
-pub(crate) fn undo_slot(table: &mut Table<Cell>, stage: Stage, id: SlotId)
+pub(crate) fn undo_slot(table: &mut Table<Cell>, spares: &mut Spares, stage: Stage, id: SlotId)
     requires { HasRow table.old.rows id }
     ensures slots { slots_in stage.side table.new.rows ≡ map (at_number (undone stage.point) id) (slots_in stage.side table.old.rows) }
     ensures capacity { table.new.capacity ≡ table.old.capacity }
     ensures ends { ends_in table.new.rows ≡ ends_in table.old.rows }
     ensures sets { KeepSets table.old.rows table.new.rows }
 {
-    pc_slots::undo(table.get_mut(id), stage);
+    pc_slots::undo(table.get_mut(id), stage, spares);
 }

@@ -1,3 +1,4 @@
 mod Calling
 mod Keeping
+mod Lending
 mod Settling

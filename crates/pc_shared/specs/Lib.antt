@@ -3,3 +3,4 @@ pub mod Answers
 pub mod Finds
 pub mod Sitters
 pub mod Written
+pub mod Lent

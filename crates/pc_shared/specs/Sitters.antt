@@ -3,13 +3,13 @@ use Rattle.std.specs.Prelude.{◌≡◌, ◌<◌, ◌≤◌, ◌+◌, ◌==◌, 
 use Rattle.std.specs.List.{list_any}
 use Rattle.pc_types.specs.declared.Entry.{Entry}
 use Rattle.pc_types.specs.declared.Receipt.{Receipt}
-use Rattle.pc_types.specs.declared.Write.{Write}
 use Rattle.pc_model.specs.History.{History, log_of, is_open}
 use Rattle.pc_model.specs.Files.{BaseFile, File}
 use Rattle.pc_model.specs.Standing.{IsOfItsPoints}
 use Rattle.pc_model.specs.Replies.{Setting, IsLegalHistory}
 use Rattle.pc_model.specs.Calls.{HasCallsOf}
-use Rattle.pc_model.specs.Receipts.{Read, own, own_of, AreExact}
+use Rattle.pc_model.specs.Receipts.{Read, own_of, AreExact}
+use Rattle.pc_txn.specs.Commits.{CommitNote, notes_of}
 use Rattle.pc_tie.specs.declared.sight.Sitting.{Sitting}
 use Rattle.pc_tie.specs.Rules.{Speaks, sitting}
 
@@ -22,12 +22,16 @@ pub record Sitter : Type 0 where
 abbrev pub sitter : ℕ → History → List Receipt → Sitter
 sitter number seen receipts = record { number = number; seen = seen; receipts = receipts }
 
--- The session is busy where its transaction is open; its receipts are those that its history gives it, and while it is busy so
--- are the writes and reads.
-pub record SessionKeeps (busy : Bool) (writes : List Write) (reads : List Read) (receipts : List Receipt) (s : ℕ) (seen : History) : Type 0 where
+-- the session that has seen this history, with the receipts that it gives it
+abbrev pub seated_at : ℕ → History → Sitter
+seated_at number seen = sitter number seen (own_of number seen).receipts
+
+-- The session is busy where its transaction is open; its notes are those of the receipts that its history gives it, and while it
+-- is busy so are the reads.
+pub record SessionKeeps (busy : Bool) (reads : List Read) (commits : List CommitNote) (s : ℕ) (seen : History) : Type 0 where
   pub when_open : is_open s seen ≡ busy
-  pub of_commits : receipts ≡ (own_of s seen).receipts
-  pub while_busy : busy ≡ true → own busy writes reads receipts ≡ own_of s seen
+  pub of_commits : commits ≡ notes_of (own_of s seen).receipts
+  pub while_busy : busy ≡ true → reads ≡ (own_of s seen).reads
 
 -- its number, and what it has seen
 abbrev pub sitting_of : Sitter → Sitting

@@ -1,10 +1,13 @@
 //! What a session's seat asks of the store, event by event.
-ghost use Rattle.std.specs.Prelude.{◌≡◌, ◌≢◌, true, IfOk, IfErr, OnErr};
+ghost use Rattle.std.specs.Prelude.{◌≡◌, ◌≢◌, true, is_some, IfOk, IfErr, OnErr};
+ghost use Rattle.pc_model.specs.Database.{written};
+ghost use Rattle.pc_model.specs.History.{is_open};
+ghost use Rattle.pc_model.specs.Receipts.{own_of};
 ghost use Rattle.pc_types.specs.declared.Event.TheVariants.{Begin, Get, Put, Del, Commit, Abort};
 ghost use Rattle.pc_types.specs.declared.Reply.TheVariants.{Begun, Committed, Aborted, Refused};
 ghost use Rattle.pc_model.specs.Calls.{step_of, Extends, IsAnswered};
 ghost use Rattle.pc_shared.specs.Asked.{IsGot, IsWriteMade};
-ghost use Rattle.pc_shared.specs.Answers.{answer_of};
+ghost use Rattle.pc_shared.specs.Answers.{answer_of, answer_to};
 
 use crate::session::CallAnswer;
 use crate::store::Shared;
@@ -21,6 +24,17 @@ pub(crate) fn answer_of(got: &Got) -> CallAnswer
         Got::Found(_) => CallAnswer::Found,
         Got::Absent => CallAnswer::Absent,
         Got::Died => CallAnswer::Died,
+    }
+}
+
+// How a session is told of a write that was made, or of one whose request died.
+pub(crate) fn answer_to(made: bool) -> CallAnswer
+    ensures { result ≡ answer_to made }
+{
+    if made {
+        CallAnswer::Ok
+    } else {
+        CallAnswer::Died
     }
 }
 
@@ -57,16 +71,17 @@ impl<N: StoreName> Shared<N> {
         }
     }
 
-    // Reads the key, and gives it back.
+    // Reads the key, and gives it back, with whether the session's own transaction has written it.
     pub(crate) fn get_as<R: Wait>(
         &self,
         rt: &R,
         seat: &mut SessionSeat<N>,
         key: Key,
         has_room: bool,
-    ) -> Result<(Key, Got), Refusal>
+    ) -> Result<(Key, Got, bool), Refusal>
         ensures number { seat.new.number ≡ seat.old.number }
         ensures key { IfOk result (λ r. r.0 ≡ key) }
+        ensures own_write { is_open seat.old.number seat.old.seen ≡ true → IfOk result (λ r. r.2 ≡ is_some (written (own_of seat.old.number seat.old.seen).writes key)) }
         ensures room { IfOk result (λ _. has_room ≡ true) }
         ensures call { IfOk result (λ r. IsGot N.name.setting seat.old.seen seat.old.number key r.1 seat.new.seen) }
         ensures refused { IfErr result (λ why. IsAnswered N.name.setting seat.old.number seat.old.seen (Get seat.old.number key) (Refused why)) }
@@ -74,76 +89,64 @@ impl<N: StoreName> Shared<N> {
         ensures same { OnErr result (seat.new.seen ≡ seat.old.seen) }
     {
         let mut step = asking(Event::Get(seat.number(), key));
-        self.step_as(rt, seat, &mut step, has_room);
+        let own_write = self.step_as(rt, seat, &mut step, has_room);
         let Step { event, reply } = step;
         let Event::Get(_, key) = event else {
             unreachable!()
         };
         match reply {
-            Reply::Found(value) => Ok((key, Got::Found(value))),
-            Reply::Absent => Ok((key, Got::Absent)),
-            Reply::Died => Ok((key, Got::Died)),
+            Reply::Found(value) => Ok((key, Got::Found(value), own_write)),
+            Reply::Absent => Ok((key, Got::Absent, own_write)),
+            Reply::Died => Ok((key, Got::Died, own_write)),
             Reply::Refused(why) => Err(why),
             _ => unreachable!(),
         }
     }
 
-    // Sets the key to the value, and gives both back; false where the request died.
+    // Sets the key to the value; false where the request died.
     pub(crate) fn put_as<R: Wait>(
         &self,
         rt: &R,
         seat: &mut SessionSeat<N>,
         key: Key,
         value: Value,
-        has_room: bool,
-    ) -> Result<(Key, Value, bool), Refusal>
+    ) -> Result<bool, Refusal>
         ensures number { seat.new.number ≡ seat.old.number }
-        ensures given { IfOk result (λ r. (r.0 ≡ key) × (r.1 ≡ value)) }
-        ensures room { IfOk result (λ _. has_room ≡ true) }
-        ensures call { IfOk result (λ r. IsWriteMade N.name.setting seat.old.seen (Put seat.old.number key value) r.2 seat.new.seen) }
+        ensures call { IfOk result (λ made. IsWriteMade N.name.setting seat.old.seen (Put seat.old.number key value) made seat.new.seen) }
         ensures refused { IfErr result (λ why. IsAnswered N.name.setting seat.old.number seat.old.seen (Put seat.old.number key value) (Refused why)) }
         ensures no_wait { IfErr result (λ why. why ≢ Refusal.StillWaiting) }
         ensures same { OnErr result (seat.new.seen ≡ seat.old.seen) }
     {
         let mut step = asking(Event::Put(seat.number(), key, value));
-        self.step_as(rt, seat, &mut step, has_room);
-        let Step { event, reply } = step;
-        let Event::Put(_, key, value) = event else {
-            unreachable!()
-        };
+        self.step_as(rt, seat, &mut step, true);
+        let Step { event: _, reply } = step;
         match reply {
-            Reply::Ok => Ok((key, value, true)),
-            Reply::Died => Ok((key, value, false)),
+            Reply::Ok => Ok(true),
+            Reply::Died => Ok(false),
             Reply::Refused(why) => Err(why),
             _ => unreachable!(),
         }
     }
 
-    // Removes the key, and gives it back; false where the request died.
+    // Removes the key; false where the request died.
     pub(crate) fn del_as<R: Wait>(
         &self,
         rt: &R,
         seat: &mut SessionSeat<N>,
         key: Key,
-        has_room: bool,
-    ) -> Result<(Key, bool), Refusal>
+    ) -> Result<bool, Refusal>
         ensures number { seat.new.number ≡ seat.old.number }
-        ensures given { IfOk result (λ r. r.0 ≡ key) }
-        ensures room { IfOk result (λ _. has_room ≡ true) }
-        ensures call { IfOk result (λ r. IsWriteMade N.name.setting seat.old.seen (Del seat.old.number key) r.1 seat.new.seen) }
+        ensures call { IfOk result (λ made. IsWriteMade N.name.setting seat.old.seen (Del seat.old.number key) made seat.new.seen) }
         ensures refused { IfErr result (λ why. IsAnswered N.name.setting seat.old.number seat.old.seen (Del seat.old.number key) (Refused why)) }
         ensures no_wait { IfErr result (λ why. why ≢ Refusal.StillWaiting) }
         ensures same { OnErr result (seat.new.seen ≡ seat.old.seen) }
     {
         let mut step = asking(Event::Del(seat.number(), key));
-        self.step_as(rt, seat, &mut step, has_room);
-        let Step { event, reply } = step;
-        let Event::Del(_, key) = event else {
-            unreachable!()
-        };
+        self.step_as(rt, seat, &mut step, true);
+        let Step { event: _, reply } = step;
         match reply {
-            Reply::Ok => Ok((key, true)),
-            Reply::Died => Ok((key, false)),
+            Reply::Ok => Ok(true),
+            Reply::Died => Ok(false),
             Reply::Refused(why) => Err(why),
             _ => unreachable!(),
         }

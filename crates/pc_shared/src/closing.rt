@@ -8,8 +8,9 @@ ghost use Rattle.pc_engine.specs.Stands.{Stands};
 ghost use Rattle.pc_engine.specs.Store.{setting_of};
 ghost use Rattle.pc_tie.specs.Seats.{IsSession, IsFrontOf, NoTwoAlike};
 ghost use Rattle.pc_shared.specs.Sitters.{sitting_of, IsSeated, IsSitterSettled, AreSittersApart, is_there, HasAll, LacksOne};
+ghost use Rattle.pc_shared.specs.Lent.{receipt_at, AreLentBy};
 
-use crate::session::Session;
+use crate::session::{LentReceipt, Session};
 use pc_engine::World;
 use pc_latch::{Latched, LogPass, PartTicket, renew_tickets};
 use pc_part::Base;
@@ -28,6 +29,7 @@ pub struct Closed<N: StoreName> {
     pub parts: Vec<PartTicket<N>>,
     /// Whether all sessions of the store are there.
     pub all: bool,
+    ghost lends: { All (AreLentBy world.log) receipts.items },
 }
 
 impl<N: StoreName> Closed<N> {
@@ -44,6 +46,18 @@ impl<N: StoreName> Closed<N> {
         ensures few { All HasFewWrites result.now }
     {
         self.world.log()
+    }
+
+    /// The receipt of a commit of a session that was handed in: by the session's place among these, and that of the commit among the
+    /// session's, both counted from 0; None where there are no more than that. It is exact: its number is that of the session's
+    /// commit in the log, its writes are those of that entry, and its reads were right before it. It takes no memory.
+    pub fn receipt(&self, session: usize, place: usize) -> Option<LentReceipt<'_>>
+        ensures { result ≡ receipt_at self.now.receipts.items session place }
+    {
+        match self.receipts.get(session) {
+            Some(session) => session.receipt(self.log(), place),
+            None => None,
+        }
     }
 }
 

@@ -1,19 +1,21 @@
 //! Sessions, and their calls.
-ghost use Rattle.std.specs.Prelude.{◌≡◌, ◌≢◌, ◌∷◌, ◌++◌, [], true, false, Some, None, IfOk, IfErr, OnErr, option_copied};
+ghost use Rattle.std.specs.Prelude.{◌≡◌, ◌≢◌, ◌∷◌, ◌++◌, [], true, false, Some, None, IfOk, IfErr, OnErr, option_copied, slice_get};
 ghost use Rattle.pc_types.specs.declared.Event.{Event};
 ghost use Rattle.pc_types.specs.declared.Event.TheVariants.{Begin, Get, Put, Del, Commit, Abort};
 ghost use Rattle.pc_types.specs.declared.Reply.TheVariants.{Begun, Committed, Aborted, Refused};
 ghost use Rattle.pc_model.specs.History.{is_open};
 ghost use Rattle.pc_model.specs.Calls.{step_of, Extends, IsAnswered, AsksOpen};
 ghost use Rattle.pc_model.specs.Receipts.{own_of, receipt_of};
+ghost use Rattle.pc_txn.specs.Commits.{notes_of};
 ghost use Rattle.pc_shared.specs.Answers.{IsRead, IsWriteAnswered};
 ghost use Rattle.pc_shared.specs.Finds.{found_in};
+ghost use Rattle.pc_shared.specs.Lent.{writes_at, AreLentBy};
 
-use crate::asks::answer_of;
+use crate::asks::{answer_of, answer_to};
 use crate::store::Shared;
 use pc_tie::{SessionSeat, StoreName};
-use pc_txn::{Receipts, SessionNotes, has_room_for_receipt, has_room_to_read, has_room_to_write};
-use pc_types::{Key, Lsn, Refusal, SessionNo, TxnNo, Value};
+use pc_txn::{Commits, SessionNotes, has_room_for_commit, has_room_to_read};
+use pc_types::{Entry, Key, Lsn, Refusal, SessionNo, TxnNo, Value, Write};
 use std::marker::Model;
 use std::sync::Wait;
 
@@ -30,7 +32,9 @@ pub enum CallAnswer {
     Died,
 }
 
-/// A session of a store. Contracts see its number, the history that it has seen, and its receipts.
+/// A session of a store. Contracts see its number, the history that it has seen, and the receipts of its commits, which that gives
+/// it. Of each commit it keeps the number of its entry and what its transaction has read; what that has written stands in the log,
+/// beside which `Closed::receipt` lends the receipt whole.
 #[derive(Drop)]
 pub struct Session<N: StoreName> {
     pub(crate) seat: SessionSeat<N>,
@@ -41,13 +45,44 @@ impl<N: StoreName> Model for Session<N> {
     ghost use Rattle.std.specs.Prelude.{◌≡◌};
     ghost use Rattle.pc_txn.specs.Notes.{kept_in};
     ghost use Rattle.pc_shared.specs.Finds.{found_in};
-    ghost use Rattle.pc_shared.specs.Sitters.{Sitter, sitter, SessionKeeps};
+    ghost use Rattle.pc_shared.specs.Sitters.{Sitter, seated_at, SessionKeeps};
 
     ghost Value = { Sitter };
 
-    ghost view = { λ s. sitter s.seat.number s.seat.seen s.work.receipts.items };
+    ghost view = { λ s. seated_at s.seat.number s.seat.seen };
 
-    ghost invariant = { λ s. SessionKeeps s.work.busy s.work.writes.items s.work.reads.items s.work.receipts.items s.seat.number s.seat.seen × (kept_in s.work.latest s.work.reads.items ≡ found_in s.seat.seen) };
+    ghost invariant = { λ s. SessionKeeps s.work.busy s.work.reads.items s.work.commits.items s.seat.number s.seat.seen × (kept_in s.work.latest s.work.reads.items ≡ found_in s.seat.seen) };
+}
+
+/// A receipt, lent from its session and the log. Contracts see the receipt.
+#[derive(Drop)]
+pub struct LentReceipt<'a> {
+    /// The number of its entry in the log; the first entry has number 1.
+    pub number: Lsn,
+    pub session: SessionNo,
+    /// What the transaction has read of keys that it had not written: of each key the first such read, in their order, with the value
+    /// that was answered, or nothing.
+    pub reads: &'a [(Key, Option<Value>)],
+    /// Its writes, as its entry in the log has them.
+    pub writes: &'a [Write],
+}
+
+impl<'a> Model for LentReceipt<'a> {
+    ghost use Rattle.pc_types.specs.declared.Receipt.{Receipt};
+
+    ghost Value = { Receipt };
+
+    ghost view = { λ r. record { number = r.number; session = r.session; reads = r.reads.now; writes = r.writes.now } };
+}
+
+// The writes of the log's entry of this number, which is a commit's; none where it is none.
+fn writes_at(log: &[Entry], number: Lsn) -> &[Write]
+    ensures { result.now ≡ writes_at log.now number }
+{
+    match log.get((number.0 as usize).saturating_sub(1)) {
+        Some(Entry::Commit(_, writes)) => writes.as_slice(),
+        _ => &[],
+    }
 }
 
 impl<N: StoreName> Session<N> {
@@ -58,11 +93,27 @@ impl<N: StoreName> Session<N> {
         self.seat.number()
     }
 
-    /// Its receipts: one for each of its commits, in their order.
-    pub fn receipts(&self) -> &Receipts
-        ensures { result.now.items ≡ self.now.receipts }
+    /// What it keeps of its commits, in their order: of each the number of its entry in the log, and the reads of its receipt.
+    pub fn commits(&self) -> &Commits
+        ensures { result.now.items ≡ notes_of self.now.receipts }
     {
-        &self.work.receipts
+        &self.work.commits
+    }
+
+    // The receipt of its commit at the place, by the log that has its commits' entries; None where it has no more commits than that.
+    pub(crate) fn receipt<'a>(&'a self, log: &'a [Entry], place: usize) -> Option<LentReceipt<'a>>
+        requires { AreLentBy log.now self.now }
+        ensures { result ≡ slice_get self.now.receipts place }
+    {
+        let Some(number) = self.work.commits.number(place) else {
+            return None;
+        };
+        Some(LentReceipt {
+            number,
+            session: self.number(),
+            reads: self.work.commits.reads(place),
+            writes: writes_at(log, number),
+        })
     }
 
     /// The value that its latest call found, where that was a `get` answered with Found; it is there until the session's next
@@ -126,12 +177,12 @@ impl<N: StoreName> Shared<N> {
             return Err(told_idle(&session.seat));
         }
         let has_room = has_room_to_read(&mut session.work.reads);
-        let (key, got) = match self.get_as(rt, &mut session.seat, key, has_room) {
-            Ok((key, got)) => (key, got),
+        let (key, got, own) = match self.get_as(rt, &mut session.seat, key, has_room) {
+            Ok((key, got, own)) => (key, got, own),
             Err(why) => return Err(why),
         };
         let answer = answer_of(&got);
-        session.work.read(key, got);
+        session.work.read(own, key, got);
         Ok(answer)
     }
 
@@ -156,17 +207,12 @@ impl<N: StoreName> Shared<N> {
         if !session.work.busy {
             return Err(told_idle(&session.seat));
         }
-        let has_room = has_room_to_write(&mut session.work.writes);
-        let (key, value, made) = match self.put_as(rt, &mut session.seat, key, value, has_room) {
-            Ok((key, value, made)) => (key, value, made),
+        let made = match self.put_as(rt, &mut session.seat, key, value) {
+            Ok(made) => made,
             Err(why) => return Err(why),
         };
-        if !made {
-            session.work.die();
-            return Ok(CallAnswer::Died);
-        }
-        session.work.write(key, Some(value));
-        Ok(CallAnswer::Ok)
+        session.work.find_nothing();
+        Ok(answer_to(made))
     }
 
     /// The session's transaction removes the key, once its lock is granted, or the request died. It waits as `put` does, and
@@ -187,17 +233,12 @@ impl<N: StoreName> Shared<N> {
         if !session.work.busy {
             return Err(told_idle(&session.seat));
         }
-        let has_room = has_room_to_write(&mut session.work.writes);
-        let (key, made) = match self.del_as(rt, &mut session.seat, key, has_room) {
-            Ok((key, made)) => (key, made),
+        let made = match self.del_as(rt, &mut session.seat, key) {
+            Ok(made) => made,
             Err(why) => return Err(why),
         };
-        if !made {
-            session.work.die();
-            return Ok(CallAnswer::Died);
-        }
-        session.work.write(key, None);
-        Ok(CallAnswer::Ok)
+        session.work.find_nothing();
+        Ok(answer_to(made))
     }
 
     /// The session's transaction commits, and the session has its receipt: the number of its entry in the log, and what it has
@@ -215,14 +256,13 @@ impl<N: StoreName> Shared<N> {
         if !session.work.busy {
             return Err(told_idle(&session.seat));
         }
-        let (writes, reads) = (session.work.writes.len(), session.work.reads.len());
-        let has_room = has_room_for_receipt(&mut session.work.receipts, writes, reads);
-        let number = session.seat.number();
+        let reads = session.work.reads.len();
+        let has_room = has_room_for_commit(&mut session.work.commits, reads);
         let n = match self.commit_as(rt, &mut session.seat, has_room) {
             Ok(n) => n,
             Err(why) => return Err(why),
         };
-        session.work.commit(number, n);
+        session.work.commit(n);
         Ok(n)
     }
 

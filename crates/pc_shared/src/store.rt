@@ -1,5 +1,5 @@
 //! The store that threads share.
-ghost use Rattle.std.specs.Prelude.{◌≡◌, ◌≢◌, ◌≤◌, ◌<◌, ◌⊎◌, ◌++◌, [], false, Some, Err, length, IfOk, IfErr, IfSome, OnErr, All, MatchBool};
+ghost use Rattle.std.specs.Prelude.{◌≡◌, ◌≢◌, ◌≤◌, ◌<◌, ◌⊎◌, ◌++◌, [], true, false, Some, Err, length, IfOk, IfErr, IfSome, OnErr, All, MatchBool};
 ghost use Rattle.pc_model.specs.FewWrites.{HasFewWrites};
 ghost use Rattle.pc_model.specs.Files.{file_at, shelf};
 ghost use Rattle.pc_model.specs.Maps.{len};
@@ -14,7 +14,9 @@ ghost use Rattle.pc_engine.specs.Store.{setting_of};
 ghost use Rattle.pc_tie.specs.Seats.{MovesOn};
 ghost use Rattle.pc_latch.specs.Batches.{batch};
 ghost use Rattle.pc_latch.specs.Cycles.{IsAdvance, IsTakeCalled};
-ghost use Rattle.pc_model.specs.History.{History};
+ghost use Rattle.pc_model.specs.History.{History, is_open};
+ghost use Rattle.pc_model.specs.Receipts.{own_of};
+ghost use Rattle.pc_latch.specs.OwnReads.{reads_one_of};
 ghost use Rattle.pc_model.specs.Sets as set;
 ghost use Rattle.pc_latch.specs.Tickets.{HasNoFile, IsNoTicket};
 ghost use Rattle.pc_shared.specs.Asked.{is_wait};
@@ -249,14 +251,15 @@ impl<N: StoreName> Shared<N> {
 
     // Asks the step's event until it is answered; the step has the reply then. While its request waits, which no other session
     // can answer it, it sleeps, and asks again after each end of a transaction: then the request may have been granted. Nobody
-    // else is woken but where locks were let go and somebody waits for one.
+    // else is woken but where locks were let go and somebody waits for one. It tells whether the event reads a key that the
+    // session's own transaction has written.
     pub(crate) fn step_as<R: Wait>(
         &self,
         rt: &R,
         seat: &mut SessionSeat<N>,
         step: &mut Step,
         has_room: bool,
-    )
+    ) -> bool
         requires own { session_of step.old.event ≡ seat.old.number }
         requires asks { has_room ≡ false → AsksOfOpen step.old.event }
         requires no_join { IsNoJoin step.old.event }
@@ -267,10 +270,11 @@ impl<N: StoreName> Shared<N> {
         ensures answered { IsAnswered N.name.setting seat.old.number seat.old.seen step.new.event step.new.reply }
         ensures room { has_room ≡ false → counts step.new.reply ≡ false }
         ensures no_wait { is_wait step.new.reply ≡ false }
+        ensures own_write { is_open seat.old.number seat.old.seen ≡ true → result ≡ reads_one_of (own_of seat.old.number seat.old.seen).writes step.new.event }
     {
         let mut held = self.get_latch(rt);
         for _ in rt.forever() {
-            held.latched.call(&self.tie, seat, step, has_room);
+            let own_write = held.latched.call(&self.tie, seat, step, has_room);
             if is_wait(&step.reply) {
                 held.waits.for_locks = held.waits.for_locks.saturating_add(1);
                 held = self.granted.wait(rt, held);
@@ -279,7 +283,7 @@ impl<N: StoreName> Shared<N> {
                 let woken = held.waits.note(&step.reply);
                 drop(held);
                 self.wake(woken);
-                return;
+                return own_write;
             }
         }
         unreachable!()

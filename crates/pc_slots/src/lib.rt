@@ -5,6 +5,7 @@
 mod cells;
 mod ends;
 mod links;
+mod spares;
 #[cfg(test)]
 mod tests;
 mod versions;
@@ -12,7 +13,8 @@ mod words;
 
 pub use cells::{Cell, cell_with};
 pub use ends::{chain_in, put_ends};
+pub use spares::Spares;
 pub use versions::{
-    Aside, Author, Stage, Writing, committed_copy, copy_to_keep, is_kept, pinned_of, put, room,
-    settle, take, undo,
+    Aside, Author, Stage, Writing, committed_copy, copy_to_keep, is_kept, pinned_of, put, settle,
+    take, undo,
 };

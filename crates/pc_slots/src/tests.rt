@@ -1,6 +1,7 @@
 //! Tests of the moments of a slot.
 
 use crate::cells::Cell;
+use crate::spares::Spares;
 use crate::versions::{self, Author, Stage, Writing};
 use pc_chain::Side;
 use pc_table::Blank;
@@ -22,17 +23,18 @@ enum Moment {
 
 use Moment::{Close, Commit, Take, Undo, Write};
 
-// What stands in the place, what is committed, what the key has at the point where it is in the closed set, and whether
-// anything is kept aside.
+// What stands in the place, what is committed, what the key has at the point where it is in the closed set, whether anything is
+// kept aside, and how many boxes are kept for later writes.
 #[derive(Clone, Copy, Debug, PartialEq)]
-struct SlotSeen(Option<u8>, Option<u8>, Option<u8>, bool);
+struct SlotSeen(Option<u8>, Option<u8>, Option<u8>, bool, usize);
 
-// A slot, the side of the open set, and the point of the last closed one.
+// A slot, the side of the open set, the point of the last closed one, and the boxes for later writes.
 #[derive(Drop)]
 struct Followed {
     slot: Cell,
     side: Side,
     point: Point,
+    spares: Spares,
 }
 
 fn value_of(alloc: Global, content: Option<u8>) -> Result<Option<Value>, Refusal> {
@@ -49,18 +51,24 @@ fn content_of(value: Option<&Value>) -> Option<u8> {
     }
 }
 
-fn look_at(slot: &Cell, side: Side) -> SlotSeen {
+fn look_at(slot: &Cell, side: Side, spares: &Spares) -> SlotSeen {
     SlotSeen(
         content_of(slot.live.as_ref()),
         content_of(versions::committed_of(slot)),
         content_of(versions::pinned_of(slot, side)),
         slot.aside.is_some(),
+        spares.boxes.len(),
     )
 }
 
 // Does it.
 fn happen(alloc: Global, seen: &mut Followed, moment: Moment) -> Result<(), Refusal> {
-    let Followed { slot, side, point } = seen;
+    let Followed {
+        slot,
+        side,
+        point,
+        spares,
+    } = seen;
     let stage = Stage {
         side: *side,
         point: *point,
@@ -69,7 +77,7 @@ fn happen(alloc: Global, seen: &mut Followed, moment: Moment) -> Result<(), Refu
         Write(class, content) => {
             let copy = versions::copy_to_keep(alloc, slot, stage, class)?;
             let value = value_of(alloc, content)?;
-            let room = versions::room(alloc)?;
+            let room = spares.take_out(alloc)?;
             let author = Author {
                 transaction: TxnNo(1),
                 class,
@@ -80,17 +88,17 @@ fn happen(alloc: Global, seen: &mut Followed, moment: Moment) -> Result<(), Refu
                 copy,
                 value,
             };
-            versions::put(slot, stage, write);
+            versions::put(slot, stage, write, spares);
         }
         Commit => {
-            versions::settle(slot, stage);
+            versions::settle(slot, stage, spares);
         }
-        Undo => versions::undo(slot, stage),
+        Undo => versions::undo(slot, stage, spares),
         Close => {
             *side = side.other();
             *point = Point(if point.0 < 9 { point.0 + 1 } else { 9 });
         }
-        Take => versions::take(slot, *side),
+        Take => versions::take(slot, *side, spares),
     }
     Ok(())
 }
@@ -108,10 +116,11 @@ fn first_wrong(alloc: Global, rows: &[(Moment, SlotSeen)]) -> Result<Option<usiz
         slot: slot_with(alloc, 50)?,
         side: Side::First,
         point: Point(0),
+        spares: Spares::new(alloc)?,
     };
     for (i, row) in rows.iter().enumerate() {
         happen(alloc, &mut seen, row.0)?;
-        if look_at(&seen.slot, seen.side) != row.1 {
+        if look_at(&seen.slot, seen.side, &seen.spares) != row.1 {
             return Ok(Some(i));
         }
     }
@@ -128,78 +137,99 @@ const MOMENTS: [(Moment, SlotSeen); 32] = [
     // An abort puts the committed value back, and a second write replaces the first one.
     (
         Write(BEFORE, Some(51)),
-        SlotSeen(Some(51), Some(50), None, true),
+        SlotSeen(Some(51), Some(50), None, true, 0),
     ),
-    (Write(BEFORE, None), SlotSeen(None, Some(50), None, true)),
-    (Undo, SlotSeen(Some(50), Some(50), None, false)),
+    (Write(BEFORE, None), SlotSeen(None, Some(50), None, true, 1)),
+    (Undo, SlotSeen(Some(50), Some(50), None, false, 2)),
     (
         Write(BEFORE, Some(52)),
-        SlotSeen(Some(52), Some(50), None, true),
+        SlotSeen(Some(52), Some(50), None, true, 1),
     ),
-    (Commit, SlotSeen(Some(52), Some(52), None, false)),
+    (Commit, SlotSeen(Some(52), Some(52), None, false, 2)),
     // A writer of the prepare phase is open when the set is closed: the point has what was committed then.
     (
         Write(DURING, Some(53)),
-        SlotSeen(Some(53), Some(52), None, true),
+        SlotSeen(Some(53), Some(52), None, true, 1),
     ),
-    (Close, SlotSeen(Some(53), Some(52), Some(52), true)),
+    (Close, SlotSeen(Some(53), Some(52), Some(52), true, 1)),
     (
         Write(DURING, None),
-        SlotSeen(None, Some(52), Some(52), true),
+        SlotSeen(None, Some(52), Some(52), true, 1),
     ),
-    (Undo, SlotSeen(Some(52), Some(52), Some(52), false)),
+    (Undo, SlotSeen(Some(52), Some(52), Some(52), false, 2)),
     (
         Write(AFTER, Some(54)),
-        SlotSeen(Some(54), Some(52), Some(52), true),
+        SlotSeen(Some(54), Some(52), Some(52), true, 1),
     ),
     (
         Write(AFTER, Some(55)),
-        SlotSeen(Some(55), Some(52), Some(52), true),
+        SlotSeen(Some(55), Some(52), Some(52), true, 1),
     ),
-    (Commit, SlotSeen(Some(55), Some(55), Some(52), true)),
+    (Commit, SlotSeen(Some(55), Some(55), Some(52), true, 1)),
     // Another one after the point, which aborts: what is kept stays.
-    (Write(AFTER, None), SlotSeen(None, Some(55), Some(52), true)),
-    (Undo, SlotSeen(Some(55), Some(55), Some(52), true)),
-    (Take, SlotSeen(Some(55), Some(55), None, false)),
+    (
+        Write(AFTER, None),
+        SlotSeen(None, Some(55), Some(52), true, 1),
+    ),
+    (Undo, SlotSeen(Some(55), Some(55), Some(52), true, 1)),
+    (Take, SlotSeen(Some(55), Some(55), None, false, 2)),
     // Once the key is taken nothing is kept of it.
     (
         Write(AFTER, Some(56)),
-        SlotSeen(Some(56), Some(55), None, true),
+        SlotSeen(Some(56), Some(55), None, true, 1),
     ),
-    (Commit, SlotSeen(Some(56), Some(56), None, false)),
-    (Close, SlotSeen(Some(56), Some(56), Some(56), false)),
-    (Take, SlotSeen(Some(56), Some(56), None, false)),
+    (Commit, SlotSeen(Some(56), Some(56), None, false, 2)),
+    (Close, SlotSeen(Some(56), Some(56), Some(56), false, 2)),
+    (Take, SlotSeen(Some(56), Some(56), None, false, 2)),
     // A writer of the prepare phase commits after the point of a key that an earlier commit wrote.
-    (Write(BEFORE, None), SlotSeen(None, Some(56), None, true)),
-    (Commit, SlotSeen(None, None, None, false)),
+    (Write(BEFORE, None), SlotSeen(None, Some(56), None, true, 1)),
+    (Commit, SlotSeen(None, None, None, false, 2)),
     (
         Write(DURING, Some(57)),
-        SlotSeen(Some(57), None, None, true),
+        SlotSeen(Some(57), None, None, true, 1),
     ),
-    (Close, SlotSeen(Some(57), None, None, true)),
-    (Commit, SlotSeen(Some(57), Some(57), None, true)),
+    (Close, SlotSeen(Some(57), None, None, true, 1)),
+    (Commit, SlotSeen(Some(57), Some(57), None, true, 1)),
     (
         Write(AFTER, Some(58)),
-        SlotSeen(Some(58), Some(57), None, true),
+        SlotSeen(Some(58), Some(57), None, true, 1),
     ),
-    (Undo, SlotSeen(Some(57), Some(57), None, true)),
-    (Take, SlotSeen(Some(57), Some(57), None, false)),
+    (Undo, SlotSeen(Some(57), Some(57), None, true, 1)),
+    (Take, SlotSeen(Some(57), Some(57), None, false, 2)),
     // It commits in prepare: what it found is forgotten.
     (
         Write(DURING, Some(59)),
-        SlotSeen(Some(59), Some(57), None, true),
+        SlotSeen(Some(59), Some(57), None, true, 1),
     ),
-    (Commit, SlotSeen(Some(59), Some(59), None, false)),
-    (Close, SlotSeen(Some(59), Some(59), Some(59), false)),
+    (Commit, SlotSeen(Some(59), Some(59), None, false, 2)),
+    (Close, SlotSeen(Some(59), Some(59), Some(59), false, 2)),
     (
         Write(DURING, Some(60)),
-        SlotSeen(Some(60), Some(59), Some(59), true),
+        SlotSeen(Some(60), Some(59), Some(59), true, 1),
     ),
-    (Commit, SlotSeen(Some(60), Some(60), Some(59), true)),
+    (Commit, SlotSeen(Some(60), Some(60), Some(59), true, 1)),
 ];
 
 #[test]
 fn moments(rt: HostRuntime) -> Result<(), Fail> {
     assert_eq!(rt; first_wrong(rt.alloc(), &MOMENTS)?, None);
+    Ok(())
+}
+
+// How many are kept of so many new boxes that are put back.
+fn kept_of(alloc: Global, count: usize) -> Result<usize, Refusal> {
+    let mut spares = Spares::new(alloc)?;
+    for _ in 0..count {
+        spares.put_back(Box::new(alloc, versions::nothing_aside())?);
+    }
+    Ok(spares.boxes.len())
+}
+
+#[test]
+fn no_more_are_kept_than_a_transaction_writes(rt: HostRuntime) -> Result<(), Fail> {
+    let rows = [(0, 0), (1, 1), (255, 255), (256, 256), (257, 256)];
+    for (count, kept) in rows {
+        assert_eq!(rt; kept_of(rt.alloc(), count)?, kept);
+    }
     Ok(())
 }

@@ -1,14 +1,16 @@
 //! The moments of one slot: its key is written in its place, the write is committed or undone, and the key is taken. The side is
 //! that of the open set.
-ghost use Rattle.std.specs.Prelude.{◌≡◌, ◌==◌, ◌&&◌, ◌||◌, not, ℕ, List, [], length, false, true, Option, None, Some, is_some, option_copied, IfOk};
+ghost use Rattle.std.specs.Prelude.{◌≡◌, ◌==◌, ◌&&◌, ◌||◌, not, ℕ, List, [], length, false, true, Option, None, is_some, option_copied, IfOk};
 ghost use Rattle.pc_types.specs.declared.Class.TheVariants as class_of;
 ghost use Rattle.pc_types.specs.Phases.{same_class};
 ghost use Rattle.pc_model.specs.Locks.{Queue};
 ghost use Rattle.pc_chain.specs.declared.side.Side.TheVariants.{First};
 ghost use Rattle.pc_slots.specs.Words.{is_marked, words_of, chain_in, HaveLinks};
+ghost use Rattle.pc_slots.specs.Spares.{with_spare, is_freed};
 ghost use Rattle.pc_slots.specs.Slots.{Slot, slot_with, nothing_aside, is_blank, aside_in, writer_in, with_aside, committed, version_or, pinned, is_held, is_kept_slot, keeps_copy, saved, put_slot, settled, undone, taken_slot};
 
 use crate::cells::Cell;
+use crate::spares::Spares;
 use pc_chain::Side;
 use pc_types::{Class, Point, TxnNo, Value, copy_content};
 use std::alloc::{AllocError, Global};
@@ -61,7 +63,7 @@ pub struct Author {
 #[derive(Drop)]
 pub struct Writing {
     pub author: Author,
-    /// A box for what the slot keeps aside, in which nothing is kept yet (`room`).
+    /// A box for what the slot keeps aside, in which nothing is kept yet (`Spares::take_out`).
     pub room: Box<Aside>,
     /// A copy of what stands in the slot, where one is kept (`copy_to_keep`).
     pub copy: Option<Value>,
@@ -69,35 +71,44 @@ pub struct Writing {
     pub value: Option<Value>,
 }
 
-/// A box in which nothing is kept yet, for `put`; an error where memory ran out.
-pub fn room(alloc: Global) -> Result<Box<Aside>, AllocError>
-    ensures { IfOk result (λ room. room.value ≡ nothing_aside) }
+// Nothing that is kept.
+pub(crate) fn nothing_aside() -> Aside
+    ensures { result ≡ nothing_aside }
 {
-    let aside = Aside {
+    Aside {
         writer: None,
         stable: Stable::Empty,
         mark: Point(0),
-    };
-    Ok(Box::new(alloc, aside)?)
+    }
 }
 
-// The slot's box, or this one where it has none.
-fn or_room(aside: Option<Box<Aside>>, room: Box<Aside>) -> Box<Aside>
+// The slot's box, or this one where it has none; where it has one, this one is put back.
+fn or_room(aside: Option<Box<Aside>>, room: Box<Aside>, spares: &mut Spares) -> Box<Aside>
     requires { room.value ≡ nothing_aside }
-    ensures { result.value ≡ aside_in aside }
+    ensures seen { result.value ≡ aside_in aside }
+    ensures spares { spares.new ≡ with_spare (is_some aside) spares.old }
 {
     match aside {
-        Some(aside) => aside,
+        Some(aside) => {
+            spares.put_back(room);
+            aside
+        }
         None => room,
     }
 }
 
-// The box, which is dropped where nothing is kept in it.
-fn trimmed(aside: Box<Aside>) -> Option<Box<Aside>>
+// The box, which is put back where nothing is kept in it.
+fn trimmed(aside: Box<Aside>, spares: &mut Spares) -> Option<Box<Aside>>
     ensures seen { aside_in result ≡ aside.value }
-    ensures dropped { is_blank aside.value ≡ true → result ≡ None }
+    ensures gone { is_blank aside.value ≡ true → result ≡ None }
+    ensures spares { spares.new ≡ with_spare (is_blank aside.value) spares.old }
 {
-    if is_blank(&aside) { None } else { Some(aside) }
+    if is_blank(&aside) {
+        spares.put_back(aside);
+        None
+    } else {
+        Some(aside)
+    }
 }
 
 // Whether nothing is kept.
@@ -288,13 +299,14 @@ fn note(
     }
 }
 
-/// The write stands in the slot. The slot keeps the room where it has none, and it is dropped where it has one. It takes no
+/// The write stands in the slot. The slot keeps the room where it has none, and it is put back where it has one. It takes no
 /// memory.
-pub fn put(slot: &mut Cell, stage: Stage, write: Writing)
+pub fn put(slot: &mut Cell, stage: Stage, write: Writing, spares: &mut Spares)
     requires { write.room.value ≡ nothing_aside }
     ensures slot { (number : ℕ) (key : List ℕ) → slot_with stage.side number key slot.new ≡ put_slot stage.point write.author.transaction write.author.class write.copy write.value (slot_with stage.side number key slot.old) }
     ensures words { words_of slot.new ≡ words_of slot.old }
     ensures ends { chain_in slot.new ≡ chain_in slot.old }
+    ensures spares { spares.new ≡ with_spare (is_some slot.old.aside) spares.old }
 {
     let Writing {
         author,
@@ -304,7 +316,7 @@ pub fn put(slot: &mut Cell, stage: Stage, write: Writing)
     } = write;
     let is_closed = slot.is_in(stage.side.other());
     let before = mem::replace(&mut slot.live, value);
-    let mut aside = or_room(slot.aside.take(), room);
+    let mut aside = or_room(slot.aside.take(), room, spares);
     note(&mut aside, is_closed, stage.point, author, copy, before);
     slot.aside = Some(aside);
 }
@@ -328,19 +340,20 @@ fn commit(aside: &mut Aside, is_closed: bool, point: Point) -> bool
 }
 
 /// The write that stands in the slot, if there is one, is committed. True where the slot was not in the open set, and is in it
-/// now. It takes no memory.
-pub fn settle(slot: &mut Cell, stage: Stage) -> bool
+/// now. A box in which nothing is kept any more is put back. It takes no memory.
+pub fn settle(slot: &mut Cell, stage: Stage, spares: &mut Spares) -> bool
     ensures slot { (number : ℕ) (key : List ℕ) → slot_with stage.side number key slot.new ≡ settled stage.point (slot_with stage.side number key slot.old) }
     ensures links { HaveLinks slot.old slot.new }
     ensures ends { chain_in slot.new ≡ chain_in slot.old }
     ensures fresh { result ≡ (is_some (writer_in slot.old) && not (is_marked stage.side slot.old)) }
+    ensures spares { spares.new ≡ with_spare (is_freed slot.old slot.new) spares.old }
 {
     let Some(mut aside) = slot.aside.take() else {
         return false;
     };
     let is_closed = slot.is_in(stage.side.other());
     let is_written = commit(&mut aside, is_closed, stage.point);
-    slot.aside = trimmed(aside);
+    slot.aside = trimmed(aside, spares);
     if !is_written {
         return false;
     }
@@ -362,29 +375,33 @@ fn withdraw(aside: &mut Aside, live: &mut Option<Value>, is_closed: bool, point:
     }
 }
 
-/// The write that stands in the slot, if there is one, is undone. It takes no memory.
-pub fn undo(slot: &mut Cell, stage: Stage)
+/// The write that stands in the slot, if there is one, is undone. A box in which nothing is kept any more is put back. It takes
+/// no memory.
+pub fn undo(slot: &mut Cell, stage: Stage, spares: &mut Spares)
     ensures slot { (number : ℕ) (key : List ℕ) → slot_with stage.side number key slot.new ≡ undone stage.point (slot_with stage.side number key slot.old) }
     ensures words { words_of slot.new ≡ words_of slot.old }
     ensures ends { chain_in slot.new ≡ chain_in slot.old }
+    ensures spares { spares.new ≡ with_spare (is_freed slot.old slot.new) spares.old }
 {
     let is_closed = slot.is_in(stage.side.other());
     if let Some(mut aside) = slot.aside.take() {
         withdraw(&mut aside, &mut slot.live, is_closed, stage.point);
-        slot.aside = trimmed(aside);
+        slot.aside = trimmed(aside, spares);
     }
 }
 
-/// The key of the slot is taken: the slot is no more in the closed set, and what was kept for the point goes. It takes no memory.
-pub fn take(slot: &mut Cell, side: Side)
+/// The key of the slot is taken: the slot is no more in the closed set, and what was kept for the point goes. A box in which
+/// nothing is kept any more is put back. It takes no memory.
+pub fn take(slot: &mut Cell, side: Side, spares: &mut Spares)
     ensures slot { (number : ℕ) (key : List ℕ) → slot_with side number key slot.new ≡ taken_slot (slot_with side number key slot.old) }
     ensures links { HaveLinks slot.old slot.new }
     ensures ends { chain_in slot.new ≡ chain_in slot.old }
+    ensures spares { spares.new ≡ with_spare (is_freed slot.old slot.new) spares.old }
 {
     slot.put_mark(side.other(), false);
     if let Some(mut aside) = slot.aside.take() {
         aside.stable = Stable::Empty;
         aside.mark = Point(0);
-        slot.aside = trimmed(aside);
+        slot.aside = trimmed(aside, spares);
     }
 }

@@ -5,7 +5,8 @@ use Rattle.std.proofs.lemmas.List.{map_push, length-map}
 use Rattle.pc_types.specs.declared.Write.{Write}
 use Rattle.pc_model.specs.Database.{with_write, written}
 use Rattle.pc_model.specs.Places.{IsAt, IsGap}
-use Rattle.pc_model.specs.Receipts.{Read, is_read, with_read}
+use Rattle.pc_model.specs.Receipts.{Read, is_read}
+use Rattle.pc_txn.specs.Notes.{noting}
 use Rattle.pc_txn.specs.Orders.{place_of, entries, IsOrder}
 use Rattle.pc_txn.specs.Sets.{written_keys, read_keys}
 use Rattle.pc_txn.proofs.Orders.{found_place, nowhere, order_added}
@@ -44,20 +45,16 @@ module _ (ws new : List Write) (order after : List ℕ) (w : Write) (at n : ℕ)
       (subst (IsOrder (written_keys ws ++ w.key ∷ [])) (sym (put_in ∙ ap (insert order at) (count ∙ sym (length-map ws (λ (v : Write). v.key))))) (order_added (written_keys ws) order w.key at sorted gap))
 
 -- a read of a key that was read
-module _ (ws : List Write) (rs : List Read) (order : List ℕ) (key : List ℕ) (content : Option (List ℕ)) (at : ℕ) (sorted : IsOrder (read_keys rs) order) (there : IsAt (entries (read_keys rs) order) key at) where
-  pub read_again : rs ≡ with_read ws rs key content
-  read_again = by_written (is_some (written ws key))
+module _ (own : Bool) (rs : List Read) (order : List ℕ) (key : List ℕ) (content : Option (List ℕ)) (at : ℕ) (sorted : IsOrder (read_keys rs) order) (there : IsAt (entries (read_keys rs) order) key at) where
+  pub read_again : rs ≡ noting own rs key content
+  read_again = by_own own
     where
       was : is_read rs key ≡ true
       was = sym (has_read rs key) ∙ ap is_some (sym (sorted.finds key) ∙ there.finds ([], 0))
 
-      by_written : (b : Bool) → rs ≡ cond (b || is_read rs key) rs (rs ++ (key, content) ∷ [])
-      by_written true = refl
-      by_written false = sym (ap (λ b. cond b rs (rs ++ (key, content) ∷ [])) was)
-
--- a read of a key that was written
-pub read_written : (ws : List Write) (rs : List Read) (key : List ℕ) (content : Option (List ℕ)) → is_some (written ws key) ≡ true → rs ≡ with_read ws rs key content
-read_written ws rs key content is = sym (ap (λ b. cond (b || is_read rs key) rs (rs ++ (key, content) ∷ [])) is)
+      by_own : (b : Bool) → rs ≡ noting b rs key content
+      by_own true = refl
+      by_own false = sym (ap (λ b. cond b rs (rs ++ (key, content) ∷ [])) was)
 
 -- what is added stands at the end
 pub added_last : {X : Type 0} (xs : List X) (x : X) → slice_get (xs ++ x ∷ []) (length xs) ≡ Some x
@@ -65,11 +62,11 @@ added_last [] x = refl
 added_last (y ∷ ys) x = added_last ys x
 
 -- a first read of a key
-module _ (ws : List Write) (rs new : List Read) (order after : List ℕ) (key : List ℕ) (content : Option (List ℕ)) (at n : ℕ) (sorted : IsOrder (read_keys rs) order) (gap : IsGap (entries (read_keys rs) order) key at) (count : n ≡ length rs) (put_in : after ≡ insert order at n) (is : new ≡ rs ++ (key, content) ∷ []) where
-  pub read_first : is_some (written ws key) ≡ false → new ≡ with_read ws rs key content
-  read_first unwritten =
+module _ (rs new : List Read) (order after : List ℕ) (key : List ℕ) (content : Option (List ℕ)) (at n : ℕ) (sorted : IsOrder (read_keys rs) order) (gap : IsGap (entries (read_keys rs) order) key at) (count : n ≡ length rs) (put_in : after ≡ insert order at n) (is : new ≡ rs ++ (key, content) ∷ []) where
+  pub read_first : new ≡ noting false rs key content
+  read_first =
       let not : is_read rs key ≡ false = sym (has_read rs key) ∙ ap is_some (nowhere (read_keys rs) order key at sorted gap) in
-      is ∙ sym (ap (λ b. cond (b || is_read rs key) rs (rs ++ (key, content) ∷ [])) unwritten ∙ ap (λ b. cond b rs (rs ++ (key, content) ∷ [])) not)
+      is ∙ sym (ap (λ b. cond b rs (rs ++ (key, content) ∷ [])) not)
 
   pub reads_first : IsOrder (read_keys new) after
   reads_first =

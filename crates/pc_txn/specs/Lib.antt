@@ -1,4 +1,4 @@
 pub mod Orders
 pub mod Sets
-pub mod Filed
+pub mod Commits
 pub mod Notes

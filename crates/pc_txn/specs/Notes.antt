@@ -1,17 +1,20 @@
 -- What a session notes of its reads.
-use Rattle.std.specs.Prelude.{ℕ, List, Option, Some, None, slice_get}
-use Rattle.pc_types.specs.declared.Write.{Write}
-use Rattle.pc_model.specs.Receipts.{Read, with_read}
+use Rattle.std.specs.Prelude.{◌||◌, ℕ, Bool, List, [], ◌∷◌, ◌++◌, Option, Some, None, if◌then◌else◌, slice_get}
+use Rattle.pc_model.specs.Receipts.{Read, is_read}
 use Rattle.pc_txn.specs.declared.got.Got.{Got}
 use Rattle.pc_txn.specs.declared.got.Got.TheVariants as got
 use Rattle.pc_txn.specs.declared.session_notes.Latest.{Latest}
 use Rattle.pc_txn.specs.declared.session_notes.Latest.TheVariants as latest
 
--- the reads after such an answer
-abbrev pub reads_after : Got → List Write → List Read → List ℕ → List Read
-reads_after (got.Found value) writes reads key = with_read writes reads key (Some value)
-reads_after got.Absent writes reads key = with_read writes reads key None
-reads_after got.Died writes reads key = reads
+-- the reads with one more, where it is not of an own write, and the key was not read before
+abbrev pub noting : Bool → List Read → List ℕ → Option (List ℕ) → List Read
+noting own reads key content = if own || is_read reads key then reads else reads ++ (key, content) ∷ []
+
+-- the reads after such an answer, of a key that the transaction has written itself, or has not
+abbrev pub reads_after : Got → Bool → List Read → List ℕ → List Read
+reads_after (got.Found value) own reads key = noting own reads key (Some value)
+reads_after got.Absent own reads key = noting own reads key None
+reads_after got.Died own reads key = reads
 
 -- the value that a read was answered with
 abbrev pub value_of : Got → Option (List ℕ)

@@ -2,12 +2,12 @@
 ghost use Rattle.std.specs.Prelude.{◌≡◌, ◌<◌, ◌≤◌, ◌+◌, ◌++◌, [], length, vec_len, vec_capacity, slice_get, IsOk, OnOk, IfOk, IfErr, Some};
 ghost use Rattle.pc_model.specs.Database.{key_cmp};
 ghost use Rattle.pc_model.specs.Places.{IsAt, IsGap};
-ghost use Rattle.pc_model.specs.Receipts.{is_read, with_read};
+ghost use Rattle.pc_model.specs.Receipts.{is_read};
+ghost use Rattle.pc_txn.specs.Notes.{noting};
 ghost use Rattle.pc_txn.specs.Orders.{key_at, entries, IsOrder};
 ghost use Rattle.pc_txn.specs.Sets.{Roomy, read_keys};
 
 use crate::order::{self, Places};
-use crate::writes::WriteSet;
 use pc_types::{Key, Value};
 use smallvec::SmallVec;
 use std::alloc::{AllocError, Global};
@@ -78,20 +78,20 @@ impl ReadSet {
         Ok(())
     }
 
-    /// Notes the read of a key, for which there is room, where the key is not written and was not read before. It gives the
-    /// place of the read where it is noted, and else gives back what was read. It takes no memory.
+    /// Notes the read of a key, for which there is room, where it is not of an own write and the key was not read before. It gives
+    /// the place of the read where it is noted, and else gives back what was read. It takes no memory.
     pub fn note(
         &mut self,
-        writes: &WriteSet,
+        own: bool,
         key: Key,
         content: Option<Value>,
     ) -> Result<usize, Option<Value>>
         requires { 0 < self.old.room }
-        ensures reads { self.new.items ≡ with_read writes.now.items self.old.items key content }
+        ensures reads { self.new.items ≡ noting own self.old.items key content }
         ensures noted { IfOk result (λ place. slice_get self.new.items place ≡ Some (key, content)) }
         ensures other { IfErr result (λ back. back ≡ content) }
     {
-        if writes.has(&key) {
+        if own {
             return Err(content);
         }
         match position(self.reads.as_slice(), self.order.as_slice(), &key) {

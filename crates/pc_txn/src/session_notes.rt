@@ -1,16 +1,13 @@
-//! What a session has written and read, its receipts, and what it found.
-ghost use Rattle.std.specs.Prelude.{◌≡◌, ◌<◌, ◌∷◌, ◌++◌, [], true, false, Some, length, option_copied, slice_get};
-ghost use Rattle.pc_model.specs.Database.{with_write};
-ghost use Rattle.pc_model.specs.Receipts.{own, receipt_of, with_read};
-ghost use Rattle.pc_txn.specs.Filed.{HasRoomFor};
-ghost use Rattle.pc_txn.specs.Notes.{reads_after, content_of, kept_in, value_of};
+//! What a session keeps of its own calls, and what it found.
+ghost use Rattle.std.specs.Prelude.{◌≡◌, ◌<◌, ◌∷◌, ◌++◌, [], true, false, Bool, Some, length, option_copied, slice_get};
+ghost use Rattle.pc_txn.specs.Commits.{HasRoomFor, commit_note};
+ghost use Rattle.pc_txn.specs.Notes.{noting, reads_after, content_of, kept_in, value_of};
 ghost use Rattle.pc_txn.specs.declared.session_notes.Latest.TheVariants.{Nothing};
 
+use crate::commits::Commits;
 use crate::got::Got;
 use crate::reads::ReadSet;
-use crate::receipts::Receipts;
-use crate::writes::WriteSet;
-use pc_types::{Key, Lsn, SessionNo, Value, Write};
+use pc_types::{Key, Lsn, Value};
 use std::alloc::Global;
 
 /// The value that the latest call found.
@@ -24,18 +21,16 @@ pub enum Latest {
     Loose(Value),
 }
 
-/// What a session keeps: whether its transaction is open, what that has written and read, a receipt for each commit, and what the
-/// latest call found.
+/// What a session keeps: whether its transaction is open, what that has read, a note of each commit, and what the latest call
+/// found. What its transactions have written the store keeps.
 #[derive(Drop)]
 pub struct SessionNotes {
     /// Whether its transaction is open.
     pub busy: bool,
-    /// What the open transaction has written: the final write of each key, in the order of first writes.
-    pub writes: WriteSet,
     /// What the open transaction has read: the first read of each key that it had not written.
     pub reads: ReadSet,
-    /// A receipt for each commit, in their order.
-    pub receipts: Receipts,
+    /// A note of each commit, in their order.
+    pub commits: Commits,
     /// What the latest call found.
     pub latest: Latest,
 }
@@ -43,13 +38,12 @@ pub struct SessionNotes {
 impl SessionNotes {
     /// Nothing yet.
     pub fn new(alloc: Global) -> SessionNotes
-        ensures { (result.busy ≡ false) × (result.writes.items ≡ []) × (result.reads.items ≡ []) × (result.receipts.items ≡ []) × (result.latest ≡ Nothing) }
+        ensures { (result.busy ≡ false) × (result.reads.items ≡ []) × (result.commits.items ≡ []) × (result.latest ≡ Nothing) }
     {
         SessionNotes {
             busy: false,
-            writes: WriteSet::new(alloc),
             reads: ReadSet::new(alloc),
-            receipts: Receipts::new(alloc),
+            commits: Commits::new(alloc),
             latest: Latest::Nothing,
         }
     }
@@ -67,75 +61,55 @@ impl SessionNotes {
 
     /// A transaction begins.
     pub fn begin(&mut self)
-        ensures { (self.new.busy ≡ true) × (self.new.writes.items ≡ []) × (self.new.reads.items ≡ []) × (self.new.receipts.items ≡ self.old.receipts.items) × (self.new.latest ≡ Nothing) }
+        ensures { (self.new.busy ≡ true) × (self.new.reads.items ≡ []) × (self.new.commits.items ≡ self.old.commits.items) × (self.new.latest ≡ Nothing) }
     {
         self.latest = Latest::Nothing;
-        self.writes.clear();
         self.reads.clear();
         self.busy = true;
     }
 
-    /// A write was made: the value that the key was set to, or its removal.
-    pub fn write(&mut self, key: Key, value: Option<Value>)
-        requires { 0 < self.old.writes.room }
-        ensures writes { self.new.writes.items ≡ with_write self.old.writes.items (record { key = key; value = value }) }
-        ensures others { (self.new.busy ≡ self.old.busy) × (self.new.reads.items ≡ self.old.reads.items) × (self.new.receipts.items ≡ self.old.receipts.items) × (self.new.latest ≡ Nothing) }
+    /// A call was answered that found nothing: a write that was made, or a request that died.
+    pub fn find_nothing(&mut self)
+        ensures { (self.new.busy ≡ self.old.busy) × (self.new.reads.items ≡ self.old.reads.items) × (self.new.commits.items ≡ self.old.commits.items) × (self.new.latest ≡ Nothing) }
     {
         self.latest = Latest::Nothing;
-        self.writes.note(Write { key, value });
     }
 
-    /// A read was answered.
-    pub fn read(&mut self, key: Key, got: Got)
+    /// A read was answered, of a key that the transaction itself has written, or has not: what it has written itself is not noted.
+    pub fn read(&mut self, own: bool, key: Key, got: Got)
         requires { 0 < self.old.reads.room }
-        ensures reads { self.new.reads.items ≡ reads_after got self.old.writes.items self.old.reads.items key }
+        ensures reads { self.new.reads.items ≡ reads_after got own self.old.reads.items key }
         ensures latest { kept_in self.new.latest self.new.reads.items ≡ value_of got }
-        ensures others { (self.new.busy ≡ self.old.busy) × (self.new.writes.items ≡ self.old.writes.items) × (self.new.receipts.items ≡ self.old.receipts.items) }
+        ensures others { (self.new.busy ≡ self.old.busy) × (self.new.commits.items ≡ self.old.commits.items) }
     {
-        self.latest = note_got(&self.writes, &mut self.reads, key, got);
-    }
-
-    /// A request died.
-    pub fn die(&mut self)
-        ensures { (self.new.busy ≡ self.old.busy) × (self.new.writes.items ≡ self.old.writes.items) × (self.new.reads.items ≡ self.old.reads.items) × (self.new.receipts.items ≡ self.old.receipts.items) × (self.new.latest ≡ Nothing) }
-    {
-        self.latest = Latest::Nothing;
+        self.latest = note_got(own, &mut self.reads, key, got);
     }
 
     /// The transaction was aborted.
     pub fn abort(&mut self)
-        ensures { (self.new.busy ≡ false) × (self.new.receipts.items ≡ self.old.receipts.items) × (self.new.latest ≡ Nothing) }
+        ensures { (self.new.busy ≡ false) × (self.new.commits.items ≡ self.old.commits.items) × (self.new.latest ≡ Nothing) }
     {
         self.latest = Latest::Nothing;
         self.busy = false;
     }
 
-    /// The transaction was committed with this number: what it did becomes a receipt of the session.
-    pub fn commit(&mut self, session: SessionNo, number: Lsn)
-        requires { HasRoomFor self.old.receipts (length self.old.writes.items) (length self.old.reads.items) }
-        ensures { (self.new.busy ≡ false) × (self.new.receipts.items ≡ self.old.receipts.items ++ receipt_of session number (own self.old.busy self.old.writes.items self.old.reads.items self.old.receipts.items) ∷ []) × (self.new.latest ≡ Nothing) }
+    /// The transaction was committed with this number.
+    pub fn commit(&mut self, number: Lsn)
+        requires { HasRoomFor self.old.commits (length self.old.reads.items) }
+        ensures { (self.new.busy ≡ false) × (self.new.commits.items ≡ self.old.commits.items ++ commit_note number self.old.reads.items ∷ []) × (self.new.latest ≡ Nothing) }
     {
         self.latest = Latest::Nothing;
-        self.receipts
-            .push(session, number, &mut self.writes, &mut self.reads);
+        self.commits.push(number, &mut self.reads);
         self.busy = false;
     }
 }
 
-/// Makes room for one more receipt, of so many writes and reads, or answers false where memory ran out.
-pub fn has_room_for_receipt(receipts: &mut Receipts, writes: usize, reads: usize) -> bool
-    ensures same { receipts.new.items ≡ receipts.old.items }
-    ensures room { result ≡ true → HasRoomFor receipts.new writes reads }
+/// Makes room for one more commit, with so many reads, or answers false where memory ran out.
+pub fn has_room_for_commit(commits: &mut Commits, reads: usize) -> bool
+    ensures same { commits.new.items ≡ commits.old.items }
+    ensures room { result ≡ true → HasRoomFor commits.new reads }
 {
-    receipts.reserve(writes, reads).is_ok()
-}
-
-/// Makes room for one more write, or answers false where memory ran out.
-pub fn has_room_to_write(writes: &mut WriteSet) -> bool
-    ensures same { writes.new.items ≡ writes.old.items }
-    ensures room { result ≡ true → 0 < writes.new.room }
-{
-    writes.reserve().is_ok()
+    commits.reserve(reads).is_ok()
 }
 
 /// Makes room for one more read, or answers false where memory ran out.
@@ -156,13 +130,13 @@ fn content_at(reads: &[(Key, Option<Value>)], place: usize) -> Option<&Value>
     }
 }
 
-// Notes the read of the value, where it is the first of its key.
-fn note_value(writes: &WriteSet, reads: &mut ReadSet, key: Key, value: Value) -> Latest
+// Notes the read of the value, where it is the first of its key and is not of an own write.
+fn note_value(own: bool, reads: &mut ReadSet, key: Key, value: Value) -> Latest
     requires { 0 < reads.old.room }
-    ensures reads { reads.new.items ≡ with_read writes.now.items reads.old.items key (Some value) }
+    ensures reads { reads.new.items ≡ noting own reads.old.items key (Some value) }
     ensures latest { kept_in result reads.new.items ≡ Some value }
 {
-    match reads.note(writes, key, Some(value)) {
+    match reads.note(own, key, Some(value)) {
         Ok(place) => Latest::Noted(place),
         Err(Some(value)) => Latest::Loose(value),
         Err(None) => Latest::Nothing,
@@ -170,15 +144,15 @@ fn note_value(writes: &WriteSet, reads: &mut ReadSet, key: Key, value: Value) ->
 }
 
 // Notes what a read was answered.
-fn note_got(writes: &WriteSet, reads: &mut ReadSet, key: Key, got: Got) -> Latest
+fn note_got(own: bool, reads: &mut ReadSet, key: Key, got: Got) -> Latest
     requires { 0 < reads.old.room }
-    ensures reads { reads.new.items ≡ reads_after got writes.now.items reads.old.items key }
+    ensures reads { reads.new.items ≡ reads_after got own reads.old.items key }
     ensures latest { kept_in result reads.new.items ≡ value_of got }
 {
     match got {
-        Got::Found(value) => note_value(writes, reads, key, value),
+        Got::Found(value) => note_value(own, reads, key, value),
         Got::Absent => {
-            let _ = reads.note(writes, key, None);
+            let _ = reads.note(own, key, None);
             Latest::Nothing
         }
         Got::Died => Latest::Nothing,

@@ -101,27 +101,6 @@ impl WriteSet {
         }
     }
 
-    /// Takes all writes off.
-    pub fn clear(&mut self)
-        ensures { self.new.items ≡ [] }
-    {
-        self.writes.clear();
-        self.order.clear();
-    }
-
-    /// Moves all writes behind the list's items, for which the list has room. What memory the set has it keeps for later writes,
-    /// and it takes none.
-    pub fn move_into(&mut self, list: &mut Vec<Write>)
-        requires { vec_len list.old + length self.old.items ≤ vec_capacity list.old }
-        ensures list { list.new.items ≡ list.old.items ++ self.old.items }
-        ensures none_left { self.new.items ≡ [] }
-    {
-        if list.append(&mut self.writes).is_err() {
-            unreachable!();
-        }
-        self.order.clear();
-    }
-
     /// The writes, which are moved, in a list that has no more room than it takes. It takes no memory.
     pub fn into_writes(self) -> Items<Write>
         ensures { result ≡ self.items }

@@ -226,7 +226,7 @@ fn last_point<N: StoreName>(parts: &[PartTicket<N>]) -> u16 {
 fn receipts_of<N: StoreName>(sessions: &[Session<N>]) -> usize {
     let mut count = 0usize;
     for session in sessions {
-        count = count.saturating_add(session.receipts().len());
+        count = count.saturating_add(session.commits().len());
     }
     count
 }

@@ -350,13 +350,13 @@ fn left_by<N: StoreName>(
         commits: done.commits.load(Ordering::SeqCst),
         given_up: done.given_up.load(Ordering::SeqCst),
         receipts: count_of(&closed.receipts),
-        reads: reads_of(alloc, &closed.receipts)?,
+        reads: reads_of(closed),
         entries,
         tokens,
         logged: closed.logged,
         all: closed.all,
         is_written: is_text_of(alloc, text, closed)?,
-        are_exact: are_exact(alloc, closed.log(), &closed.receipts)?,
+        are_exact: are_exact(alloc, closed)?,
         right_files: right_files(alloc, closed)?,
     })
 }

@@ -1,89 +1,99 @@
 //! Receipts beside the log.
 use pc_replay::{Pairs, apply};
-use pc_shared::{Receipts, Session};
+use pc_shared::{Closed, LentReceipt, Session};
 use pc_tie::StoreName;
-use pc_types::{Entry, Key, Lsn, Receipt, Refusal, SessionNo, Value, Write};
+use pc_types::{Entry, Key, Lsn, Refusal, SessionNo, Value, Write};
 use std::alloc::Global;
 
 /// Whether each commit of the log has one receipt of its session, with the entry's writes, whose reads are what the keys had
 /// before it, and there is no other receipt.
-pub fn are_exact<N: StoreName>(
-    alloc: Global,
-    log: &[Entry],
-    sessions: &[Session<N>],
-) -> Result<bool, Refusal> {
+pub fn are_exact<N: StoreName>(alloc: Global, closed: &Closed<N>) -> Result<bool, Refusal> {
     let mut contents = Pairs::new(alloc);
     let mut number = 0u32;
     let mut commits = 0usize;
-    for entry in log {
+    for entry in closed.log() {
         number = number.saturating_add(1);
         if let Entry::Commit(session, writes) = entry {
             commits = commits.saturating_add(1);
-            let receipt = receipt_of(alloc, sessions, *session, Lsn(number))?;
-            if !is_exact(&contents, receipt.as_ref(), writes.as_slice()) {
+            let receipt = receipt_of(closed, *session, Lsn(number));
+            if !is_exact(&contents, receipt, *session, writes.as_slice()) {
                 return Ok(false);
             }
             apply_all(alloc, &mut contents, writes.as_slice())?;
         }
     }
-    Ok(commits == count_of(sessions))
+    Ok(commits == count_of(&closed.receipts))
 }
 
 /// How many receipts the sessions have.
 pub fn count_of<N: StoreName>(sessions: &[Session<N>]) -> usize {
     let mut count = 0usize;
     for session in sessions {
-        count = count.saturating_add(session.receipts().len());
+        count = count.saturating_add(session.commits().len());
     }
     count
 }
 
 /// How many reads the sessions' receipts have.
-pub fn reads_of<N: StoreName>(alloc: Global, sessions: &[Session<N>]) -> Result<usize, Refusal> {
+pub fn reads_of<N: StoreName>(closed: &Closed<N>) -> usize {
     let mut count = 0usize;
-    for session in sessions {
-        count = count.saturating_add(reads_in(alloc, session.receipts())?);
+    for session in 0..closed.receipts.len() {
+        count = count.saturating_add(reads_in(closed, session));
     }
-    Ok(count)
+    count
 }
 
-fn reads_in(alloc: Global, receipts: &Receipts) -> Result<usize, Refusal> {
+// How many reads the receipts of the session at the place have.
+fn reads_in<N: StoreName>(closed: &Closed<N>, session: usize) -> usize {
     let mut count = 0usize;
-    for place in 0..receipts.len() {
-        if let Some(receipt) = receipts.copy(alloc, place)? {
-            count = count.saturating_add(receipt.reads.as_slice().len());
+    for place in 0..commits_of(closed, session) {
+        if let Some(receipt) = closed.receipt(session, place) {
+            count = count.saturating_add(receipt.reads.len());
         }
     }
-    Ok(count)
+    count
 }
 
+// How many commits the session at the place has.
+fn commits_of<N: StoreName>(closed: &Closed<N>, session: usize) -> usize {
+    match closed.receipts.get(session) {
+        Some(session) => session.commits().len(),
+        None => 0,
+    }
+}
+
+// The receipt of the session for the entry of this number.
 fn receipt_of<N: StoreName>(
-    alloc: Global,
-    sessions: &[Session<N>],
+    closed: &Closed<N>,
     number: SessionNo,
     entry: Lsn,
-) -> Result<Option<Receipt>, Refusal> {
-    match sessions.iter().find(|session| session.number() == number) {
-        Some(session) => receipt_in(alloc, session.receipts(), entry),
-        None => Ok(None),
-    }
-}
-
-// The receipt of the entry of this number.
-fn receipt_in(alloc: Global, receipts: &Receipts, entry: Lsn) -> Result<Option<Receipt>, Refusal> {
-    for place in 0..receipts.len() {
-        if receipts.number(place) == Some(entry) {
-            return Ok(receipts.copy(alloc, place)?);
+) -> Option<LentReceipt<'_>> {
+    let session = closed
+        .receipts
+        .iter()
+        .position(|session| session.number() == number)?;
+    for place in 0..commits_of(closed, session) {
+        if let Some(receipt) = closed.receipt(session, place) {
+            if receipt.number == entry {
+                return Some(receipt);
+            }
         }
     }
-    Ok(None)
+    None
 }
 
-fn is_exact(contents: &Pairs, receipt: Option<&Receipt>, writes: &[Write]) -> bool {
+fn is_exact(
+    contents: &Pairs,
+    receipt: Option<LentReceipt<'_>>,
+    session: SessionNo,
+    writes: &[Write],
+) -> bool {
     let Some(receipt) = receipt else {
         return false;
     };
-    are_same(receipt.writes.as_slice(), writes) && have_read(contents, receipt.reads.as_slice())
+    receipt.session == session
+        && are_same(receipt.writes, writes)
+        && have_read(contents, receipt.reads)
 }
 
 fn are_same(ones: &[Write], others: &[Write]) -> bool {

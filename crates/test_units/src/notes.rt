@@ -74,20 +74,21 @@ fn read_at(
 ) -> Result<Option<usize>, Refusal> {
     reads.reserve()?;
     let key = key_of(alloc, number)?;
-    Ok(noted(reads, writes, key))
+    let own = writes.has(&key);
+    Ok(noted(reads, own, key))
 }
 
 // The place at which the read of the key is noted, if it is.
-fn noted(reads: &mut ReadSet, writes: &WriteSet, key: Key) -> Option<usize>
+fn noted(reads: &mut ReadSet, own: bool, key: Key) -> Option<usize>
     requires { 0 < reads.old.room }
 {
-    match reads.note(writes, key, None) {
+    match reads.note(own, key, None) {
         Ok(place) => Some(place),
         Err(_) => None,
     }
 }
 
-// A read is noted where its key was neither written nor read.
+// A read is noted where it is not of an own write, and the key was not read.
 #[test]
 fn notes_first_reads(rt: HostRuntime) -> Result<(), Fail> {
     let alloc = rt.alloc();

@@ -1,4 +1,4 @@
-use Rattle.std.proofs.Common.{◌≡◌, List, [], ◌∷◌, ◌++◌, map, All, append_assoc, sym, ap, ◌∙◌, subst, arith}
+use Rattle.std.proofs.Common.{◌≡◌, refl, List, [], ◌∷◌, ◌++◌, map, All, append_assoc, sym, ap, ◌∙◌, subst, arith}
 use Rattle.std.proofs.lemmas.List.{map-append}
 use Rattle.std.proofs.lemmas.List.Elements.{All-push}
 use Rattle.pc_tie.specs.declared.sight.Sitting.{Sitting}
@@ -18,7 +18,7 @@ give_back-seat-requires-clause-some g t c = (c.session.inside.seat, c.args.keepe
 pub returns-clause-seated : goal.returns-clause-seated
 returns-clause-seated g t c =
     let s = c.in-Some.session in
-    let mine = subst IsSeated c.session.view_is (c.number-number.ensures.session.speaks, c.session.invariant.0.of_commits) in
+    let mine = subst IsSeated c.session.view_is (c.number-number.ensures.session.speaks, refl) in
     subst (All IsSeated) (sym c.in-Some.ensures.items) (All-push IsSeated c.pop.new.self.items s c.compare_all.ensures.seated mine)
 
 pub returns-clause-fronts : goal.returns-clause-fronts

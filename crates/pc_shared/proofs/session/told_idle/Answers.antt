@@ -1,5 +1,5 @@
 use Rattle.pc_model.proofs.SessionCallLaws.{idle_is_answered}
-use Rattle.pc_shared.proofs.Calling.{is_known}
+use Rattle.pc_latch.proofs.OwnReading.{is_known}
 use Rattle.pc_shared.proofs.session.told_idle.Goals as goal
 
 pub returns-clause-answered : goal.returns-clause-answered

@@ -1,7 +1,7 @@
 use Rattle.std.proofs.Common.{◌≡◌, ◌+◌, ◌∷◌, ◌++◌, [], ℕ, suc, ap, sym, ◌∙◌, arith}
 use Rattle.pc_tie.specs.Rules.{sitting}
 use Rattle.pc_tie.specs.Seats.{Name}
-use Rattle.pc_shared.specs.Sitters.{sitter, new_sitters}
+use Rattle.pc_shared.specs.Sitters.{sitter, seated_at, new_sitters}
 use Rattle.pc_shared.proofs.store.Opened.named.Goals as goal
 
 pub deal-seat-requires : goal.deal-seat-requires
@@ -17,7 +17,7 @@ loop-preserved g c =
     let next : k + 1 ≡ suc k = omega arith in
     let dealt = c.loop.invariant.0 in
     let seat : c.deal-seat.result ≡ sitting (suc k) [] = c.deal-seat.ensures.seat ∙ ap (λ (n : ℕ). sitting n []) (ap (λ (n : ℕ). n + 1) dealt ∙ next) in
-    let added : sitter c.deal-seat.result.number c.deal-seat.result.seen c.new.result.receipts.items ≡ sitter (suc k) [] [] = (λ i. sitter (seat i).number (seat i).seen (c.new.ensures.3 i)) in
+    let added : seated_at c.deal-seat.result.number c.deal-seat.result.seen ≡ sitter (suc k) [] [] = (λ i. seated_at (seat i).number (seat i).seen) in
     let before : c.reserve.new.self.items ≡ new_sitters k = c.reserve.ensures.items ∙ c.loop.invariant.1 in
     (c.deal-seat.ensures.dealt ∙ ap (λ (n : ℕ). n + 1) dealt, c.push_reserved.ensures.items ∙ ((λ i. before i ++ added i ∷ []) ∙ ap new_sitters (sym next)))
 

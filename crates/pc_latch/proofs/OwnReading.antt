@@ -1,0 +1,37 @@
+-- That a read is of an own write is told by what the session has seen.
+use Rattle.std.proofs.Common.{◌≡◌, ℕ, Bool, true, false, true≢false, Some, None, refl, ap, sym, ◌∙◌, cond, arith}
+use Rattle.std.proofs.lemmas.Bool.Decides.{nat_tests}
+use Rattle.pc_types.specs.declared.Event.{Event}
+use Rattle.pc_model.specs.History.{History, is_open, writes_of}
+use Rattle.pc_model.specs.Replies.{Setting, no_session}
+use Rattle.pc_model.specs.Calls.{HasCallsOf}
+use Rattle.pc_model.specs.Receipts.{Own, own_of}
+use Rattle.pc_model.proofs.OwnCallLaws.{own_own, own_open, own_writes}
+use Rattle.pc_engine.specs.Store.{Active, Store, setting_of, active}
+use Rattle.pc_engine.specs.Sessions.{writes_in}
+use Rattle.pc_engine.specs.Stands.{Stands}
+use Rattle.pc_tie.specs.declared.sight.Sitting.{Sitting}
+use Rattle.pc_tie.specs.Seats.{IsSession}
+use Rattle.pc_latch.specs.OwnReads.{reads_one_of}
+
+-- a session's number is one of the store's
+pub is_known : (st : Setting) (s : Sitting) → IsSession st s → no_session st s.number ≡ false
+is_known st s is = let a = is.from_one in let b = is.within in grind (arith, nat_tests)
+
+writes_when : (is : Bool) (t : Active) → is ≡ true → writes_in (cond is (Some t) None) ≡ t.writes
+writes_when true t e = refl
+writes_when false t e = absurd (true≢false (sym e))
+
+-- what a session's open transaction has written is what its own calls say
+module _ (w : Store) (hist seen : History) (s : ℕ) (stands : Stands w hist) (known : no_session (setting_of w) s ≡ false) (has : HasCallsOf hist s seen) (opened : is_open s seen ≡ true) where
+  same : own_of s hist ≡ own_of s seen
+  same = sym (own_own s hist) ∙ (ap (own_of s) has.1 ∙ own_own s seen)
+
+  still : is_open s hist ≡ true
+  still = sym (own_open s hist) ∙ (ap (λ (o : Own). o.is_open) same ∙ (own_open s seen ∙ opened))
+
+  pub writes_known : writes_in (active w s) ≡ (own_of s seen).writes
+  writes_known = ap writes_in (stands.parts.sessions s known) ∙ (writes_when (is_open s hist) _ still ∙ (sym (own_writes s hist) ∙ ap (λ (o : Own). o.writes) same))
+
+  pub own_read : (event : Event) → reads_one_of (writes_in (active w s)) event ≡ reads_one_of (own_of s seen).writes event
+  own_read event = ap (λ ws. reads_one_of ws event) writes_known
