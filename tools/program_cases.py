@@ -245,10 +245,11 @@ def listed_cases(folder):
     told = b"point 0\nentries 0\n" + b"".join(b"skipped %s Short\n" % name for name in names) + b"pairs 1\na 0\n"
     yield Case("names in the order of their bytes", ("recover", "ordered"), 0, told)
     written(folder, "crowded/base.pcb", BASE)
-    for number in range(1000):
+    for number in range(10_000):
         written(folder, f"crowded/{number:05d}{'x' * 200}.pcp", PART)
+    for number in range(1_000):
         written(folder, f"crowded/{number:05d}.txt", b"")
-    yield Case("a folder of 2,000 files", ("recover", "crowded"), 0, WITH_PART)
+    yield Case("a folder of 10,000 parts and 1,000 other files", ("recover", "crowded"), 0, WITH_PART)
 
 
 def long_folder_cases(folder):
@@ -355,9 +356,26 @@ def pipe_cases(folder):
     pipe = piped(folder, "cut_pipe.pcp")
     with beside(lambda: feed(pipe, three[:-1])):
         yield Case("a pipe that is cut off", ("collapse", "lost.pcp", "cut_pipe.pcp"), 1, err=b"pcalc: lost.pcp: Short\n", files={"lost.pcp": None})
-    script = piped(folder, "pipe.pcs")
+    script, workload = piped(folder, "pipe.pcs"), piped(folder, "pipe.pcw")
     with beside(lambda: feed(script, b"begin 1\n")):
         yield Case("a script that is a pipe", ("step", "pipe.pcs"), 0, b"begun 1\n")
+    with beside(lambda: feed(workload, b"client 1\nfill a 3 x\n")):
+        yield Case("a workload that is a pipe", ("run", "pipe.pcw"), 0, b"commits 3\ngave up 0\npoints 0\ncollapsed none\ncheck ok\n")
+    yield from folder_pipe_cases(folder)
+
+
+def folder_pipe_cases(folder):
+    """Folders in which one file is a pipe: it is read to its end."""
+    log = plain_files.Log(1)
+    log.entries = [("token", "prepare", 1), ("token", "resolve", 1), ("commit", 1, [(b"z", b"1")])]
+    texts = {"base.pcb": BASE, "a.pcp": PART, "log.pcl": log.text()}
+    told = plain_files.recover(BASE, [(b"a.pcp", PART)], log.text()).text()
+    for name, text in texts.items():
+        for other in texts.keys() - {name}:
+            written(folder, f"pipe_{name}/{other}", texts[other])
+        pipe = piped(folder, f"pipe_{name}/{name}")
+        with beside(lambda: feed(pipe, text)):
+            yield Case(f"a folder whose {name} is a pipe", ("recover", f"pipe_{name}"), 0, told)
 
 
 def closed_cases(folder):

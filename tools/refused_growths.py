@@ -1,13 +1,13 @@
 #!/usr/bin/env python3
-"""Runs a workload into a folder, and each test of test_memory that is named for it, once for each growth of memory that they ask for, with that growth
-refused. `try_programs.py` does so in the gate; by hand this prints what it saw.
+"""Runs a workload into a folder, joins parts, recovers a folder, and runs each test of test_memory and test_growths that is named for it, once for each
+growth of memory that they ask for, with that growth refused. `try_programs.py` does so in the gate; by hand this prints what it saw.
 
 The run, `pcalc run --dir`, is to end whichever growth is refused: with the status 1, nothing printed and at most one fault told, or with the status 0,
-and then with all of its transactions, or with one given up and all others. A test's name ends in `at_each_refused_growth`: it asks again where memory
-was wanting, and wants in the end what it would have got with ample memory, so it passes whichever growth is refused. How many growths a run asks for
-goes up and down with its threads.
+and then with all of its transactions, or with one given up and all others. So are a collapse and a recovery, which print and write all. A test's name
+ends in `at_each_refused_growth`: it asks again where memory was wanting, and wants in the end what it would have got with ample memory, so it passes
+whichever growth is refused. How many growths a run asks for goes up and down with its threads.
 
-Both are programs of the gate, in out/ (`rt run` in the folder of pcalc, and `rt test` in that of test_memory, make them). What refuses is built by the
+All are programs of the gate, in out/ (`rt run` in the folder of pcalc, and `rt test` in that of each crate of tests, make them). What refuses is built by the
 compiler of the kit, and needs no header and no library.
 """
 
@@ -19,10 +19,13 @@ import sys
 import tempfile
 from concurrent.futures import ThreadPoolExecutor
 
+import plain_files
+from program_cases import written
+
 HERE = os.path.dirname(os.path.abspath(__file__))
 CRATES = os.path.join(HERE, "..", "crates")
 PROGRAM = os.path.join(CRATES, "pcalc", "out", "pcalc")
-TESTS = os.path.join(CRATES, "test_memory", "out", "test_memory_tests")
+TESTERS = ("test_memory", "test_growths")
 SOURCE = os.path.join(HERE, "refused_growths", "refuse.c")
 FLAGS = ("-shared", "-fPIC", "-O1", "-fno-builtin", "-nostdlib", "-Wall", "-Wextra", "-Werror")
 NAMES = (b"a", b"b", b"c")
@@ -77,38 +80,58 @@ def refused_each(call):
             yield from some
             if len(some) < LANES or any(told[0] is None for _, told in some):
                 return
-    yield MOST_GROWTHS, (None, b"", b"no end of growths", True)
+    yield MOST_GROWTHS, (None, b"", b"no end of growths", True, False)
 
 
-def run_with(library, program, room, number):
-    """A run of the workload into a folder of its own."""
-    folder = os.path.join(room, str(number))
-    os.makedirs(os.path.join(folder, "left"))
-    with open(os.path.join(folder, "growths.pcw"), "wb") as it:
-        it.write(WORKLOAD)
-    told = refused(library, number, (program, "run", "growths.pcw", "--dir", "left", *CREW), folder)
-    shutil.rmtree(folder)
-    return told
+class Command:
+    """Words of the program, the files that they need, what may be printed where they are done, and which file then has which text."""
+
+    def __init__(self, name, words, files, printed, output=(os.devnull, b"")):
+        self.name, self.words, self.files, self.printed, self.output = name, words, files, printed, output
+
+    def call(self, library, program, room, number):
+        """What is told where the growth of this number is refused, in a folder of its own, with whether the output is right."""
+        folder = os.path.join(room, str(number))
+        os.makedirs(os.path.join(folder, "left"))
+        for name, text in self.files.items():
+            written(folder, name, text)
+        told = refused(library, number, (program, *self.words), folder)
+        path, text = os.path.join(folder, self.output[0]), None
+        if os.path.exists(path):
+            with open(path, "rb") as it:
+                text = it.read()
+        shutil.rmtree(folder)
+        return *told, text == self.output[1]
+
+    def is_right(self, status, printed, told, is_written):
+        """Whether it has ended as it is to."""
+        if status == 0:
+            return printed in self.printed and not told and is_written
+        return status == 1 and not printed and FAULT.fullmatch(told) is not None
 
 
-def is_right(status, printed, told):
-    """Whether a run has ended as it is to."""
-    if status == 0:
-        return printed in (printed_with(0), printed_with(1)) and not told
-    return status == 1 and not printed and FAULT.fullmatch(told) is not None
+PARTS = {f"{point}.pcp": plain_files.Part(1, [(point, point)], {b"a key of many letters": (point, b"%d" % point), b"b": (point, None)}) for point in (1, 2, 3)}
+TEXTS = {name: part.text() for name, part in PARTS.items()}
+LOG = plain_files.Log(1)
+LOG.entries = [("commit", 1, [(b"another key of many letters", b"x")])]
+FOLDER = {"base.pcb": plain_files.Base(1, 0, {b"c": b"a value of many letters"}).text(), "log.pcl": LOG.text(), **TEXTS}
+WORTH = plain_files.recover(FOLDER["base.pcb"], [*TEXTS.items()], FOLDER["log.pcl"]).text()
+COMMANDS = (
+    Command("a run into a folder", ("run", "growths.pcw", "--dir", "left", *CREW), {"growths.pcw": WORKLOAD}, [printed_with(0), printed_with(1)]),
+    Command("a collapse", ("collapse", "all.pcp", *TEXTS), TEXTS, [b"points 1-3 entries 2\n"], ("all.pcp", plain_files.all_joined([*PARTS.values()]).text())),
+    Command("a recovery", ("recover", "."), FOLDER, [WORTH]),
+)
 
 
-def runs(library, program, room):
-    """What is wrong with the runs, a line each; what was seen is printed."""
+def ended(library, program, room, command):
+    """What is wrong with the calls of a command, a line each; what was seen is printed."""
     ends, lines = {0: 0, 1: 0}, []
-    for number, (status, printed, told, _) in refused_each(lambda number: run_with(library, program, room, number)):
+    for number, (status, printed, told, _, is_written) in refused_each(lambda number: command.call(library, program, room, number)):
         ends[status] = ends.get(status, 0) + 1
-        if not is_right(status, printed, told):
-            lines.append("growth %d: status %s, printed %r, told %r" % (number, status, printed, told))
-    print("a run into a folder: %d growths, refused in turn; status 1 at %d, status 0 at %d" % (sum(ends.values()), ends[1], ends[0]), flush=True)
-    if not all(ends[status] for status in (0, 1)):
-        lines.append("no run ended with the one status or the other")
-    return lines
+        if not command.is_right(status, printed, told, is_written):
+            lines.append("growth %d: status %s, printed %r, told %r, written %s" % (number, status, printed, told, is_written))
+    print("%s: %d growths, refused in turn; status 1 at %d, status 0 at %d" % (command.name, sum(ends.values()), ends[1], ends[0]), flush=True)
+    return lines if ends[1] else [*lines, "none ended with the status 1"]
 
 
 def tests_of(program):
@@ -125,19 +148,35 @@ def test(library, program, room, name):
     return ["growth %d: status %s" % (number, status) for number, status in seen if status != 0] if seen else ["it asked for no growth"]
 
 
-def growths(program=PROGRAM, tests=TESTS):
+def tests_program(tester):
+    return os.path.join(CRATES, tester, "out", f"{tester}_tests")
+
+
+def tester_growths(library, tester, room):
+    """What is wrong with the tests of a crate, by their names."""
+    try:
+        names = tests_of(tests_program(tester))
+    except (OSError, subprocess.CalledProcessError) as error:
+        yield f"{tester} has tests of growths", [str(error)]
+        return
+    yield f"{tester} has tests of growths", [] if names else [f"none has a name that ends in {MARK}"]
+    for name in names:
+        yield f"{tester} {name}", test(library, tests_program(tester), room, name)
+
+
+def growths(program=PROGRAM, testers=TESTERS):
     """What is wrong, by the name of a case; what was seen is printed."""
     with tempfile.TemporaryDirectory() as room:
         try:
-            library, names = built(room), tests_of(tests)
+            library = built(room)
             os.stat(program)
-        except (OSError, subprocess.CalledProcessError) as error:
+        except OSError as error:
             yield "growths that are refused", [str(error)]
             return
-        yield "pcalc run, each growth refused", runs(library, program, room)
-        yield "test_memory has tests of growths", [] if names else ["none has a name that ends in %s" % MARK]
-        for name in names:
-            yield name, test(library, tests, room, name)
+        for command in COMMANDS:
+            yield f"{command.name}, each growth refused", ended(library, program, room, command)
+        for tester in testers:
+            yield from tester_growths(library, tester, room)
 
 
 def main():

@@ -234,6 +234,76 @@ def contention_cases(folder):
             yield Case(f"{clients} clients want {what}", ("run", name, "--workers", str(clients)), 0, told)
 
 
+def in_arena(clients, points):
+    """A workload of clients each of whom sets a key of its own and removes it, 1,000 times."""
+    lines = [b"points %d\n" % points]
+    for client in range(1, clients + 1):
+        lines.append(b"client %d\n" % client + b"txn\nput k%d x\nend\ntxn\ndel k%d\nend\n" % (client, client) * 1_000)
+    return b"".join(lines)
+
+
+def is_of_arena(count):
+    """Whether a run's lines tell of so many transactions, of which some may be given up, and of all points."""
+    def is_right(text):
+        commits, given_up, points, *_, last = [line.split(b" ") for line in text.splitlines()]
+        return int(commits[1]) + int(given_up[2]) == count and int(commits[1]) >= 1_000 and (points, last) == ([b"points", b"20"], [b"check", b"ok"])
+    return is_right
+
+
+def arena_cases(folder):
+    """Clients in a store of four keys. There is room for all of four; of eight for those whose keys come first, as long as no point is taken."""
+    written(folder, "small_arena.pcw", in_arena(4, 20))
+    told = b"commits 8000\ngave up 0\npoints 20\ncollapsed 1-20 entries 4\nstate pairs 0\ncheck ok\n"
+    yield Case("four clients in a store of four keys", ("run", "small_arena.pcw", "--capacity", "4"), 0, told)
+    written(folder, "full_arena.pcw", in_arena(8, 1))
+    told = b"commits 8000\ngave up 8000\npoints 1\ncollapsed 1 entries 4\nstate pairs 0\ncheck ok\n"
+    yield Case("eight clients before the one point", ("run", "full_arena.pcw", "--capacity", "4", "--workers", "8"), 0, told)
+    written(folder, "crowded_arena.pcw", in_arena(8, 20))
+    told = written(folder, "crowded_arena.out", b"")
+    words = ("run", "crowded_arena.pcw", "--capacity", "4", "--workers", "8")
+    yield Case("eight clients beside 20 points", words, 0, output=told, checks={"crowded_arena.out": is_of_arena(16_000)})
+
+
+def mixed(client, number):
+    """A transaction of a client that wants some of 100 keys, as its operations: they wait for one another, and die."""
+    keys = [b"a%d" % ((client * 37 + number * 11 + place * 29) % 100) for place in range(4)]
+    return [(b"get", keys[0]), (b"put", keys[1], b"%d" % number), (b"del", keys[2]), (b"put", keys[3], b"%d" % client)]
+
+
+def writes_of(ops):
+    """The final writes of these operations, in the order of first writes."""
+    final = {}
+    for verb, key, *value in ops:
+        if verb != b"get":
+            final[key] = value[0] if value else None
+    return [*final.items()]
+
+
+def has_commits(wanted):
+    """Whether a log has of each client just these commits, in their order."""
+    def is_right(text):
+        logged = {client: [] for client in wanted}
+        for entry in plain_files.read_log(text).entries:
+            if entry[0] == "commit":
+                logged[entry[1]].append(entry[2])
+        return logged == wanted
+    return is_right
+
+
+def everything_cases(folder):
+    """All that there may be at once: 64 clients over 100 keys, 100 points, eight collapsers, and a folder."""
+    jobs = {client: [mixed(client, number) for number in range(50)] for client in range(1, 65)}
+    lines = [b"points 100\n"]
+    for client, transactions in jobs.items():
+        lines.append(b"client %d\n" % client + b"".join(b"txn\n" + b"".join(b" ".join(op) + b"\n" for op in ops) + b"end\n" for ops in transactions))
+    written(folder, "everything.pcw", b"".join(lines))
+    words = ("run", "everything.pcw", "--workers", "64", "--collapsers", "8", "--dir", new_folder(folder, "everything"), "--lag", "10")
+    told = [b"commits 3200\ngave up 0\npoints 100\ncollapsed 1-100 entries ", b"\ncheck ok\n"]
+    wanted = {client: [writes_of(ops) for ops in transactions] for client, transactions in jobs.items()}
+    yield Case("64 clients, 100 points and eight collapsers", words, 0, parts=told, checks={"everything/log.pcl": has_commits(wanted)})
+    yield recovery("everything", "the folder of all that", plain_files.recover(*files_of(os.path.join(folder, "everything"))))
+
+
 def fault_cases(folder):
     """Runs that fail: which fault is told."""
     written(folder, "one.pcw", ONE)
@@ -422,5 +492,5 @@ def number_cases(folder):
 
 def cases(folder):
     """Each case, whose files are written into the folder right before it."""
-    for some in (usage_cases, workload_cases, telling_cases, pace_cases, contention_cases, fault_cases, used_cases, from_cases, number_cases, folder_cases):
+    for some in (usage_cases, workload_cases, telling_cases, pace_cases, contention_cases, arena_cases, everything_cases, fault_cases, used_cases, from_cases, number_cases, folder_cases):
         yield from some(folder)

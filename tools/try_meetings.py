@@ -6,6 +6,7 @@ tools/meetings/*.edit, each of which must be seen in what the threads of crates/
     try_meetings.py NAME..     these alone
     try_meetings.py --since    those that weren't tried on the text of their crates as it is now
     try_meetings.py --list     tells when each was last tried; the status is 1 where one wasn't on this text
+    try_meetings.py --known    the same, but the status is 1 only where one was never seen as it stands now: the gate asks that
 
 An edit is written as those of crates/*/must-fail are, with its files named from the folder crates/ on. One more line says where it must be seen:
 
@@ -167,14 +168,17 @@ def try_body(name):
     return not wrong
 
 
-def tell():
-    """When each was last tried; the status is 1 where one wasn't on this text."""
-    stale = 0
+def is_known(name):
+    """Whether it was seen as it stands now, on whichever text."""
+    return record().get(name, (("",), None))[0][0] == sums_of(name)[0]
+
+
+def tell(is_right):
+    """When each was last tried; the status is 1 where one isn't right."""
     for name in bodies():
         date = record().get(name, (None, "never"))[1]
-        stale += not is_tried(name)
         print(f"{name}: {'tried on this text' if is_tried(name) else 'not tried on this text'}, {date}")
-    return int(stale > 0)
+    return int(not all(map(is_right, bodies())))
 
 
 def main():
@@ -182,9 +186,10 @@ def main():
     reader.add_argument("names", nargs="*")
     reader.add_argument("--since", action="store_true")
     reader.add_argument("--list", action="store_true")
+    reader.add_argument("--known", action="store_true")
     given = reader.parse_args()
-    if given.list:
-        return tell()
+    if given.list or given.known:
+        return tell(is_tried if given.list else is_known)
     unknown = [name for name in given.names if name not in bodies()]
     if unknown:
         sys.exit(f"no such body in tools/meetings: {' '.join(unknown)}")

@@ -8,8 +8,9 @@
     program_cases.py      options, files that can't be had, long files, a full output, little memory
     run_cases.py          workloads that are run on threads, and the folders that they leave
     crash_cases.py        runs that are killed, and what is recovered of their folders
-    refused_growths.py    a run and the tests of test_memory, each growth of memory that they ask for refused in turn
-    PAGES                 what tools make of the crates stands in docs/ as they make it, and each wrong body is one
+    refused_growths.py    a run and the tests of test_memory and test_growths, each growth of memory that they ask for refused in turn
+    PAGES                 what tools make of the crates stands in docs/ as they make it, and each wrong body is one, those of tools/meetings as they
+                          were seen
     tests/                the tests of these tools, on what is made up
 
 What differs is shown, and what was seen of growths; the last line is 'N passed, M failed'; the status is 1 where one failed.
@@ -35,7 +36,7 @@ import run_cases
 ROOT = os.path.join(os.path.dirname(os.path.abspath(__file__)), "..")
 SECONDS = 60
 NOBODY = 65_534
-PAGES = ("check_edits.py",), ("crate_tables.py",), ("spec_guide.py", "--check")
+PAGES = ("check_edits.py",), ("crate_tables.py",), ("spec_guide.py", "--check"), ("try_meetings.py", "--known")
 TESTS = os.path.join(ROOT, "tools", "tests")
 
 

@@ -184,12 +184,21 @@ class Meetings(InFolder):
         self.assertEqual([name for name in try_meetings.bodies() if try_meetings.is_tried(name)], ["work"])
         self.write("crates/pc_low/src/lib.rt", "let a = 1;\n")
         self.assertEqual([name for name in try_meetings.bodies() if try_meetings.is_tried(name)], [])
-        self.assertEqual(self.printed(try_meetings.tell)[0], 1)
+        self.assertEqual(self.printed(try_meetings.tell, try_meetings.is_tried)[0], 1)
+
+    def test_a_body_is_known_as_long_as_it_stays(self):
+        for name in ("meet", "work", "test"):
+            self.assertEqual(self.printed(try_meetings.tell, try_meetings.is_known)[0], 1)
+            try_meetings.note(name)
+        self.write("crates/pc_low/src/lib.rt", "let a = 1;\n")
+        self.assertEqual(self.printed(try_meetings.tell, try_meetings.is_known)[0], 0)
+        self.write("tools/meetings/meet.edit", "meeting: two meet\nfile: pc_low/src/lib.rt\nold: a = 1\nnew: a = 5\n")
+        self.assertEqual([name for name in try_meetings.bodies() if not try_meetings.is_known(name)], ["meet"])
 
     def test_the_record_has_none_that_is_gone(self):
         for name in ("meet", "work", "test"):
             try_meetings.note(name)
-        self.assertEqual(self.printed(try_meetings.tell)[0], 0)
+        self.assertEqual(self.printed(try_meetings.tell, try_meetings.is_tried)[0], 0)
         os.remove(os.path.join(self.folder, "tools/meetings/work.edit"))
         try_meetings.note("meet")
         self.assertEqual([*try_meetings.record()], ["meet", "test"])

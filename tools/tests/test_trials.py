@@ -96,12 +96,15 @@ class Growths(InFolder):
 
     def test_growths_without_an_end_are_told(self):
         self.replace(refused_growths, LANES=2, MOST_GROWTHS=5)
-        self.assertEqual([*refused_growths.refused_each(self.calls(100))][-1], (5, (None, b"", b"no end of growths", True)))
+        self.assertEqual([*refused_growths.refused_each(self.calls(100))][-1], (5, (None, b"", b"no end of growths", True, False)))
 
     def test_how_a_run_may_end(self):
+        run = refused_growths.COMMANDS[0]
         whole, less = refused_growths.printed_with(0), refused_growths.printed_with(1)
         for right in ((0, whole, b""), (0, less, b""), (1, b"", b""), (1, b"", b"pcalc: growths.pcw: OutOfMemory\n"), (1, b"", b"pcalc: growths.pcw: NoThread\n")):
-            self.assertTrue(refused_growths.is_right(*right), right)
+            self.assertTrue(run.is_right(*right, True), right)
+        self.assertFalse(run.is_right(0, whole, b"", False))
+        self.assertTrue(run.is_right(1, b"", b"", False))
         for wrong in (
             (0, refused_growths.printed_with(2), b""),
             (0, whole, b"pcalc: growths.pcw: OutOfMemory\n"),
@@ -111,19 +114,34 @@ class Growths(InFolder):
             (101, b"", b""),
             (None, b"", b""),
         ):
-            self.assertFalse(refused_growths.is_right(*wrong), wrong)
+            self.assertFalse(run.is_right(*wrong, True), wrong)
 
     def test_what_is_wrong_with_runs(self):
-        """Some are to end with each of both statuses."""
-        ended, lost = (0, refused_growths.printed_with(0), b"", True), (1, b"", b"", True)
-        for ends, wrong in (([ended, lost], 0), ([ended, ended], 1), ([ended, lost, (2, b"", b"", True)], 1)):
+        """Some are to end with the status 1."""
+        done, lost = (0, refused_growths.printed_with(0), b"", True, True), (1, b"", b"", True, False)
+        for ends, wrong in (([done, lost], 0), ([done, done], 1), ([done, lost, (2, b"", b"", True, True)], 1), ([lost, (*done[:4], False)], 1)):
             with mock.patch.object(refused_growths, "refused_each", return_value=enumerate(ends, 1)):
-                self.assertEqual(len(self.printed(refused_growths.runs, "library", "pcalc", self.folder)[0]), wrong)
+                found = self.printed(refused_growths.ended, "library", "pcalc", self.folder, refused_growths.COMMANDS[0])[0]
+                self.assertEqual(len(found), wrong)
+
+    def test_what_a_command_writes(self):
+        """It is right where it is the file's text, and wrong where it is another or none."""
+        for written, is_right in (("right", True), ("wrong", False), ("", False)):
+            script = f"printf {written} >out" if written else "true"
+            command = refused_growths.Command("one", ("-c", script), {"in": b"x"}, [b""], ("out", b"right"))
+            self.assertEqual(command.call("", "sh", self.folder, 3)[-1], is_right)
+        self.assertEqual(os.listdir(self.folder), [])
 
     def test_what_is_wrong_with_a_test(self):
         for ends, wrong in (([(0,), (0,)], []), ([(0,), (101,)], ["growth 2: status 101"]), ([], ["it asked for no growth"])):
             with mock.patch.object(refused_growths, "refused_each", return_value=enumerate(ends, 1)):
                 self.assertEqual(self.printed(refused_growths.test, "library", "tests", self.folder, "one")[0], wrong)
+
+    def test_a_crate_without_tests_is_told(self):
+        [(name, lines)] = refused_growths.tester_growths("library", "test_nothing", self.folder)
+        self.assertEqual((name, len(lines)), ("test_nothing has tests of growths", 1))
+        with mock.patch.object(refused_growths, "tests_of", return_value=[]):
+            self.assertEqual([*refused_growths.tester_growths("library", "test_nothing", self.folder)], [(name, ["none has a name that ends in at_each_refused_growth"])])
 
     def test_tests_are_found_by_their_names(self):
         listed = "one_at_each_refused_growth: test\nother: test\nat_each_refused_growth_no: test\n2 tests\n"

@@ -51,14 +51,16 @@ fn is_stopped(alloc: Global, bytes: &[u8], fault: ErrorKind) -> bool {
     refused == Some(Refusal::Device) && tally.failures() == 1
 }
 
+const HUNDRED: [u8; 100] = [b'x'; 100];
+
 // A reader that fails at each place in turn.
 #[test]
 fn stops_at_a_failed_read(rt: HostRuntime) {
-    for bytes in ["", "abcde", "abcdefghij"] {
+    for length in 0..=HUNDRED.len() {
         for fault in FAULTS {
             assert!(rt;
-                is_stopped(rt.alloc(), bytes.as_bytes(), fault),
-                "after {bytes}"
+                is_stopped(rt.alloc(), &HUNDRED[..length], fault),
+                "after {length}"
             );
         }
     }

@@ -37,6 +37,36 @@ const BESIDE_A_POINT: Plan = Plan {
     alone: &[],
 };
 
+// Session 2 commits a hundred keys before the point is begun. Session 1 begins once the phase is resolve, and stands with its first
+// transaction open until all of them were taken and the point's part was done; the keys may be taken only once it is open.
+const CAPTURE_GOES_ON: Plan = Plan {
+    sessions: 2,
+    points: 1,
+    joins: 0,
+    work: Work::Made(2, 100, MadeJobs::Apart),
+    lag: None,
+    stops: &[
+        Stop(
+            SignVisit(Sign::PrepareIsDue, 1),
+            SignVisit(Sign::SecondCommits, 100),
+        ),
+        Stop(
+            SignVisit(Sign::FirstStarts, 1),
+            SignVisit(Sign::EntersResolve, 1),
+        ),
+        Stop(
+            SignVisit(Sign::CaptureIsDue, 1),
+            SignVisit(Sign::FirstSteps, 1),
+        ),
+        Stop(SignVisit(Sign::FirstSteps, 1), SignVisit(Sign::Takes, 100)),
+        Stop(
+            SignVisit(Sign::FirstSteps, 1),
+            SignVisit(Sign::EntersComplete, 1),
+        ),
+    ],
+    alone: &[],
+};
+
 // Session 1 begins in the third point's phase resolve, and stands with a locked until the collapser holds two of the files. The end
 // is marked only after session 1, so a collapser that joins nothing before then lets it stand in vain.
 const COLLAPSE_BESIDE: Plan = Plan {
@@ -261,8 +291,9 @@ const LOG_HOLDS: Plan = Plan {
 };
 
 /// All of them, with their names.
-pub const PLANS: [(&str, Plan); 11] = [
+pub const PLANS: [(&str, Plan); 12] = [
     ("beside a point", BESIDE_A_POINT),
+    ("a capture goes on", CAPTURE_GOES_ON),
     ("collapse beside", COLLAPSE_BESIDE),
     ("the end wakes a collapser", END_WAKES),
     ("read back", READ_BACK),

@@ -4,7 +4,7 @@ use std::sync::atomic::{AtomicU64, Ordering};
 
 /// A place that is counted: of sessions 1 and 2 the beginnings of transactions, their first operations and their commits; of
 /// session 3 the beginnings and the commits; that session 1 waits for the log, and that the logger is to write; of the checkpointer
-/// some of its phases, and its keys; how often the first collapser holds two files, and that it has ended; and that the end is marked.
+/// some of its phases, that some are due, and its keys; how often the first collapser holds two files, and that it has ended; and that the end is marked.
 #[derive(Clone, Copy, Debug, PartialEq, Eq)]
 pub enum Sign {
     FirstStarts,
@@ -18,6 +18,7 @@ pub enum Sign {
     FirstIsBehind,
     LoggerIsToWrite,
     PrepareIsDue,
+    CaptureIsDue,
     EntersResolve,
     EntersComplete,
     EntersRest,
@@ -41,6 +42,7 @@ pub fn sign_of(place: GatePlace) -> Option<Sign> {
         GatePlace::Behind(SessionNo(1)) => Some(Sign::FirstIsBehind),
         GatePlace::Writing(_) => Some(Sign::LoggerIsToWrite),
         GatePlace::Due(Phase::Prepare) => Some(Sign::PrepareIsDue),
+        GatePlace::Due(Phase::Capture) => Some(Sign::CaptureIsDue),
         GatePlace::Entered(Phase::Resolve) => Some(Sign::EntersResolve),
         GatePlace::Entered(Phase::Complete) => Some(Sign::EntersComplete),
         GatePlace::Entered(Phase::Rest) => Some(Sign::EntersRest),
@@ -53,7 +55,7 @@ pub fn sign_of(place: GatePlace) -> Option<Sign> {
 /// How often each was passed.
 #[derive(Drop)]
 pub struct SignCounts {
-    counts: [AtomicU64; 18],
+    counts: [AtomicU64; 19],
 }
 
 impl SignCounts {
@@ -61,6 +63,7 @@ impl SignCounts {
     pub fn new() -> SignCounts {
         SignCounts {
             counts: [
+                AtomicU64::new(0),
                 AtomicU64::new(0),
                 AtomicU64::new(0),
                 AtomicU64::new(0),

@@ -1,0 +1,117 @@
+//! Parts of three points that are joined by each call.
+ghost use Rattle.std.specs.Prelude.{◌≤◌};
+
+use pc_collapse::{collapse_bag, collapse_rounds, fold};
+use pc_part::Part;
+use pc_types::{OpenGate, Refusal, Tally};
+use std::alloc::Global;
+use std::sync::Wait;
+use std::test::Fail;
+use std::thread::Threads;
+
+// The parts of points 1, 2 and 3 of run 1. In the first `a` and `b` are a value that takes memory of its own, in the second `a`
+// is another one, and in the third `b` is gone.
+const TEXTS: [&[u8]; 3] = [
+    b"PCALCP01\
+    \x00\x00\x00\x00\x00\x00\x00\x01\
+    \x00\x00\x00\x01\x00\x00\x00\x01\x00\x00\x00\x01\
+    \x00\x01a\x00\x00\x00\x01\x01\x00\x00\x00\x12one of 18 letters.\
+    \x00\x01b\x00\x00\x00\x01\x01\x00\x00\x00\x12one of 18 letters.\
+    \x00\x00\x00\x00\x00\x02",
+    b"PCALCP01\
+    \x00\x00\x00\x00\x00\x00\x00\x01\
+    \x00\x00\x00\x01\x00\x00\x00\x02\x00\x00\x00\x02\
+    \x00\x01a\x00\x00\x00\x02\x01\x00\x00\x00\x12two of 18 letters.\
+    \x00\x00\x00\x00\x00\x01",
+    b"PCALCP01\
+    \x00\x00\x00\x00\x00\x00\x00\x01\
+    \x00\x00\x00\x01\x00\x00\x00\x03\x00\x00\x00\x03\
+    \x00\x01b\x00\x00\x00\x03\x00\
+    \x00\x00\x00\x00\x00\x01",
+];
+
+const JOINED: &[u8] = b"PCALCP01\
+    \x00\x00\x00\x00\x00\x00\x00\x01\
+    \x00\x00\x00\x01\x00\x00\x00\x01\x00\x00\x00\x03\
+    \x00\x01a\x00\x00\x00\x02\x01\x00\x00\x00\x12two of 18 letters.\
+    \x00\x01b\x00\x00\x00\x03\x00\
+    \x00\x00\x00\x00\x00\x02";
+
+// By which call parts are joined.
+#[derive(Clone, Copy, Debug)]
+enum Call {
+    Fold,
+    Rounds,
+    Bag,
+}
+
+const CALLS: [Call; 3] = [Call::Fold, Call::Rounds, Call::Bag];
+
+// On how many threads.
+const COLLAPSERS: u8 = 2;
+
+fn parts(alloc: Global) -> Result<Vec<Part>, Refusal> {
+    let mut parts = Vec::new(alloc);
+    for text in TEXTS {
+        parts.push(Part::decode(alloc, text)?)?;
+    }
+    Ok(parts)
+}
+
+fn join_by<R: Threads + Wait + Sync>(
+    rt: &R,
+    alloc: Global,
+    call: Call,
+    parts: &[Part],
+) -> Result<Part, Refusal> {
+    match call {
+        Call::Fold => fold(alloc, parts),
+        Call::Rounds => collapse_rounds(rt, alloc, parts, COLLAPSERS, &OpenGate),
+        Call::Bag => collapse_bag(rt, alloc, parts, COLLAPSERS, &OpenGate),
+    }
+}
+
+fn has_text(alloc: Global, part: &Part, text: &[u8]) -> Result<bool, Refusal> {
+    let mut out = Tally::new(Vec::new(alloc));
+    part.encode(&mut out)?;
+    Ok(out.into_inner().as_slice() == text)
+}
+
+// What the call is told, where memory is wanting the second time that it is made.
+fn join_again<R: Threads + Wait + Sync>(
+    rt: &R,
+    alloc: Global,
+    call: Call,
+    parts: &[Part],
+) -> Result<Part, Refusal> {
+    match join_by(rt, alloc, call, parts) {
+        Err(Refusal::OutOfMemory) => join_by(rt, alloc, call, parts),
+        told => told,
+    }
+}
+
+// Whether each call gives the join.
+fn all_join<R: Threads + Wait + Sync>(rt: &R, alloc: Global) -> Result<bool, Refusal> {
+    let parts = match parts(alloc) {
+        Ok(parts) => parts,
+        Err(_) => parts(alloc)?,
+    };
+    for call in CALLS {
+        let joined = join_again(rt, alloc, call, &parts)?;
+        let is_right = match has_text(alloc, &joined, JOINED) {
+            Ok(is_right) => is_right,
+            Err(_) => has_text(alloc, &joined, JOINED)?,
+        };
+        if !is_right {
+            return Ok(false);
+        }
+    }
+    Ok(true)
+}
+
+// Whichever growth is refused, and on whichever thread, the same call made again gives the join: the parts stay as they were.
+#[test]
+fn all_join_the_same_at_each_refused_growth(rt: HostRuntime) -> Result<(), Fail> {
+    assert!(rt; all_join(&rt, rt.alloc())?);
+    Ok(())
+}

@@ -1,0 +1,14 @@
+//! Tests of growths of memory that are refused of a shared store that one thread uses, and of files that are joined, by one
+//! thread and by several: nothing else stands here.
+//!
+//! A test whose name ends in `at_each_refused_growth` asks again where memory was wanting, and wants in the end what it would
+//! have got with ample memory, so it passes whichever growth is refused. `tools/refused_growths.py` runs each such test
+//! once for each growth that it asks for, with that growth refused.
+#![tactic(auto)]
+
+#[cfg(test)]
+mod collapses;
+#[cfg(test)]
+mod sessions;
+#[cfg(test)]
+mod shared;

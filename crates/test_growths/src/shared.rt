@@ -1,0 +1,306 @@
+//! A shared store of two sessions, a checkpointer and a logger, all of which one thread plays.
+ghost use Rattle.std.specs.Prelude.{◌≡◌, IfOk};
+
+use crate::sessions::{Ask, Told, answer_again};
+use pc_part::Base;
+use pc_shared::{
+    CallAnswer, CheckpointerSeat, Closed, LogPass, Opened, PartTicket, Session, Shared,
+};
+use pc_tie::StoreName;
+use pc_types::{FileNo, Phase, Refusal, Reply};
+use std::alloc::Global;
+use std::hash::RandomState;
+use std::marker::Brand;
+use std::sync::Wait;
+use std::test::Fail;
+
+// Keys and values that take memory of their own.
+const A: &[u8] = b"a word of 20 letters";
+
+const B: &[u8] = b"b word of 20 letters";
+
+const ONE: &[u8] = b"1 word of 20 letters";
+
+const TWO: &[u8] = b"2 word of 20 letters!";
+
+const OK: Told = Told::Answer(CallAnswer::Ok);
+
+const FOUND: Told = Told::Answer(CallAnswer::Found);
+
+const ABSENT: Told = Told::Answer(CallAnswer::Absent);
+
+// Before the first point: of each session, by its place, what is asked and answered.
+const FIRST: [(usize, Ask, Told); 13] = [
+    (0, Ask::Begin, Told::Begun(1)),
+    (0, Ask::Get(A), ABSENT),
+    (0, Ask::Put(A, ONE), OK),
+    (0, Ask::Get(A), FOUND),
+    (0, Ask::Del(B), OK),
+    (0, Ask::Commit, Told::Committed(1)),
+    (1, Ask::Begin, Told::Begun(2)),
+    (1, Ask::Get(A), FOUND),
+    (1, Ask::Get(B), ABSENT),
+    (1, Ask::Put(B, TWO), OK),
+    (1, Ask::Abort, Told::Aborted),
+    (1, Ask::Abort, Told::Refused(Refusal::NoTransaction)),
+    (0, Ask::Commit, Told::Refused(Refusal::NoTransaction)),
+];
+
+// Before the second one.
+const SECOND: [(usize, Ask, Told); 5] = [
+    (1, Ask::Begin, Told::Begun(3)),
+    (1, Ask::Get(A), FOUND),
+    (1, Ask::Put(A, TWO), OK),
+    (1, Ask::Put(B, TWO), OK),
+    (1, Ask::Commit, Told::Committed(7)),
+];
+
+// Behind it, open till the end.
+const LAST: [(usize, Ask, Told); 2] = [(0, Ask::Begin, Told::Begun(4)), (0, Ask::Del(A), OK)];
+
+// The phases of a point.
+const PHASES: [Phase; 3] = [Phase::Prepare, Phase::Resolve, Phase::Capture];
+
+// How many entries the log has in the end: two commits, and five phases of each of two points.
+const ENTRIES: usize = 12;
+
+// Everybody at a store.
+#[derive(Drop)]
+struct Table<N: StoreName> {
+    alloc: Global,
+    shared: Shared<N>,
+    sessions: Vec<Session<N>>,
+    checkpointer: CheckpointerSeat<N>,
+    pass: LogPass<N>,
+}
+
+impl<N: StoreName> Table<N> {
+    // The number of the first row, from 1 on, that is answered otherwise, or 0.
+    fn first_wrong<R: Wait>(&mut self, rt: &R, rows: &[(usize, Ask, Told)]) -> usize {
+        for (at, row) in rows.iter().enumerate() {
+            let Some(session) = self.sessions.get_mut(row.0) else {
+                return at + 1;
+            };
+            if answer_again(rt, self.alloc, &self.shared, session, row.1) != row.2 {
+                return at + 1;
+            }
+        }
+        0
+    }
+
+    // What the checkpointer is answered, where memory was wanting the second time.
+    fn advance<R: Wait>(&mut self, rt: &R) -> Reply {
+        match self.shared.advance(rt, &mut self.checkpointer) {
+            Reply::Refused(Refusal::OutOfMemory) => {
+                self.shared.advance(rt, &mut self.checkpointer)
+            }
+            told => told,
+        }
+    }
+
+    fn take<R: Wait>(&mut self, rt: &R) -> Reply {
+        match self.shared.take(rt, &mut self.checkpointer) {
+            Reply::Refused(Refusal::OutOfMemory) => self.shared.take(rt, &mut self.checkpointer),
+            told => told,
+        }
+    }
+
+    // Whether the phases follow one another up to the capture.
+    fn captures<R: Wait>(&mut self, rt: &R) -> bool {
+        for phase in PHASES {
+            match self.advance(rt) {
+                Reply::Phase(now, _) if now == phase => {}
+                _ => return false,
+            }
+        }
+        true
+    }
+
+    // Takes two keys, and then none; whether the part has so many entries, and the cycle ends.
+    fn completes<R: Wait>(&mut self, rt: &R) -> bool {
+        for _ in 0..2 {
+            let Reply::Took(_, _) = self.take(rt) else {
+                return false;
+            };
+        }
+        let Reply::NoneLeft = self.take(rt) else {
+            return false;
+        };
+        let Reply::PartDone(_, _, 2) = self.advance(rt) else {
+            return false;
+        };
+        matches!(self.advance(rt), Reply::Phase(Phase::Rest, _))
+    }
+
+    // The ticket of the file of this number; asked again where memory was wanting.
+    fn ticket<R: Wait>(&mut self, rt: &R, number: u32) -> Result<PartTicket<N>, Refusal> {
+        let number = FileNo(number);
+        match self.shared.take_part(rt, &mut self.checkpointer, number) {
+            Err(Refusal::OutOfMemory) => {
+                self.shared.take_part(rt, &mut self.checkpointer, number)
+            }
+            told => told,
+        }
+    }
+
+    // The logger is handed the entries, two or so at a time: how many in all, or 0 where a refused call has moved its pass.
+    fn log<R: Wait>(&mut self, rt: &R) -> usize {
+        for _ in 0..2 * ENTRIES {
+            let before = self.pass.len();
+            let told = self.shared.log_next(rt, &mut self.pass, 64);
+            if told.is_err() && self.pass.len() != before {
+                return 0;
+            }
+        }
+        self.pass.len()
+    }
+
+    // The store is closed, with the ticket; the list of tickets is made again where memory was wanting.
+    fn close(self, ticket: PartTicket<N>) -> Result<Closed<N>, Refusal> {
+        let Table {
+            alloc,
+            shared,
+            sessions,
+            checkpointer,
+            pass,
+        } = self;
+        let mut tickets = match Vec::with_capacity(alloc, 1) {
+            Ok(tickets) => tickets,
+            Err(_) => Vec::with_capacity(alloc, 1)?,
+        };
+        tickets.push_reserved(ticket);
+        Ok(shared.close(sessions, checkpointer, tickets, pass))
+    }
+}
+
+// The join of both; asked again where memory was wanting, of both as they were handed back.
+fn join<N: StoreName>(
+    first: PartTicket<N>,
+    second: PartTicket<N>,
+) -> Result<PartTicket<N>, Refusal> {
+    let (first, second) = match first.join(second) {
+        Ok(joined) => return Ok(joined),
+        Err((why, first, second)) => {
+            if why != Refusal::OutOfMemory {
+                return Err(why);
+            }
+            (first, second)
+        }
+    };
+    match first.join(second) {
+        Ok(joined) => Ok(joined),
+        Err((why, _first, _second)) => Err(why),
+    }
+}
+
+// What is left of a store: the receipts of both sessions, as their numbers, reads and writes; the entries of the log, and those
+// that were handed out; and of the joined part its last point and its entries.
+type Left = ([Option<(u32, usize, usize)>; 4], usize, usize, u16, usize);
+
+const LEFT: Left = (
+    [Some((1, 1, 2)), None, Some((7, 1, 2)), None],
+    ENTRIES,
+    ENTRIES,
+    2,
+    2,
+);
+
+fn receipt<N: StoreName>(
+    closed: &Closed<N>,
+    session: usize,
+    place: usize,
+) -> Option<(u32, usize, usize)> {
+    match closed.receipt(session, place) {
+        Some(receipt) => Some((receipt.number.0, receipt.reads.len(), receipt.writes.len())),
+        None => None,
+    }
+}
+
+fn left<N: StoreName>(closed: &Closed<N>) -> Left {
+    let receipts = [
+        receipt(closed, 0, 0),
+        receipt(closed, 0, 1),
+        receipt(closed, 1, 0),
+        receipt(closed, 1, 1),
+    ];
+    let (last, entries) = match closed.parts.first() {
+        Some(ticket) => (
+            ticket.part().complete_to().map_or(0, |point| point.0),
+            ticket.part().entries().len(),
+        ),
+        None => (0, 0),
+    };
+    (receipts, closed.log().len(), closed.logged, last, entries)
+}
+
+// All that is done: the numbers of the first wrong rows, whether both points were taken, and what is left.
+type Played = ([usize; 3], bool, Left);
+
+fn play<N: StoreName, R: Wait>(rt: &R, mut table: Table<N>) -> Result<Played, Refusal> {
+    let first = table.first_wrong(rt, &FIRST);
+    let mut taken = table.captures(rt) && table.completes(rt);
+    let second = table.first_wrong(rt, &SECOND);
+    taken = taken && table.captures(rt) && table.completes(rt);
+    let last = table.first_wrong(rt, &LAST);
+    let one = table.ticket(rt, 1)?;
+    let two = table.ticket(rt, 2)?;
+    let joined = join(one, two)?;
+    table.log(rt);
+    Ok(([first, second, last], taken, left(&table.close(joined)?)))
+}
+
+fn open(alloc: Global, seed: RandomState) -> Result<Opened, Refusal> {
+    let base = Base::start(1, Vec::new(alloc));
+    Opened::new(alloc, base, 2, 2, seed)
+}
+
+// What is played with the store; None where there was no memory to give it its name.
+fn play_named<N: StoreName, R: Wait>(
+    rt: &R,
+    alloc: Global,
+    opened: Opened,
+) -> Result<Option<Played>, Refusal>
+    requires { opened ≡ N.name }
+{
+    let Ok((shared, sessions, checkpointer, pass)) = opened.named::<N>() else {
+        return Ok(None);
+    };
+    let table = Table {
+        alloc,
+        shared,
+        sessions,
+        checkpointer,
+        pass,
+    };
+    Ok(Some(play(rt, table)?))
+}
+
+// A store, opened again where memory was wanting.
+fn open_again(alloc: Global, seed: RandomState) -> Result<Opened, Refusal> {
+    match open(alloc, seed) {
+        Ok(opened) => Ok(opened),
+        Err(_) => open(alloc, seed),
+    }
+}
+
+fn play_opened<R: Wait>(
+    rt: &R,
+    alloc: Global,
+    seed: RandomState,
+) -> Result<Option<Played>, Refusal> {
+    let opened = open_again(alloc, seed)?;
+    play_named::<Brand, _>(rt, alloc, opened)
+}
+
+// Whichever growth is refused, each call that is refused leaves its session and its pass as they were, and made again answers as
+// with ample memory, and so does all behind it.
+#[test]
+fn a_shared_store_answers_the_same_at_each_refused_growth(rt: HostRuntime) -> Result<(), Fail> {
+    let seed = RandomState::new(&rt)?;
+    let played = match play_opened(&rt, rt.alloc(), seed)? {
+        None => play_opened(&rt, rt.alloc(), seed)?,
+        played => played,
+    };
+    assert_eq!(rt; played, Some(([0, 0, 0], true, LEFT)));
+    Ok(())
+}

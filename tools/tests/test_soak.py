@@ -1,0 +1,191 @@
+"""What `soak.py` holds a program to: stand-ins that are right in all, and such that are wrong in one thing, which has to be found."""
+
+import os
+import random
+import unittest
+from unittest import mock
+
+from support import InFolder
+
+import plain_files
+import plain_store
+import soak
+from run_cases import files_of
+
+
+def step(path, sessions, capacity, run):
+    """What a script prints, and the status."""
+    script = plain_store.Script(*(int(word.partition("=")[2]) for word in (sessions, capacity, run)))
+    with open(path, "rb") as it:
+        out = b"".join(script.answer(line) for line in plain_store.lines_of(it.read()))
+    return script.status, out, b""
+
+
+def recover(place):
+    with open(os.path.join(place, "log.pcl"), "ab"):
+        pass
+    try:
+        return 0, plain_files.recover(*files_of(place)).text(), b""
+    except plain_files.Refused as fault:
+        return 1, b"", b"pcalc: %s: %s\n" % (place.encode(), fault.name.encode())
+
+
+def collapse(option, out, *names):
+    try:
+        parts = []
+        for name in names:
+            with open(name, "rb") as it:
+                parts.append(plain_files.read_part(it.read()))
+        joined = plain_files.all_joined(parts)
+    except plain_files.Refused as fault:
+        return 1, b"", b"pcalc: %s: %s\n" % (out.encode(), fault.name.encode())
+    with open(out, "wb") as it:
+        it.write(joined.text())
+    return 0, b"points %s entries %d\n" % (plain_store.points_text(plain_files.points_of(joined)), len(joined.entries)), b""
+
+
+def run(workload, option, place, *words):
+    """The clients one after the other, without points: the lines up to the last two are those that are looked at."""
+    log, client, final = plain_files.Log(1), None, {}
+    with open(workload, "rb") as it:
+        lines = [line.split() for line in it]
+    for verb, *rest in lines[1:]:
+        if verb == b"client":
+            client = int(rest[0])
+        elif verb == b"end":
+            log.entries.append(("commit", client, [*final.items()]))
+            final = {}
+        elif verb in (b"put", b"del"):
+            final[rest[0]] = rest[1] if verb == b"put" else None
+    for name, text in (("base.pcb", plain_files.Base(1, 0, {}).text()), ("log.pcl", log.text())):
+        with open(os.path.join(place, name), "wb") as it:
+            it.write(text)
+    return 0, b"commits %d\ngave up 0\npoints 0\ncollapsed none\ncheck ok\n" % len(log.entries), b""
+
+
+COMMANDS = {"step": step, "recover": recover, "collapse": collapse, "run": run}
+
+
+def stand_in(folder, command, *words):
+    before = os.getcwd()
+    os.chdir(folder)
+    try:
+        return COMMANDS[command](*words)
+    finally:
+        os.chdir(before)
+
+
+class Soaks(InFolder):
+    """Cases of each kind, by stand-ins."""
+
+    def setUp(self):
+        super().setUp()
+        self.patch(soak, "ran", stand_in)
+
+    def patch(self, where, name, by):
+        patched = mock.patch.object(where, name, by)
+        patched.start()
+        self.addCleanup(patched.stop)
+
+    def found(self, kind, most=60):
+        """What is shown of the first case that differs, nothing where none of so many does."""
+        for number in range(most):
+            _, lines = soak.case(kind, "tests", number)
+            if lines:
+                return lines
+        return []
+
+    def without_points(self):
+        draw = soak.Runs.draw
+
+        def drawn(kind, chance):
+            (_, *rest), pieces = draw(kind, chance)
+            return (0, *rest), pieces
+
+        self.patch(soak.Runs, "draw", drawn)
+        self.patch(soak.Runs, "RECOVERIES", 3)
+
+    def test_what_is_right(self):
+        self.without_points()
+        for kind in soak.KINDS:
+            self.assertEqual(self.found(kind, 20), [], kind.name)
+
+    def test_a_case_follows_from_its_number(self):
+        for kind in soak.KINDS:
+            self.assertEqual(kind.draw(random.Random("5")), kind.draw(random.Random("5")))
+
+    def test_the_smallest_pieces(self):
+        self.assertEqual(soak.smallest([*range(20)], lambda some: 3 in some and 17 in some), [3, 17])
+        self.assertEqual(soak.smallest([1, 2], lambda some: True), [])
+
+    def test_a_script_whose_take_shows_no_tombstone(self):
+        def wrong(*words):
+            status, out, err = step(*words)
+            return status, out.replace(b" tombstone\n", b" -\n"), err
+
+        with mock.patch.dict(COMMANDS, step=wrong):
+            lines = self.found(soak.Scripts(), 400)
+        self.assertCountEqual([line.split(" ")[0] for line in lines[2:-2]], ["begin", "del", "commit", "point", "seal", "capture", "take"])
+
+    def test_a_recovery_that_reads_a_whole_entry_too_few(self):
+        def wrong(place):
+            status, out, err = recover(place)
+            return status, out.replace(b"entries 1", b"entries 0"), err
+
+        with mock.patch.dict(COMMANDS, recover=wrong):
+            lines = self.found(soak.Recoveries())
+        self.assertIn("recoveries", lines[0])
+        self.assertIn("entries 1", lines[-2])
+
+    def test_a_collapse_that_drops_tombstones(self):
+        def wrong(option, out, *names):
+            with mock.patch.object(plain_files, "join", lambda first, second: without_tombstones(first, second)):
+                return collapse(option, out, *names)
+
+        join = plain_files.join
+
+        def without_tombstones(first, second):
+            part = join(first, second)
+            part.entries = {key: entry for key, entry in part.entries.items() if entry[1] is not None}
+            return part
+
+        with mock.patch.dict(COMMANDS, collapse=wrong):
+            lines = self.found(soak.Collapses())
+        self.assertEqual((lines[0].split(" ")[0], len(lines)), ("collapses", 5), "two inputs are enough")
+
+    def test_a_run_whose_log_leaves_out_an_empty_commit(self):
+        self.without_points()
+        text = plain_files.Log.text
+
+        def wrong(log):
+            log.entries = [entry for entry in log.entries if entry[2]]
+            return text(log)
+
+        self.patch(plain_files.Log, "text", wrong)
+        lines = self.found(soak.Runs())
+        self.assertIn("runs", lines[0])
+        self.assertEqual(lines[2].count("txn"), 1)
+
+    def test_a_run_that_gives_up(self):
+        self.without_points()
+
+        def wrong(*words):
+            status, out, err = run(*words)
+            return status, out.replace(b"gave up 0", b"gave up 1"), err
+
+        with mock.patch.dict(COMMANDS, run=wrong):
+            self.assertIn("gave up 1", self.found(soak.Runs())[-1])
+
+    def test_clashes(self):
+        parts = [plain_files.Part(3, [(1, 2)], entries) for entries in ({b"a": (1, b"1")}, {b"a": (1, b"2")}, {b"a": (2, b"3")})]
+        self.assertEqual(soak.clashes(parts[:2]), (True, True))
+        self.assertEqual(soak.clashes(parts), (False, True))
+        self.assertEqual(soak.clashes(parts[1:]), (False, False))
+
+    def test_what_was_tried_is_told(self):
+        counts, differing = soak.soak(0.0, "tests")
+        self.assertEqual((dict(counts), differing), ({}, 0))
+
+
+if __name__ == "__main__":
+    unittest.main()
