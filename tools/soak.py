@@ -29,7 +29,7 @@ from run_cases import files_of, has_commits, writes_of
 
 PROGRAM = os.path.abspath(os.path.join(os.path.dirname(os.path.abspath(__file__)), "..", "crates", "pcalc", "out", "pcalc"))
 LANES = os.cpu_count() or 1
-SECONDS = 60
+SECONDS = 600
 KEYS = [b"a", b"b", b"c", b"d", b"e", b"k\\x00", b"\\xff"]
 VALUES = [b"-", b"1", b"22", b"\\x5c\\x2d", b"x" * 40]
 ODD = [b"", b"# nothing", b"frob", b"get 1", b"put 1 a", b"put 1 - x", b"get 0 a", b"begin 257", b"text 99", b"join 1 99", b"state 0", b"base a 1"]
@@ -37,8 +37,11 @@ NEXT = {"rest": [b"point"], "prepare": [b"seal"], "resolve": [b"capture"], "capt
 
 
 def ran(folder, *words):
-    """The status, the output and the error stream of the program with these words."""
-    told = subprocess.run([PROGRAM, *words], cwd=folder, stdin=subprocess.DEVNULL, capture_output=True, timeout=SECONDS)
+    """The status, the output and the error stream of the program with these words; no status where it doesn't end."""
+    try:
+        told = subprocess.run([PROGRAM, *words], cwd=folder, stdin=subprocess.DEVNULL, capture_output=True, timeout=SECONDS)
+    except subprocess.TimeoutExpired:
+        return None, b"", b"no end in %d s" % SECONDS
     return told.returncode, told.stdout, told.stderr
 
 

@@ -80,6 +80,7 @@ class Soaks(InFolder):
 
     def setUp(self):
         super().setUp()
+        self.program = soak.ran
         self.patch(soak, "ran", stand_in)
 
     def patch(self, where, name, by):
@@ -175,6 +176,10 @@ class Soaks(InFolder):
 
         with mock.patch.dict(COMMANDS, run=wrong):
             self.assertIn("gave up 1", self.found(soak.Runs())[-1])
+
+    def test_a_program_without_an_end(self):
+        with mock.patch.multiple(soak, PROGRAM="sleep", SECONDS=0):
+            self.assertEqual(self.program(self.folder, "100"), (None, b"", b"no end in 0 s"))
 
     def test_clashes(self):
         parts = [plain_files.Part(3, [(1, 2)], entries) for entries in ({b"a": (1, b"1")}, {b"a": (1, b"2")}, {b"a": (2, b"3")})]
