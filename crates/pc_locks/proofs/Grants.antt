@@ -9,9 +9,8 @@ use Rattle.std.proofs.lemmas.List.Folds.{list_all-append}
 use Rattle.pc_types.specs.declared.Request.{Request}
 use Rattle.pc_model.specs.Locks.{Queue, are_compatible, granted_behind, is_exclusive}
 use Rattle.pc_model.specs.Queues.{stands_in, AreOnce}
-use Rattle.pc_locks.specs.declared.node.Node.{Node}
 use Rattle.pc_locks.specs.States.{is_listed, first_of}
-use Rattle.pc_locks.specs.Tables.{Nodes, node_at, request_of, request_at, place_of, requests}
+use Rattle.pc_locks.specs.Tables.{Nodes, Placed, node_at, request_of, request_at, place_of, requests}
 use Rattle.pc_locks.proofs.TableLemmas.{transaction_same, requests_same}
 use Rattle.pc_locks.proofs.RemovalLemmas.{member_stands, once_behind, back_listed}
 
@@ -67,11 +66,11 @@ stands_same nodes new_nodes p [] t = refl
 stands_same nodes new_nodes p (x ∷ xs) t = rw (transaction_same nodes new_nodes x (p x), stands_same nodes new_nodes p xs t)
 
 -- writing a request
-pub written_is : (node : Option Node) (q : Request) → is_some (place_of node) ≡ true → request_of (option_map (λ (n : Node). record n { request = q }) node) ≡ q
+pub written_is : (node : Option Placed) (q : Request) → is_some (place_of node) ≡ true → request_of (option_map (λ (n : Placed). record n { request = q }) node) ≡ q
 written_is None q e = absurd cc
 written_is (Some n) q e = refl
 
-pub place_written : (node : Option Node) (q : Request) → q.transaction ≡ (request_of node).transaction → place_of (option_map (λ (n : Node). record n { request = q }) node) ≡ place_of node
+pub place_written : (node : Option Placed) (q : Request) → q.transaction ≡ (request_of node).transaction → place_of (option_map (λ (n : Placed). record n { request = q }) node) ≡ place_of node
 place_written None q e = refl
 place_written (Some n) q e = ap (λ t. Some (n.slot, t)) e
 
@@ -163,7 +162,7 @@ grant_all was nodes ids is_first are_shared at count g h = by g.behind (ap lengt
 
 module _ (was nodes new_nodes : Nodes) (ids : List ℕ) (is_first are_shared : Bool) (at new_at : Option ℕ) (count id : ℕ) (g : Granting was nodes ids is_first are_shared at count) (e : at ≡ Some id)
     (fit : (is_first || (are_shared && not (is_exclusive (request_at nodes id).mode))) ≡ true)
-    (written : node_at new_nodes id ≡ option_map (λ (n : Node). record n { request = record (request_at nodes id) { granted = true } }) (node_at nodes id))
+    (written : node_at new_nodes id ≡ option_map (λ (n : Placed). record n { request = record (request_at nodes id) { granted = true } }) (node_at nodes id))
     (stay : (other : ℕ) → other ≢ id → node_at new_nodes other ≡ node_at nodes other)
     (next : (before rest : List ℕ) → ids ≡ before ++ id ∷ rest → new_at ≡ first_of rest) where
   at_it : Here ids g.before g.behind id
@@ -229,13 +228,13 @@ module _ (was nodes new_nodes : Nodes) (ids : List ℕ) (is_first are_shared : B
 
 pub grant_step : (was nodes new_nodes : Nodes) (ids : List ℕ) (is_first are_shared shared : Bool) (at new_at : Option ℕ) (count id : ℕ) (r : Request) → Granting was nodes ids is_first are_shared at count → at ≡ Some id →
     r ≡ request_at nodes id → shared ≡ (are_shared && not (is_exclusive r.mode)) → (is_first || shared) ≡ true →
-    node_at new_nodes id ≡ option_map (λ (n : Node). record n { request = record r { granted = true } }) (node_at nodes id) →
+    node_at new_nodes id ≡ option_map (λ (n : Placed). record n { request = record r { granted = true } }) (node_at nodes id) →
     ((other : ℕ) → other ≢ id → node_at new_nodes other ≡ node_at nodes other) → ((before rest : List ℕ) → ids ≡ before ++ id ∷ rest → new_at ≡ first_of rest) → Granting was new_nodes ids false shared new_at (count + 1)
 grant_step was nodes new_nodes ids is_first are_shared shared at new_at count id r g e same s f w o n =
     let all : shared ≡ (are_shared && not (is_exclusive (request_at nodes id).mode)) = s ∙ ap (λ (x : Request). are_shared && not (is_exclusive x.mode)) same in
     subst (λ b. Granting was new_nodes ids false b new_at (count + 1)) (sym all)
     (grant_on was nodes new_nodes ids is_first are_shared at new_at count id g e (sym (ap (λ b. is_first || b) all) ∙ f)
-    (w ∙ ap (λ (x : Request). option_map (λ (m : Node). record m { request = record x { granted = true } }) (node_at nodes id)) same) o n)
+    (w ∙ ap (λ (x : Request). option_map (λ (m : Placed). record m { request = record x { granted = true } }) (node_at nodes id)) same) o n)
 
 or_false : (a b : Bool) → (a || b) ≡ false → (a ≡ false) × (b ≡ false)
 or_false true b e = absurd cc

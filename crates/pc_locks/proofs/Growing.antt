@@ -1,11 +1,15 @@
--- The row of links grows, and an id is linked in.
-use Rattle.std.proofs.Common.{◌≡◌, ℕ, ◌≤◌, List, [], ◌∷◌, ◌++◌, length, Option, refl, sym, ◌∙◌, ap}
+-- A request comes into the table, and goes out of it.
+use Rattle.std.proofs.Common.{◌≡◌, ◌≢◌, ℕ, List, [], ◌∷◌, ◌++◌, false, true, sym, ◌∙◌, ap, subst}
+use Rattle.std.proofs.lemmas.Bool.{false_from_ne_true}
 use Rattle.pc_chain.specs.declared.chain.Chain.{Chain}
-use Rattle.pc_locks.specs.Lines.{next_in, ids_by, LineBecomes}
-use Rattle.pc_locks.specs.States.{SetsAt, AreAlike, is_listed}
-use Rattle.pc_locks.specs.Tables.{Nodes, requests, IsTable}
-use Rattle.pc_locks.specs.Keepers.{state_of, AreTied}
-use Rattle.pc_locks.proofs.LineLemmas.{ids_same, lines_same}
+use Rattle.pc_locks.specs.Lines.{Links, link_at, ids_by, AreLines, LineBecomes}
+use Rattle.pc_locks.specs.States.{slots_of, is_listed, AreFilled}
+use Rattle.pc_locks.specs.Changes.{IsAdded}
+use Rattle.pc_locks.specs.Tables.{Nodes, Placed, node_at, links_in, IsTable}
+use Rattle.pc_locks.specs.Keepers.{KeptRequests, AreTied}
+use Rattle.pc_locks.proofs.LineLemmas.{LinesStay, lines_stay}
+use Rattle.pc_locks.proofs.TableLemmas.{Added, vacant_queue}
+use Rattle.pc_locks.proofs.RemovalLemmas.{Removed, queue_left}
 
 pub table_alike : (nodes : Nodes) (ids new_ids : ℕ → List ℕ) (entries : List (ℕ × List ℕ)) → ((u : ℕ) → new_ids u ≡ ids u) → IsTable nodes ids entries → IsTable nodes new_ids entries
 table_alike nodes ids new_ids entries e a = record {
@@ -15,18 +19,58 @@ table_alike nodes ids new_ids entries e a = record {
   filled = a.filled;
 }
 
-module _ (ends : ℕ → Chain ℕ) (nodes : Nodes) (links room : List (Option ℕ)) (entries : List (ℕ × List ℕ)) (f : (id : ℕ) → next_in room id ≡ next_in links id) where
-  pub ids_grown : (u : ℕ) → ids_by room ends u ≡ ids_by links ends u
-  ids_grown u = ids_same links room (ends u) f
+-- a request was added, and then its id is linked to the end of its slot's queue
+module _ (old added : KeptRequests) (request : Placed) (id : ℕ) (a : IsAdded old added request id) (ends : ℕ → Chain ℕ) (t : AreTied ends old) where
+  unqueued : (u : ℕ) → is_listed (ids_by (links_in old.nodes.slots) ends u) id ≡ false
+  unqueued u = false_from_ne_true (is_listed (ids_by (links_in old.nodes.slots) ends u) id) (λ e. vacant_queue old.nodes.slots (ids_by (links_in old.nodes.slots) ends) old.entries id t.table a.was_free u e)
 
-  pub tied_grown : length links ≤ length room → AreTied ends (record { nodes = nodes; links = links; entries = entries }) → AreTied ends (record { nodes = nodes; links = room; entries = entries })
-  tied_grown h a = record { lines = lines_same links room ends f h a.lines; table = table_alike nodes (ids_by links ends) (ids_by room ends) entries ids_grown a.table }
+  pub added_lines : LinesStay (links_in old.nodes.slots) (links_in added.nodes.slots) ends
+  added_lines = lines_stay (links_in old.nodes.slots) (links_in added.nodes.slots) ends
+      (λ u x l. a.links x (λ e. let z : false ≡ true = sym (unqueued u) ∙ (ap (is_listed (ids_by (links_in old.nodes.slots) ends u)) (sym e) ∙ l) in cc)) t.lines
 
-  pub alike_grown : AreAlike (state_of ends (record { nodes = nodes; links = room; entries = entries })) (state_of ends (record { nodes = nodes; links = links; entries = entries }))
-  alike_grown = record { queues = λ u. ap (requests nodes) (ids_grown u); lists = refl }
+  pub added_fresh : (u : ℕ) → is_listed (ids_by (links_in added.nodes.slots) ends u) id ≡ false
+  added_fresh u = ap (λ xs. is_listed xs id) (added_lines.ids u) ∙ unqueued u
 
-  pub pushed_ids : (new_links : List (Option ℕ)) (new_ends : ℕ → Chain ℕ) (s id : ℕ) → LineBecomes room new_links ends new_ends s (ids_by room ends s ++ id ∷ []) → SetsAt (ids_by links ends) (ids_by new_links new_ends) s (ids_by links ends s ++ id ∷ [])
-  pushed_ids new_links new_ends s id b = record {
-    this = b.this ∙ ap (λ xs. xs ++ id ∷ []) (ids_grown s);
-    others = λ u n. b.others u n ∙ ids_grown u;
+  pub added_linked : (new : KeptRequests) (new_ends : ℕ → Chain ℕ) → LineBecomes (links_in added.nodes.slots) (links_in new.nodes.slots) ends new_ends request.slot (ids_by (links_in added.nodes.slots) ends request.slot ++ id ∷ []) →
+      ((other : ℕ) → node_at new.nodes.slots other ≡ node_at added.nodes.slots other) → new.entries ≡ added.entries →
+      Added old.nodes.slots new.nodes.slots (ids_by (links_in old.nodes.slots) ends) (ids_by (links_in new.nodes.slots) new_ends) old.entries new.entries request.slot id request.request
+  added_linked new new_ends b n e = record {
+    was = t.table;
+    queue = record {
+      this = b.this ∙ ap (λ xs. xs ++ id ∷ []) (added_lines.ids request.slot);
+      others = λ u m. b.others u m ∙ added_lines.ids u;
+    };
+    vacant = a.was_free;
+    here = n id ∙ a.here;
+    nodes_stay = λ other m. n other ∙ a.nodes other m;
+    list = ap (λ entries. slots_of entries request.request.transaction) e ∙ a.list;
+    lists_stay = λ u m. ap (λ entries. slots_of entries u) e ∙ a.lists u m;
+    filled = subst AreFilled (sym e) a.filled;
+  }
+
+-- a request was unlinked from its slot's queue, and then its place was freed
+module _ (nodes new_nodes : Nodes) (ids : ℕ → List ℕ) (links new_links : Links) (new_ends : ℕ → Chain ℕ) (entries new_entries : List (ℕ × List ℕ)) (s t id : ℕ)
+    (a : Removed nodes new_nodes ids (ids_by links new_ends) entries new_entries s t id) (stay : (other : ℕ) → other ≢ id → link_at new_links other ≡ link_at links other) (lines : AreLines links new_ends) where
+  pub freed_lines : LinesStay links new_links new_ends
+  freed_lines = lines_stay links new_links new_ends (λ u x l. stay x (queue_left nodes new_nodes ids (ids_by links new_ends) entries new_entries s t id a u x l).0) lines
+
+  pub freed_removed : Removed nodes new_nodes ids (ids_by new_links new_ends) entries new_entries s t id
+  freed_removed = record {
+    popped = a.popped;
+    once = a.once;
+    unlinked = record {
+      before = a.unlinked.before;
+      id = a.unlinked.id;
+      behind = a.unlinked.behind;
+      split = a.unlinked.split;
+      none_before = a.unlinked.none_before;
+      passed = a.unlinked.passed;
+      new = record {
+        this = freed_lines.ids s ∙ a.unlinked.new.this;
+        others = λ u n. freed_lines.ids u ∙ a.unlinked.new.others u n;
+      };
+    };
+    gone = a.gone;
+    nodes_stay = a.nodes_stay;
+    filled = a.filled;
   }

@@ -1,13 +1,13 @@
 -- Other ends beside the same locks: a keeper that gets a slot, or loses one that has no request.
-use Rattle.std.proofs.Common.{◌≡◌, ℕ, inl, inr, List, [], ◌∷◌, Bool, true, false, ap, sym, ◌∙◌, subst, refl}
+use Rattle.std.proofs.Common.{◌≡◌, ℕ, inl, inr, List, [], ◌∷◌, length, Bool, true, false, ap, sym, ◌∙◌, subst, refl}
 use Rattle.std.specs.List.{list_any}
 use Rattle.pc_chain.specs.declared.chain.Chain.{Chain}
 use Rattle.pc_chain.specs.Chains.{IsEmpty}
 use Rattle.pc_model.specs.Locks.{request_in, is_ungranted}
 use Rattle.pc_model.specs.Queues.{stands_in, IsSettled}
-use Rattle.pc_locks.specs.Lines.{most, follow, ids_of, ids_by, IsLine, IsQueue, AreLines}
+use Rattle.pc_locks.specs.Lines.{follow, ids_of, ids_by, IsLine, IsQueue, AreLines}
 use Rattle.pc_locks.specs.States.{State, queue_at, slots_of, is_listed, is_waiting, AreAlike}
-use Rattle.pc_locks.specs.Tables.{Nodes, requests}
+use Rattle.pc_locks.specs.Tables.{Nodes, links_in, requests}
 use Rattle.pc_locks.specs.Keepers.{KeptRequests, queues_of, lists_of, state_of, AreEnds, AreLocksSound, DifferWhereNone}
 use Rattle.pc_locks.proofs.StateLaws.{linked_alike}
 use Rattle.pc_locks.proofs.Growing.{table_alike}
@@ -19,7 +19,7 @@ no_ids nodes (x ∷ xs) e = absurd cc
 -- a slot without a request has ends of an empty queue
 pub empty_ends : (ends : ℕ → Chain ℕ) (kept : KeptRequests) (slot : ℕ) → AreEnds ends kept → queue_at (queues_of ends kept) slot ≡ [] → IsEmpty (ends slot)
 empty_ends ends kept slot a e =
-    let line = subst (IsLine kept.links (ends slot)) (no_ids kept.nodes (ids_by kept.links ends slot) e) (a.tied.lines.line slot) in
+    let line = subst (IsLine (links_in kept.nodes.slots) (ends slot)) (no_ids kept.nodes.slots (ids_by (links_in kept.nodes.slots) ends slot) e) (a.tied.lines.line slot) in
     (line.first, line.last)
 
 -- where no slot has a request, any slots may have ends
@@ -30,30 +30,30 @@ sound_none has ends kept a e = record {
 }
 
 module _ (ends new_ends : ℕ → Chain ℕ) (kept : KeptRequests) (d : DifferWhereNone ends new_ends kept) where
-  ids_stay : (slot : ℕ) → ids_by kept.links new_ends slot ≡ ids_by kept.links ends slot
+  ids_stay : (slot : ℕ) → ids_by (links_in kept.nodes.slots) new_ends slot ≡ ids_by (links_in kept.nodes.slots) ends slot
   ids_stay slot = elim (d slot) [
-    | inl e ↦ ap (ids_of kept.links) e
-    | inr p ↦ ap (follow kept.links most) p.1.0 ∙ sym (no_ids kept.nodes (ids_by kept.links ends slot) p.0)
+    | inl e ↦ ap (ids_of (links_in kept.nodes.slots)) e
+    | inr p ↦ ap (follow (links_in kept.nodes.slots) (length (links_in kept.nodes.slots))) p.1.0 ∙ sym (no_ids kept.nodes.slots (ids_by (links_in kept.nodes.slots) ends slot) p.0)
   ]
 
-  lines_stay : AreLines kept.links ends → AreLines kept.links new_ends
+  lines_stay : AreLines (links_in kept.nodes.slots) ends → AreLines (links_in kept.nodes.slots) new_ends
   lines_stay a = record {
     line = λ k. elim (d k) [
-      | inl e ↦ subst (IsQueue kept.links) (sym e) (a.line k)
-      | inr p ↦ subst (IsLine kept.links (new_ends k)) (sym (ap (follow kept.links most) p.1.0)) (record { first = p.1.0; last = p.1.1; leads = tt; held = tt })
+      | inl e ↦ subst (IsQueue (links_in kept.nodes.slots)) (sym e) (a.line k)
+      | inr p ↦ subst (IsLine (links_in kept.nodes.slots) (new_ends k)) (sym (ap (follow (links_in kept.nodes.slots) (length (links_in kept.nodes.slots))) p.1.0)) (record { first = p.1.0; last = p.1.1; leads = tt; held = tt })
     ];
     apart = λ j k id e f. a.apart j k id (ap (λ xs. is_listed xs id) (sym (ids_stay j)) ∙ e) (ap (λ xs. is_listed xs id) (sym (ids_stay k)) ∙ f);
   }
 
   -- what is seen stays
   pub other_state : AreAlike (state_of new_ends kept) (state_of ends kept)
-  other_state = record { queues = λ u. ap (requests kept.nodes) (ids_stay u); lists = refl }
+  other_state = record { queues = λ u. ap (requests kept.nodes.slots) (ids_stay u); lists = refl }
 
   pub other_ends : AreEnds ends kept → AreEnds new_ends kept
   other_ends a = record {
-    tied = record { lines = lines_stay a.tied.lines; table = table_alike kept.nodes (ids_by kept.links ends) (ids_by kept.links new_ends) kept.entries ids_stay a.tied.table };
+    tied = record { lines = lines_stay a.tied.lines; table = table_alike kept.nodes.slots (ids_by (links_in kept.nodes.slots) ends) (ids_by (links_in kept.nodes.slots) new_ends) kept.entries ids_stay a.tied.table };
     settled = record {
-      settled = λ u. subst (λ xs. IsSettled (requests kept.nodes xs)) (sym (ids_stay u)) (a.settled.settled u);
+      settled = λ u. subst (λ xs. IsSettled (requests kept.nodes.slots xs)) (sym (ids_stay u)) (a.settled.settled u);
       linked = linked_alike (queues_of ends kept) (queues_of new_ends kept) (lists_of kept) (lists_of kept) other_state.queues (λ u. refl) a.settled.linked;
       filled = a.settled.filled;
     };

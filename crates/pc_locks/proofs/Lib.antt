@@ -1,3 +1,4 @@
+mod Columns
 mod Grants
 mod Growing
 pub mod KeeperLaws

@@ -1,32 +1,32 @@
--- Chains over a row of links, as lists of ids.
-use Rattle.std.proofs.Common.{◌≡◌, ◌≢◌, ℕ, zero, suc, ◌==◌, ◌<◌, ◌≤◌, ◌^◌, inl, inr, List, [], ◌∷◌, ◌++◌, length, Option, Some, None, Bool, true, false, ◌||◌, refl, sym, ◌∙◌, ap, subst, arith}
+-- Chains over links, as lists of ids.
+use Rattle.std.proofs.Common.{◌≡◌, ◌≢◌, ℕ, zero, suc, ◌==◌, ◌<◌, ◌≤◌, inl, inr, List, [], ◌∷◌, ◌++◌, length, Option, None, is_some, Bool, true, false, ◌||◌, refl, sym, ◌∙◌, ap, subst, arith}
 use Rattle.std.proofs.lemmas.Bool.{eqb-true, eq-eqb, ne_eqb, cases_eq, or_cases, or_parts, or_right, false_from_ne_true}
+use Rattle.std.specs.Prelude.{unwrap_or}
 use Rattle.std.proofs.lemmas.List.Folds.{list_any-append}
 use Rattle.pc_chain.specs.declared.chain.Chain.{Chain}
 use Rattle.pc_chain.specs.Chains as chains
 use Rattle.pc_chain.specs.Chains.{IsChain, Leads, AllHave, Avoids, AreDisjoint}
-use Rattle.pc_chain.proofs.ChainLaws.{have_from, chain_still, chain_fits}
-use Rattle.pc_locks.specs.Lines.{most, next_in, follow, ids_of, IsLine, AreLines, LineBecomes}
+use Rattle.pc_chain.proofs.ChainLaws.{chain_fits}
+use Rattle.pc_locks.specs.Lines.{Links, HasLink, link_at, next_in, follow, ids_of, IsLine, AreLines, LineBecomes}
 use Rattle.pc_locks.specs.States.{is_listed, first_of, rest_of, last_of}
 
-pub row_fits : (n : ℕ) → n < 2 ^ 64 → n ≤ most
-unfolding most
-row_fits n h = omega (arith, h)
+-- an id that has a link
+within : (links : Links) (id : ℕ) → HasLink links id → id < length links
+within [] id h = absurd cc
+within (x ∷ xs) zero h = omega arith
+within (x ∷ xs) (suc id) h = let n = within xs id h in omega (arith, n)
 
-pub fits : (links : List (Option ℕ)) (chain : Chain ℕ) (xs : List ℕ) → IsLine links chain xs → length xs ≤ length links
-fits links chain xs c = chain_fits (λ id. id < length links) (next_in links) chain xs (length links) (λ id h. h) c
+pub fits : (links : Links) (chain : Chain ℕ) (xs : List ℕ) → IsLine links chain xs → length xs ≤ length links
+fits links chain xs c = chain_fits (HasLink links) (next_in links) chain xs (length links) (λ id h. within links id h) c
 
-follow_is : (links : List (Option ℕ)) (n : ℕ) (xs : List ℕ) → Leads (next_in links) xs → length xs ≤ n → follow links n (chains.first_of xs) ≡ xs
+follow_is : (links : Links) (n : ℕ) (xs : List ℕ) → Leads (next_in links) xs → length xs ≤ n → follow links n (chains.first_of xs) ≡ xs
 follow_is links n [] l h = refl
 follow_is links zero (x ∷ xs) l h = absurd (omega (arith, h))
 follow_is links (suc n) (x ∷ xs) l h = ap (λ ys. x ∷ ys) (ap (follow links n) l.0 ∙ follow_is links n xs l.2 (omega (arith, h)))
 
 -- over its links a chain is one list
-pub line_is : (links : List (Option ℕ)) (chain : Chain ℕ) (xs : List ℕ) → length links ≤ most → IsLine links chain xs → ids_of links chain ≡ xs
-line_is links chain xs h c =
-    let f = fits links chain xs c in
-    let n : length xs ≤ most = omega (arith, h, f) in
-    ap (follow links most) c.first ∙ follow_is links most xs c.leads n
+pub line_is : (links : Links) (chain : Chain ℕ) (xs : List ℕ) → IsLine links chain xs → ids_of links chain ≡ xs
+line_is links chain xs c = ap (follow links (length links)) c.first ∙ follow_is links (length links) xs c.leads (fits links chain xs c)
 
 -- what is in none of the list
 pub avoids_unlisted : (id : ℕ) (xs : List ℕ) → is_listed xs id ≡ false → Avoids id xs
@@ -45,15 +45,15 @@ apart_lists xs (y ∷ ys) f =
     (avoids_unlisted y xs (f y (ap (λ b. b || is_listed ys y) (eq-eqb y y refl))), apart_lists xs ys (λ id e. f id (or_right (y == id) (is_listed ys id) e)))
 
 -- an id of one chain is in no other
-pub others_lack : (links : List (Option ℕ)) (lines : ℕ → Chain ℕ) (j k id : ℕ) → AreLines links lines → j ≢ k → is_listed (ids_of links (lines j)) id ≡ true → is_listed (ids_of links (lines k)) id ≡ false
+pub others_lack : (links : Links) (lines : ℕ → Chain ℕ) (j k id : ℕ) → AreLines links lines → j ≢ k → is_listed (ids_of links (lines j)) id ≡ true → is_listed (ids_of links (lines k)) id ≡ false
 others_lack links lines j k id a n e = false_from_ne_true (is_listed (ids_of links (lines k)) id) (λ f. n (a.apart j k id e f))
 
-pub become : (links new_links : List (Option ℕ)) (lines new_lines : ℕ → Chain ℕ) (k : ℕ) (new : List ℕ) → length new_links ≤ most → AreLines links lines → IsLine new_links (new_lines k) new →
+pub become : (links new_links : Links) (lines new_lines : ℕ → Chain ℕ) (k : ℕ) (new : List ℕ) → AreLines links lines → IsLine new_links (new_lines k) new →
     ((j : ℕ) → j ≢ k → IsLine new_links (new_lines j) (ids_of links (lines j))) →
     ((id j : ℕ) → j ≢ k → is_listed new id ≡ true → is_listed (ids_of links (lines j)) id ≡ false) → LineBecomes links new_links lines new_lines k new
-become links new_links lines new_lines k new h a l o s =
-    let this = line_is new_links (new_lines k) new h l in
-    let others : (j : ℕ) → j ≢ k → ids_of new_links (new_lines j) ≡ ids_of links (lines j) = λ j n. line_is new_links (new_lines j) (ids_of links (lines j)) h (o j n) in
+become links new_links lines new_lines k new a l o s =
+    let this = line_is new_links (new_lines k) new l in
+    let others : (j : ℕ) → j ≢ k → ids_of new_links (new_lines j) ≡ ids_of links (lines j) = λ j n. line_is new_links (new_lines j) (ids_of links (lines j)) (o j n) in
     record {
       kept = record {
         line = λ j. elim (cases_eq j k) [
@@ -87,12 +87,12 @@ no_end true e = refl
 no_end false e = absurd cc
 
 -- an id at the end of one
-pub become_pushed : (links new_links : List (Option ℕ)) (lines new_lines : ℕ → Chain ℕ) (k id : ℕ) → length new_links ≤ most → AreLines links lines → ((j : ℕ) → is_listed (ids_of links (lines j)) id ≡ false) →
+pub become_pushed : (links new_links : Links) (lines new_lines : ℕ → Chain ℕ) (k id : ℕ) → AreLines links lines → ((j : ℕ) → is_listed (ids_of links (lines j)) id ≡ false) →
     IsLine new_links (new_lines k) (ids_of links (lines k) ++ id ∷ []) →
     ((ys : List ℕ) (other : Chain ℕ) → IsLine links other ys → AreDisjoint (ids_of links (lines k)) ys → Avoids id ys → IsLine new_links other ys) →
     ((j : ℕ) → j ≢ k → new_lines j ≡ lines j) → LineBecomes links new_links lines new_lines k (ids_of links (lines k) ++ id ∷ [])
-become_pushed links new_links lines new_lines k id h a f l o same =
-    become links new_links lines new_lines k (ids_of links (lines k) ++ id ∷ []) h a l
+become_pushed links new_links lines new_lines k id a f l o same =
+    become links new_links lines new_lines k (ids_of links (lines k) ++ id ∷ []) a l
     (λ j n. subst (λ c. IsLine new_links c (ids_of links (lines j))) (sym (same j n))
     (o (ids_of links (lines j)) (lines j) (a.line j) (apart_lists (ids_of links (lines k)) (ids_of links (lines j)) (λ x e. others_lack links lines j k x a n e)) (avoids_unlisted id (ids_of links (lines j)) (f j))))
     (λ x j n e. elim (or_cases (is_listed (ids_of links (lines k)) x) ((id == x) || false) (sym (listed_end (ids_of links (lines k)) id x) ∙ e)) [
@@ -101,12 +101,12 @@ become_pushed links new_links lines new_lines k id h a f l o same =
     ])
 
 -- fewer ids in one
-pub become_fewer : (links new_links : List (Option ℕ)) (lines new_lines : ℕ → Chain ℕ) (k : ℕ) (new : List ℕ) → length new_links ≤ most → AreLines links lines →
+pub become_fewer : (links new_links : Links) (lines new_lines : ℕ → Chain ℕ) (k : ℕ) (new : List ℕ) → AreLines links lines →
     ((id : ℕ) → is_listed new id ≡ true → is_listed (ids_of links (lines k)) id ≡ true) → IsLine new_links (new_lines k) new →
     ((ys : List ℕ) (other : Chain ℕ) → IsLine links other ys → AreDisjoint (ids_of links (lines k)) ys → IsLine new_links other ys) →
     ((j : ℕ) → j ≢ k → new_lines j ≡ lines j) → LineBecomes links new_links lines new_lines k new
-become_fewer links new_links lines new_lines k new h a f l o same =
-    become links new_links lines new_lines k new h a l
+become_fewer links new_links lines new_lines k new a f l o same =
+    become links new_links lines new_lines k new a l
     (λ j n. subst (λ c. IsLine new_links c (ids_of links (lines j))) (sym (same j n))
     (o (ids_of links (lines j)) (lines j) (a.line j) (apart_lists (ids_of links (lines k)) (ids_of links (lines j)) (λ x e. others_lack links lines j k x a n e))))
     (λ x j n e. others_lack links lines k j x a (λ h. n (sym h)) (f x e))
@@ -129,27 +129,57 @@ same_last [] = refl
 same_last (x ∷ []) = refl
 same_last (x ∷ y ∷ ys) = same_last (y ∷ ys)
 
--- a chain whose links lead where they led, in a longer row
-pub line_same : (links new_links : List (Option ℕ)) (chain : Chain ℕ) (xs : List ℕ) → ((id : ℕ) → next_in new_links id ≡ next_in links id) → length links ≤ length new_links → IsLine links chain xs → IsLine new_links chain xs
-line_same links new_links chain xs f h c = chain_still (λ id. id < length links) (λ id. id < length new_links) (next_in links) (next_in new_links) chain xs (λ id a. omega (arith, h, a)) (have_from (λ id. next_in new_links id ≡ next_in links id) f xs) c
+leads_on : (next new : ℕ → Option ℕ) (xs : List ℕ) → ((id : ℕ) → is_listed xs id ≡ true → new id ≡ next id) → Leads next xs → Leads new xs
+leads_on next new [] f l = tt
+leads_on next new (x ∷ xs) f l = (f x (ap (λ b. b || is_listed xs x) (eq-eqb x x refl)) ∙ l.0, l.1, leads_on next new xs (λ id e. f id (or_right (x == id) (is_listed xs id) e)) l.2)
 
-follow_same : (links new_links : List (Option ℕ)) → ((id : ℕ) → next_in new_links id ≡ next_in links id) → (n : ℕ) (at : Option ℕ) → follow new_links n at ≡ follow links n at
-follow_same links new_links f n None = refl
-follow_same links new_links f zero (Some id) = refl
-follow_same links new_links f (suc n) (Some id) = ap (λ ys. id ∷ ys) (ap (follow new_links n) (f id) ∙ follow_same links new_links f n (next_in links id))
+have_on : (has new : ℕ → Type 0) (xs : List ℕ) → ((id : ℕ) → is_listed xs id ≡ true → has id → new id) → AllHave has xs → AllHave new xs
+have_on has new [] f h = tt
+have_on has new (x ∷ xs) f h = (f x (ap (λ b. b || is_listed xs x) (eq-eqb x x refl)) h.0, have_on has new xs (λ id e. f id (or_right (x == id) (is_listed xs id) e)) h.1)
 
-pub ids_same : (links new_links : List (Option ℕ)) (chain : Chain ℕ) → ((id : ℕ) → next_in new_links id ≡ next_in links id) → ids_of new_links chain ≡ ids_of links chain
-ids_same links new_links chain f = follow_same links new_links f most chain.first
+-- an id of a chain has a link
+pub have_listed : (has : ℕ → Type 0) (xs : List ℕ) (id : ℕ) → AllHave has xs → is_listed xs id ≡ true → has id
+have_listed has [] id h e = absurd cc
+have_listed has (x ∷ xs) id h e = elim (or_cases (x == id) (is_listed xs id) e) [
+  | inl f ↦ subst has (eqb-true x id f) h.0
+  | inr f ↦ have_listed has xs id h.1 f
+]
 
-pub lines_same : (links new_links : List (Option ℕ)) (lines : ℕ → Chain ℕ) → ((id : ℕ) → next_in new_links id ≡ next_in links id) → length links ≤ length new_links → AreLines links lines → AreLines new_links lines
-lines_same links new_links lines f h a = record {
-  line = λ k. subst (IsLine new_links (lines k)) (sym (ids_same links new_links (lines k) f)) (line_same links new_links (lines k) (ids_of links (lines k)) f h (a.line k));
-  apart = λ j k id e g. a.apart j k id (sym (ap (λ xs. is_listed xs id) (ids_same links new_links (lines j) f)) ∙ e) (sym (ap (λ xs. is_listed xs id) (ids_same links new_links (lines k) f)) ∙ g);
+-- links of which those of a chain stay
+line_on : (links new_links : Links) (chain : Chain ℕ) (xs : List ℕ) → ((id : ℕ) → is_listed xs id ≡ true → link_at new_links id ≡ link_at links id) → IsLine links chain xs → IsLine new_links chain xs
+line_on links new_links chain xs f c = record {
+  first = c.first;
+  last = c.last;
+  leads = leads_on (next_in links) (next_in new_links) xs (λ id e. ap (λ o. unwrap_or o None) (f id e)) c.leads;
+  held = have_on (HasLink links) (HasLink new_links) xs (λ id e h. ap is_some (f id e) ∙ h) c.held;
 }
 
+-- the chains are the lists that they were
+pub record LinesStay (links new_links : Links) (lines : ℕ → Chain ℕ) : Type 0 where
+  pub kept : AreLines new_links lines
+  pub ids : (k : ℕ) → ids_of new_links (lines k) ≡ ids_of links (lines k)
+
+pub lines_stay : (links new_links : Links) (lines : ℕ → Chain ℕ) → ((k id : ℕ) → is_listed (ids_of links (lines k)) id ≡ true → link_at new_links id ≡ link_at links id) → AreLines links lines → LinesStay links new_links lines
+lines_stay links new_links lines f a =
+    let line : (k : ℕ) → IsLine new_links (lines k) (ids_of links (lines k)) = λ k. line_on links new_links (lines k) (ids_of links (lines k)) (f k) (a.line k) in
+    let ids : (k : ℕ) → ids_of new_links (lines k) ≡ ids_of links (lines k) = λ k. line_is new_links (lines k) (ids_of links (lines k)) (line k) in
+    record {
+      kept = record {
+        line = λ k. subst (IsLine new_links (lines k)) (sym (ids k)) (line k);
+        apart = λ j k id e g. a.apart j k id (sym (ap (λ xs. is_listed xs id) (ids j)) ∙ e) (sym (ap (λ xs. is_listed xs id) (ids k)) ∙ g);
+      };
+      ids = ids;
+    }
+
+-- an id without a link is in none
+pub linkless : (links : Links) (lines : ℕ → Chain ℕ) (k id : ℕ) → AreLines links lines → link_at links id ≡ None → is_listed (ids_of links (lines k)) id ≡ false
+linkless links lines k id a e = false_from_ne_true (is_listed (ids_of links (lines k)) id) (λ f.
+    let h : is_some (link_at links id) ≡ true = have_listed (HasLink links) (ids_of links (lines k)) id (a.line k).held f in
+    let z : false ≡ true = sym (ap is_some e) ∙ h in cc)
+
 -- where no id is in any
-pub lines_none : (links : List (Option ℕ)) (lines : ℕ → Chain ℕ) → ((k : ℕ) → (lines k).first ≡ None) → ((k : ℕ) → (lines k).last ≡ None) → AreLines links lines
+pub lines_none : (links : Links) (lines : ℕ → Chain ℕ) → ((k : ℕ) → (lines k).first ≡ None) → ((k : ℕ) → (lines k).last ≡ None) → AreLines links lines
 lines_none links lines f l = record {
-  line = λ k. subst (IsLine links (lines k)) (sym (ap (follow links most) (f k))) (record { first = f k; last = l k; leads = tt; held = tt });
-  apart = λ j k id e g. absurd (let h : false ≡ true = sym (ap (λ o. is_listed (follow links most o) id) (f j)) ∙ e in cc);
+  line = λ k. subst (IsLine links (lines k)) (sym (ap (follow links (length links)) (f k))) (record { first = f k; last = l k; leads = tt; held = tt });
+  apart = λ j k id e g. absurd (let h : false ≡ true = sym (ap (λ o. is_listed (follow links (length links) o) id) (f j)) ∙ e in cc);
 }

@@ -14,7 +14,7 @@ use Rattle.pc_model.proofs.QueueLaws.{kept_after, kept_without, new_outcome, onc
 use Rattle.pc_chain.specs.declared.chain.Chain.{Chain}
 use Rattle.pc_locks.specs.Lines.{AreLines, ids_by}
 use Rattle.pc_locks.specs.States.{Queues, State, slots_of, queue_at, is_listed, is_waiting, first_of, rest_of, last_of, slots_after, SetsAt, AreAlike, AreLinked, AreFilled, AreSettled}
-use Rattle.pc_locks.specs.Tables.{Nodes, node_at, request_at, slot_at, place_of, requests, slots, queues_in, lists_in, IsTable, IsOwn}
+use Rattle.pc_locks.specs.Tables.{Nodes, links_in, node_at, request_at, slot_at, place_of, requests, slots, queues_in, lists_in, IsTable, IsOwn}
 use Rattle.pc_locks.specs.Keepers.{KeptRequests, AreEnds}
 use Rattle.pc_locks.proofs.SlotLaws.{sets_cases, sets_twice}
 use Rattle.pc_locks.proofs.StateLaws.{linked_new, linked_again, linked_result, linked_pop, again_kind, any_waits, none_waiting, last_listed}
@@ -237,8 +237,8 @@ keeps_settled : (nodes : Nodes) (ids : ℕ → List ℕ) (entries : List (ℕ ×
 keeps_settled nodes ids entries k = record { settled = k.settled; linked = k.linked; filled = filled_lists nodes entries k.table.filled }
 
 -- beside the ends
-pub ends_keep : (ends : ℕ → Chain ℕ) (kept : KeptRequests) → AreEnds ends kept → Keeps kept.nodes (ids_by kept.links ends) kept.entries
+pub ends_keep : (ends : ℕ → Chain ℕ) (kept : KeptRequests) → AreEnds ends kept → Keeps kept.nodes.slots (ids_by (links_in kept.nodes.slots) ends) kept.entries
 ends_keep ends kept a = record { table = a.tied.table; settled = a.settled.settled; linked = a.settled.linked }
 
-pub keep_ends : (ends : ℕ → Chain ℕ) (kept : KeptRequests) → AreLines kept.links ends → Keeps kept.nodes (ids_by kept.links ends) kept.entries → AreEnds ends kept
-keep_ends ends kept l k = record { tied = record { lines = l; table = k.table }; settled = keeps_settled kept.nodes (ids_by kept.links ends) kept.entries k }
+pub keep_ends : (ends : ℕ → Chain ℕ) (kept : KeptRequests) → AreLines (links_in kept.nodes.slots) ends → Keeps kept.nodes.slots (ids_by (links_in kept.nodes.slots) ends) kept.entries → AreEnds ends kept
+keep_ends ends kept l k = record { tied = record { lines = l; table = k.table }; settled = keeps_settled kept.nodes.slots (ids_by (links_in kept.nodes.slots) ends) kept.entries k }

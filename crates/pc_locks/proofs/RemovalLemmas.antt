@@ -1,6 +1,7 @@
 -- What taking a request out makes of the table.
 use Rattle.std.proofs.Common.{◌≡◌, ◌≢◌, ℕ, ◌==◌, ◌⊎◌, inl, inr, List, [], ◌∷◌, ◌++◌, Option, Some, None, Bool, true, false, ◌||◌, not, cond, refl, sym, ◌∙◌, ap, subst}
-use Rattle.std.proofs.lemmas.Bool.{eqb-true, eq-eqb, cases_eq, or_cases, or_right}
+use Rattle.std.proofs.lemmas.Bool.{eqb-true, eq-eqb, cases_eq, or_cases, or_right, false_from_ne_true}
+use Rattle.std.specs.Option.{option_eq}
 use Rattle.std.specs.Prelude.{filter}
 use Rattle.std.proofs.lemmas.List.{map-append}
 use Rattle.std.proofs.lemmas.List.Folds.{list_any-append}
@@ -13,9 +14,14 @@ use Rattle.pc_locks.proofs.LineLemmas.{rest_listed}
 use Rattle.pc_locks.proofs.SlotLaws.{sets_cases}
 use Rattle.pc_locks.proofs.TableLemmas.{pair_first, pair_second, found_slots, slot_placed, transaction_placed, requests_same, slots_agree}
 
-split_first : (xs : List ℕ) (x : ℕ) → Some x ≡ first_of xs → xs ≡ x ∷ rest_of xs
+pub split_first : (xs : List ℕ) (x : ℕ) → Some x ≡ first_of xs → xs ≡ x ∷ rest_of xs
 split_first [] x e = absurd cc
 split_first (y ∷ ys) x e = let f : x ≡ y = cc in ap (λ z. z ∷ ys) (sym f)
+
+-- an id that is the first one
+pub same_some : (o : Option ℕ) (id : ℕ) → option_eq ◌==◌ o (Some id) ≡ true → Some id ≡ o
+same_some None id e = absurd cc
+same_some (Some x) id e = ap Some (sym (eqb-true x id e))
 
 -- what is listed stands, and what stands in two parts stands in the whole
 pub member_stands : (nodes : Nodes) (xs : List ℕ) (id t : ℕ) → is_listed xs id ≡ true → (request_at nodes id).transaction ≡ t → stands_in (requests nodes xs) t ≡ true
@@ -84,31 +90,60 @@ the_first nodes ids entries t id a e =
 first_at : (nodes : Nodes) (ids : ℕ → List ℕ) (entries : List (ℕ × List ℕ)) (s t id : ℕ) → IsTable nodes ids entries → Some id ≡ first_of (slots_of entries t) → s ≡ slot_at nodes id → First nodes ids entries s t id
 first_at nodes ids entries s t id a e f = subst (λ u. First nodes ids entries u t id) (sym f) (the_first nodes ids entries t id a e)
 
+-- it is a request of the transaction
+pub first_owner : (nodes : Nodes) (ids : ℕ → List ℕ) (entries : List (ℕ × List ℕ)) (t id : ℕ) → IsTable nodes ids entries → Some id ≡ first_of (slots_of entries t) → ((request_at nodes id).transaction == t) ≡ true
+first_owner nodes ids entries t id a e =
+    eq-eqb (request_at nodes id).transaction t (transaction_placed nodes id (slot_at nodes id) t (the_first nodes ids entries t id a e).place)
+
 -- it stands in its slot's queue
 pub first_stands : (nodes : Nodes) (ids : ℕ → List ℕ) (entries : List (ℕ × List ℕ)) (s t id : ℕ) → IsTable nodes ids entries → Some id ≡ first_of (slots_of entries t) → s ≡ slot_at nodes id → stands_in (requests nodes (ids s)) t ≡ true
 first_stands nodes ids entries s t id a e f =
     let first = first_at nodes ids entries s t id a e f in
     member_stands nodes (ids s) id t first.stands (transaction_placed nodes id s t first.place)
 
-pub record Removed (nodes new_nodes : Nodes) (ids new_ids : ℕ → List ℕ) (entries new_entries : List (ℕ × List ℕ)) (s t id : ℕ) : Type 0 where
+-- the first id of the transaction's list went out of it
+pub record Popped (nodes : Nodes) (ids : ℕ → List ℕ) (entries new_entries : List (ℕ × List ℕ)) (s t id : ℕ) : Type 0 where
   pub was : IsTable nodes ids entries
-  pub once : AreOnce (requests nodes (ids s))
   pub different : AreDifferent (slots nodes (slots_of entries t))
   pub given : Some id ≡ first_of (slots_of entries t)
   pub slot : slot_at nodes id ≡ s
-  pub unlinked : IsUnlinked nodes ids new_ids s t
-  pub gone : node_at new_nodes id ≡ None
-  pub nodes_stay : (other : ℕ) → other ≢ id → node_at new_nodes other ≡ node_at nodes other
   pub list : slots_of new_entries t ≡ rest_of (slots_of entries t)
   pub lists_stay : (u : ℕ) → u ≢ t → slots_of new_entries u ≡ slots_of entries u
-  pub filled : AreFilled new_entries
 
-module _ (nodes new_nodes : Nodes) (ids new_ids : ℕ → List ℕ) (entries new_entries : List (ℕ × List ℕ)) (s t id : ℕ) (a : Removed nodes new_nodes ids new_ids entries new_entries s t id) where
+module _ (nodes : Nodes) (ids : ℕ → List ℕ) (entries new_entries : List (ℕ × List ℕ)) (s t id : ℕ) (a : Popped nodes ids entries new_entries s t id) where
   first : First nodes ids entries s t id
   first = subst (λ u. First nodes ids entries u t id) a.slot (the_first nodes ids entries t id a.was a.given)
 
+  fresh_rest : is_listed (slots nodes (rest_of (slots_of entries t))) (slot_at nodes id) ≡ false
+  fresh_rest = (subst (λ xs. AreDifferent (slots nodes xs)) (split_first (slots_of entries t) id a.given) a.different).0
+
+  list_left : (u x : ℕ) → is_listed (slots_of new_entries u) x ≡ true → (x ≢ id) × (is_listed (slots_of entries u) x ≡ true)
+  list_left u x e = elim (cases_eq u t) [
+    | inl c ↦
+        let l : is_listed (rest_of (slots_of entries t)) x ≡ true = ap (λ xs. is_listed xs x) (sym a.list) ∙ (ap (λ v. is_listed (slots_of new_entries v) x) (sym c) ∙ e) in (
+          (λ g. let f : false ≡ true = sym fresh_rest ∙ slot_listed nodes (rest_of (slots_of entries t)) id (ap (is_listed (rest_of (slots_of entries t))) (sym g) ∙ l) in cc),
+          ap (λ v. is_listed (slots_of entries v) x) c ∙ rest_listed (slots_of entries t) x l,
+        )
+    | inr c ↦
+        let l : is_listed (slots_of entries u) x ≡ true = ap (λ xs. is_listed xs x) (sym (a.lists_stay u c)) ∙ e in
+        ((λ g. let p = a.was.in_list u x l in c (pair_second p.0 u s t (sym p.1 ∙ (ap (λ y. place_of (node_at nodes y)) g ∙ first.place)))), l)
+  ]
+
+  -- it is in no list any more
+  pub popped_unlisted : (u : ℕ) → is_listed (slots_of new_entries u) id ≡ false
+  popped_unlisted u = false_from_ne_true (is_listed (slots_of new_entries u) id) (λ e. (list_left u id e).0 refl)
+
+pub record Removed (nodes new_nodes : Nodes) (ids new_ids : ℕ → List ℕ) (entries new_entries : List (ℕ × List ℕ)) (s t id : ℕ) : Type 0 where
+  pub popped : Popped nodes ids entries new_entries s t id
+  pub once : AreOnce (requests nodes (ids s))
+  pub unlinked : IsUnlinked nodes ids new_ids s t
+  pub gone : node_at new_nodes id ≡ None
+  pub nodes_stay : (other : ℕ) → other ≢ id → node_at new_nodes other ≡ node_at nodes other
+  pub filled : AreFilled new_entries
+
+module _ (nodes new_nodes : Nodes) (ids new_ids : ℕ → List ℕ) (entries new_entries : List (ℕ × List ℕ)) (s t id : ℕ) (a : Removed nodes new_nodes ids new_ids entries new_entries s t id) where
   owner : (request_at nodes id).transaction ≡ t
-  owner = transaction_placed nodes id s t first.place
+  owner = transaction_placed nodes id s t (first nodes ids entries new_entries s t id a.popped).place
 
   left : List ℕ
   left = a.unlinked.before ++ a.unlinked.behind
@@ -127,7 +162,7 @@ module _ (nodes new_nodes : Nodes) (ids new_ids : ℕ → List ℕ) (entries new
 
   -- what was unlinked is the first request
   same_id : a.unlinked.id ≡ id
-  same_id = elim (parts_listed a.unlinked.before (a.unlinked.id ∷ a.unlinked.behind) id (ap (λ xs. is_listed xs id) (sym a.unlinked.split) ∙ first.stands)) [
+  same_id = elim (parts_listed a.unlinked.before (a.unlinked.id ∷ a.unlinked.behind) id (ap (λ xs. is_listed xs id) (sym a.unlinked.split) ∙ (first nodes ids entries new_entries s t id a.popped).stands)) [
     | inl e ↦ absurd (not_before e)
     | inr e ↦ elim (or_cases (a.unlinked.id == id) (is_listed a.unlinked.behind id) e) [
       | inl f ↦ eqb-true a.unlinked.id id f
@@ -144,14 +179,14 @@ module _ (nodes new_nodes : Nodes) (ids new_ids : ℕ → List ℕ) (entries new
     | inr f ↦ ((λ g. not_behind (ap (is_listed a.unlinked.behind) (sym g) ∙ f)), ap (λ xs. is_listed xs x) a.unlinked.split ∙ back_listed a.unlinked.before (a.unlinked.id ∷ a.unlinked.behind) x (or_right (a.unlinked.id == x) (is_listed a.unlinked.behind x) f))
   ]
 
-  queue_left : (u x : ℕ) → is_listed (new_ids u) x ≡ true → (x ≢ id) × (is_listed (ids u) x ≡ true)
+  pub queue_left : (u x : ℕ) → is_listed (new_ids u) x ≡ true → (x ≢ id) × (is_listed (ids u) x ≡ true)
   queue_left u x e = elim (changed u) [
     | inl c ↦
         let l = left_listed x (ap (λ xs. is_listed xs x) (sym c.1) ∙ e) in
         (l.0, ap (λ v. is_listed (ids v) x) c.0 ∙ l.1)
     | inr c ↦
         let l : is_listed (ids u) x ≡ true = ap (λ xs. is_listed xs x) (sym c.1) ∙ e in
-        ((λ g. let p = a.was.in_queue u x l in c.0 (pair_first u p.0 s t (sym p.1 ∙ (ap (λ y. place_of (node_at nodes y)) g ∙ first.place)))), l)
+        ((λ g. let p = a.popped.was.in_queue u x l in c.0 (pair_first u p.0 s t (sym p.1 ∙ (ap (λ y. place_of (node_at nodes y)) g ∙ (first nodes ids entries new_entries s t id a.popped).place)))), l)
   ]
 
   queue_keeps : (u x : ℕ) → x ≢ id → is_listed (ids u) x ≡ true → is_listed (new_ids u) x ≡ true
@@ -166,46 +201,31 @@ module _ (nodes new_nodes : Nodes) (ids new_ids : ℕ → List ℕ) (entries new
     | inr c ↦ ap (λ xs. is_listed xs x) c.1 ∙ e
   ]
 
-  fresh_rest : is_listed (slots nodes (rest_of (slots_of entries t))) (slot_at nodes id) ≡ false
-  fresh_rest = (subst (λ xs. AreDifferent (slots nodes xs)) (split_first (slots_of entries t) id a.given) a.different).0
-
-  list_left : (u x : ℕ) → is_listed (slots_of new_entries u) x ≡ true → (x ≢ id) × (is_listed (slots_of entries u) x ≡ true)
-  list_left u x e = elim (cases_eq u t) [
-    | inl c ↦
-        let l : is_listed (rest_of (slots_of entries t)) x ≡ true = ap (λ xs. is_listed xs x) (sym a.list) ∙ (ap (λ v. is_listed (slots_of new_entries v) x) (sym c) ∙ e) in (
-          (λ g. let f : false ≡ true = sym fresh_rest ∙ slot_listed nodes (rest_of (slots_of entries t)) id (ap (is_listed (rest_of (slots_of entries t))) (sym g) ∙ l) in cc),
-          ap (λ v. is_listed (slots_of entries v) x) c ∙ rest_listed (slots_of entries t) x l,
-        )
-    | inr c ↦
-        let l : is_listed (slots_of entries u) x ≡ true = ap (λ xs. is_listed xs x) (sym (a.lists_stay u c)) ∙ e in
-        ((λ g. let p = a.was.in_list u x l in c (pair_second p.0 u s t (sym p.1 ∙ (ap (λ y. place_of (node_at nodes y)) g ∙ first.place)))), l)
-  ]
-
   list_keeps : (u x : ℕ) → x ≢ id → is_listed (slots_of entries u) x ≡ true → is_listed (slots_of new_entries u) x ≡ true
   list_keeps u x n e = elim (cases_eq u t) [
     | inl c ↦
-        let l : is_listed (id ∷ rest_of (slots_of entries t)) x ≡ true = ap (λ xs. is_listed xs x) (sym (split_first (slots_of entries t) id a.given)) ∙ (ap (λ v. is_listed (slots_of entries v) x) (sym c) ∙ e) in
-        ap (λ v. is_listed (slots_of new_entries v) x) c ∙ (ap (λ xs. is_listed xs x) a.list ∙ elim (or_cases (id == x) (is_listed (rest_of (slots_of entries t)) x) l) [
+        let l : is_listed (id ∷ rest_of (slots_of entries t)) x ≡ true = ap (λ xs. is_listed xs x) (sym (split_first (slots_of entries t) id a.popped.given)) ∙ (ap (λ v. is_listed (slots_of entries v) x) (sym c) ∙ e) in
+        ap (λ v. is_listed (slots_of new_entries v) x) c ∙ (ap (λ xs. is_listed xs x) a.popped.list ∙ elim (or_cases (id == x) (is_listed (rest_of (slots_of entries t)) x) l) [
           | inl f ↦ absurd (n (sym (eqb-true id x f)))
           | inr f ↦ f
         ])
-    | inr c ↦ ap (λ xs. is_listed xs x) (a.lists_stay u c) ∙ e
+    | inr c ↦ ap (λ xs. is_listed xs x) (a.popped.lists_stay u c) ∙ e
   ]
 
   pub removed_table : IsTable new_nodes new_ids new_entries
   removed_table = record {
     in_queue = λ u x e.
         let l = queue_left u x e in
-        let p = a.was.in_queue u x l.1 in
+        let p = a.popped.was.in_queue u x l.1 in
         (p.0, ap place_of (a.nodes_stay x l.0) ∙ p.1);
     in_list = λ u x e.
-        let l = list_left u x e in
-        let p = a.was.in_list u x l.1 in
+        let l = list_left nodes ids entries new_entries s t id a.popped u x e in
+        let p = a.popped.was.in_list u x l.1 in
         (p.0, ap place_of (a.nodes_stay x l.0) ∙ p.1, queue_keeps p.0 x l.0 p.2);
     with_both = λ x u v p. elim (cases_eq x id) [
       | inl c ↦ absurd (let f : ◌≡◌ {A = Option (ℕ × ℕ)} None (Some (u, v)) = ap place_of (sym a.gone) ∙ (ap (λ y. place_of (node_at new_nodes y)) (sym c) ∙ p) in cc)
       | inr n ↦
-          let w = a.was.with_both x u v (ap place_of (sym (a.nodes_stay x n)) ∙ p) in
+          let w = a.popped.was.with_both x u v (ap place_of (sym (a.nodes_stay x n)) ∙ p) in
           (queue_keeps u x n w.0, list_keeps v x n w.1)
     ];
     filled = a.filled;
@@ -223,13 +243,13 @@ module _ (nodes new_nodes : Nodes) (ids new_ids : ℕ → List ℕ) (entries new
   removed_queues = record {
     this = ap (requests new_nodes) a.unlinked.new.this ∙ left_requests;
     others = λ u n. ap (requests new_nodes) (a.unlinked.new.others u n)
-        ∙ requests_same nodes new_nodes (ids u) (λ x e. a.nodes_stay x (λ g. let p = a.was.in_queue u x e in n (pair_first u p.0 s t (sym p.1 ∙ (ap (λ y. place_of (node_at nodes y)) g ∙ first.place)))));
+        ∙ requests_same nodes new_nodes (ids u) (λ x e. a.nodes_stay x (λ g. let p = a.popped.was.in_queue u x e in n (pair_first u p.0 s t (sym p.1 ∙ (ap (λ y. place_of (node_at nodes y)) g ∙ (first nodes ids entries new_entries s t id a.popped).place)))));
   }
 
   pub removed_list : slots_of (lists_in new_nodes new_entries) t ≡ rest_of (slots_of (lists_in nodes entries) t)
   removed_list =
-      found_slots new_nodes new_entries t ∙ (ap (slots new_nodes) a.list
-      ∙ (slots_agree nodes new_nodes (rest_of (slots_of entries t)) (λ x e. ap place_of (a.nodes_stay x (list_left t x (ap (λ xs. is_listed xs x) a.list ∙ e)).0))
+      found_slots new_nodes new_entries t ∙ (ap (slots new_nodes) a.popped.list
+      ∙ (slots_agree nodes new_nodes (rest_of (slots_of entries t)) (λ x e. ap place_of (a.nodes_stay x (list_left nodes ids entries new_entries s t id a.popped t x (ap (λ xs. is_listed xs x) a.popped.list ∙ e)).0))
       ∙ (rest_slots (slots_of entries t) ∙ ap rest_of (sym (found_slots nodes entries t)))))
     where
       rest_slots : (xs : List ℕ) → slots nodes (rest_of xs) ≡ rest_of (slots nodes xs)
@@ -238,11 +258,11 @@ module _ (nodes new_nodes : Nodes) (ids new_ids : ℕ → List ℕ) (entries new
 
   pub removed_others : (u : ℕ) → u ≢ t → slots_of (lists_in new_nodes new_entries) u ≡ slots_of (lists_in nodes entries) u
   removed_others u n =
-      found_slots new_nodes new_entries u ∙ (ap (slots new_nodes) (a.lists_stay u n)
-      ∙ (slots_agree nodes new_nodes (slots_of entries u) (λ x e. ap place_of (a.nodes_stay x (list_left u x (ap (λ xs. is_listed xs x) (a.lists_stay u n) ∙ e)).0)) ∙ sym (found_slots nodes entries u)))
+      found_slots new_nodes new_entries u ∙ (ap (slots new_nodes) (a.popped.lists_stay u n)
+      ∙ (slots_agree nodes new_nodes (slots_of entries u) (λ x e. ap place_of (a.nodes_stay x (list_left nodes ids entries new_entries s t id a.popped u x (ap (λ xs. is_listed xs x) (a.popped.lists_stay u n) ∙ e)).0)) ∙ sym (found_slots nodes entries u)))
 
   pub removed_given : Some s ≡ first_of (slots_of (lists_in nodes entries) t)
-  removed_given = sym (ap first_of (found_slots nodes entries t) ∙ (ap (λ xs. first_of (slots nodes xs)) (split_first (slots_of entries t) id a.given) ∙ ap Some a.slot))
+  removed_given = sym (ap first_of (found_slots nodes entries t) ∙ (ap (λ xs. first_of (slots nodes xs)) (split_first (slots_of entries t) id a.popped.given) ∙ ap Some a.popped.slot))
 
 pub none_given : (nodes : Nodes) (entries : List (ℕ × List ℕ)) (t : ℕ) → None ≡ first_of (slots_of entries t) → None ≡ first_of (slots_of (lists_in nodes entries) t)
 none_given nodes entries t e = by (slots_of entries t) e ∙ sym (ap first_of (found_slots nodes entries t))

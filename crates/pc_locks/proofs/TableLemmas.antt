@@ -7,9 +7,8 @@ use Rattle.std.specs.BTreeMap.{is_at}
 use Rattle.std.specs.Ordering.{nat_cmp}
 use Rattle.std.proofs.lemmas.List.{map-append}
 use Rattle.pc_types.specs.declared.Request.{Request}
-use Rattle.pc_locks.specs.declared.node.Node.{Node}
 use Rattle.pc_locks.specs.States.{slots_of, queue_at, is_listed, SetsAt, AreFilled}
-use Rattle.pc_locks.specs.Tables.{Nodes, node_at, request_of, slot_of, request_at, slot_at, place_of, requests, slots, queues_in, lists_in, IsTable}
+use Rattle.pc_locks.specs.Tables.{Nodes, Placed, node_at, request_of, slot_of, request_at, slot_at, place_of, requests, slots, queues_in, lists_in, IsTable}
 use Rattle.pc_locks.proofs.SlotLaws.{sets_cases}
 use Rattle.pc_locks.proofs.LineLemmas.{listed_end}
 
@@ -24,11 +23,11 @@ found_slots nodes (e ∷ es) t = by (is_at (nat_cmp t) e.0) (found_slots nodes e
     by false h = h
 
 -- a node's parts by its place
-slot_by : (node : Option Node) → slot_of node ≡ unwrap_or (option_map (λ (p : ℕ × ℕ). p.0) (place_of node)) 0
+slot_by : (node : Option Placed) → slot_of node ≡ unwrap_or (option_map (λ (p : ℕ × ℕ). p.0) (place_of node)) 0
 slot_by None = refl
 slot_by (Some n) = refl
 
-pub transaction_by : (node : Option Node) → (request_of node).transaction ≡ unwrap_or (option_map (λ (p : ℕ × ℕ). p.1) (place_of node)) 0
+pub transaction_by : (node : Option Placed) → (request_of node).transaction ≡ unwrap_or (option_map (λ (p : ℕ × ℕ). p.1) (place_of node)) 0
 transaction_by None = refl
 transaction_by (Some n) = refl
 

@@ -8,9 +8,8 @@ use Rattle.pc_types.specs.declared.Mode.TheVariants.{Shared, Exclusive}
 use Rattle.pc_types.specs.declared.Request.{Request}
 use Rattle.pc_model.specs.Locks.{Queue, request_in, with_request, stronger, is_exclusive}
 use Rattle.pc_model.specs.Queues.{stands_in, AreOnce}
-use Rattle.pc_locks.specs.declared.node.Node.{Node}
 use Rattle.pc_locks.specs.States.{is_listed}
-use Rattle.pc_locks.specs.Tables.{Nodes, node_at, request_of, request_at, place_of, requests, IsTable, IsOwn, AreHeld}
+use Rattle.pc_locks.specs.Tables.{Nodes, Placed, node_at, request_of, request_at, place_of, requests, IsTable, IsOwn, AreHeld}
 use Rattle.pc_locks.proofs.TableLemmas.{requests_same}
 use Rattle.pc_locks.proofs.RemovalLemmas.{member_stands, once_behind, back_listed}
 use Rattle.pc_locks.proofs.Grants.{written_is}
@@ -51,7 +50,7 @@ is_upgrade Exclusive mode e = absurd cc
 
 module _ (nodes new_nodes : Nodes) (ids : List ℕ) (t : ℕ) (previous : Option ℕ) (id : ℕ) (own : Request) (mode : Mode) (o : IsOwn nodes ids t previous id)
     (held : is_listed ids id ≡ true → is_some (place_of (node_at nodes id)) ≡ true) (once : AreOnce (requests nodes ids)) (same : own ≡ request_at nodes id) (up : mode ≡ Exclusive)
-    (written : node_at new_nodes id ≡ option_map (λ (n : Node). record n { request = record own { mode = Exclusive } }) (node_at nodes id))
+    (written : node_at new_nodes id ≡ option_map (λ (n : Placed). record n { request = record own { mode = Exclusive } }) (node_at nodes id))
     (stay : (other : ℕ) → other ≢ id → node_at new_nodes other ≡ node_at nodes other) where
   listed : is_listed ids id ≡ true
   listed = ap (λ xs. is_listed xs id) o.split ∙ back_listed o.before (id ∷ o.behind) id (ap (λ b. b || is_listed o.behind id) (eq-eqb id id refl))

@@ -1,37 +1,37 @@
 -- What locks keep, what they are seen as beside the ends of the slots' queues, and what both keep together.
-use Rattle.std.specs.Prelude.{◌≡◌, ◌⊎◌, ℕ, List, [], Option}
+use Rattle.std.specs.Prelude.{◌≡◌, ◌⊎◌, ℕ, List, []}
+use Rattle.slab.specs.Slab.{Slab}
 use Rattle.pc_chain.specs.declared.chain.Chain.{Chain}
 use Rattle.pc_chain.specs.Chains.{IsEmpty}
 use Rattle.pc_model.specs.Locks.{Queue}
-use Rattle.pc_locks.specs.declared.table.RequestTable.{RequestTable}
-use Rattle.pc_locks.specs.Lines.{ids_of, ids_by, AreLines}
+use Rattle.pc_locks.specs.declared.node.Node.{Node}
+use Rattle.pc_locks.specs.Lines.{Links, ids_of, ids_by, AreLines}
 use Rattle.pc_locks.specs.States.{SlotLists, Queues, State, queue_at, AreAmong, AreSettled}
-use Rattle.pc_locks.specs.Tables.{Nodes, requests, queues_in, lists_in, IsTable}
+use Rattle.pc_locks.specs.Tables.{links_in, requests, queues_in, lists_in, IsTable}
 
--- the requests by id, the link of each id to the next one of its slot, and the ids of each transaction
+-- the requests in their slab, and the ids of each transaction
 pub record KeptRequests : Type 0 where
-  pub nodes : Nodes
-  pub links : List (Option ℕ)
+  pub nodes : Slab Node
   pub entries : List (ℕ × List ℕ)
 
--- what a table keeps
-abbrev pub kept_of : RequestTable → KeptRequests
-kept_of table = record { nodes = table.nodes.slots; links = table.links.links.items; entries = table.lists.entries }
+-- the link of each id to the next one of its slot
+abbrev pub links_of : KeptRequests → Links
+links_of kept = links_in kept.nodes.slots
 
--- the ids to which the links of a table lead along a chain, and their requests
-abbrev pub ids_along : RequestTable → Chain ℕ → List ℕ
-ids_along table chain = ids_of table.links.links.items chain
+-- the ids to which the links lead along a chain, and their requests
+abbrev pub ids_along : KeptRequests → Chain ℕ → List ℕ
+ids_along kept chain = ids_of (links_of kept) chain
 
-abbrev pub queue_along : RequestTable → Chain ℕ → Queue
-queue_along table chain = requests table.nodes.slots (ids_along table chain)
+abbrev pub queue_along : KeptRequests → Chain ℕ → Queue
+queue_along kept chain = requests kept.nodes.slots (ids_along kept chain)
 
 -- the queue of each slot: the requests that the links lead to from its ends
 abbrev pub queues_of : (ℕ → Chain ℕ) → KeptRequests → Queues
-queues_of ends kept = queues_in kept.nodes (ids_by kept.links ends)
+queues_of ends kept = queues_in kept.nodes.slots (ids_by (links_of kept) ends)
 
 -- the slots of each transaction
 abbrev pub lists_of : KeptRequests → SlotLists
-lists_of kept = lists_in kept.nodes kept.entries
+lists_of kept = lists_in kept.nodes.slots kept.entries
 
 -- what the locks are seen as
 abbrev pub state_of : (ℕ → Chain ℕ) → KeptRequests → State
@@ -39,8 +39,8 @@ state_of ends kept = record { queues = queues_of ends kept; lists = lists_of kep
 
 -- from these ends the links lead along chains, and these, the requests and the transactions' ids say the same
 pub record AreTied (ends : ℕ → Chain ℕ) (kept : KeptRequests) : Type 0 where
-  pub lines : AreLines kept.links ends
-  pub table : IsTable kept.nodes (ids_by kept.links ends) kept.entries
+  pub lines : AreLines (links_of kept) ends
+  pub table : IsTable kept.nodes.slots (ids_by (links_of kept) ends) kept.entries
 
 -- these are the ends of the queues of what is kept, and what is seen is settled
 pub record AreEnds (ends : ℕ → Chain ℕ) (kept : KeptRequests) : Type 0 where

@@ -1,3 +1,4 @@
+pub mod Changes
 pub mod Keepers
 pub mod Lines
 pub mod States

@@ -1,11 +1,7 @@
 -- Requests in a slab, named by ids, and the ids of each slot and of each transaction.
-use Rattle.std.specs.Prelude.{◌≡◌, ◌<◌, is_some, ℕ, ◌==◌, ◌&&◌, not, nat_lt, Bool, true, false, List, ◌∷◌, ◌++◌, length, map, Option, Some, None, unwrap_or, option_map, slice_index_or}
+use Rattle.std.specs.Prelude.{◌≡◌, is_some, ℕ, ◌==◌, ◌&&◌, not, nat_lt, Bool, true, false, List, ◌∷◌, ◌++◌, map, Option, Some, None, unwrap_or, option_map, slice_index_or}
 use Rattle.std.specs.List.{list_any}
-use Rattle.std.specs.Map.{lookup}
-use Rattle.std.specs.BTreeMap.{is_at}
-use Rattle.std.specs.Ordering.{nat_cmp}
-use Rattle.slab.specs.Slab.{Slab, HasRoomFor}
-use Rattle.pc_locks.specs.Lines.{Listed}
+use Rattle.pc_locks.specs.Lines.{Links}
 use Rattle.pc_types.specs.declared.Mode.TheVariants.{Shared}
 use Rattle.pc_types.specs.declared.Request.{Request}
 use Rattle.pc_model.specs.Locks.{Queue, are_compatible}
@@ -26,17 +22,44 @@ passes (test.HeldBeside t) r = r.granted && not (r.transaction == t)
 abbrev pub Nodes : Type 0
 Nodes = List (Option Node)
 
+-- a request and its slot
+pub record Placed : Type 0 where
+  pub request : Request
+  pub slot : ℕ
+
+-- the request of a node and its slot, without its links
+abbrev pub placed : Node → Placed
+placed n = record { request = n.request; slot = n.slot }
+
 -- the request of an id and its slot, where it has one
-abbrev pub node_at : Nodes → ℕ → Option Node
-node_at nodes id = slice_index_or nodes id None
+abbrev pub node_at : Nodes → ℕ → Option Placed
+node_at nodes id = option_map placed (slice_index_or nodes id None)
+
+-- the link of each id to the next one of its slot
+abbrev pub links_in : Nodes → Links
+links_in nodes = map (option_map (λ (n : Node). n.next)) nodes
+
+-- the link of each id to the next one of its transaction
+abbrev pub own_links_in : Nodes → Links
+own_links_in nodes = map (option_map (λ (n : Node). n.next_own)) nodes
+
+-- each id has its request and its link to the next one of its transaction still
+pub record KeepOwnLinks (old new : Nodes) : Type 0 where
+  pub nodes : (id : ℕ) → node_at new id ≡ node_at old id
+  pub own : own_links_in new ≡ own_links_in old
+
+-- each id has its request and its link to the next one of its slot still
+pub record KeepQueueLinks (old new : Nodes) : Type 0 where
+  pub nodes : (id : ℕ) → node_at new id ≡ node_at old id
+  pub queue : links_in new ≡ links_in old
 
 -- the request of a node
-abbrev pub request_of : Option Node → Request
-request_of node = unwrap_or (option_map (λ (n : Node). n.request) node) (record { transaction = 0; mode = Shared; granted = false })
+abbrev pub request_of : Option Placed → Request
+request_of node = unwrap_or (option_map (λ (n : Placed). n.request) node) (record { transaction = 0; mode = Shared; granted = false })
 
 -- the slot of a node
-abbrev pub slot_of : Option Node → ℕ
-slot_of node = unwrap_or (option_map (λ (n : Node). n.slot) node) 0
+abbrev pub slot_of : Option Placed → ℕ
+slot_of node = unwrap_or (option_map (λ (n : Placed). n.slot) node) 0
 
 -- the request of an id
 abbrev pub request_at : Nodes → ℕ → Request
@@ -47,8 +70,8 @@ abbrev pub slot_at : Nodes → ℕ → ℕ
 slot_at nodes id = slot_of (node_at nodes id)
 
 -- the slot and the transaction of a node
-abbrev pub place_of : Option Node → Option (ℕ × ℕ)
-place_of node = option_map (λ (n : Node). (n.slot, n.request.transaction)) node
+abbrev pub place_of : Option Placed → Option (ℕ × ℕ)
+place_of node = option_map (λ (n : Placed). (n.slot, n.request.transaction)) node
 
 -- the requests of these ids
 abbrev pub requests : Nodes → List ℕ → Queue
@@ -86,14 +109,6 @@ pub record IsIdFound (nodes : Nodes) (ids : List ℕ) (asked : Test) (previous :
 -- the first of the list whose request is the transaction's
 abbrev pub IsOwn : Nodes → List ℕ → ℕ → Option ℕ → ℕ → Type 0
 IsOwn nodes ids t previous id = IsIdFound nodes ids (test.Of t) previous id
-
--- one more request of the transaction fits without memory: there is a free place, which has a link in each of the two
--- rows, and the transaction has an entry
-pub record HasRoomForRequest (nodes : Slab Node) (links : List (Option ℕ)) (lists : Listed) (t : ℕ) : Type 0 where
-  pub nodes_fit : HasRoomFor nodes 1
-  pub links_fit : nodes.vacant_key < length links
-  pub lists_fit : nodes.vacant_key < lists.room
-  pub known : is_some (lookup (is_at (nat_cmp t)) lists.entries) ≡ true
 
 -- of the slot's ids the first whose request is the transaction's was taken out
 pub record IsUnlinked (nodes : Nodes) (ids new_ids : ℕ → List ℕ) (slot t : ℕ) : Type 0 where

@@ -1,14 +1,10 @@
 //! Strict two-phase locking with wait-die: the requests that transactions make of slots, who is granted, who waits and who dies.
 #![tactic(auto)]
 
-mod ends;
 mod ends_row;
 mod keeper;
-mod lists;
 mod locks;
 mod node;
-mod queues;
-mod row;
 mod table;
 
 pub use keeper::QueueEnds;

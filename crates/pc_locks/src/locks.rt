@@ -6,7 +6,6 @@ ghost use Rattle.pc_locks.specs.States.{queue_at, slots_of, first_of, is_waiting
 ghost use Rattle.pc_locks.specs.Keepers.{queues_of, lists_of, state_of, AreEnds, AreLocksSound};
 
 use crate::keeper::QueueEnds;
-use crate::node::Test;
 use crate::table::RequestTable;
 use pc_chain::Chain;
 use pc_types::{Mode, Outcome, SlotId, TxnNo};
@@ -24,11 +23,11 @@ pub struct Locks {
 }
 
 impl Model for Locks {
-    ghost use Rattle.pc_locks.specs.Keepers.{KeptRequests, kept_of};
+    ghost use Rattle.pc_locks.specs.Keepers.{KeptRequests};
 
     ghost Value = { KeptRequests };
 
-    ghost view = { λ a. kept_of a.table };
+    ghost view = { λ a. a.table };
 }
 
 impl Locks {
@@ -64,7 +63,7 @@ impl Locks {
         ensures beside { E.beside keeper.old keeper.new }
     {
         let queue = keeper.ends(slot);
-        match self.table.find(queue, Test::Of(transaction)) {
+        match self.table.find_own(queue, transaction) {
             Some(found) => Ok(self.table.again(queue, found, transaction, mode)),
             None => self.table.first(keeper, slot, queue, transaction, mode),
         }

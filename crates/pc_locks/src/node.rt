@@ -1,15 +1,114 @@
 //! Requests as they stand in the slab.
-ghost use Rattle.std.specs.Prelude.{◌≡◌, ◌||◌, not};
+ghost use Rattle.std.specs.Prelude.{◌≡◌, ◌≢◌, ◌||◌, not, ℕ, option_map};
 ghost use Rattle.pc_model.specs.Locks.{is_exclusive, are_compatible};
-ghost use Rattle.pc_locks.specs.Tables.{passes};
+ghost use Rattle.pc_locks.specs.Lines.{HasLink, next_in};
+ghost use Rattle.pc_locks.specs.Tables.{Placed, node_at, links_in, own_links_in, passes, KeepOwnLinks, KeepQueueLinks};
 
+use pc_chain::Links;
 use pc_types::{Mode, Request, TxnNo};
+use slab::Slab;
 
-/// A request and its slot.
+/// A request and its slot, what is behind it in the slot's queue, and what is behind it in its transaction's chain.
 #[derive(Clone, Copy)]
 pub(crate) struct Node {
     pub(crate) request: Request,
     pub(crate) slot: u32,
+    pub(crate) next: Option<usize>,
+    pub(crate) next_own: Option<usize>,
+}
+
+/// Marks the links of the slots' queues.
+pub(crate) struct ByQueue;
+
+/// Marks the links of the transactions' chains.
+pub(crate) struct ByOwner;
+
+impl Links<ByQueue> for Slab<Node> {
+    ghost use Rattle.std.specs.Prelude.{◌≡◌, refl};
+    ghost use Rattle.std.proofs.Common.{◌∙◌};
+    ghost use Rattle.pc_locks.specs.Lines.{HasLink, next_in};
+    ghost use Rattle.pc_locks.specs.Tables.{links_in, KeepOwnLinks};
+
+    type Id = usize;
+
+    ghost has = { λ slab id. HasLink (links_in slab.slots) id };
+
+    ghost next_of = { λ slab id. next_in (links_in slab.slots) id };
+
+    ghost beside = { λ a b. KeepOwnLinks a.slots b.slots };
+
+    fn next(&self, id: usize) -> Option<usize> {
+        match self.get(id) {
+            Some(node) => node.next,
+            None => None,
+        }
+    }
+
+    fn set_next(&mut self, id: usize, next: Option<usize>)
+        requires { HasLink (links_in self.old.slots) id }
+        ensures set { next_in (links_in self.new.slots) id ≡ next }
+        ensures others { (other : ℕ) → other ≢ id → next_in (links_in self.new.slots) other ≡ next_in (links_in self.old.slots) other }
+        ensures has { (other : ℕ) → HasLink (links_in self.old.slots) other → HasLink (links_in self.new.slots) other }
+        ensures beside { KeepOwnLinks self.old.slots self.new.slots }
+    {
+        if let Some(node) = self.get_mut(id) {
+            node.next = next;
+        }
+    }
+
+    ghost beside_same = { λ a. record { nodes = λ id. refl; own = refl } };
+
+    ghost beside_then = { λ a b c p q. record { nodes = λ id. q.nodes id ∙ p.nodes id; own = q.own ∙ p.own } };
+}
+
+impl Links<ByOwner> for Slab<Node> {
+    ghost use Rattle.std.specs.Prelude.{◌≡◌, refl};
+    ghost use Rattle.std.proofs.Common.{◌∙◌};
+    ghost use Rattle.pc_locks.specs.Lines.{HasLink, next_in};
+    ghost use Rattle.pc_locks.specs.Tables.{own_links_in, KeepQueueLinks};
+
+    type Id = usize;
+
+    ghost has = { λ slab id. HasLink (own_links_in slab.slots) id };
+
+    ghost next_of = { λ slab id. next_in (own_links_in slab.slots) id };
+
+    ghost beside = { λ a b. KeepQueueLinks a.slots b.slots };
+
+    fn next(&self, id: usize) -> Option<usize> {
+        match self.get(id) {
+            Some(node) => node.next_own,
+            None => None,
+        }
+    }
+
+    fn set_next(&mut self, id: usize, next: Option<usize>)
+        requires { HasLink (own_links_in self.old.slots) id }
+        ensures set { next_in (own_links_in self.new.slots) id ≡ next }
+        ensures others { (other : ℕ) → other ≢ id → next_in (own_links_in self.new.slots) other ≡ next_in (own_links_in self.old.slots) other }
+        ensures has { (other : ℕ) → HasLink (own_links_in self.old.slots) other → HasLink (own_links_in self.new.slots) other }
+        ensures beside { KeepQueueLinks self.old.slots self.new.slots }
+    {
+        if let Some(node) = self.get_mut(id) {
+            node.next_own = next;
+        }
+    }
+
+    ghost beside_same = { λ a. record { nodes = λ id. refl; queue = refl } };
+
+    ghost beside_then = { λ a b c p q. record { nodes = λ id. q.nodes id ∙ p.nodes id; queue = q.queue ∙ p.queue } };
+}
+
+/// Changes the request of an id.
+pub(crate) fn put_request(nodes: &mut Slab<Node>, id: usize, request: Request)
+    ensures written { node_at nodes.new.slots id ≡ option_map (λ (n : Placed). record n { request = request }) (node_at nodes.old.slots id) }
+    ensures others { (other : ℕ) → other ≢ id → node_at nodes.new.slots other ≡ node_at nodes.old.slots other }
+    ensures links { links_in nodes.new.slots ≡ links_in nodes.old.slots }
+    ensures own { own_links_in nodes.new.slots ≡ own_links_in nodes.old.slots }
+{
+    if let Some(node) = nodes.get_mut(id) {
+        node.request = request;
+    }
 }
 
 /// A question about a request.
