@@ -210,12 +210,12 @@ fn time_logging<N: StoreName, R: Wait>(
 ) -> Result<(), BenchFailure> {
     for _ in rt.forever() {
         let start = Instant::now(host)?;
-        let entries = shared.log_next(rt, pass, ROOM)?;
+        let next = shared.log_next(rt, pass, ROOM)?;
         let noted = timed.note(host, start);
-        if entries.is_empty() {
+        if next.count == 0 {
             return noted;
         }
-        drop(entries);
+        drop(next);
         noted?;
     }
     unreachable!()

@@ -6,8 +6,9 @@ ghost use Rattle.pc_engine.specs.Steps.{Changes, LeavesShelf, Takes, Shelves, Jo
 use crate::shelving::{Shelvable, joined};
 use crate::world::World;
 use pc_capture::{SharedPart, Taken};
+use pc_log::TOKEN_SIZE;
 use pc_phase::{Change, Held};
-use pc_types::{Entry, FileNo, Key, MOST_FILES, Phase, Refusal, Reply, Value};
+use pc_types::{FileNo, Key, MOST_FILES, Phase, Refusal, Reply, Value};
 use std::alloc::{AllocError, Global};
 
 impl World {
@@ -23,12 +24,12 @@ impl World {
         if self.log.is_full() {
             return Reply::Refused(Refusal::LogFull);
         }
-        if self.log.reserve().is_err() {
+        if self.log.reserve(TOKEN_SIZE).is_err() {
             return Reply::Refused(Refusal::OutOfMemory);
         }
         self.sessions.change(change);
         let (phase, point) = (self.sessions.phase(), self.sessions.point());
-        self.log.append_reserved(Entry::Token(phase, point));
+        self.log.append_token(phase, point);
         if let Change::Seal = change {
             self.taken = Taken::new(self.alloc);
         }
@@ -67,7 +68,7 @@ impl World {
         if self.log.is_full() {
             return Reply::Refused(Refusal::LogFull);
         }
-        if self.shelf.reserve(1).is_err() || self.log.reserve().is_err() {
+        if self.shelf.reserve(1).is_err() || self.log.reserve(TOKEN_SIZE).is_err() {
             return Reply::Refused(Refusal::OutOfMemory);
         }
         let (run, point) = (self.base.run(), self.sessions.point());
@@ -76,8 +77,7 @@ impl World {
             return Reply::Refused(Refusal::OutOfMemory);
         };
         self.sessions.change(Change::Done);
-        self.log
-            .append_reserved(Entry::Token(Phase::Complete, point));
+        self.log.append_token(Phase::Complete, point);
         self.shelf.push_reserved(part);
         Reply::PartDone(point, FileNo(self.shelf.len() as u32), entries)
     }

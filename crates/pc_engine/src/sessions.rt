@@ -6,7 +6,10 @@ ghost use Rattle.pc_types.specs.declared.limits.TheConstants.{MOST_KEYS, MOST_SE
 ghost use Rattle.pc_types.specs.declared.Mode.TheVariants.{Shared, Exclusive};
 ghost use Rattle.pc_types.specs.declared.Phase.TheVariants.{Capture, Rest};
 ghost use Rattle.pc_types.specs.Phases.{same_phase};
+ghost use Rattle.pc_types.specs.declared.Entry.TheVariants.{Commit};
+ghost use Rattle.pc_model.specs.DistinctWrites.{AreDistinct};
 ghost use Rattle.pc_model.specs.Maps.{get};
+ghost use Rattle.pc_log.specs.Texts.{entry_text};
 ghost use Rattle.pc_model.specs.Database.{KeysRise, database_of, with_write, written};
 ghost use Rattle.pc_model.specs.Replies.{by_outcome, read_reply, value_read};
 ghost use Rattle.pc_phase.specs.Phases.{held_back};
@@ -19,6 +22,7 @@ ghost use Rattle.pc_engine.specs.Sessions.{active_of, actives_of, number_in, wri
 ghost use Rattle.pc_engine.specs.Ongoing.{own, at_start, answer_to, after_answer, after_beginning, after_committing, after_aborting, after_taking, changed};
 ghost use Rattle.pc_engine.specs.Store.{active_in};
 
+use pc_log::commit_size;
 use pc_phase::{Change, Held, Phases};
 use pc_records::{Reading, Records, Requested};
 use pc_txn::WriteSet;
@@ -245,6 +249,16 @@ impl Sessions {
         Ok(outcome)
     }
 
+    /// How many bytes the entry of a commit of the session's open transaction takes in the log.
+    pub(crate) fn commit_size(&self, session: SessionNo) -> u32
+        ensures { (s : ℕ) → result ≡ length (entry_text (Commit s (writes_in (own self.now session)))) }
+    {
+        match active(self.transactions.as_slice(), session) {
+            Some(transaction) => commit_size(transaction.writes.as_slice()),
+            None => commit_size(&[]),
+        }
+    }
+
     /// The session's transaction is committed, and over: its writes, which it gives, are committed where they stand, and its
     /// locks are released.
     pub(crate) fn commit(&mut self, session: SessionNo) -> Items<Write>
@@ -252,6 +266,8 @@ impl Sessions {
         requires opened { is_none (own self.old session) ≡ false }
         ensures writes { result ≡ writes_in (own self.old session) }
         ensures few { length result ≤ MOST_WRITES }
+        ensures distinct { AreDistinct result }
+        ensures session { session ≤ MOST_SESSIONS }
         ensures commits { self.new ≡ after_committing self.old session }
     {
         let Transaction {
@@ -297,7 +313,8 @@ impl Sessions {
     /// The phase changes; nothing holds that back. At a seal the open set becomes the closed one.
     pub(crate) fn change(&mut self, change: Change)
         requires { held_back self.old.phases change (length self.old.closed_set) ≡ None }
-        ensures { self.new ≡ changed change self.old }
+        ensures changed { self.new ≡ changed change self.old }
+        ensures begun { 1 ≤ self.new.phases.point }
     {
         let left = self.records.closed_len();
         if self.phases.advance(change, left).is_err() {

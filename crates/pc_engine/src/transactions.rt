@@ -4,7 +4,7 @@ ghost use Rattle.pc_engine.specs.Steps.{OpenCause, WriteCause, Begins, Gets, Wri
 
 use crate::world::World;
 use crate::writes::write_of;
-use pc_types::{Entry, Key, MOST_TRANSACTIONS, Outcome, Refusal, Reply, SessionNo, Value};
+use pc_types::{Key, MOST_TRANSACTIONS, Outcome, Refusal, Reply, SessionNo, Value};
 
 impl World {
     pub(crate) fn begin(&mut self, session: SessionNo) -> Reply
@@ -105,11 +105,12 @@ impl World {
         if self.log.is_full() {
             return Reply::Refused(Refusal::LogFull);
         }
-        if self.log.reserve().is_err() {
+        let size = self.sessions.commit_size(session);
+        if self.log.reserve(size).is_err() {
             return Reply::Refused(Refusal::OutOfMemory);
         }
         let writes = self.sessions.commit(session);
-        Reply::Committed(self.log.append_reserved(Entry::Commit(session, writes)))
+        Reply::Committed(self.log.append_commit(session, writes.as_slice()))
     }
 
     pub(crate) fn abort(&mut self, session: SessionNo) -> Reply

@@ -9,6 +9,7 @@ ghost use Rattle.pc_model.specs.Limits.{IsInLimits};
 ghost use Rattle.pc_model.specs.FewWrites.{HasFewWrites};
 ghost use Rattle.pc_model.specs.Log.{after};
 ghost use Rattle.pc_log.specs.Laws.{IsLog};
+ghost use Rattle.pc_log.specs.Logs.{entries_of};
 ghost use Rattle.pc_records.specs.Rows.{record_of, stored};
 ghost use Rattle.pc_engine.specs.Sessions.{writes_in};
 ghost use Rattle.pc_engine.specs.Store.{active, setting_of};
@@ -24,7 +25,7 @@ use pc_log::Log;
 use pc_part::{Base, Part};
 use pc_phase::Change;
 use pc_types::{
-    Entry, Event, FileNo, Key, MOST_KEYS, MOST_SESSIONS, Phase, Refusal, Reply, SessionNo, Value,
+    Event, FileNo, Key, MOST_KEYS, MOST_SESSIONS, Phase, Refusal, Reply, SessionNo, Value,
 };
 use std::alloc::Global;
 use std::hash::RandomState;
@@ -141,13 +142,13 @@ impl World {
     /// The log: a commit's entry for each committed transaction, and a token for each change of the phase, in order; at
     /// most 16,777,216 entries, each commit of at most 256 writes. After every history it has a text, which `encode_log` of
     /// `pc_log` writes: its entries are within the limits of the format, and its tokens keep their order.
-    pub fn log(&self) -> &[Entry]
-        ensures log { result.now ≡ self.now.log }
-        ensures limit { length result.now ≤ MOST_LOG_ENTRIES }
-        ensures few { All HasFewWrites result.now }
-        ensures lawful { (history : History) → Stands self.now history → IsLog result.now }
+    pub fn log(&self) -> &Log
+        ensures log { entries_of result.now ≡ self.now.log }
+        ensures limit { length (entries_of result.now) ≤ MOST_LOG_ENTRIES }
+        ensures few { All HasFewWrites (entries_of result.now) }
+        ensures lawful { (history : History) → Stands self.now history → IsLog (entries_of result.now) }
     {
-        self.log.entries()
+        &self.log
     }
 
     /// Whether the session's open transaction has written the key; false where it has none open.
@@ -213,10 +214,11 @@ impl World {
         ensures refusals { IfErr result (λ e. e ≡ Refusal.OutOfMemory) }
     {
         let pairs = self.committed()?;
+        let log = self.log().entries(self.alloc)?;
         let sound = is_sound(
             self.alloc,
             self.base(),
-            self.log(),
+            log.as_slice(),
             self.files(),
             pairs.as_slice(),
         )?;

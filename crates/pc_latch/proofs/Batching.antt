@@ -1,6 +1,8 @@
 -- Batches of entries, one entry after the other.
 use Rattle.std.proofs.Common.{◌≡◌, ℕ, zero, suc, ◌+◌, ◌-◌, ◌<◌, ◌≤◌, List, [], ◌∷◌, ◌++◌, length, get_or, take, drop, refl, ap, sym, ◌∙◌, append_assoc, append-nil, arith}
-use Rattle.std.proofs.lemmas.List.{take_more, drop_more, drop_all, length-take-le}
+use Rattle.std.specs.Prelude.{Some, slice_get}
+use Rattle.std.proofs.lemmas.List.{take_more, drop_more, drop_all, length-take-le, length-drop, get_or-drop}
+use Rattle.std.proofs.lemmas.Option.{get_or_from_slice_get}
 use Rattle.pc_types.specs.declared.Entry.{Entry}
 use Rattle.pc_model.specs.History.{History, log_of}
 use Rattle.pc_log.specs.Texts.{entry_text}
@@ -57,3 +59,24 @@ batch_behind room count log next hist now given is log_is same counted =
 -- some of the first ones are so many of them
 pub taken_are : {X : Type 0} (n : ℕ) (xs ys : List X) → ys ≡ take n xs → n ≤ length xs → ys ≡ take (length ys) xs
 taken_are n xs ys is le = is ∙ ap (λ (k : ℕ). take k xs) (sym (ap length is ∙ length-take-le n xs le))
+
+-- what was counted is the batch of the entries behind the first ones
+module _ (first count : ℕ) (log next : List Entry) (is : take count (drop first log) ≡ next) (within : first + count ≤ length log) where
+  there : count ≤ length (drop first log)
+  there = omega (arith, within, length-drop first log)
+
+  pub counted : count ≡ length next
+  counted = sym (length-take-le count (drop first log) there) ∙ ap length is
+
+  pub next_first : next ≡ take (length next) (drop first log)
+  next_first = taken_are count (drop first log) next (sym is) there
+
+-- an entry that stands there
+pub one_there : {X : Type 0} (xs : List X) (i : ℕ) → i < length xs → (x : X) × (slice_get xs i ≡ Some x)
+one_there [] i lt = let no : ⊥ = omega (arith, lt) in absurd no
+one_there (x ∷ xs) zero lt = (x, refl)
+one_there (x ∷ xs) (suc i) lt = one_there xs i (omega (arith, lt))
+
+-- the same behind the first ones
+pub behind_first : {X : Type 0} (n i place : ℕ) (xs : List X) (x : X) → slice_get xs place ≡ Some x → place ≡ n + i → get_or (drop n xs) i x ≡ x
+behind_first n i place xs x at is = get_or-drop n xs i x ∙ ap (λ (k : ℕ). get_or xs k x) (sym is) ∙ get_or_from_slice_get xs place x x at

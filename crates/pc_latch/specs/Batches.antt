@@ -1,5 +1,6 @@
 -- The entries that are handed out at once.
-use Rattle.std.specs.Prelude.{ℕ, zero, suc, ◌-◌, List, [], ◌∷◌, length}
+use Rattle.std.specs.Prelude.{◌≡◌, ℕ, zero, suc, ◌-◌, List, [], ◌∷◌, ◌++◌, length}
+use Rattle.std.specs.List.{flat_map}
 use Rattle.pc_types.specs.declared.Entry.{Entry}
 use Rattle.pc_log.specs.Texts.{entry_text}
 
@@ -8,3 +9,12 @@ abbrev pub batch : ℕ → List Entry → List Entry
 batch zero entries = []
 batch (suc room) [] = []
 batch (suc room) (entry ∷ entries) = entry ∷ batch (suc room - length (entry_text entry)) entries
+
+-- These are the texts of the next entries, so many, which the pass has then handed out behind those that it had: a batch of the entries
+-- for which there is room for so many bytes.
+pub record IsNext (room : ℕ) (before after : List Entry) (text : List ℕ) (count : ℕ) : Type 0 where
+  pub more : List Entry
+  pub list : after ≡ before ++ more
+  pub whole : batch room more ≡ more
+  pub texts : text ≡ flat_map entry_text more
+  pub counted : count ≡ length more

@@ -1,8 +1,7 @@
 //! What lies under the latch: the world, and the keeper of its history.
-ghost use Rattle.std.specs.Prelude.{◌≡◌, ◌↔◌, ◌∷◌, ◌++◌, [], true, false, Err, Some, None, IfOk, IfErr, OnErr, All, length, drop};
+ghost use Rattle.std.specs.Prelude.{◌≡◌, ◌↔◌, ◌∷◌, ◌++◌, [], true, false, Err, Some, None, IfOk, IfErr, OnErr, length, drop};
 ghost use mathlib.Core.List.{IsPrefix};
 ghost use Rattle.pc_types.specs.declared.Event.TheVariants.{Take};
-ghost use Rattle.pc_model.specs.FewWrites.{HasFewWrites};
 ghost use Rattle.pc_model.specs.Files.{file_at, shelf};
 ghost use Rattle.pc_model.specs.History.{History, is_open, log_of, phase_of};
 ghost use Rattle.pc_model.specs.Receipts.{own_of};
@@ -16,16 +15,16 @@ ghost use Rattle.pc_engine.specs.Store.{active, setting_of};
 ghost use Rattle.pc_engine.specs.Stands.{Stands, Follows};
 ghost use Rattle.pc_tie.specs.Seats.{MovesOn};
 ghost use Rattle.pc_latch.specs.OwnReads.{reads_one_of};
-ghost use Rattle.pc_latch.specs.Batches.{batch};
+ghost use Rattle.pc_latch.specs.Batches.{batch, IsNext};
 ghost use Rattle.pc_latch.specs.Cycles.{next_event, IsCalled, IsAdvance, IsTakeCalled};
 ghost use Rattle.pc_model.specs.Sets as set;
 ghost use Rattle.pc_latch.specs.Tickets.{HasNoFile, IsNoTicket};
 
-use crate::pass::{LogPass, next_of};
+use crate::pass::{LogBatch, LogPass, next_of};
 use crate::ticket::PartTicket;
 use pc_engine::World;
 use pc_tie::{CheckpointerSeat, Keeper, Milestone, SessionSeat, StoreName, Tie, Witness};
-use pc_types::{Entry, Event, FileNo, Phase, Refusal, Reply, SessionNo, Step};
+use pc_types::{Event, FileNo, Phase, Refusal, Reply, SessionNo, Step};
 use std::alloc::Global;
 use std::marker::Model;
 
@@ -169,7 +168,7 @@ impl<N: StoreName> Latched<N> {
         self.call_own(tie, checkpointer, Event::Take)
     }
 
-    /// The next entries of the log after those that the pass has handed out, as long as there is room for so many bytes of text,
+    /// The texts of the next entries of the log after those that the pass has handed out, as long as there is room for so many bytes of text,
     /// which the last one may go beyond; the pass then has them too. Refuses with `OutOfMemory` alone, and the pass stays.
     pub fn log_next(
         &mut self,
@@ -177,22 +176,20 @@ impl<N: StoreName> Latched<N> {
         tie: &Tie<N>,
         pass: &mut LogPass<N>,
         room: u32,
-    ) -> Result<Vec<Entry>, Refusal>
+    ) -> Result<LogBatch, Refusal>
         ensures held { self.new ≡ self.old }
-        ensures list { IfOk result (λ entries. pass.new ≡ pass.old ++ entries.items) }
-        ensures next { IfOk result (λ entries. entries.items ≡ batch room (drop (length pass.old) (log_of self.old))) }
-        ensures room { IfOk result (λ entries. batch room entries.items ≡ entries.items) }
-        ensures few { IfOk result (λ entries. All HasFewWrites entries.items) }
+        ensures list { IfOk result (λ next. pass.new ≡ pass.old ++ batch room (drop (length pass.old) (log_of self.old))) }
+        ensures next { IfOk result (λ next. IsNext room pass.old pass.new next.text.items next.count) }
         ensures same { OnErr result (pass.new ≡ pass.old) }
         ensures memory { IfErr result (λ e. e ≡ Refusal.OutOfMemory) }
     {
         self.keeper.renew(tie, &mut pass.witness);
-        let entries = match next_of(alloc, self.world.log(), pass.count, room) {
-            Ok(entries) => entries,
+        let next = match next_of(alloc, self.world.log(), pass.count, room) {
+            Ok(next) => next,
             Err(why) => return Err(why),
         };
-        pass.count += entries.len();
-        Ok(entries)
+        pass.count += next.count;
+        Ok(next)
     }
 
     /// Whether the pass has handed out all entries that the log has: then it has each that the log had at the milestone. False too

@@ -7,5 +7,5 @@ mod pass;
 mod ticket;
 
 pub use latched::Latched;
-pub use pass::LogPass;
+pub use pass::{LogBatch, LogPass};
 pub use ticket::{PartTicket, renew_tickets};

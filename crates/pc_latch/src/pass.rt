@@ -1,12 +1,14 @@
 //! The logger's pass: how far the log was handed out.
-ghost use Rattle.std.specs.Prelude.{◌≡◌, ◌≤◌, [], IfOk, IfErr, All, length, take, drop};
-ghost use Rattle.pc_model.specs.FewWrites.{HasFewWrites};
+ghost use Rattle.std.specs.Prelude.{◌≡◌, ◌≤◌, ◌+◌, [], IfOk, IfErr, length, take, drop};
+ghost use Rattle.std.specs.List.{flat_map};
 ghost use Rattle.pc_model.specs.History.{log_of};
+ghost use Rattle.pc_log.specs.Logs.{entries_of};
+ghost use Rattle.pc_log.specs.Texts.{entry_text};
 ghost use Rattle.pc_latch.specs.Batches.{batch};
 
-use pc_log::entry_size;
+use pc_log::Log;
 use pc_tie::{Keeper, StoreName, Tie, Witness};
-use pc_types::{Entry, MOST_LOG_ENTRIES, Refusal};
+use pc_types::{MOST_LOG_ENTRIES, Refusal};
 use std::alloc::Global;
 use std::marker::Model;
 
@@ -86,51 +88,47 @@ impl<N: StoreName> LogPass<N> {
     }
 }
 
-// The same entries once more.
-fn copied(alloc: Global, entries: &[Entry]) -> Result<Vec<Entry>, Refusal>
-    ensures entries { IfOk result (λ copies. copies.items ≡ entries.now) }
-    ensures memory { IfErr result (λ e. e ≡ Refusal.OutOfMemory) }
-{
-    let mut copies = Vec::with_capacity(alloc, entries.len())?;
-    for entry in entries.iter() {
-        copies.push_reserved(entry.copy(alloc)?);
-    }
-    Ok(copies)
+/// The next entries of a log, as their texts.
+#[derive(Drop)]
+pub struct LogBatch {
+    /// The texts, one behind the other.
+    pub text: Vec<u8>,
+    /// How many entries they are of.
+    pub count: usize,
 }
 
-// How many of the entries are handed out, where there is room for so many bytes of text.
-fn batch_len(entries: &[Entry], room: u32) -> usize
-    requires { All HasFewWrites entries.now }
-    ensures within { result ≤ length entries.now }
-    ensures batch { take result entries.now ≡ batch room entries.now }
+// How many of the entries behind the first ones are handed out, where there is room for so many bytes of text.
+fn batch_len(log: &Log, first: usize, room: u32) -> usize
+    requires { first ≤ length (entries_of log.now) }
+    ensures within { first + result ≤ length (entries_of log.now) }
+    ensures batch { take result (drop first (entries_of log.now)) ≡ batch room (drop first (entries_of log.now)) }
 {
-    let mut left = room;
+    let mut left = room as usize;
     let mut count = 0;
-    for entry in entries {
+    for place in first..log.len() {
         if left == 0 {
             return count;
         }
-        left = left.saturating_sub(entry_size(entry));
+        left = left.saturating_sub(log.size(place));
         count += 1;
     }
     count
 }
 
-// The next entries after the first ones, as long as there is room for so many bytes of text.
+// The next entries behind the first ones, as long as there is room for so many bytes of text.
 pub(crate) fn next_of(
     alloc: Global,
-    log: &[Entry],
+    log: &Log,
     first: usize,
     room: u32,
-) -> Result<Vec<Entry>, Refusal>
-    requires first { first ≤ length log.now }
-    requires few { All HasFewWrites log.now }
-    ensures entries { IfOk result (λ entries. entries.items ≡ batch room (drop first log.now)) }
-    ensures next { IfOk result (λ entries. entries.items ≡ take (length entries.items) (drop first log.now)) }
-    ensures few { IfOk result (λ entries. All HasFewWrites entries.items) }
+) -> Result<LogBatch, Refusal>
+    requires { first ≤ length (entries_of log.now) }
+    ensures within { IfOk result (λ next. first + next.count ≤ length (entries_of log.now)) }
+    ensures batch { IfOk result (λ next. take next.count (drop first (entries_of log.now)) ≡ batch room (drop first (entries_of log.now))) }
+    ensures text { IfOk result (λ next. next.text.items ≡ flat_map entry_text (batch room (drop first (entries_of log.now)))) }
     ensures memory { IfErr result (λ e. e ≡ Refusal.OutOfMemory) }
 {
-    let rest = &log[first..];
-    let next = &rest[..batch_len(rest, room)];
-    copied(alloc, next)
+    let count = batch_len(log, first, room);
+    let text = log.copied_texts(alloc, first, count)?;
+    Ok(LogBatch { text, count })
 }

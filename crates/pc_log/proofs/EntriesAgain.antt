@@ -66,7 +66,7 @@ writes_length (w ∷ ws) limits =
 
 -- ---- bodies
 
-commit_again : (session : ℕ) (writes : List Write) → IsCommit session writes → commit_at (to_be_bytes w8 session ++ (to_be_bytes w16 (length writes) ++ flat_map write_text writes)) ≡ Ok (Commit session writes, [])
+pub commit_again : (session : ℕ) (writes : List Write) → IsCommit session writes → commit_at (to_be_bytes w8 session ++ (to_be_bytes w16 (length writes) ++ flat_map write_text writes)) ≡ Ok (Commit session writes, [])
 unfolding commit_at
 commit_again session writes lawful =
     let in_limits : (nat_le 1 session && nat_le session 64) ≡ true = grind (arith, nat_tests, lawful.first_session, lawful.last_session) in

@@ -5,6 +5,10 @@ pub mod TurnLaws
 mod TokenOrders
 mod EntryTexts
 mod EntriesAgain
+mod PlainTexts
+mod PlacingLaws
+mod ChunkLaws
+mod PieceLaws
 mod LogTexts
 pub mod CutTextLaws
 mod LawfulWrites

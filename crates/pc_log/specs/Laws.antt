@@ -1,5 +1,6 @@
 -- What is read of a text, and what was written is read again.
 use Rattle.std.specs.Prelude.{◌≡◌, ℕ, ◌+◌, ◌-◌, ◌<◌, ◌≤◌, ◌^◌, ◌==◌, List, ◌++◌, length, take, Some, None, Ok, Err, All, slice_index, if◌then◌else◌}
+use Rattle.std.specs.List.{flat_map}
 use Rattle.pc_types.specs.declared.refusal.Refusal.TheVariants.{Short}
 use Rattle.pc_types.specs.declared.Entry.{Entry}
 use Rattle.pc_types.specs.declared.limits.TheConstants.{MOST_SESSIONS}
@@ -7,9 +8,10 @@ use Rattle.pc_model.specs.History.{History, log_of}
 use Rattle.pc_model.specs.Replies.{Setting}
 use Rattle.pc_model.specs.Standing.{HasLegalEffects}
 use Rattle.pc_model.specs.Limits.{AreInLimits}
-use Rattle.pc_log.specs.Texts.{log_text, IsEntry}
+use Rattle.pc_log.specs.Texts.{entry_text, log_text, IsEntry}
 use Rattle.pc_log.specs.Orders.{InOrder}
 use Rattle.pc_log.specs.Reading.{LogRead, log_at}
+use Rattle.pc_log.specs.Plain.{plain_entry_at, entries_in}
 
 -- each number of the list is a byte
 abbrev pub AreBytes : List ℕ → Type 0
@@ -40,6 +42,13 @@ WholeEntriesAreLongest = (bytes : List ℕ) (read : LogRead) → AreBytes bytes 
 abbrev pub LogTextsAreRead : Type 0
 LogTextsAreRead =
     (run : ℕ) (entries : List Entry) → run < 2 ^ 64 → All IsEntry entries → InOrder entries → log_at (log_text run entries) ≡ Ok (record { run = run; entries = entries; rest = 0; fault = None })
+
+-- Each entry's text is read as that entry, whatever token was before it, and the bytes behind it are left; and the texts of entries
+-- are read as these, in their order.
+abbrev pub EntryTextsAreRead : Type 0
+EntryTextsAreRead =
+    ((entry : Entry) (rest : List ℕ) → IsEntry entry → plain_entry_at (entry_text entry ++ rest) ≡ Ok (entry, rest)) ×
+    ((entries : List Entry) → All IsEntry entries → entries_in (flat_map entry_text entries) ≡ entries)
 
 -- The log of a run has a text: its entries are within the limits of the format, and its tokens keep their order.
 abbrev pub LogsOfRunsHaveTexts : Type 0

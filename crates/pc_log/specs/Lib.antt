@@ -2,4 +2,8 @@ pub mod Logs
 pub mod Texts
 pub mod Orders
 pub mod Reading
+pub mod Plain
+pub mod Placing
+pub mod Chunks
+pub mod Pieces
 pub mod Laws

@@ -1,10 +1,10 @@
 //! The text of a log goes out.
-ghost use Rattle.std.specs.Prelude.{◌≡◌, ◌≤◌, ◌*◌, length, All};
+ghost use Rattle.std.specs.Prelude.{ℕ, ◌≡◌, ◌≤◌, ◌*◌, length, All};
 ghost use Rattle.std.specs.List.{flat_map};
 ghost use Rattle.pc_types.specs.Tallies.{Puts};
 ghost use Rattle.pc_model.specs.FewWrites.{HasFewWrites};
 ghost use Rattle.pc_log.specs.Texts.{header_text, write_text, body_text, commit_head_text, entry_text, log_text};
-ghost use Rattle.pc_types.specs.declared.Entry.TheVariants.{Token};
+ghost use Rattle.pc_types.specs.declared.Entry.TheVariants.{Commit, Token};
 
 use crate::phases;
 use byteorder::{BigEndian, ByteOrder};
@@ -17,14 +17,14 @@ const MAGIC: [u8; 8] = *b"PCALCL01";
 const BASE_POINT: [u8; 4] = [0; 4];
 
 // The kinds of a body.
-const COMMIT: u8 = 1;
+pub(crate) const COMMIT: u8 = 1;
 
-const TOKEN: u8 = 2;
+pub(crate) const TOKEN: u8 = 2;
 
 // The kinds of a write.
-const ABSENCE: u8 = 0;
+pub(crate) const ABSENCE: u8 = 0;
 
-const VALUE: u8 = 1;
+pub(crate) const VALUE: u8 = 1;
 
 /// Writes what stands before the entries of the run. It takes no memory, and refuses with `Device` exactly where the device
 /// failed; then a beginning of the text went out, and not all of it.
@@ -137,12 +137,23 @@ pub fn entry_size(entry: &Entry) -> u32
 {
     match entry {
         Entry::Commit(_, writes) => 8 + writes_size(writes.as_slice()),
-        Entry::Token(_, _) => 10,
+        Entry::Token(_, _) => TOKEN_SIZE,
     }
 }
 
+/// How many bytes the text of a commit of these writes takes, which are at most 256.
+pub fn commit_size(writes: &[Write]) -> u32
+    requires { length writes.now ≤ MOST_WRITES }
+    ensures { (session : ℕ) → result ≡ length (entry_text (Commit session writes.now)) }
+{
+    8 + writes_size(writes)
+}
+
+/// How many bytes the text of a token takes.
+pub const TOKEN_SIZE: u32 = 10;
+
 // How many bytes the writes take, at most 65,797 each.
-fn writes_size(writes: &[Write]) -> u32
+pub(crate) fn writes_size(writes: &[Write]) -> u32
     requires { length writes.now ≤ MOST_WRITES }
     ensures size { result ≡ length (flat_map write_text writes.now) }
     ensures limit { result ≤ 65797 * length writes.now }

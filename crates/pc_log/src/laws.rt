@@ -1,5 +1,5 @@
 //! Laws of texts. Each function does nothing, and its contract is a law.
-ghost use Rattle.pc_log.specs.Laws.{CutLogsAreRead, LogTextsAreRead, LogsOfRunsHaveTexts, WholeEntriesAreLongest};
+ghost use Rattle.pc_log.specs.Laws.{CutLogsAreRead, EntryTextsAreRead, LogTextsAreRead, LogsOfRunsHaveTexts, WholeEntriesAreLongest};
 
 /// What is read of a text are its whole entries: their texts begin the bytes after the header, they have what an entry's text
 /// asks, their tokens keep their order, and each such list of entries is a beginning of theirs.
@@ -16,6 +16,11 @@ pub fn logs_of_runs_have_texts()
 /// A text that was written is read again, whole.
 pub fn log_texts_are_read()
     ensures { LogTextsAreRead }
+{}
+
+/// An entry's text is read as that entry by itself, whatever token was before it, and the texts of entries as these.
+pub fn entry_texts_are_read()
+    ensures { EntryTextsAreRead }
 {}
 
 /// A text that was cut off in its header is short, and else as many entries are read as are there as a whole; the rest is

@@ -167,7 +167,7 @@ fn read_token(last: LastToken, bytes: &[u8]) -> Result<(Entry, &[u8]), Refusal>
 }
 
 #[tactic(auto, unfolding(crate::specs::Reading::commit_at))]
-fn read_commit(alloc: Global, bytes: &[u8]) -> Result<(Entry, &[u8]), Refusal>
+pub(crate) fn read_commit(alloc: Global, bytes: &[u8]) -> Result<(Entry, &[u8]), Refusal>
     ensures { Gives (λ x. (x.0, x.1.now)) result (commit_at bytes.now) }
 {
     let (session, rest) = read_byte(bytes)?;
@@ -221,7 +221,7 @@ fn is_written(writes: &[Write], key: &Key) -> bool
     writes.iter().any(|write| key.is(&write.key))
 }
 
-fn read_byte(bytes: &[u8]) -> Result<(u8, &[u8]), Refusal>
+pub(crate) fn read_byte(bytes: &[u8]) -> Result<(u8, &[u8]), Refusal>
     ensures { Reads (λ x. (x.0, x.1.now)) result (byte_at bytes.now) }
 {
     match bytes {

@@ -235,19 +235,19 @@ fn leave<N: StoreName, G: Gate + Sync, R: Threads + Wait + Sync>(
 {
     let mut closed = closed;
     let files = files_of(alloc, &mut closed)?;
-    let (base, log) = (closed.base(), closed.log());
+    let log = closed.log().entries(alloc)?;
     let files = left_by(
         rt,
         alloc,
-        base,
-        log,
+        closed.base(),
+        log.as_slice(),
         files,
         singles,
         crew.collapsers,
         crew.gate,
     )?;
     Ok(Legacy {
-        commits: commits_in(log) as u64,
+        commits: commits_in(log.as_slice()) as u64,
         files,
     })
 }

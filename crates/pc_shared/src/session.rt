@@ -6,6 +6,7 @@ ghost use Rattle.pc_types.specs.declared.Reply.TheVariants.{Begun, Committed, Ab
 ghost use Rattle.pc_model.specs.History.{is_open};
 ghost use Rattle.pc_model.specs.Calls.{step_of, Extends, IsAnswered, AsksOpen};
 ghost use Rattle.pc_model.specs.Receipts.{own_of, receipt_of};
+ghost use Rattle.pc_log.specs.Logs.{entries_of};
 ghost use Rattle.pc_txn.specs.Commits.{notes_of};
 ghost use Rattle.pc_shared.specs.Answers.{IsRead, IsWriteAnswered};
 ghost use Rattle.pc_shared.specs.Finds.{found_in};
@@ -13,9 +14,11 @@ ghost use Rattle.pc_shared.specs.Lent.{writes_at, AreLentBy};
 
 use crate::asks::{answer_of, answer_to};
 use crate::store::Shared;
+use pc_log::Log;
 use pc_tie::{SessionSeat, StoreName};
 use pc_txn::{Commits, SessionNotes, has_room_for_commit, has_room_to_read};
-use pc_types::{Entry, Key, Lsn, Refusal, SessionNo, TxnNo, Value, Write};
+use pc_types::{Entry, Items, Key, Lsn, Refusal, SessionNo, TxnNo, Value, Write};
+use std::alloc::{AllocError, Global};
 use std::marker::Model;
 use std::sync::Wait;
 
@@ -54,7 +57,8 @@ impl<N: StoreName> Model for Session<N> {
     ghost invariant = { λ s. SessionKeeps s.work.busy s.work.reads.items s.work.commits.items s.seat.number s.seat.seen × (kept_in s.work.latest s.work.reads.items ≡ found_in s.seat.seen) };
 }
 
-/// A receipt, lent from its session and the log. Contracts see the receipt.
+/// A receipt, lent from its session and the log; its writes are read of its entry there when they are asked for. Contracts see the
+/// receipt.
 #[derive(Drop)]
 pub struct LentReceipt<'a> {
     /// The number of its entry in the log; the first entry has number 1.
@@ -63,25 +67,40 @@ pub struct LentReceipt<'a> {
     /// What the transaction has read of keys that it had not written: of each key the first such read, in their order, with the value
     /// that was answered, or nothing.
     pub reads: &'a [(Key, Option<Value>)],
-    /// Its writes, as its entry in the log has them.
-    pub writes: &'a [Write],
+    // The log, whose entry of this number has its writes.
+    log: &'a Log,
 }
 
 impl<'a> Model for LentReceipt<'a> {
     ghost use Rattle.pc_types.specs.declared.Receipt.{Receipt};
+    ghost use Rattle.pc_log.specs.Logs.{entries_of};
+    ghost use Rattle.pc_shared.specs.Lent.{writes_at};
 
     ghost Value = { Receipt };
 
-    ghost view = { λ r. record { number = r.number; session = r.session; reads = r.reads.now; writes = r.writes.now } };
+    ghost view = { λ r. record { number = r.number; session = r.session; reads = r.reads.now; writes = writes_at (entries_of r.log.now) r.number } };
+}
+
+impl<'a> LentReceipt<'a> {
+    /// Its writes, read of its entry in the log. It fails only where memory ran out.
+    pub fn writes(&self, alloc: Global) -> Result<Items<Write>, AllocError>
+        ensures { IfOk result (λ writes. writes ≡ self.now.writes) }
+    {
+        writes_at(alloc, self.log, self.number)
+    }
 }
 
 // The writes of the log's entry of this number, which is a commit's; none where it is none.
-fn writes_at(log: &[Entry], number: Lsn) -> &[Write]
-    ensures { result.now ≡ writes_at log.now number }
+fn writes_at(alloc: Global, log: &Log, number: Lsn) -> Result<Items<Write>, AllocError>
+    ensures { IfOk result (λ writes. writes ≡ writes_at (entries_of log.now) number) }
 {
-    match log.get((number.0 as usize).saturating_sub(1)) {
-        Some(Entry::Commit(_, writes)) => writes.as_slice(),
-        _ => &[],
+    let place = (number.0 as usize).saturating_sub(1);
+    if log.len() <= place {
+        return Ok(Items::new(alloc));
+    }
+    match log.entry(alloc, place)? {
+        Entry::Commit(_, writes) => Ok(writes),
+        Entry::Token(_, _) => Ok(Items::new(alloc)),
     }
 }
 
@@ -101,8 +120,8 @@ impl<N: StoreName> Session<N> {
     }
 
     // The receipt of its commit at the place, by the log that has its commits' entries; None where it has no more commits than that.
-    pub(crate) fn receipt<'a>(&'a self, log: &'a [Entry], place: usize) -> Option<LentReceipt<'a>>
-        requires { AreLentBy log.now self.now }
+    pub(crate) fn receipt<'a>(&'a self, log: &'a Log, place: usize) -> Option<LentReceipt<'a>>
+        requires { AreLentBy (entries_of log.now) self.now }
         ensures { result ≡ slice_get self.now.receipts place }
     {
         let Some(number) = self.work.commits.number(place) else {
@@ -112,7 +131,7 @@ impl<N: StoreName> Session<N> {
             number,
             session: self.number(),
             reads: self.work.commits.reads(place),
-            writes: writes_at(log, number),
+            log,
         })
     }
 

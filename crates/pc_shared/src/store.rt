@@ -12,7 +12,7 @@ ghost use Rattle.pc_engine.specs.Runs.{starting};
 ghost use Rattle.pc_engine.specs.Stands.{Stands};
 ghost use Rattle.pc_engine.specs.Store.{setting_of};
 ghost use Rattle.pc_tie.specs.Seats.{MovesOn};
-ghost use Rattle.pc_latch.specs.Batches.{batch};
+ghost use Rattle.pc_latch.specs.Batches.{IsNext};
 ghost use Rattle.pc_latch.specs.Cycles.{IsAdvance, IsTakeCalled};
 ghost use Rattle.pc_model.specs.History.{History, is_open};
 ghost use Rattle.pc_model.specs.Receipts.{own_of};
@@ -27,11 +27,11 @@ use crate::logged::Logged;
 use crate::session::Session;
 use crate::waits::{News, Waits, Woken, is_wait};
 use pc_engine::World;
-use pc_latch::{Latched, LogPass, PartTicket};
+use pc_latch::{Latched, LogBatch, LogPass, PartTicket};
 use pc_part::Base;
 use pc_tie::{CheckpointerSeat, Keeper, Milestone, SessionSeat, StoreName, Tie, Untied, Witness};
 use pc_txn::SessionNotes;
-use pc_types::{Entry, FileNo, Lsn, MOST_KEYS, MOST_SESSIONS, Refusal, Reply, Step};
+use pc_types::{FileNo, Lsn, MOST_KEYS, MOST_SESSIONS, Refusal, Reply, Step};
 use std::alloc::Global;
 use std::hash::RandomState;
 use std::marker::Model;
@@ -316,17 +316,15 @@ impl<N: StoreName> Shared<N> {
         reply
     }
 
-    /// The next entries of the log after those that the pass has handed out, as long as there is room for so many bytes of text,
+    /// The texts of the next entries of the log after those that the pass has handed out, as long as there is room for so many bytes of text,
     /// which the last one may go beyond; the pass then has them too. Refuses with `OutOfMemory` alone, and the pass stays.
     pub fn log_next<R: Wait>(
         &self,
         rt: &R,
         pass: &mut LogPass<N>,
         room: u32,
-    ) -> Result<Vec<Entry>, Refusal>
-        ensures list { IfOk result (λ entries. pass.new ≡ pass.old ++ entries.items) }
-        ensures room { IfOk result (λ entries. batch room entries.items ≡ entries.items) }
-        ensures few { IfOk result (λ entries. All HasFewWrites entries.items) }
+    ) -> Result<LogBatch, Refusal>
+        ensures next { IfOk result (λ next. IsNext room pass.old pass.new next.text.items next.count) }
         ensures same { OnErr result (pass.new ≡ pass.old) }
         ensures memory { IfErr result (λ e. e ≡ Refusal.OutOfMemory) }
     {

@@ -1,17 +1,18 @@
 -- What a logger writes, piece after piece; and that its text and the rest's are together the text of the whole log.
-use Rattle.std.proofs.Common.{◌≡◌, ◌⊎◌, ℕ, List, ◌++◌, take, drop, Option, Some, None, Ok, Err, refl, sym, ap, subst, ◌∙◌, inl, inr, append_assoc, arith}
-use Rattle.std.specs.Prelude.{Result, IfOk}
+use Rattle.std.proofs.Common.{◌≡◌, ◌≤◌, ◌+◌, ◌-◌, ◌⊎◌, ℕ, List, [], ◌++◌, length, take, drop, append-nil, Option, Some, None, Ok, Err, refl, sym, ap, subst, ◌∙◌, inl, inr, append_assoc, arith}
+use Rattle.std.specs.Prelude.{Result, IfOk, slice_range}
+use Rattle.std.proofs.Math.Seq.{take-add}
 use Rattle.std.specs.Io.KnownBytes.{Appends, Keeps}
 use Rattle.std.specs.List.{flat_map}
-use Rattle.std.proofs.lemmas.List.{take-append-drop}
+use Rattle.std.proofs.lemmas.List.{take-append-drop, drop-drop, drop_all}
 use Rattle.std.proofs.lemmas.List.Concat.{flat_map-append}
 use Rattle.pc_types.specs.Tallies.{Puts}
 use Rattle.pc_types.specs.declared.Entry.{Entry}
 use Rattle.pc_types.specs.declared.refusal.Refusal.{Refusal}
 use Rattle.pc_types.specs.declared.refusal.Refusal.TheVariants.{OutOfMemory}
 use Rattle.pc_types.specs.declared.tally.Tally.{Tally}
-use Rattle.pc_types.proofs.KnownBytesLaws.{appends_then}
-use Rattle.pc_types.proofs.PutsLaws.{puts_then}
+use Rattle.pc_types.proofs.KnownBytesLaws.{appends_then, appends_nothing}
+use Rattle.pc_types.proofs.PutsLaws.{puts_then, puts_stop}
 use Rattle.pc_log.specs.Texts.{header_text, entry_text, log_text}
 use Rattle.pc_shared.specs.Written.{HasGoneOut}
 use Rattle.pc_workers.specs.Logging.{FailsBehind, Flushes, rest_text}
@@ -28,6 +29,20 @@ grown_stays None b c x p q = tt
 grown_stays (Some a) None c x p q = absurd p
 grown_stays (Some a) (Some b) None x p q = absurd q
 grown_stays (Some a) (Some b) (Some c) x p q = q ∙ p
+
+-- some of a list, and then more of it
+ranges : {X : Type 0} (xs : List X) (a b c : ℕ) → a ≤ b → b ≤ c → slice_range xs a b ++ slice_range xs b c ≡ slice_range xs a c
+ranges xs a b c first next =
+    let place : b ≡ a + (b - a) = omega (arith, first) in
+    let both : c - a ≡ (b - a) + (c - b) = omega (arith, first, next) in
+    ap (λ (ys : List _). slice_range xs a b ++ take (c - b) ys) (ap (λ (n : ℕ). drop n xs) place ∙ sym (drop-drop (b - a) a xs))
+    ∙ (sym (take-add (b - a) (c - b) (drop a xs)) ∙ ap (λ (n : ℕ). take n (drop a xs)) (sym both))
+
+-- and all that is left
+to_end : {X : Type 0} (xs : List X) (a b : ℕ) → a ≤ b → drop a xs ≡ slice_range xs a b ++ drop b xs
+to_end xs a b order =
+    let place : a + (b - a) ≡ b = omega (arith, order) in
+    sym (take-append-drop (b - a) (drop a xs)) ∙ ap (λ (ys : List _). slice_range xs a b ++ ys) (drop-drop (b - a) a xs ∙ ap (λ (n : ℕ). drop n xs) place)
 
 module _ {T : Type 0} (contents : T → Option (List ℕ)) where
   -- a text that went out, and then a flush
@@ -75,6 +90,42 @@ module _ {T : Type 0} (contents : T → Option (List ℕ)) where
       → Puts contents b c (Ok tt) (rest_text logged log) → Puts contents a c (Ok tt) (log_text run log)
   whole_log a b c run logged log given is p q =
       logs_on a b c run given (drop logged log) log (sym (take-append-drop logged log) ∙ ap (λ (l : List Entry). l ++ drop logged log) (sym is)) p q
+
+  -- some of the entries behind the first ones have gone out, and then more of them
+  pub rest_goes_on : (a b c : Tally T) (log : List Entry) (from done count : ℕ) (text : List ℕ) → text ≡ flat_map entry_text (slice_range log done (done + count)) → from ≤ done
+      → Puts contents a b (Ok tt) (flat_map entry_text (slice_range log from done)) → Puts contents b c (Ok tt) text → Puts contents a c (Ok tt) (flat_map entry_text (slice_range log from (done + count)))
+  rest_goes_on a b c log from done count text is order p q =
+      subst (λ (t : List ℕ). Puts contents a c (Ok tt) t)
+      (ap (λ (t : List ℕ). flat_map entry_text (slice_range log from done) ++ t) is ∙ (sym (flat_map-append entry_text (slice_range log from done) (slice_range log done (done + count)))
+      ∙ ap (flat_map entry_text) (ranges log from done (done + count) order (omega arith))))
+      (puts_then contents a b c (Ok tt) (flat_map entry_text (slice_range log from done)) text p q)
+
+  -- or of these in part
+  pub rest_stops : (a b c : Tally T) (e : Refusal) (log : List Entry) (from done count : ℕ) (text : List ℕ) → text ≡ flat_map entry_text (slice_range log done (done + count)) → from ≤ done
+      → Puts contents a b (Ok tt) (flat_map entry_text (slice_range log from done)) → Puts contents b c (Err e) text → Puts contents a c (Err e) (rest_text from log)
+  rest_stops a b c e log from done count text is order p q =
+      let front = flat_map entry_text (slice_range log from done) in
+      let left = drop (done + count) log in
+      let behind : drop done log ≡ slice_range log done (done + count) ++ left = to_end log done (done + count) (omega arith) in
+      let all : drop from log ≡ slice_range log from done ++ drop done log = to_end log from done order in
+      subst (λ (t : List ℕ). Puts contents a c (Err e) t)
+      (ap (λ (t : List ℕ). front ++ (t ++ flat_map entry_text left)) is
+      ∙ (ap (λ (t : List ℕ). front ++ t) (sym (flat_map-append entry_text (slice_range log done (done + count)) left) ∙ ap (flat_map entry_text) (sym behind))
+      ∙ (sym (flat_map-append entry_text (slice_range log from done) (drop done log)) ∙ ap (flat_map entry_text) (sym all))))
+      (puts_then contents a b c (Err e) front (text ++ flat_map entry_text left) p (puts_stop contents b c e text (flat_map entry_text left) q))
+
+  -- or all of them
+  pub rest_is_out : (a b : Tally T) (log : List Entry) (from done : ℕ) → length log ≤ done → from ≤ done → Puts contents a b (Ok tt) (flat_map entry_text (slice_range log from done)) → Puts contents a b (Ok tt) (rest_text from log)
+  rest_is_out a b log from done all order p =
+      let none : drop done log ≡ [] = drop_all done log all in
+      let same : slice_range log from done ≡ drop from log = sym (to_end log from done order ∙ (ap (λ (l : List Entry). slice_range log from done ++ l) none ∙ append-nil (slice_range log from done))) in
+      subst (λ (l : List Entry). Puts contents a b (Ok tt) (flat_map entry_text l)) same p
+
+  -- nothing has gone out yet
+  pub none_is_out : (a : Tally T) (log : List Entry) (from : ℕ) → Puts contents a a (Ok tt) (flat_map entry_text (slice_range log from from))
+  none_is_out a log from =
+      let none : from - from ≡ 0 = omega arith in
+      subst (λ (n : ℕ). Puts contents a a (Ok tt) (flat_map entry_text (take n (drop from log)))) (sym none) (appends_nothing (contents a.inner), refl)
 
   -- the same of the writer as it is
   pub whole_rest : (b c : Tally T) (run logged : ℕ) (log : List Entry) (result : Result (Unit {0}) Refusal) → HasGoneOut contents b (log_text run (take logged log)) → Puts contents b c result (rest_text logged log)

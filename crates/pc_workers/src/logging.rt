@@ -3,17 +3,17 @@ ghost use Rattle.std.specs.Prelude.{◌≡◌, ◌≤◌, ◌++◌, ℕ, [], Lis
 ghost use Rattle.std.specs.List.{flat_map};
 ghost use mathlib.Core.List.{IsPrefix};
 ghost use Rattle.pc_types.specs.Tallies.{Puts};
-ghost use Rattle.pc_model.specs.FewWrites.{HasFewWrites};
 ghost use Rattle.pc_model.specs.History.{log_of};
 ghost use Rattle.pc_types.specs.declared.Entry.{Entry};
 ghost use Rattle.pc_log.specs.Texts.{entry_text, log_text};
+ghost use Rattle.pc_latch.specs.Batches.{IsNext};
 ghost use Rattle.pc_shared.specs.Written.{HasGoneOut};
 ghost use Rattle.pc_workers.specs.Logging.{Flushes, LogGoesOut, LogsMore, rest_text};
 
-use pc_log::{encode_entry, encode_header};
-use pc_shared::{Closed, EndMark, LogPass, Shared, pause};
+use pc_log::encode_header;
+use pc_shared::{Closed, EndMark, LogBatch, LogPass, Shared, pause};
 use pc_tie::StoreName;
-use pc_types::{Entry, Gate, GatePlace, Lsn, Refusal, Tally};
+use pc_types::{Gate, GatePlace, Lsn, Refusal, Tally};
 use std::io;
 use std::io::Write;
 use std::sync::Wait;
@@ -25,17 +25,6 @@ pub const MOST_BATCH: u32 = 262_144;
 // and it gets the latch less often.
 const PAUSE: u32 = 1024;
 
-// One entry after the other.
-fn put_entries<W: io::Write>(out: &mut Tally<W>, entries: &[Entry]) -> Result<(), Refusal>
-    requires { All HasFewWrites entries.now }
-    ensures { Puts W.contents out.old out.new result (flat_map entry_text entries.now) }
-{
-    for entry in entries {
-        encode_entry(out, entry)?;
-    }
-    Ok(())
-}
-
 // What was written goes out of whatever keeps it.
 fn flush<W: io::Write>(out: &mut Tally<W>) -> Result<(), Refusal>
     ensures { Flushes W.contents out.old out.new result }
@@ -46,21 +35,20 @@ fn flush<W: io::Write>(out: &mut Tally<W>) -> Result<(), Refusal>
     }
 }
 
-// The entries go out, and are then marked as written; the pass has handed them out.
+// The texts of the next entries go out, and these are then marked as written; the pass has handed them out.
 fn write_batch<N: StoreName, R: Wait, W: io::Write, G: Gate>(
     rt: &R,
     shared: &Shared<N>,
     pass: &LogPass<N>,
-    entries: &[Entry],
+    next: &LogBatch,
     out: &mut Tally<W>,
     gate: &G,
 ) -> Result<(), Refusal>
-    requires few { All HasFewWrites entries.now }
-    requires earlier { (before : List Entry) × (pass.now ≡ before ++ entries.now) × HasGoneOut W.contents out.old (log_text N.name.setting.run before) }
-    ensures { LogGoesOut W.contents out.old out.new result (flat_map entry_text entries.now) }
+    requires { (before : List Entry) × IsNext MOST_BATCH before pass.now next.now.text.items next.now.count × HasGoneOut W.contents out.old (log_text N.name.setting.run before) }
+    ensures { LogGoesOut W.contents out.old out.new result next.now.text.items }
 {
-    gate.pass(GatePlace::Writing((pass.len() - entries.len()) as u32));
-    put_entries(out, entries)?;
+    gate.pass(GatePlace::Writing((pass.len() - next.count) as u32));
+    out.put(next.text.as_slice())?;
     flush(out)?;
     shared.mark_logged(rt, pass, out);
     gate.pass(GatePlace::Written(pass.len() as u32));
@@ -78,11 +66,11 @@ fn log_batch<N: StoreName, R: Wait, W: io::Write, G: Gate>(
     requires { HasGoneOut W.contents out.old (log_text N.name.setting.run pass.old) }
     ensures { LogsMore W.contents out.old out.new result pass.old pass.new }
 {
-    let entries = shared.log_next(rt, pass, MOST_BATCH)?;
-    if entries.is_empty() {
+    let next = shared.log_next(rt, pass, MOST_BATCH)?;
+    if next.count == 0 {
         return Ok(false);
     }
-    write_batch(rt, shared, pass, entries.as_slice(), out, gate)?;
+    write_batch(rt, shared, pass, &next, out, gate)?;
     Ok(true)
 }
 
@@ -190,7 +178,13 @@ fn put_rest<N: StoreName, W: io::Write>(
     ensures { Puts W.contents out.old out.new result (rest_text closed.now.logged closed.now.world.log) }
 {
     let log = closed.log();
-    put_entries(out, &log[closed.logged..])
+    let mut done = closed.logged;
+    while done < log.len() {
+        let next = log.texts(done, log.len() - done);
+        out.put(next.bytes)?;
+        done += next.count;
+    }
+    Ok(())
 }
 
 /// Writes what the logger has left of the log of a store that was closed: where the text of what was handed out had gone out, that

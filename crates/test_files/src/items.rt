@@ -3,7 +3,7 @@ ghost use Rattle.std.specs.Prelude.{◌≡◌};
 
 use crate::found::put_refusal;
 use crate::kinds::Kind;
-use pc_log::{LastToken, Log, read_entry, read_header};
+use pc_log::{LastToken, read_entry, read_header};
 use pc_part::{Base, Part, Range};
 use pc_types::{Entry, Phase, Refusal, Tally, Triple, Value};
 use std::alloc::Global;
@@ -116,7 +116,7 @@ fn put_log<W: Write>(
 ) -> Result<(), Refusal> {
     let head = format!(in alloc; "run {run}\n")?;
     out.put(head.as_bytes())?;
-    let mut log = Log::new(alloc);
+    let mut log: Vec<Entry> = Vec::new(alloc);
     let mut last = LastToken::none();
     let mut rest = bytes;
     for _ in 0..bytes.len() {
@@ -137,27 +137,19 @@ fn put_log<W: Write>(
 
 fn put_logged<W: Write>(
     alloc: Global,
-    log: &mut Log,
+    log: &mut Vec<Entry>,
     entry: Entry,
     left: usize,
     out: &mut Tally<W>,
 ) -> Result<(), Refusal> {
-    let number = appended(log, entry)?;
-    let head = format!(in alloc; "{number} of {} left {left}: ", log.len())?;
+    log.push(entry)?;
+    let number = log.len();
+    let head = format!(in alloc; "{number} of {number} left {left}: ")?;
     out.put(head.as_bytes())?;
-    match log.entries().last() {
+    match log.last() {
         Some(entry) => put_body(alloc, entry, out),
         None => Ok(()),
     }
-}
-
-// The number of the entry in the log. Room for each second one is made before.
-fn appended(log: &mut Log, entry: Entry) -> Result<u32, Refusal> {
-    if log.is_full() || log.len() % 2 == 0 {
-        return Ok(log.append(entry)?.0);
-    }
-    log.reserve()?;
-    Ok(log.append_reserved(entry).0)
 }
 
 fn put_body<W: Write>(alloc: Global, entry: &Entry, out: &mut Tally<W>) -> Result<(), Refusal> {

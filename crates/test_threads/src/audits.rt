@@ -55,7 +55,13 @@ pub fn right_files<N: StoreName>(
             files.push(file)?;
         }
     }
-    let is_right = audit(alloc, closed.base().pairs(), closed.log(), files.as_slice())?;
+    let log = closed.log().entries(alloc)?;
+    let is_right = audit(
+        alloc,
+        closed.base().pairs(),
+        log.as_slice(),
+        files.as_slice(),
+    )?;
     Ok(if is_right { Some(files.len()) } else { None })
 }
 

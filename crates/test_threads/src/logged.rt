@@ -53,7 +53,8 @@ pub fn is_text_of<N: StoreName>(
     closed: &Closed<N>,
 ) -> Result<bool, Refusal> {
     let mut whole = Tally::new(Vec::new(alloc));
-    encode_log(&mut whole, closed.base().run(), closed.log())?;
+    let log = closed.log().entries(alloc)?;
+    encode_log(&mut whole, closed.base().run(), log.as_slice())?;
     let TextOfLog { out } = text;
     Ok(out.into_inner().as_slice() == whole.into_inner().as_slice())
 }

@@ -344,7 +344,8 @@ fn left_by<N: StoreName>(
     done: &Done,
     text: Tally<Vec<u8>>,
 ) -> Result<Left, Refusal> {
-    let (entries, tokens) = counts_of(closed.log());
+    let log = closed.log().entries(alloc)?;
+    let (entries, tokens) = counts_of(log.as_slice());
     Ok(Left {
         have_met: gate.have_met(),
         commits: done.commits.load(Ordering::SeqCst),
@@ -381,6 +382,7 @@ fn is_text_of<N: StoreName>(
     closed: &Closed<N>,
 ) -> Result<bool, Refusal> {
     let mut whole = Tally::new(Vec::new(alloc));
-    encode_log(&mut whole, closed.base().run(), closed.log())?;
+    let log = closed.log().entries(alloc)?;
+    encode_log(&mut whole, closed.base().run(), log.as_slice())?;
     Ok(text.into_inner().as_slice() == whole.into_inner().as_slice())
 }

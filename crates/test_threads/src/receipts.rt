@@ -3,7 +3,7 @@ use pc_replay::{Pairs, apply};
 use pc_shared::{Closed, LentReceipt, Session};
 use pc_tie::StoreName;
 use pc_types::{Entry, Key, Lsn, Refusal, SessionNo, Value, Write};
-use std::alloc::Global;
+use std::alloc::{AllocError, Global};
 
 /// Whether each commit of the log has one receipt of its session, with the entry's writes, whose reads are what the keys had
 /// before it, and there is no other receipt.
@@ -11,12 +11,13 @@ pub fn are_exact<N: StoreName>(alloc: Global, closed: &Closed<N>) -> Result<bool
     let mut contents = Pairs::new(alloc);
     let mut number = 0u32;
     let mut commits = 0usize;
-    for entry in closed.log() {
+    let log = closed.log().entries(alloc)?;
+    for entry in &log {
         number = number.saturating_add(1);
         if let Entry::Commit(session, writes) = entry {
             commits = commits.saturating_add(1);
             let receipt = receipt_of(closed, *session, Lsn(number));
-            if !is_exact(&contents, receipt, *session, writes.as_slice()) {
+            if !is_exact(alloc, &contents, receipt, *session, writes.as_slice())? {
                 return Ok(false);
             }
             apply_all(alloc, &mut contents, writes.as_slice())?;
@@ -83,17 +84,21 @@ fn receipt_of<N: StoreName>(
 }
 
 fn is_exact(
+    alloc: Global,
     contents: &Pairs,
     receipt: Option<LentReceipt<'_>>,
     session: SessionNo,
     writes: &[Write],
-) -> bool {
+) -> Result<bool, AllocError> {
     let Some(receipt) = receipt else {
-        return false;
+        return Ok(false);
     };
-    receipt.session == session
-        && are_same(receipt.writes, writes)
-        && have_read(contents, receipt.reads)
+    let written = receipt.writes(alloc)?;
+    Ok(
+        receipt.session == session
+            && are_same(written.as_slice(), writes)
+            && have_read(contents, receipt.reads),
+    )
 }
 
 fn are_same(ones: &[Write], others: &[Write]) -> bool {

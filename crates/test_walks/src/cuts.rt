@@ -95,7 +95,8 @@ fn base_of(alloc: Global, world: &World) -> Result<Pairs, Refusal> {
 // What the store's log says.
 fn said_by(alloc: Global, world: &World) -> Result<Said, Refusal> {
     let base = base_of(alloc, world)?;
-    let log = world.log();
+    let entries = world.log().entries(alloc)?;
+    let log = entries.as_slice();
     let mut states = Vec::new(alloc);
     for count in 0..log.len() {
         states.push(after(alloc, &base, &log[..count])?)?;

@@ -75,7 +75,8 @@ fn log_text(alloc: Global, run: u64, log: &[Entry]) -> Result<(Vec<u8>, Vec<usiz
 pub fn texts_of(alloc: Global, world: &World) -> Result<Texts, Refusal> {
     let base = base_text(alloc, world.base())?;
     let parts = part_texts(alloc, world.files())?;
-    let (log, ends) = log_text(alloc, world.base().run(), world.log())?;
+    let log = world.log().entries(alloc)?;
+    let (log, ends) = log_text(alloc, world.base().run(), log.as_slice())?;
     Ok(Texts {
         base,
         parts,

@@ -1,7 +1,8 @@
-use Rattle.std.proofs.Common.{◌≡◌, ◌++◌, take, drop}
+use Rattle.std.proofs.Common.{◌≡◌, ◌+◌, ◌++◌, take, drop}
+use Rattle.pc_log.specs.Logs.{entries_of}
 use Rattle.pc_latch.specs.Batches.{batch}
 use Rattle.pc_latch.proofs.pass.batch_len.Given as goal
 
 -- so many are in the batch, and then those for which room is left
-abbrev pub invariant-loop-entry : goal.invariant-loop-entry
-invariant-loop-entry l = (l.count ≡ l.entry-index) × (take l.entry-index l.entries ++ batch l.left (drop l.entry-index l.entries) ≡ batch l.room l.entries)
+abbrev pub invariant-loop-place : goal.invariant-loop-place
+invariant-loop-place l = (l.place ≡ l.first + l.count) × (take l.count (drop l.first (entries_of l.log)) ++ batch l.left (drop l.count (drop l.first (entries_of l.log))) ≡ batch l.room (drop l.first (entries_of l.log)))

@@ -25,17 +25,17 @@ returns-then-is_err c =
 
 pub invariant_of-self-in-Seal : goal.invariant_of-self-in-Seal
 invariant_of-self-in-Seal c =
-    rw (c.change.ensures, c.in-Seal.is) (sealed_within _ _ _ _ _ c.self.invariant _ _ _ _ (search rules) (rw c.reserve.ensures.entries at c.append_reserved.ensures.entries) c.new.ensures)
+    rw (c.change.ensures.changed, c.in-Seal.is) (sealed_within _ _ _ _ _ c.self.invariant _ _ _ _ (search rules) (rw c.reserve.ensures.entries at c.append_token.ensures.entries) c.new.ensures)
 
 pub returns : goal.returns
 returns c =
     let was = c.self.inside.sessions in
     let free : held_back was.phases c.args.change (length was.closed_set) ≡ None = search rules in
-    let phases = ap (λ (o : Ongoing). o.phases) c.change.ensures ∙ changed_phases c.args.change was in
+    let phases = ap (λ (o : Ongoing). o.phases) c.change.ensures.changed ∙ changed_phases c.args.change was in
     let phase = c.phase-phase.ensures ∙ ap (λ (p : Phases). p.phase) phases in
     let point = c.point-point.ensures.point ∙ ap (λ (p : Phases). p.point) phases in
-    let logged = rw (c.reserve.ensures.entries, phase, point) at c.append_reserved.ensures.entries in
+    let logged = rw (c.reserve.ensures.entries, phase, point) at c.append_token.ensures.entries in
     elim c.match-change.branch [
-      | in-Seal w ↦ rw (w.self-is, phase, point, c.change.ensures, ← c.self.view_is) (change_made _ was.phases (length was.closed_set) refl refl c.held_back.ensures.counted c.args.change _ c.requires free (search rules) (changed_view c.self.inside.base c.self.inside.shelf.items was _ _ c.self.inside.taken _ c.args.change c.requires (λ e. w.new.ensures) (λ no. absurd (no w.in-Seal.is)) logged))
-      | in_default-change w ↦ rw (w.self-is, phase, point, c.change.ensures, ← c.self.view_is) (change_made _ was.phases (length was.closed_set) refl refl c.held_back.ensures.counted c.args.change _ c.requires free (search rules) (changed_view c.self.inside.base c.self.inside.shelf.items was _ _ c.self.inside.taken _ c.args.change c.requires (λ e. absurd (w.in_default-change.not-Seal e)) (λ no. refl) logged))
+      | in-Seal w ↦ rw (w.self-is, phase, point, c.change.ensures.changed, ← c.self.view_is) (change_made _ was.phases (length was.closed_set) refl refl c.held_back.ensures.counted c.args.change _ c.requires free (search rules) (changed_view c.self.inside.base c.self.inside.shelf.items was _ _ c.self.inside.taken _ c.args.change c.requires (λ e. w.new.ensures) (λ no. absurd (no w.in-Seal.is)) logged))
+      | in_default-change w ↦ rw (w.self-is, phase, point, c.change.ensures.changed, ← c.self.view_is) (change_made _ was.phases (length was.closed_set) refl refl c.held_back.ensures.counted c.args.change _ c.requires free (search rules) (changed_view c.self.inside.base c.self.inside.shelf.items was _ _ c.self.inside.taken _ c.args.change c.requires (λ e. absurd (w.in_default-change.not-Seal e)) (λ no. refl) logged))
     ]

@@ -1,8 +1,10 @@
-use Rattle.std.proofs.Common.{◌+◌, ◌≤◌, ◌++◌, length, take, sym, ap, ◌∙◌, subst, arith}
+use Rattle.std.proofs.Common.{◌≡◌, ◌+◌, ◌≤◌, ◌++◌, List, length, take, drop, sym, refl, ap, ◌∙◌, subst, arith}
+use Rattle.pc_types.specs.declared.Entry.{Entry}
 use Rattle.pc_model.specs.History.{History, log_of}
+use Rattle.pc_log.specs.Logs.{entries_of}
 use Rattle.pc_latch.proofs.Passing.{still_within, still_first, more_within, more_listed, first_length}
 use Rattle.pc_latch.specs.Batches.{batch}
-use Rattle.pc_latch.proofs.Batching.{batch_again, batch_behind}
+use Rattle.pc_latch.proofs.Batching.{batch_again, batch_behind, counted, next_first}
 use Rattle.pc_latch.proofs.latched.Latched.log_next.Goals as goal
 
 pub next_of-requires : goal.next_of-requires
@@ -27,25 +29,36 @@ pub invariant_of-pass-2 : goal.invariant_of-pass-2
 invariant_of-pass-2 g c =
     let p = c.pass.inside in
     let w = c.renew.ensures in
-    let log = c.log.ensures in
-    let within = more_within p.count c.len.result p.witness c.self.inside.keeper.history c.renew.new.witness c.log.result.now c.in-Ok.entries.items w.had_seen w.sees c.pass.invariant.0 (log.log ∙ c.self.invariant.1.parts.log) c.in-Ok.ensures.next (omega (arith, c.len.ensures)) in
-    let grown = ap length (log.log ∙ c.self.invariant.1.parts.log) in
-    (subst (λ (h : History). p.count + c.len.result ≤ length (log_of h)) (sym w.sees) (omega (arith, within, grown)), omega (arith, within, log.limit), c.pass.invariant.2)
+    let all = entries_of c.log.result.now in
+    let grown = ap length (c.log.ensures.log ∙ c.self.invariant.1.parts.log) in
+    (subst (λ (h : History). p.count + c.in-Ok.next.count ≤ length (log_of h)) (sym w.sees) (omega (arith, c.in-Ok.ensures.within, grown)), omega (arith, c.in-Ok.ensures.within, c.log.ensures.limit), c.pass.invariant.2)
 
 pub returns-clause-list : goal.returns-clause-list
 returns-clause-list g c =
     let p = c.pass.inside in
     let w = c.renew.ensures in
-    more_listed p.count c.len.result p.witness c.self.inside.keeper.history c.renew.new.witness c.log.result.now c.in-Ok.entries.items w.had_seen w.sees c.pass.invariant.0 (c.log.ensures.log ∙ c.self.invariant.1.parts.log) c.in-Ok.ensures.next (omega (arith, c.len.ensures))
-    ∙ ap (λ l. l ++ c.in-Ok.entries.items) c.pass.view_is
+    let all = entries_of c.log.result.now in
+    let more = batch c.args.room (drop p.count all) in
+    let is = c.log.ensures.log ∙ c.self.invariant.1.parts.log in
+    more_listed p.count c.in-Ok.next.count p.witness c.self.inside.keeper.history c.renew.new.witness all more w.had_seen w.sees c.pass.invariant.0 is
+    (next_first p.count c.in-Ok.next.count all more c.in-Ok.ensures.batch c.in-Ok.ensures.within) (counted p.count c.in-Ok.next.count all more c.in-Ok.ensures.batch c.in-Ok.ensures.within)
+    ∙ ap (λ (l : List Entry). l ++ more) c.pass.view_is
+    ∙ ap (λ (l : List Entry). c.args.pass.now ++ l) (batch_behind c.args.room p.count all more c.self.inside.keeper.history c.args.self.now c.args.pass.now refl is c.self.view_is (first_length p.count (log_of p.witness) c.args.pass.now c.pass.invariant.0 c.pass.view_is))
 
 pub returns-clause-next : goal.returns-clause-next
 returns-clause-next g c =
     let p = c.pass.inside in
-    batch_behind c.args.room p.count c.log.result.now c.in-Ok.entries.items c.self.inside.keeper.history c.args.self.now c.args.pass.now c.in-Ok.ensures.entries
-    (c.log.ensures.log ∙ c.self.invariant.1.parts.log) c.self.view_is (first_length p.count (log_of p.witness) c.args.pass.now c.pass.invariant.0 c.pass.view_is)
-
-pub returns-clause-room : goal.returns-clause-room
-returns-clause-room g c =
-    let is = c.in-Ok.ensures.entries in
-    ap (batch c.args.room) is ∙ (batch_again c.args.room _ ∙ sym is)
+    let w = c.renew.ensures in
+    let all = entries_of c.log.result.now in
+    let more = batch c.args.room (drop p.count all) in
+    let is = c.log.ensures.log ∙ c.self.invariant.1.parts.log in
+    record {
+      more = more;
+      list =
+          more_listed p.count c.in-Ok.next.count p.witness c.self.inside.keeper.history c.renew.new.witness all more w.had_seen w.sees c.pass.invariant.0 is
+          (next_first p.count c.in-Ok.next.count all more c.in-Ok.ensures.batch c.in-Ok.ensures.within) (counted p.count c.in-Ok.next.count all more c.in-Ok.ensures.batch c.in-Ok.ensures.within)
+          ∙ ap (λ (l : List Entry). l ++ more) c.pass.view_is;
+      whole = batch_again c.args.room (drop p.count all);
+      texts = c.in-Ok.ensures.text;
+      counted = counted p.count c.in-Ok.next.count all more c.in-Ok.ensures.batch c.in-Ok.ensures.within;
+    }
