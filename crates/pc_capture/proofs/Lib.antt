@@ -1,3 +1,1 @@
-mod HeadedLaws
-mod TakenLaws
-mod MovedEntries
+mod OnePoints

@@ -4,8 +4,8 @@ ghost use Rattle.pc_model.specs.Sets as set;
 ghost use Rattle.pc_model.specs.Files.{triples_taken};
 ghost use Rattle.pc_part.specs.Bases.{IsWithinLimit};
 
-use crate::taken::Taken;
 use pc_part::Part;
+use pc_taken::Taken;
 use pc_types::{Point, Refusal};
 use std::alloc::Global;
 use std::marker::Model;
@@ -43,9 +43,10 @@ impl SharedPart {
         }
     }
 
-    /// The part of the point, of what was taken of it, with one owner, and how many entries it has: what was taken is moved
-    /// into it, and nothing is copied; then nothing is left of it where it was. It is at most as much as a file may have. All
-    /// memory is made before anything is moved. Refuses with `OutOfMemory` alone; what was taken is then as it was.
+    /// The part of the point, of what was taken of it, with one owner, and how many entries it has: what was taken becomes the
+    /// part's entries where it stands, and nothing is left of it where it was. So it takes a constant time, however many keys were
+    /// taken. It is at most as much as a file may have. All memory is made before anything is moved. Refuses with `OutOfMemory`
+    /// alone; what was taken is then as it was.
     pub fn of_taken(
         alloc: Global,
         run: u64,
@@ -60,15 +61,13 @@ impl SharedPart {
         ensures kept { OnErr result (taken.new ≡ taken.old) }
         ensures memory { IfErr result (λ e. e ≡ Refusal.OutOfMemory) }
     {
-        let room = Vec::with_capacity(alloc, taken.room())?;
         let part = Part::empty(alloc, run, point)?;
         let mut shared = SharedPart::new(alloc, part)?;
         let Some(part) = Arc::get_mut(&mut shared.part) else {
             return Err(Refusal::OutOfMemory);
         };
-        let entries = taken.move_into(room, point);
-        let count = entries.len() as u32;
-        part.set_entries(entries);
+        let count = taken.len() as u32;
+        part.take_over(point, taken.move_out());
         Ok((shared, count))
     }
 

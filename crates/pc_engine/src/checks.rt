@@ -9,6 +9,7 @@ ghost use Rattle.pc_engine.specs.Checks.{IsFileRight};
 use pc_capture::SharedPart;
 use pc_part::{Base, Part};
 use pc_replay::{CompleteFile, audit, is_replay};
+use pc_taken::Pass;
 use pc_types::{Entry, Key, Triple, Value};
 use std::alloc::{AllocError, Global};
 
@@ -74,8 +75,8 @@ fn push_complete(
 }
 
 // Copies of the triples.
-fn copies(alloc: Global, triples: &[Triple]) -> Result<Vec<Triple>, AllocError>
-    ensures { IfOk result (λ copies. copies.items ≡ triples.now) }
+fn copies(alloc: Global, triples: Pass) -> Result<Vec<Triple>, AllocError>
+    ensures { IfOk result (λ copies. copies.items ≡ triples.entry) }
 {
     let mut copies = Vec::new(alloc);
     for triple in triples {

@@ -5,9 +5,10 @@ ghost use Rattle.pc_engine.specs.Steps.{Changes, LeavesShelf, Takes, Shelves, Jo
 
 use crate::shelving::{Shelvable, joined};
 use crate::world::World;
-use pc_capture::{SharedPart, Taken};
+use pc_capture::SharedPart;
 use pc_log::TOKEN_SIZE;
 use pc_phase::{Change, Held};
+use pc_taken::Taken;
 use pc_types::{FileNo, Key, MOST_FILES, Phase, Refusal, Reply, Value};
 use std::alloc::{AllocError, Global};
 

@@ -20,10 +20,11 @@ ghost use Rattle.pc_engine.specs.Runs.{starting, IsRun};
 use crate::checks::is_sound;
 use crate::sessions::Sessions;
 use crate::shelving::{file_at, shared_at};
-use pc_capture::{SharedPart, Taken};
+use pc_capture::SharedPart;
 use pc_log::Log;
 use pc_part::{Base, Part};
 use pc_phase::Change;
+use pc_taken::Taken;
 use pc_types::{
     Event, FileNo, Key, MOST_KEYS, MOST_SESSIONS, Phase, Refusal, Reply, SessionNo, Value,
 };

@@ -1,16 +1,24 @@
--- Two lists of triples merged key by key: the join, and where two triples clash.
-use Rattle.std.proofs.Common.{◌≡◌, ℕ, ◌+◌, ◌≤◌, ◌<◌, true, false, not, List, [], ◌∷◌, ◌++◌, length, get_or, drop, refl, sym, ap, ◌∙◌, arith}
-use Rattle.std.proofs.lemmas.List.{map-append}
-use Rattle.itertools.specs.declared.either_or_both.EitherOrBoth.{EitherOrBoth}
-use Rattle.itertools.specs.declared.either_or_both.EitherOrBoth.TheVariants.{Both, Left, Right}
+-- Two lists of triples merged key by key: the join, and where two triples clash; and how both are gone through together.
+use Rattle.std.proofs.Common.{◌≡◌, ℕ, ◌+◌, ◌≤◌, ◌<◌, nat_lt, Bool, true, false, cond, List, [], ◌∷◌, ◌++◌, length, Option, Some, None, slice_get, refl, sym, ap, subst, ◌∙◌, append_assoc, append-nil, arith}
+use Rattle.std.proofs.lemmas.List.{map-append, length-append, length-map}
+use Rattle.std.specs.Option.{MatchOption, option_to_list}
+use Rattle.std.specs.declared.cmp.Ordering.{Ordering}
+use Rattle.std.specs.declared.cmp.Ordering.TheVariants.{Less, Equal, Greater}
+use Rattle.itertools.specs.List.{by_ordering}
+use Rattle.itertools.specs.declared.either_or_both.EitherOrBoth.TheVariants as either
+use Rattle.itertools.proofs.ListLemmas.{merge_join_by-nil}
 use Rattle.pc_types.specs.declared.Triple.{Triple}
+use Rattle.pc_model.specs.Database.{key_cmp, key_order}
+use Rattle.pc_model.specs.Files.{differs}
 use Rattle.pc_model.specs.Points.{AtPoint, later}
 use Rattle.pc_model.specs.TripleLists.{entry_of, entries_of}
 use Rattle.pc_model.specs.Replies.{is_empty}
 use Rattle.pc_part.specs.Joins.{clash_at}
-use Rattle.pc_model.specs.Merges.{with_item, gathered, merged}
-use Rattle.pc_model.proofs.MergeLaws.{merged_items, one_more, counts_on, goes_on, none_left, gathered_all}
+use Rattle.pc_model.specs.Merges.{with_content, gathered, merged}
+use Rattle.pc_model.proofs.MergeLaws.{merged_items}
 use Rattle.pc_model.proofs.MergeItemLaws.{items}
+use Rattle.pc_taken.specs.Sides.{first_behind, second_behind, newest, clash, side_of, lesser}
+use Rattle.pc_taken.specs.declared.sides.Side.{Side}
 
 abbrev pub joins : List Triple → List Triple → List (List ℕ × AtPoint)
 joins a b = merged later (entries_of a) (entries_of b)
@@ -18,66 +26,140 @@ joins a b = merged later (entries_of a) (entries_of b)
 abbrev pub clashes : List Triple → List Triple → List (List ℕ × Unit {0})
 clashes a b = merged clash_at (entries_of a) (entries_of b)
 
--- the triples of both, key by key, and what their join and their clashes are from one of them on
-abbrev pub both_items : List Triple → List Triple → List (EitherOrBoth (List ℕ × AtPoint) (List ℕ × AtPoint))
-both_items a b = items (entries_of a) (entries_of b)
+-- a merge, from the fronts of both lists
+module _ {A B C : Type 0} (rule : Option A → Option B → Option C) where
+  first_alone : (x : List ℕ × A) (xs : List (List ℕ × A)) → merged rule (x ∷ xs) [] ≡ with_content x.0 (rule (Some x.1) None) (merged rule xs [])
+  first_alone x xs = sym (merged_items rule (x ∷ xs) []) ∙ ap (λ l. with_content x.0 (rule (Some x.1) None) (gathered rule l)) (sym (merge_join_by-nil (λ (x : List ℕ × A) (y : List ℕ × B). key_cmp x.0 y.0) xs)) ∙ ap (with_content x.0 (rule (Some x.1) None)) (merged_items rule xs [])
 
-abbrev pub joins_from : List Triple → List Triple → ℕ → List (List ℕ × AtPoint)
-joins_from a b n = gathered later (drop n (both_items a b))
+  second_alone : (y : List ℕ × B) (ys : List (List ℕ × B)) → merged rule [] (y ∷ ys) ≡ with_content y.0 (rule None (Some y.1)) (merged rule [] ys)
+  second_alone y ys = sym (merged_items rule [] (y ∷ ys)) ∙ ap (with_content y.0 (rule None (Some y.1))) (merged_items rule [] ys)
 
-abbrev pub clashes_from : List Triple → List Triple → ℕ → List (List ℕ × Unit {0})
-clashes_from a b n = gathered clash_at (drop n (both_items a b))
+  module _ (x : List ℕ × A) (y : List ℕ × B) (xs : List (List ℕ × A)) (ys : List (List ℕ × B)) where
+    unrolled : (o : Ordering) → key_cmp x.0 y.0 ≡ o → merged rule (x ∷ xs) (y ∷ ys) ≡ gathered rule (by_ordering o (either.Left x ∷ items xs (y ∷ ys)) (either.Both x y ∷ items xs ys) (either.Right y ∷ items (x ∷ xs) ys))
+    unrolled o is = sym (merged_items rule (x ∷ xs) (y ∷ ys)) ∙ ap (λ o. gathered rule (by_ordering o (either.Left x ∷ items xs (y ∷ ys)) (either.Both x y ∷ items xs ys) (either.Right y ∷ items (x ∷ xs) ys))) is
 
--- an item is joined to one entry
-joined_one : (item : EitherOrBoth (List ℕ × AtPoint) (List ℕ × AtPoint)) → length (with_item later item []) ≡ 1
-joined_one (Left a) = refl
-joined_one (Right b) = refl
-joined_one (Both a b) = refl
+    on_less : key_cmp x.0 y.0 ≡ Less → merged rule (x ∷ xs) (y ∷ ys) ≡ with_content x.0 (rule (Some x.1) None) (merged rule xs (y ∷ ys))
+    on_less is = unrolled Less is ∙ ap (with_content x.0 (rule (Some x.1) None)) (merged_items rule xs (y ∷ ys))
 
-nothing_is : {X : Type 0} (es : List X) → not (is_empty es) ≡ false → es ≡ []
-nothing_is [] e = refl
-nothing_is (x ∷ es) e = cc
+    on_equal : key_cmp x.0 y.0 ≡ Equal → merged rule (x ∷ xs) (y ∷ ys) ≡ with_content x.0 (rule (Some x.1) (Some y.1)) (merged rule xs ys)
+    on_equal is = unrolled Equal is ∙ ap (with_content x.0 (rule (Some x.1) (Some y.1))) (merged_items rule xs ys)
 
-something : {X : Type 0} (es more : List X) → not (is_empty es) ≡ true → is_empty (es ++ more) ≡ false
-something [] more e = cc
-something (x ∷ es) more e = refl
+    on_greater : key_cmp x.0 y.0 ≡ Greater → merged rule (x ∷ xs) (y ∷ ys) ≡ with_content y.0 (rule None (Some y.1)) (merged rule (x ∷ xs) ys)
+    on_greater is = unrolled Greater is ∙ ap (with_content y.0 (rule None (Some y.1))) (merged_items rule (x ∷ xs) ys)
 
--- What the loop that counts keeps: no clash so far, and how many keys were passed.
-pub record Counted (a b : List Triple) (n len : ℕ) : Type 0 where
-  pub counts : len + length (joins_from a b n) ≡ length (joins a b)
-  pub clashes : clashes_from a b n ≡ clashes a b
-  pub within : len ≤ n
+-- the triple of the least key, in a list
+abbrev pub added : Side → List Triple → List Triple → List Triple
+added side a b = option_to_list (newest side (slice_get a 0) (slice_get b 0))
 
-pub none_counted : (a b : List Triple) → Counted a b 0 0
-none_counted a b = record {
-  counts = let all = ap length (merged_items later (entries_of a) (entries_of b)) in omega (arith, all);
-  clashes = merged_items clash_at (entries_of a) (entries_of b);
-  within = omega arith;
+-- one turn of a loop over both
+pub record Turn (a b : List Triple) (side : Side) : Type 0 where
+  pub joined : joins a b ≡ entries_of (added side a b) ++ joins (first_behind side a) (second_behind side b)
+  pub one : length (added side a b) ≡ 1
+  pub apart : clash side (slice_get a 0) (slice_get b 0) ≡ false → clashes a b ≡ clashes (first_behind side a) (second_behind side b)
+  pub clashed : clash side (slice_get a 0) (slice_get b 0) ≡ true → is_empty (clashes a b) ≡ false
+  pub less : length (first_behind side a) + length (second_behind side b) < length a + length b
+
+-- of two triples of one key
+module _ (x y : Triple) where
+  chosen : (t : Bool) (es : List (List ℕ × AtPoint)) → x.key ≡ y.key → (x.key, cond t (entry_of y).1 (entry_of x).1) ∷ es ≡ entries_of (option_to_list (cond t (Some y) (Some x))) ++ es
+  chosen true es same = ap (λ k. (k, (entry_of y).1) ∷ es) same
+  chosen false es same = refl
+
+  one_chosen : (t : Bool) → length (option_to_list (cond t (Some y) (Some x))) ≡ 1
+  one_chosen true = refl
+  one_chosen false = refl
+
+none_with : (t : Bool) (key : List ℕ) (es : List (List ℕ × Unit {0})) → t ≡ false → with_content key (cond t (Some tt) None) es ≡ es
+none_with true key es is = cc
+none_with false key es is = refl
+
+some_with : (t : Bool) (key : List ℕ) (es : List (List ℕ × Unit {0})) → t ≡ true → is_empty (with_content key (cond t (Some tt) None) es) ≡ false
+some_with true key es is = refl
+some_with false key es is = cc
+
+turn_of : (x y : Triple) (a b : List Triple) (o : Ordering) → key_cmp x.key y.key ≡ o → Turn (x ∷ a) (y ∷ b) (lesser o)
+turn_of x y a b Less is = record {
+  joined = on_less later (entry_of x) (entry_of y) (entries_of a) (entries_of b) is;
+  one = refl;
+  apart = λ e. on_less clash_at (entry_of x) (entry_of y) (entries_of a) (entries_of b) is;
+  clashed = λ e. cc;
+  less = omega arith;
+}
+turn_of x y a b Equal is = record {
+  joined = on_equal later (entry_of x) (entry_of y) (entries_of a) (entries_of b) is ∙ chosen x y (nat_lt x.point y.point) (joins a b) (key_order.exact x.key y.key is);
+  one = one_chosen x y (nat_lt x.point y.point);
+  apart = λ e. on_equal clash_at (entry_of x) (entry_of y) (entries_of a) (entries_of b) is ∙ none_with (differs (entry_of x).1 (Some (entry_of y).1)) x.key (clashes a b) e;
+  clashed = λ e. ap is_empty (on_equal clash_at (entry_of x) (entry_of y) (entries_of a) (entries_of b) is) ∙ some_with (differs (entry_of x).1 (Some (entry_of y).1)) x.key (clashes a b) e;
+  less = omega arith;
+}
+turn_of x y a b Greater is = record {
+  joined = on_greater later (entry_of x) (entry_of y) (entries_of a) (entries_of b) is;
+  one = refl;
+  apart = λ e. on_greater clash_at (entry_of x) (entry_of y) (entries_of a) (entries_of b) is;
+  clashed = λ e. cc;
+  less = omega arith;
 }
 
-module _ (a b : List Triple) (n m len : ℕ) (so_far : Counted a b n len) (item : EitherOrBoth (List ℕ × AtPoint) (List ℕ × AtPoint)) (at : (n < length (both_items a b)) × (item ≡ get_or (both_items a b) n item)) (next : m ≡ n + 1) where
-  clash_step : clashes a b ≡ with_item clash_at item [] ++ clashes_from a b m
-  clash_step = sym so_far.clashes ∙ one_more clash_at (both_items a b) n m item _ at next refl
+turns : (a b : List Triple) → MatchOption (side_of a b) ((a ≡ []) × (b ≡ [])) (Turn a b)
+turns [] [] = (refl, refl)
+turns (x ∷ a) [] = record {
+  joined = first_alone later (entry_of x) (entries_of a);
+  one = refl;
+  apart = λ e. first_alone clash_at (entry_of x) (entries_of a);
+  clashed = λ e. cc;
+  less = omega arith;
+}
+turns [] (y ∷ b) = record {
+  joined = second_alone later (entry_of y) (entries_of b);
+  one = refl;
+  apart = λ e. second_alone clash_at (entry_of y) (entries_of b);
+  clashed = λ e. cc;
+  less = omega arith;
+}
+turns (x ∷ a) (y ∷ b) = turn_of x y a b (key_cmp x.key y.key) refl
 
-  pub count_one : not (is_empty (with_item clash_at item [])) ≡ false → Counted a b m (len + 1)
-  count_one fine = record {
-    counts = let on = counts_on later (both_items a b) n m item _ len _ at next refl so_far.counts in let one = joined_one item in omega (arith, on, one);
-    clashes = sym (clash_step ∙ ap (λ es. es ++ clashes_from a b m) (nothing_is (with_item clash_at item []) fine));
-    within = let h = so_far.within in omega (arith, h, next);
-  }
+pub turn : (a b : List Triple) (side : Side) → side_of a b ≡ Some side → Turn a b side
+turn a b side is = subst (λ o. MatchOption o ((a ≡ []) × (b ≡ [])) (Turn a b)) is (turns a b)
 
-  pub stops : not (is_empty (with_item clash_at item [])) ≡ true → is_empty (clashes a b) ≡ false
-  stops clash = ap is_empty clash_step ∙ something (with_item clash_at item []) (clashes_from a b m) clash
+both_done : (a b : List Triple) → side_of a b ≡ None → (a ≡ []) × (b ≡ [])
+both_done a b is = subst (λ o. MatchOption o ((a ≡ []) × (b ≡ [])) (Turn a b)) is (turns a b)
 
-pub ends : (a b : List Triple) (n len : ℕ) → Counted a b n len → n ≡ length (both_items a b) → (is_empty (clashes a b) ≡ true) × (len ≡ length (joins a b))
-ends a b n len so_far end =
-    (ap is_empty (sym so_far.clashes ∙ none_left clash_at (both_items a b) n end), let h = so_far.counts in let none = ap length (none_left later (both_items a b) n end) in omega (arith, h, none))
+joins_none : (a b : List Triple) → side_of a b ≡ None → joins a b ≡ []
+joins_none a b is = let none = both_done a b is in rw (none.0, none.1) (sym (merged_items later [] []))
+
+clashes_none : (a b : List Triple) → side_of a b ≡ None → clashes a b ≡ []
+clashes_none a b is = let none = both_done a b is in rw (none.0, none.1) (sym (merged_items clash_at [] []))
+
+-- What the loop that counts keeps: no clash so far, and how many keys were passed.
+pub record Counted (a b first second : List Triple) (len : ℕ) : Type 0 where
+  pub counts : len + length (joins first second) ≡ length (joins a b)
+  pub apart : clashes first second ≡ clashes a b
+  pub within : len + length first + length second ≤ length a + length b
+
+pub none_counted : (a b first second : List Triple) → first ≡ a → second ≡ b → Counted a b first second 0
+none_counted a b first second is_a is_b = rw (is_a, is_b) (record { counts = omega arith; apart = refl; within = omega arith })
+
+module _ (a b first second : List Triple) (len : ℕ) (so_far : Counted a b first second len) where
+  module _ (side : Side) (is : side_of first second ≡ Some side) where
+    pub count_one : (new_first new_second : List Triple) → clash side (slice_get first 0) (slice_get second 0) ≡ false → new_first ≡ first_behind side first → new_second ≡ second_behind side second → Counted a b new_first new_second (len + 1)
+    count_one new_first new_second fine goes too = let t = turn first second side is in rw (goes, too) (record {
+      counts = let all = ap length t.joined ∙ length-append (entries_of (added side first second)) _ in let same = length-map (added side first second) entry_of in let one = t.one in let so = so_far.counts in omega (arith, all, same, one, so);
+      apart = sym (t.apart fine) ∙ so_far.apart;
+      within = let less = t.less in let so = so_far.within in omega (arith, less, so);
+    })
+
+    pub stops : clash side (slice_get first 0) (slice_get second 0) ≡ true → is_empty (clashes a b) ≡ false
+    stops clash = ap is_empty (sym so_far.apart) ∙ (turn first second side is).clashed clash
+
+  pub ends : side_of first second ≡ None → (is_empty (clashes a b) ≡ true) × (len ≡ length (joins a b))
+  ends none = (ap is_empty (sym so_far.apart ∙ clashes_none first second none), let h = so_far.counts in let nothing = ap length (joins_none first second none) in omega (arith, h, nothing))
 
 -- one more triple is merged, and all of them
-module _ (a b : List Triple) (n : ℕ) (out : List Triple) (so_far : entries_of out ++ joins_from a b n ≡ joins a b) where
-  pub one_merged : (m : ℕ) (item : EitherOrBoth (List ℕ × AtPoint) (List ℕ × AtPoint)) (t : Triple) (new : List Triple) → (n < length (both_items a b)) × (item ≡ get_or (both_items a b) n item) → m ≡ n + 1 → with_item later item [] ≡ entry_of t ∷ [] → new ≡ out ++ t ∷ []
-      → entries_of new ++ joins_from a b m ≡ joins a b
-  one_merged m item t new at next made put = goes_on later (both_items a b) n m item _ (entries_of out) (entries_of new) _ at next made so_far (ap entries_of put ∙ map-append entry_of out (t ∷ []))
+module _ (a b first second out : List Triple) (so_far : entries_of out ++ joins first second ≡ joins a b) where
+  pub one_merged : (side : Side) (new_first new_second new : List Triple) → side_of first second ≡ Some side → new_first ≡ first_behind side first → new_second ≡ second_behind side second → new ≡ out ++ added side first second → entries_of new ++ joins new_first new_second ≡ joins a b
+  one_merged side new_first new_second new is goes too put = rw (goes, too, put)
+      (ap (λ es. es ++ joins (first_behind side first) (second_behind side second)) (map-append entry_of out (added side first second)) ∙ append_assoc (entries_of out) (entries_of (added side first second)) _
+      ∙ ap (λ es. entries_of out ++ es) (sym (turn first second side is).joined) ∙ so_far)
 
-  pub all_merged : n ≡ length (both_items a b) → entries_of out ≡ joins a b
-  all_merged end = gathered_all later (both_items a b) n (entries_of out) _ end so_far
+  pub all_merged : side_of first second ≡ None → entries_of out ≡ joins a b
+  all_merged none = sym (append-nil (entries_of out)) ∙ ap (λ es. entries_of out ++ es) (sym (joins_none first second none)) ∙ so_far

@@ -13,6 +13,8 @@ mod LaidLists
 mod LawfulParts
 pub mod PartFileLaws
 mod PartTexts
+mod PassedItems
+mod PassedTexts
 pub mod RangePointLaws
 mod ReadFields
 mod ReadLists

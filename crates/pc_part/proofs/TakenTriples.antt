@@ -5,17 +5,19 @@ use Rattle.std.specs.Ordering.{is_lt}
 use Rattle.std.specs.FinMap.{is_sorted}
 use Rattle.std.specs.FinMap.Entries.{below_all}
 use Rattle.std.proofs.lemmas.Bool.Decides.{nat_tests}
+use Rattle.std.proofs.lemmas.List.{length-map}
 use Rattle.std.proofs.lemmas.List.Elements.{All-map}
 use Rattle.pc_model.specs.Maps as map_of
 use Rattle.pc_model.specs.Sets as set
 use Rattle.pc_model.specs.Sets.{Set, number_order}
 use Rattle.pc_model.specs.Database.{key_cmp, KeysRise}
-use Rattle.pc_model.specs.Files.{File, triples_taken}
+use Rattle.pc_model.specs.Files.{triples_taken}
 use Rattle.pc_model.specs.TripleLists.{entries_of, triple_at}
 use Rattle.pc_model.specs.Points.{Triples}
 use Rattle.pc_types.specs.declared.Triple.{Triple}
 use Rattle.pc_model.proofs.PairMapLaws as pairs
 use Rattle.pc_part.specs.declared.ranges.Range.{Range}
+use Rattle.pc_part.specs.Bases.{IsWithinLimit}
 use Rattle.pc_part.specs.Parts.{points_of, triples_of, AreCovered}
 use Rattle.pc_part.proofs.RangePointLaws.{contains-points_of}
 
@@ -41,6 +43,14 @@ one_point point ranges is = let one : point + 1 - point ≡ 1 = omega arith in r
 -- all triples are of that point
 pub taken_covered : (point : ℕ) (taken : Taken) (triples : List Triple) (ranges : List Range) → triples ≡ map (triple_at point) taken → ranges ≡ record { low = point; high = point } ∷ [] → AreCovered (points_of ranges) triples
 taken_covered point taken triples ranges is one = rw (is, one) (All-map (λ triple. IsTrue (set.contains (points_of (record { low = point; high = point } ∷ [])) triple.point)) (triple_at point) taken (λ k d lt. contains-points_of (record { low = point; high = point } ∷ []) point ∙ grind (arith, nat_tests)))
+
+-- they are of the points where that is one
+pub taken_among : (point : ℕ) (taken : Taken) (triples : List Triple) (points : Set number_order) → triples ≡ map (triple_at point) taken → IsTrue (set.contains points point) → AreCovered points triples
+taken_among point taken triples points is among = rw is (All-map (λ triple. IsTrue (set.contains points triple.point)) (triple_at point) taken (λ k d lt. among))
+
+-- and no more than were taken
+pub taken_within : (point : ℕ) (taken : Taken) (triples : List Triple) → triples ≡ map (triple_at point) taken → IsWithinLimit taken → IsWithinLimit triples
+taken_within point taken triples is within = let same = length-map taken (triple_at point) in rw is (omega (arith, same, within))
 
 triples_same : (point : ℕ) (taken : Taken) → triples_of (map (triple_at point) taken) ≡ triples_taken point taken
 triples_same point [] = refl

@@ -8,7 +8,8 @@ ghost use Rattle.pc_part.specs.Texts.{head_text, bounds_text, triple_text, end_t
 use crate::part::Part;
 use crate::ranges::Range;
 use byteorder::{BigEndian, ByteOrder};
-use pc_types::{Refusal, Tally, Triple};
+use pc_taken::{LentTriple, Pass};
+use pc_types::{Refusal, Tally};
 use std::io::Write;
 
 const MAGIC: [u8; 8] = *b"PCALCP01";
@@ -32,10 +33,11 @@ impl Part {
         let run = self.run();
         let ranges = self.ranges();
         let entries = self.entries();
+        let count = entries.len() as u32;
         put_head(out, run, ranges.len() as u32)?;
         put_ranges(out, ranges)?;
         put_entries(out, entries)?;
-        put_end(out, entries.len() as u32)
+        put_end(out, count)
     }
 }
 
@@ -70,17 +72,17 @@ fn put_range<W: Write>(out: &mut Tally<W>, range: &Range) -> Result<(), Refusal>
 }
 
 // One entry after the other.
-fn put_entries<W: Write>(out: &mut Tally<W>, entries: &[Triple]) -> Result<(), Refusal>
-    ensures text { Puts W.contents out.old out.new result (flat_map triple_text entries.now) }
-    ensures lawful { OnOk result (All HasLimits entries.now) }
+fn put_entries<W: Write>(out: &mut Tally<W>, entries: Pass) -> Result<(), Refusal>
+    ensures text { Puts W.contents out.old out.new result (flat_map triple_text entries.entry) }
+    ensures lawful { OnOk result (All HasLimits entries.entry) }
 {
     for entry in entries {
-        put_entry(out, entry)?;
+        put_entry(out, &entry)?;
     }
     Ok(())
 }
 
-fn put_entry<W: Write>(out: &mut Tally<W>, entry: &Triple) -> Result<(), Refusal>
+fn put_entry<W: Write>(out: &mut Tally<W>, entry: &LentTriple) -> Result<(), Refusal>
     ensures text { Puts W.contents out.old out.new result (triple_text entry.now) }
     ensures lawful { HasLimits entry.now }
 {
@@ -89,7 +91,7 @@ fn put_entry<W: Write>(out: &mut Tally<W>, entry: &Triple) -> Result<(), Refusal
     BigEndian::write_u16(&mut key_len, key.len() as u16);
     let mut point = [0u8; 4];
     BigEndian::write_u32(&mut point, u32::from(entry.point.0));
-    match &entry.content {
+    match entry.content {
         None => out.put_all(&[&key_len, key, &point, &[TOMBSTONE]]),
         Some(value) => {
             let value = value.as_bytes();

@@ -1,5 +1,6 @@
 //! Laying a part on a base.
 ghost use Rattle.std.specs.Prelude.{◌≡◌, ◌+◌, ◌≤◌, ◌++◌, [], ◌∷◌, length, max, option_copied, IfOk, OnOk, Some};
+ghost use Rattle.itertools.specs.EitherOrBoth.{map_any};
 ghost use Rattle.pc_model.specs.Database.{KeysRise, database_of};
 ghost use Rattle.pc_model.specs.LaidFiles.{gap_above, greatest, laid_file};
 ghost use Rattle.pc_model.specs.TripleLists.{entry_of, entries_of};
@@ -7,14 +8,15 @@ ghost use Rattle.pc_model.specs.Points.{laid, laid_at};
 ghost use Rattle.pc_part.specs.Bases.{IsWithinLimit};
 ghost use Rattle.pc_part.specs.Joins.{first_cause, IsRefusedBy};
 ghost use Rattle.pc_part.specs.Layings.{laid_there, lay_causes, limit_causes};
-ghost use Rattle.pc_model.specs.Merges.{item_of, merged, with_content, with_item};
+ghost use Rattle.pc_model.specs.Merges.{merged, with_content, with_item};
 ghost use Rattle.pc_part.specs.Parts.{AreRanges, points_of, triples_of};
 
 use crate::base::Base;
 use crate::part::Part;
 use crate::ranges::Range;
 use itertools::{EitherOrBoth, Itertools};
-use pc_types::{Key, MOST_FILE_ENTRIES, Point, Refusal, Triple, Value};
+use pc_taken::{Entries, LentTriple};
+use pc_types::{Key, MOST_FILE_ENTRIES, Point, Refusal, Value};
 use std::alloc::{AllocError, Global};
 
 /// The base with a part of its run laid on it: each key whose entry has a point above the base's is set to the entry's
@@ -36,7 +38,7 @@ pub fn lay(alloc: Global, base: &Base, part: &Part) -> Result<Base, Refusal>
     if let Some(gap) = first_gap(base.point(), part.ranges()) {
         return Err(Refusal::Gap(gap));
     }
-    let pairs = lay_entries(alloc, base.point(), base.pairs(), part.entries())?;
+    let pairs = lay_entries(alloc, base.point(), base.pairs(), part.kept())?;
     let point = greater(base.point(), last_point(part.ranges()));
     Ok(Base::at_point(base.run(), point, pairs))
 }
@@ -53,10 +55,11 @@ fn lay_entries<'a>(
     alloc: Global,
     point: Point,
     pairs: &'a [(Key, Value)],
-    triples: &'a [Triple],
+    triples: &'a Entries,
 ) -> Result<Vec<(Key, Value)>, Refusal>
     requires pairs { KeysRise pairs.now }
     requires triples { KeysRise (entries_of triples.now) }
+    requires limit { IsWithinLimit triples.now }
     ensures rise { IfOk result (λ out. KeysRise out.items) }
     ensures limit { IfOk result (λ out. IsWithinLimit out.items) }
     ensures laid { IfOk result (λ out. database_of out.items ≡ laid (database_of pairs.now) point (triples_of triples.now)) }
@@ -70,13 +73,14 @@ fn lay_entries<'a>(
 }
 
 // How many pairs are left once the triples are laid on the pairs.
-fn laid_len(point: Point, pairs: &[(Key, Value)], triples: &[Triple]) -> usize
+fn laid_len(point: Point, pairs: &[(Key, Value)], triples: &Entries) -> usize
+    requires { IsWithinLimit triples.now }
     ensures { result ≡ length (merged (laid_there point) pairs.now (entries_of triples.now)) }
 {
     let mut len = 0usize;
     for item in pairs
         .iter()
-        .merge_join_by(triples.iter(), |pair, triple| pair.0.compare(&triple.key))
+        .merge_join_by(triples.pass(), |pair, triple| pair.0.compare(triple.key))
     {
         let (_key, content) = laid_item(point, item);
         if content.is_some() {
@@ -91,14 +95,14 @@ fn lay_in_order(
     alloc: Global,
     point: Point,
     pairs: &[(Key, Value)],
-    triples: &[Triple],
+    triples: &Entries,
 ) -> Result<Vec<(Key, Value)>, AllocError>
     ensures { IfOk result (λ out. out.items ≡ merged (laid_there point) pairs.now (entries_of triples.now)) }
 {
     let mut out = Vec::new(alloc);
     for item in pairs
         .iter()
-        .merge_join_by(triples.iter(), |pair, triple| pair.0.compare(&triple.key))
+        .merge_join_by(triples.pass(), |pair, triple| pair.0.compare(triple.key))
     {
         let (key, content) = laid_item(point, item);
         push_copy(alloc, &mut out, key, content)?;
@@ -124,20 +128,24 @@ fn push_copy(
 // The key of a pair, a triple or both, and what it has once the triple is laid.
 fn laid_item<'a>(
     point: Point,
-    item: EitherOrBoth<&'a (Key, Value), &'a Triple>,
+    item: EitherOrBoth<&'a (Key, Value), LentTriple<'a>>,
 ) -> (&'a Key, Option<&'a Value>)
-    ensures { with_item (laid_there point) (item_of (λ pair. pair) entry_of item.entry) [] ≡ with_content result.0.now (option_copied result.1) [] }
+    ensures { with_item (laid_there point) (map_any (λ pair. pair.now) entry_of item.entry) [] ≡ with_content result.0.now (option_copied result.1) [] }
 {
     match item {
         EitherOrBoth::Left(pair) => (&pair.0, Some(&pair.1)),
-        EitherOrBoth::Right(triple) => (&triple.key, content_of(point, None, triple)),
+        EitherOrBoth::Right(triple) => (triple.key, content_of(point, None, triple)),
         EitherOrBoth::Both(pair, triple) => { (&pair.0, content_of(point, Some(&pair.1), triple)) }
     }
 }
 
 // What a triple's key has once the triple is laid at the point on what it had.
-fn content_of<'a>(point: Point, there: Option<&'a Value>, triple: &'a Triple) -> Option<&'a Value>
-    ensures { option_copied result ≡ laid_there point (option_copied there.entry) (Some (entry_of triple.now).1) }
+fn content_of<'a>(
+    point: Point,
+    there: Option<&'a Value>,
+    triple: LentTriple<'a>,
+) -> Option<&'a Value>
+    ensures { option_copied result ≡ laid_there point (option_copied there.entry) (Some (entry_of triple.entry).1) }
 {
     if point.0 < triple.point.0 {
         triple.content.as_ref()

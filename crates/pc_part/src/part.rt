@@ -1,5 +1,5 @@
 //! Part files: what the keys that a run wrote in some of its points had there.
-ghost use Rattle.std.specs.Prelude.{◌≡◌, ◌≤◌, ℕ, map, IfOk, IfErr, MatchOption};
+ghost use Rattle.std.specs.Prelude.{◌≡◌, ◌≤◌, ℕ, map, IfOk, IfErr, IsTrue, MatchOption};
 ghost use Rattle.pc_model.specs.Database.{KeysRise};
 ghost use Rattle.pc_model.specs.Files.{triples_taken};
 ghost use Rattle.pc_model.specs.TripleLists.{entries_of, triple_at};
@@ -10,6 +10,7 @@ ghost use Rattle.pc_part.specs.Bases.{IsWithinLimit};
 ghost use Rattle.pc_part.specs.Parts.{AreCovered, AreRanges, CoversTo, bounds_of, points_of, triples_of};
 
 use crate::ranges::{Range, last_covered, points_in};
+use pc_taken::{Entries, Pass, Taken};
 use pc_types::{Items, Key, Point, Refusal, Triple, Value};
 use std::alloc::{AllocError, Global};
 use std::marker::Model;
@@ -21,7 +22,7 @@ use std::marker::Model;
 pub struct Part {
     run: u64,
     ranges: Vec<Range>,
-    entries: Vec<Triple>,
+    entries: Entries,
 }
 
 impl Model for Part {
@@ -35,9 +36,9 @@ impl Model for Part {
 
     ghost coded = { file_code };
 
-    ghost view = { λ p. record { run = p.run; points = points_of p.ranges.items; triples = triples_of p.entries.items } };
+    ghost view = { λ p. record { run = p.run; points = points_of p.ranges.items; triples = triples_of p.entries } };
 
-    ghost invariant = { λ p. AreRanges p.ranges.items × KeysRise (entries_of p.entries.items) × AreCovered (points_of p.ranges.items) p.entries.items × IsWithinLimit p.entries.items };
+    ghost invariant = { λ p. AreRanges p.ranges.items × KeysRise (entries_of p.entries) × AreCovered (points_of p.ranges.items) p.entries × IsWithinLimit p.entries };
 }
 
 impl Part {
@@ -71,15 +72,15 @@ impl Part {
         Ok(Part::from_lists(run, ranges, Vec::new(alloc)))
     }
 
-    /// Has these entries in place of its own: they rise strictly by key, are each of one of its points, and no more than a file
-    /// may have, 4,294,967,295.
-    pub fn set_entries(&mut self, entries: Vec<Triple>)
-        requires rise { KeysRise (entries_of entries.items) }
-        requires covered { AreCovered self.old.points entries.items }
-        requires limit { IsWithinLimit entries.items }
-        ensures { self.new ≡ record self.old { triples = triples_of entries.items } }
+    /// Has what was taken of the point, one of its own, as its entries, in place of those that it had: keys that rise strictly, no
+    /// more than a file may have, 4,294,967,295. It stays where it stands, so that this takes a constant time and no memory.
+    pub fn take_over(&mut self, point: Point, taken: Taken)
+        requires rise { KeysRise taken }
+        requires covered { IsTrue (set.contains self.old.points point) }
+        requires limit { IsWithinLimit taken }
+        ensures { self.new ≡ record self.old { triples = triples_taken point taken } }
     {
-        self.entries = entries;
+        self.entries = Entries::taken(point, taken);
     }
 
     /// The part of these points with these entries.
@@ -93,7 +94,7 @@ impl Part {
         Part {
             run,
             ranges,
-            entries,
+            entries: Entries::listed(entries),
         }
     }
 
@@ -102,7 +103,7 @@ impl Part {
         ensures { IfOk result (λ copy. copy ≡ self.now) }
     {
         let ranges = copies_of_ranges(alloc, &self.ranges)?;
-        let entries = copies_of_entries(alloc, &self.entries)?;
+        let entries = self.entries.copy(alloc)?;
         Ok(Part {
             run: self.run,
             ranges,
@@ -142,15 +143,26 @@ impl Part {
         last_covered(&self.ranges)
     }
 
-    /// The entries, rising strictly by key, each of one of its points; at most 4,294,967,295.
-    pub fn entries(&self) -> &[Triple]
+    /// A pass over the entries, rising strictly by key, each of one of its points; at most 4,294,967,295.
+    pub fn entries(&self) -> Pass<'_>
+        ensures rise { KeysRise (entries_of result) }
+        ensures covered { AreCovered self.now.points result }
+        ensures limit { IsWithinLimit result }
+        ensures entries { entries_of result ≡ self.now.triples.entries }
+        ensures triples { triples_of result ≡ self.now.triples }
+    {
+        self.entries.pass()
+    }
+
+    // The entries, over which passes go.
+    pub(crate) fn kept(&self) -> &Entries
         ensures rise { KeysRise (entries_of result.now) }
         ensures covered { AreCovered self.now.points result.now }
         ensures limit { IsWithinLimit result.now }
         ensures entries { entries_of result.now ≡ self.now.triples.entries }
         ensures triples { triples_of result.now ≡ self.now.triples }
     {
-        self.entries.as_slice()
+        &self.entries
     }
 }
 
@@ -176,14 +188,4 @@ fn copies_of_ranges(alloc: Global, ranges: &[Range]) -> Result<Vec<Range>, Alloc
     ensures { IfOk result (λ copies. copies.items ≡ ranges.now) }
 {
     ranges.iter().copied().collect(alloc)
-}
-
-fn copies_of_entries(alloc: Global, entries: &[Triple]) -> Result<Vec<Triple>, AllocError>
-    ensures { IfOk result (λ copies. copies.items ≡ entries.now) }
-{
-    let mut copies = Vec::with_capacity(alloc, entries.len())?;
-    for entry in entries {
-        copies.push_reserved(entry.copy(alloc)?);
-    }
-    Ok(copies)
 }

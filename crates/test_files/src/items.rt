@@ -5,7 +5,8 @@ use crate::found::put_refusal;
 use crate::kinds::Kind;
 use pc_log::{LastToken, read_entry, read_header};
 use pc_part::{Base, Part, Range};
-use pc_types::{Entry, Phase, Refusal, Tally, Triple, Value};
+use pc_taken::LentTriple;
+use pc_types::{Entry, Phase, Refusal, Tally, Value};
 use std::alloc::Global;
 use std::io::Write;
 
@@ -43,7 +44,7 @@ pub fn put_part<W: Write>(alloc: Global, part: &Part, out: &mut Tally<W>) -> Res
     out.put(head.as_bytes())?;
     put_ranges(alloc, part.ranges(), out)?;
     for entry in part.entries() {
-        put_entry(alloc, entry, out)?;
+        put_entry(alloc, &entry, out)?;
     }
     Ok(())
 }
@@ -60,10 +61,14 @@ fn put_ranges<W: Write>(
     out.put(b"\n")
 }
 
-fn put_entry<W: Write>(alloc: Global, entry: &Triple, out: &mut Tally<W>) -> Result<(), Refusal> {
+fn put_entry<W: Write>(
+    alloc: Global,
+    entry: &LentTriple,
+    out: &mut Tally<W>,
+) -> Result<(), Refusal> {
     let point = format!(in alloc; "point {} ", entry.point.0)?;
     out.put(point.as_bytes())?;
-    put_write(alloc, entry.key.as_bytes(), &entry.content, out)?;
+    put_write(alloc, entry.key.as_bytes(), entry.content, out)?;
     out.put(b"\n")
 }
 

@@ -1,6 +1,6 @@
-//! Tests: puts in any order, and what is moved out.
-use pc_capture::Taken;
-use pc_types::{Key, Point, Refusal, Triple, Value};
+//! Tests: puts in any order, and what a pass over them gives.
+use pc_taken::{Entries, LentTriple, Taken};
+use pc_types::{Key, Point, Refusal, Value};
 use std::alloc::Global;
 use std::test::Fail;
 
@@ -40,28 +40,30 @@ fn taken_of(alloc: Global, puts: &[(u8, u8)]) -> Result<Taken, Refusal> {
 }
 
 // The byte of the triple's key, and the number of what it has.
-fn told(triple: &Triple) -> Option<(u8, u8)> {
+fn told(triple: &LentTriple) -> Option<(u8, u8)> {
     let byte = triple.key.as_bytes().first().copied()?;
-    let number = match &triple.content {
+    let number = match triple.content {
         Some(value) => value.as_bytes().first().copied()?,
         None => 0,
     };
     Some((byte, number))
 }
 
-// Whether the triples are these, each of point 3.
-fn are_told(triples: &[Triple], rows: &[(u8, u8)]) -> bool {
-    triples.len() == rows.len()
-        && triples.iter().zip(rows).all(|(triple, row)| triple.point == Point(3)
-            && told(triple) == Some(*row))
+// Whether a pass over the entries gives these, each of point 3.
+fn are_told(entries: &Entries, rows: &[(u8, u8)]) -> bool {
+    let pass = entries.pass();
+    pass.len() == rows.len()
+        && pass.zip(rows).all(|(triple, row)| triple.point == Point(3)
+            && told(&triple) == Some(*row))
 }
 
-// Whether what is put so is moved out so, once.
+// Whether what is put so is gone over so, where it stands and in a copy, and nothing is left where it was.
 fn is_moved(alloc: Global, puts: &[(u8, u8)], rows: &[(u8, u8)]) -> Result<bool, Refusal> {
     let mut taken = taken_of(alloc, puts)?;
-    let room = Vec::with_capacity(alloc, taken.room())?;
-    let triples = taken.move_into(room, Point(3));
-    Ok(taken.room() == 0 && are_told(&triples, rows))
+    let is_counted = taken.len() == rows.len();
+    let entries = Entries::taken(Point(3), taken.move_out());
+    let copy = entries.copy(alloc)?;
+    Ok(is_counted && taken.len() == 0 && are_told(&entries, rows) && are_told(&copy, rows))
 }
 
 // Each key once, by key, with what was put last.

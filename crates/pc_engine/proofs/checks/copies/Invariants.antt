@@ -1,5 +1,6 @@
-use Rattle.std.proofs.Common.{◌≡◌, take}
+use Rattle.std.proofs.Common.{◌≡◌, ◌++◌}
 use Rattle.pc_engine.proofs.checks.copies.Given as goal
 
+-- the copies, and what is still to come, are all
 abbrev pub invariant-loop-triple : goal.invariant-loop-triple
-invariant-loop-triple l = l.copies.items ≡ take l.triple-index l.triples
+invariant-loop-triple l = l.copies.items ++ l.triple-iterator ≡ l.fn.triples

@@ -1,16 +1,14 @@
-use Rattle.std.proofs.Common.{◌≡◌, take}
-use Rattle.std.specs.List.{AllWithin, flat_map}
-use Rattle.std.specs.Io.KnownBytes.{Appends}
+use Rattle.std.proofs.Common.{◌≡◌, ◌++◌, Ok}
+use Rattle.std.specs.List.{All, flat_map}
+use Rattle.pc_types.specs.Tallies.{Puts}
 use Rattle.pc_part.specs.Lawful.{HasLimits}
 use Rattle.pc_part.specs.Texts.{triple_text}
 use Rattle.pc_part.proofs.encoding.put_entries.Given as goal
 
--- so many of them went out
+-- those so far went out, and the others are to come
 abbrev pub invariant-loop-entry : goal.invariant-loop-entry
-invariant-loop-entry g l =
-    let contents = g.W.Write.contents in
-    record {
-      sent : Appends (contents l.fn.out.inner) (contents l.out.inner) (flat_map triple_text (take l.entry-index l.entries));
-      counted : l.out.failures ≡ l.fn.out.failures;
-      lawful : AllWithin HasLimits l.entries 0 l.entry-index;
-    }
+invariant-loop-entry g l = record {
+  sent : Puts g.W.Write.contents l.fn.out l.out (Ok tt) (flat_map triple_text l.yielded);
+  others : l.yielded ++ l.entry-iterator ≡ l.fn.entries;
+  lawful : All HasLimits l.yielded;
+}

@@ -1,15 +1,8 @@
-use Rattle.std.proofs.Common.{rules, ◌≡◌, ◌<◌, Bool, ℕ, true, false, cond, length, get_or, refl, sym, ap, ◌∙◌, Ok, Err, Result, arith}
-use Rattle.std.proofs.lemmas.List.{length_push, length-map}
-use Rattle.std.proofs.lemmas.Iterator.{YieldsList-from_slice}
-use Rattle.std.proofs.lemmas.Iterator.Consumers.{YieldsList-turn, YieldsList-end}
+use Rattle.std.proofs.Common.{◌≡◌, Bool, ℕ, true, false, cond, refl, sym, ap, ◌∙◌, Ok, Err, Result}
 use Rattle.pc_types.specs.declared.refusal.Refusal.{Refusal}
 use Rattle.pc_types.specs.declared.refusal.Refusal.TheVariants.{Conflict}
-use Rattle.pc_model.specs.TripleLists.{entry_of, entries_of}
-use Rattle.pc_model.specs.Merges.{item_of}
-use Rattle.pc_part.proofs.JoinedLists.{both_items, none_counted, count_one, stops, ends}
-use Rattle.pc_model.proofs.MergeItemLaws.{items_given, items_len}
+use Rattle.pc_part.proofs.JoinedLists.{count_one, stops, ends}
 use Rattle.pc_part.proofs.joining.joined_len.Goals as goal
-use Rattle.pc_part.proofs.joining.joined_len.Goals.{In-Some}
 
 abbrev counted : ℕ → Result ℕ Refusal
 counted n = Ok n
@@ -25,38 +18,15 @@ gives : (b : Bool) (m n : ℕ) → b ≡ true → m ≡ n → counted m ≡ cond
 gives true m n e is = ap counted is
 gives false m n e is = cc
 
-pub loop-item-init : goal.loop-item-init
-loop-item-init c = none_counted c.args.a.now c.args.b.now
+pub returns-then-clashes : goal.returns-then-clashes
+returns-then-clashes c =
+    refuses _ _ (stops c.args.a.now c.args.b.now c.loop-side.first c.loop-side.second c.loop-side.len c.loop-side.invariant c.in-Some.side (sym c.side_of.ensures ∙ c.in-Some.is) (sym c.clashes.ensures ∙ c.if-clashes.true))
 
--- the item is the next one
-turn : (c : In-Some) → (length c.loop-item.yielded < length (both_items c.args.a.now c.args.b.now)) × (item_of entry_of entry_of c.in-Some.item ≡ get_or (both_items c.args.a.now c.args.b.now) (length c.loop-item.yielded) (item_of entry_of entry_of c.in-Some.item))
-turn c = YieldsList-turn (items_given entry_of entry_of _ _ (entries_of c.args.a.now) (entries_of c.args.b.now) refl refl c.into_iter-item-iterator.ensures.into_iter_gives c.merge_join_by-item-items.ensures.runs (λ x y r f k. search rules) (YieldsList-from_slice c.args.a.now cc) (YieldsList-from_slice c.args.b.now cc))
-    c.loop-item.yielded _ c.loop-item.yielded_by _ _ c.in-Some.item c.in-Some.is c.next.ensures.steps
-
-pub overflow_add-len : goal.overflow_add-len
-overflow_add-len c =
-    let t = turn (goal.at.overflow_add-len c).In-Some in
-    let all = items_len (entries_of c.args.a.now) (entries_of c.args.b.now) in
-    let in_a = length-map c.args.a.now entry_of in
-    let in_b = length-map c.args.b.now entry_of in
-    let a_fits = c.iter.ensures.bound in
-    let b_fits = c.iter-2.ensures.bound in
-    let within = c.loop-item.invariant.within in
-    omega (arith, within, t.0, all, in_a, in_b, a_fits, b_fits)
-
-pub returns-then-clash : goal.returns-then-clash
-returns-then-clash c =
-    let t = turn (goal.at.returns-then-clash c).In-Some in
-    refuses _ _ (stops c.args.a.now c.args.b.now _ _ c.loop-item.len c.loop-item.invariant (item_of entry_of entry_of c.in-Some.item) t refl (sym c.clash.ensures ∙ c.if-clash.true))
-
-pub loop-item-preserved : goal.loop-item-preserved
-loop-item-preserved c =
-    let t = turn (goal.at.loop-item-preserved c).In-Some in
-    count_one c.args.a.now c.args.b.now _ _ c.loop-item.len c.loop-item.invariant (item_of entry_of entry_of c.in-Some.item) t (length_push c.loop-item.yielded c.in-Some.item) (sym c.clash.ensures ∙ c.if-clash.false)
+pub loop-side-preserved : goal.loop-side-preserved
+loop-side-preserved c =
+    count_one c.args.a.now c.args.b.now c.loop-side.first c.loop-side.second c.loop-side.len c.loop-side.invariant c.in-Some.side (sym c.side_of.ensures ∙ c.in-Some.is) c.go_on.new.first c.go_on.new.second (sym c.clashes.ensures ∙ c.if-clashes.false) c.go_on.ensures.first c.go_on.ensures.second
 
 pub returns : goal.returns
 returns c =
-    let end = YieldsList-end (items_given entry_of entry_of _ _ (entries_of c.args.a.now) (entries_of c.args.b.now) refl refl c.into_iter-item-iterator.ensures.into_iter_gives c.merge_join_by-item-items.ensures.runs (λ x y r f k. search rules) (YieldsList-from_slice c.args.a.now cc) (YieldsList-from_slice c.args.b.now cc))
-    c.loop-item.yielded _ c.loop-item.yielded_by _ _ c.in-None.is c.next.ensures.steps in
-    let all = ends c.args.a.now c.args.b.now _ c.loop-item.len c.loop-item.invariant end.1 in
+    let all = ends c.args.a.now c.args.b.now c.loop-side.first c.loop-side.second c.loop-side.len c.loop-side.invariant (sym c.side_of.ensures ∙ c.in_default.is) in
     gives _ _ _ all.0 all.1

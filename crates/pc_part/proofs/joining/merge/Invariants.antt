@@ -1,8 +1,11 @@
-use Rattle.std.proofs.Common.{◌≡◌, ◌++◌, length}
+use Rattle.std.proofs.Common.{◌≡◌, ◌++◌, ◌+◌, length}
 use Rattle.pc_model.specs.TripleLists.{entries_of}
-use Rattle.pc_part.proofs.JoinedLists.{joins, joins_from}
+use Rattle.pc_part.proofs.JoinedLists.{joins}
 use Rattle.pc_part.proofs.joining.merge.Given as goal
 
--- what is merged, before what the items to come make
-abbrev pub invariant-loop-item : goal.invariant-loop-item
-invariant-loop-item l = entries_of l.out.items ++ joins_from l.a l.b (length l.yielded) ≡ joins l.a l.b
+-- what is merged, before what is made of the triples to come
+abbrev pub invariant-loop-side : goal.invariant-loop-side
+invariant-loop-side l = entries_of l.out.items ++ joins l.first l.second ≡ joins l.fn.a l.fn.b
+
+abbrev pub decreases-loop-side : goal.decreases-loop-side
+decreases-loop-side l = length l.first + length l.second

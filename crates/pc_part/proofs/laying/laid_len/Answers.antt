@@ -1,13 +1,13 @@
-use Rattle.std.proofs.Common.{rules, ◌≡◌, ◌<◌, length, get_or, map-id, refl, ap, arith}
+use Rattle.std.proofs.Common.{rules, ◌≡◌, ◌<◌, length, get_or, ap, arith}
 use Rattle.std.proofs.lemmas.List.{length_push, length-map}
 use Rattle.std.proofs.lemmas.Iterator.{YieldsList-from_slice}
 use Rattle.std.proofs.lemmas.Iterator.Consumers.{YieldsList-turn, YieldsList-end}
 use Rattle.pc_model.specs.TripleLists.{entry_of, entries_of}
 use Rattle.pc_part.specs.Layings.{laid_there}
-use Rattle.pc_model.specs.Merges.{item_of}
+use Rattle.pc_part.proofs.PassedItems.{entries_in, items_of_pairs, all_to_come}
 use Rattle.pc_part.proofs.LaidLists.{laid_items, counted_one, counted_none, all_counted}
 use Rattle.pc_model.proofs.MergeLaws.{merged_items, counts_on}
-use Rattle.pc_model.proofs.MergeItemLaws.{items_given, items_len}
+use Rattle.pc_model.proofs.MergeItemLaws.{items_len}
 use Rattle.pc_part.proofs.laying.laid_len.Goals as goal
 use Rattle.pc_part.proofs.laying.laid_len.Goals.{In-Some, Then-is_some, Else-is_some}
 
@@ -17,8 +17,8 @@ loop-item-init c =
     (omega (arith, all), omega arith)
 
 -- the item is the next one
-turn : (c : In-Some) → (length c.loop-item.yielded < length (laid_items c.args.pairs.now c.args.triples.now)) × (item_of (λ pair. pair) entry_of c.in-Some.item ≡ get_or (laid_items c.args.pairs.now c.args.triples.now) (length c.loop-item.yielded) (item_of (λ pair. pair) entry_of c.in-Some.item))
-turn c = YieldsList-turn (items_given (λ pair. pair) entry_of _ _ c.args.pairs.now (entries_of c.args.triples.now) (map-id c.args.pairs.now) refl c.into_iter-item-iterator.ensures.into_iter_gives c.merge_join_by-item-items.ensures.runs (λ x y r f k. search rules) (YieldsList-from_slice c.args.pairs.now cc) (YieldsList-from_slice c.args.triples.now cc))
+turn : (c : In-Some) → (length c.loop-item.yielded < length (laid_items c.args.pairs.now c.args.triples.now)) × (entries_in (λ pair. pair.now) entry_of c.in-Some.item ≡ get_or (laid_items c.args.pairs.now c.args.triples.now) (length c.loop-item.yielded) (entries_in (λ pair. pair.now) entry_of c.in-Some.item))
+turn c = YieldsList-turn (items_of_pairs _ _ c.into_iter-item-iterator.ensures.into_iter_gives c.merge_join_by-item-items.ensures.runs (λ x y r f k. search rules) (YieldsList-from_slice c.args.pairs.now cc) (all_to_come c.args.triples.now cc))
     c.loop-item.yielded _ c.loop-item.yielded_by _ _ c.in-Some.item c.in-Some.is c.next.ensures.steps
 
 pub overflow_add-len : goal.overflow_add-len
@@ -27,8 +27,7 @@ overflow_add-len c =
     let all = items_len c.args.pairs.now (entries_of c.args.triples.now) in
     let entries = length-map c.args.triples.now entry_of in
     let pairs_fit = c.iter.ensures.bound in
-    let triples_fit = c.iter-2.ensures.bound in
-    omega (arith, c.loop-item.invariant.1, t.0, all, entries, pairs_fit, triples_fit)
+    omega (arith, c.loop-item.invariant.1, t.0, all, entries, pairs_fit, c.requires)
 
 pub loop-item-preserved-then-is_some : goal.loop-item-preserved-then-is_some
 loop-item-preserved-then-is_some c =
@@ -48,6 +47,6 @@ loop-item-preserved c =
 
 pub returns : goal.returns
 returns c =
-    let end = YieldsList-end (items_given (λ pair. pair) entry_of _ _ c.args.pairs.now (entries_of c.args.triples.now) (map-id c.args.pairs.now) refl c.into_iter-item-iterator.ensures.into_iter_gives c.merge_join_by-item-items.ensures.runs (λ x y r f k. search rules) (YieldsList-from_slice c.args.pairs.now cc) (YieldsList-from_slice c.args.triples.now cc))
+    let end = YieldsList-end (items_of_pairs _ _ c.into_iter-item-iterator.ensures.into_iter_gives c.merge_join_by-item-items.ensures.runs (λ x y r f k. search rules) (YieldsList-from_slice c.args.pairs.now cc) (all_to_come c.args.triples.now cc))
     c.loop-item.yielded _ c.loop-item.yielded_by _ _ c.in-None.is c.next.ensures.steps in
     all_counted c.args.point c.args.pairs.now c.args.triples.now (length c.loop-item.yielded) end.1 c.loop-item.len c.loop-item.invariant.0

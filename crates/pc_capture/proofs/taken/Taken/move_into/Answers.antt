@@ -1,7 +1,0 @@
-use Rattle.std.proofs.Common.{subst}
-use Rattle.pc_model.specs.Database.{KeysRise}
-use Rattle.pc_capture.proofs.TakenLaws.{one_rises}
-use Rattle.pc_capture.proofs.taken.Taken.move_into.Goals as goal
-
-pub returns-clause-rise : goal.returns-clause-rise
-returns-clause-rise c = subst KeysRise c.self.view_is (one_rises c.self.inside.rising.items c.self.inside.others.entries c.self.invariant.rise c.self.invariant.others_rise)

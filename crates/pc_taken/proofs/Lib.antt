@@ -1,0 +1,3 @@
+mod HeadedLaws
+mod FirstLaws
+mod TakenLaws

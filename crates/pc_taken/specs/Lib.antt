@@ -1,0 +1,6 @@
+pub mod Firsts
+pub mod Heads
+pub mod Kept
+pub mod Passes
+pub mod Sides
+pub mod Takings

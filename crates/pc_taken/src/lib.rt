@@ -1,0 +1,18 @@
+//! What is taken of a point: its keys, each once, with what they had there. It grows by puts in any order, and is then the
+//! entries of the point's part where it stands. Entries of a part, however they are kept, are gone over in one pass.
+#![tactic(auto)]
+
+mod entries;
+mod headed;
+mod lent;
+mod lists;
+mod pass;
+mod sides;
+mod taken;
+mod taken_pass;
+
+pub use entries::Entries;
+pub use lent::LentTriple;
+pub use pass::Pass;
+pub use sides::{Side, clashes, go_on, push_newest, side_of};
+pub use taken::Taken;
