@@ -1,41 +1,36 @@
 -- Sessions and what they are seen as.
 use Rattle.std.proofs.Common.{◌≡◌, ℕ, zero, suc, ◌-◌, ◌<◌, ◌≤◌, List, [], ◌∷◌, length, get_or, set, Option, Some, None, is_some, is_none, refl, sym, ap, subst, ◌∙◌, true, false}
-use Rattle.std.specs.Prelude.{option_map}
 use Rattle.pc_types.specs.declared.Write.{Write}
 use Rattle.pc_types.specs.declared.Outcome.{Outcome}
 use Rattle.pc_types.specs.declared.Outcome.TheVariants.{Granted, Queued, Died}
 use Rattle.std.proofs.lemmas.List.{length-map, map-set, get_or_default}
 use Rattle.std.proofs.Math.ListN.{get_or-map}
-use Rattle.pc_engine.specs.declared.sessions.Transaction.{Transaction}
-use Rattle.pc_engine.specs.Sessions.{active_of, actives_of, with_session, after_writing, writes_in, after_dying, if_died, if_granted, AreFew}
+use Rattle.pc_engine.specs.Sessions.{LaneView, actives_of, with_session, after_writing, writes_in, after_dying, if_died, if_granted, AreFew}
 use Rattle.pc_engine.specs.Store.{Active, active_in}
 
--- one session is set
-pub set_one : (sessions : List (Option Transaction)) (i : ℕ) (t : Option Transaction) → actives_of (set sessions i t) ≡ set (actives_of sessions) i (option_map active_of t)
-set_one sessions i t = map-set (option_map active_of) sessions i t
+-- one lane is set
+pub set_one : (lanes : List LaneView) (i : ℕ) (lane : LaneView) → actives_of (set lanes i lane) ≡ set (actives_of lanes) i lane.own
+set_one lanes i lane = map-set (λ (it : LaneView). it.own) lanes i lane
 
 -- and the other way
-pub inside_of : (sessions : List (Option Transaction)) {i : ℕ} → i < length (actives_of sessions) → i < length sessions
-inside_of sessions {i} lt = subst (λ n. i < n) (length-map sessions (option_map active_of)) lt
+pub inside_of : (lanes : List LaneView) {i : ℕ} → i < length (actives_of lanes) → i < length lanes
+inside_of lanes {i} lt = subst (λ n. i < n) (length-map lanes (λ (it : LaneView). it.own)) lt
 
 -- a session that has one has a transaction
 pub is_there : (a : Option Active) → is_none a ≡ false → is_some a ≡ true
 is_there None e = absurd (let no : true ≡ false = e in cc)
 is_there (Some a) e = refl
 
--- the writes of a transaction that was taken out
-pub writes_taken : (a : Option Active) (t : Transaction) (ws : List Write) → option_map active_of (Some t) ≡ a → ws ≡ t.writes.items → ws ≡ writes_in a
-writes_taken a t ws given is = is ∙ ap writes_in given
+-- what the lane at the place has
+pub seen_at : (lanes : List LaneView) (s i : ℕ) (found : LaneView) → i ≡ s - 1 → i < length lanes → found ≡ get_or lanes i found → found.own ≡ active_in (actives_of lanes) s
+seen_at lanes s i found at lt is = rw (← at) (ap (λ (it : LaneView). it.own) (is ∙ sym (get_or_default lanes i idle found lt)) ∙ sym (get_or-map (λ (it : LaneView). it.own) lanes i idle))
+  where
+    idle : LaneView
+    idle = record { own = None; room = 0 }
 
--- the same active transaction, by the view
-pub seen_at : (sessions : List (Option Transaction)) (i : ℕ) → get_or (actives_of sessions) i None ≡ option_map active_of (get_or sessions i None)
-seen_at sessions i = get_or-map (option_map active_of) sessions i None
-
--- the session at its place has died
-pub died_at : (sessions : List (Option Transaction)) (s i : ℕ) (found : Option Transaction) (t : Transaction) → i ≡ s - 1 → i < length sessions → found ≡ get_or sessions i found → found ≡ Some t →
-    actives_of (set sessions i (Some (record t { has_died = true }))) ≡ with_session (actives_of sessions) s (after_dying (active_in (actives_of sessions) s))
-died_at sessions s i found t at lt is some =
-    rw (← at) (set_one sessions i (Some (record t { has_died = true })) ∙ ap (λ a. set (actives_of sessions) i (after_dying a)) (sym (seen_at sessions i ∙ ap (option_map active_of) (get_or_default sessions i None found lt ∙ sym is ∙ some))))
+-- the session's lane is set to one with this transaction, or none
+pub set_lane : (lanes : List LaneView) (s i : ℕ) (lane : LaneView) (a : Option Active) → i ≡ s - 1 → lane.own ≡ a → actives_of (set lanes i lane) ≡ with_session (actives_of lanes) s a
+set_lane lanes s i lane a at is = rw (← at) (set_one lanes i lane ∙ ap (set (actives_of lanes) i) is)
 
 set_back : {X : Type 0} (xs : List X) (i : ℕ) (d : X) → set xs i (get_or xs i d) ≡ xs
 set_back [] i d = refl
@@ -53,26 +48,25 @@ at_set P (y ∷ xs) (suc i) (suc j) x d p q = at_set P xs i j x d p q
 pub few_set : (sessions : List (Option Active)) (i : ℕ) (t : Option Active) → AreFew sessions → length (writes_in t) ≤ 256 → AreFew (set sessions i t)
 few_set sessions i t few le j = at_set (λ a. length (writes_in a) ≤ 256) sessions i j t None le (few j)
 
--- the session's transaction has written, or died, or waits, by the outcome
-module _ (sessions : List (Option Transaction)) (s i : ℕ) (found : Option Transaction) (t new : Transaction) (write : Write) (at : i ≡ s - 1) (lt : i < length sessions) (is : found ≡ get_or sessions i found) (some : found ≡ Some t) where
+-- what becomes of the lane at the session's place
+module _ (lanes : List LaneView) (s i : ℕ) (found : LaneView) (at : i ≡ s - 1) (lt : i < length lanes) (is : found ≡ get_or lanes i found) where
   abbrev before : List (Option Active)
-  before = actives_of sessions
+  before = actives_of lanes
 
-  pub seen_before : get_or before i None ≡ Some (active_of t)
-  seen_before = seen_at sessions i ∙ ap (option_map active_of) (get_or_default sessions i None found lt ∙ sym is ∙ some)
+  own_before : found.own ≡ get_or before i None
+  own_before = rw at (seen_at lanes s i found at lt is)
 
-  -- where the transaction is seen as before
-  pub unchanged : active_of new ≡ active_of t → actives_of (set sessions i (Some new)) ≡ before
-  unchanged same = set_one sessions i (Some new) ∙ ap (λ a. set before i (Some a)) same ∙ ap (set before i) (sym seen_before) ∙ set_back before i None
+  -- its transaction, by which it is seen
+  pub opened_before : (prepared : LaneView) (a : Active) → prepared.own ≡ found.own → Some a ≡ prepared.own → get_or before i None ≡ Some a
+  opened_before prepared a same e = sym (e ∙ same ∙ own_before)
 
-  -- and where its request was answered so
-  answered_by : (o : Outcome) → Some (active_of new) ≡ if_granted o (after_writing (Some (active_of t)) write) (if_died o (after_dying (Some (active_of t))) (Some (active_of t))) →
-      actives_of (set sessions i (Some new)) ≡ if_died o (set before i (after_dying (get_or before i None))) (if_granted o (set before i (after_writing (get_or before i None) write)) before)
-  answered_by Granted e = set_one sessions i (Some new) ∙ ap (set before i) (e ∙ ap (λ a. after_writing a write) (sym seen_before))
-  answered_by Queued e = set_one sessions i (Some new) ∙ ap (set before i) (e ∙ sym seen_before) ∙ set_back before i None
-  answered_by Died e = set_one sessions i (Some new) ∙ ap (set before i) (e ∙ ap after_dying (sym seen_before))
+  -- where the lane is seen as before
+  pub unchanged : (new : LaneView) → new.own ≡ found.own → actives_of (set lanes i new) ≡ before
+  unchanged new same = set_one lanes i new ∙ ap (set before i) (same ∙ own_before) ∙ set_back before i None
 
-  -- answered so once it was prepared, as which it is seen the same
-  pub answered_after : (prepared : Transaction) (o : Outcome) → active_of prepared ≡ active_of t → Some (active_of new) ≡ if_granted o (after_writing (Some (active_of prepared)) write) (if_died o (after_dying (Some (active_of prepared))) (Some (active_of prepared))) →
-      actives_of (set sessions i (Some new)) ≡ if_died o (set before i (after_dying (get_or before i None))) (if_granted o (set before i (after_writing (get_or before i None) write)) before)
-  answered_after prepared o same e = answered_by o (subst (λ a. Some (active_of new) ≡ if_granted o (after_writing (Some a) write) (if_died o (after_dying (Some a)) (Some a))) same e)
+  -- and where its transaction has written, or died, or waits, by the outcome
+  pub answered_by : (prepared new : LaneView) (write : Write) (o : Outcome) → prepared.own ≡ found.own → new.own ≡ if_granted o (after_writing prepared.own write) (if_died o (after_dying prepared.own) prepared.own) →
+      actives_of (set lanes i new) ≡ if_died o (set before i (after_dying (get_or before i None))) (if_granted o (set before i (after_writing (get_or before i None) write)) before)
+  answered_by prepared new write Granted same e = set_one lanes i new ∙ ap (set before i) (e ∙ ap (λ a. after_writing a write) (same ∙ own_before))
+  answered_by prepared new write Queued same e = set_one lanes i new ∙ ap (set before i) (e ∙ same ∙ own_before) ∙ set_back before i None
+  answered_by prepared new write Died same e = set_one lanes i new ∙ ap (set before i) (e ∙ ap after_dying (same ∙ own_before))

@@ -2,6 +2,7 @@
 use Rattle.std.proofs.Common.{◌≡◌, ℕ, zero, suc, ◌+◌, ◌-◌, ◌<◌, ◌≤◌, List, [], ◌∷◌, ◌++◌, length, map, set, replicate, Option, Some, None, is_some, is_none, refl, sym, ap, subst, ◌∙◌, arith, true, false, inl, inr}
 use Rattle.std.specs.Prelude.{◌⊎◌, Ok}
 use Rattle.std.proofs.lemmas.List.{length-replicate, length-set}
+use Rattle.pc_types.specs.declared.Class.{Class}
 use Rattle.pc_types.specs.declared.Class.TheVariants.{Before, During, After}
 use Rattle.pc_types.specs.declared.Mode.TheVariants.{Shared, Exclusive}
 use Rattle.pc_types.specs.declared.Outcome.{Outcome}
@@ -15,7 +16,7 @@ use Rattle.pc_model.specs.History.{class_in}
 use Rattle.pc_phase.specs.declared.change.Change.{Change}
 use Rattle.pc_phase.specs.declared.change.Change.TheVariants as change
 use Rattle.pc_phase.specs.Phases.{Phases, entered, left, advanced, held_back, to_of, point_after}
-use Rattle.pc_records.specs.Rows.{Kept}
+use Rattle.pc_records.specs.Rows.{Row, Kept}
 use Rattle.pc_records.specs.RowSteps.{committed_row, rows_after, released_rows, written_row, closed_row, left_rows}
 use Rattle.pc_records.specs.NewKeys.{new_keys, is_one_too_many}
 use Rattle.pc_records.proofs.NewKeyLaws.{few_enough}
@@ -24,7 +25,7 @@ use Rattle.pc_records.specs.Tables.{RecordsView, pending_at, pending_without, pe
 use Rattle.pc_engine.specs.Sessions.{number_in, class_at, writes_in, after_writing, after_dying, if_died, if_granted, with_session, AreFew}
 use Rattle.pc_engine.specs.Store.{Active, active_in}
 use Rattle.pc_engine.specs.Counts.{AreCounted}
-use Rattle.pc_engine.specs.Ongoing.{Ongoing, after_answer, with_rows}
+use Rattle.pc_engine.specs.Ongoing.{Ongoing, after_answer, after_ending, with_rows}
 use Rattle.pc_engine.specs.InPlace.{at_place, HoldTogether, StandTogether}
 use Rattle.pc_engine.proofs.SessionLemmas.{few_set}
 use Rattle.pc_engine.proofs.Counted.{entered_phase, entered_point, entered_counted, left_phase, left_point, left_counted, read_counted, request_counted, first_counted, advanced_counted}
@@ -46,6 +47,17 @@ answered_view t after phases begun ss then s j a write o at own gone rows opened
   where
     seen_kept : Kept → RecordsView → Phases → ℕ → List (Option Active) → Ongoing
     seen_kept kept t phases begun ss = record { sessions = ss; kept = kept; open_set = t.opened; closed_set = t.shut; phases = phases; begun = begun }
+
+-- what the sessions are seen as once the transaction of one is over: with these rows, of which its requests were released, and these
+-- keys in the open set
+pub ended_view : (t middle after : RecordsView) (phases now : Phases) (begun : ℕ) (ss then : List (Option Active)) (s n : ℕ) (class : Class) (rows : List Row) (keys : List (List ℕ)) → then ≡ with_session ss s None → n ≡ number_in (active_in ss s) → class ≡ class_at (active_in ss s) →
+    kept_of middle ≡ with_rows rows (kept_of t) → middle.opened ≡ keys → middle.shut ≡ t.shut → after ≡ record middle { rows = released_rows n middle.rows } → now ≡ left phases class →
+    seen_with after now begun then ≡ record (after_ending (seen_with t phases begun ss) s rows) { open_set = keys }
+ended_view t middle after phases now begun ss then s n class rows keys gone number of kept opened shut released is =
+    rw (gone, released, is, number, of, opened, shut) (ap (λ (k : Kept). seen_kept k) kept)
+  where
+    seen_kept : Kept → Ongoing
+    seen_kept k = record { sessions = with_session ss s None; kept = with_rows (released_rows (number_in (active_in ss s)) k.rows) k; open_set = keys; closed_set = t.shut; phases = left phases (class_at (active_in ss s)); begun = begun }
 
 few_idle : (n : ℕ) → AreFew (replicate n None)
 few_idle zero i = omega arith

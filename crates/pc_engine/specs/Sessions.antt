@@ -1,5 +1,5 @@
 -- What happens to the sessions' open transactions.
-use Rattle.std.specs.Prelude.{ℕ, ◌-◌, ◌≤◌, Bool, true, false, List, [], map, filter, length, Option, Some, None, option_map, slice_index_or, slice_set}
+use Rattle.std.specs.Prelude.{ℕ, ◌-◌, ◌≤◌, Bool, true, false, List, [], map, filter, length, Option, Some, None, slice_index_or, slice_set}
 use Rattle.pc_types.specs.declared.Write.{Write}
 use Rattle.pc_model.specs.Database.{with_write}
 use Rattle.pc_types.specs.declared.Outcome.{Outcome}
@@ -8,16 +8,21 @@ use Rattle.pc_types.specs.declared.Class.{Class}
 use Rattle.pc_types.specs.declared.Class.TheVariants.{After}
 use Rattle.pc_types.specs.Phases.{same_class}
 use Rattle.pc_types.specs.declared.limits.TheConstants.{MOST_WRITES}
-use Rattle.pc_engine.specs.declared.sessions.Transaction.{Transaction}
+use Rattle.pc_engine.specs.declared.lanes.Transaction.{Transaction}
 use Rattle.pc_engine.specs.Store.{Active}
 
--- what a transaction is seen as
-abbrev pub active_of : Transaction → Active
-active_of t = record { number = t.number; class = t.class; has_died = t.has_died; writes = t.writes.items }
+-- what a session's lane is seen as: its open transaction, if there is one, and how many more writes there is room for
+pub record LaneView : Type 0 where
+  pub own : Option Active
+  pub room : ℕ
 
--- what the sessions are seen as
-abbrev pub actives_of : List (Option Transaction) → List (Option Active)
-actives_of sessions = map (option_map active_of) sessions
+-- the transaction with these writes
+abbrev pub with_writes : List Write → Transaction → Active
+with_writes writes t = record { number = t.number; class = t.class; has_died = t.has_died; writes = writes }
+
+-- the open transactions of the lanes
+abbrev pub actives_of : List LaneView → List (Option Active)
+actives_of lanes = map (λ lane. lane.own) lanes
 
 -- the sessions, where this one has this transaction, or none
 abbrev pub with_session : List (Option Active) → ℕ → Option Active → List (Option Active)

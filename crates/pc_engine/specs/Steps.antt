@@ -23,7 +23,7 @@ use Rattle.pc_types.specs.declared.Class.{Class}
 use Rattle.pc_types.specs.declared.Class.TheVariants.{Before, During, After}
 use Rattle.pc_phase.specs.declared.change.Change.{Change}
 use Rattle.pc_phase.specs.declared.change.Change.TheVariants as change
-use Rattle.pc_records.specs.Rows.{Kept, record_of, stored, at_point, requests_on}
+use Rattle.pc_records.specs.Rows.{record_of, stored, at_point, requests_on}
 use Rattle.pc_records.specs.RowSteps.{is_full_for, is_waiting, rows_after, released_rows, written_row, closed_row, left_rows}
 use Rattle.pc_records.specs.NewKeys.{new_keys, is_one_too_many}
 use Rattle.pc_engine.specs.Store.{Active, Store, setting_of, active}

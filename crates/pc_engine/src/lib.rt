@@ -2,6 +2,7 @@
 #![tactic(auto)]
 
 mod checks;
+mod lanes;
 mod laws;
 mod points;
 mod refusing;

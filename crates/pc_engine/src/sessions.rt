@@ -1,16 +1,13 @@
 //! The sessions, with the transactions that they have open: over the records in which these write in place, and in the phases that
 //! count them.
-ghost use Rattle.std.specs.Prelude.{◌≡◌, ◌<◌, ◌≤◌, ◌⊎◌, ◌-◌, ◌+◌, length, [], ◌∷◌, option_map, option_copied, None, Some, List, ℕ, IfOk, IfErr, OnErr, OnOk, is_none, is_some, replicate, true, false};
-ghost use Rattle.smallvec.specs.SmallVec.{HasRoomFor};
+ghost use Rattle.std.specs.Prelude.{◌≡◌, ◌<◌, ◌≤◌, ◌⊎◌, ◌-◌, ◌+◌, length, [], ◌∷◌, option_map, None, Some, List, ℕ, IfOk, IfErr, OnErr, is_none, is_some, replicate, true, false};
 ghost use Rattle.pc_types.specs.declared.limits.TheConstants.{MOST_KEYS, MOST_SESSIONS, MOST_TRANSACTIONS, MOST_WRITES};
 ghost use Rattle.pc_types.specs.declared.Mode.TheVariants.{Shared, Exclusive};
 ghost use Rattle.pc_types.specs.declared.Phase.TheVariants.{Capture, Rest};
 ghost use Rattle.pc_types.specs.Phases.{same_phase};
-ghost use Rattle.pc_types.specs.declared.Entry.TheVariants.{Commit};
 ghost use Rattle.pc_model.specs.DistinctWrites.{AreDistinct};
 ghost use Rattle.pc_model.specs.Maps.{get};
-ghost use Rattle.pc_log.specs.Texts.{entry_text};
-ghost use Rattle.pc_model.specs.Database.{KeysRise, database_of, with_write, written};
+ghost use Rattle.pc_model.specs.Database.{KeysRise, database_of, written};
 ghost use Rattle.pc_model.specs.Replies.{by_outcome, read_reply, value_read};
 ghost use Rattle.pc_phase.specs.Phases.{held_back};
 ghost use Rattle.pc_records.specs.Rows.{record_of, stored};
@@ -18,39 +15,23 @@ ghost use Rattle.pc_records.specs.RowSteps.{is_full_for, why_refused, is_waiting
 ghost use Rattle.pc_records.specs.NewKeys.{is_one_too_many};
 ghost use Rattle.pc_records.specs.Tables.{content_behind, first_pinned, kept_of};
 ghost use Rattle.pc_engine.specs.Counts.{AreCounted};
-ghost use Rattle.pc_engine.specs.Sessions.{active_of, actives_of, number_in, writes_in, after_writing, after_dying, if_died, if_granted, with_session};
+ghost use Rattle.pc_engine.specs.Sessions.{actives_of, with_writes, number_in, writes_in, after_writing, after_dying, if_granted, with_session};
 ghost use Rattle.pc_engine.specs.Ongoing.{own, at_start, answer_to, after_answer, after_beginning, after_committing, after_aborting, after_taking, changed};
 ghost use Rattle.pc_engine.specs.Store.{active_in};
 
-use pc_log::commit_size;
+use crate::lanes::{Lane, Transaction};
 use pc_phase::{Change, Held, Phases};
 use pc_records::{Reading, Records, Requested};
-use pc_txn::WriteSet;
-use pc_types::{
-    Class, Items, Key, Outcome, Phase, Point, Refusal, Reply, SessionNo, SlotId, TxnNo, Value,
-    Write, copy_content,
-};
-use smallvec::SmallVec;
+use pc_types::{Key, Outcome, Phase, Point, Refusal, Reply, SessionNo, TxnNo, Value, Write};
 use std::alloc::{AllocError, Global};
 use std::hash::RandomState;
 use std::marker::Model;
-
-/// An open transaction.
-#[derive(Drop)]
-pub(crate) struct Transaction {
-    pub(crate) number: TxnNo,
-    pub(crate) class: Class,
-    pub(crate) has_died: bool,
-    pub(crate) writes: WriteSet,
-    /// The numbers of the slots in which the keys of the writes were found, in the order of the writes.
-    slots: SmallVec<u32, 4>,
-}
 
 /// The sessions of a store, numbered from 1, each with its open transaction, if there is one; the records, in which these have
 /// their writes in place; and the phases, which count them by class.
 #[derive(Drop)]
 pub(crate) struct Sessions {
-    transactions: Vec<Option<Transaction>>,
+    lanes: Vec<Lane>,
     records: Records,
     phases: Phases,
     begun: u64,
@@ -64,9 +45,9 @@ impl Model for Sessions {
 
     ghost Value = { Ongoing };
 
-    ghost view = { λ s. record { sessions = actives_of s.transactions.items; kept = kept_of s.records; open_set = s.records.opened; closed_set = s.records.shut; phases = s.phases; begun = s.begun } };
+    ghost view = { λ s. record { sessions = actives_of s.lanes.items; kept = kept_of s.records; open_set = s.records.opened; closed_set = s.records.shut; phases = s.phases; begun = s.begun } };
 
-    ghost invariant = { λ s. StandTogether s.records (actives_of s.transactions.items) s.phases s.begun };
+    ghost invariant = { λ s. StandTogether s.records (actives_of s.lanes.items) s.phases s.begun };
 }
 
 impl Sessions {
@@ -85,9 +66,9 @@ impl Sessions {
         ensures { IfOk result (λ s. s ≡ at_start count capacity pairs.now) }
     {
         let records = Records::of_pairs(alloc, capacity, pairs, seed)?;
-        let transactions = idle(alloc, count)?;
+        let lanes = idle(alloc, count)?;
         Ok(Sessions {
-            transactions,
+            lanes,
             records,
             phases: Phases::new(),
             begun: 0,
@@ -98,7 +79,7 @@ impl Sessions {
     pub(crate) fn len(&self) -> usize
         ensures { result ≡ length self.now.sessions }
     {
-        self.transactions.len()
+        self.lanes.len()
     }
 
     /// The phase of the checkpoint's cycle.
@@ -125,10 +106,23 @@ impl Sessions {
     }
 
     /// The session's open transaction.
-    pub(crate) fn active(&self, session: SessionNo) -> Option<&Transaction>
-        ensures { option_map active_of (option_copied result) ≡ own self.now session }
+    pub(crate) fn active(&self, session: SessionNo) -> Option<Transaction>
+        ensures { option_map (with_writes (writes_in (own self.now session))) result ≡ own self.now session }
     {
-        active(self.transactions.as_slice(), session)
+        active(self.lanes.as_slice(), session)
+    }
+
+    /// What the session's open transaction has written: the final write of each key, in the order of first writes.
+    pub(crate) fn writes(&self, session: SessionNo) -> &[Write]
+        ensures writes { result.now ≡ writes_in (own self.now session) }
+        ensures few { length result.now ≤ MOST_WRITES }
+        ensures distinct { AreDistinct result.now }
+        ensures sessions { length self.now.sessions ≤ MOST_SESSIONS }
+    {
+        match self.lanes.get(place(session)) {
+            Some(lane) => lane.writes().as_slice(),
+            None => &[],
+        }
     }
 
     /// Whether a request of the transaction waits.
@@ -142,8 +136,8 @@ impl Sessions {
     pub(crate) fn has_written(&self, session: SessionNo, key: &Key) -> bool
         ensures { result ≡ is_some (written (writes_in (own self.now session)) key.now) }
     {
-        match self.active(session) {
-            Some(transaction) => transaction.writes.has(key),
+        match self.lanes.get(place(session)) {
+            Some(lane) => lane.writes().has(key),
             None => false,
         }
     }
@@ -152,8 +146,8 @@ impl Sessions {
     pub(crate) fn is_one_too_many(&self, session: SessionNo, key: &Key) -> bool
         ensures { result ≡ is_one_too_many (writes_in (own self.now session)) key.now }
     {
-        match self.active(session) {
-            Some(transaction) => transaction.writes.is_full_for(key),
+        match self.lanes.get(place(session)) {
+            Some(lane) => lane.writes().is_full_for(key),
             None => false,
         }
     }
@@ -166,7 +160,7 @@ impl Sessions {
     }
 
     /// A transaction begins in the session, which has none open. Its number.
-    pub(crate) fn begin(&mut self, alloc: Global, session: SessionNo) -> TxnNo
+    pub(crate) fn begin(&mut self, session: SessionNo) -> TxnNo
         requires place { session - 1 < length self.old.sessions }
         requires idle { is_none (own self.old session) ≡ true }
         requires more { self.old.begun < MOST_TRANSACTIONS }
@@ -176,14 +170,7 @@ impl Sessions {
         self.begun += 1;
         let number = TxnNo(self.begun);
         let class = self.phases.enter();
-        let transaction = Transaction {
-            number,
-            class,
-            has_died: false,
-            writes: WriteSet::new(alloc),
-            slots: SmallVec::new(alloc),
-        };
-        set(&mut self.transactions, session, Some(transaction));
+        self.lanes[place(session)].begin(number, class);
         number
     }
 
@@ -205,13 +192,13 @@ impl Sessions {
         ensures refusal { IfErr result (λ why. why ≡ why_refused self.old.kept key.now) }
         ensures same { OnErr result (self.new ≡ self.old) }
     {
-        let number = number(self.transactions.as_slice(), session);
+        let number = number(self.lanes.as_slice(), session);
         let Reading { outcome, found } = self.records.read(alloc, number, key)?;
         match outcome {
             Outcome::Granted => Ok(answer(found)),
             Outcome::Queued => Ok(Reply::Wait),
             Outcome::Died => {
-                note_death(&mut self.transactions, session);
+                note_death(&mut self.lanes, session);
                 Ok(Reply::Died)
             }
         }
@@ -235,52 +222,31 @@ impl Sessions {
         ensures refusal { IfErr result (λ why. why ≡ why_refused self.old.kept write.key) }
         ensures same { OnErr result (self.new ≡ self.old) }
     {
-        let Some(transaction) = &mut self.transactions[place(session)] else {
-            unreachable!();
-        };
-        let Ok(value) = transaction.prepared(alloc, &write.value) else {
+        let lane = &mut self.lanes[place(session)];
+        let Ok(value) = lane.prepared(alloc, &write.value) else {
             return Err(why_refused(&self.records, &write.key));
         };
-        let (number, class) = (transaction.number, transaction.class);
+        let Transaction { number, class, .. } = lane.opened();
         let Requested { outcome, slot } = self
             .records
             .write(alloc, number, class, &write.key, value)?;
-        transaction.answered(outcome, write, slot);
+        lane.answered(outcome, write, slot);
         Ok(outcome)
     }
 
-    /// How many bytes the entry of a commit of the session's open transaction takes in the log.
-    pub(crate) fn commit_size(&self, session: SessionNo) -> u32
-        ensures { (s : ℕ) → result ≡ length (entry_text (Commit s (writes_in (own self.now session)))) }
-    {
-        match active(self.transactions.as_slice(), session) {
-            Some(transaction) => commit_size(transaction.writes.as_slice()),
-            None => commit_size(&[]),
-        }
-    }
-
-    /// The session's transaction is committed, and over: its writes, which it gives, are committed where they stand, and its
-    /// locks are released.
-    pub(crate) fn commit(&mut self, session: SessionNo) -> Items<Write>
+    /// The session's transaction is committed, and over: its writes are committed where they stand, and its locks are
+    /// released.
+    pub(crate) fn commit(&mut self, session: SessionNo)
         requires place { session - 1 < length self.old.sessions }
         requires opened { is_none (own self.old session) ≡ false }
-        ensures writes { result ≡ writes_in (own self.old session) }
-        ensures few { length result ≤ MOST_WRITES }
-        ensures distinct { AreDistinct result }
-        ensures session { session ≤ MOST_SESSIONS }
-        ensures commits { self.new ≡ after_committing self.old session }
+        ensures { self.new ≡ after_committing self.old session }
     {
-        let Transaction {
-            number,
-            class,
-            writes,
-            slots,
-            ..
-        } = end(&mut self.transactions, session);
-        self.records.commit(writes.as_slice(), slots.as_slice());
+        let lane = &mut self.lanes[place(session)];
+        let Transaction { number, class, .. } = lane.opened();
+        self.records.commit(lane.writes().as_slice(), lane.slots());
+        lane.end();
         self.records.release(number);
         self.phases.leave(class);
-        writes.into_writes()
     }
 
     /// The session's transaction is undone, and over: what was committed stands where it has written, and its locks are
@@ -290,14 +256,10 @@ impl Sessions {
         requires opened { is_none (own self.old session) ≡ false }
         ensures { self.new ≡ after_aborting self.old session }
     {
-        let Transaction {
-            number,
-            class,
-            writes,
-            slots,
-            ..
-        } = end(&mut self.transactions, session);
-        self.records.undo(writes.as_slice(), slots.as_slice());
+        let lane = &mut self.lanes[place(session)];
+        let Transaction { number, class, .. } = lane.opened();
+        self.records.undo(lane.writes().as_slice(), lane.slots());
+        lane.end();
         self.records.release(number);
         self.phases.leave(class);
     }
@@ -350,59 +312,15 @@ impl Sessions {
     }
 }
 
-impl Transaction {
-    // A copy of the content, with room for one more write and its slot.
-    fn prepared(
-        &mut self,
-        alloc: Global,
-        content: &Option<Value>,
-    ) -> Result<Option<Value>, AllocError>
-        ensures copy { IfOk result (λ copy. copy ≡ content.now) }
-        ensures room { OnOk result (0 < self.new.writes.room) }
-        ensures place { OnOk result (HasRoomFor self.new.slots 1) }
-        ensures same { active_of self.new ≡ active_of self.old }
-    {
-        self.writes.reserve()?;
-        self.slots.reserve(1)?;
-        copy_content(alloc, content)
-    }
-
-    // Its request of the write was answered so. There is room for the write and, where it is the first one of its key, for its slot.
-    fn answered(&mut self, outcome: Outcome, write: Write, slot: SlotId)
-        requires room { 0 < self.old.writes.room }
-        requires place { HasRoomFor self.old.slots 1 }
-        ensures { Some (active_of self.new) ≡ if_granted outcome (after_writing (Some (active_of self.old)) write) (if_died outcome (after_dying (Some (active_of self.old))) (Some (active_of self.old))) }
-    {
-        match outcome {
-            Outcome::Granted => self.note(write, slot),
-            Outcome::Queued => {}
-            Outcome::Died => self.has_died = true,
-        }
-    }
-
-    // Notes the write, and the slot of a key that it is the first write of.
-    fn note(&mut self, write: Write, slot: SlotId)
-        requires room { 0 < self.old.writes.room }
-        requires place { HasRoomFor self.old.slots 1 }
-        ensures { Some (active_of self.new) ≡ after_writing (Some (active_of self.old)) write }
-    {
-        let known = self.writes.len();
-        self.writes.note(write);
-        if known != self.writes.len() {
-            self.slots.push_reserved(slot.0);
-        }
-    }
-}
-
 // So many sessions without a transaction.
-fn idle(alloc: Global, count: u8) -> Result<Vec<Option<Transaction>>, AllocError>
-    ensures { IfOk result (λ sessions. actives_of sessions.items ≡ replicate count None) }
+fn idle(alloc: Global, count: u8) -> Result<Vec<Lane>, AllocError>
+    ensures { IfOk result (λ lanes. actives_of lanes.items ≡ replicate count None) }
 {
-    let mut sessions = Vec::with_capacity(alloc, count as usize)?;
+    let mut lanes = Vec::with_capacity(alloc, count as usize)?;
     for _ in 0..count {
-        sessions.push(None)?;
+        lanes.push(Lane::new(alloc))?;
     }
-    Ok(sessions)
+    Ok(lanes)
 }
 
 // Where the session stands; sessions are numbered from 1.
@@ -413,58 +331,31 @@ fn place(session: SessionNo) -> usize
 }
 
 // The session's open transaction.
-fn active(sessions: &[Option<Transaction>], session: SessionNo) -> Option<&Transaction>
-    ensures { option_map active_of (option_copied result) ≡ active_in (actives_of sessions.now) session }
+fn active(lanes: &[Lane], session: SessionNo) -> Option<Transaction>
+    ensures { option_map (with_writes (writes_in (active_in (actives_of lanes.now) session))) result ≡ active_in (actives_of lanes.now) session }
 {
-    match sessions.get(place(session)) {
-        Some(found) => found.as_ref(),
+    match lanes.get(place(session)) {
+        Some(lane) => lane.transaction(),
         None => None,
     }
 }
 
 // The number of the session's open transaction, and 0 where it has none.
-fn number(sessions: &[Option<Transaction>], session: SessionNo) -> TxnNo
-    ensures { result ≡ number_in (active_in (actives_of sessions.now) session) }
+fn number(lanes: &[Lane], session: SessionNo) -> TxnNo
+    ensures { result ≡ number_in (active_in (actives_of lanes.now) session) }
 {
-    match active(sessions, session) {
+    match active(lanes, session) {
         Some(transaction) => transaction.number,
         None => TxnNo(0),
     }
 }
 
-// The session has this transaction now, or none.
-fn set(
-    sessions: &mut Vec<Option<Transaction>>,
-    session: SessionNo,
-    transaction: Option<Transaction>,
-)
-    requires { session - 1 < length sessions.old.items }
-    ensures { actives_of sessions.new.items ≡ with_session (actives_of sessions.old.items) session (option_map active_of transaction) }
-{
-    sessions[place(session)] = transaction;
-}
-
 // A request of the session's transaction has died.
-fn note_death(sessions: &mut Vec<Option<Transaction>>, session: SessionNo)
-    requires { session - 1 < length sessions.old.items }
-    ensures { actives_of sessions.new.items ≡ with_session (actives_of sessions.old.items) session (after_dying (active_in (actives_of sessions.old.items) session)) }
+fn note_death(lanes: &mut Vec<Lane>, session: SessionNo)
+    requires { session - 1 < length lanes.old.items }
+    ensures { actives_of lanes.new.items ≡ with_session (actives_of lanes.old.items) session (after_dying (active_in (actives_of lanes.old.items) session)) }
 {
-    if let Some(transaction) = &mut sessions[place(session)] {
-        transaction.has_died = true;
-    }
-}
-
-// The session's open transaction, which is taken out.
-fn end(sessions: &mut Vec<Option<Transaction>>, session: SessionNo) -> Transaction
-    requires place { session - 1 < length sessions.old.items }
-    requires opened { is_none (active_in (actives_of sessions.old.items) session) ≡ false }
-    ensures given { Some (active_of result) ≡ active_in (actives_of sessions.old.items) session }
-    ensures rest { actives_of sessions.new.items ≡ with_session (actives_of sessions.old.items) session None }
-{
-    match sessions[place(session)].take() {
-        Some(transaction) => transaction,
-        None => unreachable!(),
-    }
+    lanes[place(session)].note_death();
 }
 
 // Why a request of the key is refused where memory ran out: that the key has no record, and can't get one, comes first.

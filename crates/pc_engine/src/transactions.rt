@@ -4,6 +4,7 @@ ghost use Rattle.pc_engine.specs.Steps.{OpenCause, WriteCause, Begins, Gets, Wri
 
 use crate::world::World;
 use crate::writes::write_of;
+use pc_log::commit_size;
 use pc_types::{Key, MOST_TRANSACTIONS, Outcome, Refusal, Reply, SessionNo, Value};
 
 impl World {
@@ -19,7 +20,7 @@ impl World {
         if self.sessions.begun() == MOST_TRANSACTIONS {
             return Reply::Refused(Refusal::LogFull);
         }
-        Reply::Begun(self.sessions.begin(self.alloc, session))
+        Reply::Begun(self.sessions.begin(session))
     }
 
     // Why an event of the session's open transaction is refused, whatever else it asks, if it is.
@@ -105,12 +106,13 @@ impl World {
         if self.log.is_full() {
             return Reply::Refused(Refusal::LogFull);
         }
-        let size = self.sessions.commit_size(session);
-        if self.log.reserve(size).is_err() {
+        let writes = self.sessions.writes(session);
+        if self.log.reserve(commit_size(writes)).is_err() {
             return Reply::Refused(Refusal::OutOfMemory);
         }
-        let writes = self.sessions.commit(session);
-        Reply::Committed(self.log.append_commit(session, writes.as_slice()))
+        let number = self.log.append_commit(session, writes);
+        self.sessions.commit(session);
+        Reply::Committed(number)
     }
 
     pub(crate) fn abort(&mut self, session: SessionNo) -> Reply

@@ -130,3 +130,11 @@ module _ (keys : List (List ℕ)) (order : List ℕ) (key : List ℕ) (at : ℕ)
 pub found_place : (keys : List (List ℕ)) (order : List ℕ) (key : List ℕ) (at : ℕ) → IsOrder keys order → IsAt (entries keys order) key at → place_of keys key ≡ Some (get_or order at 0)
 found_place keys order key at sorted is =
     sym (sorted.finds key) ∙ is.finds ([], 0) ∙ ap (λ (e : List ℕ × ℕ). Some e.1) (get_or-map (λ p. (key_at keys p, p)) order at 0 ([], 0) (rw length-map at is.in_range))
+
+-- what is inserted at the end stands behind all
+pub insert_last : (xs : List ℕ) (n y : ℕ) → n ≡ length xs → insert xs n y ≡ xs ++ y ∷ []
+insert_last xs n y is = rw is (at_end xs)
+  where
+    at_end : (xs : List ℕ) → insert xs (length xs) y ≡ xs ++ y ∷ []
+    at_end [] = refl
+    at_end (x ∷ xs) = ap (λ ys. x ∷ ys) (at_end xs)

@@ -1,19 +1,16 @@
-//! The places of items in the rising order of their keys. Up to 8 lie inline.
-ghost use Rattle.std.specs.Prelude.{◌≡◌, ◌≤◌, length, insert};
-ghost use Rattle.smallvec.specs.SmallVec.{HasRoomFor};
-
-use smallvec::SmallVec;
-
-/// Places, of which up to 8 take no memory.
-pub(crate) type Places = SmallVec<usize, 8>;
+//! The places of items in the rising order of their keys.
+ghost use Rattle.std.specs.Prelude.{◌≡◌, ◌≤◌, ◌+◌, length, insert, vec_len, vec_capacity};
 
 // Adds a place, for which there is room.
-pub(crate) fn add(order: &mut Places, at: usize, place: usize)
+#[tactic(auto, using(crate::proofs::Orders::insert_last))]
+pub(crate) fn add(order: &mut Vec<usize>, at: usize, place: usize)
     requires at { at ≤ length order.old.items }
-    requires room { HasRoomFor order.old 1 }
+    requires room { vec_len order.old + 1 ≤ vec_capacity order.old }
     ensures { order.new.items ≡ insert order.old.items at place }
 {
-    if order.insert(at, place).is_err() {
+    if at == order.len() {
+        order.push_reserved(place);
+    } else if order.insert(at, place).is_err() {
         unreachable!();
     }
 }

@@ -7,9 +7,8 @@ ghost use Rattle.pc_txn.specs.Notes.{noting};
 ghost use Rattle.pc_txn.specs.Orders.{key_at, entries, IsOrder};
 ghost use Rattle.pc_txn.specs.Sets.{Roomy, read_keys};
 
-use crate::order::{self, Places};
+use crate::order;
 use pc_types::{Key, Value};
-use smallvec::SmallVec;
 use std::alloc::{AllocError, Global};
 use std::cmp::Ordering;
 use std::marker::Model;
@@ -19,18 +18,18 @@ use std::marker::Model;
 #[derive(Drop)]
 pub struct ReadSet {
     reads: Vec<(Key, Option<Value>)>,
-    order: Places,
+    order: Vec<usize>,
 }
 
 impl Model for ReadSet {
-    ghost use Rattle.std.specs.Prelude.{◌-◌, length, min, vec_len, vec_capacity};
+    ghost use Rattle.std.specs.Prelude.{◌-◌, min, vec_len, vec_capacity};
     ghost use Rattle.pc_model.specs.Receipts.{Read};
     ghost use Rattle.pc_txn.specs.Orders.{IsOrder};
     ghost use Rattle.pc_txn.specs.Sets.{Roomy, read_keys};
 
     ghost Value = { Roomy Read };
 
-    ghost view = { λ a. record { items = a.reads.items; room = min (vec_capacity a.reads - vec_len a.reads) (a.order.capacity - length a.order.items) } };
+    ghost view = { λ a. record { items = a.reads.items; room = min (vec_capacity a.reads - vec_len a.reads) (vec_capacity a.order - vec_len a.order) } };
 
     ghost invariant = { λ a. IsOrder (read_keys a.reads.items) a.order.items };
 }
@@ -42,7 +41,7 @@ impl ReadSet {
     {
         ReadSet {
             reads: Vec::new(alloc),
-            order: SmallVec::new(alloc),
+            order: Vec::new(alloc),
         }
     }
 

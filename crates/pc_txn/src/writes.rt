@@ -6,9 +6,8 @@ ghost use Rattle.pc_model.specs.Places.{IsAt, IsGap};
 ghost use Rattle.pc_txn.specs.Orders.{key_at, entries, IsOrder};
 ghost use Rattle.pc_txn.specs.Sets.{Roomy, written_keys};
 
-use crate::order::{self, Places};
-use pc_types::{Items, Key, MOST_WRITES, Write};
-use smallvec::SmallVec;
+use crate::order;
+use pc_types::{Key, MOST_WRITES, Write};
 use std::alloc::{AllocError, Global};
 use std::cmp::Ordering;
 use std::marker::Model;
@@ -18,11 +17,11 @@ use std::marker::Model;
 #[derive(Drop)]
 pub struct WriteSet {
     writes: Vec<Write>,
-    order: Places,
+    order: Vec<usize>,
 }
 
 impl Model for WriteSet {
-    ghost use Rattle.std.specs.Prelude.{◌-◌, length, min, vec_len, vec_capacity};
+    ghost use Rattle.std.specs.Prelude.{◌-◌, min, vec_len, vec_capacity};
     ghost use Rattle.pc_types.specs.declared.Write.{Write};
     ghost use Rattle.pc_model.specs.DistinctWrites.{AreDistinct};
     ghost use Rattle.pc_txn.specs.Orders.{IsOrder};
@@ -30,7 +29,7 @@ impl Model for WriteSet {
 
     ghost Value = { Roomy Write };
 
-    ghost view = { λ a. record { items = a.writes.items; room = min (vec_capacity a.writes - vec_len a.writes) (a.order.capacity - length a.order.items) } };
+    ghost view = { λ a. record { items = a.writes.items; room = min (vec_capacity a.writes - vec_len a.writes) (vec_capacity a.order - vec_len a.order) } };
 
     ghost invariant = { λ a. IsOrder (written_keys a.writes.items) a.order.items × AreDistinct a.writes.items };
 }
@@ -42,7 +41,7 @@ impl WriteSet {
     {
         WriteSet {
             writes: Vec::new(alloc),
-            order: SmallVec::new(alloc),
+            order: Vec::new(alloc),
         }
     }
 
@@ -101,13 +100,13 @@ impl WriteSet {
         }
     }
 
-    /// The writes, which are moved, in a list that has no more room than it takes. It takes no memory.
-    pub fn into_writes(self) -> Items<Write>
-        ensures { result ≡ self.items }
+    /// Takes all writes off. What memory the set has it keeps for later writes.
+    pub fn clear(&mut self)
+        ensures items { self.new.items ≡ [] }
+        ensures room { self.old.room ≤ self.new.room }
     {
-        let WriteSet { mut writes, .. } = self;
-        writes.shrink_to_fit();
-        Items::from_vec(writes)
+        self.writes.clear();
+        self.order.clear();
     }
 }
 

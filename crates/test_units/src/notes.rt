@@ -39,11 +39,27 @@ fn writes_in_the_order_of_first_writes(rt: HostRuntime) -> Result<(), Fail> {
     for (number, byte) in [(7, 1), (3, 2), (5, 3), (3, 4), (7, 5)] {
         write_at(alloc, &mut set, number, byte)?;
     }
-    let writes = set.into_writes();
-    assert_eq!(rt; told(writes.as_slice(), 0), Some((7, 5)));
-    assert_eq!(rt; told(writes.as_slice(), 1), Some((3, 4)));
-    assert_eq!(rt; told(writes.as_slice(), 2), Some((5, 3)));
-    assert_eq!(rt; told(writes.as_slice(), 3), None);
+    let writes = set.as_slice();
+    assert_eq!(rt; told(writes, 0), Some((7, 5)));
+    assert_eq!(rt; told(writes, 1), Some((3, 4)));
+    assert_eq!(rt; told(writes, 2), Some((5, 3)));
+    assert_eq!(rt; told(writes, 3), None);
+    Ok(())
+}
+
+// A set that was cleared has no write, and notes others.
+#[test]
+fn a_cleared_set_is_written_again(rt: HostRuntime) -> Result<(), Fail> {
+    let alloc = rt.alloc();
+    let mut set = WriteSet::new(alloc);
+    for (number, byte) in [(7, 1), (3, 2)] {
+        write_at(alloc, &mut set, number, byte)?;
+    }
+    set.clear();
+    assert_eq!(rt; set.len(), 0);
+    write_at(alloc, &mut set, 3, 4)?;
+    assert_eq!(rt; told(set.as_slice(), 0), Some((3, 4)));
+    assert_eq!(rt; told(set.as_slice(), 1), None);
     Ok(())
 }
 

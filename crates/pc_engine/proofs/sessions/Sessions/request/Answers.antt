@@ -1,52 +1,61 @@
-use Rattle.std.proofs.Common.{◌∙◌, Option, Some, ap, sym}
+use Rattle.std.proofs.Common.{◌∙◌, Option, ap, sym}
 use Rattle.pc_records.specs.NewKeys.{is_one_too_many}
 use Rattle.pc_engine.specs.Sessions.{writes_in}
 use Rattle.std.proofs.lemmas.Result.{err_from_is_err_and}
 use Rattle.pc_engine.specs.Store.{Active}
-use Rattle.pc_engine.proofs.SessionLemmas.{inside_of, unchanged, answered_after, seen_before}
+use Rattle.pc_engine.proofs.SessionLemmas.{inside_of, seen_at, opened_before, unchanged, answered_by}
 use Rattle.pc_engine.proofs.Stands.{answered_view, own_again, request_stands, seen_with}
 use Rattle.pc_engine.proofs.sessions.Sessions.request.Goals as goal
 
 pub invariant_of-self : goal.invariant_of-self
 invariant_of-self c =
-    let inside = inside_of c.self.inside.transactions.items (rw (← c.place.ensures, ← c.self.view_is) at c.requires.place) in
-    rw (unchanged c.self.inside.transactions.items c.args.session c.place.result c.index_mut.result.now c.in-Some.transaction c.prepared.new.self c.args.write c.place.ensures inside c.index_mut.ensures.value c.in-Some.is c.prepared.ensures.same) c.self.invariant
+    let inside = inside_of c.self.inside.lanes.items (rw (← c.place.ensures, ← c.self.view_is) at c.requires.place) in
+    rw (unchanged c.self.inside.lanes.items c.args.session c.place.result c.index_mut-lane.result.now c.place.ensures inside c.index_mut-lane.ensures.value c.prepared.new.self c.prepared.ensures.same) c.self.invariant
 
-pub returns-in_default-prepared-clause-same : goal.returns-in_default-prepared-clause-same
-returns-in_default-prepared-clause-same c =
-    let inside = inside_of c.self.inside.transactions.items (rw (← c.place.ensures, ← c.self.view_is) at c.requires.place) in
-    let same = unchanged c.self.inside.transactions.items c.args.session c.place.result c.index_mut.result.now c.in-Some.transaction c.prepared.new.self c.args.write c.place.ensures inside c.index_mut.ensures.value c.in-Some.is c.prepared.ensures.same in
-    ap (seen_with c.self.inside.records c.self.inside.phases c.self.inside.begun) same ∙ c.self.view_is
+pub returns-in_default-clause-same : goal.returns-in_default-clause-same
+returns-in_default-clause-same c =
+    let inside = inside_of c.self.inside.lanes.items (rw (← c.place.ensures, ← c.self.view_is) at c.requires.place) in
+    ap (seen_with c.self.inside.records c.self.inside.phases c.self.inside.begun) (unchanged c.self.inside.lanes.items c.args.session c.place.result c.index_mut-lane.result.now c.place.ensures inside c.index_mut-lane.ensures.value c.prepared.new.self c.prepared.ensures.same) ∙ c.self.view_is
+
+pub opened-number-requires : goal.opened-number-requires
+opened-number-requires c =
+    let inside = inside_of c.self.inside.lanes.items (rw (← c.place.ensures, ← c.self.view_is) at c.requires.place) in
+    rw (c.prepared.ensures.same, seen_at c.self.inside.lanes.items c.args.session c.place.result c.index_mut-lane.result.now c.place.ensures inside c.index_mut-lane.ensures.value) (rw (← c.self.view_is) at c.requires.opened)
 
 pub write-requires-clause-again : goal.write-requires-clause-again
 write-requires-clause-again c =
-    let inside = inside_of c.self.inside.transactions.items (rw (← c.place.ensures, ← c.self.view_is) at c.requires.place) in
-    let own = seen_before c.self.inside.transactions.items c.args.session c.place.result c.index_mut.result.now c.in-Some.transaction c.prepared.new.self c.args.write c.place.ensures inside c.index_mut.ensures.value c.in-Some.is in
-    own_again _ _ _ _ c.self.invariant c.place.result _ (own ∙ ap (λ (a : Active). Some a) (sym c.prepared.ensures.same)) c.args.write.key
+    let inside = inside_of c.self.inside.lanes.items (rw (← c.place.ensures, ← c.self.view_is) at c.requires.place) in
+    let own = opened_before c.self.inside.lanes.items c.args.session c.place.result c.index_mut-lane.result.now c.place.ensures inside c.index_mut-lane.ensures.value c.prepared.new.self _ c.prepared.ensures.same c.opened-number.ensures in
+    own_again _ _ _ _ c.self.invariant c.place.result _ own c.args.write.key
 
 pub invariant_of-self-in_err-outcome : goal.invariant_of-self-in_err-outcome
 invariant_of-self-in_err-outcome c =
-    let inside = inside_of c.self.inside.transactions.items (rw (← c.place.ensures, ← c.self.view_is) at c.requires.place) in
-    rw (c.in_err-outcome.ensures.err, unchanged c.self.inside.transactions.items c.args.session c.place.result c.index_mut.result.now c.in-Some.transaction c.prepared.new.self c.args.write c.place.ensures inside c.index_mut.ensures.value c.in-Some.is c.prepared.ensures.same) c.self.invariant
+    let inside = inside_of c.self.inside.lanes.items (rw (← c.place.ensures, ← c.self.view_is) at c.requires.place) in
+    rw (c.in_err-outcome.ensures.err, unchanged c.self.inside.lanes.items c.args.session c.place.result c.index_mut-lane.result.now c.place.ensures inside c.index_mut-lane.ensures.value c.prepared.new.self c.prepared.ensures.same) c.self.invariant
 
 pub returns-in_err-outcome-clause-same : goal.returns-in_err-outcome-clause-same
 returns-in_err-outcome-clause-same c =
-    let inside = inside_of c.self.inside.transactions.items (rw (← c.place.ensures, ← c.self.view_is) at c.requires.place) in
-    let same = unchanged c.self.inside.transactions.items c.args.session c.place.result c.index_mut.result.now c.in-Some.transaction c.prepared.new.self c.args.write c.place.ensures inside c.index_mut.ensures.value c.in-Some.is c.prepared.ensures.same in
+    let inside = inside_of c.self.inside.lanes.items (rw (← c.place.ensures, ← c.self.view_is) at c.requires.place) in
+    let same = unchanged c.self.inside.lanes.items c.args.session c.place.result c.index_mut-lane.result.now c.place.ensures inside c.index_mut-lane.ensures.value c.prepared.new.self c.prepared.ensures.same in
     let p = err_from_is_err_and c.from_residual.result c.from_residual.ensures.1 in
     rw p.1 (rw c.in_err-outcome.ensures.err (ap (seen_with c.self.inside.records c.self.inside.phases c.self.inside.begun) same ∙ c.self.view_is))
 
+pub answered-requires-clause-opened : goal.answered-requires-clause-opened
+answered-requires-clause-opened c =
+    let inside = inside_of c.self.inside.lanes.items (rw (← c.place.ensures, ← c.self.view_is) at c.requires.place) in
+    rw (c.prepared.ensures.same, seen_at c.self.inside.lanes.items c.args.session c.place.result c.index_mut-lane.result.now c.place.ensures inside c.index_mut-lane.ensures.value) (rw (← c.self.view_is) at c.requires.opened)
+
 pub invariant_of-self-2 : goal.invariant_of-self-2
 invariant_of-self-2 c =
-    let inside = inside_of c.self.inside.transactions.items (rw (← c.place.ensures, ← c.self.view_is) at c.requires.place) in
-    let own = seen_before c.self.inside.transactions.items c.args.session c.place.result c.index_mut.result.now c.in-Some.transaction c.prepared.new.self c.args.write c.place.ensures inside c.index_mut.ensures.value c.in-Some.is ∙ ap (λ (a : Active). Some a) (sym c.prepared.ensures.same) in
-    let then = answered_after c.self.inside.transactions.items c.args.session c.place.result c.index_mut.result.now c.in-Some.transaction c.answered.new.self c.args.write c.place.ensures inside c.index_mut.ensures.value c.in-Some.is c.prepared.new.self c.in_ok-outcome.field-0.outcome c.prepared.ensures.same c.answered.ensures in
+    let inside = inside_of c.self.inside.lanes.items (rw (← c.place.ensures, ← c.self.view_is) at c.requires.place) in
+    let own = opened_before c.self.inside.lanes.items c.args.session c.place.result c.index_mut-lane.result.now c.place.ensures inside c.index_mut-lane.ensures.value c.prepared.new.self _ c.prepared.ensures.same c.opened-number.ensures in
+    let then = answered_by c.self.inside.lanes.items c.args.session c.place.result c.index_mut-lane.result.now c.place.ensures inside c.index_mut-lane.ensures.value c.prepared.new.self c.answered.new.self c.args.write c.in_ok-outcome.field-0.outcome c.prepared.ensures.same c.answered.ensures in
     request_stands _ _ _ _ c.self.invariant _ _ c.place.result _ c.args.write _ (rw (← c.place.ensures, ← c.self.view_is) at c.requires.place) own (sym (ap (λ (a : Option Active). is_one_too_many (writes_in a) c.args.write.key) own) ∙ rw (← c.place.ensures, ← c.self.view_is) at c.requires.one) then
     c.in_ok-outcome.ensures.written.rows (rw c.in-Ok.ensures.copy at c.in_ok-outcome.ensures.written.pending) c.in_ok-outcome.ensures.written.clear c.in_ok-outcome.ensures.written.point c.in_ok-outcome.ensures.written.opened c.in_ok-outcome.ensures.written.shut
 
 pub returns-clause-answered : goal.returns-clause-answered
 returns-clause-answered c =
-    let inside = inside_of c.self.inside.transactions.items (rw (← c.place.ensures, ← c.self.view_is) at c.requires.place) in
-    let own = seen_before c.self.inside.transactions.items c.args.session c.place.result c.index_mut.result.now c.in-Some.transaction c.prepared.new.self c.args.write c.place.ensures inside c.index_mut.ensures.value c.in-Some.is ∙ ap (λ (a : Active). Some a) (sym c.prepared.ensures.same) in
-    let then = answered_after c.self.inside.transactions.items c.args.session c.place.result c.index_mut.result.now c.in-Some.transaction c.answered.new.self c.args.write c.place.ensures inside c.index_mut.ensures.value c.in-Some.is c.prepared.new.self c.in_ok-outcome.field-0.outcome c.prepared.ensures.same c.answered.ensures in
+    let inside = inside_of c.self.inside.lanes.items (rw (← c.place.ensures, ← c.self.view_is) at c.requires.place) in
+    let own = opened_before c.self.inside.lanes.items c.args.session c.place.result c.index_mut-lane.result.now c.place.ensures inside c.index_mut-lane.ensures.value c.prepared.new.self _ c.prepared.ensures.same c.opened-number.ensures in
+    let then = answered_by c.self.inside.lanes.items c.args.session c.place.result c.index_mut-lane.result.now c.place.ensures inside c.index_mut-lane.ensures.value c.prepared.new.self c.answered.new.self c.args.write c.in_ok-outcome.field-0.outcome c.prepared.ensures.same c.answered.ensures in
     rw (← c.self.view_is) (answered_view c.self.inside.records c.write-2.new.self c.self.inside.phases c.self.inside.begun _ _ c.args.session c.place.result _ c.args.write _ c.place.ensures own then c.in_ok-outcome.ensures.written.rows c.in_ok-outcome.ensures.written.opened c.in_ok-outcome.ensures.written.shut)
