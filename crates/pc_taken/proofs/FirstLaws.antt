@@ -1,5 +1,5 @@
 -- The first entry of two lists, of the second of which the first is held, and what comes behind it.
-use Rattle.std.proofs.Common.{◌≡◌, ℕ, Bool, true, false, List, [], ◌∷◌, Option, Some, None, map, length, refl, sym, ap, ◌∙◌, arith}
+use Rattle.std.proofs.Common.{◌≡◌, ℕ, Bool, true, false, List, [], ◌∷◌, Option, Some, None, length, refl, sym, ap, ◌∙◌, arith}
 use Rattle.std.specs.declared.cmp.Ordering.{Ordering}
 use Rattle.std.specs.declared.cmp.Ordering.TheVariants.{Less, Equal, Greater}
 use Rattle.itertools.specs.List.{by_ordering}
@@ -9,7 +9,6 @@ use Rattle.pc_model.specs.Database.{key_cmp, key_order}
 use Rattle.pc_model.specs.Merges.{gathered}
 use Rattle.pc_model.proofs.MergeLaws.{merged_items}
 use Rattle.pc_model.proofs.MergeItemLaws.{items}
-use Rattle.pc_model.specs.TripleLists.{triple_at}
 use Rattle.pc_taken.specs.Takings.{Captured, newest, as_one}
 use Rattle.pc_taken.specs.Firsts.{Lent, with_held, IsFirst}
 
@@ -59,5 +58,5 @@ module _ (rising : List Captured) (other : Option Lent) (key : List ℕ) (conten
     greater_first one rest at behind above = rw (behind, at, some, the_key, the_content, is) (λ others. greater one (held.0.now, held.1.now) rest others above)
 
 -- and where neither list goes on nothing is to come
-pub none_first : (point : ℕ) (rising others : List Captured) (other : Option Lent) → rising ≡ [] → other ≡ None → map (triple_at point) (as_one rising (with_held other others)) ≡ []
-none_first point rising others other none nothing = rw (none, nothing) (ap (map (triple_at point)) (sym (merged_items newest [] [])))
+pub none_first : (rising others : List Captured) (other : Option Lent) → rising ≡ [] → other ≡ None → as_one rising (with_held other others) ≡ []
+none_first rising others other none nothing = rw (none, nothing) (sym (merged_items newest [] []))

@@ -2,6 +2,7 @@
 //! entries of the point's part where it stands. Entries of a part, however they are kept, are gone over in one pass.
 #![tactic(auto)]
 
+mod both_lists;
 mod entries;
 mod headed;
 mod lent;

@@ -1,6 +1,6 @@
 use Rattle.std.proofs.Common.{◌∙◌, sym}
 use Rattle.pc_taken.proofs.FirstLaws.{rising_first, lesser_first, others_first, equal_first, greater_first}
-use Rattle.pc_taken.proofs.taken_pass.first_of.Goals as goal
+use Rattle.pc_taken.proofs.both_lists.first_of.Goals as goal
 
 pub returns-in-None-Some-clause-first : goal.returns-in-None-Some-clause-first
 returns-in-None-Some-clause-first c =
