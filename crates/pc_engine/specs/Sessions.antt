@@ -9,6 +9,8 @@ use Rattle.pc_types.specs.declared.Class.TheVariants.{After}
 use Rattle.pc_types.specs.Phases.{same_class}
 use Rattle.pc_types.specs.declared.limits.TheConstants.{MOST_WRITES}
 use Rattle.pc_engine.specs.declared.lanes.Transaction.{Transaction}
+use Rattle.pc_records.specs.Rows.{Row}
+use Rattle.pc_records.specs.RowSteps.{is_waiting}
 use Rattle.pc_engine.specs.Store.{Active}
 
 -- what a session's lane is seen as: its open transaction, if there is one, and how many more writes there is room for
@@ -32,6 +34,11 @@ with_session sessions s transaction = slice_set sessions (s - 1) transaction
 abbrev pub number_in : Option Active → ℕ
 number_in None = 0
 number_in (Some t) = t.number
+
+-- whether it waits for a lock, as these rows say
+abbrev pub waits_in : List Row → Option Active → Bool
+waits_in rows None = false
+waits_in rows (Some t) = is_waiting rows t.number
 
 -- its class
 abbrev pub class_at : Option Active → Class

@@ -15,7 +15,7 @@ ghost use Rattle.pc_records.specs.RowSteps.{is_full_for, why_refused, is_waiting
 ghost use Rattle.pc_records.specs.NewKeys.{is_one_too_many};
 ghost use Rattle.pc_records.specs.Tables.{content_behind, first_pinned, kept_of};
 ghost use Rattle.pc_engine.specs.Counts.{AreCounted};
-ghost use Rattle.pc_engine.specs.Sessions.{actives_of, with_writes, number_in, writes_in, after_writing, after_dying, if_granted, with_session};
+ghost use Rattle.pc_engine.specs.Sessions.{actives_of, with_writes, number_in, waits_in, writes_in, after_writing, after_dying, if_granted, with_session};
 ghost use Rattle.pc_engine.specs.Ongoing.{own, at_start, answer_to, after_answer, after_beginning, after_committing, after_aborting, after_taking, changed};
 ghost use Rattle.pc_engine.specs.Store.{active_in};
 
@@ -130,6 +130,16 @@ impl Sessions {
         ensures { result ≡ is_waiting self.now.kept.rows transaction }
     {
         self.records.is_waiting(transaction)
+    }
+
+    /// Whether a request of the session's open transaction waits; false where it has none open.
+    pub(crate) fn has_waiting(&self, session: SessionNo) -> bool
+        ensures { result ≡ waits_in self.now.kept.rows (own self.now session) }
+    {
+        match self.active(session) {
+            Some(transaction) => self.is_waiting(transaction.number),
+            None => false,
+        }
     }
 
     /// Whether the session's open transaction has written the key; false where it has none open.

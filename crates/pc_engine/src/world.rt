@@ -11,7 +11,7 @@ ghost use Rattle.pc_model.specs.Log.{after};
 ghost use Rattle.pc_log.specs.Laws.{IsLog};
 ghost use Rattle.pc_log.specs.Logs.{entries_of};
 ghost use Rattle.pc_records.specs.Rows.{record_of, stored};
-ghost use Rattle.pc_engine.specs.Sessions.{writes_in};
+ghost use Rattle.pc_engine.specs.Sessions.{waits_in, writes_in};
 ghost use Rattle.pc_engine.specs.Store.{active, setting_of};
 ghost use Rattle.pc_engine.specs.Stands.{Stands, Follows, IfRefused};
 ghost use Rattle.pc_engine.specs.Checks.{IsStoreSound};
@@ -157,6 +157,13 @@ impl World {
         ensures { result ≡ is_some (written (writes_in (active self.now session)) key.now) }
     {
         self.sessions.has_written(session, key)
+    }
+
+    /// Whether a request of the session's open transaction waits for a lock; false where it has none open.
+    pub fn is_waiting(&self, session: SessionNo) -> bool
+        ensures { result ≡ waits_in self.now.kept.rows (active self.now session) }
+    {
+        self.sessions.has_waiting(session)
     }
 
     /// The phase of the checkpoint's cycle.

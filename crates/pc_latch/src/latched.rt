@@ -127,6 +127,11 @@ impl<N: StoreName> Latched<N> {
         own_write
     }
 
+    /// Whether a request of the session waits for a lock.
+    pub fn is_waiting(&self, session: SessionNo) -> bool {
+        self.world.is_waiting(session)
+    }
+
     // The checkpointer asks the event.
     fn call_own(
         &mut self,

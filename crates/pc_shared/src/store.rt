@@ -25,13 +25,13 @@ ghost use Rattle.pc_shared.specs.Sitters.{new_sitters, IsLeftByStore, AreSitters
 use crate::closing::{Closed, close};
 use crate::logged::Logged;
 use crate::session::Session;
-use crate::waits::{News, Waits, Woken, is_wait};
+use crate::waits::{News, Waits, Woken, ends_transaction, is_wait};
 use pc_engine::World;
 use pc_latch::{Latched, LogBatch, LogPass, PartTicket};
 use pc_part::Base;
 use pc_tie::{CheckpointerSeat, Keeper, Milestone, SessionSeat, StoreName, Tie, Untied, Witness};
 use pc_txn::SessionNotes;
-use pc_types::{FileNo, Lsn, MOST_KEYS, MOST_SESSIONS, Refusal, Reply, Step};
+use pc_types::{FileNo, Lsn, MOST_KEYS, MOST_SESSIONS, Refusal, Reply, SessionNo, Step};
 use std::alloc::Global;
 use std::hash::RandomState;
 use std::marker::Model;
@@ -183,6 +183,25 @@ impl<N: StoreName> UnderLatch<N> {
             waits: Waits::new(),
         }
     }
+
+    // Notes the reply, and says who is to be woken.
+    fn note(&mut self, reply: &Reply) -> Woken {
+        let has_granted = !self.waits.for_locks.is_empty()
+            && ends_transaction(reply)
+            && self.has_granted();
+        self.waits.note(reply, has_granted)
+    }
+
+    // Whether the request of a session whose call sleeps waits no more.
+    fn has_granted(&self) -> bool {
+        for number in 1..=MOST_SESSIONS {
+            let session = SessionNo(u32::from(number));
+            if self.waits.for_locks.has(session) && !self.latched.is_waiting(session) {
+                return true;
+            }
+        }
+        false
+    }
 }
 
 // How often a thread looks for the latch before it sleeps until it has it: with the pauses between some milliseconds, longer than
@@ -250,9 +269,8 @@ impl<N: StoreName> Shared<N> {
     }
 
     // Asks the step's event until it is answered; the step has the reply then. While its request waits, which no other session
-    // can answer it, it sleeps, and asks again after each end of a transaction: then the request may have been granted. Nobody
-    // else is woken but where locks were let go and somebody waits for one. It tells whether the event reads a key that the
-    // session's own transaction has written.
+    // can answer it, it sleeps, and asks again after an end of a transaction that has granted a request for which a call sleeps.
+    // It tells whether the event reads a key that the session's own transaction has written.
     pub(crate) fn step_as<R: Wait>(
         &self,
         rt: &R,
@@ -276,11 +294,11 @@ impl<N: StoreName> Shared<N> {
         for _ in rt.forever() {
             let own_write = held.latched.call(&self.tie, seat, step, has_room);
             if is_wait(&step.reply) {
-                held.waits.for_locks = held.waits.for_locks.saturating_add(1);
+                held.waits.for_locks.add(seat.number());
                 held = self.granted.wait(rt, held);
-                held.waits.for_locks = held.waits.for_locks.saturating_sub(1);
+                held.waits.for_locks.remove(seat.number());
             } else {
-                let woken = held.waits.note(&step.reply);
+                let woken = held.note(&step.reply);
                 drop(held);
                 self.wake(woken);
                 return own_write;
@@ -297,7 +315,7 @@ impl<N: StoreName> Shared<N> {
     {
         let mut held = self.get_latch(rt);
         let reply = held.latched.advance(&self.tie, checkpointer);
-        let woken = held.waits.note(&reply);
+        let woken = held.note(&reply);
         drop(held);
         self.wake(woken);
         reply
@@ -310,7 +328,7 @@ impl<N: StoreName> Shared<N> {
     {
         let mut held = self.get_latch(rt);
         let reply = held.latched.take(&self.tie, checkpointer);
-        let woken = held.waits.note(&reply);
+        let woken = held.note(&reply);
         drop(held);
         self.wake(woken);
         reply

@@ -2,7 +2,7 @@
 ghost use Rattle.std.specs.Prelude.{◌≡◌};
 ghost use Rattle.pc_shared.specs.Asked.{is_wait};
 
-use pc_types::{Refusal, Reply};
+use pc_types::{MOST_SESSIONS, Refusal, Reply, SessionNo};
 
 /// What a thread may wait for, beside locks.
 #[derive(Clone, Copy, Debug, PartialEq, Eq)]
@@ -36,11 +36,47 @@ impl Awaited {
     }
 }
 
-/// How many calls wait for a lock, how often the store and its phase have changed and how many calls wait for that, which entry of
+/// The sessions whose calls sleep until their request is granted: a bit for each number, the lowest for session 1.
+#[derive(Drop)]
+pub(crate) struct Sleepers(u64);
+
+impl Sleepers {
+    // Its call sleeps.
+    pub(crate) fn add(&mut self, session: SessionNo) {
+        self.0 |= bit_of(session);
+    }
+
+    // Its call sleeps no more.
+    pub(crate) fn remove(&mut self, session: SessionNo) {
+        self.0 &= !bit_of(session);
+    }
+
+    // Whether its call sleeps.
+    pub(crate) fn has(&self, session: SessionNo) -> bool {
+        self.0 & bit_of(session) != 0
+    }
+
+    // Whether no call sleeps.
+    pub(crate) fn is_empty(&self) -> bool {
+        self.0 == 0
+    }
+}
+
+// The bit of the session; none where no session has this number.
+fn bit_of(session: SessionNo) -> u64 {
+    let place = session.0.wrapping_sub(1);
+    if place < u32::from(MOST_SESSIONS) {
+        1 << place
+    } else {
+        0
+    }
+}
+
+/// Which sessions wait for a lock, how often the store and its phase have changed and how many calls wait for that, which entry of
 /// the log is waited for first, and whether the last commit was marked.
 #[derive(Drop)]
 pub struct Waits {
-    pub(crate) for_locks: u64,
+    pub(crate) for_locks: Sleepers,
     changes: Awaited,
     phases: Awaited,
     due: u32,
@@ -80,7 +116,7 @@ fn is_phase(reply: &Reply) -> bool {
 }
 
 // Whether the reply ends a transaction, and so lets locks go.
-fn ends_transaction(reply: &Reply) -> bool {
+pub(crate) fn ends_transaction(reply: &Reply) -> bool {
     matches!(reply, Reply::Committed(_) | Reply::Aborted)
 }
 
@@ -88,7 +124,7 @@ impl Waits {
     // Nobody waits, and nothing has changed.
     pub(crate) fn new() -> Waits {
         Waits {
-            for_locks: 0,
+            for_locks: Sleepers(0),
             changes: Awaited::new(),
             phases: Awaited::new(),
             due: NONE_DUE,
@@ -123,11 +159,11 @@ impl Waits {
         awaited.waiting = awaited.waiting.saturating_sub(1);
     }
 
-    // Notes the reply, and says who is to be woken: those who wait for what it tells, and after the end of a transaction those who
-    // wait for locks.
-    pub(crate) fn note(&mut self, reply: &Reply) -> Woken {
+    // Notes the reply, and says who is to be woken: those who wait for what it tells, and those who wait for locks where it
+    // granted a request of one of them.
+    pub(crate) fn note(&mut self, reply: &Reply, has_granted: bool) -> Woken {
         Woken {
-            for_locks: ends_transaction(reply) && self.for_locks > 0,
+            for_locks: has_granted,
             for_change: is_change(reply) && self.changes.come(),
             for_phase: is_phase(reply) && self.phases.come(),
             for_commit: self.is_due(reply),
