@@ -187,13 +187,13 @@ module _ (bytes : List ℕ) (used : ℕ) (starts : List ℕ) (filled : IsFilled 
 
 -- ---- an entry by itself
 
-some_is_entry : (entries : List Entry) (place : ℕ) (entry : Entry) → All IsEntry entries → slice_get entries place ≡ Some entry → place < length entries → IsEntry entry
+pub some_is_entry : (entries : List Entry) (place : ℕ) (entry : Entry) → All IsEntry entries → slice_get entries place ≡ Some entry → place < length entries → IsEntry entry
 some_is_entry entries place entry lawful at lt = subst IsEntry (get_or_from_slice_get entries place entry entry at) (lawful place entry lt)
 
 reads : (entries : List Entry) (text : List ℕ) (place : ℕ) (entry : Entry) (behind : List Entry) → All IsEntry entries → place < length entries → slice_get entries place ≡ Some entry → text ≡ flat_map entry_text (entry ∷ behind) → plain_entry_at text ≡ Ok (entry, flat_map entry_text behind)
 reads entries text place entry behind lawful lt at is = ap plain_entry_at is ∙ plain_again entry (flat_map entry_text behind) (some_is_entry entries place entry lawful at lt)
 
-first_of : {X : Type 0} (xs : List X) (place n : ℕ) → place < n → n ≤ length xs → (x : X) × (slice_get xs place ≡ Some x) × (slice_range xs place n ≡ x ∷ slice_range xs (suc place) n)
+pub first_of : {X : Type 0} (xs : List X) (place n : ℕ) → place < n → n ≤ length xs → (x : X) × (slice_get xs place ≡ Some x) × (slice_range xs place n ≡ x ∷ slice_range xs (suc place) n)
 first_of [] place n lt inside = absurd (omega (arith, lt, inside))
 first_of (x ∷ xs) zero n lt inside =
     let some : n - 0 ≡ suc (n - 1) = omega (arith, lt) in

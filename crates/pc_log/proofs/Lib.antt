@@ -8,6 +8,7 @@ mod EntriesAgain
 mod PlainTexts
 mod PlacingLaws
 mod ChunkLaws
+mod LentWriteLaws
 mod PieceLaws
 mod LogTexts
 pub mod CutTextLaws

@@ -3,6 +3,7 @@ pub mod Texts
 pub mod Orders
 pub mod Reading
 pub mod Plain
+pub mod LentWrites
 pub mod Placing
 pub mod Chunks
 pub mod Pieces

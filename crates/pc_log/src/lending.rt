@@ -94,7 +94,7 @@ impl Log {
     }
 
     // The piece in which the entry at the place stands.
-    fn piece_of(&self, place: usize) -> &Chunk
+    pub(crate) fn piece_of(&self, place: usize) -> &Chunk
         requires { place < length (entries_of self.now) }
         ensures { HasPlace (entries_of self.now) result.now place }
     {

@@ -7,6 +7,7 @@ mod encoding;
 mod entries;
 mod laws;
 mod lending;
+mod lent_writes;
 mod log;
 mod order;
 mod phases;
@@ -20,6 +21,7 @@ pub use laws::{
     whole_entries_are_longest,
 };
 pub use lending::LentTexts;
+pub use lent_writes::{LentWrite, LentWrites};
 pub use log::Log;
 pub use order::LastToken;
 pub use reading::{LogText, MOST_BODY_BYTES, read_entry, read_header, read_log};

@@ -1,0 +1,23 @@
+-- The writes of an entry, read of its text one after the other, each by itself.
+use Rattle.std.specs.Prelude.{ℕ, zero, suc, List, [], ◌∷◌, Result, Ok, Err}
+use Rattle.pc_types.specs.declared.refusal.Refusal.{Refusal}
+use Rattle.pc_types.specs.declared.refusal.Refusal.TheVariants.{BadLength}
+use Rattle.pc_types.specs.declared.Write.{Write}
+use Rattle.pc_types.specs.Fields.{◌>>=◌, key_at, content_at}
+
+-- a write, whatever writes were before it
+unfoldable pub plain_write_at : List ℕ → Result (Write × List ℕ) Refusal
+plain_write_at bytes = do
+  key ← key_at BadLength bytes
+  content ← content_at BadLength key.1
+  Ok (record { key = key.0; value = content.0 }, content.1)
+
+-- the write that was read, and those behind it
+abbrev pub and_more : Result (Write × List ℕ) Refusal → (List ℕ → List Write) → List Write
+and_more (Ok write) more = write.0 ∷ more write.1
+and_more (Err fault) more = []
+
+-- so many writes at most, as far as they can be read
+unfoldable pub writes_in : ℕ → List ℕ → List Write
+writes_in zero bytes = []
+writes_in (suc count) bytes = and_more (plain_write_at bytes) (writes_in count)
