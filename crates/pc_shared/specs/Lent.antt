@@ -1,15 +1,10 @@
 -- What the log lends of a receipt.
-use Rattle.std.specs.Prelude.{◌≡◌, ℕ, ◌-◌, List, [], All, Option, Some, None, slice_get}
+use Rattle.std.specs.Prelude.{◌≡◌, ℕ, ◌-◌, List, All, Option, Some, None, slice_get}
 use Rattle.pc_types.specs.declared.Entry.{Entry}
-use Rattle.pc_types.specs.declared.Entry.TheVariants as logged
 use Rattle.pc_types.specs.declared.Receipt.{Receipt}
 use Rattle.pc_types.specs.declared.Write.{Write}
+use Rattle.pc_log.specs.Logs.{writes_of_entry}
 use Rattle.pc_shared.specs.Sitters.{Sitter}
-
--- the writes of a commit's entry, and none of another
-abbrev pub writes_of_entry : Option Entry → List Write
-writes_of_entry (Some (logged.Commit s writes)) = writes
-writes_of_entry other = []
 
 -- the writes of the entry of this number; the first one has number 1
 abbrev pub writes_at : List Entry → ℕ → List Write

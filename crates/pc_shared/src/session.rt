@@ -10,15 +10,14 @@ ghost use Rattle.pc_log.specs.Logs.{entries_of};
 ghost use Rattle.pc_txn.specs.Commits.{notes_of};
 ghost use Rattle.pc_shared.specs.Answers.{IsRead, IsWriteAnswered};
 ghost use Rattle.pc_shared.specs.Finds.{found_in};
-ghost use Rattle.pc_shared.specs.Lent.{writes_at, AreLentBy};
+ghost use Rattle.pc_shared.specs.Lent.{AreLentBy};
 
 use crate::asks::{answer_of, answer_to};
 use crate::store::Shared;
-use pc_log::Log;
+use pc_log::{LentWrites, Log};
 use pc_tie::{SessionSeat, StoreName};
 use pc_txn::{Commits, SessionNotes, has_room_for_commit, has_room_to_read};
-use pc_types::{Entry, Items, Key, Lsn, Refusal, SessionNo, TxnNo, Value, Write};
-use std::alloc::{AllocError, Global};
+use pc_types::{Key, Lsn, Refusal, SessionNo, TxnNo, Value};
 use std::marker::Model;
 use std::sync::Wait;
 
@@ -57,8 +56,7 @@ impl<N: StoreName> Model for Session<N> {
     ghost invariant = { λ s. SessionKeeps s.work.busy s.work.reads.items s.work.commits.items s.seat.number s.seat.seen × (kept_in s.work.latest s.work.reads.items ≡ found_in s.seat.seen) };
 }
 
-/// A receipt, lent from its session and the log; its writes are read of its entry there when they are asked for. Contracts see the
-/// receipt.
+/// A receipt, lent from its session and the log; its writes stand in the text of its entry there. Contracts see the receipt.
 #[derive(Drop)]
 pub struct LentReceipt<'a> {
     /// The number of its entry in the log; the first entry has number 1.
@@ -82,25 +80,12 @@ impl<'a> Model for LentReceipt<'a> {
 }
 
 impl<'a> LentReceipt<'a> {
-    /// Its writes, read of its entry in the log. It fails only where memory ran out.
-    pub fn writes(&self, alloc: Global) -> Result<Items<Write>, AllocError>
-        ensures { IfOk result (λ writes. writes ≡ self.now.writes) }
+    /// Its writes, lent from the text of its entry in the log. It takes no memory.
+    pub fn writes(&self) -> LentWrites<'a>
+        ensures { result ≡ self.now.writes }
     {
-        writes_at(alloc, self.log, self.number)
-    }
-}
-
-// The writes of the log's entry of this number, which is a commit's; none where it is none.
-fn writes_at(alloc: Global, log: &Log, number: Lsn) -> Result<Items<Write>, AllocError>
-    ensures { IfOk result (λ writes. writes ≡ writes_at (entries_of log.now) number) }
-{
-    let place = (number.0 as usize).saturating_sub(1);
-    if log.len() <= place {
-        return Ok(Items::new(alloc));
-    }
-    match log.entry(alloc, place)? {
-        Entry::Commit(_, writes) => Ok(writes),
-        Entry::Token(_, _) => Ok(Items::new(alloc)),
+        let place = (self.number.0 as usize).saturating_sub(1);
+        self.log.writes(place)
     }
 }
 

@@ -1,9 +1,10 @@
 //! Receipts beside the log.
+use pc_log::{LentWrite, LentWrites};
 use pc_replay::{Pairs, apply};
 use pc_shared::{Closed, LentReceipt, Session};
 use pc_tie::StoreName;
 use pc_types::{Entry, Key, Lsn, Refusal, SessionNo, Value, Write};
-use std::alloc::{AllocError, Global};
+use std::alloc::Global;
 
 /// Whether each commit of the log has one receipt of its session, with the entry's writes, whose reads are what the keys had
 /// before it, and there is no other receipt.
@@ -17,7 +18,7 @@ pub fn are_exact<N: StoreName>(alloc: Global, closed: &Closed<N>) -> Result<bool
         if let Entry::Commit(session, writes) = entry {
             commits = commits.saturating_add(1);
             let receipt = receipt_of(closed, *session, Lsn(number));
-            if !is_exact(alloc, &contents, receipt, *session, writes.as_slice())? {
+            if !is_exact(&contents, receipt, *session, writes.as_slice()) {
                 return Ok(false);
             }
             apply_all(alloc, &mut contents, writes.as_slice())?;
@@ -84,29 +85,33 @@ fn receipt_of<N: StoreName>(
 }
 
 fn is_exact(
-    alloc: Global,
     contents: &Pairs,
     receipt: Option<LentReceipt<'_>>,
     session: SessionNo,
     writes: &[Write],
-) -> Result<bool, AllocError> {
+) -> bool {
     let Some(receipt) = receipt else {
-        return Ok(false);
+        return false;
     };
-    let written = receipt.writes(alloc)?;
-    Ok(
-        receipt.session == session
-            && are_same(written.as_slice(), writes)
-            && have_read(contents, receipt.reads),
-    )
+    receipt.session == session
+        && are_same(receipt.writes(), writes)
+        && have_read(contents, receipt.reads)
 }
 
-fn are_same(ones: &[Write], others: &[Write]) -> bool {
-    ones.len() == others.len() && ones.iter().zip(others).all(|(a, b)| is_same(a, b))
+fn are_same(ones: LentWrites<'_>, others: &[Write]) -> bool {
+    ones.len() == others.len() && ones.zip(others).all(|(a, b)| is_same(&a, b))
 }
 
-fn is_same(a: &Write, b: &Write) -> bool {
-    a.key.is(&b.key) && has_same(a.value.as_ref(), b.value.as_ref())
+fn is_same(a: &LentWrite<'_>, b: &Write) -> bool {
+    a.key == b.key.as_bytes() && is_value(a.value, b.value.as_ref())
+}
+
+fn is_value(a: Option<&[u8]>, b: Option<&Value>) -> bool {
+    match (a, b) {
+        (Some(a), Some(b)) => a == b.as_bytes(),
+        (None, None) => true,
+        _ => false,
+    }
 }
 
 fn have_read(contents: &Pairs, reads: &[(Key, Option<Value>)]) -> bool {
