@@ -25,7 +25,7 @@ ghost use Rattle.pc_shared.specs.Sitters.{new_sitters, IsLeftByStore, AreSitters
 use crate::closing::{Closed, close};
 use crate::logged::Logged;
 use crate::session::Session;
-use crate::waits::{News, Waits, Woken, ends_transaction, is_wait};
+use crate::waits::{News, Waits, Woken, is_wait};
 use pc_engine::World;
 use pc_latch::{Latched, LogBatch, LogPass, PartTicket};
 use pc_part::Base;
@@ -184,12 +184,11 @@ impl<N: StoreName> UnderLatch<N> {
         }
     }
 
-    // Notes the reply, and says who is to be woken.
+    // Notes the reply, and says who is to be woken: those who wait for locks only where a request of one of them was granted.
     fn note(&mut self, reply: &Reply) -> Woken {
-        let has_granted = !self.waits.for_locks.is_empty()
-            && ends_transaction(reply)
-            && self.has_granted();
-        self.waits.note(reply, has_granted)
+        let mut woken = self.waits.note(reply);
+        woken.for_locks = woken.for_locks && self.has_granted();
+        woken
     }
 
     // Whether the request of a session whose call sleeps waits no more.

@@ -2,7 +2,7 @@
 ghost use Rattle.std.specs.Prelude.{◌≡◌};
 ghost use Rattle.pc_shared.specs.Asked.{is_wait};
 
-use pc_types::{MOST_SESSIONS, Refusal, Reply, SessionNo};
+use pc_types::{Lsn, MOST_SESSIONS, Refusal, Reply, SessionNo};
 
 /// What a thread may wait for, beside locks.
 #[derive(Clone, Copy, Debug, PartialEq, Eq)]
@@ -102,22 +102,14 @@ pub(crate) fn is_wait(reply: &Reply) -> bool
     matches!(reply, Reply::Wait | Reply::Refused(Refusal::StillWaiting))
 }
 
-// Whether the reply says that the store has changed: it is no wait and no refusal, and doesn't say that nothing could be done.
-fn is_change(reply: &Reply) -> bool {
-    !matches!(
-        reply,
-        Reply::Wait | Reply::Refused(_) | Reply::NotYet(_) | Reply::NoneLeft
-    )
-}
-
-// Whether the reply says that the phase has changed.
-fn is_phase(reply: &Reply) -> bool {
-    matches!(reply, Reply::Phase(_, _) | Reply::PartDone(_, _, _))
-}
-
-// Whether the reply ends a transaction, and so lets locks go.
-pub(crate) fn ends_transaction(reply: &Reply) -> bool {
-    matches!(reply, Reply::Committed(_) | Reply::Aborted)
+impl Woken {
+    // Nobody.
+    const NOBODY: Woken = Woken {
+        for_locks: false,
+        for_change: false,
+        for_phase: false,
+        for_commit: false,
+    };
 }
 
 impl Waits {
@@ -159,14 +151,31 @@ impl Waits {
         awaited.waiting = awaited.waiting.saturating_sub(1);
     }
 
-    // Notes the reply, and says who is to be woken: those who wait for what it tells, and those who wait for locks where it
-    // granted a request of one of them.
-    pub(crate) fn note(&mut self, reply: &Reply, has_granted: bool) -> Woken {
-        Woken {
-            for_locks: has_granted,
-            for_change: is_change(reply) && self.changes.come(),
-            for_phase: is_phase(reply) && self.phases.come(),
-            for_commit: self.is_due(reply),
+    // Notes the reply, and says who is to be woken: those who wait for what it tells, and, where it ends a transaction and so lets
+    // locks go, those who wait for locks.
+    pub(crate) fn note(&mut self, reply: &Reply) -> Woken {
+        match reply {
+            Reply::Wait | Reply::Refused(_) | Reply::NotYet(_) | Reply::NoneLeft => Woken::NOBODY,
+            Reply::Committed(number) => Woken {
+                for_locks: !self.for_locks.is_empty(),
+                for_change: self.changes.come(),
+                for_commit: self.is_due(*number),
+                ..Woken::NOBODY
+            },
+            Reply::Aborted => Woken {
+                for_locks: !self.for_locks.is_empty(),
+                for_change: self.changes.come(),
+                ..Woken::NOBODY
+            },
+            Reply::Phase(_, _) | Reply::PartDone(_, _, _) => Woken {
+                for_change: self.changes.come(),
+                for_phase: self.phases.come(),
+                ..Woken::NOBODY
+            },
+            _ => Woken {
+                for_change: self.changes.come(),
+                ..Woken::NOBODY
+            },
         }
     }
 
@@ -195,11 +204,8 @@ impl Waits {
         self.due = self.due.min(number);
     }
 
-    // Whether the reply tells of a commit for which somebody waits; then nobody waits any more, until it is said again.
-    fn is_due(&mut self, reply: &Reply) -> bool {
-        let Reply::Committed(number) = reply else {
-            return false;
-        };
+    // Whether somebody waits for the commit of this number; then nobody waits any more, until it is said again.
+    fn is_due(&mut self, number: Lsn) -> bool {
         if number.0 < self.due {
             return false;
         }
