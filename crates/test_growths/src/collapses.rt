@@ -1,6 +1,7 @@
 //! Parts of three points that are joined by each call.
 ghost use Rattle.std.specs.Prelude.{◌≤◌};
 
+use crate::again::again;
 use pc_collapse::{collapse_bag, collapse_rounds, fold};
 use pc_part::Part;
 use pc_types::{OpenGate, Refusal, Tally};
@@ -77,32 +78,12 @@ fn has_text(alloc: Global, part: &Part, text: &[u8]) -> Result<bool, Refusal> {
     Ok(out.into_inner().as_slice() == text)
 }
 
-// What the call is told, where memory is wanting the second time that it is made.
-fn join_again<R: Threads + Wait + Sync>(
-    rt: &R,
-    alloc: Global,
-    call: Call,
-    parts: &[Part],
-) -> Result<Part, Refusal> {
-    match join_by(rt, alloc, call, parts) {
-        Err(Refusal::OutOfMemory) => join_by(rt, alloc, call, parts),
-        told => told,
-    }
-}
-
 // Whether each call gives the join.
 fn all_join<R: Threads + Wait + Sync>(rt: &R, alloc: Global) -> Result<bool, Refusal> {
-    let parts = match parts(alloc) {
-        Ok(parts) => parts,
-        Err(_) => parts(alloc)?,
-    };
+    let parts = again(|| parts(alloc))?;
     for call in CALLS {
-        let joined = join_again(rt, alloc, call, &parts)?;
-        let is_right = match has_text(alloc, &joined, JOINED) {
-            Ok(is_right) => is_right,
-            Err(_) => has_text(alloc, &joined, JOINED)?,
-        };
-        if !is_right {
+        let joined = again(|| join_by(rt, alloc, call, &parts))?;
+        if !again(|| has_text(alloc, &joined, JOINED))? {
             return Ok(false);
         }
     }

@@ -7,6 +7,8 @@
 #![tactic(auto)]
 
 #[cfg(test)]
+mod again;
+#[cfg(test)]
 mod collapses;
 #[cfg(test)]
 mod sessions;

@@ -29,90 +29,56 @@ pub(crate) enum Told {
     Changed,
 }
 
-fn get<N: StoreName, R: Wait>(
-    rt: &R,
-    alloc: Global,
-    shared: &Shared<N>,
-    session: &mut Session<N>,
-    key: &[u8],
-) -> Result<CallAnswer, Refusal> {
-    let key = Key::new(alloc, key)?;
-    shared.get(rt, session, key)
+/// By what sessions ask.
+#[derive(Clone, Copy)]
+pub(crate) struct Asker<'a, N: StoreName, R: Wait> {
+    pub(crate) rt: &'a R,
+    pub(crate) alloc: Global,
+    pub(crate) shared: &'a Shared<N>,
 }
 
-fn put<N: StoreName, R: Wait>(
-    rt: &R,
-    alloc: Global,
-    shared: &Shared<N>,
-    session: &mut Session<N>,
-    key: &[u8],
-    value: &[u8],
-) -> Result<CallAnswer, Refusal> {
-    let key = Key::new(alloc, key)?;
-    let value = Value::new(alloc, value)?;
-    shared.put(rt, session, key, value)
-}
+impl<'a, N: StoreName, R: Wait> Asker<'a, N, R> {
+    // What the session is answered, where it isn't refused.
+    fn answer(&self, session: &mut Session<N>, ask: Ask) -> Result<Told, Refusal> {
+        let (rt, shared) = (self.rt, self.shared);
+        Ok(match ask {
+            Ask::Begin => Told::Begun(shared.begin(rt, session)?.0),
+            Ask::Get(key) => Told::Answer(shared.get(rt, session, self.key(key)?)?),
+            Ask::Put(key, value) => {
+                let (key, value) = (self.key(key)?, Value::new(self.alloc, value)?);
+                Told::Answer(shared.put(rt, session, key, value)?)
+            }
+            Ask::Del(key) => Told::Answer(shared.del(rt, session, self.key(key)?)?),
+            Ask::Commit => Told::Committed(shared.commit(rt, session)?.0),
+            Ask::Abort => {
+                shared.abort(rt, session)?;
+                Told::Aborted
+            }
+        })
+    }
 
-fn del<N: StoreName, R: Wait>(
-    rt: &R,
-    alloc: Global,
-    shared: &Shared<N>,
-    session: &mut Session<N>,
-    key: &[u8],
-) -> Result<CallAnswer, Refusal> {
-    let key = Key::new(alloc, key)?;
-    shared.del(rt, session, key)
-}
+    fn key(&self, key: &[u8]) -> Result<Key, Refusal> {
+        Key::new(self.alloc, key)
+    }
 
-// What the session is answered, where it isn't refused.
-fn answer<N: StoreName, R: Wait>(
-    rt: &R,
-    alloc: Global,
-    shared: &Shared<N>,
-    session: &mut Session<N>,
-    ask: Ask,
-) -> Result<Told, Refusal> {
-    Ok(match ask {
-        Ask::Begin => Told::Begun(shared.begin(rt, session)?.0),
-        Ask::Get(key) => Told::Answer(get(rt, alloc, shared, session, key)?),
-        Ask::Put(key, value) => Told::Answer(put(rt, alloc, shared, session, key, value)?),
-        Ask::Del(key) => Told::Answer(del(rt, alloc, shared, session, key)?),
-        Ask::Commit => Told::Committed(shared.commit(rt, session)?.0),
-        Ask::Abort => {
-            shared.abort(rt, session)?;
-            Told::Aborted
+    /// What the session is answered. Where memory was wanting it shows what it did, and is asked again; an abort needs none.
+    pub(crate) fn answer_again(&self, session: &mut Session<N>, ask: Ask) -> Told {
+        let before = shown(session);
+        let told = match self.answer(session, ask) {
+            Ok(told) => return told,
+            Err(_) if shown(session) != before => return Told::Changed,
+            Err(Refusal::OutOfMemory) if !matches!(ask, Ask::Abort) => self.answer(session, ask),
+            Err(why) => Err(why),
+        };
+        match told {
+            Ok(told) => told,
+            Err(why) => Told::Refused(why),
         }
-    })
+    }
 }
 
 // What a session shows: how many commits, and how long the value is that it has found.
 fn shown<N: StoreName>(session: &Session<N>) -> (usize, Option<usize>) {
-    let found = match session.found() {
-        Some(value) => Some(value.as_bytes().len()),
-        None => None,
-    };
+    let found = session.found().map(|value| value.as_bytes().len());
     (session.commits().len(), found)
-}
-
-/// What the session is answered. Where memory was wanting it shows what it did, and is asked again; an abort needs none.
-pub(crate) fn answer_again<N: StoreName, R: Wait>(
-    rt: &R,
-    alloc: Global,
-    shared: &Shared<N>,
-    session: &mut Session<N>,
-    ask: Ask,
-) -> Told {
-    let before = shown(session);
-    let told = match answer(rt, alloc, shared, session, ask) {
-        Ok(told) => return told,
-        Err(_) if shown(session) != before => return Told::Changed,
-        Err(Refusal::OutOfMemory) if !matches!(ask, Ask::Abort) => {
-            answer(rt, alloc, shared, session, ask)
-        }
-        Err(why) => Err(why),
-    };
-    match told {
-        Ok(told) => told,
-        Err(why) => Told::Refused(why),
-    }
 }

@@ -1,7 +1,8 @@
 //! A shared store of two sessions, a checkpointer and a logger, all of which one thread plays.
 ghost use Rattle.std.specs.Prelude.{◌≡◌, IfOk};
 
-use crate::sessions::{Ask, Told, answer_again};
+use crate::again::again;
+use crate::sessions::{Ask, Asker, Told};
 use pc_part::Base;
 use pc_shared::{
     CallAnswer, CheckpointerSeat, Closed, LogPass, Opened, PartTicket, Session, Shared,
@@ -66,7 +67,8 @@ const ENTRIES: usize = 12;
 
 // Everybody at a store.
 #[derive(Drop)]
-struct Table<N: StoreName> {
+struct Table<'a, N: StoreName, R: Wait> {
+    rt: &'a R,
     alloc: Global,
     shared: Shared<N>,
     sessions: Vec<Session<N>>,
@@ -74,42 +76,39 @@ struct Table<N: StoreName> {
     pass: LogPass<N>,
 }
 
-impl<N: StoreName> Table<N> {
+impl<'a, N: StoreName, R: Wait> Table<'a, N, R> {
     // The number of the first row, from 1 on, that is answered otherwise, or 0.
-    fn first_wrong<R: Wait>(&mut self, rt: &R, rows: &[(usize, Ask, Told)]) -> usize {
+    fn first_wrong(&mut self, rows: &[(usize, Ask, Told)]) -> usize {
+        let asker = Asker {
+            rt: self.rt,
+            alloc: self.alloc,
+            shared: &self.shared,
+        };
         for (at, row) in rows.iter().enumerate() {
             let Some(session) = self.sessions.get_mut(row.0) else {
                 return at + 1;
             };
-            if answer_again(rt, self.alloc, &self.shared, session, row.1) != row.2 {
+            if asker.answer_again(session, row.1) != row.2 {
                 return at + 1;
             }
         }
         0
     }
 
-    // What the checkpointer is answered, where memory was wanting the second time.
-    fn advance<R: Wait>(&mut self, rt: &R) -> Reply {
-        match self.shared.advance(rt, &mut self.checkpointer) {
-            Reply::Refused(Refusal::OutOfMemory) => {
-                self.shared.advance(rt, &mut self.checkpointer)
-            }
-            told => told,
-        }
+    // What the checkpointer is answered; asked again where memory was wanting.
+    fn advance(&mut self) -> Result<Reply, Refusal> {
+        again(|| unrefused(self.shared.advance(self.rt, &mut self.checkpointer)))
     }
 
-    fn take<R: Wait>(&mut self, rt: &R) -> Reply {
-        match self.shared.take(rt, &mut self.checkpointer) {
-            Reply::Refused(Refusal::OutOfMemory) => self.shared.take(rt, &mut self.checkpointer),
-            told => told,
-        }
+    fn take(&mut self) -> Result<Reply, Refusal> {
+        again(|| unrefused(self.shared.take(self.rt, &mut self.checkpointer)))
     }
 
     // Whether the phases follow one another up to the capture.
-    fn captures<R: Wait>(&mut self, rt: &R) -> bool {
+    fn captures(&mut self) -> bool {
         for phase in PHASES {
-            match self.advance(rt) {
-                Reply::Phase(now, _) if now == phase => {}
+            match self.advance() {
+                Ok(Reply::Phase(now, _)) if now == phase => {}
                 _ => return false,
             }
         }
@@ -117,47 +116,43 @@ impl<N: StoreName> Table<N> {
     }
 
     // Takes two keys, and then none; whether the part has so many entries, and the cycle ends.
-    fn completes<R: Wait>(&mut self, rt: &R) -> bool {
+    fn completes(&mut self) -> bool {
         for _ in 0..2 {
-            let Reply::Took(_, _) = self.take(rt) else {
+            let Ok(Reply::Took(_, _)) = self.take() else {
                 return false;
             };
         }
-        let Reply::NoneLeft = self.take(rt) else {
+        let Ok(Reply::NoneLeft) = self.take() else {
             return false;
         };
-        let Reply::PartDone(_, _, 2) = self.advance(rt) else {
+        let Ok(Reply::PartDone(_, _, 2)) = self.advance() else {
             return false;
         };
-        matches!(self.advance(rt), Reply::Phase(Phase::Rest, _))
+        matches!(self.advance(), Ok(Reply::Phase(Phase::Rest, _)))
     }
 
     // The ticket of the file of this number; asked again where memory was wanting.
-    fn ticket<R: Wait>(&mut self, rt: &R, number: u32) -> Result<PartTicket<N>, Refusal> {
-        let number = FileNo(number);
-        match self.shared.take_part(rt, &mut self.checkpointer, number) {
-            Err(Refusal::OutOfMemory) => {
-                self.shared.take_part(rt, &mut self.checkpointer, number)
-            }
-            told => told,
-        }
+    fn ticket(&mut self, number: FileNo) -> Result<PartTicket<N>, Refusal> {
+        let (rt, seat) = (self.rt, &mut self.checkpointer);
+        again(|| self.shared.take_part(rt, seat, number))
     }
 
-    // The logger is handed the entries, two or so at a time: how many in all, or 0 where a refused call has moved its pass.
-    fn log<R: Wait>(&mut self, rt: &R) -> usize {
+    // The logger is handed the entries, two or so at a time; whether these are all, and no refused call has moved its pass.
+    fn logs(&mut self) -> bool {
         for _ in 0..2 * ENTRIES {
             let before = self.pass.len();
-            let told = self.shared.log_next(rt, &mut self.pass, 64);
+            let told = self.shared.log_next(self.rt, &mut self.pass, 64);
             if told.is_err() && self.pass.len() != before {
-                return 0;
+                return false;
             }
         }
-        self.pass.len()
+        self.pass.len() == ENTRIES
     }
 
     // The store is closed, with the ticket; the list of tickets is made again where memory was wanting.
     fn close(self, ticket: PartTicket<N>) -> Result<Closed<N>, Refusal> {
         let Table {
+            rt: _,
             alloc,
             shared,
             sessions,
@@ -173,24 +168,24 @@ impl<N: StoreName> Table<N> {
     }
 }
 
+// What the checkpointer is answered, where it isn't refused.
+fn unrefused(reply: Reply) -> Result<Reply, Refusal> {
+    match reply {
+        Reply::Refused(why) => Err(why),
+        reply => Ok(reply),
+    }
+}
+
 // The join of both; asked again where memory was wanting, of both as they were handed back.
 fn join<N: StoreName>(
     first: PartTicket<N>,
     second: PartTicket<N>,
 ) -> Result<PartTicket<N>, Refusal> {
-    let (first, second) = match first.join(second) {
-        Ok(joined) => return Ok(joined),
-        Err((why, first, second)) => {
-            if why != Refusal::OutOfMemory {
-                return Err(why);
-            }
-            (first, second)
-        }
+    let joined = match first.join(second) {
+        Err((Refusal::OutOfMemory, first, second)) => first.join(second),
+        joined => joined,
     };
-    match first.join(second) {
-        Ok(joined) => Ok(joined),
-        Err((why, _first, _second)) => Err(why),
-    }
+    joined.map_err(|(why, _first, _second)| why)
 }
 
 // What is left of a store: the receipts of both sessions, as their numbers, reads and writes; the entries of the log, and those
@@ -206,22 +201,24 @@ const LEFT: Left = (
 );
 
 fn receipt<N: StoreName>(
+    alloc: Global,
     closed: &Closed<N>,
     session: usize,
     place: usize,
-) -> Option<(u32, usize, usize)> {
-    match closed.receipt(session, place) {
-        Some(receipt) => Some((receipt.number.0, receipt.reads.len(), receipt.writes.len())),
-        None => None,
-    }
+) -> Result<Option<(u32, usize, usize)>, Refusal> {
+    let Some(receipt) = closed.receipt(session, place) else {
+        return Ok(None);
+    };
+    let writes = again(|| Ok(receipt.writes(alloc)?.len()))?;
+    Ok(Some((receipt.number.0, receipt.reads.len(), writes)))
 }
 
-fn left<N: StoreName>(closed: &Closed<N>) -> Left {
+fn left<N: StoreName>(alloc: Global, closed: &Closed<N>) -> Result<Left, Refusal> {
     let receipts = [
-        receipt(closed, 0, 0),
-        receipt(closed, 0, 1),
-        receipt(closed, 1, 0),
-        receipt(closed, 1, 1),
+        receipt(alloc, closed, 0, 0)?,
+        receipt(alloc, closed, 0, 1)?,
+        receipt(alloc, closed, 1, 0)?,
+        receipt(alloc, closed, 1, 1)?,
     ];
     let (last, entries) = match closed.parts.first() {
         Some(ticket) => (
@@ -230,28 +227,25 @@ fn left<N: StoreName>(closed: &Closed<N>) -> Left {
         ),
         None => (0, 0),
     };
-    (receipts, closed.log().len(), closed.logged, last, entries)
+    Ok((receipts, closed.log().len(), closed.logged, last, entries))
 }
 
-// All that is done: the numbers of the first wrong rows, whether both points were taken, and what is left.
+// All that is done: the numbers of the first wrong rows, whether both points and the log were taken, and what is left.
 type Played = ([usize; 3], bool, Left);
 
-fn play<N: StoreName, R: Wait>(rt: &R, mut table: Table<N>) -> Result<Played, Refusal> {
-    let first = table.first_wrong(rt, &FIRST);
-    let mut taken = table.captures(rt) && table.completes(rt);
-    let second = table.first_wrong(rt, &SECOND);
-    taken = taken && table.captures(rt) && table.completes(rt);
-    let last = table.first_wrong(rt, &LAST);
-    let one = table.ticket(rt, 1)?;
-    let two = table.ticket(rt, 2)?;
+fn play<N: StoreName, R: Wait>(mut table: Table<N, R>) -> Result<Played, Refusal> {
+    let alloc = table.alloc;
+    let first = table.first_wrong(&FIRST);
+    let mut taken = table.captures() && table.completes();
+    let second = table.first_wrong(&SECOND);
+    taken = taken && table.captures() && table.completes();
+    let last = table.first_wrong(&LAST);
+    let one = table.ticket(FileNo(1))?;
+    let two = table.ticket(FileNo(2))?;
     let joined = join(one, two)?;
-    table.log(rt);
-    Ok(([first, second, last], taken, left(&table.close(joined)?)))
-}
-
-fn open(alloc: Global, seed: RandomState) -> Result<Opened, Refusal> {
-    let base = Base::start(1, Vec::new(alloc));
-    Opened::new(alloc, base, 2, 2, seed)
+    taken = taken && table.logs();
+    let closed = table.close(joined)?;
+    Ok(([first, second, last], taken, left(alloc, &closed)?))
 }
 
 // What is played with the store; None where there was no memory to give it its name.
@@ -266,21 +260,19 @@ fn play_named<N: StoreName, R: Wait>(
         return Ok(None);
     };
     let table = Table {
+        rt,
         alloc,
         shared,
         sessions,
         checkpointer,
         pass,
     };
-    Ok(Some(play(rt, table)?))
+    Ok(Some(play(table)?))
 }
 
-// A store, opened again where memory was wanting.
-fn open_again(alloc: Global, seed: RandomState) -> Result<Opened, Refusal> {
-    match open(alloc, seed) {
-        Ok(opened) => Ok(opened),
-        Err(_) => open(alloc, seed),
-    }
+fn open(alloc: Global, seed: RandomState) -> Result<Opened, Refusal> {
+    let base = Base::start(1, Vec::new(alloc));
+    Opened::new(alloc, base, 2, 2, seed)
 }
 
 fn play_opened<R: Wait>(
@@ -288,7 +280,7 @@ fn play_opened<R: Wait>(
     alloc: Global,
     seed: RandomState,
 ) -> Result<Option<Played>, Refusal> {
-    let opened = open_again(alloc, seed)?;
+    let opened = again(|| open(alloc, seed))?;
     play_named::<Brand, _>(rt, alloc, opened)
 }
 
