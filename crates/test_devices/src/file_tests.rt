@@ -1,7 +1,7 @@
 //! Parts and bases go out as far as the writer takes them.
-use crate::sink::{Sink, went_out};
+use crate::sink::stops_at;
 use pc_part::{Base, Part};
-use pc_types::{Key, Point, Refusal, Tally, Value};
+use pc_types::{Key, Point, Refusal, Value};
 use std::alloc::Global;
 use std::test::Fail;
 
@@ -52,52 +52,31 @@ fn a_tombstone(alloc: Global) -> Result<Part, Refusal> {
     Part::of_point(alloc, 0x0102_0304_0506_0708, Point(65534), entries)
 }
 
-// Whether the part's text goes out as far as a writer with this much room takes it.
-fn part_goes_out(part: &Part, text: &[u8], room: usize) -> bool {
-    let mut out = Tally::new(Sink::new(text, room));
-    let refused = part.encode(&mut out).err();
-    went_out(out, refused, text.len(), room)
-}
-
-fn base_goes_out(base: &Base, text: &[u8], room: usize) -> bool {
-    let mut out = Tally::new(Sink::new(text, room));
-    let refused = base.encode(&mut out).err();
-    went_out(out, refused, text.len(), room)
-}
-
 // Writers take each number of bytes in turn.
 #[test]
 fn a_point_without_writes_goes_out(rt: HostRuntime) -> Result<(), Fail> {
     let part = no_entries(rt.alloc())?;
-    for room in 0..36usize {
-        assert!(rt; part_goes_out(&part, &NO_ENTRIES, room), "{room}");
-    }
+    assert_eq!(rt; stops_at(&NO_ENTRIES, |out| part.encode(out)), None);
     Ok(())
 }
 
 #[test]
 fn values_go_out(rt: HostRuntime) -> Result<(), Fail> {
     let part = two_values(rt.alloc())?;
-    for room in 0..62usize {
-        assert!(rt; part_goes_out(&part, &TWO_VALUES, room), "{room}");
-    }
+    assert_eq!(rt; stops_at(&TWO_VALUES, |out| part.encode(out)), None);
     Ok(())
 }
 
 #[test]
 fn tombstones_go_out(rt: HostRuntime) -> Result<(), Fail> {
     let part = a_tombstone(rt.alloc())?;
-    for room in 0..57usize {
-        assert!(rt; part_goes_out(&part, &A_TOMBSTONE, room), "{room}");
-    }
+    assert_eq!(rt; stops_at(&A_TOMBSTONE, |out| part.encode(out)), None);
     Ok(())
 }
 
 #[test]
 fn bases_go_out(rt: HostRuntime) -> Result<(), Fail> {
     let base = Base::decode(rt.alloc(), &TWO_PAIRS)?;
-    for room in 0..41usize {
-        assert!(rt; base_goes_out(&base, &TWO_PAIRS, room), "{room}");
-    }
+    assert_eq!(rt; stops_at(&TWO_PAIRS, |out| base.encode(out)), None);
     Ok(())
 }

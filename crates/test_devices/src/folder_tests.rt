@@ -1,104 +1,35 @@
 //! Recoveries of folders whose files can't be opened or read, or whose output fails.
-use crate::sink::{Sink, went_out};
+use crate::sink::{Sink, is_answered, went_out};
 use crate::tape::{Tape, TornOnce};
 use pc_restore::{Folder, Lost, recover_base, run_recover};
 use pc_texts::NamedFile;
 use pc_types::{Refusal, Tally};
 use std::alloc::{AllocError, Global};
-use std::io::{ErrorKind, Read};
+use std::io::Read;
 use std::test::Fail;
 use test_support::{EMPTY_BASE, ONE_KEY, SIX_ENTRIES, THIRD_POINT, TWO_KEYS};
 
-// The log up to its first token, whose phase there isn't.
-const PHASE_FIVE: [u8; 47] = *b"PCALCL01\
-    \x00\x00\x00\x00\x00\x00\x00\x01\x00\x00\x00\x00\
-    \x00\x00\x00\x0d\x01\x01\x00\x01\x00\x01a\x01\x00\x00\x00\x011\
-    \x00\x00\x00\x06\x02\x05\x00\x00\x00\x01";
-
-// What is recovered of the parts of two keys and of the third point, and of the log with an unknown phase.
-const RECOVERED: [u8; 75] = *b"point 1\nentries 1\nlog BadKind\n\
-    skipped part-00003.pcp Gap 2\npairs 2\na 1\nb 1\n";
-
 type Parts<'a> = Vec<NamedFile<Tape<'a>>>;
 
-fn push_part<'a>(
+// The parts: of each its name, its bytes, or why it can't be opened, and whether it is torn behind them.
+fn parts_of<'a>(
     alloc: Global,
-    parts: &mut Parts<'a>,
-    name: &str,
-    bytes: &'a [u8],
-    is_torn: bool,
-) -> Result<(), AllocError> {
-    let name = Vec::from_slice(alloc, name.as_bytes())?;
-    let opened = Ok(Tape::new(bytes, is_torn));
-    parts.push(NamedFile { name, opened })?;
-    Ok(())
-}
-
-// Adds a part that can't be opened.
-fn push_closed(
-    alloc: Global,
-    parts: &mut Parts<'static>,
-    name: &str,
-    why: Refusal,
-) -> Result<(), AllocError> {
-    let name = Vec::from_slice(alloc, name.as_bytes())?;
-    let opened = Err(why);
-    parts.push(NamedFile { name, opened })?;
-    Ok(())
-}
-
-// Whether the recovery of the folder `d d` has the status 1, prints nothing and tells this.
-fn is_told<R: Read + Drop>(alloc: Global, folder: Folder<R>, wanted: &str) -> bool {
-    let wanted = wanted.as_bytes();
-    let mut out = Tally::new(Sink::new(b"", 0));
-    let mut errors = Tally::new(Sink::new(wanted, wanted.len()));
-    let status = run_recover(alloc, "d d", folder, &mut out, &mut errors);
-    let is_told = went_out(errors, None, wanted.len(), wanted.len());
-    status == 1 && is_told && went_out(out, None, 0, 0)
-}
-
-// The parts' beginnings of so many bytes, of which the one of the number 2 or 3 is torn.
-fn push_beginnings(
-    alloc: Global,
-    parts: &mut Parts<'static>,
-    length: usize,
-    torn: u8,
-) -> Result<(), AllocError> {
-    let bytes = &ONE_KEY[..length.min(24)];
-    push_part(alloc, parts, "part-00001.pcp", bytes, torn == 2)?;
-    push_part(alloc, parts, "part-00002.pcp", bytes, torn == 3)
-}
-
-// The folder of files' beginnings of so many bytes, of which one is torn: 1 is the base, and 4 the log.
-fn folder_of_beginnings(parts: Parts<'static>, length: usize, torn: u8) -> Folder<Tape<'static>> {
-    Folder {
-        base: Ok(Tape::new(&EMPTY_BASE[..length.min(24)], torn == 1)),
-        parts: Ok(parts),
-        log: Ok(Tape::new(&SIX_ENTRIES[..length.min(24)], torn == 4)),
+    files: &[(&str, Result<&'a [u8], Refusal>, bool)],
+) -> Result<Parts<'a>, AllocError> {
+    let mut parts = Vec::new(alloc);
+    for (name, bytes, is_torn) in files {
+        let name = Vec::from_slice(alloc, name.as_bytes())?;
+        let opened = match *bytes {
+            Ok(bytes) => Ok(Tape::new(bytes, *is_torn)),
+            Err(why) => Err(why),
+        };
+        parts.push(NamedFile { name, opened })?;
     }
+    Ok(parts)
 }
 
-// Each file is read whole, and its bytes before the failure don't count.
-#[test]
-fn tells_of_a_reader_that_fails(rt: HostRuntime) -> Result<(), Fail> {
-    for (torn, wanted) in [
-        (1u8, "pcalc: base.pcb: Device\n"),
-        (2, "pcalc: part-00001.pcp: Device\n"),
-        (3, "pcalc: part-00002.pcp: Device\n"),
-        (4, "pcalc: log.pcl: Device\n"),
-    ] {
-        for length in [0usize, 21] {
-            let mut parts = Vec::new(rt.alloc());
-            push_beginnings(rt.alloc(), &mut parts, length, torn)?;
-            let folder = folder_of_beginnings(parts, length, torn);
-            assert!(rt; is_told(rt.alloc(), folder, wanted), "{wanted} {length}");
-        }
-    }
-    Ok(())
-}
-
-// The folder with the parts, and nothing wrong else.
-fn folder_with(parts: Result<Parts<'static>, Refusal>) -> Folder<Tape<'static>> {
+// The folder with these parts, and nothing wrong else.
+fn with_parts(parts: Result<Parts<'static>, Refusal>) -> Folder<Tape<'static>> {
     Folder {
         base: Ok(Tape::new(&EMPTY_BASE, false)),
         parts,
@@ -106,31 +37,79 @@ fn folder_with(parts: Result<Parts<'static>, Refusal>) -> Folder<Tape<'static>> 
     }
 }
 
+// The folder of a base alone.
+fn alone<R>(alloc: Global, base: R) -> Folder<R> {
+    Folder {
+        base: Ok(base),
+        parts: Ok(Vec::new(alloc)),
+        log: Err(Refusal::NoFile),
+    }
+}
+
+// The status of the recovery of the folder `d d`, and whether its output takes what it is to, and just this is told.
+fn recover<R: Read + Drop>(alloc: Global, folder: Folder<R>, out: Sink, told: &str) -> (u8, bool) {
+    let mut out = Tally::new(out);
+    let mut errors = Tally::new(Sink::of(told.as_bytes()));
+    let status = run_recover(alloc, "d d", folder, &mut out, &mut errors);
+    (status, went_out(out) && went_out(errors))
+}
+
+// Whether the recovery of the folder has the status 1, prints nothing and tells this.
+fn is_told<R: Read + Drop>(alloc: Global, folder: Folder<R>, told: &str) -> bool {
+    recover(alloc, folder, Sink::of(b""), told) == (1, true)
+}
+
+// The folder of files' beginnings of so many bytes, of which one is torn: 1 is the base, 2 and 3 are the parts, and 4 is the log.
+fn beginnings(alloc: Global, length: usize, torn: u8) -> Result<Folder<Tape<'static>>, AllocError> {
+    let length = length.min(24);
+    let files = [
+        ("part-00001.pcp", Ok(&ONE_KEY[..length]), torn == 2),
+        ("part-00002.pcp", Ok(&ONE_KEY[..length]), torn == 3),
+    ];
+    Ok(Folder {
+        parts: Ok(parts_of(alloc, &files)?),
+        base: Ok(Tape::new(&EMPTY_BASE[..length], torn == 1)),
+        log: Ok(Tape::new(&SIX_ENTRIES[..length], torn == 4)),
+    })
+}
+
+// Each file is read whole, and its bytes before the failure don't count.
+#[test]
+fn tells_of_a_reader_that_fails(rt: HostRuntime) -> Result<(), Fail> {
+    for (torn, told) in [
+        (1u8, "pcalc: base.pcb: Device\n"),
+        (2, "pcalc: part-00001.pcp: Device\n"),
+        (3, "pcalc: part-00002.pcp: Device\n"),
+        (4, "pcalc: log.pcl: Device\n"),
+    ] {
+        for length in [0usize, 21] {
+            let folder = beginnings(rt.alloc(), length, torn)?;
+            assert!(rt; is_told(rt.alloc(), folder, told), "{told} {length}");
+        }
+    }
+    Ok(())
+}
+
 #[test]
 fn tells_of_a_folder_that_cannot_be_listed(rt: HostRuntime) {
-    for (why, wanted) in [
+    for (why, told) in [
         (Refusal::NoFile, "pcalc: d d: NoFile\n"),
         (Refusal::Device, "pcalc: d d: Device\n"),
     ] {
-        assert!(rt;
-            is_told(rt.alloc(), folder_with(Err(why)), wanted),
-            "{wanted}"
-        );
+        let folder = with_parts(Err(why));
+        assert!(rt; is_told(rt.alloc(), folder, told), "{told}");
     }
 }
 
 #[test]
 fn tells_of_a_part_that_cannot_be_opened(rt: HostRuntime) -> Result<(), Fail> {
-    for (why, wanted) in [
+    for (why, told) in [
         (Refusal::NoFile, "pcalc: x.pcp: NoFile\n"),
         (Refusal::Device, "pcalc: x.pcp: Device\n"),
     ] {
-        let mut parts = Vec::new(rt.alloc());
-        push_closed(rt.alloc(), &mut parts, "x.pcp", why)?;
-        assert!(rt;
-            is_told(rt.alloc(), folder_with(Ok(parts)), wanted),
-            "{wanted}"
-        );
+        let parts = parts_of(rt.alloc(), &[("x.pcp", Err(why), false)])?;
+        let folder = with_parts(Ok(parts));
+        assert!(rt; is_told(rt.alloc(), folder, told), "{told}");
     }
     Ok(())
 }
@@ -138,91 +117,64 @@ fn tells_of_a_part_that_cannot_be_opened(rt: HostRuntime) -> Result<(), Fail> {
 // A log that is there and can't be opened is no missing log.
 #[test]
 fn tells_of_a_log_that_cannot_be_opened(rt: HostRuntime) {
-    let mut folder = folder_with(Ok(Vec::new(rt.alloc())));
+    let mut folder = with_parts(Ok(Vec::new(rt.alloc())));
     folder.log = Err(Refusal::Device);
     assert!(rt; is_told(rt.alloc(), folder, "pcalc: log.pcl: Device\n"));
-}
-
-fn push_two_keys_and_third(alloc: Global, parts: &mut Parts<'static>) -> Result<(), AllocError> {
-    push_part(alloc, parts, "part-00001.pcp", &TWO_KEYS, false)?;
-    push_part(alloc, parts, "part-00003.pcp", &THIRD_POINT, false)
-}
-
-// The folder with the parts, and a damaged log.
-fn damaged(parts: Parts<'static>) -> Folder<Tape<'static>> {
-    Folder {
-        base: Ok(Tape::new(&EMPTY_BASE, false)),
-        parts: Ok(parts),
-        log: Ok(Tape::new(&PHASE_FIVE, false)),
-    }
-}
-
-// Whether what is recovered goes out as far as a writer with this much room takes it, and the status alone tells the rest.
-fn is_printed(alloc: Global, parts: Parts<'static>, room: usize) -> bool {
-    let folder = damaged(parts);
-    let mut out = Tally::new(Sink::new(&RECOVERED, room));
-    let mut errors = Tally::new(Sink::new(b"", 0));
-    let status = run_recover(alloc, "d", folder, &mut out, &mut errors);
-    let refused = if status == 0 {
-        None
-    } else {
-        Some(Refusal::Device)
-    };
-    went_out(out, refused, 75, room) && went_out(errors, None, 0, 0)
-}
-
-// Where fewer bytes go out than there are, the status is 1, else it is 0.
-#[test]
-fn stops_where_the_output_fails(rt: HostRuntime) -> Result<(), Fail> {
-    for room in 0..76usize {
-        let mut parts = Vec::new(rt.alloc());
-        push_two_keys_and_third(rt.alloc(), &mut parts)?;
-        assert!(rt; is_printed(rt.alloc(), parts, room), "{room}");
-    }
-    Ok(())
-}
-
-// The folder of a base alone, which fails once in its middle.
-fn torn_once(alloc: Global) -> Folder<TornOnce<'static>> {
-    let (before, behind) = EMPTY_BASE.split_at(12);
-    Folder {
-        base: Ok(TornOnce::new(before, behind)),
-        parts: Ok(Vec::new(alloc)),
-        log: Err(Refusal::NoFile),
-    }
 }
 
 // A read that fails isn't tried again, though it would succeed.
 #[test]
 fn tells_of_a_reader_that_fails_once(rt: HostRuntime) {
-    assert!(rt;
-        is_told(
-            rt.alloc(),
-            torn_once(rt.alloc()),
-            "pcalc: base.pcb: Device\n"
-        )
+    let (before, behind) = EMPTY_BASE.split_at(12);
+    let folder = alone(rt.alloc(), TornOnce::new(before, behind));
+    let recovered = recover(
+        rt.alloc(),
+        folder,
+        Sink::of(b""),
+        "pcalc: base.pcb: Device\n",
     );
+    assert_eq!(rt; recovered, (1, true));
 }
 
-// The status where the output takes all of a recovery, and its flush fails; how many failures are counted; and whether nothing
-// is told.
-fn recover_with_failing_flush(alloc: Global) -> (u8, u64, bool) {
-    let folder: Folder<Tape<'static>> = Folder {
-        base: Ok(Tape::new(&EMPTY_BASE, false)),
-        parts: Ok(Vec::new(alloc)),
-        log: Err(Refusal::NoFile),
-    };
-    let mut sink = Sink::new(b"point 0\nentries 0\npairs 0\n", 26);
-    sink.flush_fault = Some(ErrorKind::Other);
-    let mut out = Tally::new(sink);
-    let mut errors = Tally::new(Sink::new(b"", 0));
-    let status = run_recover(alloc, "d", folder, &mut out, &mut errors);
-    (status, out.failures(), went_out(errors, None, 0, 0))
-}
-
+// The output takes all of a recovery, and its flush fails.
 #[test]
 fn tells_nothing_of_a_flush_that_fails(rt: HostRuntime) {
-    assert_eq!(rt; recover_with_failing_flush(rt.alloc()), (1, 1, true));
+    let folder = alone(rt.alloc(), Tape::new(&EMPTY_BASE, false));
+    let out = Sink::unflushed(b"point 0\nentries 0\npairs 0\n");
+    assert_eq!(rt; recover(rt.alloc(), folder, out, ""), (1, true));
+}
+
+// A log up to its first token, whose phase there isn't.
+const PHASE_FIVE: [u8; 47] = *b"PCALCL01\
+    \x00\x00\x00\x00\x00\x00\x00\x01\x00\x00\x00\x00\
+    \x00\x00\x00\x0d\x01\x01\x00\x01\x00\x01a\x01\x00\x00\x00\x011\
+    \x00\x00\x00\x06\x02\x05\x00\x00\x00\x01";
+
+// The folder with the parts of two keys and of the third point, and that log.
+fn damaged(alloc: Global) -> Result<Folder<Tape<'static>>, AllocError> {
+    let files = [
+        ("part-00001.pcp", Ok(TWO_KEYS.as_slice()), false),
+        ("part-00003.pcp", Ok(THIRD_POINT.as_slice()), false),
+    ];
+    let mut folder = with_parts(Ok(parts_of(alloc, &files)?));
+    folder.log = Ok(Tape::new(&PHASE_FIVE, false));
+    Ok(folder)
+}
+
+// What is recovered of them; the damage is from the 18th byte to the 59th.
+const RECOVERED: [u8; 75] = *b"point 1\nentries 1\nlog BadKind\n\
+    skipped part-00003.pcp Gap 2\npairs 2\na 1\nb 1\n";
+
+// Where fewer bytes go out than there are, the status is 1, else it is 0; nothing is told.
+#[test]
+fn stops_where_the_output_fails(rt: HostRuntime) -> Result<(), Fail> {
+    for room in 0..=RECOVERED.len() {
+        let status = u8::from(room < RECOVERED.len());
+        let folder = damaged(rt.alloc())?;
+        let recovered = recover(rt.alloc(), folder, Sink::new(&RECOVERED, room), "");
+        assert_eq!(rt; recovered, (status, true), "{room}");
+    }
+    Ok(())
 }
 
 // The base of the run behind the one of the parts of two keys, with what they are worth.
@@ -233,28 +185,22 @@ const NEXT_BASE: [u8; 40] = *b"PCALCB01\
     \x00\x01b\x00\x00\x00\x011";
 
 // Whether the base is made of the damaged folder, and its damage goes out as far as a writer with this much room takes it.
-fn is_made(alloc: Global, parts: Parts<'static>, room: usize) -> bool {
+fn is_made(alloc: Global, folder: Folder<Tape>, room: usize) -> bool {
     let mut errors = Tally::new(Sink::new(&RECOVERED[18..59], room));
-    let Ok(base) = recover_base(alloc, damaged(parts), &mut errors) else {
+    let Ok(base) = recover_base(alloc, folder, &mut errors) else {
         return false;
     };
-    let refused = if room < 41 {
-        Some(Refusal::Device)
-    } else {
-        None
-    };
-    let mut out = Tally::new(Sink::new(&NEXT_BASE, 40));
+    let mut out = Tally::new(Sink::of(&NEXT_BASE));
     let encoded = base.encode(&mut out).err();
-    went_out(errors, refused, 41, room) && went_out(out, encoded, 40, 40)
+    went_out(errors) && is_answered(out, encoded)
 }
 
 // A writer that takes less of the damage than there is keeps no base from being made.
 #[test]
 fn makes_a_base_of_a_damaged_folder(rt: HostRuntime) -> Result<(), Fail> {
     for room in 0..43usize {
-        let mut parts = Vec::new(rt.alloc());
-        push_two_keys_and_third(rt.alloc(), &mut parts)?;
-        assert!(rt; is_made(rt.alloc(), parts, room), "{room}");
+        let folder = damaged(rt.alloc())?;
+        assert!(rt; is_made(rt.alloc(), folder, room), "{room}");
     }
     Ok(())
 }
@@ -266,28 +212,21 @@ const LAST_RUN: [u8; 24] = *b"PCALCB01\
 
 // Why no base is made of the folder of a base alone, where that is a fault of the folder, and whether nothing is told.
 fn why_unmade(alloc: Global, base: &'static [u8]) -> (Option<Refusal>, bool) {
-    let folder = Folder {
-        base: Ok(Tape::new(base, false)),
-        parts: Ok(Vec::new(alloc)),
-        log: Err(Refusal::NoFile),
-    };
-    let mut errors = Tally::new(Sink::new(b"", 0));
-    let made = recover_base(alloc, folder, &mut errors);
+    let mut errors = Tally::new(Sink::of(b""));
+    let made = recover_base(alloc, alone(alloc, Tape::new(base, false)), &mut errors);
     let why = match &made {
         Err(Lost::Folder(why)) => Some(*why),
         _ => None,
     };
-    (why, went_out(errors, None, 0, 0))
+    (why, went_out(errors))
 }
 
 #[test]
 fn makes_no_base_behind_the_last_run(rt: HostRuntime) {
-    assert_eq!(rt;
-        why_unmade(rt.alloc(), &LAST_RUN),
-        (Some(Refusal::Full), true)
-    );
-    assert_eq!(rt;
-        why_unmade(rt.alloc(), &LAST_RUN[..23]),
-        (Some(Refusal::Short), true)
-    );
+    for (base, why) in [
+        (&LAST_RUN[..], Refusal::Full),
+        (&LAST_RUN[..23], Refusal::Short),
+    ] {
+        assert_eq!(rt; why_unmade(rt.alloc(), base), (Some(why), true));
+    }
 }

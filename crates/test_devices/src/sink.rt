@@ -11,6 +11,8 @@ pub struct Sink<'a> {
     pub wanted: &'a [u8],
     /// How many more bytes are taken.
     pub room: usize,
+    /// How many bytes of the text there is no room for.
+    pub excess: usize,
     /// How many bytes are taken at most at a write.
     pub step: usize,
     /// What is answered once there is no room.
@@ -27,11 +29,30 @@ impl<'a> Sink<'a> {
         Sink {
             wanted,
             room,
+            excess: wanted.len().saturating_sub(room),
             step: 1_000_000,
             then: Some(ErrorKind::Other),
             flush_fault: None,
             is_same: true,
         }
+    }
+
+    /// Takes this text and no more.
+    pub fn of(wanted: &'a [u8]) -> Sink<'a> {
+        Sink::new(wanted, wanted.len())
+    }
+
+    /// Takes this text, and fails where it is flushed.
+    pub fn unflushed(wanted: &'a [u8]) -> Sink<'a> {
+        let mut sink = Sink::of(wanted);
+        sink.flush_fault = Some(ErrorKind::Other);
+        sink
+    }
+
+    // Whether it has taken what it is to, with so many failures.
+    fn is_right(&self, failures: u64) -> bool {
+        let has_failed = self.excess > 0 || self.flush_fault.is_some();
+        self.is_same && self.wanted.len() == self.excess && failures == u64::from(has_failed)
     }
 }
 
@@ -63,17 +84,35 @@ fn behind(text: &[u8], count: usize) -> &[u8] {
     &text[count.min(text.len())..]
 }
 
-/// Whether a writer with this much room took as much of a text of this length as it had room for; where that isn't all of
-/// it, `Device` was answered, and one failure was counted.
-pub fn went_out(out: Tally<Sink>, refused: Option<Refusal>, length: usize, room: usize) -> bool {
+/// Whether as much of the text went out as there was room for; where that isn't all of it, or the flush failed, one failure was
+/// counted.
+pub fn went_out(out: Tally<Sink>) -> bool {
+    let failures = out.failures();
+    out.into_inner().is_right(failures)
+}
+
+/// Whether it went out so, and `Device` was answered where that isn't all of it.
+pub fn is_answered(out: Tally<Sink>, refused: Option<Refusal>) -> bool {
     let failures = out.failures();
     let sink = out.into_inner();
-    let left = length.saturating_sub(room);
-    if !sink.is_same || sink.wanted.len() != left {
-        return false;
+    let wanted = (sink.excess > 0).then_some(Refusal::Device);
+    refused == wanted && sink.is_right(failures)
+}
+
+/// Whether what is put is answered so by writers that take each number of bytes in turn, up to one more than the text has; else
+/// the number at which it isn't.
+pub fn stops_at<F: Fn(&mut Tally<Sink>) -> Result<(), Refusal>>(
+    text: &[u8],
+    put: F,
+) -> Option<usize>
+    requires { F.IsAlwaysCallable put }
+{
+    for room in 0..text.len().saturating_add(2) {
+        let mut out = Tally::new(Sink::new(text, room));
+        let refused = put(&mut out).err();
+        if !is_answered(out, refused) {
+            return Some(room);
+        }
     }
-    match refused {
-        None => left == 0 && failures == 0,
-        Some(why) => left > 0 && failures == 1 && why == Refusal::Device,
-    }
+    None
 }

@@ -1,5 +1,5 @@
 //! Counted readers and writers.
-use crate::sink::{Sink, went_out};
+use crate::sink::{Sink, is_answered};
 use crate::tape::Tape;
 use pc_types::{Refusal, Tally, read_all};
 use std::alloc::{AllocError, Global};
@@ -40,12 +40,10 @@ fn reads_to_the_end(rt: HostRuntime) -> Result<(), Fail> {
 
 // Whether the reader's fault behind these bytes, five at a read, is answered by `Device` and counted once.
 fn is_stopped(alloc: Global, bytes: &[u8], fault: ErrorKind) -> bool {
-    let rest = bytes;
-    let then = Some(fault);
     let mut tally = Tally::new(Tape {
-        rest,
+        rest: bytes,
         step: 5,
-        then,
+        then: Some(fault),
     });
     let refused = read_all(alloc, &mut tally).err();
     refused == Some(Refusal::Device) && tally.failures() == 1
@@ -73,7 +71,7 @@ fn puts_pieces(room: usize, then: Option<ErrorKind>) -> bool {
     sink.then = then;
     let mut out = Tally::new(sink);
     let refused = out.put_all(&[b"abc", b"", b"de"]).err();
-    went_out(out, refused, 5, room)
+    is_answered(out, refused)
 }
 
 // A writer takes each number of bytes in turn, and then fails, or takes nothing.
@@ -88,9 +86,7 @@ fn puts_what_the_writer_takes(rt: HostRuntime) {
 
 #[test]
 fn counts_a_failed_flush(rt: HostRuntime) {
-    let mut sink = Sink::new(b"", 0);
-    sink.flush_fault = Some(ErrorKind::Other);
-    let mut tally = Tally::new(sink);
+    let mut tally = Tally::new(Sink::unflushed(b""));
     assert!(rt; tally.flush().is_err());
     assert_eq!(rt; tally.failures(), 1);
 }
