@@ -1,7 +1,8 @@
 //! The tickets' files beside the log.
+use crate::writers::Desk;
 use pc_part::Part;
 use pc_replay::{CompleteFile, audit};
-use pc_shared::{CheckpointerSeat, Closed, PartTicket, Shared};
+use pc_shared::{CheckpointerSeat, Closed, PartTicket};
 use pc_tie::StoreName;
 use pc_types::{FileNo, Refusal, Triple};
 use std::alloc::Global;
@@ -9,12 +10,11 @@ use std::sync::Wait;
 
 /// A ticket of each point's file, and one of the join of them all.
 pub fn take_parts<N: StoreName, R: Wait>(
-    rt: &R,
-    alloc: Global,
-    shared: &Shared<N>,
+    desk: &Desk<N, R>,
     seat: &mut CheckpointerSeat<N>,
     points: u32,
 ) -> Result<Vec<PartTicket<N>>, Refusal> {
+    let Desk { rt, alloc, shared } = *desk;
     let mut tickets = Vec::new(alloc);
     if points == 0 {
         return Ok(tickets);
@@ -34,14 +34,7 @@ fn join_tickets<N: StoreName>(
     a: PartTicket<N>,
     b: PartTicket<N>,
 ) -> Result<PartTicket<N>, Refusal> {
-    match a.join(b) {
-        Ok(joined) => Ok(joined),
-        Err((why, a, b)) => {
-            drop(a);
-            drop(b);
-            Err(why)
-        }
-    }
+    a.join(b).map_err(|(why, _a, _b)| why)
 }
 
 /// How many of the tickets' files are of all points from the first on, where each of these is right by the log.
@@ -56,13 +49,8 @@ pub fn right_files<N: StoreName>(
         }
     }
     let log = closed.log().entries(alloc)?;
-    let is_right = audit(
-        alloc,
-        closed.base().pairs(),
-        log.as_slice(),
-        files.as_slice(),
-    )?;
-    Ok(if is_right { Some(files.len()) } else { None })
+    let is_right = audit(alloc, closed.base().pairs(), &log, &files)?;
+    Ok(is_right.then_some(files.len()))
 }
 
 fn complete_file(alloc: Global, part: &Part) -> Result<Option<CompleteFile>, Refusal> {

@@ -1,26 +1,24 @@
 //! The gate at which threads stand until others have come to their places.
 use crate::signs::{Sign, SignCounts, sign_of};
 use pc_types::{Gate, GatePlace};
-use std::sync::atomic::{AtomicU64, Ordering};
+use std::sync::atomic::{AtomicBool, AtomicU64, Ordering};
 use std::thread;
 
 /// The so-manyth time that somebody comes to a place.
-#[derive(Clone, Copy)]
-pub struct SignVisit(pub Sign, pub u64);
+pub type Visit = (Sign, u64);
 
 /// Who makes the first visit stands there until the second was made.
-#[derive(Clone, Copy)]
-pub struct Stop(pub SignVisit, pub SignVisit);
+pub type Stop = (Visit, Visit);
 
 /// A gate with stops, and visits that are made only while nobody stands at it. At each place it lets other threads go first, so
 /// that their ways mix.
 #[derive(Drop)]
 pub struct Meeting {
     stops: &'static [Stop],
-    alone: &'static [SignVisit],
+    alone: &'static [Visit],
     counts: SignCounts,
     standing: AtomicU64,
-    missed: AtomicU64,
+    has_failed: AtomicBool,
 }
 
 // How often who stands looks for the others.
@@ -31,45 +29,40 @@ const MORE_TURNS: u32 = 1000;
 
 impl Meeting {
     /// Nobody has come yet.
-    pub fn new(stops: &'static [Stop], alone: &'static [SignVisit]) -> Meeting {
+    pub fn new(stops: &'static [Stop], alone: &'static [Visit]) -> Meeting {
         Meeting {
             stops,
             alone,
             counts: SignCounts::new(),
             standing: AtomicU64::new(0),
-            missed: AtomicU64::new(0),
+            has_failed: AtomicBool::new(false),
         }
     }
 
     /// Whether all came where one stood for them, and none while one stood where nobody was to.
     pub fn have_met(&self) -> bool {
-        self.missed.load(Ordering::SeqCst) == 0
+        !self.has_failed.load(Ordering::SeqCst)
     }
 
     /// Somebody comes to the sign: stands where he is to, and has failed where nobody was to stand.
     pub fn come(&self, sign: Sign) {
-        let time = self.counts.note(sign);
-        for visit in self.alone {
-            self.be_alone(visit, sign, time);
+        let visit = (sign, self.counts.note(sign));
+        let is_alone = self.standing.load(Ordering::SeqCst) == 0;
+        if !is_alone && self.alone.contains(&visit) {
+            self.has_failed.store(true, Ordering::SeqCst);
         }
-        for stop in self.stops {
-            self.stop(stop, sign, time);
-        }
-    }
-
-    // Stands where the stop is at this sign and time.
-    fn stop(&self, stop: &Stop, sign: Sign, time: u64) {
-        let Stop(SignVisit(at, which), theirs) = *stop;
-        if at == sign && which == time {
-            self.stand(theirs);
+        for (ours, theirs) in self.stops {
+            if *ours == visit {
+                self.stand(*theirs);
+            }
         }
     }
 
     // Stands until the visit was made, and some turns more; where it isn't made it goes on, and the meeting has failed.
-    fn stand(&self, theirs: SignVisit) {
+    fn stand(&self, theirs: Visit) {
         self.standing.fetch_add(1, Ordering::SeqCst);
         if !self.is_made(theirs) {
-            self.missed.store(1, Ordering::SeqCst);
+            self.has_failed.store(true, Ordering::SeqCst);
         }
         for _ in 0..MORE_TURNS {
             thread::yield_now();
@@ -78,22 +71,14 @@ impl Meeting {
     }
 
     // Whether the visit was made after some turns.
-    fn is_made(&self, visit: SignVisit) -> bool {
+    fn is_made(&self, (sign, time): Visit) -> bool {
         for _ in 0..TURNS {
-            if self.counts.get(visit.0) >= visit.1 {
+            if self.counts.get(sign) >= time {
                 return true;
             }
             thread::yield_now();
         }
         false
-    }
-
-    // Where this is a visit that is made while nobody stands, and somebody does, the meeting has failed.
-    fn be_alone(&self, visit: &SignVisit, sign: Sign, time: u64) {
-        let SignVisit(at, which) = *visit;
-        if at == sign && which == time && self.standing.load(Ordering::SeqCst) > 0 {
-            self.missed.store(1, Ordering::SeqCst);
-        }
     }
 }
 

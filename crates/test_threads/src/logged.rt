@@ -4,7 +4,7 @@ ghost use Rattle.std.specs.Prelude.{◌≡◌, ◌≤◌, [], length};
 use pc_log::encode_log;
 use pc_shared::{Closed, LogPass, Shared};
 use pc_tie::StoreName;
-use pc_types::{Lsn, OpenGate, Refusal, Tally};
+use pc_types::{Gate, Lsn, Refusal, Tally};
 use pc_workers::{log_loop, log_rest};
 use std::alloc::Global;
 use std::sync::Wait;
@@ -23,16 +23,17 @@ impl TextOfLog {
         }
     }
 
-    /// Writes the log until the end is marked and no entry is left.
-    pub fn write<N: StoreName, R: Wait>(
+    /// Writes the log until the end is marked and no entry is left; the number of the last entry.
+    pub fn write<N: StoreName, R: Wait, G: Gate>(
         &mut self,
         rt: &R,
         shared: &Shared<N>,
         pass: &mut LogPass<N>,
+        gate: &G,
     ) -> Result<Lsn, Refusal>
         requires { pass.old ≡ [] }
     {
-        match log_loop(rt, shared, pass, &mut self.out, &OpenGate) {
+        match log_loop(rt, shared, pass, &mut self.out, gate) {
             Ok(end) => Ok(end.last),
             Err(why) => Err(why),
         }
@@ -44,17 +45,13 @@ impl TextOfLog {
     {
         log_rest(closed, &mut self.out)
     }
-}
 
-/// Whether the text is that of the closed log.
-pub fn is_text_of<N: StoreName>(
-    alloc: Global,
-    text: TextOfLog,
-    closed: &Closed<N>,
-) -> Result<bool, Refusal> {
-    let mut whole = Tally::new(Vec::new(alloc));
-    let log = closed.log().entries(alloc)?;
-    encode_log(&mut whole, closed.base().run(), log.as_slice())?;
-    let TextOfLog { out } = text;
-    Ok(out.into_inner().as_slice() == whole.into_inner().as_slice())
+    /// Whether it is the text of the closed log.
+    pub fn is_of<N: StoreName>(self, alloc: Global, closed: &Closed<N>) -> Result<bool, Refusal> {
+        let mut whole = Tally::new(Vec::new(alloc));
+        let log = closed.log().entries(alloc)?;
+        encode_log(&mut whole, closed.base().run(), log.as_slice())?;
+        let TextOfLog { out } = self;
+        Ok(out.into_inner().as_slice() == whole.into_inner().as_slice())
+    }
 }

@@ -14,11 +14,11 @@ mod signs;
 mod writers;
 
 use example::{Example, use_store};
-use meeting::{Left, Plan, meet};
+use meeting::{Left, meet};
 use pc_part::Base;
 use pc_shared::Opened;
 use pc_types::{MOST_SESSIONS, Refusal};
-use plans::PLANS;
+use plans::{PLANS, Plan};
 use std::alloc::Global;
 use std::hash::RandomState;
 use std::io::{self, Write};
@@ -56,8 +56,7 @@ fn run_example<H: Threads + Wait + Sync>(
     alloc: Global,
     seed: RandomState,
 ) -> Result<Example, Refusal> {
-    let base = Base::start(1, Vec::new(alloc));
-    let opened = Opened::new(alloc, base, EXAMPLE_SESSIONS, CAPACITY, seed)?;
+    let opened = open(alloc, EXAMPLE_SESSIONS, seed)?;
     use_store::<Brand, _>(threads, alloc, opened)
 }
 
@@ -66,33 +65,37 @@ fn run_meetings<H: Threads + Wait + Sync>(
     threads: &H,
     seed: RandomState,
 ) -> io::Result<()> {
-    for (name, plan) in PLANS {
+    for plan in PLANS {
         match meet_by(threads, rt.alloc(), seed, &plan) {
             Ok(left) => {
-                tell(rt, name, &left)?;
+                tell(rt, plan.name, &left)?;
                 if !left.went_on() {
                     return Err(io::ErrorKind::Other.into());
                 }
             }
-            Err(why) => tell_refusal(rt, name, why)?,
+            Err(why) => tell_refusal(rt, plan.name, why)?,
         }
     }
     Ok(())
 }
 
-// The stores of all meetings hash their keys under one seed.
 fn meet_by<H: Threads + Wait + Sync>(
     threads: &H,
     alloc: Global,
     seed: RandomState,
     plan: &Plan,
 ) -> Result<Left, Refusal> {
-    if plan.sessions == 0 || MOST_SESSIONS < plan.sessions {
+    let opened = open(alloc, plan.work.sessions(), seed)?;
+    meet::<Brand, _>(threads, alloc, opened, plan)
+}
+
+// An empty store. All hash their keys under one seed.
+fn open(alloc: Global, sessions: u8, seed: RandomState) -> Result<Opened, Refusal> {
+    if sessions == 0 || MOST_SESSIONS < sessions {
         return Err(Refusal::NoSession);
     }
     let base = Base::start(1, Vec::new(alloc));
-    let opened = Opened::new(alloc, base, plan.sessions, CAPACITY, seed)?;
-    meet::<Brand, _>(threads, alloc, opened, plan)
+    Opened::new(alloc, base, sessions, CAPACITY, seed)
 }
 
 fn tell_example(rt: &HostRuntime, left: &Example) -> io::Result<()> {

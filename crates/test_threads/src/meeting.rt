@@ -5,37 +5,22 @@ ghost use Rattle.pc_model.specs.History.{phase_of};
 ghost use Rattle.pc_board.specs.Passes.{IsOfBoard};
 
 use crate::audits::{right_files, take_parts};
-use crate::gate::{Meeting, SignVisit, Stop};
-use crate::jobs::Work;
+use crate::gate::Meeting;
+use crate::logged::TextOfLog;
+use crate::plans::Plan;
 use crate::receipts::{are_exact, count_of, reads_of};
 use crate::signs::Sign;
+use crate::writers::Desk;
 use pc_board::{Board, BoardPass};
 use pc_jobs::Job;
-use pc_log::encode_log;
-use pc_shared::{CheckpointerSeat, Closed, LogPass, Opened, PartTicket, Session, Shared};
+use pc_shared::{CheckpointerSeat, Closed, LogPass, Opened, PartTicket, Session};
 use pc_tie::StoreName;
-use pc_types::{Entry, Lsn, Refusal, Tally};
-use pc_workers::{Count, checkpoint_loop, client_loop, collapse_loop, log_loop, log_rest};
+use pc_types::{Entry, Lsn, Refusal};
+use pc_workers::{Count, checkpoint_loop, client_loop};
 use std::alloc::Global;
 use std::sync::Wait;
 use std::sync::atomic::{AtomicU64, Ordering};
 use std::thread::{self, Threads, join};
-
-/// What is to be done in a store, and who stands where for whom.
-#[derive(Clone, Copy)]
-pub struct Plan {
-    pub sessions: u8,
-    pub points: u32,
-    /// Up to which point a collapser joins files beside all others, 0 where there is none; where it is to join more points than are
-    /// taken, it waits for the end.
-    pub joins: u32,
-    pub work: Work,
-    /// How many entries a client may leave unwritten behind its commit; where none is given it never waits for the log.
-    pub lag: Option<u32>,
-    pub stops: &'static [Stop],
-    /// The visits that are made while nobody stands.
-    pub alone: &'static [SignVisit],
-}
 
 /// What the threads leave.
 #[derive(Drop)]
@@ -80,9 +65,8 @@ struct Done {
 
 // What the threads have, beside what is their own.
 #[derive(Clone, Copy)]
-struct MeetingRoom<'a, N: StoreName> {
-    alloc: Global,
-    shared: &'a Shared<N>,
+struct Room<'a, N: StoreName, R: Wait> {
+    desk: Desk<'a, N, R>,
     plan: &'a Plan,
     jobs: &'a [Vec<Job>],
     gate: &'a Meeting,
@@ -103,210 +87,140 @@ impl Done {
     }
 }
 
-// The jobs of the session at this place.
-fn run_client<N: StoreName, R: Wait>(
-    rt: &R,
-    room: &MeetingRoom<N>,
-    place: usize,
-    session: &mut Session<N>,
-) {
-    let Some(jobs) = room.jobs.get(place) else {
-        return;
-    };
-    let count = client_loop(
-        rt,
-        room.alloc,
-        room.shared,
-        session,
-        jobs.as_slice(),
-        room.plan.lag,
-        room.gate,
-    );
-    room.done.note(count);
-}
-
 // As many as a store may have sessions.
 const MOST_THREADS: usize = 64;
 
-// All clients, each on a thread of its own.
-fn run_clients<N: StoreName + Send + Sync, R: Threads + Wait + Sync>(
-    rt: &R,
-    room: &MeetingRoom<N>,
-    sessions: &mut [Session<N>],
-) {
-    thread::for_each_mut(
-        rt,
-        sessions,
-        MOST_THREADS,
-        &|place, session| { run_client(rt, room, place, session) },
-    );
-}
-
-// The end is marked, by which a collapser that waits for more points than there are is to be woken. Where he sleeps on, a change of
-// the phase wakes him, so that the program comes to its end.
-fn end<N: StoreName, R: Wait>(rt: &R, room: &MeetingRoom<N>, seat: &mut CheckpointerSeat<N>) {
-    let mut witness = room.shared.witness(rt);
-    let _marked = room.shared.mark_end(rt, &mut witness);
-    room.gate.come(Sign::EndIsMarked);
-    if room.gate.have_met() || room.plan.joins <= room.plan.points {
-        return;
+impl<'a, N: StoreName + Send + Sync, R: Threads + Wait + Sync> Room<'a, N, R> {
+    // The jobs of the session at this place.
+    fn run_client(&self, place: usize, session: &mut Session<N>) {
+        let Some(jobs) = self.jobs.get(place) else {
+            return;
+        };
+        let Desk { rt, alloc, shared } = self.desk;
+        let count = client_loop(rt, alloc, shared, session, jobs, self.plan.lag, self.gate);
+        self.done.note(count);
     }
-    let reply = room.shared.advance(rt, seat);
-    drop(reply);
-}
 
-// The clients and the checkpointer; once they are through, the end is marked.
-fn run_to_the_end<N: StoreName + Send + Sync, R: Threads + Wait + Sync>(
-    rt: &R,
-    room: &MeetingRoom<N>,
-    board: &Board,
-    pass: &mut BoardPass,
-    seat: &mut CheckpointerSeat<N>,
-    sessions: &mut [Session<N>],
-) -> Result<u32, Refusal>
-    requires board { IsOfBoard pass.old board.now }
-    requires rest { phase_of seat.old ≡ Rest }
-{
-    let points = room.plan.points;
-    let (points, ()) = join(
-        rt,
-        || -> Result<u32, Refusal>
-            requires { IsOfBoard pass.now board.now × (phase_of seat.now ≡ Rest) }
-        { checkpoint_loop(rt, room.shared, seat, board, pass, points, room.gate) },
-        || run_clients(rt, room, sessions),
-    );
-    end(rt, room, seat);
-    points
-}
-
-// The collapser, where the plan has one, and the tickets that it is left with.
-fn collapse<N: StoreName, R: Wait>(
-    rt: &R,
-    room: &MeetingRoom<N>,
-    board: &Board,
-    pass: &mut BoardPass,
-) -> Result<Vec<PartTicket<N>>, Refusal>
-    requires { IsOfBoard pass.old board.now }
-{
-    if room.plan.joins == 0 {
-        return Ok(Vec::new(room.alloc));
+    // All clients, each on a thread of its own.
+    fn run_clients(&self, sessions: &mut [Session<N>]) {
+        thread::for_each_mut(
+            self.desk.rt,
+            sessions,
+            MOST_THREADS,
+            &|place, session| { self.run_client(place, session) },
+        );
     }
-    let mut witness = room.shared.witness(rt);
-    let held = collapse_loop(
-        rt,
-        room.alloc,
-        room.shared,
-        &mut witness,
-        board,
-        pass,
-        0,
-        room.plan.joins,
-        room.gate,
-    );
-    room.gate.come(Sign::CollapserEnds);
-    held
-}
 
-// The logger; the number of the last entry that it was handed.
-fn log<N: StoreName, R: Wait>(
-    rt: &R,
-    room: &MeetingRoom<N>,
-    text: &mut Tally<Vec<u8>>,
-    pass: &mut LogPass<N>,
-) -> Result<Lsn, Refusal>
-    requires { pass.old ≡ [] }
-{
-    match log_loop(rt, room.shared, pass, text, room.gate) {
-        Ok(end) => Ok(end.last),
-        Err(why) => Err(why),
+    // The end is marked, by which a collapser that waits for more points than there are is to be woken. Where he sleeps on, a
+    // change of the phase wakes him, so that the program comes to its end.
+    fn end(&self, seat: &mut CheckpointerSeat<N>) {
+        self.desk.mark_end();
+        self.gate.come(Sign::EndIsMarked);
+        if self.gate.have_met() || self.plan.joins <= self.plan.points {
+            return;
+        }
+        let reply = self.desk.shared.advance(self.desk.rt, seat);
+        drop(reply);
     }
-}
 
-// The logger, and beside it the collapser.
-fn log_beside_collapser<N: StoreName + Send + Sync, R: Threads + Wait + Sync>(
-    rt: &R,
-    room: &MeetingRoom<N>,
-    board: &Board,
-    theirs: &mut BoardPass,
-    text: &mut Tally<Vec<u8>>,
-    pass: &mut LogPass<N>,
-) -> Result<Vec<PartTicket<N>>, Refusal>
-    requires theirs { IsOfBoard theirs.old board.now }
-    requires pass { pass.old ≡ [] }
-{
-    let (logged, held) = join(
-        rt,
-        || -> Result<Lsn, Refusal>
-            requires { pass.now ≡ [] }
-        { log(rt, room, text, pass) },
-        || -> Result<Vec<PartTicket<N>>, Refusal>
-            requires { IsOfBoard theirs.now board.now }
-        { collapse(rt, room, board, theirs) },
-    );
-    logged?;
-    held
-}
+    // The collapser, where the plan has one, and the tickets that it is left with.
+    fn collapse(&self, board: &Board, pass: &mut BoardPass) -> Result<Vec<PartTicket<N>>, Refusal>
+        requires { IsOfBoard pass.old board.now }
+    {
+        if self.plan.joins == 0 {
+            return Ok(Vec::new(self.desk.alloc));
+        }
+        let held = self.desk.collapse(board, pass, self.plan.joins, self.gate);
+        self.gate.come(Sign::CollapserEnds);
+        held
+    }
 
-// All of them on the board. The tickets are the collapser's.
-fn run_on<N: StoreName + Send + Sync, R: Threads + Wait + Sync>(
-    rt: &R,
-    room: &MeetingRoom<N>,
-    board: &Board,
-    ours: &mut BoardPass,
-    theirs: &mut BoardPass,
-    text: &mut Tally<Vec<u8>>,
-    pass: &mut LogPass<N>,
-    seat: &mut CheckpointerSeat<N>,
-    sessions: &mut [Session<N>],
-) -> Result<Vec<PartTicket<N>>, Refusal>
-    requires ours { IsOfBoard ours.old board.now }
-    requires theirs { IsOfBoard theirs.old board.now }
-    requires pass { pass.old ≡ [] }
-    requires rest { phase_of seat.old ≡ Rest }
-{
-    let (ended, held) = join(
-        rt,
-        || -> Result<u32, Refusal>
-            requires { IsOfBoard ours.now board.now × (phase_of seat.now ≡ Rest) }
-        { run_to_the_end(rt, room, board, ours, seat, sessions) },
-        || -> Result<Vec<PartTicket<N>>, Refusal>
-            requires { IsOfBoard theirs.now board.now × (pass.now ≡ []) }
-        { log_beside_collapser(rt, room, board, theirs, text, pass) },
-    );
-    ended?;
-    held
-}
+    // The logger, and beside it the collapser.
+    fn log_beside_collapser(
+        &self,
+        board: &Board,
+        theirs: &mut BoardPass,
+        text: &mut TextOfLog,
+        pass: &mut LogPass<N>,
+    ) -> Result<Vec<PartTicket<N>>, Refusal>
+        requires theirs { IsOfBoard theirs.old board.now }
+        requires pass { pass.old ≡ [] }
+    {
+        let Desk { rt, shared, .. } = self.desk;
+        let (logged, held) = join(
+            rt,
+            || -> Result<Lsn, Refusal>
+                requires { pass.now ≡ [] }
+            { text.write(rt, shared, pass, self.gate) },
+            || -> Result<Vec<PartTicket<N>>, Refusal>
+                requires { IsOfBoard theirs.now board.now }
+            { self.collapse(board, theirs) },
+        );
+        logged?;
+        held
+    }
 
-// All of them. Then the other tickets are taken.
-fn run_all<N: StoreName + Send + Sync, R: Threads + Wait + Sync>(
-    rt: &R,
-    room: &MeetingRoom<N>,
-    text: &mut Tally<Vec<u8>>,
-    pass: &mut LogPass<N>,
-    seat: &mut CheckpointerSeat<N>,
-    sessions: &mut [Session<N>],
-) -> Result<Vec<PartTicket<N>>, Refusal>
-    requires pass { pass.old ≡ [] }
-    requires seat { seat.old ≡ [] }
-{
-    let (board, mut passes) = Board::new(room.alloc, 2)?;
-    let (Some(mut theirs), Some(mut ours)) = (passes.pop(), passes.pop()) else {
-        return Err(Refusal::NoSession);
-    };
-    let mut held = run_on(
-        rt,
-        room,
-        &board,
-        &mut ours,
-        &mut theirs,
-        text,
-        pass,
-        seat,
-        sessions,
-    )?;
-    let mut tickets = take_parts(rt, room.alloc, room.shared, seat, room.plan.points)?;
-    tickets.append(&mut held)?;
-    Ok(tickets)
+    // The clients and the checkpointer, and beside them the logger and the collapser, whose tickets these are. Once the first are
+    // through, the end is marked.
+    fn run_on(
+        &self,
+        board: &Board,
+        ours: &mut BoardPass,
+        theirs: &mut BoardPass,
+        text: &mut TextOfLog,
+        pass: &mut LogPass<N>,
+        seat: &mut CheckpointerSeat<N>,
+        sessions: &mut [Session<N>],
+    ) -> Result<Vec<PartTicket<N>>, Refusal>
+        requires ours { IsOfBoard ours.old board.now }
+        requires theirs { IsOfBoard theirs.old board.now }
+        requires pass { pass.old ≡ [] }
+        requires rest { phase_of seat.old ≡ Rest }
+    {
+        let Desk { rt, shared, .. } = self.desk;
+        let (points, held) = join(
+            rt,
+            || -> Result<u32, Refusal>
+                requires { IsOfBoard ours.now board.now × (phase_of seat.now ≡ Rest) }
+            {
+                let (points, ()) = join(
+                    rt,
+                    || -> Result<u32, Refusal>
+                        requires { IsOfBoard ours.now board.now × (phase_of seat.now ≡ Rest) }
+                    { checkpoint_loop(rt, shared, seat, board, ours, self.plan.points, self.gate) },
+                    || self.run_clients(sessions),
+                );
+                self.end(seat);
+                points
+            },
+            || -> Result<Vec<PartTicket<N>>, Refusal>
+                requires { IsOfBoard theirs.now board.now × (pass.now ≡ []) }
+            { self.log_beside_collapser(board, theirs, text, pass) },
+        );
+        points?;
+        held
+    }
+
+    // All of them. Then the other tickets are taken.
+    fn run_all(
+        &self,
+        text: &mut TextOfLog,
+        pass: &mut LogPass<N>,
+        seat: &mut CheckpointerSeat<N>,
+        sessions: &mut [Session<N>],
+    ) -> Result<Vec<PartTicket<N>>, Refusal>
+        requires pass { pass.old ≡ [] }
+        requires seat { seat.old ≡ [] }
+    {
+        let (board, mut passes) = Board::new(self.desk.alloc, 2)?;
+        let (Some(mut theirs), Some(mut ours)) = (passes.pop(), passes.pop()) else {
+            return Err(Refusal::NoSession);
+        };
+        let mut held = self.run_on(&board, &mut ours, &mut theirs, text, pass, seat, sessions)?;
+        let mut tickets = take_parts(&self.desk, seat, self.plan.points)?;
+        tickets.append(&mut held)?;
+        Ok(tickets)
+    }
 }
 
 /// Opens no store, but runs this one to its close by the plan, and tells what it leaves.
@@ -321,19 +235,23 @@ pub fn meet<N: StoreName + Send + Sync, R: Threads + Wait + Sync>(
     let jobs = plan.work.jobs(alloc)?;
     let gate = Meeting::new(plan.stops, plan.alone);
     let done = Done::new();
-    let mut text = Tally::new(Vec::new(alloc));
+    let mut text = TextOfLog::new(alloc);
     let (shared, mut sessions, mut seat, mut pass) = opened.named::<N>()?;
-    let room = MeetingRoom {
+    let desk = Desk {
+        rt,
         alloc,
         shared: &shared,
+    };
+    let room = Room {
+        desk,
         plan,
         jobs: &jobs,
         gate: &gate,
         done: &done,
     };
-    let tickets = run_all(rt, &room, &mut text, &mut pass, &mut seat, &mut sessions)?;
+    let tickets = room.run_all(&mut text, &mut pass, &mut seat, &mut sessions)?;
     let closed = shared.close(sessions, seat, tickets, pass);
-    log_rest(&closed, &mut text)?;
+    text.write_rest(&closed)?;
     left_by(alloc, &closed, &gate, &done, text)
 }
 
@@ -342,47 +260,28 @@ fn left_by<N: StoreName>(
     closed: &Closed<N>,
     gate: &Meeting,
     done: &Done,
-    text: Tally<Vec<u8>>,
+    text: TextOfLog,
 ) -> Result<Left, Refusal> {
     let log = closed.log().entries(alloc)?;
-    let (entries, tokens) = counts_of(log.as_slice());
+    let tokens = tokens_in(&log);
     Ok(Left {
         have_met: gate.have_met(),
         commits: done.commits.load(Ordering::SeqCst),
         given_up: done.given_up.load(Ordering::SeqCst),
         receipts: count_of(&closed.receipts),
         reads: reads_of(closed),
-        entries,
+        entries: log.len().saturating_sub(tokens),
         tokens,
         logged: closed.logged,
         all: closed.all,
-        is_written: is_text_of(alloc, text, closed)?,
+        is_written: text.is_of(alloc, closed)?,
         are_exact: are_exact(alloc, closed)?,
         right_files: right_files(alloc, closed)?,
     })
 }
 
-// How many commits the log has, and how many tokens.
-fn counts_of(log: &[Entry]) -> (usize, usize) {
-    let mut commits = 0usize;
-    let mut tokens = 0usize;
-    for entry in log {
-        match entry {
-            Entry::Commit(_, _) => commits = commits.saturating_add(1),
-            Entry::Token(_, _) => tokens = tokens.saturating_add(1),
-        }
-    }
-    (commits, tokens)
-}
-
-// Whether the text is that of the closed log.
-fn is_text_of<N: StoreName>(
-    alloc: Global,
-    text: Tally<Vec<u8>>,
-    closed: &Closed<N>,
-) -> Result<bool, Refusal> {
-    let mut whole = Tally::new(Vec::new(alloc));
-    let log = closed.log().entries(alloc)?;
-    encode_log(&mut whole, closed.base().run(), log.as_slice())?;
-    Ok(text.into_inner().as_slice() == whole.into_inner().as_slice())
+fn tokens_in(log: &[Entry]) -> usize {
+    log.iter()
+        .filter(|entry| matches!(entry, Entry::Token(_, _)))
+        .count()
 }

@@ -1,10 +1,12 @@
 //! What threads have passed of each other's ways.
 use pc_types::{GatePlace, Phase, SessionNo};
+use std::array;
 use std::sync::atomic::{AtomicU64, Ordering};
 
 /// A place that is counted: of sessions 1 and 2 the beginnings of transactions, their first operations and their commits; of
 /// session 3 the beginnings and the commits; that session 1 waits for the log, and that the logger is to write; of the checkpointer
-/// some of its phases, that some are due, and its keys; how often the first collapser holds two files, and that it has ended; and that the end is marked.
+/// some of its phases, that some are due, and its keys; how often the first collapser holds two files, and that it has ended; and
+/// that the end is marked.
 #[derive(Clone, Copy, Debug, PartialEq, Eq)]
 pub enum Sign {
     FirstStarts,
@@ -30,26 +32,26 @@ pub enum Sign {
 
 /// The sign of the place, where it is counted.
 pub fn sign_of(place: GatePlace) -> Option<Sign> {
-    match place {
-        GatePlace::Start(SessionNo(1)) => Some(Sign::FirstStarts),
-        GatePlace::Start(SessionNo(2)) => Some(Sign::SecondStarts),
-        GatePlace::Start(SessionNo(3)) => Some(Sign::ThirdStarts),
-        GatePlace::Step(SessionNo(1), 1) => Some(Sign::FirstSteps),
-        GatePlace::Step(SessionNo(2), 1) => Some(Sign::SecondSteps),
-        GatePlace::Committed(SessionNo(1)) => Some(Sign::FirstCommits),
-        GatePlace::Committed(SessionNo(2)) => Some(Sign::SecondCommits),
-        GatePlace::Committed(SessionNo(3)) => Some(Sign::ThirdCommits),
-        GatePlace::Behind(SessionNo(1)) => Some(Sign::FirstIsBehind),
-        GatePlace::Writing(_) => Some(Sign::LoggerIsToWrite),
-        GatePlace::Due(Phase::Prepare) => Some(Sign::PrepareIsDue),
-        GatePlace::Due(Phase::Capture) => Some(Sign::CaptureIsDue),
-        GatePlace::Entered(Phase::Resolve) => Some(Sign::EntersResolve),
-        GatePlace::Entered(Phase::Complete) => Some(Sign::EntersComplete),
-        GatePlace::Entered(Phase::Rest) => Some(Sign::EntersRest),
-        GatePlace::Took => Some(Sign::Takes),
-        GatePlace::Pair(0) => Some(Sign::Pairs),
-        _ => None,
-    }
+    Some(match place {
+        GatePlace::Start(SessionNo(1)) => Sign::FirstStarts,
+        GatePlace::Start(SessionNo(2)) => Sign::SecondStarts,
+        GatePlace::Start(SessionNo(3)) => Sign::ThirdStarts,
+        GatePlace::Step(SessionNo(1), 1) => Sign::FirstSteps,
+        GatePlace::Step(SessionNo(2), 1) => Sign::SecondSteps,
+        GatePlace::Committed(SessionNo(1)) => Sign::FirstCommits,
+        GatePlace::Committed(SessionNo(2)) => Sign::SecondCommits,
+        GatePlace::Committed(SessionNo(3)) => Sign::ThirdCommits,
+        GatePlace::Behind(SessionNo(1)) => Sign::FirstIsBehind,
+        GatePlace::Writing(_) => Sign::LoggerIsToWrite,
+        GatePlace::Due(Phase::Prepare) => Sign::PrepareIsDue,
+        GatePlace::Due(Phase::Capture) => Sign::CaptureIsDue,
+        GatePlace::Entered(Phase::Resolve) => Sign::EntersResolve,
+        GatePlace::Entered(Phase::Complete) => Sign::EntersComplete,
+        GatePlace::Entered(Phase::Rest) => Sign::EntersRest,
+        GatePlace::Took => Sign::Takes,
+        GatePlace::Pair(0) => Sign::Pairs,
+        _ => return None,
+    })
 }
 
 /// How often each was passed.
@@ -62,27 +64,7 @@ impl SignCounts {
     /// Nothing was passed.
     pub fn new() -> SignCounts {
         SignCounts {
-            counts: [
-                AtomicU64::new(0),
-                AtomicU64::new(0),
-                AtomicU64::new(0),
-                AtomicU64::new(0),
-                AtomicU64::new(0),
-                AtomicU64::new(0),
-                AtomicU64::new(0),
-                AtomicU64::new(0),
-                AtomicU64::new(0),
-                AtomicU64::new(0),
-                AtomicU64::new(0),
-                AtomicU64::new(0),
-                AtomicU64::new(0),
-                AtomicU64::new(0),
-                AtomicU64::new(0),
-                AtomicU64::new(0),
-                AtomicU64::new(0),
-                AtomicU64::new(0),
-                AtomicU64::new(0),
-            ],
+            counts: array::from_fn(|_| AtomicU64::new(0)),
         }
     }
 
