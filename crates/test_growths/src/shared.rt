@@ -201,24 +201,24 @@ const LEFT: Left = (
 );
 
 fn receipt<N: StoreName>(
-    alloc: Global,
     closed: &Closed<N>,
     session: usize,
     place: usize,
-) -> Result<Option<(u32, usize, usize)>, Refusal> {
-    let Some(receipt) = closed.receipt(session, place) else {
-        return Ok(None);
-    };
-    let writes = again(|| Ok(receipt.writes(alloc)?.len()))?;
-    Ok(Some((receipt.number.0, receipt.reads.len(), writes)))
+) -> Option<(u32, usize, usize)> {
+    let receipt = closed.receipt(session, place)?;
+    Some((
+        receipt.number.0,
+        receipt.reads.len(),
+        receipt.writes().len(),
+    ))
 }
 
-fn left<N: StoreName>(alloc: Global, closed: &Closed<N>) -> Result<Left, Refusal> {
+fn left<N: StoreName>(closed: &Closed<N>) -> Left {
     let receipts = [
-        receipt(alloc, closed, 0, 0)?,
-        receipt(alloc, closed, 0, 1)?,
-        receipt(alloc, closed, 1, 0)?,
-        receipt(alloc, closed, 1, 1)?,
+        receipt(closed, 0, 0),
+        receipt(closed, 0, 1),
+        receipt(closed, 1, 0),
+        receipt(closed, 1, 1),
     ];
     let (last, entries) = match closed.parts.first() {
         Some(ticket) => (
@@ -227,14 +227,13 @@ fn left<N: StoreName>(alloc: Global, closed: &Closed<N>) -> Result<Left, Refusal
         ),
         None => (0, 0),
     };
-    Ok((receipts, closed.log().len(), closed.logged, last, entries))
+    (receipts, closed.log().len(), closed.logged, last, entries)
 }
 
 // All that is done: the numbers of the first wrong rows, whether both points and the log were taken, and what is left.
 type Played = ([usize; 3], bool, Left);
 
 fn play<N: StoreName, R: Wait>(mut table: Table<N, R>) -> Result<Played, Refusal> {
-    let alloc = table.alloc;
     let first = table.first_wrong(&FIRST);
     let mut taken = table.captures() && table.completes();
     let second = table.first_wrong(&SECOND);
@@ -244,8 +243,7 @@ fn play<N: StoreName, R: Wait>(mut table: Table<N, R>) -> Result<Played, Refusal
     let two = table.ticket(FileNo(2))?;
     let joined = join(one, two)?;
     taken = taken && table.logs();
-    let closed = table.close(joined)?;
-    Ok(([first, second, last], taken, left(alloc, &closed)?))
+    Ok(([first, second, last], taken, left(&table.close(joined)?)))
 }
 
 // What is played with the store; None where there was no memory to give it its name.
