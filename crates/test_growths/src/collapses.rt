@@ -83,7 +83,12 @@ fn all_join<R: Threads + Wait + Sync>(rt: &R, alloc: Global) -> Result<bool, Ref
     let parts = again(|| parts(alloc))?;
     for call in CALLS {
         let joined = again(|| join_by(rt, alloc, call, &parts))?;
-        if !again(|| has_text(alloc, &joined, JOINED))? {
+        // An output in memory that can't grow is a device that fails.
+        let is_right = match has_text(alloc, &joined, JOINED) {
+            Ok(is_right) => is_right,
+            Err(_) => has_text(alloc, &joined, JOINED)?,
+        };
+        if !is_right {
             return Ok(false);
         }
     }
