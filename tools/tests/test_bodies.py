@@ -145,7 +145,11 @@ class Meetings(InFolder):
 
     def wrong(self, name, *printed):
         """What is wrong with the body where the copies print these lines, one after the other."""
-        with mock.patch.object(try_meetings, "told", side_effect=[(lines, "the end") for lines in printed]):
+        return self.wrong_by(name, *[(lines, "the end") for lines in printed])
+
+    def wrong_by(self, name, *told):
+        """The same where this is what they print, with its end."""
+        with mock.patch.object(try_meetings, "told", side_effect=told):
             return try_meetings.wrong_with(try_meetings.lines_of(name))
 
     def test_the_changes_of_a_body(self):
@@ -162,6 +166,19 @@ class Meetings(InFolder):
         self.assertEqual(self.wrong("meet", ["three meet: met false"]), "no line: the end")
         self.write("crates/test_threads/stdout", "two meet: met false\n")
         self.assertEqual(self.wrong("meet", ["two meet: met false"]), "two meet shows it as it stands")
+
+    def test_a_meeting_that_never_ends(self):
+        self.write("tools/meetings/meet.edit", "meeting: two meet\nends: never\nfile: pc_low/src/lib.rt\nold: a = 1\nnew: a = 5\n")
+        as_it_stands, without_end = (["two meet: met true"], "the end"), ([], try_meetings.NO_END)
+        wrong = lambda *told: self.wrong_by("meet", *told)
+        self.assertEqual(wrong(as_it_stands, without_end), "")
+        self.assertEqual(wrong(as_it_stands, as_it_stands), "with the edit: the end")
+        self.assertEqual(wrong(as_it_stands, (["two meet: met true"], try_meetings.NO_END)), "two meet: met true")
+        self.assertEqual(wrong(without_end), "as it stands: no line: it came to no end")
+
+    def test_what_takes_too_long_is_stopped(self):
+        self.assertEqual(try_meetings.printed_by(["echo", "one"], self.folder, 60), ("one\n", ""))
+        self.assertEqual(try_meetings.printed_by(["sh", "-c", "echo one; sleep 60; echo two"], self.folder, 0.5), ("one\n", try_meetings.NO_END))
 
     def test_a_workload(self):
         self.assertEqual(self.wrong("work", ["commits 1", "points 0"]), "")
