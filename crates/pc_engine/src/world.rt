@@ -9,7 +9,7 @@ ghost use Rattle.pc_model.specs.Limits.{IsInLimits};
 ghost use Rattle.pc_model.specs.FewWrites.{HasFewWrites};
 ghost use Rattle.pc_model.specs.Log.{after};
 ghost use Rattle.pc_log.specs.Laws.{IsLog};
-ghost use Rattle.pc_log.specs.Logs.{entries_of};
+ghost use Rattle.pc_kept_log.specs.Logs.{entries_of};
 ghost use Rattle.pc_records.specs.Rows.{record_of, stored};
 ghost use Rattle.pc_engine.specs.Sessions.{waits_in, writes_in};
 ghost use Rattle.pc_engine.specs.Store.{active, setting_of};
@@ -21,7 +21,7 @@ use crate::checks::is_sound;
 use crate::sessions::Sessions;
 use crate::shelving::{file_at, shared_at};
 use pc_capture::SharedPart;
-use pc_log::Log;
+use pc_kept_log::Log;
 use pc_part::{Base, Part};
 use pc_phase::Change;
 use pc_taken::Taken;
@@ -46,7 +46,7 @@ pub struct World {
 impl Model for World {
     ghost use Rattle.std.specs.Prelude.{◌≤◌, length};
     ghost use Rattle.pc_engine.specs.Limits.{IsWithinLimits};
-    ghost use Rattle.pc_log.specs.Logs.{entries_of};
+    ghost use Rattle.pc_kept_log.specs.Logs.{entries_of};
     ghost use Rattle.std.specs.Coded.{codes};
     ghost use Rattle.pc_model.specs.Database.{database_code};
     ghost use Rattle.pc_engine.specs.Store.{Store};

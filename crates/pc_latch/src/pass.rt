@@ -2,11 +2,11 @@
 ghost use Rattle.std.specs.Prelude.{◌≡◌, ◌≤◌, ◌+◌, [], IfOk, IfErr, length, take, drop};
 ghost use Rattle.std.specs.List.{flat_map};
 ghost use Rattle.pc_model.specs.History.{log_of};
-ghost use Rattle.pc_log.specs.Logs.{entries_of};
+ghost use Rattle.pc_kept_log.specs.Logs.{entries_of};
 ghost use Rattle.pc_log.specs.Texts.{entry_text};
 ghost use Rattle.pc_latch.specs.Batches.{batch};
 
-use pc_log::Log;
+use pc_kept_log::Log;
 use pc_tie::{Keeper, StoreName, Tie, Witness};
 use pc_types::{MOST_LOG_ENTRIES, Refusal};
 use std::alloc::Global;

@@ -7,7 +7,6 @@ use Rattle.std.proofs.lemmas.Cmp.{eq_by_cmp_equiv}
 use Rattle.pc_types.specs.declared.Write.{Write}
 use Rattle.pc_types.specs.Limits.{IsKey, IsValue}
 use Rattle.pc_model.specs.Database.{same_bytes, written, with_write, key_order}
-use Rattle.pc_model.specs.DistinctWrites.{AreDistinct}
 use Rattle.pc_model.specs.Points.{is_among, with_key}
 use Rattle.pc_model.proofs.JoinLaws.{one_key}
 use Rattle.pc_model.proofs.TouchedKeyLaws.{with_key_distinct, none_distinct}
@@ -21,30 +20,6 @@ pub record AreLawful (ws : List Write) : Type 0 where
 
 pub none_lawful : AreLawful []
 none_lawful = record { count = omega arith; in_limits = tt; once = none_distinct }
-
--- a key is among the written ones where it was written
-among_written : (ws : List Write) (key : List ℕ) → is_among (keys_of ws) key ≡ is_some (written ws key)
-among_written [] key = refl
-among_written (w ∷ ws) key = ap (λ b. b || is_among (keys_of ws) key) ((eq_by_cmp_equiv key_order.total).symm key w.key) ∙ by (same_bytes w.key key) (among_written ws key)
-  where
-    by : (b : Bool) → is_among (keys_of ws) key ≡ is_some (written ws key) → (b || is_among (keys_of ws) key) ≡ is_some (cond b (Some w.value) (written ws key))
-    by true later = refl
-    by false later = later
-
--- where a key isn't among the keys, it is none of them
-all_other : (key : List ℕ) (keys : List (List ℕ)) → is_among keys key ≡ false → AllByRecursion (λ (k : List ℕ). same_bytes key k ≡ false) keys
-all_other key [] none = tt
-all_other key (k ∷ keys) none = by (same_bytes key k) refl (all_other key keys) none
-  where
-    by : (b : Bool) → same_bytes key k ≡ b → (is_among keys key ≡ false → AllByRecursion (λ (k : List ℕ). same_bytes key k ≡ false) keys) → (b || is_among keys key) ≡ false → AllByRecursion (λ (k : List ℕ). same_bytes key k ≡ false) (k ∷ keys)
-    by true same later h = absurd cc
-    by false other later h = (other, later h)
-
--- writes that are all different have no key twice
-pub distinct_once : (ws : List Write) → AreDistinct ws → IsDistinct same_bytes (keys_of ws)
-unfolding IsDistinct
-distinct_once [] distinct = tt
-distinct_once (w ∷ ws) distinct = (all_other w.key (keys_of ws) (among_written ws w.key ∙ distinct.0), distinct_once ws distinct.1)
 
 module _ (k : List ℕ) (v : Option (List ℕ)) where
   abbrev write : Write

@@ -5,11 +5,7 @@ pub mod TurnLaws
 mod TokenOrders
 mod EntryTexts
 mod EntriesAgain
-mod PlainTexts
-mod PlacingLaws
-mod ChunkLaws
-mod LentWriteLaws
-mod PieceLaws
+pub mod PlainTextLaws
 mod LogTexts
 pub mod CutTextLaws
 mod LawfulWrites

@@ -1,10 +1,5 @@
-pub mod Logs
 pub mod Texts
 pub mod Orders
 pub mod Reading
 pub mod Plain
-pub mod LentWrites
-pub mod Placing
-pub mod Chunks
-pub mod Pieces
 pub mod Laws

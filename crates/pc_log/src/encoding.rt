@@ -16,15 +16,17 @@ const MAGIC: [u8; 8] = *b"PCALCL01";
 // The base point of the header.
 const BASE_POINT: [u8; 4] = [0; 4];
 
-// The kinds of a body.
-pub(crate) const COMMIT: u8 = 1;
+/// The kind of a commit, the byte with which its body begins.
+pub const COMMIT: u8 = 1;
 
-pub(crate) const TOKEN: u8 = 2;
+/// The kind of a token, the byte with which its body begins.
+pub const TOKEN: u8 = 2;
 
-// The kinds of a write.
-pub(crate) const ABSENCE: u8 = 0;
+/// The kind of a write that leaves its key without a value, the byte behind the key.
+pub const ABSENCE: u8 = 0;
 
-pub(crate) const VALUE: u8 = 1;
+/// The kind of a write that gives its key a value, the byte behind the key.
+pub const VALUE: u8 = 1;
 
 /// Writes what stands before the entries of the run. It takes no memory, and refuses with `Device` exactly where the device
 /// failed; then a beginning of the text went out, and not all of it.
@@ -152,8 +154,8 @@ pub fn commit_size(writes: &[Write]) -> u32
 /// How many bytes the text of a token takes.
 pub const TOKEN_SIZE: u32 = 10;
 
-// How many bytes the writes take, at most 65,797 each.
-pub(crate) fn writes_size(writes: &[Write]) -> u32
+/// How many bytes the texts of these writes take, which are at most 256: at most 65,797 each.
+pub fn writes_size(writes: &[Write]) -> u32
     requires { length writes.now ≤ MOST_WRITES }
     ensures size { result ≡ length (flat_map write_text writes.now) }
     ensures limit { result ≤ 65797 * length writes.now }

@@ -6,8 +6,8 @@ ghost use Rattle.pc_log.specs.Reading.{phase_numbered};
 
 use pc_types::{Phase, Refusal};
 
-// The number of the phase, from rest, which is 0, to complete, which is 4.
-pub(crate) fn number(phase: Phase) -> u8
+/// The number of the phase in a token's text, from rest, which is 0, to complete, which is 4.
+pub fn number(phase: Phase) -> u8
     ensures { result ≡ phase_number phase }
 {
     match phase {

@@ -9,7 +9,7 @@ use Rattle.pc_model.specs.History.{History, log_of}
 use Rattle.pc_model.specs.Replies.{Setting}
 use Rattle.pc_model.specs.Receipts.{Read, IsReceipt, AreExact}
 use Rattle.pc_txn.specs.Commits.{CommitNote, commit_note, notes_of, reads_in, reads_at}
-use Rattle.pc_log.specs.Logs.{writes_of_entry}
+use Rattle.pc_kept_log.specs.Logs.{writes_of_entry}
 use Rattle.pc_shared.specs.Lent.{writes_at, AreLentBy}
 use Rattle.pc_shared.specs.Sitters.{Sitter, IsSitterSettled}
 

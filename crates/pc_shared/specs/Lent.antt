@@ -3,7 +3,7 @@ use Rattle.std.specs.Prelude.{◌≡◌, ℕ, ◌-◌, List, All, Option, Some, 
 use Rattle.pc_types.specs.declared.Entry.{Entry}
 use Rattle.pc_types.specs.declared.Receipt.{Receipt}
 use Rattle.pc_types.specs.declared.Write.{Write}
-use Rattle.pc_log.specs.Logs.{writes_of_entry}
+use Rattle.pc_kept_log.specs.Logs.{writes_of_entry}
 use Rattle.pc_shared.specs.Sitters.{Sitter}
 
 -- the writes of the entry of this number; the first one has number 1

@@ -4,7 +4,7 @@ ghost use Rattle.pc_model.specs.FewWrites.{HasFewWrites};
 ghost use Rattle.pc_model.specs.Calls.{HasCallsOf};
 ghost use Rattle.pc_model.specs.History.{log_of};
 ghost use Rattle.pc_model.specs.Standing.{IsOfItsPoints};
-ghost use Rattle.pc_log.specs.Logs.{entries_of};
+ghost use Rattle.pc_kept_log.specs.Logs.{entries_of};
 ghost use Rattle.pc_engine.specs.Stands.{Stands};
 ghost use Rattle.pc_engine.specs.Store.{setting_of};
 ghost use Rattle.pc_tie.specs.Seats.{IsSession, IsFrontOf, NoTwoAlike};
@@ -13,8 +13,8 @@ ghost use Rattle.pc_shared.specs.Lent.{receipt_at, AreLentBy};
 
 use crate::session::{LentReceipt, Session};
 use pc_engine::World;
+use pc_kept_log::Log;
 use pc_latch::{Latched, LogPass, PartTicket, renew_tickets};
-use pc_log::Log;
 use pc_part::Base;
 use pc_tie::{CheckpointerSeat, Keeper, StoreName, Tie};
 

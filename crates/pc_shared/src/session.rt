@@ -6,7 +6,7 @@ ghost use Rattle.pc_types.specs.declared.Reply.TheVariants.{Begun, Committed, Ab
 ghost use Rattle.pc_model.specs.History.{is_open};
 ghost use Rattle.pc_model.specs.Calls.{step_of, Extends, IsAnswered, AsksOpen};
 ghost use Rattle.pc_model.specs.Receipts.{own_of, receipt_of};
-ghost use Rattle.pc_log.specs.Logs.{entries_of};
+ghost use Rattle.pc_kept_log.specs.Logs.{entries_of};
 ghost use Rattle.pc_txn.specs.Commits.{notes_of};
 ghost use Rattle.pc_shared.specs.Answers.{IsRead, IsWriteAnswered};
 ghost use Rattle.pc_shared.specs.Finds.{found_in};
@@ -14,7 +14,7 @@ ghost use Rattle.pc_shared.specs.Lent.{AreLentBy};
 
 use crate::asks::{answer_of, answer_to};
 use crate::store::Shared;
-use pc_log::{LentWrites, Log};
+use pc_kept_log::{LentWrites, Log};
 use pc_tie::{SessionSeat, StoreName};
 use pc_txn::{Commits, SessionNotes, has_room_for_commit, has_room_to_read};
 use pc_types::{Key, Lsn, Refusal, SessionNo, TxnNo, Value};
@@ -71,7 +71,7 @@ pub struct LentReceipt<'a> {
 
 impl<'a> Model for LentReceipt<'a> {
     ghost use Rattle.pc_types.specs.declared.Receipt.{Receipt};
-    ghost use Rattle.pc_log.specs.Logs.{entries_of};
+    ghost use Rattle.pc_kept_log.specs.Logs.{entries_of};
     ghost use Rattle.pc_shared.specs.Lent.{writes_at};
 
     ghost Value = { Receipt };

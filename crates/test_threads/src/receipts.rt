@@ -1,5 +1,5 @@
 //! Receipts beside the log.
-use pc_log::{LentWrite, LentWrites};
+use pc_kept_log::{LentWrite, LentWrites};
 use pc_replay::{Pairs, apply};
 use pc_shared::{Closed, LentReceipt, Session};
 use pc_tie::StoreName;

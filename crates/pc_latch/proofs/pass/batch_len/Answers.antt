@@ -1,5 +1,5 @@
 use Rattle.std.proofs.Common.{◌≡◌, ◌-◌, length, length-drop, drop, ap, ◌∙◌, arith}
-use Rattle.pc_log.specs.Logs.{entries_of}
+use Rattle.pc_kept_log.specs.Logs.{entries_of}
 use Rattle.pc_log.specs.Texts.{entry_text}
 use Rattle.pc_latch.proofs.Batching.{batch_more, one_there, behind_first}
 use Rattle.pc_latch.proofs.pass.batch_len.Goals as goal

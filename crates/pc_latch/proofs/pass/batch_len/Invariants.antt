@@ -1,5 +1,5 @@
 use Rattle.std.proofs.Common.{◌≡◌, ◌+◌, ◌++◌, take, drop}
-use Rattle.pc_log.specs.Logs.{entries_of}
+use Rattle.pc_kept_log.specs.Logs.{entries_of}
 use Rattle.pc_latch.specs.Batches.{batch}
 use Rattle.pc_latch.proofs.pass.batch_len.Given as goal
 

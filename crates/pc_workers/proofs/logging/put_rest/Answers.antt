@@ -2,7 +2,7 @@ use Rattle.std.proofs.Common.{List, Ok, Err, subst, arith}
 use Rattle.std.proofs.lemmas.Result.{err_from_is_err_and}
 use Rattle.pc_types.specs.Tallies.{Puts}
 use Rattle.pc_types.specs.declared.Entry.{Entry}
-use Rattle.pc_log.specs.Logs.{entries_of}
+use Rattle.pc_kept_log.specs.Logs.{entries_of}
 use Rattle.pc_workers.specs.Logging.{rest_text}
 use Rattle.pc_workers.proofs.LoggingLaws.{rest_goes_on, rest_stops, rest_is_out, none_is_out}
 use Rattle.pc_workers.proofs.logging.put_rest.Goals as goal

@@ -1,7 +1,7 @@
 use Rattle.std.proofs.Common.{length, ap, ◌∙◌, subst, arith}
 use Rattle.pc_model.specs.Calls.{IsBeginning}
 use Rattle.pc_tie.specs.Seats.{KeeperView}
-use Rattle.pc_log.specs.Logs.{entries_of}
+use Rattle.pc_kept_log.specs.Logs.{entries_of}
 use Rattle.pc_latch.proofs.Passing.{all_handed}
 use Rattle.pc_latch.proofs.latched.Latched.has_all.Goals as goal
 

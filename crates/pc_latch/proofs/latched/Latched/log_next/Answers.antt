@@ -1,7 +1,7 @@
 use Rattle.std.proofs.Common.{◌≡◌, ◌+◌, ◌≤◌, ◌++◌, List, length, take, drop, sym, refl, ap, ◌∙◌, subst, arith}
 use Rattle.pc_types.specs.declared.Entry.{Entry}
 use Rattle.pc_model.specs.History.{History, log_of}
-use Rattle.pc_log.specs.Logs.{entries_of}
+use Rattle.pc_kept_log.specs.Logs.{entries_of}
 use Rattle.pc_latch.proofs.Passing.{still_within, still_first, more_within, more_listed, first_length}
 use Rattle.pc_latch.specs.Batches.{batch}
 use Rattle.pc_latch.proofs.Batching.{batch_again, batch_behind, counted, next_first}

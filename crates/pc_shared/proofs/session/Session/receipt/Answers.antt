@@ -2,7 +2,7 @@ use Rattle.std.proofs.Common.{◌≡◌, ℕ, List, Some, sym, ap, ◌∙◌, su
 use Rattle.std.specs.Prelude.{option_map, slice_get}
 use Rattle.pc_txn.specs.Commits.{CommitNote, notes_of, reads_at}
 use Rattle.pc_model.specs.Receipts.{own_of}
-use Rattle.pc_log.specs.Logs.{entries_of}
+use Rattle.pc_kept_log.specs.Logs.{entries_of}
 use Rattle.pc_shared.specs.Lent.{writes_at}
 use Rattle.pc_shared.specs.Sitters.{Sitter}
 use Rattle.pc_shared.proofs.Lending.{lent}

@@ -1,0 +1,5 @@
+mod PlacingLaws
+mod DistinctKeys
+mod ChunkLaws
+mod LentWriteLaws
+mod PieceLaws

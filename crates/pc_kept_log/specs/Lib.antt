@@ -1,0 +1,5 @@
+pub mod Logs
+pub mod LentWrites
+pub mod Placing
+pub mod Chunks
+pub mod Pieces

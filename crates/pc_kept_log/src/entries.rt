@@ -1,0 +1,101 @@
+//! The entries of a log.
+ghost use Rattle.std.specs.Prelude.{◌≡◌, ◌==◌, ◌<◌, ◌≤◌, [], ◌∷◌, ◌++◌, length, IfErr, OnOk, OnErr};
+ghost use Rattle.pc_types.specs.declared.Entry.TheVariants.{Commit, Token};
+ghost use Rattle.pc_kept_log.specs.Logs.{entries_of, HasRoomForEntry};
+ghost use Rattle.pc_log.specs.Texts.{entry_text};
+ghost use Rattle.pc_types.specs.declared.limits.TheConstants.{MOST_SESSIONS, MOST_WRITES};
+ghost use Rattle.pc_model.specs.DistinctWrites.{AreDistinct};
+
+use crate::chunk::Chunk;
+use crate::log::Log;
+use pc_types::{Lsn, MOST_LOG_ENTRIES, Phase, Point, Refusal, SessionNo, Write};
+use std::alloc::{AllocError, Global};
+use std::mem;
+
+impl Log {
+    /// A log without entries. It takes no memory.
+    pub fn new(alloc: Global) -> Log
+        ensures { entries_of result ≡ [] }
+    {
+        Log {
+            alloc,
+            full: Vec::new(alloc),
+            open: Chunk::new(alloc),
+        }
+    }
+
+    /// How many entries there are, at most 16,777,216.
+    pub fn len(&self) -> usize
+        ensures { result ≡ length (entries_of self.now) }
+    {
+        self.open.first() + self.open.len()
+    }
+
+    /// Whether there are 16,777,216 entries, so that none more can follow.
+    pub fn is_full(&self) -> bool
+        ensures full { result ≡ (length (entries_of self.now) == MOST_LOG_ENTRIES) }
+        ensures limit { length (entries_of self.now) ≤ MOST_LOG_ENTRIES }
+    {
+        self.len() == MOST_LOG_ENTRIES
+    }
+
+    /// Makes room for one more entry, of so many bytes. It refuses with `OutOfMemory` alone, and never where there is room; the
+    /// entries stay. Whether the log is full is not looked at.
+    pub fn reserve(&mut self, size: u32) -> Result<(), Refusal>
+        ensures entries { entries_of self.new ≡ entries_of self.old }
+        ensures room { OnOk result (HasRoomForEntry self.new size) }
+        ensures memory { IfErr result (λ e. e ≡ Refusal.OutOfMemory) }
+        ensures needed { OnErr result (¬ HasRoomForEntry self.old size) }
+    {
+        if size as usize <= self.open.room() {
+            return Ok(());
+        }
+        self.add_piece(size)?;
+        Ok(())
+    }
+
+    // The last piece is closed, and behind it stands one with room for an entry of so many bytes.
+    fn add_piece(&mut self, size: u32) -> Result<(), AllocError>
+        ensures entries { entries_of self.new ≡ entries_of self.old }
+        ensures room { OnOk result (HasRoomForEntry self.new size) }
+    {
+        let piece = Chunk::with_room(self.alloc, self.len(), size)?;
+        self.full.reserve(1)?;
+        self.full.push_reserved(mem::replace(&mut self.open, piece));
+        Ok(())
+    }
+
+    /// Adds the entry of a commit at the end, where room was made for it: of a session from 1 to 64, with at most 256 writes, no two
+    /// of which have one key. Answers its number: the first entry has number 1. It takes no memory.
+    pub fn append_commit(&mut self, session: SessionNo, writes: &[Write]) -> Lsn
+        requires session { (1 ≤ session) × (session ≤ MOST_SESSIONS) }
+        requires few { length writes.now ≤ MOST_WRITES }
+        requires distinct { AreDistinct writes.now }
+        requires room { HasRoomForEntry self.old (length (entry_text (Commit session writes.now))) }
+        requires not_full { length (entries_of self.old) < MOST_LOG_ENTRIES }
+        ensures entries { entries_of self.new ≡ entries_of self.old ++ Commit session writes.now ∷ [] }
+        ensures number { result ≡ length (entries_of self.new) }
+    {
+        self.open.append_commit(session, writes);
+        self.last()
+    }
+
+    /// Adds a token at the end, where room was made for it. Answers its number: the first entry has number 1. It takes no memory.
+    pub fn append_token(&mut self, phase: Phase, point: Point) -> Lsn
+        requires begun { 1 ≤ point }
+        requires room { HasRoomForEntry self.old (length (entry_text (Token phase point))) }
+        requires not_full { length (entries_of self.old) < MOST_LOG_ENTRIES }
+        ensures entries { entries_of self.new ≡ entries_of self.old ++ Token phase point ∷ [] }
+        ensures number { result ≡ length (entries_of self.new) }
+    {
+        self.open.append_token(phase, point);
+        self.last()
+    }
+
+    // The number of the last entry.
+    fn last(&self) -> Lsn
+        ensures { result ≡ length (entries_of self.now) }
+    {
+        Lsn(self.len() as u32)
+    }
+}

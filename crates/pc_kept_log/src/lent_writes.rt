@@ -1,0 +1,176 @@
+//! The writes of an entry are lent from its text, without memory.
+ghost use Rattle.std.specs.Prelude.{◌≡◌, ◌<◌, [], length, option_copied, slice_get};
+ghost use Rattle.std.specs.Iterator.{YieldsFirst, item_count};
+ghost use Rattle.pc_types.specs.Fields.{Reads, key_at, content_at, value_at};
+ghost use Rattle.pc_types.specs.declared.refusal.Refusal.TheVariants.{BadLength};
+ghost use Rattle.pc_kept_log.specs.Logs.{entries_of, writes_of_entry};
+ghost use Rattle.pc_kept_log.specs.LentWrites.{plain_write_at};
+
+use crate::chunk::Chunk;
+use crate::log::Log;
+use pc_log::COMMIT;
+use pc_types::{MOST_VALUE_BYTES, Refusal, read_bytes, read_sized_key, read_u16, read_u32};
+use std::marker::Model;
+
+/// A write of a log's entry, lent. A contract sees the write.
+#[derive(Drop)]
+pub struct LentWrite<'a> {
+    pub key: &'a [u8],
+    /// What the key has after it, a value or nothing.
+    pub value: Option<&'a [u8]>,
+}
+
+impl<'a> Model for LentWrite<'a> {
+    ghost use Rattle.std.specs.Prelude.{option_copied};
+    ghost use Rattle.pc_types.specs.declared.Write.{Write};
+
+    ghost Value = { Write };
+
+    ghost view = { λ w. record { key = w.key.now; value = option_copied w.value } };
+}
+
+/// The writes of an entry, lent one after the other. A contract sees those to come.
+#[derive(Drop)]
+pub struct LentWrites<'a> {
+    // The texts of the writes to come, one behind the other, and what stands behind them.
+    bytes: &'a [u8],
+    // How many are to come.
+    count: usize,
+}
+
+impl<'a> Model for LentWrites<'a> {
+    ghost use Rattle.std.specs.Prelude.{◌≡◌, List, length};
+    ghost use Rattle.pc_types.specs.declared.Write.{Write};
+    ghost use Rattle.pc_kept_log.specs.LentWrites.{writes_in};
+
+    ghost Value = { List Write };
+
+    ghost view = { λ w. writes_in w.count w.bytes.now };
+
+    // So many can be read.
+    ghost invariant = { λ w. length (writes_in w.count w.bytes.now) ≡ w.count };
+}
+
+impl<'a> LentWrites<'a> {
+    // None.
+    fn none() -> LentWrites<'a>
+        ensures { result ≡ [] }
+    {
+        LentWrites {
+            bytes: &[],
+            count: 0,
+        }
+    }
+
+    /// How many are to come.
+    pub fn len(&self) -> usize
+        ensures { result ≡ length self.now }
+    {
+        self.count
+    }
+}
+
+impl Chunk {
+    // The writes of the entry at this place, which counts from 0.
+    fn writes(&self, place: usize) -> LentWrites<'_>
+        requires { place < length self.now.entries }
+        ensures { result ≡ writes_of_entry (slice_get self.now.entries place) }
+    {
+        let text = self.text(place, self.len());
+        if text[4] != COMMIT {
+            return LentWrites::none();
+        }
+        let count = u16::from_be_bytes([text[6], text[7]]);
+        LentWrites {
+            bytes: &text[8..],
+            count: usize::from(count),
+        }
+    }
+}
+
+impl Log {
+    /// The writes of the entry at this place, which counts from 0, lent from its text: those of a commit, and none where it is a
+    /// token or where there is no such entry. It takes no memory.
+    pub fn writes(&self, place: usize) -> LentWrites<'_>
+        ensures { result ≡ writes_of_entry (slice_get (entries_of self.now) place) }
+    {
+        if self.len() <= place {
+            return LentWrites::none();
+        }
+        let piece = self.piece_of(place);
+        piece.writes(place - piece.first())
+    }
+}
+
+impl<'a> Iterator for LentWrites<'a> {
+    type Item = LentWrite<'a>;
+
+    ghost next_gives = { YieldsFirst (λ s. s) };
+
+    ghost remaining = { item_count (λ s. s) };
+
+    fn next(&mut self) -> Option<LentWrite<'a>> {
+        if self.count == 0 {
+            return None;
+        }
+        match lend_write(self.bytes) {
+            Ok((write, rest)) => {
+                self.bytes = rest;
+                self.count -= 1;
+                Some(write)
+            }
+            Err(_) => unreachable!(),
+        }
+    }
+
+    fn size_hint(&self) -> (usize, Option<usize>) {
+        (self.count, Some(self.count))
+    }
+}
+
+// Lends the write with which the bytes begin, and the bytes behind it.
+#[tactic(auto, unfolding(crate::specs::LentWrites::plain_write_at))]
+fn lend_write(bytes: &[u8]) -> Result<(LentWrite<'_>, &[u8]), Refusal>
+    ensures { Reads (λ x. (x.0, x.1.now)) result (plain_write_at bytes.now) }
+{
+    let (key, rest) = lend_key(bytes)?;
+    let (value, rest) = lend_content(rest)?;
+    Ok((LentWrite { key, value }, rest))
+}
+
+// A key, its length before it.
+#[tactic(auto, unfolding(pc_types::specs::Fields::key_at))]
+fn lend_key(bytes: &[u8]) -> Result<(&[u8], &[u8]), Refusal>
+    ensures { Reads (λ x. (x.0.now, x.1.now)) result (key_at BadLength bytes.now) }
+{
+    let (count, rest) = read_u16(bytes, Refusal::BadLength)?;
+    read_sized_key(rest, count, Refusal::BadLength)
+}
+
+// What a key has: a kind of 0 and nothing, or a kind of 1 and a value.
+#[tactic(auto, unfolding(pc_types::specs::Fields::content_at))]
+fn lend_content(bytes: &[u8]) -> Result<(Option<&[u8]>, &[u8]), Refusal>
+    ensures { Reads (λ x. (option_copied x.0, x.1.now)) result (content_at BadLength bytes.now) }
+{
+    match bytes {
+        [] => Err(Refusal::BadLength),
+        [0, rest @ ..] => Ok((None, rest)),
+        [1, rest @ ..] => {
+            let (value, rest) = lend_value(rest)?;
+            Ok((Some(value), rest))
+        }
+        [_, ..] => Err(Refusal::BadKind),
+    }
+}
+
+// A value, its length before it.
+#[tactic(auto, unfolding(pc_types::specs::Fields::value_at))]
+fn lend_value(bytes: &[u8]) -> Result<(&[u8], &[u8]), Refusal>
+    ensures { Reads (λ x. (x.0.now, x.1.now)) result (value_at BadLength bytes.now) }
+{
+    let (count, rest) = read_u32(bytes, Refusal::BadLength)?;
+    if MOST_VALUE_BYTES < count as usize {
+        return Err(Refusal::BadLength);
+    }
+    read_bytes(rest, count as usize, Refusal::BadLength)
+}

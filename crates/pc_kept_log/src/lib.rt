@@ -1,0 +1,13 @@
+//! The log that a store keeps, as its text: entries are added at its end, and are lent and read again where they stand.
+#![tactic(auto)]
+
+mod chunk;
+mod entries;
+mod lending;
+mod lent_writes;
+mod log;
+mod placing;
+
+pub use lending::LentTexts;
+pub use lent_writes::{LentWrite, LentWrites};
+pub use log::Log;

@@ -1,0 +1,92 @@
+//! The text of an entry is put into a room of memory, behind the bytes that stand there.
+ghost use Rattle.std.specs.Prelude.{◌≤◌, length, Some, All};
+ghost use Rattle.std.specs.List.{flat_map};
+ghost use Rattle.pc_types.specs.declared.Entry.TheVariants.{Commit, Token};
+ghost use Rattle.pc_types.specs.Fields.{content_text};
+ghost use Rattle.pc_types.specs.Limits.{IsValue};
+ghost use Rattle.pc_log.specs.Texts.{write_text, commit_head_text, entry_text, IsWrite};
+ghost use Rattle.pc_kept_log.specs.Placing.{ArePut, HasSpace};
+
+use pc_log::{ABSENCE, COMMIT, TOKEN, VALUE, phases, writes_size};
+use pc_types::{MOST_POINTS, MOST_WRITES, Phase, Point, SessionNo, Write};
+
+// The text of a commit is put at this place. Answers where it ends.
+pub(crate) fn put_commit(room: &mut [u8], at: usize, session: SessionNo, writes: &[Write]) -> usize
+    requires few { length writes.now ≤ MOST_WRITES }
+    requires space { HasSpace room.old at (length (entry_text (Commit session writes.now))) }
+    ensures put { ArePut room.old room.new at (entry_text (Commit session writes.now)) result }
+    ensures in_limits { All IsWrite writes.now }
+{
+    let at = put_commit_head(room, at, session, writes);
+    put_writes(room, at, writes)
+}
+
+// The text of a token is put at this place. Answers where it ends.
+pub(crate) fn put_token(room: &mut [u8], at: usize, phase: Phase, point: Point) -> usize
+    requires { HasSpace room.old at (length (entry_text (Token phase point))) }
+    ensures put { ArePut room.old room.new at (entry_text (Token phase point)) result }
+    ensures limit { point ≤ MOST_POINTS }
+{
+    let at = put(room, at, &[0, 0, 0, 6, TOKEN, phases::number(phase)]);
+    put(room, at, &u32::from(point.0).to_be_bytes())
+}
+
+// The length of the body, the kind, the session, and how many writes there are.
+fn put_commit_head(room: &mut [u8], at: usize, session: SessionNo, writes: &[Write]) -> usize
+    requires few { length writes.now ≤ MOST_WRITES }
+    requires space { HasSpace room.old at (length (commit_head_text session writes.now)) }
+    ensures { ArePut room.old room.new at (commit_head_text session writes.now) result }
+{
+    let size = 4 + writes_size(writes);
+    let session_bytes = session.0.to_be_bytes();
+    let at = put(room, at, &size.to_be_bytes());
+    let at = put(room, at, &[COMMIT, session_bytes[3]]);
+    put(room, at, &(writes.len() as u16).to_be_bytes())
+}
+
+// One write after the other.
+fn put_writes(room: &mut [u8], at: usize, writes: &[Write]) -> usize
+    requires { HasSpace room.old at (length (flat_map write_text writes.now)) }
+    ensures put { ArePut room.old room.new at (flat_map write_text writes.now) result }
+    ensures in_limits { All IsWrite writes.now }
+{
+    let mut end = at;
+    for write in writes {
+        end = put_write(room, end, write);
+    }
+    end
+}
+
+fn put_write(room: &mut [u8], at: usize, write: &Write) -> usize
+    requires { HasSpace room.old at (length (write_text write.now)) }
+    ensures put { ArePut room.old room.new at (write_text write.now) result }
+    ensures in_limits { IsWrite write.now }
+{
+    let key = write.key.as_bytes();
+    let at = put(room, at, &(key.len() as u16).to_be_bytes());
+    let at = put(room, at, key);
+    match &write.value {
+        None => put(room, at, &[ABSENCE]),
+        Some(value) => put_value(room, at, value.as_bytes()),
+    }
+}
+
+fn put_value(room: &mut [u8], at: usize, value: &[u8]) -> usize
+    requires limit { IsValue value.now }
+    requires space { HasSpace room.old at (length (content_text (Some value.now))) }
+    ensures { ArePut room.old room.new at (content_text (Some value.now)) result }
+{
+    let at = put(room, at, &[VALUE]);
+    let at = put(room, at, &(value.len() as u32).to_be_bytes());
+    put(room, at, value)
+}
+
+// The bytes are put at this place. Answers where they end.
+fn put(room: &mut [u8], at: usize, bytes: &[u8]) -> usize
+    requires { HasSpace room.old at (length bytes.now) }
+    ensures { ArePut room.old room.new at bytes.now result }
+{
+    let end = at + bytes.len();
+    room[at..end].copy_from_slice(bytes);
+    end
+}
