@@ -45,6 +45,16 @@ module _ {S X : Type 0} (read : S → List ℕ → Result (X × List ℕ) Refusa
         let one : with_front front (items_at read leaves (count - i) state bytes) ≡ Ok (front, bytes) = rw k (ap (λ (items : List X). Ok (items, bytes)) (append-nil front)) in
         sym so_far ∙ one
 
+  -- so many items were read
+  pub items_count : (count : ℕ) (state : S) (bytes : List ℕ) (x : List X × List ℕ) → items_at read leaves count state bytes ≡ Ok x → length x.0 ≡ count
+  unfolding items_at
+  items_count zero state bytes x e = ap (λ (y : List X × List ℕ). length y.0) (sym (ok_is ([], bytes) x e))
+  items_count (suc count) state bytes x e =
+      let a = bind_ok (read state bytes) (λ first. items_at read leaves count (leaves first.0) first.1 >>= λ others. Ok (first.0 ∷ others.0, others.1)) x e in
+      let b = bind_ok (items_at read leaves count (leaves a.0.0) a.0.1) (λ others. Ok (a.0.0 ∷ others.0, others.1)) x a.2 in
+      let made : List X × List ℕ = (a.0.0 ∷ b.0.0, b.0.1) in
+      ap (λ (y : List X × List ℕ). length y.0) (sym (ok_is made x b.2)) ∙ ap suc (items_count count (leaves a.0.0) a.0.1 b.0 b.1)
+
   -- ---- the text
 
   module _ (text : X → List ℕ) (From : S → List X → Type 0) where

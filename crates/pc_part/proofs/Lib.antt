@@ -11,6 +11,7 @@ mod JoinedFiles
 mod JoinedLists
 mod LaidLists
 mod LawfulParts
+pub mod LocalSteps
 pub mod PartFileLaws
 mod PartTexts
 mod PassedItems

@@ -1,5 +1,5 @@
 -- What is read of ranges, keys, entries and pairs is what was written, and what was written is read again.
-use Rattle.std.proofs.Common.{◌≡◌, ℕ, zero, suc, ◌+◌, ◌^◌, ◌<◌, ◌≤◌, ◌&&◌, nat_le, eqb, true, false, cond, List, [], ◌∷◌, ◌++◌, length, Ok, refl, sym, ap, subst, ◌∙◌, append_assoc, arith}
+use Rattle.std.proofs.Common.{◌≡◌, ℕ, zero, suc, ◌+◌, ◌^◌, ◌<◌, ◌≤◌, ◌&&◌, nat_le, eqb, true, false, cond, List, [], ◌∷◌, ◌++◌, length, Option, Some, None, Ok, refl, sym, ap, subst, ◌∙◌, append_assoc, arith}
 use Rattle.std.specs.Prelude.{IfSome}
 use Rattle.std.specs.List.{flat_map}
 use Rattle.std.specs.Ordering.{is_lt}
@@ -19,7 +19,7 @@ use Rattle.pc_types.specs.declared.Triple.{Triple}
 use Rattle.pc_part.specs.declared.ranges.Range.{Range}
 use Rattle.pc_part.specs.Lawful.{HasLimits, IsPair}
 use Rattle.pc_part.specs.Parts.{RangesFrom, covers}
-use Rattle.pc_part.specs.Reading.{range_at, ranges_at, next_key_at, point_at, entry_at, entries_at, pair_at, pairs_at}
+use Rattle.pc_part.specs.Reading.{range_at, ranges_at, next_key_at, point_at, entry_at, next_entry_at, entries_from, entries_at, pair_at, pairs_at}
 use Rattle.pc_part.specs.Texts.{bounds_text, triple_text, pair_text}
 use Rattle.pc_part.proofs.ItemLaws.{items_take, items_again}
 use Rattle.pc_part.proofs.ReadLists.{range_steps, covered_fits}
@@ -99,50 +99,61 @@ EntriesFrom ranges last (t ∷ triples) = (is_lt (key_cmp last t.key) ≡ true) 
 abbrev pub end_mark : List ℕ
 end_mark = to_be_bytes w16 0
 
--- a length, a key and what stands after it, before other texts
-grouped : (len key there others rest : List ℕ) → ((((len ++ key) ++ there) ++ others) ++ rest) ≡ len ++ (key ++ (there ++ (others ++ rest)))
-grouped len key there others rest = simp append_assoc
+-- what the next entry takes of the bytes: the end mark, or the text of an entry that may stand there
+abbrev pub NextTakes : List Range → List ℕ → List ℕ → Option Triple → List ℕ → Type 0
+NextTakes ranges last bytes None rest = TakesText bytes end_mark rest
+NextTakes ranges last bytes (Some entry) rest = TakesText bytes (triple_text entry) rest × (is_lt (key_cmp last entry.key) ≡ true) × HasLimits entry × (covers ranges entry.point ≡ true)
 
--- an entry before others, as its pieces are taken
-entry_more : (bytes after_len after_key after_there rest key : List ℕ) (there : AtPoint) (others : List Triple) → TakesText bytes (to_be_bytes w16 (length key)) after_len → TakesText after_len key after_key → TakesText after_key (there_text there) after_there
-    → TakesText after_there (flat_map triple_text others ++ end_mark) rest → TakesText bytes (flat_map triple_text (record { key = key; point = there.point; content = there.content } ∷ others) ++ end_mark) rest
-entry_more bytes after_len after_key after_there rest key there others t0 t1 t2 t3 =
-    let entry : Triple = record { key = key; point = there.point; content = there.content } in
-    let all = TakesText-then bytes (to_be_bytes w16 (length key)) after_len (key ++ (there_text there ++ (flat_map triple_text others ++ end_mark))) rest t0
-    (TakesText-then after_len key after_key (there_text there ++ (flat_map triple_text others ++ end_mark)) rest t1
-    (TakesText-then after_key (there_text there) after_there (flat_map triple_text others ++ end_mark) rest t2 t3)) in
-    let text : to_be_bytes w16 (length key) ++ (key ++ (there_text there ++ (flat_map triple_text others ++ end_mark))) ≡ flat_map triple_text (entry ∷ others) ++ end_mark =
-    sym (grouped (to_be_bytes w16 (length key)) key (there_text there) (flat_map triple_text others) end_mark) ∙ ap (λ (s : List ℕ). s ++ end_mark) (sym (flat_map-cons triple_text entry others)) in
-    subst (λ (s : List ℕ). TakesText bytes s rest) text all
+pub next_entry_takes : (ranges : List Range) (last bytes : List ℕ) (x : Option Triple × List ℕ) → IsBytes bytes → next_entry_at ranges last bytes ≡ Ok x → NextTakes ranges last bytes x.0 x.1
+unfolding next_entry_at
+next_entry_takes ranges last bytes x fits e =
+    let a = bind_ok (number_at Short w16 bytes) (λ count. cond (eqb count.0 0) (Ok (None, count.1))
+    (next_key_at last count.0 count.1 >>= λ key. entry_at ranges key.1 >>= λ there. Ok (Some (record { key = key.0; point = there.0.point; content = there.0.content }), there.1))) x e in
+    let len = number_takes Short w16 (2 ^ 16) wide16 bytes a.0.0 a.0.1 fits a.1 in
+    elim (eqb a.0.0 0) as (λ b. eqb a.0.0 0 ≡ b → cond b (Ok (None, a.0.1))
+    (next_key_at last a.0.0 a.0.1 >>= λ key. entry_at ranges key.1 >>= λ there. Ok (Some (record { key = key.0; point = there.0.point; content = there.0.content }), there.1)) ≡ Ok x
+    → NextTakes ranges last bytes x.0 x.1) [
+      | true ↦ λ none is.
+          let made : Option Triple × List ℕ = (None, a.0.1) in
+          subst (λ (y : Option Triple × List ℕ). NextTakes ranges last bytes y.0 y.1) {x = made} (ok_is made x is)
+          (subst (λ (n : ℕ). TakesText bytes (to_be_bytes w16 n) a.0.1) (eqb-true _ _ none) len.0)
+      | false ↦ λ some is.
+          let k = bind_ok (next_key_at last a.0.0 a.0.1) (λ key. entry_at ranges key.1 >>= λ there. Ok (Some (record { key = key.0; point = there.0.point; content = there.0.content }), there.1)) x is in
+          let t = bind_ok (entry_at ranges k.0.1) (λ there. Ok (Some (record { key = k.0.0; point = there.0.point; content = there.0.content }), there.1)) x k.2 in
+          let key = key_takes last a.0.0 a.0.1 k.0 len.0.rest_fits k.1 in
+          let there = entry_takes ranges k.0.1 t.0 key.0.rest_fits t.1 in
+          let entry : Triple = record { key = k.0.0; point = t.0.0.point; content = t.0.0.content } in
+          let made : Option Triple × List ℕ = (Some entry, t.0.1) in
+          let length_text : TakesText bytes (to_be_bytes w16 (length k.0.0)) a.0.1 = subst (λ (n : ℕ). TakesText bytes (to_be_bytes w16 n) a.0.1) (sym key.1) len.0 in
+          let all = TakesText-then bytes (key_text k.0.0) k.0.1 (there_text t.0.0) t.0.1 (TakesText-then bytes (to_be_bytes w16 (length k.0.0)) a.0.1 k.0.0 k.0.1 length_text key.0) there.0 in
+          subst (λ (y : Option Triple × List ℕ). NextTakes ranges last bytes y.0 y.1) {x = made} (ok_is made x t.2) (all, key.3, (key.2, there.2), there.1)
+    ] refl a.2
 
-pub entries_take : (turns : ℕ) (ranges : List Range) (last bytes : List ℕ) (x : List Triple × List ℕ) → IsBytes bytes → entries_at turns ranges last bytes ≡ Ok x → TakesText bytes (flat_map triple_text x.0 ++ end_mark) x.1 × EntriesFrom ranges last x.0
+-- the bytes are the texts of entries that may stand there, and the end mark
+abbrev pub EntriesTake : List Range → List ℕ → List ℕ → List Triple × List ℕ → Type 0
+EntriesTake ranges last bytes x = TakesText bytes (flat_map triple_text x.0 ++ end_mark) x.1 × EntriesFrom ranges last x.0
+
+entries_behind : (turns : ℕ) (ranges : List Range) (last bytes : List ℕ) (x : List Triple × List ℕ)
+    → ((last bytes : List ℕ) (x : List Triple × List ℕ) → IsBytes bytes → entries_at turns ranges last bytes ≡ Ok x → EntriesTake ranges last bytes x)
+    → (next : Option Triple) (rest : List ℕ) → NextTakes ranges last bytes next rest → entries_from (entries_at turns ranges) next rest ≡ Ok x → EntriesTake ranges last bytes x
+entries_behind turns ranges last bytes x again None rest takes is =
+    let made : List Triple × List ℕ = ([], rest) in
+    subst (EntriesTake ranges last bytes) {x = made} (ok_is made x is) (takes, tt)
+entries_behind turns ranges last bytes x again (Some entry) rest takes is =
+    let o = bind_ok (entries_at turns ranges entry.key rest) (λ others. Ok (entry ∷ others.0, others.1)) x is in
+    let others = again entry.key rest o.0 takes.0.rest_fits o.1 in
+    let made : List Triple × List ℕ = (entry ∷ o.0.0, o.0.1) in
+    let all = TakesText-then bytes (triple_text entry) rest (flat_map triple_text o.0.0 ++ end_mark) o.0.1 takes.0 others.0 in
+    let text : triple_text entry ++ (flat_map triple_text o.0.0 ++ end_mark) ≡ flat_map triple_text (entry ∷ o.0.0) ++ end_mark =
+    sym (append_assoc (triple_text entry) (flat_map triple_text o.0.0) end_mark) ∙ ap (λ (s : List ℕ). s ++ end_mark) (sym (flat_map-cons triple_text entry o.0.0)) in
+    subst (EntriesTake ranges last bytes) {x = made} (ok_is made x o.2) (subst (λ (s : List ℕ). TakesText bytes s o.0.1) text all, (takes.1, takes.2, takes.3, others.1))
+
+pub entries_take : (turns : ℕ) (ranges : List Range) (last bytes : List ℕ) (x : List Triple × List ℕ) → IsBytes bytes → entries_at turns ranges last bytes ≡ Ok x → EntriesTake ranges last bytes x
 unfolding entries_at
 entries_take zero ranges last bytes x fits e = absurd cc
 entries_take (suc turns) ranges last bytes x fits e =
-    let a = bind_ok (number_at Short w16 bytes) (λ count. cond (eqb count.0 0) (Ok ([], count.1))
-    (next_key_at last count.0 count.1 >>= λ key. entry_at ranges key.1 >>= λ there. entries_at turns ranges key.0 there.1 >>= λ others. Ok (record { key = key.0; point = there.0.point; content = there.0.content } ∷ others.0, others.1))) x e in
-    let len = number_takes Short w16 (2 ^ 16) wide16 bytes a.0.0 a.0.1 fits a.1 in
-    elim (eqb a.0.0 0) as (λ b. eqb a.0.0 0 ≡ b → cond b (Ok ([], a.0.1))
-    (next_key_at last a.0.0 a.0.1 >>= λ key. entry_at ranges key.1 >>= λ there. entries_at turns ranges key.0 there.1 >>= λ others. Ok (record { key = key.0; point = there.0.point; content = there.0.content } ∷ others.0, others.1)) ≡ Ok x
-    → TakesText bytes (flat_map triple_text x.0 ++ end_mark) x.1 × EntriesFrom ranges last x.0) [
-      | true ↦ λ none is.
-          let made : List Triple × List ℕ = ([], a.0.1) in
-          subst (λ (y : List Triple × List ℕ). TakesText bytes (flat_map triple_text y.0 ++ end_mark) y.1 × EntriesFrom ranges last y.0) {x = made} (ok_is made x is)
-          (subst (λ (n : ℕ). TakesText bytes (to_be_bytes w16 n) a.0.1) (eqb-true _ _ none) len.0, tt)
-      | false ↦ λ some is.
-          let k = bind_ok (next_key_at last a.0.0 a.0.1) (λ key. entry_at ranges key.1 >>= λ there. entries_at turns ranges key.0 there.1 >>= λ others. Ok (record { key = key.0; point = there.0.point; content = there.0.content } ∷ others.0, others.1)) x is in
-          let t = bind_ok (entry_at ranges k.0.1) (λ there. entries_at turns ranges k.0.0 there.1 >>= λ others. Ok (record { key = k.0.0; point = there.0.point; content = there.0.content } ∷ others.0, others.1)) x k.2 in
-          let o = bind_ok (entries_at turns ranges k.0.0 t.0.1) (λ others. Ok (record { key = k.0.0; point = t.0.0.point; content = t.0.0.content } ∷ others.0, others.1)) x t.2 in
-          let key = key_takes last a.0.0 a.0.1 k.0 len.0.rest_fits k.1 in
-          let there = entry_takes ranges k.0.1 t.0 key.0.rest_fits t.1 in
-          let others = entries_take turns ranges k.0.0 t.0.1 o.0 there.0.rest_fits o.1 in
-          let entry : Triple = record { key = k.0.0; point = t.0.0.point; content = t.0.0.content } in
-          let made : List Triple × List ℕ = (entry ∷ o.0.0, o.0.1) in
-          let length_text : TakesText bytes (to_be_bytes w16 (length k.0.0)) a.0.1 = subst (λ (n : ℕ). TakesText bytes (to_be_bytes w16 n) a.0.1) (sym key.1) len.0 in
-          let all = entry_more bytes a.0.1 k.0.1 t.0.1 o.0.1 k.0.0 t.0.0 o.0.0 length_text key.0 there.0 others.0 in
-          subst (λ (y : List Triple × List ℕ). TakesText bytes (flat_map triple_text y.0 ++ end_mark) y.1 × EntriesFrom ranges last y.0) {x = made} (ok_is made x o.2)
-          (all, (key.3, (key.2, there.2), there.1, others.1))
-    ] refl a.2
+    let a = bind_ok (next_entry_at ranges last bytes) (λ next. entries_from (entries_at turns ranges) next.0 next.1) x e in
+    entries_behind turns ranges last bytes x (entries_take turns ranges) a.0.0 a.0.1 (next_entry_takes ranges last bytes a.0 fits a.1) a.2
 
 -- an entry takes at least a byte
 pub few_entries : (triples : List Triple) → length triples ≤ length (flat_map triple_text triples)
@@ -152,24 +163,39 @@ few_entries (t ∷ triples) =
     let some : 1 ≤ length (triple_text t) = omega arith in
     omega (arith, long, some, few_entries triples)
 
+pub next_entry_again : (least : ℕ) (ranges : List Range) → RangesFrom least ranges → (last : List ℕ) (t : Triple) (rest : List ℕ) → is_lt (key_cmp last t.key) ≡ true → HasLimits t → covers ranges t.point ≡ true
+    → next_entry_at ranges last (triple_text t ++ rest) ≡ Ok (Some t, rest)
+unfolding next_entry_at
+next_entry_again least ranges apart last t rest above limits covered =
+    let there : AtPoint = record { point = t.point; content = t.content } in
+    let fits = covered_fits least ranges t.point apart covered in
+    let text : triple_text t ++ rest ≡ to_be_bytes w16 (length t.key) ++ (t.key ++ (there_text there ++ rest)) = regrouped (to_be_bytes w16 (length t.key)) t.key (there_text there) rest in
+    let len = number_again Short w16 (2 ^ 16) wide16 (length t.key) (t.key ++ (there_text there ++ rest)) (omega (arith, limits.0.1)) in
+    let some : eqb (length t.key) 0 ≡ false = grind (arith, limits.0.0, nat_tests) in
+    ap (next_entry_at ranges last) text
+    ∙ rw (len, some, key_again last t.key (there_text there ++ rest) limits.0 above, entry_again ranges there rest fits covered limits.1) refl
+  where
+    regrouped : (len key there rest : List ℕ) → (((len ++ key) ++ there) ++ rest) ≡ len ++ (key ++ (there ++ rest))
+    regrouped len key there rest = simp append_assoc
+
+pub end_mark_again : (ranges : List Range) (last rest : List ℕ) → next_entry_at ranges last (end_mark ++ rest) ≡ Ok (None, rest)
+unfolding next_entry_at
+end_mark_again ranges last rest = rw (number_again Short w16 (2 ^ 16) wide16 0 rest (omega arith)) refl
+
 pub entries_again : (turns least : ℕ) (ranges : List Range) → RangesFrom least ranges → (last : List ℕ) (triples : List Triple) (rest : List ℕ) → EntriesFrom ranges last triples → length triples < turns
     → entries_at turns ranges last ((flat_map triple_text triples ++ end_mark) ++ rest) ≡ Ok (triples, rest)
 unfolding entries_at
 entries_again zero least ranges apart last triples rest h more = absurd (omega (arith, more))
-entries_again (suc turns) least ranges apart last [] rest h more = rw (number_again Short w16 (2 ^ 16) wide16 0 rest (omega arith)) refl
+entries_again (suc turns) least ranges apart last [] rest h more = rw (end_mark_again ranges last rest) refl
 entries_again (suc turns) least ranges apart last (t ∷ triples) rest h more =
-    let there : AtPoint = record { point = t.point; content = t.content } in
     let after : List ℕ = (flat_map triple_text triples ++ end_mark) ++ rest in
-    let limit = covered_fits least ranges t.point apart h.2 in
-    let text : (flat_map triple_text (t ∷ triples) ++ end_mark) ++ rest ≡ to_be_bytes w16 (length t.key) ++ (t.key ++ (there_text there ++ after)) =
-    ap (λ (s : List ℕ). (s ++ end_mark) ++ rest) (flat_map-cons triple_text t triples) ∙ regrouped (to_be_bytes w16 (length t.key)) t.key (there_text there) (flat_map triple_text triples) end_mark rest in
-    let len = number_again Short w16 (2 ^ 16) wide16 (length t.key) (t.key ++ (there_text there ++ after)) (omega (arith, h.1.0.1)) in
-    let some : eqb (length t.key) 0 ≡ false = grind (arith, h.1.0.0, nat_tests) in
+    let text : (flat_map triple_text (t ∷ triples) ++ end_mark) ++ rest ≡ triple_text t ++ after =
+    ap (λ (s : List ℕ). (s ++ end_mark) ++ rest) (flat_map-cons triple_text t triples) ∙ regrouped (triple_text t) (flat_map triple_text triples) end_mark rest in
     ap (entries_at (suc turns) ranges last) text
-    ∙ rw (len, some, key_again last t.key (there_text there ++ after) h.1.0 h.0, entry_again ranges there after limit h.2 h.1.1, entries_again turns least ranges apart t.key triples rest h.3 (omega arith)) refl
+    ∙ rw (next_entry_again least ranges apart last t after h.0 h.1 h.2, entries_again turns least ranges apart t.key triples rest h.3 (omega arith)) refl
   where
-    regrouped : (len key there others mark rest : List ℕ) → (((((len ++ key) ++ there) ++ others) ++ mark) ++ rest) ≡ len ++ (key ++ (there ++ ((others ++ mark) ++ rest)))
-    regrouped len key there others mark rest = simp append_assoc
+    regrouped : (first others mark rest : List ℕ) → (((first ++ others) ++ mark) ++ rest) ≡ first ++ ((others ++ mark) ++ rest)
+    regrouped first others mark rest = simp append_assoc
 
 -- pairs within their limits, whose keys rise, the first above this one
 abbrev pub PairsFrom : List ℕ → List Pair → Type 0

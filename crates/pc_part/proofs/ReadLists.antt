@@ -1,17 +1,16 @@
 -- Reading one after the other, as a loop does, and what is read so.
-use Rattle.std.proofs.Common.{◌≡◌, ℕ, suc, ◌+◌, ◌-◌, ◌<◌, ◌≤◌, ◌&&◌, ◌||◌, nat_le, eqb, true, false, List, [], ◌∷◌, ◌++◌, Result, Ok, Err, refl, sym, ap, subst, ◌∙◌, arith}
-use Rattle.std.specs.Int.{w16, w32}
+use Rattle.std.proofs.Common.{◌≡◌, ℕ, suc, ◌+◌, ◌-◌, ◌<◌, ◌≤◌, ◌&&◌, ◌||◌, nat_le, true, false, List, [], ◌∷◌, ◌++◌, length, slice_get, Some, None, Result, Ok, Err, refl, sym, ap, subst, ◌∙◌, arith}
+use Rattle.std.specs.Int.{w32}
 use Rattle.std.proofs.lemmas.Bool.Decides.{nat_tests}
-use Rattle.std.proofs.lemmas.List.{append-nil}
+use Rattle.std.proofs.lemmas.List.{append-nil, length-append}
 use Rattle.pc_types.specs.declared.Refusal.{Refusal}
 use Rattle.pc_types.specs.declared.Refusal.TheVariants.{Short, BadRanges}
 use Rattle.pc_types.specs.Fields.{◌>>=◌, where_true, number_at}
 use Rattle.pc_types.proofs.FieldLaws.{bind_ok, where_ok}
-use Rattle.pc_model.specs.Points.{AtPoint}
 use Rattle.pc_types.specs.declared.Triple.{Triple}
 use Rattle.pc_part.specs.declared.ranges.Range.{Range}
 use Rattle.pc_part.specs.Parts.{RangesFrom, covers}
-use Rattle.pc_part.specs.Reading.{range_at, next_key_at, entry_at, entries_at}
+use Rattle.pc_part.specs.Reading.{range_at, next_entry_at, key_or_empty, last_key, entries_at}
 use Rattle.pc_part.proofs.ItemLaws.{with_front, regroup}
 
 -- a point of such ranges is at most 65,535
@@ -24,37 +23,35 @@ covered_fits least (r ∷ ranges) point h e =
       | false ↦ λ _ rest. covered_fits (r.high + 2) ranges point h.3 rest
     ] refl e
 
+added_last : {X : Type 0} (xs : List X) (x : X) → slice_get (xs ++ x ∷ []) (length xs) ≡ Some x
+added_last [] x = refl
+added_last (y ∷ ys) x = added_last ys x
+
+-- the last key is that of the entry that was added
+pub last_key_is : (entries : List Triple) (entry : Triple) → last_key (entries ++ entry ∷ []) ≡ entry.key
+last_key_is entries entry =
+    let before : length (entries ++ entry ∷ []) - 1 ≡ length entries = omega (arith, length-append entries (entry ∷ [])) in
+    ap (λ (n : ℕ). key_or_empty (slice_get (entries ++ entry ∷ []) n)) before ∙ ap key_or_empty (added_last entries entry)
+
 -- one turn of reading entries: nothing at the end mark, else an entry
 module _ (front : List Triple) (count i : ℕ) (ranges : List Range) (last bytes : List ℕ) (total : Result (List Triple × List ℕ) Refusal) (so_far : with_front front (entries_at (count - i) ranges last bytes) ≡ total) where
   module _ (more : i < count) where
     turns_left : count - i ≡ suc (count - (i + 1))
     turns_left = omega arith
 
-    pub no_length : (e : Refusal) → number_at Short w16 bytes ≡ Err e → total ≡ Err e
+    pub no_entry : (e : Refusal) → next_entry_at ranges last bytes ≡ Err e → total ≡ Err e
     unfolding entries_at
-    no_length e h = let one : with_front front (entries_at (count - i) ranges last bytes) ≡ Err e = rw (turns_left, h) refl in sym so_far ∙ one
+    no_entry e h = let one : with_front front (entries_at (count - i) ranges last bytes) ≡ Err e = rw (turns_left, h) refl in sym so_far ∙ one
 
-    module _ (len : ℕ) (after : List ℕ) (h : number_at Short w16 bytes ≡ Ok (len, after)) where
-      pub entries_end : len ≡ 0 → total ≡ Ok (front, after)
-      unfolding entries_at
-      entries_end z = let one : with_front front (entries_at (count - i) ranges last bytes) ≡ Ok (front, after) = rw (turns_left, h, z) (ap (λ (es : List Triple). Ok (es, after)) (append-nil front)) in sym so_far ∙ one
+    pub entries_end : (after : List ℕ) → next_entry_at ranges last bytes ≡ Ok (None, after) → total ≡ Ok (front, after)
+    unfolding entries_at
+    entries_end after h = let one : with_front front (entries_at (count - i) ranges last bytes) ≡ Ok (front, after) = rw (turns_left, h) (ap (λ (es : List Triple). Ok (es, after)) (append-nil front)) in sym so_far ∙ one
 
-      module _ (z : eqb len 0 ≡ false) where
-        pub no_key : (e : Refusal) → next_key_at last len after ≡ Err e → total ≡ Err e
-        unfolding entries_at
-        no_key e k = let one : with_front front (entries_at (count - i) ranges last bytes) ≡ Err e = rw (turns_left, h, z, k) refl in sym so_far ∙ one
-
-        module _ (key rest : List ℕ) (k : next_key_at last len after ≡ Ok (key, rest)) where
-          pub no_entry : (e : Refusal) → entry_at ranges rest ≡ Err e → total ≡ Err e
-          unfolding entries_at
-          no_entry e f = let one : with_front front (entries_at (count - i) ranges last bytes) ≡ Err e = rw (turns_left, h, z, k, f) refl in sym so_far ∙ one
-
-          pub entry_goes_on : (there : AtPoint) (others : List ℕ) → entry_at ranges rest ≡ Ok (there, others)
-              → with_front (front ++ record { key = key; point = there.point; content = there.content } ∷ []) (entries_at (count - (i + 1)) ranges key others) ≡ total
-          unfolding entries_at
-          entry_goes_on there others f =
-              let entry : Triple = record { key = key; point = there.point; content = there.content } in
-              let one : with_front front (entries_at (count - i) ranges last bytes) ≡ with_front (front ++ entry ∷ []) (entries_at (count - (i + 1)) ranges key others) = rw (turns_left, h, z, k, f) (regroup front entry (entries_at (count - (i + 1)) ranges key others)) in sym one ∙ so_far
+    pub entry_goes_on : (entry : Triple) (after : List ℕ) → next_entry_at ranges last bytes ≡ Ok (Some entry, after)
+        → with_front (front ++ entry ∷ []) (entries_at (count - (i + 1)) ranges entry.key after) ≡ total
+    unfolding entries_at
+    entry_goes_on entry after h =
+        let one : with_front front (entries_at (count - i) ranges last bytes) ≡ with_front (front ++ entry ∷ []) (entries_at (count - (i + 1)) ranges entry.key after) = rw (turns_left, h) (regroup front entry (entries_at (count - (i + 1)) ranges entry.key after)) in sym one ∙ so_far
 
   pub entries_out : count ≤ i → total ≡ Err Short
   unfolding entries_at

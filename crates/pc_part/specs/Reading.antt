@@ -1,5 +1,5 @@
 -- How part files and base files are read: field by field, from left to right, with the first fault that is met.
-use Rattle.std.specs.Prelude.{ℕ, zero, suc, ◌+◌, ◌==◌, ◌&&◌, nat_lt, nat_le, if◌then◌else◌, List, [], ◌∷◌, length, Result, Ok, Err}
+use Rattle.std.specs.Prelude.{ℕ, zero, suc, ◌+◌, ◌-◌, ◌==◌, ◌&&◌, nat_lt, nat_le, if◌then◌else◌, List, [], ◌∷◌, length, slice_get, Option, Some, None, Result, Ok, Err}
 use Rattle.std.specs.Int.{w16, w32, w64}
 use Rattle.std.specs.Ordering.{is_lt}
 use Rattle.pc_types.specs.declared.Refusal.{Refusal}
@@ -52,14 +52,41 @@ entry_at ranges bytes = do
   content ← content_at Short point.1
   Ok (record { point = point.0; content = content.0 }, content.1)
 
--- The entries up to the end mark, which is a length of 0 where a key's would stand. Keys rise, the first above this one.
--- Each entry takes more than one of the bytes, so that no more turns are needed than there are bytes.
+-- the entry whose key comes after the last one, or None at the end mark, which is a length of 0 where a key's would stand
+unfoldable pub next_entry_at : List Range → List ℕ → List ℕ → Result (Option Triple × List ℕ) Refusal
+next_entry_at ranges last bytes =
+    number_at Short w16 bytes >>= λ count. if count.0 == 0 then Ok (None, count.1) else
+    (next_key_at last count.0 count.1 >>= λ key. entry_at ranges key.1 >>= λ there.
+    Ok (Some (record { key = key.0; point = there.0.point; content = there.0.content }), there.1))
+
+-- none at the end mark, else the entry and those that are read behind its key
+abbrev pub entries_from : (List ℕ → List ℕ → Result (List Triple × List ℕ) Refusal) → Option Triple → List ℕ → Result (List Triple × List ℕ) Refusal
+entries_from others None bytes = Ok ([], bytes)
+entries_from others (Some entry) bytes = others entry.key bytes >>= λ behind. Ok (entry ∷ behind.0, behind.1)
+
+-- the key of the last of some entries; of none it is empty, and all keys come after it
+abbrev pub key_or_empty : Option Triple → List ℕ
+key_or_empty None = []
+key_or_empty (Some entry) = entry.key
+
+abbrev pub last_key : List Triple → List ℕ
+last_key entries = key_or_empty (slice_get entries (length entries - 1))
+
+-- The entries up to the end mark. Keys rise, the first above this one. Each entry takes more than one of the bytes, so that no more
+-- turns are needed than there are bytes.
 unfoldable pub entries_at : ℕ → List Range → List ℕ → List ℕ → Result (List Triple × List ℕ) Refusal
 entries_at zero ranges last bytes = Err Short
-entries_at (suc turns) ranges last bytes =
-    number_at Short w16 bytes >>= λ count. if count.0 == 0 then Ok ([], count.1) else
-    (next_key_at last count.0 count.1 >>= λ key. entry_at ranges key.1 >>= λ there. entries_at turns ranges key.0 there.1 >>= λ others.
-    Ok (record { key = key.0; point = there.0.point; content = there.0.content } ∷ others.0, others.1))
+entries_at (suc turns) ranges last bytes = next_entry_at ranges last bytes >>= λ next. entries_from (entries_at turns ranges) next.0 next.1
+
+-- the run and the ranges, which stand before the entries
+unfoldable pub header_at : List ℕ → Result ((ℕ × List Range) × List ℕ) Refusal
+header_at bytes = do
+  start ← magic_at part_magic bytes
+  run ← number_at Short w64 start
+  count ← number_at Short w32 run.1
+  some ← where_true (nat_lt 0 count.0) BadRanges count.0
+  ranges ← ranges_at some 1 count.1
+  Ok ((run.0, ranges.0), ranges.1)
 
 -- a part file's run, ranges and entries
 pub record PartFields : Type 0 where
@@ -70,15 +97,11 @@ pub record PartFields : Type 0 where
 -- the fields of a part file whose text is all of the bytes
 unfoldable pub part_fields_at : List ℕ → Result PartFields Refusal
 part_fields_at bytes = do
-  start ← magic_at part_magic bytes
-  run ← number_at Short w64 start
-  count ← number_at Short w32 run.1
-  some ← where_true (nat_lt 0 count.0) BadRanges count.0
-  ranges ← ranges_at some 1 count.1
-  entries ← entries_at (length ranges.1) ranges.0 [] ranges.1
+  header ← header_at bytes
+  entries ← entries_at (length header.1) header.0.1 [] header.1
   total ← number_at Short w32 entries.1
   rest ← where_true (total.0 == length entries.0) BadLength total.1
-  where_true (length rest == 0) Trailing (record { run = run.0; ranges = ranges.0; entries = entries.0 })
+  where_true (length rest == 0) Trailing (record { run = header.0.0; ranges = header.0.1; entries = entries.0 })
 
 -- the file of a part's fields
 abbrev pub part_of_fields : PartFields → File

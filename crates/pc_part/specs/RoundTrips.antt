@@ -1,10 +1,12 @@
 -- The laws of reading: each file has one text, which is read as it, and nothing else is read.
-use Rattle.std.specs.Prelude.{◌≡◌, ℕ, ◌<◌, List, length, take, Ok, Err}
+use Rattle.std.specs.Prelude.{◌≡◌, ◌⊎◌, ℕ, ◌<◌, List, ◌++◌, length, take, Result, Ok, Err}
 use Rattle.std.specs.List.{All}
+use Rattle.pc_types.specs.declared.Refusal.{Refusal}
 use Rattle.pc_types.specs.declared.Refusal.TheVariants.{Short}
 use Rattle.pc_model.specs.Files.{File, BaseFile}
+use Rattle.pc_part.specs.declared.ranges.Range.{Range}
 use Rattle.pc_part.specs.Lawful.{IsPartFile, IsBaseFile}
-use Rattle.pc_part.specs.Reading.{part_at, base_at}
+use Rattle.pc_part.specs.Reading.{next_entry_at, header_at, part_at, base_at}
 use Rattle.pc_part.specs.Texts.{part_text, base_text}
 
 -- The text of a part file is read as the file.
@@ -18,6 +20,17 @@ ReadPartsAreTexts = (bytes : List ℕ) (file : File) → All (λ byte. byte < 25
 -- The text of a part file that is cut off anywhere is short.
 abbrev pub CutPartTextsAreShort : Type 0
 CutPartTextsAreShort = (file : File) (n : ℕ) → IsPartFile file → n < length (part_text file) → part_at (take n (part_text file)) ≡ Err Short
+
+-- What is read from the front of bytes, with what is left of them: it is read of longer bytes too, and so is each fault but that of
+-- bytes that end too soon. What is left stands at the end of the bytes.
+pub record IsLocal {X : Type 0} (read : List ℕ → Result (X × List ℕ) Refusal) : Type 0 where
+  pub ok : (bytes more : List ℕ) (x : X) (rest : List ℕ) → read bytes ≡ Ok (x, rest) → read (bytes ++ more) ≡ Ok (x, rest ++ more)
+  pub err : (bytes more : List ℕ) (fault : Refusal) → read bytes ≡ Err fault → (fault ≡ Short) ⊎ (read (bytes ++ more) ≡ Err fault)
+  pub back : (bytes : List ℕ) (x : X) (rest : List ℕ) → read bytes ≡ Ok (x, rest) → (text : List ℕ) × (bytes ≡ text ++ rest)
+
+-- A part's header and its next entry are read so.
+abbrev pub StepsAreLocal : Type 0
+StepsAreLocal = IsLocal header_at × ((ranges : List Range) (last : List ℕ) → IsLocal (next_entry_at ranges last))
 
 -- The text of a base file is read as the base.
 abbrev pub BaseTextsAreRead : Type 0

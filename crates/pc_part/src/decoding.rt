@@ -7,8 +7,8 @@ ghost use Rattle.pc_types.specs.Limits.{IsKey};
 ghost use Rattle.pc_model.specs.Database.{key_cmp};
 ghost use Rattle.pc_model.specs.Files.{File};
 ghost use Rattle.pc_part.specs.Lawful.{IsPartFile};
-ghost use Rattle.pc_part.specs.Parts.{RangesFrom, covers};
-ghost use Rattle.pc_part.specs.Reading.{range_at, ranges_at, next_key_at, point_at, entry_at, entries_at, part_fields_at, part_at};
+ghost use Rattle.pc_part.specs.Parts.{AreRanges, RangesFrom, covers};
+ghost use Rattle.pc_part.specs.Reading.{range_at, ranges_at, next_key_at, point_at, entry_at, last_key, next_entry_at, entries_at, header_at, part_fields_at, part_at};
 ghost use Rattle.pc_part.specs.Texts.{part_text};
 
 use crate::part::Part;
@@ -67,13 +67,7 @@ struct FieldsOfPart {
 fn read_fields(alloc: Global, bytes: &[u8]) -> Result<FieldsOfPart, Refusal>
     ensures { Gives (λ f. record { run = f.run; ranges = f.ranges.items; entries = f.entries.items }) result (part_fields_at bytes.now) }
 {
-    let start = read_magic(bytes, &MAGIC)?;
-    let (run, rest) = read_u64(start, Refusal::Short)?;
-    let (range_count, rest) = read_u32(rest, Refusal::Short)?;
-    if range_count == 0 {
-        return Err(Refusal::BadRanges);
-    }
-    let (ranges, rest) = read_ranges(alloc, range_count, rest)?;
+    let (PartHeader { run, ranges }, rest) = read_header(alloc, bytes)?;
     let (entries, rest) = read_entries(alloc, &ranges, rest)?;
     let (total, rest) = read_u32(rest, Refusal::Short)?;
     if entries.len() != total as usize {
@@ -87,6 +81,30 @@ fn read_fields(alloc: Global, bytes: &[u8]) -> Result<FieldsOfPart, Refusal>
         ranges,
         entries,
     })
+}
+
+/// What stands before the entries of a part: its run, and the points that it stands for as ranges.
+#[derive(Drop)]
+pub struct PartHeader {
+    pub run: u64,
+    pub ranges: Vec<Range>,
+}
+
+/// The header at the front of a part's text, and the bytes behind it. It takes memory for the ranges alone. Refuses with
+/// `OutOfMemory` only where memory ran out, else with `Short`, `BadMagic` or `BadRanges`, the first fault from the left.
+#[tactic(auto, unfolding(crate::specs::Reading::header_at))]
+pub fn read_header(alloc: Global, bytes: &[u8]) -> Result<(PartHeader, &[u8]), Refusal>
+    ensures read { Gives (λ x. ((x.0.run, x.0.ranges.items), x.1.now)) result (header_at bytes.now) }
+    ensures apart { IfOk result (λ x. AreRanges x.0.ranges.items) }
+{
+    let start = read_magic(bytes, &MAGIC)?;
+    let (run, rest) = read_u64(start, Refusal::Short)?;
+    let (range_count, rest) = read_u32(rest, Refusal::Short)?;
+    if range_count == 0 {
+        return Err(Refusal::BadRanges);
+    }
+    let (ranges, rest) = read_ranges(alloc, range_count, rest)?;
+    Ok((PartHeader { run, ranges }, rest))
 }
 
 // So many ranges, one after the other.
@@ -130,24 +148,55 @@ fn read_entries<'a>(
     ensures { Gives (λ x. (x.0.items, x.1.now)) result (entries_at (length bytes.now) ranges.now [] bytes.now) }
 {
     let mut entries = Vec::new(alloc);
-    let mut last: &[u8] = &[];
     let mut rest = bytes;
     for _ in 0..bytes.len() {
-        let (count, after) = read_u16(rest, Refusal::Short)?;
-        if count == 0 {
+        let (next, after) = read_next_entry(alloc, ranges, last_key(&entries), rest)?;
+        let Some(entry) = next else {
             return Ok((entries, after));
-        }
-        let (key, after) = read_next_key(last, count, after)?;
-        let (point, content, after) = read_entry(alloc, ranges, after)?;
-        entries.push(Triple {
-            key: Key::new(alloc, key)?,
-            point: Point(point),
-            content,
-        })?;
-        last = key;
+        };
+        entries.push(entry)?;
         rest = after;
     }
     Err(Refusal::Short)
+}
+
+// The key of the last of the entries; of none it is empty, and all keys come after it.
+fn last_key(entries: &[Triple]) -> &[u8]
+    ensures { result.now ≡ last_key entries.now }
+{
+    match entries.last() {
+        Some(entry) => entry.key.as_bytes(),
+        None => &[],
+    }
+}
+
+/// The entry at the front of the bytes, whose key comes after the last one, or None at the end mark; and the bytes behind
+/// it. It takes memory for long keys and values alone. Refuses with `OutOfMemory` only where memory ran out, else with
+/// `Short`, `BadLength`, `KeyOrder`, `NotCovered` or `BadKind`, the first fault from the left.
+#[tactic(auto, unfolding(crate::specs::Reading::next_entry_at))]
+pub fn read_next_entry<'a>(
+    alloc: Global,
+    ranges: &[Range],
+    last: &[u8],
+    bytes: &'a [u8],
+) -> Result<(Option<Triple>, &'a [u8]), Refusal>
+    requires { RangesFrom 1 ranges.now }
+    ensures { Gives (λ x. (x.0, x.1.now)) result (next_entry_at ranges.now last.now bytes.now) }
+{
+    let (count, rest) = read_u16(bytes, Refusal::Short)?;
+    if count == 0 {
+        return Ok((None, rest));
+    }
+    let (key, rest) = read_next_key(last, count, rest)?;
+    let (point, content, rest) = read_entry(alloc, ranges, rest)?;
+    let key = Key::new(alloc, key)?;
+    let point = Point(point);
+    let entry = Triple {
+        key,
+        point,
+        content,
+    };
+    Ok((Some(entry), rest))
 }
 
 // A key of so many bytes that comes after the last one.

@@ -1,6 +1,6 @@
 //! Laws of the join, and of reading. Each function does nothing, and its contract is a law.
 ghost use Rattle.pc_part.specs.Joins.{ConflictsAreMutual, JoinsAreIdempotent, JoinsAssociate, JoinsCommute, JoinsMakeNoConflict};
-ghost use Rattle.pc_part.specs.RoundTrips.{BaseTextsAreRead, CutBaseTextsAreShort, CutPartTextsAreShort, PartTextsAreRead, ReadBasesAreTexts, ReadPartsAreTexts};
+ghost use Rattle.pc_part.specs.RoundTrips.{BaseTextsAreRead, CutBaseTextsAreShort, CutPartTextsAreShort, PartTextsAreRead, ReadBasesAreTexts, ReadPartsAreTexts, StepsAreLocal};
 
 /// Two files of one run without conflict are joined to one file, whichever comes first.
 pub fn joins_commute()
@@ -40,6 +40,11 @@ pub fn read_parts_are_texts()
 /// The text of a part file that is cut off anywhere is read as short.
 pub fn cut_part_texts_are_short()
     ensures { CutPartTextsAreShort }
+{}
+
+/// The header and the next entry of a part are read of longer bytes as of these, unless these end too soon.
+pub fn steps_are_local()
+    ensures { StepsAreLocal }
 {}
 
 /// The text of a base file is read as the base.

@@ -15,11 +15,12 @@ mod ranges;
 mod uniting;
 
 pub use base::Base;
+pub use decoding::{PartHeader, read_header, read_next_entry};
 pub use joining::join;
 pub use laws::{
     base_texts_are_read, conflicts_are_mutual, cut_base_texts_are_short, cut_part_texts_are_short,
     joins_are_idempotent, joins_associate, joins_commute, joins_make_no_conflict,
-    part_texts_are_read, read_bases_are_texts, read_parts_are_texts,
+    part_texts_are_read, read_bases_are_texts, read_parts_are_texts, steps_are_local,
 };
 pub use laying::lay;
 pub use part::Part;
