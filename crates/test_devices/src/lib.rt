@@ -15,6 +15,8 @@ mod script_tests;
 #[cfg(test)]
 mod sink;
 #[cfg(test)]
+mod stream_tests;
+#[cfg(test)]
 mod tally_tests;
 #[cfg(test)]
 mod tape;

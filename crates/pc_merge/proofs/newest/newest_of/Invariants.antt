@@ -1,0 +1,17 @@
+use Rattle.std.proofs.Common.{ℕ, List, Some, map}
+use Rattle.pc_merge.specs.Coming.{Coming}
+use Rattle.pc_merge.specs.Drawing.{ArePassing}
+use Rattle.pc_merge.specs.Inputs.{AreTogether}
+use Rattle.pc_merge.specs.Tournaments.{at, IsNoLater}
+use Rattle.pc_merge.proofs.PlacesLeft.{having}
+use Rattle.pc_merge.proofs.newest.newest_of.Given as goal
+
+abbrev pub invariant-loop-place : goal.invariant-loop-place
+invariant-loop-place g l = record {
+  together : AreTogether (map g.E.Entries.coming l.inputs) l.firsts;
+  least : (place : ℕ) → IsNoLater (Some l.newest) (at l.firsts place);
+  passing : (was : List Coming) → ArePassing was (map g.E.Entries.coming l.fn.inputs) l.fn.firsts l.fn.entry → ArePassing was (map g.E.Entries.coming l.inputs) l.firsts l.newest;
+}
+
+abbrev pub decreases-loop-place : goal.decreases-loop-place
+decreases-loop-place g l = having l.newest.key l.firsts

@@ -1,0 +1,54 @@
+-- The inputs of a merge, and the first entries that were drawn from them.
+use Rattle.std.specs.Prelude.{◌≡◌, ℕ, List, [], ◌∷◌, Option, Some, None, length, option_map, slice_index_or}
+use Rattle.pc_types.specs.declared.Refusal.{Refusal}
+use Rattle.pc_types.specs.declared.Triple.{Triple}
+use Rattle.pc_merge.specs.Coming.{Coming, ended, after_entry}
+use Rattle.pc_merge.specs.Merging.{Merging}
+
+-- what is to come, where it is known of the one and of the others
+abbrev pub known_with : Option Coming → Option (List Coming) → Option (List Coming)
+known_with (Some input) (Some inputs) = Some (input ∷ inputs)
+known_with input inputs = None
+
+-- what is to come of each, where it is known of all
+abbrev pub all_known : List (Option Coming) → Option (List Coming)
+all_known [] = Some []
+all_known (input ∷ inputs) = known_with input (all_known inputs)
+
+-- what is to come, where that is nothing
+abbrev pub if_ended : List Triple → Option Refusal → Option Coming
+if_ended [] None = Some ended
+if_ended entries fault = None
+
+-- What is left of an input: the entry that was drawn and what is to come. Where none was drawn, nothing is to come; else nothing is
+-- known.
+abbrev pub left_of : Option Triple → Option Coming → Option Coming
+left_of (Some entry) input = option_map (after_entry entry) input
+left_of None (Some input) = if_ended input.entries input.fault
+left_of None None = None
+
+-- what is left of each input
+abbrev pub each_left : List (Option Coming) → List (Option Triple) → List (Option Coming)
+each_left (input ∷ inputs) (first ∷ firsts) = left_of first input ∷ each_left inputs firsts
+each_left inputs firsts = []
+
+-- the same, where it is known of all
+abbrev pub all_left : List (Option Coming) → List (Option Triple) → Option (List Coming)
+all_left inputs firsts = all_known (each_left inputs firsts)
+
+-- after a refusal nothing is known
+abbrev pub left_unless : Option Refusal → Option (List Coming) → Option (List Coming)
+left_unless None left = left
+left_unless (Some why) left = None
+
+-- the merge of inputs of which these first entries were drawn
+abbrev pub merging : List (Option Coming) → List (Option Triple) → Option Refusal → Merging
+merging inputs firsts refused = record { left = left_unless refused (all_left inputs firsts); refused = refused }
+
+-- what is to come of the input at a place, where it is known
+abbrev pub coming_at : List (Option Coming) → ℕ → Option Coming
+coming_at inputs place = slice_index_or inputs place None
+
+-- each input has a place, at which its first entry stands
+abbrev pub AreTogether : List (Option Coming) → List (Option Triple) → Type 0
+AreTogether inputs firsts = length inputs ≡ length firsts

@@ -1,0 +1,97 @@
+-- What a merge gives next, and what is then left of its inputs.
+use Rattle.std.specs.Prelude.{◌≡◌, ◌⊎◌, ◌<◌, ℕ, List, [], ◌∷◌, Option, Some, None, Result, Ok, Err, map, slice_get, if◌then◌else◌, ⊤}
+use Rattle.std.specs.List.{All, Contains}
+use Rattle.std.specs.declared.cmp.Ordering.TheVariants.{Less}
+use Rattle.pc_types.specs.declared.Refusal.{Refusal}
+use Rattle.pc_types.specs.declared.Refusal.TheVariants.{OutOfMemory, Device, Conflict, KeyOrder}
+use Rattle.pc_types.specs.declared.Triple.{Triple}
+use Rattle.pc_model.specs.Database.{KeysRise, key_cmp, same_bytes}
+use Rattle.pc_model.specs.TripleLists.{entries_of}
+use Rattle.pc_merge.specs.Coming.{Coming, ended}
+
+-- a merge: what is left of each input, where that is known of all, and the refusal that was answered
+pub record Merging : Type 0 where
+  pub left : Option (List Coming)
+  pub refused : Option Refusal
+
+-- the first entry to come
+abbrev pub first_of : Coming → Option Triple
+first_of input = slice_get input.entries 0
+
+-- the first entry of each input
+abbrev pub firsts_of : List Coming → List (Option Triple)
+firsts_of inputs = map first_of inputs
+
+-- the entries without the first one where that is of the key
+abbrev pub entries_behind : List ℕ → List Triple → List Triple
+entries_behind key [] = []
+entries_behind key (entry ∷ entries) = if same_bytes entry.key key then entries else entry ∷ entries
+
+-- what comes behind the key in an input that begins with it or behind it
+abbrev pub behind : List ℕ → Coming → Coming
+behind key input = record { entries = entries_behind key input.entries; fault = input.fault }
+
+-- the same of each input
+abbrev pub all_behind : List ℕ → List Coming → List Coming
+all_behind key inputs = map (behind key) inputs
+
+-- the key is less than that of the entry, if there is one
+abbrev pub IsBelow : List ℕ → Option Triple → Type 0
+IsBelow key None = ⊤
+IsBelow key (Some entry) = key_cmp key entry.key ≡ Less
+
+-- an entry is newer than another one of its key, or the same
+abbrev pub IsNewest : Triple → Triple → Type 0
+IsNewest entry other = (other.point < entry.point) ⊎ (other ≡ entry)
+
+-- another entry, if there is one, is of a greater key, or of this one's key and older, or this one
+abbrev pub IsBest : Triple → Option Triple → Type 0
+IsBest entry None = ⊤
+IsBest entry (Some other) = (key_cmp entry.key other.key ≡ Less) ⊎ ((entry.key ≡ other.key) × IsNewest entry other)
+
+-- The entry is what a merge of these inputs gives next: one of their first entries, and the best of them; what comes behind it is
+-- of greater keys.
+pub record GivesFirst (inputs : List Coming) (entry : Triple) : Type 0 where
+  pub of : Contains (firsts_of inputs) (Some entry)
+  pub best : All (IsBest entry) (firsts_of inputs)
+  pub rises : All (IsBelow entry.key) (firsts_of (all_behind entry.key inputs))
+
+-- each input has ended
+abbrev pub AreEnded : List Coming → Type 0
+AreEnded inputs = All (λ input. input ≡ ended) inputs
+
+-- one of the inputs ends in the refusal
+abbrev pub HasFault : List Coming → Refusal → Type 0
+HasFault inputs why = (input : Coming) × Contains inputs input × (input.fault ≡ Some why)
+
+-- two entries of the inputs have one key and point and different contents
+pub record HaveConflict (inputs : List Coming) : Type 0 where
+  pub one : Coming
+  pub other : Coming
+  pub one_among : Contains inputs one
+  pub other_among : Contains inputs other
+  pub entry : Triple
+  pub second : Triple
+  pub entry_among : Contains one.entries entry
+  pub second_among : Contains other.entries second
+  pub key : entry.key ≡ second.key
+  pub point : entry.point ≡ second.point
+  pub differ : entry.content ≡ second.content → ⊥
+
+-- the keys of one of the inputs don't rise
+abbrev pub HasNoOrder : List Coming → Type 0
+HasNoOrder inputs = (input : Coming) × Contains inputs input × (KeysRise (entries_of input.entries) → ⊥)
+
+-- why a merge of these inputs may be refused: memory or a device failed, an input ends in that refusal, two conflict, or the keys
+-- of one don't rise
+abbrev pub IsCause : List Coming → Refusal → Type 0
+IsCause inputs why =
+    (why ≡ OutOfMemory) ⊎ (why ≡ Device) ⊎ HasFault inputs why ⊎ ((why ≡ Conflict) × HaveConflict inputs) ⊎ ((why ≡ KeyOrder) × HasNoOrder inputs)
+
+-- The answer to one call where it is known what was left: the next entry, of whose key then nothing is left; None where all
+-- inputs had ended; or a refusal for a cause.
+abbrev pub GoesOn : Option (List Coming) → Option (List Coming) → Result (Option Triple) Refusal → Type 0
+GoesOn None now result = ⊤
+GoesOn (Some was) now (Ok None) = AreEnded was × (now ≡ Some was)
+GoesOn (Some was) now (Ok (Some entry)) = GivesFirst was entry × (now ≡ Some (all_behind entry.key was))
+GoesOn (Some was) now (Err why) = IsCause was why

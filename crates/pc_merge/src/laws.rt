@@ -1,0 +1,17 @@
+//! Laws of merges.
+ghost use Rattle.pc_merge.specs.Given.{CausesStand, EndsAreMerges, GivenGrows};
+
+/// What a merge has given until all inputs have ended is the join of them, and no two of them differ at a key's greatest point.
+pub fn ends_are_merges()
+    ensures { EndsAreMerges }
+{}
+
+/// With each entry that a merge gives it has given one more.
+pub fn given_grows()
+    ensures { GivenGrows }
+{}
+
+/// A cause of a refusal that stands by what is left of inputs stands by the inputs.
+pub fn causes_stand()
+    ensures { CausesStand }
+{}

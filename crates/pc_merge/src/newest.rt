@@ -1,0 +1,169 @@
+//! The steps of a merge: an input is drawn on, and of the entries of one key the newest is kept.
+ghost use Rattle.std.specs.Prelude.{◌≡◌, ◌≢◌, ◌<◌, ◌⊎◌, ℕ, true, List, Some, None, Err, MatchBool, MatchResult, IfErr, IfOk, IfSome, IfNone, OnOk, length, map, option_map};
+ghost use Rattle.pc_types.specs.declared.refusal.Refusal.TheVariants.{Conflict};
+ghost use Rattle.pc_model.specs.Files.{same_content};
+ghost use Rattle.pc_merge.specs.Coming.{Coming};
+ghost use Rattle.pc_merge.specs.Drawing.{Draws, GoOnPassing, HasCause, HasPassed, Passes, Rises, has_key};
+ghost use Rattle.pc_merge.specs.Inputs.{AreTogether, all_known, all_left};
+ghost use Rattle.pc_merge.specs.Merging.{IsBelow, IsCause, IsNewest};
+ghost use Rattle.pc_merge.specs.Tournaments.{IsFree, IsNoLater, at};
+
+use crate::entries::Entries;
+use crate::tournament::Tournament;
+use pc_types::{Key, Refusal, Triple, Value};
+
+// The next entry of the input at the place.
+fn draw<E: Entries>(inputs: &mut [E], place: usize) -> Result<Option<Triple>, Refusal>
+    requires { place < length inputs.old }
+    ensures { Draws (map E.coming inputs.old) (map E.coming inputs.new) place result }
+{
+    inputs[place].next()
+}
+
+// Draws the first entry of each input.
+pub(crate) fn open<E: Entries>(inputs: &mut [E], firsts: &mut Tournament) -> Result<(), Refusal>
+    requires size { length inputs.old ≡ length firsts.old }
+    requires free { IsFree firsts.old }
+    ensures together { OnOk result (AreTogether (map E.coming inputs.new) firsts.new) }
+    ensures known { (was : List Coming) → all_known (map E.coming inputs.old) ≡ Some was → MatchResult result (λ _. all_left (map E.coming inputs.new) firsts.new ≡ Some was) (IsCause was) }
+{
+    for place in 0..inputs.len() {
+        let first = draw(inputs, place)?;
+        drop(firsts.replace(place, first));
+    }
+    Ok(())
+}
+
+// Takes the first entry of the input at the place, and draws the one behind it, whose key must be greater.
+pub(crate) fn advance<E: Entries>(
+    inputs: &mut [E],
+    firsts: &mut Tournament,
+    place: usize,
+) -> Result<Triple, Refusal>
+    requires together { AreTogether (map E.coming inputs.old) firsts.old }
+    requires place { place < length firsts.old }
+    requires some { at firsts.old place ≢ None }
+    ensures together { AreTogether (map E.coming inputs.new) firsts.new }
+    ensures passes { IfOk result (Passes firsts.old firsts.new place) }
+    ensures passed { IfOk result (HasPassed (map E.coming inputs.old) firsts.old (map E.coming inputs.new) firsts.new place) }
+    ensures cause { IfErr result (HasCause (map E.coming inputs.old) firsts.old) }
+{
+    let next = draw(inputs, place)?;
+    if !rises(firsts.standing(place), &next) {
+        return Err(Refusal::KeyOrder);
+    }
+    match firsts.replace(place, next) {
+        Some(first) => Ok(first),
+        None => unreachable!(),
+    }
+}
+
+// Whether the next entry's key is greater than the first one's.
+fn rises(first: Option<&Triple>, next: &Option<Triple>) -> bool
+    ensures { Rises (option_map (λ entry. entry.now) first.entry) next.now result }
+{
+    match (first, next) {
+        (Some(first), Some(next)) => first.key.compare(&next.key).is_lt(),
+        _ => true,
+    }
+}
+
+// The newest of an entry and of all others that stand at a place with its key.
+pub(crate) fn newest_of<E: Entries>(
+    inputs: &mut [E],
+    firsts: &mut Tournament,
+    entry: Triple,
+) -> Result<Triple, Refusal>
+    requires together { AreTogether (map E.coming inputs.old) firsts.old }
+    requires least { (place : ℕ) → IsNoLater (Some entry) (at firsts.old place) }
+    ensures together { AreTogether (map E.coming inputs.new) firsts.new }
+    ensures above { IfOk result (λ newest. (place : ℕ) → IsBelow newest.key (at firsts.new place)) }
+    ensures goes_on { GoOnPassing (map E.coming inputs.old) firsts.old entry (map E.coming inputs.new) firsts.new result }
+{
+    let mut newest = entry;
+    while let Some(place) = least_with(firsts, &newest) {
+        let other = advance(inputs, firsts, place)?;
+        newest = newer(newest, other)?;
+    }
+    Ok(newest)
+}
+
+// The place of the least key, where that is the entry's.
+fn least_with(firsts: &Tournament, entry: &Triple) -> Option<usize>
+    requires { (place : ℕ) → IsNoLater (Some entry.now) (at firsts.now place) }
+    ensures none { IfNone result ((place : ℕ) → IsBelow entry.now.key (at firsts.now place)) }
+    ensures within { IfSome result (λ place. place < length firsts.now) }
+    ensures some { IfSome result (λ place. at firsts.now place ≢ None) }
+    ensures key { IfSome result (λ place. has_key entry.now.key (at firsts.now place) ≡ true) }
+{
+    let place = firsts.least()?;
+    if is_of_key(firsts.standing(place), &entry.key) {
+        Some(place)
+    } else {
+        None
+    }
+}
+
+// Whether the entry, if there is one, is of the key.
+fn is_of_key(entry: Option<&Triple>, key: &Key) -> bool
+    ensures { result ≡ has_key key.now (option_map (λ entry. entry.now) entry.entry) }
+{
+    match entry {
+        Some(entry) => entry.key.is(key),
+        None => false,
+    }
+}
+
+// Of two entries of one key the one of the greater point; where they have one point and different contents, `Conflict`.
+fn newer(one: Triple, other: Triple) -> Result<Triple, Refusal>
+    requires { other.key ≡ one.key }
+    ensures newer { IfOk result (λ newer. IsNewest newer one × IsNewest newer other × ((newer ≡ one) ⊎ (newer ≡ other))) }
+    ensures conflict { IfErr result (λ why. (why ≡ Conflict) × (one.point ≡ other.point) × (one.content ≡ other.content → ⊥)) }
+{
+    if is_older(&one, &other)? {
+        Ok(other)
+    } else {
+        Ok(one)
+    }
+}
+
+// Whether the first of two entries of one key is the older; where they have one point and different contents, `Conflict`.
+fn is_older(one: &Triple, other: &Triple) -> Result<bool, Refusal>
+    requires { other.now.key ≡ one.now.key }
+    ensures older { IfOk result (λ older. MatchBool older (IsNewest other.now one.now) (IsNewest one.now other.now)) }
+    ensures conflict { IfErr result (λ why. (why ≡ Conflict) × (one.now.point ≡ other.now.point) × (one.now.content ≡ other.now.content → ⊥)) }
+{
+    let (point, other_point) = (point_of(one), point_of(other));
+    if point != other_point {
+        return Ok(point < other_point);
+    }
+    if !have_same_content(one, other) {
+        return Err(Refusal::Conflict);
+    }
+    Ok(false)
+}
+
+// The entry's point as a number.
+fn point_of(entry: &Triple) -> u16
+    ensures { result ≡ entry.now.point }
+{
+    entry.point.0
+}
+
+// Whether the keys had the same at the points.
+fn have_same_content(one: &Triple, other: &Triple) -> bool
+    ensures { result ≡ same_content one.now.content other.now.content }
+{
+    is_same(&one.content, &other.content)
+}
+
+// Whether the contents are the same.
+fn is_same(a: &Option<Value>, b: &Option<Value>) -> bool
+    ensures { result ≡ same_content a.now b.now }
+{
+    match (a, b) {
+        (None, None) => true,
+        (Some(v), Some(w)) => v.is(w),
+        _ => false,
+    }
+}

@@ -1,0 +1,269 @@
+//! Tests of merges, by tables and beside the join of files by twos.
+
+use crate::{Entries, EntryList, Merge, merge_all};
+use pc_part::{Part, join};
+use pc_types::{Key, Point, Refusal, Triple, Value};
+use std::alloc::Global;
+use std::test::Fail;
+
+// An entry: its key, its point, and what the key had there.
+type Row = (&'static [u8], u16, Option<u8>);
+
+// Lists of entries, what their merge gives, and what it then refuses with; nothing, where it ends.
+type Case = (&'static [&'static [Row]], &'static [Row], &'static str);
+
+const A: &[u8] = b"a";
+
+const B: &[u8] = b"b";
+
+const LONG: &[u8] = b"the same head, a";
+
+const LONGER: &[u8] = b"the same head, b";
+
+const LAST: &[u8] = b"\xff\xff\xff\xff\xff\xff\xff\xff";
+
+const A1: Row = (A, 1, None);
+
+const A2: Row = (A, 2, Some(1));
+
+const A3: Row = (A, 3, Some(2));
+
+const B1: Row = (B, 1, Some(3));
+
+const B2: Row = (B, 2, Some(1));
+
+const OTHER_B2: Row = (B, 2, Some(2));
+
+const LONG2: Row = (LONG, 2, Some(2));
+
+const LONGER1: Row = (LONGER, 1, Some(1));
+
+const LAST1: Row = (LAST, 1, None);
+
+const CASES: &[Case] = &[
+    (&[], &[], ""),
+    (&[&[]], &[], ""),
+    (&[&[A1, B1]], &[A1, B1], ""),
+    (&[&[A1], &[A2]], &[A2], ""),
+    (&[&[A2], &[A1, B1]], &[A2, B1], ""),
+    (&[&[A2], &[A3], &[A1]], &[A3], ""),
+    (&[&[A1], &[A1], &[A1]], &[A1], ""),
+    (
+        &[&[LAST1], &[LONGER1], &[LONG2], &[]],
+        &[LONG2, LONGER1, LAST1],
+        "",
+    ),
+    (&[&[A1, B2], &[OTHER_B2]], &[A1], "Conflict"),
+    (&[&[A1, B2], &[OTHER_B2], &[B1]], &[A1], "Conflict"),
+    (&[&[A1, LONG2, B1], &[A2]], &[A2], "KeyOrder"),
+    (&[&[A1, A2]], &[], "KeyOrder"),
+];
+
+fn triple_of(alloc: Global, row: &Row) -> Result<Triple, Refusal> {
+    let content = match row.2 {
+        Some(byte) => Some(Value::new(alloc, &[byte])?),
+        None => None,
+    };
+    Ok(Triple {
+        key: Key::new(alloc, row.0)?,
+        point: Point(row.1),
+        content,
+    })
+}
+
+fn list_of(alloc: Global, rows: &[Row]) -> Result<EntryList, Refusal> {
+    let mut entries = Vec::new(alloc);
+    for row in rows {
+        entries.push(triple_of(alloc, row)?)?;
+    }
+    Ok(EntryList::new(entries))
+}
+
+fn is_of(entry: &Triple, row: &Row) -> bool {
+    let content = match &entry.content {
+        Some(value) => value.as_bytes().first().copied(),
+        None => None,
+    };
+    entry.key.as_bytes() == row.0 && entry.point.0 == row.1 && content == row.2
+}
+
+// Whether a merge answers as the case says, and its end or its refusal twice.
+fn agrees(alloc: Global, (lists, given, refused): &Case) -> Result<bool, Refusal> {
+    let mut inputs = Vec::new(alloc);
+    for rows in *lists {
+        inputs.push(list_of(alloc, rows)?)?;
+    }
+    let mut merge = Merge::new(alloc, inputs)?;
+    for row in *given {
+        match merge.next()? {
+            Some(entry) if is_of(&entry, row) => {}
+            _ => return Ok(false),
+        }
+    }
+    for _ in 0..2 {
+        let is_right = match merge.next() {
+            Ok(None) => refused.is_empty(),
+            Ok(Some(_)) => false,
+            Err(why) => why.name() == *refused,
+        };
+        if !is_right {
+            return Ok(false);
+        }
+    }
+    Ok(true)
+}
+
+#[test]
+fn merges_answer_by_the_table(rt: HostRuntime) -> Result<(), Fail> {
+    for (number, case) in CASES.iter().enumerate() {
+        assert!(rt; agrees(rt.alloc(), case)?, "case {number}");
+    }
+    Ok(())
+}
+
+// A list that is cut off by a failure of its device.
+#[derive(Drop)]
+struct CutList {
+    entries: EntryList,
+    left: u8,
+    refused: Option<Refusal>,
+}
+
+impl Entries for CutList {
+    ghost use Rattle.std.specs.Prelude.{None};
+
+    ghost coming = { λ _. None };
+
+    ghost refused = { λ list. list.refused };
+
+    fn next(&mut self) -> Result<Option<Triple>, Refusal> {
+        if let Some(why) = self.refused {
+            return Err(why);
+        }
+        if self.left == 0 {
+            self.refused = Some(Refusal::Device);
+            return Err(Refusal::Device);
+        }
+        self.left -= 1;
+        match self.entries.next() {
+            Ok(entry) => Ok(entry),
+            Err(_) => Ok(None),
+        }
+    }
+}
+
+// How many entries are given before an input fails, and whether the failure is answered from then on.
+fn count_to_failure(alloc: Global, left: u8) -> Result<usize, Refusal> {
+    let rows: [&[Row]; 2] = [
+        &[(A, 1, None), (LONG, 1, None)],
+        &[(A, 2, None), (B, 2, None)],
+    ];
+    let mut lists = Vec::new(alloc);
+    for (place, rows) in rows.iter().enumerate() {
+        let left = if place == 0 { left } else { 9 };
+        let entries = list_of(alloc, rows)?;
+        lists.push(CutList {
+            entries,
+            left,
+            refused: None,
+        })?;
+    }
+    let mut merge = Merge::new(alloc, lists)?;
+    let mut count = 0;
+    for _ in 0..9 {
+        match merge.next() {
+            Ok(Some(_)) => count += 1,
+            Ok(None) => return Ok(count),
+            Err(why) => break,
+        }
+    }
+    match (merge.next(), merge.next()) {
+        (Err(Refusal::Device), Err(Refusal::Device)) => Ok(count),
+        _ => Err(Refusal::Short),
+    }
+}
+
+#[test]
+fn a_failure_in_the_midst_is_answered_from_then_on(rt: HostRuntime) -> Result<(), Fail> {
+    assert!(rt; count_to_failure(rt.alloc(), 0).is_err());
+    assert!(rt; count_to_failure(rt.alloc(), 1)? == 0);
+    assert!(rt; count_to_failure(rt.alloc(), 2)? == 2);
+    assert!(rt; count_to_failure(rt.alloc(), 3)? == 3);
+    Ok(())
+}
+
+// The text of the file of a point: of some forty keys it has some, half of them of one head, with a value or a tombstone.
+fn text_of(alloc: Global, point: u8) -> Result<Vec<u8>, Refusal> {
+    let mut text = Vec::from_slice(
+        alloc,
+        b"PCALCP01\x00\x00\x00\x00\x00\x00\x00\x01\x00\x00\x00\x01",
+    )?;
+    for _ in 0..2 {
+        text.extend_from_slice(&[0, 0, 0, point])?;
+    }
+    let mut count = 0u8;
+    for number in 0..40u8 {
+        if (number ^ point) % 3 == 0 {
+            continue;
+        }
+        count += 1;
+        if number < 20 {
+            text.extend_from_slice(&[0, 1, number])?;
+        } else {
+            text.extend_from_slice(b"\x00\x09one head")?;
+            text.push(number)?;
+        }
+        text.extend_from_slice(&[0, 0, 0, point])?;
+        match number & point & 3 {
+            0 => text.push(0)?,
+            other => text.extend_from_slice(&[1, 0, 0, 0, 1, other])?,
+        }
+    }
+    text.extend_from_slice(&[0, 0, 0, 0, 0, count])?;
+    Ok(text)
+}
+
+fn entries_of(alloc: Global, part: &Part) -> Result<Vec<Triple>, Refusal> {
+    let mut entries = Vec::new(alloc);
+    for triple in part.entries() {
+        entries.push(triple.copy(alloc)?)?;
+    }
+    Ok(entries)
+}
+
+fn is_same(one: &Triple, other: &Triple) -> bool {
+    let content = match (&one.content, &other.content) {
+        (Some(value), Some(other)) => value.is(other),
+        (None, None) => true,
+        _ => false,
+    };
+    one.key.is(&other.key) && one.point == other.point && content
+}
+
+// Whether the merge of so many files' entries is their join by twos.
+fn is_the_join(alloc: Global, files: u8) -> Result<bool, Refusal> {
+    let mut lists = Vec::new(alloc);
+    let mut joined = Part::decode(alloc, &text_of(alloc, 1)?)?;
+    for point in 1..=files {
+        let part = Part::decode(alloc, &text_of(alloc, point)?)?;
+        lists.push(EntryList::new(entries_of(alloc, &part)?))?;
+        joined = join(alloc, &joined, &part)?;
+    }
+    let merged = merge_all(alloc, lists)?;
+    let joined = entries_of(alloc, &joined)?;
+    Ok(
+        merged.len() == joined.len()
+            && merged
+                .iter()
+                .zip(&joined)
+                .all(|(one, other)| is_same(one, other)),
+    )
+}
+
+#[test]
+fn merges_are_joins_by_twos(rt: HostRuntime) -> Result<(), Fail> {
+    for files in [1, 2, 3, 64] {
+        assert!(rt; is_the_join(rt.alloc(), files)?);
+    }
+    Ok(())
+}

@@ -1,0 +1,9 @@
+pub mod ComingLaws
+mod LawfulNext
+mod NextGiven
+mod NumberLocal
+mod OfText
+pub mod PartsComeLaws
+mod ReadPieces
+mod Shrinking
+mod Spared

@@ -1,0 +1,6 @@
+pub mod Coming
+pub mod Draws
+pub mod Laws
+pub mod Places
+pub mod Readers
+pub mod Sources

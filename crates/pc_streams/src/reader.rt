@@ -1,0 +1,195 @@
+//! A part's text, of which the entries come one after the other.
+ghost use Rattle.std.specs.Prelude.{◌≡◌, true, Some, None, Ok, Err, OnOk, IfOk};
+ghost use Rattle.std.specs.Option.{option_map};
+ghost use Rattle.pc_types.specs.Tallies.{inner_of, failures_of};
+ghost use Rattle.pc_types.specs.declared.Refusal.{Refusal};
+ghost use Rattle.pc_part.specs.Parts.{AreRanges};
+ghost use Rattle.pc_merge.specs.Coming.{GivesNext, StaysRefused};
+ghost use Rattle.pc_streams.specs.Coming.{part_coming, part_header};
+ghost use Rattle.pc_streams.specs.Draws.{Counts};
+ghost use Rattle.pc_streams.specs.Places.{IsLawfulNext, PassesTo};
+ghost use Rattle.pc_streams.specs.Readers.{coming_of, header_of, refused_of, counted_by, ranges_read, last_given, has_ended, AnswersAs, CountsOnce, Refuses, StaysKnown, TellsRanges};
+
+use crate::place::Place;
+use crate::source::Source;
+use pc_merge::Entries;
+use pc_part::Range;
+use pc_types::{Refusal, Tally, Triple};
+use std::alloc::Global;
+use std::io::Read;
+
+/// A part's text, read from a counted reader as its entries are asked for. In memory are its ranges, the last key, and a
+/// buffer for the longest entry, or the header, and two pieces of 16,384 bytes. Its entries take memory for long keys and
+/// values alone.
+#[derive(Drop)]
+pub struct PartReader<R> {
+    alloc: Global,
+    source: Source<R>,
+    stage: PartStage,
+}
+
+// How far a part's text is read.
+#[derive(Drop)]
+enum PartStage {
+    // Nothing is read.
+    Unread,
+    // The header is read, and maybe entries, or the end.
+    Among(Place),
+    // A call was refused, and so is each later one.
+    Refused(Refusal),
+}
+
+impl<R: Read> PartReader<R> {
+    /// Reads nothing yet, and takes no memory.
+    pub fn new(alloc: Global, tally: Tally<R>) -> PartReader<R>
+        ensures tally { counted_by result ≡ tally }
+        ensures sound { refused_of result ≡ None }
+        ensures coming { coming_of R.remaining result ≡ option_map part_coming (R.remaining (inner_of tally)) }
+        ensures header { header_of R.remaining result ≡ option_map part_header (R.remaining (inner_of tally)) }
+    {
+        PartReader {
+            alloc,
+            source: Source::new(alloc, tally),
+            stage: PartStage::Unread,
+        }
+    }
+
+    /// How many reads failed.
+    pub fn failures(&self) -> u64
+        ensures { result ≡ failures_of (counted_by self.now) }
+    {
+        self.source.failures()
+    }
+
+    /// The run. It stands before the entries, as the ranges do; both are read where they aren't yet. Refuses with `OutOfMemory`
+    /// and, exactly where the count of failures has risen, with `Device`, else with `Short`, `BadMagic` or `BadRanges`, the
+    /// first fault of the text. After a refusal of any call it answers the same one from then on.
+    pub fn header(&mut self) -> Result<u64, Refusal>
+        ensures header { AnswersAs (λ run. (run, ranges_read self.new)) (header_of R.remaining self.old) result }
+        ensures told { IfOk result (λ run. header_of R.remaining self.new ≡ Some (Ok (run, ranges_read self.new))) }
+        ensures apart { OnOk result (AreRanges (ranges_read self.new)) }
+        ensures last { OnOk result (last_given self.new ≡ last_given self.old) }
+        ensures stays { OnOk result (StaysKnown (header_of R.remaining self.old) (header_of R.remaining self.new)) }
+        ensures coming { OnOk result (StaysKnown (coming_of R.remaining self.old) (coming_of R.remaining self.new)) }
+        ensures refused { Refuses (refused_of self.old) (refused_of self.new) result }
+        ensures counts { CountsOnce (refused_of self.old) (counted_by self.old) (counted_by self.new) result }
+    {
+        match &self.stage {
+            PartStage::Unread => self.open(),
+            PartStage::Among(place) => Ok(place.run()),
+            PartStage::Refused(why) => Err(*why),
+        }
+    }
+
+    /// The points as ranges, rising, with at least one point left out between two. They are none where the header isn't read, or a
+    /// call was refused.
+    pub fn ranges(&self) -> &[Range]
+        ensures { result.now ≡ ranges_read self.now }
+    {
+        match &self.stage {
+            PartStage::Among(place) => place.ranges(),
+            _ => &[],
+        }
+    }
+
+    // Reads the header.
+    fn open(&mut self) -> Result<u64, Refusal>
+        requires { self.old.stage ≡ PartStage.Unread }
+        ensures header { AnswersAs (λ run. (run, ranges_read self.new)) (header_of R.remaining self.old) result }
+        ensures told { IfOk result (λ run. header_of R.remaining self.new ≡ Some (Ok (run, ranges_read self.new))) }
+        ensures apart { OnOk result (AreRanges (ranges_read self.new)) }
+        ensures last { OnOk result (last_given self.new ≡ last_given self.old) }
+        ensures stays { OnOk result (StaysKnown (header_of R.remaining self.old) (header_of R.remaining self.new)) }
+        ensures coming { OnOk result (StaysKnown (coming_of R.remaining self.old) (coming_of R.remaining self.new)) }
+        ensures refused { Refuses None (refused_of self.new) result }
+        ensures counts { Counts (counted_by self.old) (counted_by self.new) result }
+    {
+        match Place::open(self.alloc, &mut self.source) {
+            Ok(place) => {
+                let run = place.run();
+                self.stage = PartStage::Among(place);
+                Ok(run)
+            }
+            Err(why) => {
+                self.refuse(&why);
+                Err(why)
+            }
+        }
+    }
+
+    // Refuses so from now on.
+    fn refuse(&mut self, why: &Refusal)
+        ensures { self.new ≡ record self.old { stage = PartStage.Refused why.now } }
+    {
+        self.stage = PartStage::Refused(*why);
+    }
+
+    // The next entry, or None at the end. A refusal is not kept.
+    fn step(&mut self) -> Result<Option<Triple>, Refusal>
+        ensures given { GivesNext (coming_of R.remaining self.old) (coming_of R.remaining self.new) result }
+        ensures lawful { IsLawfulNext (ranges_read self.new) (last_given self.old) result }
+        ensures passes { PassesTo (last_given self.old) (last_given self.new) result }
+        ensures told { OnOk result (TellsRanges (header_of R.remaining self.new) (ranges_read self.new)) }
+        ensures over { has_ended self.old ≡ true → result ≡ Ok None }
+        ensures ends { result ≡ Ok None → has_ended self.new ≡ true }
+        ensures sound { OnOk result (refused_of self.new ≡ None) }
+        ensures again { (why : Refusal) → refused_of self.old ≡ Some why → result ≡ Err why }
+        ensures header { OnOk result (StaysKnown (header_of R.remaining self.old) (header_of R.remaining self.new)) }
+        ensures counts { CountsOnce (refused_of self.old) (counted_by self.old) (counted_by self.new) result }
+    {
+        match &mut self.stage {
+            PartStage::Unread => self.first(),
+            PartStage::Among(place) => place.next(self.alloc, &mut self.source),
+            PartStage::Refused(why) => Err(*why),
+        }
+    }
+
+    // The header, and then the first entry, or None at the end.
+    fn first(&mut self) -> Result<Option<Triple>, Refusal>
+        requires { self.old.stage ≡ PartStage.Unread }
+        ensures given { GivesNext (coming_of R.remaining self.old) (coming_of R.remaining self.new) result }
+        ensures lawful { IsLawfulNext (ranges_read self.new) (last_given self.old) result }
+        ensures passes { PassesTo (last_given self.old) (last_given self.new) result }
+        ensures told { OnOk result (TellsRanges (header_of R.remaining self.new) (ranges_read self.new)) }
+        ensures ends { result ≡ Ok None → has_ended self.new ≡ true }
+        ensures sound { OnOk result (refused_of self.new ≡ None) }
+        ensures header { OnOk result (StaysKnown (header_of R.remaining self.old) (header_of R.remaining self.new)) }
+        ensures counts { Counts (counted_by self.old) (counted_by self.new) result }
+    {
+        let mut place = Place::open(self.alloc, &mut self.source)?;
+        let answer = place.next(self.alloc, &mut self.source);
+        self.stage = PartStage::Among(place);
+        answer
+    }
+}
+
+impl<R: Read> Entries for PartReader<R> {
+    ghost use Rattle.pc_streams.specs.Readers.{coming_of, refused_of};
+
+    ghost coming = { coming_of R.remaining };
+
+    ghost refused = { refused_of };
+
+    /// The next entry, or None at the end. The header is read before the first. Behind the last one it sees that the text tells
+    /// how many there were, and ends. Refuses with `OutOfMemory` and, exactly where the count of failures has risen, with `Device`,
+    /// else with the first fault of the text, which is that of `Part::decode`. After a refusal it answers the same one from then on.
+    fn next(&mut self) -> Result<Option<Triple>, Refusal>
+        ensures given { GivesNext (coming_of R.remaining self.old) (coming_of R.remaining self.new) result }
+        ensures lawful { IsLawfulNext (ranges_read self.new) (last_given self.old) result }
+        ensures passes { PassesTo (last_given self.old) (last_given self.new) result }
+        ensures told { OnOk result (TellsRanges (header_of R.remaining self.new) (ranges_read self.new)) }
+        ensures over { has_ended self.old ≡ true → result ≡ Ok None }
+        ensures ends { result ≡ Ok None → has_ended self.new ≡ true }
+        ensures refused { StaysRefused (refused_of self.old) (refused_of self.new) result }
+        ensures header { OnOk result (StaysKnown (header_of R.remaining self.old) (header_of R.remaining self.new)) }
+        ensures counts { CountsOnce (refused_of self.old) (counted_by self.old) (counted_by self.new) result }
+    {
+        match self.step() {
+            Ok(next) => Ok(next),
+            Err(why) => {
+                self.refuse(&why);
+                Err(why)
+            }
+        }
+    }
+}
