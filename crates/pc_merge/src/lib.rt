@@ -6,8 +6,6 @@ mod laws;
 mod limits;
 mod merge;
 mod newest;
-#[cfg(test)]
-mod tests;
 mod tournament;
 mod tree;
 

