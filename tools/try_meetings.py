@@ -11,8 +11,8 @@ tools/meetings/*.edit, each of which must be seen in what the threads of crates/
 An edit is written as those of crates/*/must-fail are, with its files named from the folder crates/ on. One more line says where it must be seen:
 
 - `meeting: NAME`: in the meeting's line in what the program prints, which must then have the text behind `shows:`, which it hasn't as it stands (where
-  none is given, `met false`: the threads miss one another); or, with `ends: never`, by there being no such line in three times as long as the program
-  takes as it stands, and a minute;
+  none is given, `met false`: the threads miss one another); or, with `ends: never`, by there being no such line once `rt try` stops the
+  program, which has one as it stands;
 - `workload: NAME WORDS`: in a run of examples/NAME.pcw with these words, which must then print something else than examples/NAME.out;
 - `test: CRATE NAME`: by the test, which must then fail, and passes as it stands.
 
@@ -27,11 +27,9 @@ import glob
 import hashlib
 import os
 import shutil
-import signal
 import subprocess
 import sys
 import tempfile
-import time
 
 from try_bodies import linked
 
@@ -39,7 +37,7 @@ ROOT = os.path.join(os.path.dirname(os.path.abspath(__file__)), "..")
 FOLDER = os.path.join(ROOT, "tools", "meetings")
 RECORD = os.path.join(FOLDER, "tried")
 MISSED = "met false"
-NO_END = "it came to no end"
+NO_END = "the program did not end within the time limit"
 
 
 def text_of(path):
@@ -112,25 +110,14 @@ def applied(lines, crates):
                 it.write(text)
 
 
-def printed_by(words, folder, seconds):
-    """What the command prints in the folder, in so many seconds at most."""
-    ran = subprocess.Popen(words, cwd=folder, stdout=subprocess.PIPE, stderr=subprocess.PIPE, text=True, start_new_session=True)
-    try:
-        return ran.communicate(timeout=seconds)
-    except subprocess.TimeoutExpired:
-        os.killpg(ran.pid, signal.SIGKILL)
-        out, err = ran.communicate()
-        return out, err + NO_END
-
-
-def told(lines, crate, *words, seconds=None):
+def told(lines, crate, *words):
     """The lines that `rt try` prints in the crate on a copy with the edit; and the end of all that is printed."""
     with tempfile.TemporaryDirectory(prefix="meetings-") as room:
         copy = os.path.join(room, "copy")
         shutil.copytree(ROOT, copy, ignore=shutil.ignore_patterns(".git"), copy_function=linked)
         applied(lines, os.path.join(copy, "crates"))
-        out, err = printed_by(["rt", "try", *words], os.path.join(copy, "crates", crate), seconds)
-    return [line.removeprefix("| ") for line in out.splitlines()], (out + err)[-600:]
+        ran = subprocess.run(["rt", "try", *words], cwd=os.path.join(copy, "crates", crate), capture_output=True, text=True)
+    return [line.removeprefix("| ") for line in ran.stdout.splitlines()], (ran.stdout + ran.stderr)[-600:]
 
 
 def line_of(begin, printed):
@@ -150,14 +137,12 @@ def seen_in_meeting(lines):
 
 def seen_without_end(lines):
     """What is wrong with the meeting as it stands, which must end, or under the edit, which must not, or nothing."""
-    meeting, crate = dict(lines)["meeting"], crate_of(lines)
-    began = time.monotonic()
+    begin, crate = f"{dict(lines)['meeting']}: ", crate_of(lines)
     printed, end = told([], crate)
-    if not line_of(f"{meeting}: ", printed):
+    if not line_of(begin, printed):
         return f"as it stands: no line: {end}"
-    seconds = 60 + 3 * (time.monotonic() - began)
-    printed, end = told(lines, crate, seconds=seconds)
-    return line_of(f"{meeting}: ", printed) if end.endswith(NO_END) else f"with the edit: {end}"
+    printed, end = told(lines, crate)
+    return line_of(begin, printed) if NO_END in end else f"with the edit: {end}"
 
 
 def seen_in_workload(lines):
