@@ -41,8 +41,9 @@ impl Part {
     }
 }
 
-// What stands before the ranges.
-fn put_head<W: Write>(out: &mut Tally<W>, run: u64, count: u32) -> Result<(), Refusal>
+/// Writes what stands first in the text of a part: the magic, the run, and how many ranges follow. Refuses with `Device` exactly
+/// where the device failed; then a beginning went out, and not all.
+pub fn put_head<W: Write>(out: &mut Tally<W>, run: u64, count: u32) -> Result<(), Refusal>
     ensures { Puts W.contents out.old out.new result (head_text run count) }
 {
     let mut run_bytes = [0u8; 8];
@@ -52,8 +53,8 @@ fn put_head<W: Write>(out: &mut Tally<W>, run: u64, count: u32) -> Result<(), Re
     out.put_all(&[&MAGIC, &run_bytes, &count_bytes])
 }
 
-// One range after the other.
-fn put_ranges<W: Write>(out: &mut Tally<W>, ranges: &[Range]) -> Result<(), Refusal>
+/// Writes the ranges of a part, which stand before its entries. Refuses as `put_head` does.
+pub fn put_ranges<W: Write>(out: &mut Tally<W>, ranges: &[Range]) -> Result<(), Refusal>
     ensures { Puts W.contents out.old out.new result (flat_map bounds_text ranges.now) }
 {
     for range in ranges {
@@ -82,7 +83,8 @@ fn put_entries<W: Write>(out: &mut Tally<W>, entries: Pass) -> Result<(), Refusa
     Ok(())
 }
 
-fn put_entry<W: Write>(out: &mut Tally<W>, entry: &LentTriple) -> Result<(), Refusal>
+/// Writes one entry of a part. Refuses as `put_head` does.
+pub fn put_entry<W: Write>(out: &mut Tally<W>, entry: &LentTriple) -> Result<(), Refusal>
     ensures text { Puts W.contents out.old out.new result (triple_text entry.now) }
     ensures lawful { HasLimits entry.now }
 {
@@ -102,8 +104,8 @@ fn put_entry<W: Write>(out: &mut Tally<W>, entry: &LentTriple) -> Result<(), Ref
     }
 }
 
-// The end mark, and how many entries there are.
-fn put_end<W: Write>(out: &mut Tally<W>, count: u32) -> Result<(), Refusal>
+/// Writes what stands last in the text of a part: the end mark, and how many entries there were. Refuses as `put_head` does.
+pub fn put_end<W: Write>(out: &mut Tally<W>, count: u32) -> Result<(), Refusal>
     ensures { Puts W.contents out.old out.new result (end_text count) }
 {
     let mut count_bytes = [0u8; 4];

@@ -16,6 +16,7 @@ mod uniting;
 
 pub use base::Base;
 pub use decoding::{PartHeader, read_header, read_next_entry};
+pub use encoding::{put_end, put_entry, put_head, put_ranges};
 pub use joining::join;
 pub use laws::{
     base_texts_are_read, conflicts_are_mutual, cut_base_texts_are_short, cut_part_texts_are_short,
@@ -24,4 +25,5 @@ pub use laws::{
 };
 pub use laying::lay;
 pub use part::Part;
-pub use ranges::Range;
+pub use ranges::{Range, points_in};
+pub use uniting::union_ranges;

@@ -83,8 +83,9 @@ impl Part {
         self.entries = Entries::taken(point, taken);
     }
 
-    /// The part of these points with these entries.
-    pub(crate) fn from_lists(run: u64, ranges: Vec<Range>, entries: Vec<Triple>) -> Part
+    /// The part of these points with these entries: their keys rise strictly, each is of one of the points, and they are no more than
+    /// a file may have, 4,294,967,295.
+    pub fn from_lists(run: u64, ranges: Vec<Range>, entries: Vec<Triple>) -> Part
         requires ranges { AreRanges ranges.items }
         requires rise { KeysRise (entries_of entries.items) }
         requires covered { AreCovered (points_of ranges.items) entries.items }

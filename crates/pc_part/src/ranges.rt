@@ -12,8 +12,8 @@ pub struct Range {
     pub high: Point,
 }
 
-/// The points of the ranges, in their order.
-pub(crate) fn points_in(alloc: Global, ranges: &[Range]) -> Result<Vec<Point>, AllocError>
+/// The points of the ranges, in their order. It fails only where memory ran out.
+pub fn points_in(alloc: Global, ranges: &[Range]) -> Result<Vec<Point>, AllocError>
     ensures { IfOk result (λ points. points.items ≡ points_in ranges.now) }
 {
     let mut points = Vec::new(alloc);

@@ -9,11 +9,7 @@ use itertools::Itertools;
 use std::alloc::{AllocError, Global};
 
 /// The ranges of the points that are in either list. It fails only where memory ran out.
-pub(crate) fn union_ranges(
-    alloc: Global,
-    a: &[Range],
-    b: &[Range],
-) -> Result<Vec<Range>, AllocError>
+pub fn union_ranges(alloc: Global, a: &[Range], b: &[Range]) -> Result<Vec<Range>, AllocError>
     requires left { AreRanges a.now }
     requires right { AreRanges b.now }
     ensures apart { IfOk result (λ out. AreRanges out.items) }
