@@ -6,4 +6,5 @@ pub mod NewestLaws
 pub mod OrderLaws
 pub mod PassingLaws
 pub mod PlacesLeft
+mod StandingLaws
 pub mod TreeLaws

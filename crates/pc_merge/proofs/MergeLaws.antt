@@ -1,6 +1,6 @@
 -- The answers of a merge.
 use Rattle.std.proofs.Common.{◌≡◌, ℕ, ◌<◌, false, true, List, [], ◌∷◌, ◌++◌, Option, Some, None, Result, Ok, Err, length, inr, refl, sym, ap, ◌∙◌, subst, arith}
-use Rattle.std.specs.Prelude.{IsErr, IsErrAnd}
+use Rattle.std.specs.Prelude.{IsErr, IsErrAnd, MatchResult}
 use Rattle.std.proofs.lemmas.List.{get_or_default}
 use Rattle.pc_types.specs.declared.Refusal.{Refusal}
 use Rattle.pc_types.specs.declared.Refusal.TheVariants.{Full}
@@ -21,6 +21,9 @@ Answer = Result (Option Triple) Refusal
 
 abbrev pub gives : Option Triple → Answer
 gives next = Ok next
+
+abbrev pub refuses : Refusal → Answer
+refuses why = Err why
 
 none_of : (first : Option Triple) (input : Option Coming) (was : Coming) → left_of first input ≡ Some was → first ≡ None → was ≡ ended
 none_of None (Some input) was is none = none_left input.entries input.fault was is
@@ -62,28 +65,10 @@ goes_on_with (Some was) inputs firsts newest size above passing = by (passing wa
         let each = λ (p : ℕ). subst (IsBelow newest.key) (sym (first_at inputs firsts now size left p)) (above p) in
         (gives_first was now newest is each, left ∙ ap (λ (cs : List Coming). Some cs) (all_passed was now newest is each))
 
--- ---- the inputs come back
-
-known_again : (first : Option Triple) (input : Option Coming) (was : Coming) → left_of first input ≡ Some was → was ≡ ended → input ≡ Some was
-known_again None None was is end = cc
-known_again None (Some input) was is end = by input.entries input.fault refl refl is
-  where
-    by : (entries : List Triple) (fault : Option Refusal) → input.entries ≡ entries → input.fault ≡ fault → if_ended entries fault ≡ Some was → Some input ≡ Some was
-    by [] None es none is = ap (λ (c : Coming). Some c) ((λ i. record { entries = es i; fault = none i }) ∙ sym end)
-    by [] (Some why) es none is = cc
-    by (entry ∷ entries) fault es none is = cc
-known_again (Some entry) None was is end = cc
-known_again (Some entry) (Some input) was is end = let bad : Some entry ≡ None = sym (first_left (Some entry) (Some input) was is) ∙ ap first_of end in cc
-
--- what is known is left of inputs that weren't refused
-pub not_refused : (refused : Option Refusal) (left : Option (List Coming)) (was : List Coming) → left_unless refused left ≡ Some was → left ≡ Some was
-not_refused None left was is = is
-not_refused (Some why) left was is = cc
-
-pub known_at_end : (inputs : List (Option Coming)) (firsts : List (Option Triple)) (was : List Coming) → length inputs ≡ length firsts → all_left inputs firsts ≡ Some was → AreEnded was → all_known inputs ≡ Some was
-known_at_end inputs firsts was size left all = known_each inputs was (left_length inputs firsts was size left) (λ place within.
-    let many = left_length inputs firsts was size left in
-    known_again (at firsts place) (coming_at inputs place) (input_at was place) (left_at inputs firsts was size left place within) (all place ended (omega (arith, many, within))))
+-- a refusal says of what is left nothing
+pub still_wrong : {X : Type 0} (P R : X → Type 0) (Q : Refusal → Type 0) (result : Result X Refusal) (why : Refusal) → result ≡ Err why → MatchResult result P Q → MatchResult result R Q
+still_wrong P R Q (Ok x) why is told = let mistaken = is in absurd cc
+still_wrong P R Q (Err e) why is told = told
 
 -- ---- all entries
 

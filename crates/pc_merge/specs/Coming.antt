@@ -1,5 +1,6 @@
 -- What is to come of a stream of entries.
-use Rattle.std.specs.Prelude.{◌≡◌, ◌⊎◌, List, [], ◌∷◌, Option, Some, None, Result, Ok, Err, ⊤}
+use Rattle.std.specs.Prelude.{◌≡◌, ◌≢◌, ◌⊎◌, ℕ, Bool, IsTrue, List, [], ◌∷◌, Option, Some, None, Result, Ok, Err, ⊤}
+use Rattle.pc_types.specs.Counted.{HasRisen}
 use Rattle.pc_types.specs.declared.Refusal.{Refusal}
 use Rattle.pc_types.specs.declared.Refusal.TheVariants.{OutOfMemory, Device}
 use Rattle.pc_types.specs.declared.Triple.{Triple}
@@ -34,8 +35,31 @@ abbrev pub GivesNext : Option Coming → Option Coming → Result (Option Triple
 GivesNext None now result = ⊤
 GivesNext (Some was) now result = GivesKnown was now result
 
--- where a call was refused, each later call is refused so
-abbrev pub StaysRefused : Option Refusal → Option Refusal → Result (Option Triple) Refusal → Type 0
-StaysRefused (Some why) now result = (result ≡ Err why) × (now ≡ Some why)
-StaysRefused None now (Ok x) = now ≡ None
-StaysRefused None now (Err why) = now ≡ Some why
+-- what a stream refused, and how many calls of its device failed
+pub record Standing : Type 0 where
+  pub refused : Option Refusal
+  pub failures : ℕ
+
+-- failures are counted: Device is answered where the count has risen, and else it stays
+abbrev pub Counts : ℕ → ℕ → Refusal → Type 0
+Counts was now why = (why ≡ Device → HasRisen was now) × (why ≢ Device → now ≡ was)
+
+-- Where a call was refused, each later call is refused so, and nothing is read. Else a refusal is kept.
+abbrev pub StandsBy : {X : Type 0} → Option Refusal → Standing → Standing → Result X Refusal → Type 0
+StandsBy (Some why) was now result = (result ≡ Err why) × (now ≡ was)
+StandsBy None was now (Ok x) = now ≡ was
+StandsBy None was now (Err why) = (now.refused ≡ Some why) × Counts was.failures now.failures why
+
+-- the same of a stream as it stood
+abbrev pub Stands : {X : Type 0} → Standing → Standing → Result X Refusal → Type 0
+Stands was now result = StandsBy was.refused was now result
+
+-- an entry, if there is one, is of one of the points
+abbrev pub IsWithin : (ℕ → Bool) → Option Triple → Type 0
+IsWithin points None = ⊤
+IsWithin points (Some entry) = IsTrue (points entry.point)
+
+-- where all that was to come is of these points, so is the entry that is given, and what is to come then
+abbrev pub GivesWithin : {S : Type 0} → (S → (ℕ → Bool) → Type 0) → S → S → Result (Option Triple) Refusal → Type 0
+GivesWithin within was now (Ok next) = (points : ℕ → Bool) → within was points → IsWithin points next × within now points
+GivesWithin within was now (Err why) = ⊤

@@ -1,5 +1,5 @@
 -- The inputs of a merge, and the first entries that were drawn from them.
-use Rattle.std.specs.Prelude.{◌≡◌, ℕ, List, [], ◌∷◌, Option, Some, None, length, option_map, slice_index_or}
+use Rattle.std.specs.Prelude.{◌≡◌, ℕ, List, [], ◌∷◌, Option, Some, None, length, option_map, replicate, slice_index_or}
 use Rattle.pc_types.specs.declared.Refusal.{Refusal}
 use Rattle.pc_types.specs.declared.Triple.{Triple}
 use Rattle.pc_merge.specs.Coming.{Coming, ended, after_entry}
@@ -36,14 +36,18 @@ each_left inputs firsts = []
 abbrev pub all_left : List (Option Coming) → List (Option Triple) → Option (List Coming)
 all_left inputs firsts = all_known (each_left inputs firsts)
 
+-- the merge of so many inputs, of which nothing was drawn
+abbrev pub unopened : ℕ → Merging
+unopened count = record { firsts = replicate count None; refused = None }
+
 -- after a refusal nothing is known
 abbrev pub left_unless : Option Refusal → Option (List Coming) → Option (List Coming)
 left_unless None left = left
 left_unless (Some why) left = None
 
--- the merge of inputs of which these first entries were drawn
-abbrev pub merging : List (Option Coming) → List (Option Triple) → Option Refusal → Merging
-merging inputs firsts refused = record { left = left_unless refused (all_left inputs firsts); refused = refused }
+-- what is left of each input of a merge, where that is known of all; after a refusal nothing is
+abbrev pub left_in : List (Option Coming) → Merging → Option (List Coming)
+left_in inputs merge = left_unless merge.refused (all_left inputs merge.firsts)
 
 -- what is to come of the input at a place, where it is known
 abbrev pub coming_at : List (Option Coming) → ℕ → Option Coming

@@ -4,5 +4,6 @@ pub mod Given
 pub mod Inputs
 pub mod Lists
 pub mod Merging
+pub mod Standings
 pub mod Tournaments
 pub mod Trees

@@ -8,10 +8,11 @@ use Rattle.pc_types.specs.declared.Triple.{Triple}
 use Rattle.pc_model.specs.Database.{KeysRise, key_cmp, same_bytes}
 use Rattle.pc_model.specs.TripleLists.{entries_of}
 use Rattle.pc_merge.specs.Coming.{Coming, ended}
+use Rattle.pc_merge.specs.Tournaments.{at}
 
--- a merge: what is left of each input, where that is known of all, and the refusal that was answered
+-- a merge: the first entry that was drawn of each input, where there is one, and the refusal that was answered
 pub record Merging : Type 0 where
-  pub left : Option (List Coming)
+  pub firsts : List (Option Triple)
   pub refused : Option Refusal
 
 -- the first entry to come
@@ -95,3 +96,18 @@ GoesOn None now result = ⊤
 GoesOn (Some was) now (Ok None) = AreEnded was × (now ≡ Some was)
 GoesOn (Some was) now (Ok (Some entry)) = GivesFirst was entry × (now ≡ Some (all_behind entry.key was))
 GoesOn (Some was) now (Err why) = IsCause was why
+
+-- the key is less than each of those that stand first
+abbrev pub AreAbove : List ℕ → List (Option Triple) → Type 0
+AreAbove key firsts = (place : ℕ) → IsBelow key (at firsts place)
+
+-- The keys rise: where all that stand first are above a key, an entry that is given is; and then all that stand first are above it.
+abbrev pub KeysGoOn : List (Option Triple) → List (Option Triple) → Result (Option Triple) Refusal → Type 0
+KeysGoOn was now (Ok (Some entry)) = ((last : List ℕ) → AreAbove last was → key_cmp last entry.key ≡ Less) × AreAbove entry.key now
+KeysGoOn was now result = ⊤
+
+-- where a merge was refused, each later call is refused so
+abbrev pub MergeRefuses : {X : Type 0} → Option Refusal → Option Refusal → Result X Refusal → Type 0
+MergeRefuses (Some why) now result = (result ≡ Err why) × (now ≡ Some why)
+MergeRefuses None now (Ok x) = now ≡ None
+MergeRefuses None now (Err why) = now ≡ Some why

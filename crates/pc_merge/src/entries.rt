@@ -1,8 +1,7 @@
 //! Entries that come one after the other.
-ghost use Rattle.std.specs.Prelude.{◌≡◌, Option};
-ghost use Rattle.pc_types.specs.declared.Refusal.{Refusal};
-ghost use Rattle.pc_merge.specs.Coming.{Coming, GivesNext, StaysRefused};
-ghost use Rattle.pc_merge.specs.Lists.{all_of, list_coming, list_refused};
+ghost use Rattle.std.specs.Prelude.{◌≡◌, ℕ, Bool, Option};
+ghost use Rattle.pc_merge.specs.Coming.{Coming, GivesNext, GivesWithin, Standing, Stands};
+ghost use Rattle.pc_merge.specs.Lists.{all_of, list_coming, list_standing, list_within};
 
 use pc_types::{Refusal, Triple};
 use std::vec::IntoIter;
@@ -12,13 +11,17 @@ pub trait Entries {
     /// What is to come, where that is known.
     ghost coming: { Self → Option Coming };
 
-    /// The refusal that was answered, after which nothing else is.
-    ghost refused: { Self → Option Refusal };
+    /// The refusal that was answered, after which nothing else is, and how many calls of a device failed.
+    ghost standing: { Self → Standing };
+
+    /// All that is to come, whether it is known or not, is of these points.
+    ghost within: { Self → (ℕ → Bool) → Type 0 };
 
     /// The next entry, or None at the end. After a refusal it answers the same one from then on.
     fn next(&mut self) -> Result<Option<Triple>, Refusal>
         ensures given { GivesNext (coming self.old) (coming self.new) result }
-        ensures refused { StaysRefused (refused self.old) (refused self.new) result };
+        ensures stands { Stands (standing self.old) (standing self.new) result }
+        ensures within { GivesWithin within self.old self.new result };
 }
 
 /// The entries of a list, in its order.
@@ -41,7 +44,9 @@ impl EntryList {
 impl Entries for EntryList {
     ghost coming = { list_coming };
 
-    ghost refused = { list_refused };
+    ghost standing = { list_standing };
+
+    ghost within = { list_within };
 
     fn next(&mut self) -> Result<Option<Triple>, Refusal> {
         Ok(self.entries.next())

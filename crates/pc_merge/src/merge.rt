@@ -1,102 +1,113 @@
 //! Several streams of entries, made one.
-ghost use Rattle.std.specs.Prelude.{◌≡◌, ◌≤◌, ◌<◌, List, Some, None, MatchResult, IfOk, length, map, vec_len};
-ghost use Rattle.pc_merge.specs.Coming.{Coming, StaysRefused};
-ghost use Rattle.pc_merge.specs.Inputs.{AreTogether, all_known, all_left};
+ghost use Rattle.std.specs.Prelude.{◌≡◌, ◌≤◌, ℕ, Bool, IsTrue, List, Some, None, MatchResult, IfOk, OnOk, length, map, vec_len};
+ghost use Rattle.std.specs.List.{All};
+ghost use Rattle.pc_types.specs.declared.limits.TheConstants.{MOST_FILE_ENTRIES};
+ghost use Rattle.pc_merge.specs.Coming.{Coming};
 ghost use Rattle.pc_merge.specs.Given.{IsCauseOfAll, IsMerge};
-ghost use Rattle.pc_merge.specs.Merging.{AreEnded, GoesOn, IsCause};
+ghost use Rattle.pc_merge.specs.Inputs.{all_known, all_left, left_in, unopened};
+ghost use Rattle.pc_merge.specs.Merging.{GoesOn, IsCause, KeysGoOn, MergeRefuses};
+ghost use Rattle.pc_merge.specs.Standings.{AllGiveWithin, AllStand, AreWithin};
 
 use crate::entries::Entries;
 use crate::limits::MOST_INPUTS;
-use crate::newest::{advance, newest_of, open};
+use crate::newest::{advance, draw_firsts, newest_of};
 use crate::tournament::Tournament;
 use pc_types::{MOST_FILE_ENTRIES, Refusal, Triple};
-use std::alloc::Global;
+use std::alloc::{AllocError, Global};
 use std::marker::Model;
 
-/// Several inputs, made one stream: of each key the entry of the greatest point, in the order of the keys. A contract sees what is
-/// left of each input, where that is known of all, and the refusal that was answered, after which nothing is known.
+/// The state of a merge of several inputs, which makes one stream of them: of each key the entry of the greatest point, in the order of
+/// the keys. The inputs stand with the caller, who hands in the same ones at each call. A contract sees the first entry that was drawn of
+/// each, and the refusal that was answered.
 ///
 /// An entry is moved a constant number of times. Each costs one comparison for each doubling of the number of inputs, most of them
 /// of two numbers.
 #[derive(Drop)]
-pub struct Merge<E: Entries> {
-    inputs: Vec<E>,
+pub struct Merge {
     // The first entry of each input; none where it has ended.
     firsts: Tournament,
     refused: Option<Refusal>,
 }
 
-impl<E: Entries> Model for Merge<E> {
-    ghost use Rattle.std.specs.Prelude.{map};
-    ghost use Rattle.pc_merge.specs.Inputs.{AreTogether, merging};
+impl Model for Merge {
     ghost use Rattle.pc_merge.specs.Merging.{Merging};
 
     ghost Value = { Merging };
 
-    ghost view = { λ m. merging (map E.coming m.inputs.items) m.firsts m.refused };
-
-    ghost invariant = { λ m. AreTogether (map E.coming m.inputs.items) m.firsts };
+    ghost view = { λ m. record { firsts = m.firsts; refused = m.refused } };
 }
 
-impl<E: Entries + Drop> Merge<E> {
-    /// Makes all room and draws the first entry of each input, of which there may be at most `MOST_INPUTS`. Refuses with what an
-    /// input refuses, and with `OutOfMemory` where memory ran out.
-    pub fn new(alloc: Global, inputs: Vec<E>) -> Result<Merge<E>, Refusal>
-        requires { vec_len inputs ≤ MOST_INPUTS }
-        ensures fresh { IfOk result (λ merge. merge.refused ≡ None) }
-        ensures known { (was : List Coming) → all_known (map E.coming inputs.items) ≡ Some was → MatchResult result (λ merge. merge.left ≡ Some was) (IsCause was) }
+impl Merge {
+    /// Room for a merge of so many inputs, at most `MOST_INPUTS`, of which nothing was drawn. It fails only where memory ran out.
+    pub fn new(alloc: Global, inputs: usize) -> Result<Merge, AllocError>
+        requires { inputs ≤ MOST_INPUTS }
+        ensures { IfOk result (λ merge. merge ≡ unopened inputs) }
     {
-        let mut inputs = inputs;
-        let mut firsts = Tournament::new(alloc, inputs.len())?;
-        open(&mut inputs, &mut firsts)?;
         Ok(Merge {
-            inputs,
-            firsts,
+            firsts: Tournament::new(alloc, inputs)?,
             refused: None,
         })
     }
 
-    /// The next entry, or None once all inputs have ended: the least key's entry, of several inputs' that of the greatest point.
-    /// Refuses with the first thing that an input refuses, with `Conflict` where two inputs have a key at one point with different
-    /// contents, and with `KeyOrder` where an input's keys don't rise; it answers the same refusal from then on.
-    pub fn next(&mut self) -> Result<Option<Triple>, Refusal>
-        ensures goes_on { GoesOn self.old.left self.new.left result }
-        ensures refused { StaysRefused self.old.refused self.new.refused result }
+    /// Draws the first entry of each input. Refuses with what an input refuses, and then answers the same refusal from then on. It takes no
+    /// memory of its own.
+    pub fn open<E: Entries>(&mut self, inputs: &mut [E]) -> Result<(), Refusal>
+        requires { self.old ≡ unopened (length inputs.old) }
+        ensures together { length inputs.new ≡ length self.new.firsts }
+        ensures known { (was : List Coming) → all_known (map E.coming inputs.old) ≡ Some was → MatchResult result (λ _. left_in (map E.coming inputs.new) self.new ≡ Some was) (IsCause was) }
+        ensures stand { AllStand (map E.standing inputs.old) (map E.standing inputs.new) result }
+        ensures refused { MergeRefuses self.old.refused self.new.refused result }
+        ensures within { OnOk result ((points : ℕ → Bool) → All (λ input. E.within input points) inputs.old → AreWithin E.within points inputs.new self.new.firsts) }
     {
-        if let Some(why) = self.refused {
-            return Err(why);
-        }
-        let answer = least_entry(&mut self.inputs, &mut self.firsts);
+        let answer = draw_firsts(inputs, &mut self.firsts);
         if let Err(why) = &answer {
             self.refused = Some(*why);
         }
         answer
     }
 
-    /// The inputs, in their order, as far as they were drawn; nothing is to come of any where all had ended.
-    pub fn into_inputs(self) -> Vec<E>
-        ensures { (was : List Coming) → self.left ≡ Some was → AreEnded was → all_known (map E.coming result.items) ≡ Some was }
+    /// The next entry, or None once all inputs have ended: the least key's entry, of several inputs' that of the greatest point.
+    /// Refuses with the first thing that an input refuses, with `Conflict` where two inputs have a key at one point with different
+    /// contents, and with `KeyOrder` where an input's keys don't rise; it answers the same refusal from then on.
+    pub fn next<E: Entries>(&mut self, inputs: &mut [E]) -> Result<Option<Triple>, Refusal>
+        requires { length inputs.old ≡ length self.old.firsts }
+        ensures together { length inputs.new ≡ length self.new.firsts }
+        ensures goes_on { GoesOn (left_in (map E.coming inputs.old) self.old) (left_in (map E.coming inputs.new) self.new) result }
+        ensures rises { KeysGoOn self.old.firsts self.new.firsts result }
+        ensures within { AllGiveWithin E.within inputs.old self.old.firsts inputs.new self.new.firsts result }
+        ensures stand { self.old.refused ≡ None → AllStand (map E.standing inputs.old) (map E.standing inputs.new) result }
+        ensures refused { MergeRefuses self.old.refused self.new.refused result }
     {
-        let Merge { inputs, .. } = self;
-        inputs
+        if let Some(why) = self.refused {
+            return Err(why);
+        }
+        let answer = least_entry(inputs, &mut self.firsts);
+        if let Err(why) = &answer {
+            self.refused = Some(*why);
+        }
+        answer
     }
 }
 
 /// All entries that a merge of the inputs gives, of which there may be at most `MOST_INPUTS`: their join. Refuses as the merge does, and
 /// with `Full` where there are more than 4,294,967,295.
-pub fn merge_all<E: Entries + Drop>(alloc: Global, inputs: Vec<E>) -> Result<Vec<Triple>, Refusal>
-    requires { vec_len inputs ≤ MOST_INPUTS }
-    ensures { (was : List Coming) → all_known (map E.coming inputs.items) ≡ Some was → MatchResult result (λ all. IsMerge was all.items) (IsCauseOfAll was) }
+pub fn merge_all<E: Entries>(alloc: Global, inputs: &mut [E]) -> Result<Vec<Triple>, Refusal>
+    requires { length inputs.old ≤ MOST_INPUTS }
+    ensures known { (was : List Coming) → all_known (map E.coming inputs.old) ≡ Some was → MatchResult result (λ all. IsMerge was all.items) (IsCauseOfAll was) }
+    ensures limit { IfOk result (λ all. vec_len all ≤ MOST_FILE_ENTRIES) }
+    ensures stand { AllStand (map E.standing inputs.old) (map E.standing inputs.new) result }
+    ensures within { IfOk result (λ all. (points : ℕ → Bool) → All (λ input. E.within input points) inputs.old → All (λ entry. IsTrue (points entry.point)) all.items) }
 {
-    let mut merge = Merge::new(alloc, inputs)?;
+    let mut merge = Merge::new(alloc, inputs.len())?;
+    merge.open(inputs)?;
     let mut all = Vec::new(alloc);
     for _ in 0..MOST_FILE_ENTRIES {
-        let Some(entry) = merge.next()? else {
+        let Some(entry) = merge.next(inputs)? else {
             return Ok(all);
         };
         all.push(entry)?;
     }
-    match merge.next()? {
+    match merge.next(inputs)? {
         None => Ok(all),
         Some(_) => Err(Refusal::Full),
     }
@@ -107,9 +118,12 @@ fn least_entry<E: Entries>(
     inputs: &mut [E],
     firsts: &mut Tournament,
 ) -> Result<Option<Triple>, Refusal>
-    requires { AreTogether (map E.coming inputs.old) firsts.old }
-    ensures together { AreTogether (map E.coming inputs.new) firsts.new }
+    requires { length inputs.old ≡ length firsts.old }
+    ensures together { length inputs.new ≡ length firsts.new }
     ensures goes_on { GoesOn (all_left (map E.coming inputs.old) firsts.old) (all_left (map E.coming inputs.new) firsts.new) result }
+    ensures rises { KeysGoOn firsts.old firsts.new result }
+    ensures within { AllGiveWithin E.within inputs.old firsts.old inputs.new firsts.new result }
+    ensures stand { AllStand (map E.standing inputs.old) (map E.standing inputs.new) result }
 {
     let Some(place) = firsts.least() else {
         return Ok(None);

@@ -1,11 +1,13 @@
 //! The steps of a merge: an input is drawn on, and of the entries of one key the newest is kept.
-ghost use Rattle.std.specs.Prelude.{◌≡◌, ◌≢◌, ◌<◌, ◌⊎◌, ℕ, true, List, Some, None, Err, MatchBool, MatchResult, IfErr, IfOk, IfSome, IfNone, OnOk, length, map, option_map};
+ghost use Rattle.std.specs.Prelude.{◌≡◌, ◌≢◌, ◌<◌, ◌⊎◌, ℕ, Bool, IsTrue, true, List, Some, None, Err, MatchBool, MatchResult, IfErr, IfOk, IfSome, IfNone, OnOk, length, map, option_map};
 ghost use Rattle.pc_types.specs.declared.refusal.Refusal.TheVariants.{Conflict};
 ghost use Rattle.pc_model.specs.Files.{same_content};
-ghost use Rattle.pc_merge.specs.Coming.{Coming};
+ghost use Rattle.std.specs.List.{All};
+ghost use Rattle.pc_merge.specs.Coming.{Coming, IsWithin};
 ghost use Rattle.pc_merge.specs.Drawing.{Draws, GoOnPassing, HasCause, HasPassed, Passes, Rises, has_key};
-ghost use Rattle.pc_merge.specs.Inputs.{AreTogether, all_known, all_left};
+ghost use Rattle.pc_merge.specs.Inputs.{all_known, all_left};
 ghost use Rattle.pc_merge.specs.Merging.{IsBelow, IsCause, IsNewest};
+ghost use Rattle.pc_merge.specs.Standings.{AllStand, AreWithin};
 ghost use Rattle.pc_merge.specs.Tournaments.{IsFree, IsNoLater, at};
 
 use crate::entries::Entries;
@@ -15,16 +17,24 @@ use pc_types::{Key, Refusal, Triple, Value};
 // The next entry of the input at the place.
 fn draw<E: Entries>(inputs: &mut [E], place: usize) -> Result<Option<Triple>, Refusal>
     requires { place < length inputs.old }
-    ensures { Draws (map E.coming inputs.old) (map E.coming inputs.new) place result }
+    ensures together { length inputs.new ≡ length inputs.old }
+    ensures draws { Draws (map E.coming inputs.old) (map E.coming inputs.new) place result }
+    ensures stand { AllStand (map E.standing inputs.old) (map E.standing inputs.new) result }
+    ensures within { IfOk result (λ next. (points : ℕ → Bool) → All (λ input. E.within input points) inputs.old → IsWithin points next × All (λ input. E.within input points) inputs.new) }
 {
     inputs[place].next()
 }
 
 // Draws the first entry of each input.
-pub(crate) fn open<E: Entries>(inputs: &mut [E], firsts: &mut Tournament) -> Result<(), Refusal>
+pub(crate) fn draw_firsts<E: Entries>(
+    inputs: &mut [E],
+    firsts: &mut Tournament,
+) -> Result<(), Refusal>
     requires size { length inputs.old ≡ length firsts.old }
     requires free { IsFree firsts.old }
-    ensures together { OnOk result (AreTogether (map E.coming inputs.new) firsts.new) }
+    ensures together { length inputs.new ≡ length firsts.new }
+    ensures stand { AllStand (map E.standing inputs.old) (map E.standing inputs.new) result }
+    ensures within { OnOk result ((points : ℕ → Bool) → All (λ input. E.within input points) inputs.old → AreWithin E.within points inputs.new firsts.new) }
     ensures known { (was : List Coming) → all_known (map E.coming inputs.old) ≡ Some was → MatchResult result (λ _. all_left (map E.coming inputs.new) firsts.new ≡ Some was) (IsCause was) }
 {
     for place in 0..inputs.len() {
@@ -40,10 +50,12 @@ pub(crate) fn advance<E: Entries>(
     firsts: &mut Tournament,
     place: usize,
 ) -> Result<Triple, Refusal>
-    requires together { AreTogether (map E.coming inputs.old) firsts.old }
+    requires together { length inputs.old ≡ length firsts.old }
     requires place { place < length firsts.old }
     requires some { at firsts.old place ≢ None }
-    ensures together { AreTogether (map E.coming inputs.new) firsts.new }
+    ensures together { length inputs.new ≡ length firsts.new }
+    ensures stand { AllStand (map E.standing inputs.old) (map E.standing inputs.new) result }
+    ensures within { IfOk result (λ entry. (points : ℕ → Bool) → AreWithin E.within points inputs.old firsts.old → IsTrue (points entry.point) × AreWithin E.within points inputs.new firsts.new) }
     ensures passes { IfOk result (Passes firsts.old firsts.new place) }
     ensures passed { IfOk result (HasPassed (map E.coming inputs.old) firsts.old (map E.coming inputs.new) firsts.new place) }
     ensures cause { IfErr result (HasCause (map E.coming inputs.old) firsts.old) }
@@ -74,9 +86,12 @@ pub(crate) fn newest_of<E: Entries>(
     firsts: &mut Tournament,
     entry: Triple,
 ) -> Result<Triple, Refusal>
-    requires together { AreTogether (map E.coming inputs.old) firsts.old }
+    requires together { length inputs.old ≡ length firsts.old }
     requires least { (place : ℕ) → IsNoLater (Some entry) (at firsts.old place) }
-    ensures together { AreTogether (map E.coming inputs.new) firsts.new }
+    ensures together { length inputs.new ≡ length firsts.new }
+    ensures stand { AllStand (map E.standing inputs.old) (map E.standing inputs.new) result }
+    ensures within { IfOk result (λ newest. (points : ℕ → Bool) → IsTrue (points entry.point) → AreWithin E.within points inputs.old firsts.old → IsTrue (points newest.point) × AreWithin E.within points inputs.new firsts.new) }
+    ensures key { IfOk result (λ newest. newest.key ≡ entry.key) }
     ensures above { IfOk result (λ newest. (place : ℕ) → IsBelow newest.key (at firsts.new place)) }
     ensures goes_on { GoOnPassing (map E.coming inputs.old) firsts.old entry (map E.coming inputs.new) firsts.new result }
 {

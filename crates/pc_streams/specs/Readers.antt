@@ -1,11 +1,13 @@
 -- What a reader of a part's text has read, what is to come of it, and what it refused.
-use Rattle.std.specs.Prelude.{◌≡◌, ℕ, Bool, false, List, [], Option, Some, None, Result, Ok, Err, ◌⊎◌, ⊤}
+use Rattle.std.specs.Prelude.{◌≡◌, ℕ, Bool, IsTrue, false, List, [], Option, Some, None, Result, Ok, Err, ◌⊎◌, ⊤}
 use Rattle.std.specs.Option.{option_map}
 use Rattle.pc_types.specs.declared.Refusal.{Refusal}
 use Rattle.pc_types.specs.declared.Refusal.TheVariants.{OutOfMemory, Device}
 use Rattle.pc_types.specs.declared.tally.Tally.{Tally}
 use Rattle.pc_part.specs.declared.ranges.Range.{Range}
-use Rattle.pc_merge.specs.Coming.{Coming, refused}
+use Rattle.pc_types.specs.Tallies.{failures_of}
+use Rattle.pc_part.specs.Parts.{covers}
+use Rattle.pc_merge.specs.Coming.{Coming, Standing, refused}
 use Rattle.pc_streams.specs.declared.reader.PartReader.{PartReader}
 use Rattle.pc_streams.specs.declared.reader.PartStage.{PartStage}
 use Rattle.pc_streams.specs.declared.reader.PartStage.TheVariants.{Unread, Among, Refused}
@@ -100,3 +102,21 @@ StaysKnown (Some x) new = new ≡ Some x
 abbrev pub TellsRanges : Option (Result (ℕ × List Range) Refusal) → List Range → Type 0
 TellsRanges (Some (Ok header)) ranges = header.1 ≡ ranges
 TellsRanges known ranges = ⊥
+
+-- how a reader stands: what it refused, and how many of its calls failed
+abbrev pub standing_of : {R : Type 0} → PartReader R → Standing
+standing_of reader = record { refused = refused_of reader; failures = failures_of (counted_by reader) }
+
+-- what is to come in a stage is of these points, whether its bytes are known or not; before the header is read that isn't said
+abbrev pub stage_within : PartStage → (ℕ → Bool) → Type 0
+stage_within Unread points = ⊥
+stage_within (Among place) points = (point : ℕ) → IsTrue (covers place.ranges point) → IsTrue (points point)
+stage_within (Refused why) points = ⊤
+
+-- the same of a reader
+abbrev pub reads_within : {R : Type 0} → PartReader R → (ℕ → Bool) → Type 0
+reads_within reader points = stage_within reader.stage points
+
+-- a reader keeps to the points of these ranges
+abbrev pub KeepsToRanges : {R : Type 0} → PartReader R → List Range → Type 0
+KeepsToRanges reader ranges = (points : ℕ → Bool) → ((point : ℕ) → IsTrue (covers ranges point) → IsTrue (points point)) → reads_within reader points

@@ -4,11 +4,11 @@ ghost use Rattle.std.specs.Option.{option_map};
 ghost use Rattle.pc_types.specs.Tallies.{inner_of, failures_of};
 ghost use Rattle.pc_types.specs.declared.Refusal.{Refusal};
 ghost use Rattle.pc_part.specs.Parts.{AreRanges};
-ghost use Rattle.pc_merge.specs.Coming.{GivesNext, StaysRefused};
+ghost use Rattle.pc_merge.specs.Coming.{GivesNext, GivesWithin, Stands};
 ghost use Rattle.pc_streams.specs.Coming.{part_coming, part_header};
 ghost use Rattle.pc_streams.specs.Draws.{Counts};
 ghost use Rattle.pc_streams.specs.Places.{IsLawfulNext, PassesTo};
-ghost use Rattle.pc_streams.specs.Readers.{coming_of, header_of, refused_of, counted_by, ranges_read, last_given, has_ended, AnswersAs, CountsOnce, Refuses, StaysKnown, TellsRanges};
+ghost use Rattle.pc_streams.specs.Readers.{coming_of, header_of, refused_of, counted_by, ranges_read, last_given, has_ended, reads_within, standing_of, AnswersAs, CountsOnce, KeepsToRanges, Refuses, StaysKnown, TellsRanges};
 
 use crate::place::Place;
 use crate::source::Source;
@@ -73,6 +73,8 @@ impl<R: Read> PartReader<R> {
         ensures coming { OnOk result (StaysKnown (coming_of R.remaining self.old) (coming_of R.remaining self.new)) }
         ensures refused { Refuses (refused_of self.old) (refused_of self.new) result }
         ensures counts { CountsOnce (refused_of self.old) (counted_by self.old) (counted_by self.new) result }
+        ensures stands { Stands (standing_of self.old) (standing_of self.new) result }
+        ensures within { OnOk result (KeepsToRanges self.new (ranges_read self.new)) }
     {
         match &self.stage {
             PartStage::Unread => self.open(),
@@ -103,6 +105,7 @@ impl<R: Read> PartReader<R> {
         ensures coming { OnOk result (StaysKnown (coming_of R.remaining self.old) (coming_of R.remaining self.new)) }
         ensures refused { Refuses None (refused_of self.new) result }
         ensures counts { Counts (counted_by self.old) (counted_by self.new) result }
+        ensures within { OnOk result (KeepsToRanges self.new (ranges_read self.new)) }
     {
         match Place::open(self.alloc, &mut self.source) {
             Ok(place) => {
@@ -136,6 +139,7 @@ impl<R: Read> PartReader<R> {
         ensures again { (why : Refusal) → refused_of self.old ≡ Some why → result ≡ Err why }
         ensures header { OnOk result (StaysKnown (header_of R.remaining self.old) (header_of R.remaining self.new)) }
         ensures counts { CountsOnce (refused_of self.old) (counted_by self.old) (counted_by self.new) result }
+        ensures within { GivesWithin reads_within self.old self.new result }
     {
         match &mut self.stage {
             PartStage::Unread => self.first(),
@@ -164,11 +168,13 @@ impl<R: Read> PartReader<R> {
 }
 
 impl<R: Read> Entries for PartReader<R> {
-    ghost use Rattle.pc_streams.specs.Readers.{coming_of, refused_of};
+    ghost use Rattle.pc_streams.specs.Readers.{coming_of, reads_within, standing_of};
 
     ghost coming = { coming_of R.remaining };
 
-    ghost refused = { refused_of };
+    ghost standing = { standing_of };
+
+    ghost within = { reads_within };
 
     /// The next entry, or None at the end. The header is read before the first. Behind the last one it sees that the text tells
     /// how many there were, and ends. Refuses with `OutOfMemory` and, exactly where the count of failures has risen, with `Device`,
@@ -180,9 +186,11 @@ impl<R: Read> Entries for PartReader<R> {
         ensures told { OnOk result (TellsRanges (header_of R.remaining self.new) (ranges_read self.new)) }
         ensures over { has_ended self.old ≡ true → result ≡ Ok None }
         ensures ends { result ≡ Ok None → has_ended self.new ≡ true }
-        ensures refused { StaysRefused (refused_of self.old) (refused_of self.new) result }
+        ensures refused { Refuses (refused_of self.old) (refused_of self.new) result }
         ensures header { OnOk result (StaysKnown (header_of R.remaining self.old) (header_of R.remaining self.new)) }
         ensures counts { CountsOnce (refused_of self.old) (counted_by self.old) (counted_by self.new) result }
+        ensures stands { Stands (standing_of self.old) (standing_of self.new) result }
+        ensures within { GivesWithin reads_within self.old self.new result }
     {
         match self.step() {
             Ok(next) => Ok(next),

@@ -4,6 +4,7 @@ use pc_merge::{Entries, EntryList, MOST_INPUTS, Merge, merge_all};
 use pc_part::{Part, join};
 use pc_types::{Key, Point, Refusal, Triple, Value};
 use std::alloc::Global;
+use std::marker::Model;
 use std::test::Fail;
 
 // An entry: its key, its point, and what the key had there.
@@ -84,15 +85,42 @@ fn is_of(entry: &Triple, row: &Row) -> bool {
     entry.key.as_bytes() == row.0 && entry.point.0 == row.1 && content == row.2
 }
 
-fn merge_of<E: Entries + Drop>(alloc: Global, inputs: Vec<E>) -> Result<Merge<E>, Refusal> {
-    if inputs.len() > MOST_INPUTS {
-        return Err(Refusal::Full);
+// A merge with its inputs.
+#[derive(Drop)]
+struct Running<E> {
+    inputs: Vec<E>,
+    merge: Merge,
+}
+
+impl<E> Model for Running<E> {
+    ghost use Rattle.std.specs.Prelude.{◌≡◌, ℕ, length};
+
+    ghost Value = { ℕ };
+
+    ghost view = { λ r. length r.inputs.items };
+
+    ghost invariant = { λ r. length r.inputs.items ≡ length r.merge.firsts };
+}
+
+impl<E: Entries + Drop> Running<E> {
+    // The merge is opened; where that was refused, each call for an entry is.
+    fn new(alloc: Global, inputs: Vec<E>) -> Result<Running<E>, Refusal> {
+        if inputs.len() > MOST_INPUTS {
+            return Err(Refusal::Full);
+        }
+        let mut inputs = inputs;
+        let mut merge = Merge::new(alloc, inputs.len())?;
+        drop(merge.open(&mut inputs));
+        Ok(Running { inputs, merge })
     }
-    Merge::new(alloc, inputs)
+
+    fn next(&mut self) -> Result<Option<Triple>, Refusal> {
+        self.merge.next(&mut self.inputs)
+    }
 }
 
 // Whether the next entry is that of the row.
-fn gives(merge: &mut Merge<EntryList>, row: &Row) -> Result<bool, Refusal> {
+fn gives(merge: &mut Running<EntryList>, row: &Row) -> Result<bool, Refusal> {
     let Some(entry) = merge.next()? else {
         return Ok(false);
     };
@@ -100,7 +128,7 @@ fn gives(merge: &mut Merge<EntryList>, row: &Row) -> Result<bool, Refusal> {
 }
 
 // Whether the merge ends, or is refused so.
-fn ends(merge: &mut Merge<EntryList>, refused: &str) -> bool {
+fn ends(merge: &mut Running<EntryList>, refused: &str) -> bool {
     let answer = merge.next();
     match &answer {
         Ok(entry) => entry.is_none() && refused.is_empty(),
@@ -114,7 +142,7 @@ fn agrees(alloc: Global, (lists, given, refused): &Case) -> Result<bool, Refusal
     for rows in *lists {
         inputs.push(list_of(alloc, rows)?)?;
     }
-    let mut merge = merge_of(alloc, inputs)?;
+    let mut merge = Running::new(alloc, inputs)?;
     for row in *given {
         if !gives(&mut merge, row)? {
             return Ok(false);
@@ -137,6 +165,7 @@ struct CutList {
     entries: EntryList,
     left: u8,
     refused: Option<Refusal>,
+    failures: u64,
 }
 
 impl Entries for CutList {
@@ -144,7 +173,9 @@ impl Entries for CutList {
 
     ghost coming = { λ _. None };
 
-    ghost refused = { λ list. list.refused };
+    ghost standing = { λ list. record { refused = list.refused; failures = list.failures } };
+
+    ghost within = { λ _ _. ⊥ };
 
     fn next(&mut self) -> Result<Option<Triple>, Refusal> {
         if let Some(why) = self.refused {
@@ -152,6 +183,7 @@ impl Entries for CutList {
         }
         if self.left == 0 {
             self.refused = Some(Refusal::Device);
+            self.failures = self.failures.saturating_add(1);
             return Err(Refusal::Device);
         }
         self.left -= 1;
@@ -169,27 +201,30 @@ fn cut_lists(alloc: Global, left: u8) -> Result<Vec<CutList>, Refusal> {
         entries: list_of(alloc, &[A1, LONG2])?,
         left,
         refused: None,
+        failures: 0,
     })?;
     lists.push(CutList {
         entries: list_of(alloc, &[A2, B1])?,
         left: 9,
         refused: None,
+        failures: 0,
     })?;
     Ok(lists)
 }
 
-// Whether an entry is given, or the end; None where the device has failed.
-fn has_given(merge: &mut Merge<CutList>) -> Option<bool> {
+// Whether an entry is given, or the end; None where it answers that the device has failed.
+fn has_given(merge: &mut Running<CutList>) -> Option<bool> {
     let answer = merge.next();
     match &answer {
         Ok(entry) => Some(entry.is_some()),
-        Err(_) => None,
+        Err(Refusal::Device) => None,
+        Err(_) => Some(false),
     }
 }
 
 // How many entries are given before the device fails, and whether that is answered from then on.
 fn count_to_failure(alloc: Global, left: u8) -> Result<(usize, bool), Refusal> {
-    let mut merge = merge_of(alloc, cut_lists(alloc, left)?)?;
+    let mut merge = Running::new(alloc, cut_lists(alloc, left)?)?;
     let mut count = 0usize;
     for _ in 0..9 {
         if has_given(&mut merge) != Some(true) {
@@ -203,7 +238,7 @@ fn count_to_failure(alloc: Global, left: u8) -> Result<(usize, bool), Refusal> {
 
 #[test]
 fn a_failure_in_the_midst_is_answered_from_then_on(rt: HostRuntime) -> Result<(), Fail> {
-    assert!(rt; count_to_failure(rt.alloc(), 0).is_err());
+    assert!(rt; count_to_failure(rt.alloc(), 0)? == (0, true));
     assert!(rt; count_to_failure(rt.alloc(), 1)? == (0, true));
     assert!(rt; count_to_failure(rt.alloc(), 2)? == (2, true));
     assert!(rt; count_to_failure(rt.alloc(), 3)? == (3, false));
@@ -270,7 +305,7 @@ fn is_the_join(alloc: Global, files: u8) -> Result<bool, Refusal> {
     if lists.len() > MOST_INPUTS {
         return Ok(false);
     }
-    let merged = merge_all(alloc, lists)?;
+    let merged = merge_all(alloc, &mut lists)?;
     let joined = entries_of(alloc, &joined)?;
     Ok(
         merged.len() == joined.len()

@@ -1,4 +1,6 @@
-use Rattle.std.proofs.Common.{◌<◌, map, sym, subst}
+use Rattle.std.proofs.Common.{◌<◌, ◌∙◌, map, sym, subst}
+use Rattle.std.proofs.lemmas.List.{length-map}
+use Rattle.pc_merge.proofs.StandingLaws.{newer_within}
 use Rattle.pc_merge.specs.Drawing.{ArePassing}
 use Rattle.pc_merge.specs.Merging.{IsCause}
 use Rattle.pc_merge.specs.Tournaments.{at}
@@ -29,7 +31,7 @@ returns-in_err-newest-clause-goes_on g c = λ was are.
     let conflict = c.in_err-newest.ensures.conflict in
     let key = of_key newest.key (at firsts c.in-Some.place) other c.in_ok-other.ensures.passes.first c.in-Some.ensures.key in
     handed_on (ArePassing was inputs_now firsts_now) (IsCause was) c.in_err-newest.field-0.0 c.from_residual-in_err-newest.result c.from_residual-in_err-newest.ensures
-    (subst (IsCause was) (sym conflict.0) (go_on_conflict inputs inputs_now firsts firsts_now c.in-Some.place other c.loop-place.invariant.together c.in_ok-other.ensures.together c.in-Some.ensures.within c.in_ok-other.ensures.passes c.in_ok-other.ensures.passed was newest (c.loop-place.invariant.passing was are) key conflict.1 conflict.2))
+    (subst (IsCause was) (sym conflict.0) (go_on_conflict inputs inputs_now firsts firsts_now c.in-Some.place other (length-map c.loop-place.inputs g.E.Entries.coming ∙ c.loop-place.invariant.together) (length-map c.advance.new.inputs g.E.Entries.coming ∙ c.in_ok-other.ensures.together) c.in-Some.ensures.within c.in_ok-other.ensures.passes c.in_ok-other.ensures.passed was newest (c.loop-place.invariant.passing was are) key conflict.1 conflict.2))
 
 pub loop-place-smaller : goal.loop-place-smaller
 loop-place-smaller g c =
@@ -53,6 +55,12 @@ loop-place-preserved g c =
     let key = of_key newest.key (at firsts c.in-Some.place) other c.in_ok-other.ensures.passes.first c.in-Some.ensures.key in
     record {
       together = c.in_ok-other.ensures.together;
-      least = least_on inputs inputs_now firsts firsts_now c.in-Some.place other c.loop-place.invariant.together c.in_ok-other.ensures.together c.in-Some.ensures.within c.in_ok-other.ensures.passes c.in_ok-other.ensures.passed newest newer (newer_key newest other newer key c.in_ok-newest.ensures.newer.2) key c.loop-place.invariant.least;
-      passing = λ was are. go_on inputs inputs_now firsts firsts_now c.in-Some.place other c.loop-place.invariant.together c.in_ok-other.ensures.together c.in-Some.ensures.within c.in_ok-other.ensures.passes c.in_ok-other.ensures.passed was newest newer (c.loop-place.invariant.passing was are) key c.in_ok-newest.ensures.newer;
+      stand = c.in_ok-other.ensures.stand ∙ c.loop-place.invariant.stand;
+      key = newer_key newest other newer key c.in_ok-newest.ensures.newer.2 ∙ c.loop-place.invariant.key;
+      within = λ points first are.
+          let before = c.loop-place.invariant.within points first are in
+          let taken = c.in_ok-other.ensures.within points before.1 in
+          (newer_within newest other newer points before.0 taken.0 c.in_ok-newest.ensures.newer.2, taken.1);
+      least = least_on inputs inputs_now firsts firsts_now c.in-Some.place other (length-map c.loop-place.inputs g.E.Entries.coming ∙ c.loop-place.invariant.together) (length-map c.advance.new.inputs g.E.Entries.coming ∙ c.in_ok-other.ensures.together) c.in-Some.ensures.within c.in_ok-other.ensures.passes c.in_ok-other.ensures.passed newest newer (newer_key newest other newer key c.in_ok-newest.ensures.newer.2) key c.loop-place.invariant.least;
+      passing = λ was are. go_on inputs inputs_now firsts firsts_now c.in-Some.place other (length-map c.loop-place.inputs g.E.Entries.coming ∙ c.loop-place.invariant.together) (length-map c.advance.new.inputs g.E.Entries.coming ∙ c.in_ok-other.ensures.together) c.in-Some.ensures.within c.in_ok-other.ensures.passes c.in_ok-other.ensures.passed was newest newer (c.loop-place.invariant.passing was are) key c.in_ok-newest.ensures.newer;
     }
