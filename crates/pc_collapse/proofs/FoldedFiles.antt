@@ -23,7 +23,8 @@ use Rattle.pc_model.proofs.CountLaws.{length_of_set}
 use Rattle.pc_model.proofs.ContentLaws.{contains-union}
 use Rattle.pc_model.proofs.JoinLaws.{get-joined}
 use Rattle.pc_part.specs.Joins.{first_cause, IsRefusedBy}
-use Rattle.pc_collapse.specs.Folds.{folded, has_other_run, IsUnderAt, NoneConflict, IsFold, IsFoldCause, Folds}
+use Rattle.pc_merge.specs.Given.{IsUnderAt}
+use Rattle.pc_collapse.specs.Folds.{folded, has_other_run, NoneConflict, IsFold, IsFoldCause, Folds}
 use Rattle.pc_collapse.specs.Worth.{Fact, FactHolds, Among, AreFactsGiven, AreWorth, AreOfOneRun, IsCauseFor, JoinsToOne}
 use Rattle.pc_collapse.specs.Worth.Fact.{HasTriple, HasPoint, HasRun}
 use Rattle.pc_collapse.proofs.FactLists.{among_file, file_among, sound_trans, worth_same, worth_trans, worth_append}
@@ -110,7 +111,7 @@ reached x (Some t) r = refl
 -- ---- causes
 
 module _ (f : File) (fs : List File) where
-  full_by : (m : Triples) → ((key : List ℕ) (x : AtPoint) → get m key ≡ Some x → Among (HasTriple key x) (f ∷ fs)) → MOST_FILE_ENTRIES < len m → MOST_FILE_ENTRIES < len (folded f fs).triples
+  pub full_by : (m : Triples) → ((key : List ℕ) (x : AtPoint) → get m key ≡ Some x → Among (HasTriple key x) (f ∷ fs)) → MOST_FILE_ENTRIES < len m → MOST_FILE_ENTRIES < len (folded f fs).triples
   full_by m sub above = let less = len_sub m (folded f fs).triples (λ q x e. reached x (get (folded f fs).triples q) (folded_reaches f fs q x (sub q x e))) in omega (arith, less, above)
 
   same_run : (t u : Bool) → (not t || u) ≡ false → (t ≡ true) × (u ≡ false)
@@ -122,7 +123,7 @@ module _ (f : File) (fs : List File) where
   run_is (g ∷ gs) one r h = let parts = same_run (eqb g.run f.run) (has_other_run f gs) one in
       ⊎_elim (λ (i : g.run ≡ r). let test = parts.0 in let same : g.run ≡ f.run = grind (arith, nat_tests, test) in sym i ∙ same) (λ q. run_is gs parts.1 r q) h
 
-  given_run : has_other_run f fs ≡ false → (r : ℕ) → Among (HasRun r) (f ∷ fs) → r ≡ f.run
+  pub given_run : has_other_run f fs ≡ false → (r : ℕ) → Among (HasRun r) (f ∷ fs) → r ≡ f.run
   given_run one r h = ⊎_elim (λ (i : f.run ≡ r). sym i) (λ q. run_is fs one r q) h
 
   -- two files whose triples are those of files without conflict have none

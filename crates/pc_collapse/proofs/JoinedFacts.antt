@@ -13,7 +13,7 @@ use Rattle.pc_collapse.proofs.KeyConflicts.{one_triple}
 
 -- ---- the later of two
 
-later_from : (x y : Option AtPoint) (t : AtPoint) → later x y ≡ Some t → (x ≡ Some t) ⊎ (y ≡ Some t)
+pub later_from : (x y : Option AtPoint) (t : AtPoint) → later x y ≡ Some t → (x ≡ Some t) ⊎ (y ≡ Some t)
 later_from x None t e = inl e
 later_from None (Some b) t e = inr e
 later_from (Some a) (Some b) t e = by (nat_lt a.point b.point) e
@@ -44,7 +44,7 @@ later_right (Some a) y most one = by (nat_lt a.point y.point) refl
 
 -- ---- one of two points
 
-or_from : (s t : Bool) → (s || t) ≡ true → (s ≡ true) ⊎ (t ≡ true)
+pub or_from : (s t : Bool) → (s || t) ≡ true → (s ≡ true) ⊎ (t ≡ true)
 or_from true t e = inl refl
 or_from false t e = inr e
 

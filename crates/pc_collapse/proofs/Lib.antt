@@ -6,4 +6,7 @@ mod Gathered
 mod JoinedFacts
 mod KeyConflicts
 mod LentParts
+mod Members
+mod MergedParts
+mod PartEntries
 mod PointFolds

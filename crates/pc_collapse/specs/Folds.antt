@@ -1,12 +1,12 @@
 -- The fold of files: the join of all of them, and when it is refused.
-use Rattle.std.specs.Prelude.{ℕ, ◌≡◌, ◌<◌, ◌⊎◌, ◌==◌, not, Bool, List, [], ◌∷◌, Option, Some, None, Result, Err, MatchBool, MatchResult, IsFalse, ⊤}
+use Rattle.std.specs.Prelude.{◌≡◌, ◌<◌, ◌⊎◌, ◌==◌, not, Bool, List, [], ◌∷◌, Result, Err, MatchBool, MatchResult, IsFalse}
 use Rattle.std.specs.List.{Contains, list_any}
 use Rattle.pc_types.specs.declared.Refusal.{Refusal}
 use Rattle.pc_types.specs.declared.Refusal.TheVariants.{OutOfMemory, NoFile, OtherRun, Conflict, Full}
 use Rattle.pc_types.specs.declared.limits.TheConstants.{MOST_FILE_ENTRIES}
 use Rattle.pc_model.specs.Maps as map_of
-use Rattle.pc_model.specs.Points.{AtPoint, Triples}
 use Rattle.pc_model.specs.Files.{File, joined_file, conflict}
+use Rattle.pc_merge.specs.Given.{IsUnder}
 
 -- the join of all the files
 abbrev pub folded : File → List File → File
@@ -16,16 +16,6 @@ folded file (next ∷ files) = joined_file file (folded next files)
 -- one of the files is of another run than the first
 abbrev pub has_other_run : File → List File → Bool
 has_other_run first files = list_any (λ (file : File). not (file.run == first.run)) files
-
--- what a key has in one file is older than what it has in another, or the same; it may have nothing in the first
-abbrev pub IsUnderAt : Option AtPoint → Option AtPoint → Type 0
-IsUnderAt None there = ⊤
-IsUnderAt (Some a) None = ⊥
-IsUnderAt (Some a) (Some b) = (a.point < b.point) ⊎ (a ≡ b)
-
--- the same of each key
-abbrev pub IsUnder : Triples → Triples → Type 0
-IsUnder m n = (key : List ℕ) → IsUnderAt (map_of.get m key) (map_of.get n key)
 
 -- no two of the files have a key at one point with different contents
 abbrev pub NoneConflict : List File → Type 0

@@ -1,13 +1,14 @@
-//! The fold of many files, by halves.
+//! The fold of many files: one merge of all of them; and the join of pieces, by halves.
 ghost use Rattle.std.specs.Prelude.{◌≡◌, ◌<◌, ◌++◌, ◌∷◌, [], length, IfOk, MatchResult, vec_len};
 ghost use Rattle.pc_collapse.specs.Folds.{Folds, has_other_run};
 ghost use Rattle.pc_collapse.specs.Worth.{AreOfOneRun, JoinsToOne};
 
+use crate::merging::merge_parts;
 use crate::piece::{Given, Piece};
+use pc_merge::MOST_INPUTS;
 use pc_part::{Part, join};
 use pc_types::Refusal;
 use std::alloc::{AllocError, Global};
-use std::marker::Brand;
 
 /// The join of all the parts: it stands for the points of all, and has of each key the entry of the greatest point. The
 /// parts stay as they are; none of them is copied, unless it is the only one. Refuses, in this order:
@@ -21,16 +22,15 @@ pub fn fold(alloc: Global, parts: &[Part]) -> Result<Part, Refusal>
     ensures { Folds parts.now result }
 {
     check_runs(parts)?;
-    fold_all::<Brand>(alloc, parts, Vec::new(alloc))
+    fold_lent(alloc, parts)
 }
 
-/// The same of parts that are handed over: each ends as soon as it is joined, so that no more memory is used at any time
-/// than for the parts and a join of some of them.
+/// The same of parts that are handed over: they end once they are joined, so that no more memory is used than for the parts
+/// and their join.
 pub fn fold_owned(alloc: Global, parts: Vec<Part>) -> Result<Part, Refusal>
     ensures { Folds parts.items result }
 {
-    check_runs(&parts)?;
-    fold_all::<Brand>(alloc, &[], parts)
+    fold(alloc, &parts)
 }
 
 // Refuses no parts, and parts of two runs.
@@ -55,14 +55,18 @@ fn is_other_run(first: &Part, others: &[Part]) -> bool
     others.iter().any(|part| part.run() != first.run())
 }
 
-// The fold of parts that are lent and others that are handed over.
-fn fold_all<G: Given>(alloc: Global, lent: &[Part], own: Vec<Part>) -> Result<Part, Refusal>
-    requires lent { lent.now ≡ G.parts }
-    requires some { 0 < length (lent.now ++ own.items) }
-    ensures { JoinsToOne (lent.now ++ own.items) result }
+// The join of parts of one run: where they are too many for one merge, the joins of both halves are joined.
+fn fold_lent(alloc: Global, parts: &[Part]) -> Result<Part, Refusal>
+    requires { AreOfOneRun parts.now }
+    ensures { JoinsToOne parts.now result }
 {
-    let pieces = pieces_of::<G>(alloc, lent, own)?;
-    fold_pieces(alloc, lent, pieces)
+    if parts.len() <= MOST_INPUTS {
+        return merge_parts(alloc, parts);
+    }
+    let (front, back) = parts.split_at(parts.len() / 2);
+    let left = fold_lent(alloc, front)?;
+    let right = fold_lent(alloc, back)?;
+    join(alloc, &left, &right)
 }
 
 // The lent parts, and behind them the others.

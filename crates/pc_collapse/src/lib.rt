@@ -5,6 +5,7 @@ mod bag;
 mod folding;
 mod laws;
 mod limits;
+mod merging;
 mod piece;
 mod rounds;
 mod rule;

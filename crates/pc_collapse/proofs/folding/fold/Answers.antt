@@ -1,8 +1,5 @@
-use Rattle.std.proofs.Common.{◌++◌, ◌∙◌, List, append-nil, ap, subst}
-use Rattle.pc_model.specs.Files.{File}
-use Rattle.pc_collapse.specs.Worth.{JoinsToOne}
 use Rattle.pc_collapse.proofs.FoldedFiles.{joins_fold}
 use Rattle.pc_collapse.proofs.folding.fold.Goals as goal
 
 pub returns : goal.returns
-returns c = joins_fold c.args.parts.now _ c.in_ok-check_runs.ensures (subst (λ (files : List File). JoinsToOne files c.fold_all.result) (ap (λ (files : List File). c.args.parts.now ++ files) c.new.ensures.items ∙ append-nil c.args.parts.now) c.fold_all.ensures)
+returns c = joins_fold c.args.parts.now c.fold_lent.result c.in_ok-check_runs.ensures c.fold_lent.ensures
