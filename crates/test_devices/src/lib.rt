@@ -7,6 +7,8 @@ mod file_tests;
 #[cfg(test)]
 mod folder_tests;
 #[cfg(test)]
+mod join_tests;
+#[cfg(test)]
 mod log_tests;
 #[cfg(test)]
 mod refusal_tests;

@@ -17,6 +17,7 @@ pub enum Verb {
     Changes,
     Longer,
     Join,
+    Stream,
     Lay,
 }
 
@@ -39,6 +40,7 @@ pub fn verb_of(word: &[u8]) -> Option<Verb> {
         b"changes" => Some(Verb::Changes),
         b"longer" => Some(Verb::Longer),
         b"join" => Some(Verb::Join),
+        b"stream" => Some(Verb::Stream),
         b"lay" => Some(Verb::Lay),
         _ => None,
     }

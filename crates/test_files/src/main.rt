@@ -11,12 +11,14 @@
 //! | `changes` | what the text holds with each byte in turn of each value |
 //! | `longer` | what the text holds with one byte more, of each value |
 //! | `join` | the parts that the texts hold, joined from the left |
+//! | `stream` | the same, written as the texts are read, or why not, and what is then read of what was written |
 //! | `lay` | the base that the first text holds, with the parts of the others laid on it from the left |
 #![tactic(auto)]
 
 mod found;
 mod items;
 mod kinds;
+mod streams;
 mod sweeps;
 mod unions;
 
@@ -28,6 +30,7 @@ use std::alloc::Global;
 use std::io;
 use std::io::{BufWriter, Write};
 use std::process::ExitCode;
+use streams::put_streamed;
 use sweeps::{put_changes, put_cuts, put_longer, put_read};
 use unions::{put_joined, put_laid};
 
@@ -100,6 +103,7 @@ fn run_verb<W: Write>(
         Verb::Changes => put_changes(alloc, kind, text, out),
         Verb::Longer => put_longer(alloc, kind, text, out),
         Verb::Join => put_joined(alloc, text, others, out),
+        Verb::Stream => put_streamed(alloc, texts, out),
         Verb::Lay => put_laid(alloc, text, others, out),
     }
 }

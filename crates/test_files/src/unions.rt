@@ -60,7 +60,8 @@ fn laid(alloc: Global, text: &[u8], others: &[Vec<u8>]) -> Result<Base, Refusal>
     Ok(base)
 }
 
-fn put_text<W: Write>(alloc: Global, bytes: &[u8], out: &mut Tally<W>) -> Result<(), Refusal> {
+/// Prints a text in hexadecimal digits.
+pub fn put_text<W: Write>(alloc: Global, bytes: &[u8], out: &mut Tally<W>) -> Result<(), Refusal> {
     out.put(b"text ")?;
     put_hex(alloc, bytes, out)?;
     out.put(b"\n")

@@ -12,7 +12,7 @@ use std::thread::Threads;
 
 // The parts of points 1, 2 and 3 of run 1. In the first `a` and `b` are a value that takes memory of its own, in the second `a`
 // is another one, and in the third `b` is gone.
-const TEXTS: [&[u8]; 3] = [
+pub(crate) const TEXTS: [&[u8]; 3] = [
     b"PCALCP01\
     \x00\x00\x00\x00\x00\x00\x00\x01\
     \x00\x00\x00\x01\x00\x00\x00\x01\x00\x00\x00\x01\
@@ -31,7 +31,7 @@ const TEXTS: [&[u8]; 3] = [
     \x00\x00\x00\x00\x00\x01",
 ];
 
-const JOINED: &[u8] = b"PCALCP01\
+pub(crate) const JOINED: &[u8] = b"PCALCP01\
     \x00\x00\x00\x00\x00\x00\x00\x01\
     \x00\x00\x00\x01\x00\x00\x00\x01\x00\x00\x00\x03\
     \x00\x01a\x00\x00\x00\x02\x01\x00\x00\x00\x12two of 18 letters.\

@@ -14,3 +14,5 @@ mod collapses;
 mod sessions;
 #[cfg(test)]
 mod shared;
+#[cfg(test)]
+mod streams;

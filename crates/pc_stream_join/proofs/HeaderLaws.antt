@@ -1,0 +1,261 @@
+-- The headers that were read of readers, one after the other.
+use Rattle.std.proofs.Common.{◌≡◌, ℕ, zero, suc, ◌<◌, List, [], ◌∷◌, ◌++◌, length, map, get_or, set, Option, Some, None, Result, Ok, Err, refl, sym, ap, subst, ◌∙◌, arith, inl, inr, cond, Bool, true, false}
+use Rattle.std.specs.List.{AllByRecursion, list_any}
+use Rattle.std.specs.Prelude.{◌==◌, ◌||◌, ◌≢◌, IsTrue, not, slice_get}
+use Rattle.std.proofs.lemmas.List.{map-set, get_or-map, length-map}
+use Rattle.std.proofs.lemmas.List.Elements.{All-nil, All-cons, All-from_recursion}
+use Rattle.std.proofs.lemmas.Bool.{eqb-true}
+use Rattle.pc_types.specs.declared.Refusal.{Refusal}
+use Rattle.pc_types.specs.declared.Refusal.TheVariants.{OtherRun}
+use Rattle.pc_model.specs.Sets as set_of
+use Rattle.pc_part.specs.declared.ranges.Range.{Range}
+use Rattle.pc_part.specs.Parts.{AreRanges, points_of}
+use Rattle.pc_part.proofs.RangePointLaws.{contains-points_of}
+use Rattle.pc_merge.specs.Coming.{Standing, Stands}
+use Rattle.pc_merge.specs.Standings.{AllStand, standing_at}
+use Rattle.pc_streams.specs.declared.reader.PartReader.{PartReader}
+use Rattle.pc_streams.specs.Readers.{AnswersAs, StaysKnown, header_of, ranges_read, reads_within, standing_of}
+use Rattle.pc_stream_join.specs.Headers.{AreApart, AreHeaded, AreReadTo, IsHeadersFault, IsRead, StayKnown, all_headers, headers_fault, points_of_all, points_read, runs_fault}
+use Rattle.pc_stream_join.proofs.StandingLaws.{one_refused}
+use Rattle.pc_stream_join.proofs.UnionLaws.{contains-union}
+
+module _ {R : Type 0} (remaining : R → Option (List ℕ)) where
+  abbrev pub Readers : Type 0
+  Readers = List (PartReader R)
+
+  pub none_read : (was : Readers) → AreReadTo remaining 0 was was []
+  none_read was = (refl, refl)
+
+  pub length_read : (n : ℕ) (was now : Readers) (runs : List ℕ) → AreReadTo remaining n was now runs → length now ≡ length was
+  length_read zero was now runs h = ap length h.0
+  length_read (suc n) [] now runs h = absurd h
+  length_read (suc n) (first ∷ was) [] runs h = absurd h
+  length_read (suc n) (first ∷ was) (first_now ∷ now) [] h = absurd h
+  length_read (suc n) (first ∷ was) (first_now ∷ now) (run ∷ runs) h = ap suc (length_read n was now runs h.1)
+
+  -- the next one is as it was
+  pub next_is : (n : ℕ) (was now : Readers) (runs : List ℕ) (d : PartReader R) → AreReadTo remaining n was now runs → get_or now n d ≡ get_or was n d
+  next_is zero was now runs d h = ap (λ (xs : Readers). get_or xs 0 d) h.0
+  next_is (suc n) [] now runs d h = absurd h
+  next_is (suc n) (first ∷ was) [] runs d h = absurd h
+  next_is (suc n) (first ∷ was) (first_now ∷ now) [] d h = absurd h
+  next_is (suc n) (first ∷ was) (first_now ∷ now) (run ∷ runs) d h = next_is n was now runs d h.1
+
+  begins : (was now : Readers) (runs : List ℕ) (x d : PartReader R) (r : ℕ) → now ≡ was → runs ≡ [] → 0 < length was → IsRead remaining (get_or was 0 d) x r → AreReadTo remaining 1 was (set now 0 x) (runs ++ r ∷ [])
+  begins [] now runs x d r same none lt h = absurd (omega arith)
+  begins (first ∷ was) now runs x d r same none lt h = rw (same, none) (h, (refl, refl))
+
+  -- one more is read
+  pub one_read : (n : ℕ) (was now : Readers) (runs : List ℕ) (x d : PartReader R) (r : ℕ) → AreReadTo remaining n was now runs → n < length was → IsRead remaining (get_or was n d) x r → AreReadTo remaining (suc n) was (set now n x) (runs ++ r ∷ [])
+  one_read zero was now runs x d r h lt is = begins was now runs x d r h.0 h.1 lt is
+  one_read (suc n) [] now runs x d r h lt is = absurd h
+  one_read (suc n) (first ∷ was) [] runs x d r h lt is = absurd h
+  one_read (suc n) (first ∷ was) (first_now ∷ now) [] x d r h lt is = absurd h
+  one_read (suc n) (first ∷ was) (first_now ∷ now) (run ∷ runs) x d r h lt is = (h.0, one_read n was now runs x d r h.1 (omega (arith, lt)) is)
+
+  -- the same of one that is read from where it stands
+  pub one_read_now : (n : ℕ) (was now : Readers) (runs : List ℕ) (x d : PartReader R) (r : ℕ) → AreReadTo remaining n was now runs → n < length was → IsRead remaining (get_or now n d) x r → AreReadTo remaining (suc n) was (set now n x) (runs ++ r ∷ [])
+  one_read_now n was now runs x d r h lt is = one_read n was now runs x d r h lt (subst (λ (o : PartReader R). IsRead remaining o x r) (next_is n was now runs d h) is)
+
+  -- what was read stands as it stood
+  pub still : (n : ℕ) (was now : Readers) (runs : List ℕ) → AreReadTo remaining n was now runs → map standing_of now ≡ map standing_of was
+  still zero was now runs h = ap (map standing_of) h.0
+  still (suc n) [] now runs h = absurd h
+  still (suc n) (first ∷ was) [] runs h = absurd h
+  still (suc n) (first ∷ was) (first_now ∷ now) [] h = absurd h
+  still (suc n) (first ∷ was) (first_now ∷ now) (run ∷ runs) h = λ i. h.0.stands i ∷ still n was now runs h.1 i
+
+  -- ---- faults
+
+  abbrev Known : Type 0
+  Known = List (Result (ℕ × List Range) Refusal)
+
+  -- a header that was read is the known one
+  told_is : (was now : PartReader R) (run : ℕ) (known : Result (ℕ × List Range) Refusal) → IsRead remaining was now run → header_of remaining was ≡ Some known → known ≡ Ok (run, ranges_read now)
+  told_is was now run known h is =
+      let stays : header_of remaining now ≡ Some known = subst (λ (x : Option (Result (ℕ × List Range) Refusal)). StaysKnown x (header_of remaining now)) is h.header in
+      let both : Some known ≡ Some (Ok (run, ranges_read now)) = sym stays ∙ h.told in
+      cc
+
+  abbrev SomeOf : Known → List (Option (Result (ℕ × List Range) Refusal))
+  SomeOf headers = map (λ (h : Result (ℕ × List Range) Refusal). Some h) headers
+
+  -- where the next one refuses, the headers of all are refused so
+  refused_there : (n : ℕ) (was now : Readers) (runs : List ℕ) (d : PartReader R) (why : Refusal) → AreReadTo remaining n was now runs → n < length was → header_of remaining (get_or was n d) ≡ Some (Err why)
+      → (headers : Known) → map (header_of remaining) was ≡ SomeOf headers → all_headers headers ≡ Err why
+  refused_there zero [] now runs d why h lt err headers same = absurd (omega arith)
+  refused_there zero (first ∷ was) now runs d why h lt err [] same = absurd cc
+  refused_there zero (first ∷ was) now runs d why h lt err (header ∷ headers) same = let is : header ≡ Err why = cc in rw is refl
+  refused_there (suc n) [] now runs d why h lt err headers same = absurd h
+  refused_there (suc n) (first ∷ was) [] runs d why h lt err headers same = absurd h
+  refused_there (suc n) (first ∷ was) (first_now ∷ now) [] d why h lt err headers same = absurd h
+  refused_there (suc n) (first ∷ was) (first_now ∷ now) (run ∷ runs) d why h lt err [] same = absurd cc
+  refused_there (suc n) (first ∷ was) (first_now ∷ now) (run ∷ runs) d why h lt err (header ∷ headers) same =
+      let known : header_of remaining first ≡ Some header = cc in
+      let others : map (header_of remaining) was ≡ SomeOf headers = cc in
+      let is = told_is first first_now run header h.0 known in
+      let rest = refused_there n was now runs d why h.1 (omega (arith, lt)) err headers others in
+      rw (is, rest) refl
+
+  known_there : (n : ℕ) (was : Readers) (d : PartReader R) (headers : Known) → n < length was → map (header_of remaining) was ≡ SomeOf headers → (known : Result (ℕ × List Range) Refusal) × (header_of remaining (get_or was n d) ≡ Some known)
+  known_there n [] d headers lt same = absurd (omega arith)
+  known_there n (first ∷ was) d [] lt same = absurd cc
+  known_there zero (first ∷ was) d (header ∷ headers) lt same = let is : header_of remaining first ≡ Some header = cc in (header, is)
+  known_there (suc n) (first ∷ was) d (header ∷ headers) lt same = let others : map (header_of remaining) was ≡ SomeOf headers = cc in known_there n was d headers (omega (arith, lt)) others
+
+  -- why the next one refuses
+  pub next_refused : (n : ℕ) (was now : Readers) (runs : List ℕ) (d x : PartReader R) (why : Refusal) → AreReadTo remaining n was now runs → n < length was
+      → AnswersAs {X = ℕ} (λ run. (run, ranges_read x)) (header_of remaining (get_or now n d)) (Err why) → IsHeadersFault (map (header_of remaining) was) why
+  next_refused n was now runs d x why h lt answers = by (header_of remaining (get_or was n d)) refl (subst (λ (o : PartReader R). AnswersAs {X = ℕ} (λ run. (run, ranges_read x)) (header_of remaining o) (Err why)) (next_is n was now runs d h) answers)
+    where
+      by : (known : Option (Result (ℕ × List Range) Refusal)) → header_of remaining (get_or was n d) ≡ known → AnswersAs {X = ℕ} (λ run. (run, ranges_read x)) known (Err why) → IsHeadersFault (map (header_of remaining) was) why
+      by None is answers = inr (inr (λ headers same. let there = known_there n was d headers lt same in let bad : None ≡ Some there.0 = sym is ∙ there.1 in absurd cc))
+      by (Some known) is (inl err) = inr (inr (λ headers same. ap headers_fault (refused_there n was now runs d why h lt (is ∙ ap (λ (k : Result (ℕ × List Range) Refusal). Some k) err) headers same)))
+      by (Some known) is (inr (inl memory)) = inl memory
+      by (Some known) is (inr (inr device)) = inr (inl device)
+
+  -- how all stand then
+  pub next_stands : (n : ℕ) (was now : Readers) (runs : List ℕ) (d x : PartReader R) (why : Refusal) → AreReadTo remaining n was now runs → n < length was
+      → Stands {X = ℕ} (standing_of (get_or now n d)) (standing_of x) (Err why) → AllStand {X = List ℕ} (map standing_of was) (map standing_of (set now n x)) (Err why)
+  next_stands n was now runs d x why h lt stands =
+      let many : length now ≡ length was = length_read n was now runs h in
+      let within : n < length (map standing_of was) = omega (arith, length-map was standing_of) in
+      let is : map standing_of (set now n x) ≡ set (map standing_of was) n (standing_of x) = map-set standing_of now n x ∙ ap (λ (ss : List Standing). set ss n (standing_of x)) (still n was now runs h) in
+      let at : standing_at (map standing_of was) n ≡ standing_of (get_or now n d) = get_or-map standing_of was n d (record { refused = None; failures = 0 }) lt ∙ ap standing_of (sym (next_is n was now runs d h)) in
+      subst (λ (ss : List Standing). AllStand {X = List ℕ} (map standing_of was) ss (Err why)) (sym is)
+      (one_refused ℕ (List ℕ) (map standing_of was) n (standing_of x) within why (subst (λ (s : Standing). Stands {X = ℕ} s (standing_of x) (Err why)) (sym at) stands))
+
+  -- ---- all were read
+
+  abbrev AreRead : Readers → Readers → List ℕ → Type 0
+  AreRead was now runs = AreReadTo remaining (length was) was now runs
+
+  pub stay : (was now : Readers) (runs : List ℕ) → AreRead was now runs → StayKnown remaining was now
+  stay [] [] runs h = tt
+  stay [] (x ∷ now) runs h = absurd (let bad = h.0 in cc)
+  stay (first ∷ was) [] runs h = absurd h
+  stay (first ∷ was) (first_now ∷ now) [] h = absurd h
+  stay (first ∷ was) (first_now ∷ now) (run ∷ runs) h = (h.0.header, h.0.coming, stay was now runs h.1)
+
+  pub are_apart : (was now : Readers) (runs : List ℕ) → AreRead was now runs → AreApart now
+  are_apart [] [] runs h = All-nil (λ (input : PartReader R). AreRanges (ranges_read input))
+  are_apart [] (x ∷ now) runs h = absurd (let bad = h.0 in cc)
+  are_apart (first ∷ was) [] runs h = absurd h
+  are_apart (first ∷ was) (first_now ∷ now) [] h = absurd h
+  are_apart (first ∷ was) (first_now ∷ now) (run ∷ runs) h = All-cons (λ (input : PartReader R). AreRanges (ranges_read input)) first_now now h.0.apart (are_apart was now runs h.1)
+
+  -- their headers
+  abbrev headers_of : Readers → List ℕ → List (ℕ × List Range)
+  headers_of [] runs = []
+  headers_of (input ∷ inputs) [] = []
+  headers_of (input ∷ inputs) (run ∷ runs) = (run, ranges_read input) ∷ headers_of inputs runs
+
+  are_told : (was now : Readers) (runs : List ℕ) → AreRead was now runs → map (header_of remaining) now ≡ map (λ header. Some (Ok header)) (headers_of now runs)
+  are_told [] [] runs h = refl
+  are_told [] (x ∷ now) runs h = absurd (let bad = h.0 in cc)
+  are_told (first ∷ was) [] runs h = absurd h
+  are_told (first ∷ was) (first_now ∷ now) [] h = absurd h
+  are_told (first ∷ was) (first_now ∷ now) (run ∷ runs) h = λ i. h.0.told i ∷ are_told was now runs h.1 i
+
+  many_headers : (was now : Readers) (runs : List ℕ) → AreRead was now runs → length (headers_of now runs) ≡ length was
+  many_headers [] [] runs h = refl
+  many_headers [] (x ∷ now) runs h = absurd (let bad = h.0 in cc)
+  many_headers (first ∷ was) [] runs h = absurd h
+  many_headers (first ∷ was) (first_now ∷ now) [] h = absurd h
+  many_headers (first ∷ was) (first_now ∷ now) (run ∷ runs) h = ap suc (many_headers was now runs h.1)
+
+  pub many_runs : (was now : Readers) (runs : List ℕ) → AreRead was now runs → length runs ≡ length was
+  many_runs [] now runs h = ap length h.1
+  many_runs (first ∷ was) [] runs h = absurd h
+  many_runs (first ∷ was) (first_now ∷ now) [] h = absurd h
+  many_runs (first ∷ was) (first_now ∷ now) (run ∷ runs) h = ap suc (many_runs was now runs h.1)
+
+  all_points : (was now : Readers) (runs : List ℕ) → AreRead was now runs → points_read now ≡ points_of_all (headers_of now runs)
+  all_points [] [] runs h = refl
+  all_points [] (x ∷ now) runs h = absurd (let bad = h.0 in cc)
+  all_points (first ∷ was) [] runs h = absurd h
+  all_points (first ∷ was) (first_now ∷ now) [] h = absurd h
+  all_points (first ∷ was) (first_now ∷ now) (run ∷ runs) h = ap (set_of.union (points_of (ranges_read first_now))) (all_points was now runs h.1)
+
+  runs_back : (was now : Readers) (runs : List ℕ) → AreRead was now runs → map (λ (header : ℕ × List Range). header.0) (headers_of now runs) ≡ runs
+  runs_back [] [] runs h = sym h.1
+  runs_back [] (x ∷ now) runs h = absurd (let bad = h.0 in cc)
+  runs_back (first ∷ was) [] runs h = absurd h
+  runs_back (first ∷ was) (first_now ∷ now) [] h = absurd h
+  runs_back (first ∷ was) (first_now ∷ now) (run ∷ runs) h = ap (λ (rs : List ℕ). run ∷ rs) (runs_back was now runs h.1)
+
+  -- what is known of the headers before is what was read
+  all_are : (was now : Readers) (runs : List ℕ) → AreRead was now runs → (headers : Known) → map (header_of remaining) was ≡ SomeOf headers → all_headers headers ≡ Ok (headers_of now runs)
+  all_are [] [] runs h [] same = refl
+  all_are [] [] runs h (header ∷ headers) same = absurd cc
+  all_are [] (x ∷ now) runs h headers same = absurd (let bad = h.0 in cc)
+  all_are (first ∷ was) [] runs h headers same = absurd h
+  all_are (first ∷ was) (first_now ∷ now) [] h headers same = absurd h
+  all_are (first ∷ was) (first_now ∷ now) (run ∷ runs) h [] same = absurd cc
+  all_are (first ∷ was) (first_now ∷ now) (run ∷ runs) h (header ∷ headers) same =
+      let known : header_of remaining first ≡ Some header = cc in
+      let others : map (header_of remaining) was ≡ SomeOf headers = cc in
+      rw (told_is first first_now run header h.0 known, all_are was now runs h.1 headers others) refl
+
+  -- they have no one run
+  pub no_one_run : (was now : Readers) (runs : List ℕ) (why : Refusal) → AreRead was now runs → runs_fault runs ≡ Some why → IsHeadersFault (map (header_of remaining) was) why
+  no_one_run was now runs why h fault = inr (inr (λ headers same. ap headers_fault (all_are was now runs h headers same) ∙ ap runs_fault (runs_back was now runs h) ∙ fault))
+
+-- all are the first
+all_alike : (run : ℕ) (others : List ℕ) → list_any (λ other. not (other == run)) others ≡ false → AllByRecursion (λ other. other ≡ run) others
+all_alike run [] none = tt
+all_alike run (other ∷ others) none =
+    let parts = by (other == run) (list_any (λ other. not (other == run)) others) none in
+    (eqb-true other run parts.0, all_alike run others parts.1)
+  where
+    by : (t u : Bool) → (not t || u) ≡ false → (t ≡ true) × (u ≡ false)
+    by true u none = (refl, none)
+    by false u none = absurd cc
+
+first_of_all : (run : ℕ) (runs : List ℕ) → slice_get runs 0 ≡ Some run → runs_fault runs ≡ None → AllByRecursion (λ other. other ≡ run) runs
+first_of_all run [] first none = absurd cc
+first_of_all run (one ∷ others) first none = let same : one ≡ run = cc in subst (λ (r : ℕ). (one ≡ r) × AllByRecursion (λ other. other ≡ r) others) same (refl, all_alike one others (by (list_any (λ other. not (other == one)) others) none))
+  where
+    by : (t : Bool) → cond t (Some OtherRun) None ≡ None → t ≡ false
+    by true is = absurd cc
+    by false is = refl
+
+module _ {R : Type 0} (remaining : R → Option (List ℕ)) where
+  of_run : (run : ℕ) (inputs : List (PartReader R)) (runs : List ℕ) → AllByRecursion (λ other. other ≡ run) runs → AllByRecursion (λ (header : ℕ × List Range). header.0 ≡ run) (headers_of remaining inputs runs)
+  of_run run [] runs all = tt
+  of_run run (input ∷ inputs) [] all = tt
+  of_run run (input ∷ inputs) (first ∷ runs) all = (all.0, of_run run inputs runs all.1)
+
+  keep_to : (points : ℕ → Bool) (was now : List (PartReader R)) (runs : List ℕ) → AreReadTo remaining (length was) was now runs → ((p : ℕ) → IsTrue (set_of.contains (points_read now) p) → IsTrue (points p)) → AllByRecursion (λ input. reads_within input points) now
+  keep_to points [] [] runs h of = tt
+  keep_to points [] (x ∷ now) runs h of = absurd (let bad = h.0 in cc)
+  keep_to points (first ∷ was) [] runs h of = absurd h
+  keep_to points (first ∷ was) (first_now ∷ now) [] h of = absurd h
+  keep_to points (first ∷ was) (first_now ∷ now) (run ∷ runs) h of =
+      let union = λ (p : ℕ). contains-union (points_of (ranges_read first_now)) (points_read now) p in (
+        h.0.within points (λ p there. of p (union p ∙ ap (λ t. t || set_of.contains (points_read now) p) (contains-points_of (ranges_read first_now) p ∙ there))),
+        keep_to points was now runs h.1 (λ p there. of p (union p ∙ either (set_of.contains (points_of (ranges_read first_now)) p) (set_of.contains (points_read now) p) there)),
+      )
+    where
+      either : (a b : Bool) → b ≡ true → (a || b) ≡ true
+      either true b e = refl
+      either false b e = e
+
+  -- the header of all
+  pub headed : (was now : List (PartReader R)) (runs : List ℕ) (run : ℕ) (ranges : List Range) → AreReadTo remaining (length was) was now runs → slice_get runs 0 ≡ Some run → runs_fault runs ≡ None
+      → (now ≢ [] → AreRanges ranges) → points_of ranges ≡ points_read now → AreHeaded remaining run ranges now
+  headed [] now runs run ranges h first none apart points = absurd (let bad = h.1 in cc)
+  headed (one ∷ was) now runs run ranges h first none apart points =
+      let whole : List (PartReader R) = one ∷ was in
+      record {
+        headers = headers_of remaining now runs;
+        read = are_told remaining (one ∷ was) now runs h;
+        of_all = record {
+          some = let many = many_headers remaining (one ∷ was) now runs h in omega (arith, many);
+          one_run = All-from_recursion (λ (header : ℕ × List Range). header.0 ≡ run) (headers_of remaining now runs) (of_run run now runs (first_of_all run runs first none));
+          apart = apart (λ nothing. let many = length_read remaining (length (one ∷ was)) (one ∷ was) now runs h in let zero_long = ap length nothing in omega (arith, many, zero_long));
+          points = points ∙ all_points remaining (one ∷ was) now runs h;
+        };
+        within = All-from_recursion (λ input. reads_within input (set_of.contains (points_of ranges))) now
+            (keep_to (set_of.contains (points_of ranges)) (one ∷ was) now runs h (λ p there. ap (λ s. set_of.contains s p) points ∙ there));
+      }

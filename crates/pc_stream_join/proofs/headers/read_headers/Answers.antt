@@ -1,0 +1,29 @@
+use Rattle.std.proofs.Common.{◌≡◌, List, ℕ, Some, None, sym, ap, ◌∙◌}
+use Rattle.std.specs.Prelude.{slice_get}
+use Rattle.std.proofs.lemmas.Result.{err_from_is_err_and}
+use Rattle.pc_stream_join.specs.Headers.{runs_fault}
+use Rattle.pc_stream_join.proofs.HeaderLaws.{are_apart, headed, no_one_run, stay}
+use Rattle.pc_stream_join.proofs.headers.read_headers.Goals as goal
+
+pub returns-in_err-run-clause-cause : goal.returns-in_err-run-clause-cause
+returns-in_err-run-clause-cause g c =
+    let p = err_from_is_err_and c.from_residual-in_err-run.result c.from_residual-in_err-run.ensures.1 in
+    let fault : runs_fault c.in_ok-runs.runs.items ≡ Some c.in_err-run.field-0.0 = ap runs_fault (sym c.deref.ensures.value) ∙ c.in_err-run.ensures.fault in
+    rw (p.1, p.2) (no_one_run g.R.Read.remaining c.args.inputs.now c.read_runs.new.inputs c.in_ok-runs.runs.items c.in_err-run.field-0.0 c.in_ok-runs.ensures.read fault)
+
+pub returns-in_err-runs-clause-stand : goal.returns-in_err-runs-clause-stand
+returns-in_err-runs-clause-stand g c =
+    let p = err_from_is_err_and c.from_residual.result c.from_residual.ensures.1 in
+    rw (p.1, p.2) c.in_err-runs.ensures.stand
+
+pub unite_all-requires : goal.unite_all-requires
+unite_all-requires g c = are_apart g.R.Read.remaining c.args.inputs.now c.read_runs.new.inputs c.in_ok-runs.runs.items c.in_ok-runs.ensures.read
+
+pub returns-clause-headed : goal.returns-clause-headed
+returns-clause-headed g c =
+    let first : slice_get c.in_ok-runs.runs.items 0 ≡ Some c.in_ok-run.run' = ap (λ (runs : List ℕ). slice_get runs 0) (sym c.deref.ensures.value) ∙ c.in_ok-run.ensures.one.0 in
+    let none : runs_fault c.in_ok-runs.runs.items ≡ None = ap runs_fault (sym c.deref.ensures.value) ∙ c.in_ok-run.ensures.one.1 in
+    headed g.R.Read.remaining c.args.inputs.now c.read_runs.new.inputs c.in_ok-runs.runs.items c.in_ok-run.run' c.in_ok-ranges.ranges.items c.in_ok-runs.ensures.read first none c.in_ok-ranges.ensures.apart c.in_ok-ranges.ensures.points
+
+pub returns-clause-stays : goal.returns-clause-stays
+returns-clause-stays g c = stay g.R.Read.remaining c.args.inputs.now c.read_runs.new.inputs c.in_ok-runs.runs.items c.in_ok-runs.ensures.read

@@ -1,0 +1,4 @@
+pub mod Headers
+pub mod Joining
+pub mod Steps
+pub mod Writing
