@@ -71,13 +71,12 @@ class Part:
         return self.ranges[0][1] if len(self.ranges) == 1 and self.ranges[0][0] == 1 else 0
 
     def text(self):
-        text = b"PCALCP01" + self.run.to_bytes(8, "big") + len(self.ranges).to_bytes(4, "big")
-        for low, high in self.ranges:
-            text += low.to_bytes(4, "big") + high.to_bytes(4, "big")
+        pieces = [b"PCALCP01", self.run.to_bytes(8, "big"), len(self.ranges).to_bytes(4, "big")]
+        pieces += [low.to_bytes(4, "big") + high.to_bytes(4, "big") for low, high in self.ranges]
         for key in sorted(self.entries):
             point, value = self.entries[key]
-            text += len(key).to_bytes(2, "big") + key + point.to_bytes(4, "big") + content_text(value)
-        return text + bytes(2) + len(self.entries).to_bytes(4, "big")
+            pieces += [len(key).to_bytes(2, "big"), key, point.to_bytes(4, "big"), content_text(value)]
+        return b"".join(pieces) + bytes(2) + len(self.entries).to_bytes(4, "big")
 
 
 class Base:
@@ -144,9 +143,25 @@ def read_ranges(fields):
 
 
 def read_part(text):
-    fields = Fields(text)
-    fields.magic(b"PCALCP01")
-    part = Part(fields.number(8), read_ranges(fields), {})
+    part, fault = read_as_far(text)
+    if fault:
+        raise fault
+    return part
+
+
+def read_as_far(text):
+    """The part that a text holds as far as it can be read, None where that isn't so of its header, and the fault, where there is one."""
+    fields, part = Fields(text), None
+    try:
+        fields.magic(b"PCALCP01")
+        part = Part(fields.number(8), read_ranges(fields), {})
+        read_entries(fields, part)
+    except Refused as fault:
+        return part, fault
+    return part, None
+
+
+def read_entries(fields, part):
     last = None
     while True:
         size = fields.number(2)
@@ -165,7 +180,6 @@ def read_part(text):
     if fields.number(4) != len(part.entries):
         raise Refused("BadLength")
     fields.end()
-    return part
 
 
 def read_base(text):
@@ -449,6 +463,23 @@ def joined(texts):
     return part_lines(part) + ["text " + digits(part.text())]
 
 
+def streamed(texts):
+    """What is written while the texts are read: the join, or why not; and what goes out before that is read as Short."""
+    read = [read_as_far(text) for text in texts]
+    try:
+        for part, fault in read:
+            if part is None:
+                raise fault
+        if len({part.run for part, _ in read}) > 1:
+            raise Refused("OtherRun")
+        for _, fault in read:
+            if fault:
+                raise fault
+        return joined(texts)
+    except Refused as fault:
+        return ["refused " + fault.name, "refused Short"]
+
+
 def laid(texts):
     base = read_base(texts[0])
     for text in texts[1:]:
@@ -475,7 +506,7 @@ def verb_lines(kind, verb, texts):
         return [line for at in range(len(text)) for line in spans(kind, with_byte(text, at), "%d " % at)]
     if verb == "longer":
         return spans(kind, with_byte(text + b"\0", len(text)), "%d " % len(text))
-    return told({"join": joined, "lay": laid}[verb], texts)
+    return told({"join": joined, "stream": streamed, "lay": laid}[verb], texts)
 
 
 def print_files(path):

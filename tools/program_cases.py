@@ -38,6 +38,8 @@ class Case(typing.NamedTuple):
     threads: typing.Optional[int] = None
     # how many bytes of memory it may have
     memory: typing.Optional[int] = None
+    # how many files it may have open
+    open_files: typing.Optional[int] = None
     # where the output goes, if not to the caller
     output: typing.Optional[str] = None
     # which of the descriptors 0, 1 and 2 are closed
@@ -294,7 +296,7 @@ def collapse_usage_cases(folder):
     yield Case("no file to write", ("collapse",), 2, err=[b"  <OUT>\n  <IN>..."])
     told = b"pcalc: in.pcp: an input has this name\n"
     yield Case("a file to write that is an input", ("collapse", "in.pcp", "none.pcp", "in.pcp"), 2, err=told, files={"in.pcp": PART})
-    options = [b"<OUT>", b"<IN>...", b"--collapsers <N>", b"How many threads join the points' files, 1 to 64 [default: 2]", FAULTS]
+    options = [b"<OUT>", b"<IN>...", b"--collapsers <N>", b"Is checked alone, 1 to 64: one thread joins the files as it reads them [default: 2]", FAULTS]
     yield Case("collapse --help", ("collapse", "--help"), 0, parts=options)
 
 
@@ -330,6 +332,29 @@ def collapse_cases(folder):
         joined = part if joined is None else plain_files.join(joined, part)
     told = b"points 1-64 entries %d\n" % len(joined.entries)
     yield Case("64 files of 1,000 entries", ("collapse", "many.pcp", *names), 0, told, files={"many.pcp": joined.text()})
+    yield from wide_cases(folder)
+
+
+def wide_cases(folder):
+    """More inputs than a process may have open, and inputs that memory has no room for."""
+    for number, most in ((512, 600), (2000, 600)):
+        names, entries = [], {}
+        for point in range(1, number + 1):
+            part = plain_files.Part(1, [(point, point)], {b"key%05d" % (some * number + point): (point, b"%d" % point) for some in range(10)})
+            entries.update(part.entries)
+            names.append(f"few/{number}/{point}.pcp")
+            written(folder, names[-1], part.text())
+        joined = plain_files.Part(1, [(1, number)], entries).text()
+        told = b"points 1-%d entries %d\n" % (number, len(entries))
+        yield Case(f"{number} files where {most} may be open", ("collapse", "few.pcp", *names), 0, told, files={"few.pcp": joined}, open_files=most)
+    names, entries = [], {}
+    for point in (1, 2, 3):
+        part = plain_files.Part(1, [(point, point)], {b"key%04d" % (3 * some + point): (point, b"v" * 65_535) for some in range(350)})
+        entries.update(part.entries)
+        names.append(f"great{point}.pcp")
+        written(folder, names[-1], part.text())
+    joined = plain_files.Part(1, [(1, 3)], entries).text()
+    yield Case("inputs that memory has no room for", ("collapse", "great.pcp", *names), 0, b"points 1-3 entries 1050\n", files={"great.pcp": joined}, memory=LITTLE)
 
 
 def pipe_cases(folder):
@@ -355,7 +380,7 @@ def pipe_cases(folder):
         yield Case("two pipes, of which the first is longer than it holds", ("collapse", "piped.pcp", "first.pcp", "second.pcp"), 0, b"points 1,4 entries 4\n", files={"piped.pcp": joined})
     pipe = piped(folder, "cut_pipe.pcp")
     with beside(lambda: feed(pipe, three[:-1])):
-        yield Case("a pipe that is cut off", ("collapse", "lost.pcp", "cut_pipe.pcp"), 1, err=b"pcalc: lost.pcp: Short\n", files={"lost.pcp": None})
+        yield Case("a pipe that is cut off", ("collapse", "short.pcp", "cut_pipe.pcp"), 1, err=b"pcalc: short.pcp: Short\n", files={"short.pcp": b""})
     script, workload = piped(folder, "pipe.pcs"), piped(folder, "pipe.pcw")
     with beside(lambda: feed(script, b"begin 1\n")):
         yield Case("a script that is a pipe", ("step", "pipe.pcs"), 0, b"begun 1\n")
@@ -417,7 +442,8 @@ def collapse_fault_cases(folder):
     def fault(name, words, told, files):
         return Case(name, ("collapse", *words), 1, err=told, files=files)
 
-    lost = {"lost.pcp": None}
+    # No file is made before the headers of all inputs are read; from then on a fault leaves one that is Short.
+    lost, begun = {"lost.pcp": None}, {"begun.pcp": b""}
     for name, part in POINTS.items():
         written(folder, name, part.text())
     written(folder, "run.pcp", plain_files.Part(2, [(1, 1)], {}).text())
@@ -425,13 +451,18 @@ def collapse_fault_cases(folder):
     written(folder, "cut.pcp", ALL[:-1])
     written(folder, "more.pcp", ALL + b"\0")
     yield fault("another run", ("lost.pcp", "one.pcp", "run.pcp"), b"pcalc: lost.pcp: OtherRun\n", lost)
-    yield fault("files that differ", ("lost.pcp", "one.pcp", "clash.pcp"), b"pcalc: lost.pcp: Conflict\n", lost)
-    yield fault("a file that is cut off", ("lost.pcp", "one.pcp", "cut.pcp", "more.pcp"), b"pcalc: lost.pcp: Short\n", lost)
+    yield fault("files that differ", ("begun.pcp", "one.pcp", "clash.pcp"), b"pcalc: begun.pcp: Conflict\n", begun)
+    yield fault("a file that is cut off", ("begun.pcp", "one.pcp", "cut.pcp", "more.pcp"), b"pcalc: begun.pcp: Short\n", begun)
+    yield fault("a longer file, and one that is cut off", ("begun.pcp", "one.pcp", "more.pcp", "cut.pcp"), b"pcalc: begun.pcp: Trailing\n", begun)
     yield fault("a file that isn't there", ("lost.pcp", "one.pcp", "none.pcp"), b"pcalc: none.pcp: NoFile\n", lost)
-    yield fault("a file that isn't there, behind a longer one", ("lost.pcp", "more.pcp", "none.pcp"), b"pcalc: lost.pcp: Trailing\n", lost)
+    yield fault("a file that isn't there, behind a longer one", ("lost.pcp", "more.pcp", "none.pcp"), b"pcalc: none.pcp: NoFile\n", lost)
+    written(folder, "magic.pcp", b"PCALCP02" + ALL[8:])
+    yield fault("a file of another kind, behind a longer one", ("lost.pcp", "more.pcp", "magic.pcp"), b"pcalc: lost.pcp: BadMagic\n", lost)
+    yield fault("a file of another kind, before one of another run", ("lost.pcp", "one.pcp", "run.pcp", "magic.pcp"), b"pcalc: lost.pcp: BadMagic\n", lost)
     yield fault("a file that isn't there, before a longer one", ("lost.pcp", "none.pcp", "more.pcp"), b"pcalc: none.pcp: NoFile\n", lost)
     written(folder, "kept.pcp", b"as it was")
     yield fault("a refusal where the file stands", ("kept.pcp", "one.pcp", "run.pcp"), b"pcalc: kept.pcp: OtherRun\n", {"kept.pcp": b"as it was"})
+    yield fault("a later refusal where the file stands", ("kept.pcp", "one.pcp", "clash.pcp"), b"pcalc: kept.pcp: Conflict\n", {"kept.pcp": b""})
     os.makedirs(os.path.join(folder, "folder.pcp"))
     yield fault("an input that is a folder", ("lost.pcp", "one.pcp", "folder.pcp"), b"pcalc: lost.pcp: Device\n", lost)
     yield fault("a file to write that is a folder", ("folder.pcp", "one.pcp"), b"pcalc: folder.pcp: Device\n", {})
@@ -439,8 +470,6 @@ def collapse_fault_cases(folder):
     yield fault("a file to write on a full device", (FULL, "one.pcp"), b"pcalc: /dev/full: Device\n", {})
     os.chmod(written(folder, "closed.pcp", ALL), 0)
     yield Case("an input without permission", ("collapse", "lost.pcp", "one.pcp", "closed.pcp"), 1, err=b"pcalc: closed.pcp: Device\n", is_other_user=True, files=lost)
-    sparse(folder, "large.pcp", MANY)
-    yield Case("an input that memory has no room for", ("collapse", "lost.pcp", "large.pcp"), 1, err=b"pcalc: lost.pcp: OutOfMemory\n", memory=LITTLE, files=lost)
 
 
 def cases(folder):

@@ -107,7 +107,7 @@ class Command:
         """Whether it has ended as it is to."""
         if status == 0:
             return printed in self.printed and not told and is_written
-        return status == 1 and not printed and FAULT.fullmatch(told) is not None
+        return status == 1 and not printed and FAULT.fullmatch(told) is not None and not (is_written and self.output[1])
 
 
 PARTS = {f"{point}.pcp": plain_files.Part(1, [(point, point)], {b"a key of many letters": (point, b"%d" % point), b"b": (point, None)}) for point in (1, 2, 3)}

@@ -194,8 +194,17 @@ def clashes(parts):
     return is_plain, is_any
 
 
+def left_at(path):
+    """What a file is refused with as a part, or that it is whole; None where there is no file."""
+    if not os.path.exists(path):
+        return None
+    with open(path, "rb") as it:
+        _, fault = plain_files.read_as_far(it.read())
+    return fault.name if fault else "whole"
+
+
 class Collapses:
-    """Pieces are the texts of the inputs; the setting is how many threads join them."""
+    """Pieces are the texts of the inputs; the setting is a number of threads, which changes nothing."""
 
     name = "collapses"
 
@@ -215,19 +224,20 @@ class Collapses:
         return chance.randint(1, 5), texts
 
     def wanted(self, texts):
-        """What may be told: the name of a refusal, or a part."""
-        try:
-            parts = [plain_files.read_part(text) for text in texts]
-        except plain_files.Refused as fault:
-            return [fault.name]
-        is_plain, is_any = clashes(parts)
+        """What may be told: a part, or the name of a refusal, with whether a file was made, which then is Short."""
+        read = [plain_files.read_as_far(text) for text in texts]
+        for part, fault in read:
+            if part is None:
+                return [(fault.name, False)]
+        parts, faults = [part for part, _ in read], [fault for _, fault in read if fault]
         if len({part.run for part in parts}) > 1:
-            return ["OtherRun"] + ["Conflict"] * is_any
-        allowed = ["Conflict"] * is_any
-        if not is_plain:
+            return [("OtherRun", False)]
+        is_plain, is_any = clashes(parts)
+        allowed = [(fault.name, True) for fault in faults] + [("Conflict", True)] * is_any
+        if not is_plain and not faults:
             latest = collections.ChainMap(*[{(entry[0], key): entry for key, entry in part.entries.items()} for part in parts])
             entries = {key: latest[place, key] for place, key in sorted(latest)}
-            allowed.append(plain_files.Part(parts[0].run, plain_files.ranges_of(set().union(*map(plain_files.points_of, parts))), entries))
+            allowed.append((plain_files.Part(parts[0].run, plain_files.ranges_of(set().union(*map(plain_files.points_of, parts))), entries), True))
         return allowed
 
     def differences(self, folder, threads, texts):
@@ -238,16 +248,16 @@ class Collapses:
         out = os.path.join(place, "out.pcp")
         told = ran(folder, "collapse", f"--collapsers={threads}", out, *names)
         wanted = self.wanted(texts)
-        for right in wanted:
+        for right, is_made in wanted:
             if isinstance(right, str):
-                is_right = told == (1, b"", b"pcalc: %s: %s\n" % (out.encode(), right.encode())) and not os.path.exists(out)
+                is_right = told == (1, b"", b"pcalc: %s: %s\n" % (out.encode(), right.encode())) and left_at(out) == ("Short" if is_made else None)
             else:
                 line = b"points %s entries %d\n" % (plain_store.points_text(plain_files.points_of(right)), len(right.entries))
                 with open(out if os.path.exists(out) else os.devnull, "rb") as it:
                     is_right = told == (0, line, b"") and it.read() == right.text()
             if is_right:
                 return []
-        return [f"told {told}, where it may be {[it if isinstance(it, str) else it.text().hex() for it in wanted]}"]
+        return [f"told {told}, left {left_at(out)}, where it may be {[it if isinstance(it, str) else it.text().hex() for it, _ in wanted]}"]
 
     def tried(self, texts):
         return {"inputs": len(texts)}

@@ -93,12 +93,14 @@ def stored():
 
 
 def settings_of(case, folder):
-    """How a case is run: where, with how much memory, by whom, and with which streams closed."""
+    """How a case is run: where, with how much memory and how many open files, by whom, and with which streams closed."""
     settings = {"cwd": folder}
     if case.memory is not None:
         settings["preexec_fn"] = lambda: resource.setrlimit(resource.RLIMIT_AS, (case.memory, case.memory))
     if case.threads is not None:
         settings["preexec_fn"] = lambda: resource.setrlimit(resource.RLIMIT_NPROC, (1 + case.threads, 1 + case.threads))
+    if case.open_files is not None:
+        settings["preexec_fn"] = lambda: resource.setrlimit(resource.RLIMIT_NOFILE, (case.open_files, case.open_files))
     if case.closed:
         settings["preexec_fn"] = lambda: [os.close(number) for number in case.closed]
     if case.is_other_user and os.geteuid() == 0:

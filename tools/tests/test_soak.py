@@ -31,16 +31,24 @@ def recover(place):
 
 
 def collapse(option, out, *names):
+    read = []
+    for name in names:
+        with open(name, "rb") as it:
+            read.append(plain_files.read_as_far(it.read()))
     try:
-        parts = []
-        for name in names:
-            with open(name, "rb") as it:
-                parts.append(plain_files.read_part(it.read()))
-        joined = plain_files.all_joined(parts)
+        for part, fault in read:
+            if part is None:
+                raise fault
+        if len({part.run for part, _ in read}) > 1:
+            raise plain_files.Refused("OtherRun")
+        with open(out, "wb") as it:
+            for _, fault in read:
+                if fault:
+                    raise fault
+            joined = plain_files.all_joined([part for part, _ in read])
+            it.write(joined.text())
     except plain_files.Refused as fault:
         return 1, b"", b"pcalc: %s: %s\n" % (out.encode(), fault.name.encode())
-    with open(out, "wb") as it:
-        it.write(joined.text())
     return 0, b"points %s entries %d\n" % (plain_store.points_text(plain_files.points_of(joined)), len(joined.entries)), b""
 
 

@@ -1,1 +1,2 @@
 pub mod Collapses
+pub mod Inputs

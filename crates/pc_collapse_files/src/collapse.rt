@@ -1,21 +1,16 @@
 //! A collapse of part files, from their readers to the status.
-ghost use Rattle.std.specs.Prelude.{◌≡◌, ◌⊎◌, None, Some, IfOk, IfErr, OnOk, MatchBool};
+ghost use Rattle.std.specs.Prelude.{◌≡◌, ◌⊎◌, None, Some, IfOk, IfErr, MatchBool};
 ghost use Rattle.std.specs.declared.result.Result.{Result};
 ghost use Rattle.pc_types.specs.declared.refusal.Refusal.{Refusal};
 ghost use Rattle.pc_types.specs.Tallies.{Puts};
-ghost use Rattle.pc_model.specs.Files.{File};
-ghost use Rattle.pc_texts.specs.Files.{AreOpened};
-ghost use Rattle.pc_collapse_files.specs.Collapses.{IsCollapseCause, IsCollapseDone, IsCollapseFailed, IsInputFault, IsJoinOf, IsLeftByCollapse, IsTextOf, IsCollapseTold, TellsUsage, is_one_of, usage_text};
-ghost use Rattle.pc_collapse_files.specs.declared.inputs.CollapseFault.{CollapseFault};
+ghost use Rattle.pc_collapse_files.specs.Collapses.{IsCollapseCause, IsCollapseDone, IsCollapseFailed, IsLeftByCollapse, IsCollapseTold, TellsUsage, is_one_of, usage_text};
 
-use crate::inputs::{CollapseFault, Inputs, is_input, join_files};
-use crate::output::{Maker, Text, Unfinished, print, text_of, write_file};
-use pc_texts::report;
+use crate::inputs::{CollapseFault, is_input, open_inputs};
+use crate::output::{Maker, Unfinished, print, write_file};
+use pc_texts::{NamedFile, report};
 use pc_types::{Refusal, Tally};
 use std::alloc::Global;
 use std::io::{Read, Write};
-use std::sync::Wait;
-use std::thread::Threads;
 
 /// How a collapse ended: its exit status, and the file that was made, where one was, with how many of its calls failed.
 #[derive(Drop)]
@@ -24,47 +19,40 @@ pub struct EndedCollapse<F> {
     pub file: Option<Tally<F>>,
 }
 
-/// Reads the part files, joins them on as many threads as told, makes the file of this name, writes the join to it, and
-/// prints its points and how many entries it has. It gives the status
+/// Joins part files to a file that it makes, and prints the points of the join and how many entries it has. First what stands before
+/// the entries of each is read, in their order; then the file is made, and the entries are read, joined and written one after the
+/// other, with no more in memory than an entry and a piece of each file. It gives the status
 ///
 /// - 0 where all of that was done;
 /// - 2 where an input has the name of the file that is to be written: nothing is read or made, and a line on the error
 ///   writer says so;
-/// - else 1, and a line on the error writer tells of the first fault: by the name of the input that can't be opened; else by
+/// - else 1, and a line on the error writer tells of the fault: by the name of the first input that can't be opened; else by
 ///   the name of the file that is to be written, where an input can't be read or is refused, the parts can't be joined, memory
 ///   ran out, or the file can't be made or written. Of an output that fails nothing is told.
 ///
-/// No file is made before all inputs are read and joined. One that was made, and could not be written whole, has failed in a
-/// call of its own and holds what is read as `Short`.
-pub fn run_collapse<
-    R: Read + Drop,
-    F: Write + Drop,
-    M: Maker<F> + Drop,
-    W: Write,
-    E: Write,
-    H: Threads + Wait + Sync,
->(
-    rt: &H,
+/// No file is made before what stands before the entries of all inputs is read. One that was made, and could not be written whole,
+/// holds what is read as `Short`.
+pub fn run_collapse<R: Read + Drop, F: Write + Drop, M: Maker<F> + Drop, W: Write, E: Write>(
     alloc: Global,
     name: &str,
-    inputs: Inputs<R>,
+    files: Vec<NamedFile<R>>,
     maker: M,
     out: &mut Tally<W>,
     errors: &mut Tally<E>,
 ) -> EndedCollapse<F>
     ensures status { (result.status ≡ 0) ⊎ (result.status ≡ 1) ⊎ (result.status ≡ 2) }
-    ensures usage { MatchBool (is_one_of inputs.files.items name.now)
+    ensures usage { MatchBool (is_one_of files.items name.now)
         ((result.status ≡ 2) × (result.file ≡ None) × (out.new ≡ out.old) × TellsUsage E.contents errors.old errors.new name.now)
         (¬ (result.status ≡ 2)) }
-    ensures done { result.status ≡ 0 → IsCollapseDone R.remaining F.contents W.contents inputs.files.items result.file out.old out.new × (errors.new ≡ errors.old) }
-    ensures cause { result.status ≡ 1 → IsCollapseFailed R.remaining F.contents W.contents inputs.files.items result.file out.old out.new (IsCollapseTold E.contents errors.old errors.new name.now) }
+    ensures done { result.status ≡ 0 → IsCollapseDone R.remaining F.contents W.contents files.items result.file out.old out.new × (errors.new ≡ errors.old) }
+    ensures cause { result.status ≡ 1 → IsCollapseFailed R.remaining F.contents W.contents files.items result.file out.old out.new (IsCollapseTold E.contents errors.old errors.new name.now) }
 {
-    if is_input(&inputs.files, name.as_bytes()) {
+    if is_input(&files, name.as_bytes()) {
         let _ = put_usage(name, errors);
         let (status, file) = (2, None);
         return EndedCollapse { status, file };
     }
-    match collapse(rt, alloc, inputs, maker, out) {
+    match collapse(alloc, files, maker, out) {
         Ok(file) => {
             let (status, file) = (0, Some(file));
             EndedCollapse { status, file }
@@ -91,56 +79,33 @@ fn tell<E: Write>(name: &str, fault: &CollapseFault, errors: &mut Tally<E>)
         CollapseFault::Unopened(input, why) => report(input, *why, errors),
         CollapseFault::Refused(why) => report(name.as_bytes(), *why, errors),
         CollapseFault::Unmade(why) => report(name.as_bytes(), *why, errors),
+        CollapseFault::Unjoined(why) => report(name.as_bytes(), *why, errors),
         CollapseFault::Unwritten => report(name.as_bytes(), Refusal::Device, errors),
         CollapseFault::Output => Ok(()),
     };
 }
 
 // The file that was made and written.
-fn collapse<
-    R: Read + Drop,
-    F: Write + Drop,
-    M: Maker<F> + Drop,
-    W: Write,
-    H: Threads + Wait + Sync,
->(
-    rt: &H,
+fn collapse<R: Read + Drop, F: Write + Drop, M: Maker<F> + Drop, W: Write>(
     alloc: Global,
-    inputs: Inputs<R>,
+    files: Vec<NamedFile<R>>,
     maker: M,
     out: &mut Tally<W>,
 ) -> Result<Tally<F>, Unfinished<F>>
-    ensures done { IfOk result (λ file. IsCollapseDone R.remaining F.contents W.contents inputs.files.items (Some file) out.old out.new) }
-    ensures cause { IfErr result (λ unfinished. IsCollapseCause R.remaining inputs.files.items unfinished.fault) }
-    ensures left { IfErr result (λ unfinished. IsLeftByCollapse R.remaining F.contents W.contents inputs.files.items unfinished.fault unfinished.file out.old out.new) }
+    ensures done { IfOk result (λ file. IsCollapseDone R.remaining F.contents W.contents files.items (Some file) out.old out.new) }
+    ensures cause { IfErr result (λ unfinished. IsCollapseCause R.remaining files.items unfinished.fault) }
+    ensures left { IfErr result (λ unfinished. IsLeftByCollapse R.remaining F.contents W.contents files.items unfinished.fault unfinished.file out.old out.new) }
 {
-    let text = match join_text(rt, alloc, inputs) {
-        Ok(text) => text,
+    let inputs = match open_inputs(alloc, files) {
+        Ok(inputs) => inputs,
         Err(fault) => return Err(Unfinished { file: None, fault }),
     };
-    let file = write_file(maker, &text.bytes)?;
-    match print(out, text.points.as_slice(), text.entries) {
-        Ok(()) => Ok(file),
+    let written = write_file(alloc, inputs, maker)?;
+    match print(out, written.points.as_slice(), u64::from(written.entries)) {
+        Ok(()) => Ok(written.file),
         Err(fault) => {
-            let file = Some(file);
+            let file = Some(written.file);
             Err(Unfinished { file, fault })
         }
-    }
-}
-
-// The text of the join of the parts that the files hold.
-fn join_text<R: Read + Drop, H: Threads + Wait + Sync>(
-    rt: &H,
-    alloc: Global,
-    inputs: Inputs<R>,
-) -> Result<Text, CollapseFault>
-    ensures text { IfOk result (λ text. (file : File) × IsJoinOf R.remaining inputs.files.items file × IsTextOf file text) }
-    ensures opened { OnOk result (AreOpened inputs.files.items) }
-    ensures cause { IfErr result (IsInputFault R.remaining inputs.files.items) }
-{
-    let joined = join_files(rt, alloc, inputs)?;
-    match text_of(alloc, &joined) {
-        Ok(text) => Ok(text),
-        Err(why) => Err(CollapseFault::Refused(why)),
     }
 }

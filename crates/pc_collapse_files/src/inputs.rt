@@ -1,44 +1,47 @@
-//! The part files of a collapse are read and joined.
-ghost use Rattle.std.specs.Prelude.{◌≡◌, ◌≤◌, ◌++◌, ◌∷◌, [], IsOk, IfOk, IfErr, OnOk};
+//! The part files of a collapse, as readers of their parts.
+ghost use Rattle.std.specs.Prelude.{◌≡◌, ◌++◌, ◌∷◌, [], IsOk, IfOk, IfErr, OnOk, map};
 ghost use Rattle.pc_types.specs.declared.refusal.Refusal.{Refusal};
-ghost use Rattle.pc_types.specs.Fields.{Gives};
-ghost use Rattle.pc_collapse.specs.declared.limits.TheConstants.{MOST_COLLAPSERS};
-ghost use Rattle.pc_part.specs.Reading.{part_at};
+ghost use Rattle.pc_model.specs.Sets as set;
+ghost use Rattle.pc_part.specs.Parts.{points_of};
+ghost use Rattle.pc_streams.specs.Readers.{header_of};
+ghost use Rattle.pc_stream_join.specs.Headers.{AreHeaded, IsHeadersFault, StayKnown};
 ghost use Rattle.pc_texts.specs.Files.{AreOpened};
-ghost use Rattle.pc_collapse_files.specs.Collapses.{AreReadAs, IsBadPart, IsInputFault, IsJoinOf, IsReadAs, is_one_of};
+ghost use Rattle.pc_collapse_files.specs.Collapses.{IsFirstUnopened, is_one_of};
+ghost use Rattle.pc_collapse_files.specs.Inputs.{AreReadersOf, IsHeadFault, IsOpenedAs, IsReaderOf};
 ghost use Rattle.pc_collapse_files.specs.declared.inputs.CollapseFault.{CollapseFault};
 
-use pc_collapse::collapse_bag_owned;
-use pc_part::Part;
+use pc_part::{PartHeader, points_in};
+use pc_stream_join::read_headers;
+use pc_streams::PartReader;
 use pc_texts::NamedFile;
-use pc_types::{OpenGate, Refusal, Tally, read_all};
+use pc_types::{Items, Point, Refusal, Tally};
 use std::alloc::Global;
 use std::io::Read;
-use std::sync::Wait;
-use std::thread::Threads;
 
-/// What a collapse is made of: the part files, in the order in which they are read, and how many collapsers join them, 1 to
-/// 64.
-#[derive(Drop)]
-pub struct Inputs<R> {
-    pub files: Vec<NamedFile<R>>,
-    pub collapsers: u8,
-    ghost in_range: { (1 ≤ collapsers) × (collapsers ≤ MOST_COLLAPSERS) },
-}
-
-/// Why no file was written, or why it isn't told of.
+/// Why no file was written whole, or why it isn't told of.
 #[derive(Drop)]
 pub enum CollapseFault {
-    /// The part file of this name can't be opened.
+    /// The part file of this name can't be opened: no file was made.
     Unopened(Vec<u8>, Refusal),
-    /// A part file can't be read, its bytes or the join are refused, or memory ran out: no file was made.
+    /// What stands before the entries of a part file can't be read or is refused, two files are of different runs, or memory ran out: no
+    /// file was made.
     Refused(Refusal),
     /// The file that is to be written can't be made.
     Unmade(Refusal),
+    /// The entries of a part file can't be read or are refused, they can't be joined, or memory ran out, while the file was written.
+    Unjoined(Refusal),
     /// The device failed while the file was written.
     Unwritten,
     /// The output failed.
     Output,
+}
+
+// Part files whose headers are read: their readers, the header of their join, and its points.
+#[derive(Drop)]
+pub(crate) struct OpenedInputs<R> {
+    pub(crate) readers: Vec<PartReader<R>>,
+    pub(crate) header: PartHeader,
+    pub(crate) points: Items<Point>,
 }
 
 // Whether one of the files has this name.
@@ -48,68 +51,82 @@ pub(crate) fn is_input<R>(files: &[NamedFile<R>], name: &[u8]) -> bool
     files.iter().any(|file| file.name.as_slice() == name)
 }
 
-// The join of the parts that the files hold.
-pub(crate) fn join_files<R: Read + Drop, H: Threads + Wait + Sync>(
-    rt: &H,
+// The files as readers, with their headers read.
+pub(crate) fn open_inputs<R: Read + Drop>(
     alloc: Global,
-    inputs: Inputs<R>,
-) -> Result<Part, CollapseFault>
-    ensures opened { OnOk result (AreOpened inputs.files.items) }
-    ensures joined { IfOk result (IsJoinOf R.remaining inputs.files.items) }
-    ensures cause { IfErr result (IsInputFault R.remaining inputs.files.items) }
+    files: Vec<NamedFile<R>>,
+) -> Result<OpenedInputs<R>, CollapseFault>
+    ensures opened { IfOk result (IsOpenedAs R.remaining files.items) }
+    ensures cause { IfErr result (IsHeadFault R.remaining files.items) }
 {
-    let Inputs { files, collapsers } = inputs;
-    let parts = read_parts(alloc, files)?;
-    match collapse_bag_owned(rt, alloc, parts, collapsers, &OpenGate) {
-        Ok(joined) => Ok(joined),
+    let mut readers = readers_of(alloc, files)?;
+    match join_headers(alloc, &mut readers) {
+        Ok((header, points)) => Ok(OpenedInputs {
+            readers,
+            header,
+            points,
+        }),
         Err(why) => Err(CollapseFault::Refused(why)),
     }
 }
 
-// The parts, in the order of the files.
-fn read_parts<R: Read + Drop>(
+// The header of the join, and its points.
+fn join_headers<R: Read>(
     alloc: Global,
-    files: Vec<NamedFile<R>>,
-) -> Result<Vec<Part>, CollapseFault>
-    ensures opened { OnOk result (AreOpened files.items) }
-    ensures read { IfOk result (λ parts. AreReadAs R.remaining files.items parts.items) }
-    ensures cause { IfErr result (IsInputFault R.remaining files.items) }
+    readers: &mut [PartReader<R>],
+) -> Result<(PartHeader, Items<Point>), Refusal>
+    ensures headed { IfOk result (λ joined. AreHeaded R.remaining joined.0.run joined.0.ranges.items readers.new) }
+    ensures points { IfOk result (λ joined. joined.1 ≡ set.items (points_of joined.0.ranges.items)) }
+    ensures stays { OnOk result (StayKnown R.remaining readers.old readers.new) }
+    ensures cause { IfErr result (IsHeadersFault (map (header_of R.remaining) readers.old)) }
 {
-    let mut parts = Vec::new(alloc);
-    for file in files {
-        let part = read_file(alloc, file)?;
-        push_part(&mut parts, part)?;
-    }
-    Ok(parts)
+    let header = read_headers(alloc, readers)?;
+    let points = points_in(alloc, &header.ranges)?;
+    Ok((header, Items::from_vec(points)))
 }
 
-fn push_part(parts: &mut Vec<Part>, part: Part) -> Result<(), CollapseFault>
-    ensures ok { OnOk result (parts.new.items ≡ parts.old.items ++ part ∷ []) }
+// A reader for each file, in their order.
+fn readers_of<R: Read + Drop>(
+    alloc: Global,
+    files: Vec<NamedFile<R>>,
+) -> Result<Vec<PartReader<R>>, CollapseFault>
+    ensures opened { OnOk result (AreOpened files.items) }
+    ensures readers { IfOk result (λ readers. AreReadersOf R.remaining files.items readers.items) }
+    ensures cause { IfErr result (IsHeadFault R.remaining files.items) }
+{
+    let mut readers = Vec::new(alloc);
+    for file in files {
+        let reader = reader_of(alloc, file)?;
+        push_reader(&mut readers, reader)?;
+    }
+    Ok(readers)
+}
+
+fn push_reader<R: Read + Drop>(
+    readers: &mut Vec<PartReader<R>>,
+    reader: PartReader<R>,
+) -> Result<(), CollapseFault>
+    ensures ok { OnOk result (readers.new.items ≡ readers.old.items ++ reader ∷ []) }
     ensures err { IfErr result (λ fault. fault ≡ CollapseFault.Refused Refusal.OutOfMemory) }
 {
-    match parts.push(part) {
+    match readers.push(reader) {
         Ok(()) => Ok(()),
         Err(_) => Err(CollapseFault::Refused(Refusal::OutOfMemory)),
     }
 }
 
-// The part that a file holds.
-fn read_file<R: Read + Drop>(alloc: Global, file: NamedFile<R>) -> Result<Part, CollapseFault>
+// The reader of a file that was opened. It reads nothing yet.
+fn reader_of<R: Read + Drop>(
+    alloc: Global,
+    file: NamedFile<R>,
+) -> Result<PartReader<R>, CollapseFault>
     ensures opened { OnOk result (IsOk file.opened) }
-    ensures read { IfOk result (IsReadAs R.remaining file) }
-    ensures cause { IfErr result (IsBadPart R.remaining file) }
+    ensures reader { IfOk result (IsReaderOf R.remaining file) }
+    ensures cause { IfErr result (λ fault. (why : Refusal) × (fault ≡ CollapseFault.Unopened file.name why) × (file.opened ≡ Err why)) }
 {
     let NamedFile { name, opened } = file;
-    let reader = match opened {
-        Ok(reader) => reader,
-        Err(why) => return Err(CollapseFault::Unopened(name, why)),
-    };
-    let bytes = match read_all(alloc, &mut Tally::new(reader)) {
-        Ok(bytes) => bytes,
-        Err(why) => return Err(CollapseFault::Refused(why)),
-    };
-    match Part::decode(alloc, &bytes) {
-        Ok(part) => Ok(part),
-        Err(why) => Err(CollapseFault::Refused(why)),
+    match opened {
+        Ok(reader) => Ok(PartReader::new(alloc, Tally::new(reader))),
+        Err(why) => Err(CollapseFault::Unopened(name, why)),
     }
 }

@@ -6,5 +6,5 @@ mod inputs;
 mod output;
 
 pub use collapse::{EndedCollapse, run_collapse};
-pub use inputs::{CollapseFault, Inputs};
+pub use inputs::CollapseFault;
 pub use output::Maker;

@@ -1,19 +1,21 @@
 //! The joined file is made and written, and told of.
-ghost use Rattle.std.specs.Prelude.{◌≡◌, [], IfOk, IfErr, IfSome, OnOk};
+ghost use Rattle.std.specs.Prelude.{◌≡◌, List, [], IfOk, IfErr, IfSome, OnOk};
 ghost use Rattle.std.specs.Io.KnownBytes.{Appends};
 ghost use Rattle.pc_types.specs.declared.refusal.Refusal.{Refusal};
 ghost use Rattle.pc_types.specs.Counted.{HasRisen, AppendsBeginning};
 ghost use Rattle.pc_types.specs.Tallies.{inner_of, failures_of};
 ghost use Rattle.pc_texts.specs.Texts.{joined_line};
-ghost use Rattle.pc_collapse_files.specs.Collapses.{IsTextOf, IsUnwritten, IsWholeIn};
+ghost use Rattle.pc_texts.specs.declared.files.NamedFile.{NamedFile};
+ghost use Rattle.pc_stream_join.specs.Headers.{AreHeaded};
+ghost use Rattle.pc_collapse_files.specs.Inputs.{IsFaultOf, IsOpenedAs, IsUnwritten, IsWrittenOf};
 ghost use Rattle.pc_collapse_files.specs.declared.inputs.CollapseFault.{CollapseFault};
 
-use crate::inputs::CollapseFault;
-use pc_part::Part;
+use crate::inputs::{CollapseFault, OpenedInputs};
+use pc_stream_join::join_entries;
 use pc_texts::{end_output, put_joined};
 use pc_types::{Items, Point, Refusal, Tally};
 use std::alloc::Global;
-use std::io::Write;
+use std::io::{Read, Write};
 
 /// What makes the file that a collapse writes. What is written to it goes straight out: it is not flushed, since it is whole
 /// with its last byte, and a file that isn't whole must not become so behind a fault.
@@ -23,30 +25,12 @@ pub trait Maker<F: Write> {
         ensures empty { IfOk result (λ file. IfSome (F.contents file) (λ bytes. bytes ≡ [])) };
 }
 
-// A joined part as it goes out: its text, and what is printed of it.
+// A joined file that was written, and what is printed of it.
 #[derive(Drop)]
-pub(crate) struct Text {
-    pub(crate) bytes: Vec<u8>,
+pub(crate) struct WrittenFile<F> {
+    pub(crate) file: Tally<F>,
     pub(crate) points: Items<Point>,
-    pub(crate) entries: u64,
-}
-
-// The text of a part, and what is printed of it.
-pub(crate) fn text_of(alloc: Global, part: &Part) -> Result<Text, Refusal>
-    ensures text { IfOk result (IsTextOf part.now) }
-    ensures memory { IfErr result (λ why. why ≡ Refusal.OutOfMemory) }
-{
-    let points = part.points(alloc)?;
-    let entries = part.entries().len() as u64;
-    let mut out = Tally::new(Vec::new(alloc));
-    match part.encode(&mut out) {
-        Ok(()) => Ok(Text {
-            bytes: out.into_inner(),
-            points,
-            entries,
-        }),
-        Err(_) => Err(Refusal::OutOfMemory),
-    }
+    pub(crate) entries: u32,
 }
 
 // A collapse that ended by a fault, with the file where it was made.
@@ -56,13 +40,15 @@ pub(crate) struct Unfinished<F> {
     pub(crate) fault: CollapseFault,
 }
 
-// Makes the file and writes the bytes to it.
-pub(crate) fn write_file<F: Write + Drop, M: Maker<F>>(
+// Makes the file and writes the join of the inputs to it.
+pub(crate) fn write_file<R: Read + Drop, F: Write + Drop, M: Maker<F>>(
+    alloc: Global,
+    inputs: OpenedInputs<R>,
     maker: M,
-    bytes: &[u8],
-) -> Result<Tally<F>, Unfinished<F>>
-    ensures written { IfOk result (IsWholeIn F.contents bytes.now) }
-    ensures unwritten { IfErr result (λ unfinished. IsUnwritten F.contents bytes.now unfinished.file unfinished.fault) }
+) -> Result<WrittenFile<F>, Unfinished<F>>
+    requires headed { AreHeaded R.remaining inputs.header.run inputs.header.ranges.items inputs.readers.items }
+    ensures written { IfOk result (λ written. (files : List (NamedFile R)) → IsOpenedAs R.remaining files inputs → IsWrittenOf R.remaining F.contents files written) }
+    ensures unwritten { IfErr result (λ unfinished. (files : List (NamedFile R)) → IsOpenedAs R.remaining files inputs → IsUnwritten R.remaining F.contents files unfinished.file unfinished.fault) }
 {
     let file = match maker.make() {
         Ok(file) => file,
@@ -71,14 +57,34 @@ pub(crate) fn write_file<F: Write + Drop, M: Maker<F>>(
             return Err(Unfinished { file, fault });
         }
     };
-    let mut file = Tally::new(file);
-    let put = file.put(bytes);
-    match put {
-        Ok(()) => Ok(file),
-        Err(_) => {
-            let (file, fault) = (Some(file), CollapseFault::Unwritten);
+    let OpenedInputs {
+        readers,
+        header,
+        points,
+    } = inputs;
+    let (mut readers, mut file) = (readers, Tally::new(file));
+    match join_entries(alloc, &header, &mut readers, &mut file) {
+        Ok(entries) => Ok(WrittenFile {
+            file,
+            points,
+            entries,
+        }),
+        Err(why) => {
+            let fault = fault_of(&file, why);
+            let file = Some(file);
             Err(Unfinished { file, fault })
         }
+    }
+}
+
+// The fault of a file that was begun: the device's where one of its own calls failed.
+fn fault_of<F>(file: &Tally<F>, why: Refusal) -> CollapseFault
+    ensures { IsFaultOf file.now why result }
+{
+    if file.failures() > 0 {
+        CollapseFault::Unwritten
+    } else {
+        CollapseFault::Unjoined(why)
     }
 }
 

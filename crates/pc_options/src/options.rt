@@ -35,9 +35,6 @@ pub struct CollapseOptions<'a> {
     pub target: &'a str,
     /// The part files, in the order in which they are read.
     pub inputs: Vec<&'a str>,
-    /// How many collapsers join them, 1 to 64.
-    pub collapsers: u8,
-    ghost in_range: { (1 ≤ collapsers) × (collapsers ≤ MOST_COLLAPSERS) },
 }
 
 /// What `pcalc run` is asked to do.
@@ -179,7 +176,7 @@ fn run_command<'a>(alloc: Global) -> Result<Command<'a>, Error> {
         .after_help(FAULTS)
         .arg(workload)?
         .arg(workers_arg(alloc))?
-        .arg(collapsers_arg(alloc))?
+        .arg(collapsers_arg(alloc, "How many threads join the points' files, 1 to 64"))?
         .arg(every_arg(alloc))?
         .arg(capacity_arg(alloc, "65536"))?
         .arg(run_arg(alloc))?
@@ -274,7 +271,10 @@ fn collapse_command<'a>(alloc: Global) -> Result<Command<'a>, Error> {
             .after_help(FAULTS)
             .arg(target_arg(alloc))?
             .arg(inputs_arg(alloc))?
-            .arg(collapsers_arg(alloc))?,
+            .arg(collapsers_arg(
+                alloc,
+                "Is checked alone, 1 to 64: one thread joins the files as it reads them",
+            ))?,
     )
 }
 
@@ -293,11 +293,11 @@ fn inputs_arg<'a>(alloc: Global) -> Arg<'a> {
         .action(ArgAction::Append)
 }
 
-fn collapsers_arg<'a>(alloc: Global) -> Arg<'a> {
+fn collapsers_arg<'a>(alloc: Global, help: &'a str) -> Arg<'a> {
     Arg::new(alloc, "collapsers")
         .long("collapsers")
         .value_name("N")
-        .help("How many threads join the points' files, 1 to 64")
+        .help(help)
         .value_parser(clap::value_parser!(u8).range(1..=i64::from(MOST_COLLAPSERS)))
         .default_value("2")
 }
@@ -367,19 +367,9 @@ fn collapse_options_of<'a>(
     let Some(target) = matches.get_str("OUT") else {
         return Ok(None);
     };
-    let Some(collapsers) = matches.get_one::<u8>("collapsers") else {
-        return Ok(None);
-    };
-    if collapsers < 1 || MOST_COLLAPSERS < collapsers {
-        return Ok(None);
-    }
     let mut inputs = Vec::new(alloc);
     for input in matches.get_strs("IN").unwrap_or(&[]) {
         inputs.push(*input)?;
     }
-    Ok(Some(CollapseOptions {
-        target,
-        inputs,
-        collapsers,
-    }))
+    Ok(Some(CollapseOptions { target, inputs }))
 }

@@ -12,7 +12,7 @@ use clap::Error;
 use clap::error::ErrorKind;
 use folder::{FoundFolder, open_folder, tell_unopened};
 use parts::{NewFile, open_named, open_parts};
-use pc_collapse_files::{Inputs, run_collapse};
+use pc_collapse_files::run_collapse;
 use pc_options::{CollapseOptions, StepOptions, Task, task_of, unreadable};
 use pc_restore::run_recover;
 use pc_script::run_script;
@@ -91,15 +91,10 @@ fn run_task<H: Threads + Wait + Sync>(rt: &HostRuntime, threads: &H, task: Task)
         }
         Task::Run(options) => run_clients(rt, threads, &options),
         Task::Collapse(options) => {
-            let CollapseOptions {
-                target,
-                inputs,
-                collapsers,
-            } = options;
+            let CollapseOptions { target, inputs } = options;
             let files = open_parts(rt, &inputs)?;
-            let inputs = Inputs { files, collapsers };
             let maker = NewFile { rt, path: target };
-            let ended = run_collapse(threads, alloc, target, inputs, maker, &mut out, &mut errors);
+            let ended = run_collapse(alloc, target, files, maker, &mut out, &mut errors);
             Ok(ended.status)
         }
         Task::Recover(dir) => {

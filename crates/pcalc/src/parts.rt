@@ -9,17 +9,22 @@ use std::fs::File;
 use std::string::String;
 use std::{fs, io};
 
-/// The part files of these paths. Each is opened when it is read, so that of many one is open at a time. It is an error only where
-/// memory ran out.
+// Of no more inputs each stays open while it is read, so that a join is made in the memory of a piece of each. A process may have some
+// 1,024 files open.
+const MOST_OPEN: usize = 512;
+
+/// The part files of these paths. Each is opened when it is first read. Where they are many, or one is no plain file, as a pipe, whose
+/// writer may wait until all of it is read, it is read whole then. It is an error only where memory ran out.
 pub fn open_parts<'a>(
     rt: &'a HostRuntime,
     paths: &[&str],
 ) -> Result<Vec<NamedFile<LateFile<'a>>>, AllocError> {
     let alloc = rt.alloc();
+    let is_few = paths.len() <= MOST_OPEN;
     let mut files = Vec::new(alloc);
     for path in paths {
         let name = Vec::from_slice(alloc, path.as_bytes())?;
-        let opened = open_late(rt, path)?;
+        let opened = open_late(rt, path, is_few)?;
         files.push(NamedFile { name, opened })?;
     }
     Ok(files)
@@ -30,14 +35,19 @@ pub fn open_parts<'a>(
 fn open_late<'a>(
     rt: &'a HostRuntime,
     path: &str,
+    is_few: bool,
 ) -> Result<Result<LateFile<'a>, Refusal>, AllocError> {
-    let file = LateFile::new(rt, String::from_str(rt.alloc(), path)?);
-    let tried = match fs::metadata(rt, path) {
-        Ok(found) if found.is_file() => fs::open(rt, path).map(|_| ()),
-        found => found.map(|_| ()),
+    let named = String::from_str(rt.alloc(), path)?;
+    let is_plain = match fs::metadata(rt, path) {
+        Ok(found) => found.is_file(),
+        Err(e) => return Ok(Err(why_not(&e))),
     };
-    match tried {
-        Ok(()) => Ok(Ok(file)),
+    if !is_plain {
+        return Ok(Ok(LateFile::whole(rt, named)));
+    }
+    match fs::open(rt, path) {
+        Ok(_) if is_few => Ok(Ok(LateFile::new(rt, named))),
+        Ok(_) => Ok(Ok(LateFile::whole(rt, named))),
         Err(e) => Ok(Err(why_not(&e))),
     }
 }

@@ -1,14 +1,36 @@
-use Rattle.std.proofs.Common.{arith}
-use Rattle.pc_collapse_files.proofs.Ends.{part_of, whole_of}
+use Rattle.std.proofs.Common.{refl, sym, subst, map, Some, ◌≡◌, ◌∙◌, List}
+use Rattle.pc_merge.specs.Coming.{Coming}
+use Rattle.pc_merge.specs.Given.{IsMerge}
+use Rattle.pc_merge.specs.Inputs.{all_known}
+use Rattle.pc_streams.specs.Readers.{coming_of}
+use Rattle.pc_stream_join.specs.Joining.{IsUnjoinedFor, file_of}
+use Rattle.pc_collapse_files.proofs.Ends.{short_of, whole_of}
+use Rattle.pc_collapse_files.proofs.Headed.{have_header}
+use Rattle.pc_collapse_files.proofs.KeyCounts.{len_rising}
+use Rattle.pc_collapse_files.proofs.WrittenJoins.{join_is, unjoined, unwritten}
 use Rattle.pc_collapse_files.proofs.output.write_file.Goals as goal
 
-pub returns-in-Ok-put-clause-written : goal.returns-in-Ok-put-clause-written
-returns-in-Ok-put-clause-written g c = λ known.
-    whole_of (g.F.Write.contents c.new-file.result.inner) _ c.args.bytes.now (known c.new-file.result.inner) (known c.put-put.new.self.inner) (rw c.new-file.ensures.inner c.in-Ok.ensures.empty) c.in-Ok-put.ensures.0
+pub returns-in-Ok-join_entries-clause-written : goal.returns-in-Ok-join_entries-clause-written
+returns-in-Ok-join_entries-clause-written g c = λ files are.
+    let written = c.in-Ok-join_entries.ensures.written in
+    record {
+      opened = are.opened;
+      file = file_of c.args.inputs.header.run c.args.inputs.header.ranges.items written.given;
+      join = join_is g.R.Read.remaining files c.args.inputs.readers.items are.readers c.args.inputs.header.run c.args.inputs.header.ranges.items written.given are.headed written.lawful
+          (subst (λ inputs. (was : List Coming) → all_known (map (coming_of g.R.Read.remaining) inputs) ≡ Some was → IsMerge was written.given) c.deref_mut.ensures.value written.merge);
+      whole = λ known. whole_of (g.F.Write.contents c.new-file.result.inner) _ _ (known c.new-file.result.inner) (known c.join_entries.new.out.inner) (rw c.new-file.ensures.inner c.in-Ok.ensures.empty) written.text;
+      points = are.points;
+      entries = written.many ∙ sym (len_rising written.given written.rise);
+    }
 
-pub returns-in-Err-put-clause-unwritten : goal.returns-in-Err-put-clause-unwritten
-returns-in-Err-put-clause-unwritten g c = (
-  omega (arith, c.in-Err-put.ensures.1),
-  λ known.
-      part_of (g.F.Write.contents c.new-file.result.inner) _ c.args.bytes.now (known c.new-file.result.inner) (known c.put-put.new.self.inner) (rw c.new-file.ensures.inner c.in-Ok.ensures.empty) c.in-Err-put.ensures.2,
-)
+pub returns-clause-unwritten : goal.returns-clause-unwritten
+returns-clause-unwritten g c = λ files are.
+    unwritten g.R.Read.remaining g.F.Write.contents files c.join_entries.new.out c.in-Err-join_entries.why c.fault_of-fault.result
+    (have_header g.R.Read.remaining files c.args.inputs.readers.items are.opened are.readers c.args.inputs.header.run c.args.inputs.header.ranges.items are.headed)
+    (unjoined g.R.Read.remaining files c.args.inputs.readers.items are.readers c.in-Err-join_entries.why (subst (λ inputs. IsUnjoinedFor g.R.Read.remaining inputs c.in-Err-join_entries.why) c.deref_mut.ensures.value c.in-Err-join_entries.ensures.cause))
+    (λ known. short_of (g.F.Write.contents c.new-file.result.inner) _ (known c.new-file.result.inner) (known c.join_entries.new.out.inner) (rw c.new-file.ensures.inner c.in-Ok.ensures.empty) c.in-Err-join_entries.ensures.short)
+    c.fault_of-fault.ensures
+
+pub returns-in-Err-clause-unwritten : goal.returns-in-Err-clause-unwritten
+returns-in-Err-clause-unwritten g c = λ files are.
+    (have_header g.R.Read.remaining files c.args.inputs.readers.items are.opened are.readers c.args.inputs.header.run c.args.inputs.header.ranges.items are.headed, refl)
