@@ -28,11 +28,23 @@ def start(words, output):
     return child
 
 
-def measure(words, output):
-    """The seconds and the peak of memory in bytes of one run, whose output goes to the file. Ends all where its status isn't 0."""
+def used(words, output):
+    """The seconds of one run, and what it used of the system. Its output goes to the file. Ends all where its status isn't 0."""
     began = time.monotonic()
     _, status, usage = os.wait4(start(words, output), 0)
     seconds = time.monotonic() - began
     if status != 0:
         sys.exit("the program ended with status %d" % os.waitstatus_to_exitcode(status))
+    return seconds, usage
+
+
+def measure(words, output):
+    """The seconds and the peak of memory in bytes of one run, whose output goes to the file. Ends all where its status isn't 0."""
+    seconds, usage = used(words, output)
     return seconds, usage.ru_maxrss * 1024
+
+
+def measure_processor(words, output):
+    """The same with the seconds of processor time, the system's for the run among them."""
+    _, usage = used(words, output)
+    return usage.ru_utime + usage.ru_stime, usage.ru_maxrss * 1024

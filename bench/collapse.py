@@ -1,58 +1,88 @@
 #!/usr/bin/env python3
-"""Measures `pcalc collapse`: several runs for each number of collapsers, the least and the greatest time, and the peak of memory.
+"""Measures `pcalc collapse` beside a program in C++ that joins the same files by a heap, and holds them in memory: processor time and peak of memory.
 
-    bench/collapse.py 64 20000    so many files, each of one point with so many entries of 27 bytes: half of a file's keys are in its neighbour too
+    bench/collapse.py 64 20000       so many files, each of one point with so many entries, with keys of 8 bytes and values of 4, 16 and 1,000 in turn: half
+                                     of a file's keys are in its neighbour too
+    bench/collapse.py 64 20000 16    the same with values of 16 bytes alone
 
-Build the program first, by `rt run -- --version` in the folder crates/pcalc.
+Build the program first, by `rt run -- --version` in the folder crates/pcalc. The other one (`bench/merge.cpp`) is built here, by `c++`; without that only
+pcalc is measured. Both run in turn, and must write the same bytes.
 """
 
 import os
+import shutil
+import subprocess
 import sys
 import tempfile
 
 import child
 import history
 
-PROGRAM = os.path.join(os.path.dirname(os.path.abspath(__file__)), "..", "crates", "pcalc", "out", "pcalc")
-RUNS = 7
-COLLAPSERS = (1, 2, 4)
-KEYS = 1 << 32
+BENCH = os.path.dirname(os.path.abspath(__file__))
+PROGRAM = os.environ.get("PCALC", os.path.join(BENCH, "..", "crates", "pcalc", "out", "pcalc"))
+RUNS = 5
+VALUES = (4, 16, 1000)
 
 
-def part(point, entries):
+def part(point, entries, size):
     """The text of the part of a point, whose keys rise: their numbers begin half a file's keys behind those of the point before."""
     head = b"PCALCP01" + (1).to_bytes(8, "big") + (1).to_bytes(4, "big") + 2 * point.to_bytes(4, "big")
     first = point * (entries // 2)
-    lines = [b"\0\x08%08d" % (first + number) + point.to_bytes(4, "big") + b"\1\0\0\0\x08%08d" % point for number in range(entries)]
+    content = b"\1" + size.to_bytes(4, "big") + (b"%08d" % point * (size // 8 + 1))[:size]
+    lines = [b"\0\x08%08d" % (first + number) + point.to_bytes(4, "big") + content for number in range(entries)]
     return head + b"".join(lines) + bytes(2) + entries.to_bytes(4, "big")
+
+
+def built(folder):
+    """The program in C++, where a compiler is."""
+    if shutil.which("c++") is None:
+        return None
+    program = os.path.join(folder, "merge")
+    subprocess.run(["c++", "-O2", "-std=c++17", "-o", program, os.path.join(BENCH, "merge.cpp")], check=True)
+    return program
+
+
+def written(folder, files, entries, size):
+    """The names of the files, and how many bytes they have together."""
+    names, total = [], 0
+    for point in range(1, files + 1):
+        names.append(os.path.join(folder, "%05d.pcp" % point))
+        text = part(point, entries, size)
+        total += len(text)
+        with open(names[-1], "wb") as it:
+            it.write(text)
+    return names, total
+
+
+def measured(folder, programs, files, entries, size):
+    """Runs the programs in turn over files with values of so many bytes, and prints what each took."""
+    names, total = written(folder, files, entries, size)
+    print("%d files of %d entries with values of %d bytes, %.1f MB, %d runs" % (files, entries, size, total / 1e6, RUNS))
+    runs, texts = {name: [] for name, _ in programs}, set()
+    for _ in range(RUNS):
+        for name, words in programs:
+            target = os.path.join(folder, "all.pcp")
+            with tempfile.TemporaryFile() as output:
+                runs[name].append(child.measure_processor([*words, target, *names], output))
+            with open(target, "rb") as it:
+                texts.add(hash(it.read()))
+    if len(texts) != 1:
+        sys.exit("they wrote different bytes")
+    for name, took in runs.items():
+        seconds, peak = [some for some, _ in took], max(most for _, most in took)
+        history.note("%s: %d files of %d entries, values of %d bytes" % (name, files, entries, size), total / min(seconds) / 1e6, "MB a second of processor time")
+        print("%s: %.3f to %.3f s of processor time, %.0f to %.0f MB a second, peak %.1f MB" % (name, min(seconds), max(seconds), total / max(seconds) / 1e6, total / min(seconds) / 1e6, peak / 1e6))
+    for name in names:
+        os.remove(name)
 
 
 def main():
     files, entries = int(sys.argv[1]), int(sys.argv[2])
     with tempfile.TemporaryDirectory() as folder:
-        names, size = [], 0
-        for point in range(1, files + 1):
-            names.append(os.path.join(folder, "%05d.pcp" % point))
-            text = part(point, entries)
-            size += len(text)
-            with open(names[-1], "wb") as it:
-                it.write(text)
-        print("%d files of %d entries, %.1f MB, %d runs" % (files, entries, size / 1e6, RUNS))
-        written = set()
-        for collapsers in COLLAPSERS:
-            words = [PROGRAM, "collapse", "--collapsers", str(collapsers), os.path.join(folder, "all.pcp"), *names]
-            runs = []
-            for _ in range(RUNS):
-                with tempfile.TemporaryFile() as output:
-                    runs.append(child.measure(words, output))
-                with open(words[4], "rb") as it:
-                    written.add(it.read())
-            times = [seconds for seconds, _ in runs]
-            rates = size / max(times) / 1e6, size / min(times) / 1e6
-            history.note("collapse: %d files of %d entries, %d collapsers" % (files, entries, collapsers), rates[1], "MB a second")
-            print("%d collapsers: %.3f to %.3f s, %.0f to %.0f MB a second, peak %.0f MB" % (collapsers, min(times), max(times), *rates, max(peak for _, peak in runs) / 1e6))
-        if len(written) != 1:
-            sys.exit("the collapses wrote different bytes")
+        beside = built(folder)
+        programs = [("collapse", [PROGRAM, "collapse"])] + ([("C++ heap", [beside])] if beside else [])
+        for size in [int(some) for some in sys.argv[3:]] or VALUES:
+            measured(folder, programs, files, entries, size)
 
 
 if __name__ == "__main__":
