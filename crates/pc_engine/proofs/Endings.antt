@@ -1,6 +1,6 @@
 -- What a begin and the two ends of a transaction leave of a world that stands after a history.
 use Rattle.std.proofs.Common.{◌≡◌, ℕ, ◌+◌, List, [], ◌∷◌, ◌++◌, length, append-nil, subst, Option, Some, None, is_some, is_none, refl, sym, ap, ◌∙◌, cond, true, false, Bool, not, eqb, nat_lt, ◌||◌, map}
-use Rattle.std.specs.Prelude.{MatchOption, IfSome, ◌⊎◌}
+use Rattle.std.specs.Prelude.{MatchOption, IfSome, ◌⊎◌, option_map}
 use Rattle.std.proofs.lemmas.List.{length-set}
 use Rattle.pc_types.specs.declared.Event.TheVariants as asked
 use Rattle.pc_types.specs.declared.Reply.{Reply}
@@ -12,20 +12,29 @@ use Rattle.pc_types.specs.declared.Entry.{Entry}
 use Rattle.pc_types.specs.declared.Entry.TheVariants.{Commit}
 use Rattle.pc_model.specs.Log.{after}
 use Rattle.pc_model.specs.Files.{shelf}
-use Rattle.pc_model.specs.History.{History, class_in, effect_of, log_of, begun, is_open, number_of, writes_of}
+use Rattle.pc_model.specs.History.{History, class_in, effect_of, contents, log_of, begun, is_open, number_of, writes_of}
 use Rattle.pc_model.specs.History.Effect.{Begins, Commits, Aborts, Nothing}
 use Rattle.pc_model.specs.Standing.{HasLegalEffects}
 use Rattle.pc_model.specs.Replies.{Setting, IsLegal, first_refusal, or_else, no_session, open_set}
 use Rattle.pc_model.proofs.LogLaws.{after-append}
 use Rattle.pc_model.proofs.StandingLaws.{closed_stays}
+use Rattle.pc_types.specs.declared.Write.{Write}
+use Rattle.pc_model.specs.Maps as map_of
+use Rattle.pc_model.specs.Database.{Database, applied_all, written, seen}
+use Rattle.pc_model.specs.DistinctWrites.{AreDistinct}
+use Rattle.pc_records.specs.Rows.{Row, record_of, stored}
 use Rattle.pc_records.specs.RowSteps.{released_rows, written_row}
 use Rattle.pc_records.specs.NewKeys.{new_keys}
 use Rattle.pc_records.proofs.FollowingLaws.{same_records}
 use Rattle.pc_records.proofs.DistinctLaws.{distinct_writes}
 use Rattle.pc_records.proofs.NewKeyLaws.{with_keys_new}
-use Rattle.pc_records.proofs.ReleaseLaws.{released_records, let_go_records}
+use Rattle.pc_records.proofs.ReleaseLaws.{now_or, released_records, let_go_records}
+use Rattle.pc_engine.proofs.PlacedWrites.{is_left}
+use Rattle.pc_types.specs.declared.Change.{Change}
+use Rattle.pc_types.specs.Changes.{changed}
+use Rattle.pc_model.proofs.DistinctWriteLaws.{seen_of}
 use Rattle.pc_records.proofs.WaitingLaws.{held_writes}
-use Rattle.pc_engine.specs.Sessions.{number_in, writes_in, with_session}
+use Rattle.pc_engine.specs.Sessions.{number_in, writes_in, left_by, with_session}
 use Rattle.pc_engine.specs.Store.{Active, Store, setting_of, active, active_in as session_at}
 use Rattle.pc_engine.specs.Steps.{open_causes, begin_causes, abort_causes, Begins as BeginsIn, Commits as CommitsIn, Aborts as AbortsIn}
 use Rattle.pc_engine.specs.Stands.{Stands, Follows}
@@ -54,6 +63,14 @@ ToldOfAbort reply o = MatchOption (or_else o (Some told.Aborted)) (⊥ ⊎ (repl
 told_of_abort : (o : Option Reply) (reply : Reply) → MatchOption o (reply ≡ told.Aborted) (λ due. reply ≡ due) → ToldOfAbort reply o
 told_of_abort None reply fact = fact
 told_of_abort (Some due) reply fact = fact
+
+-- what distinct writes leave of a key, where the rows have what the database has of it
+left_of_writes : (rows : List Row) (db : Database) (ws : List Write) (q : List ℕ) → AreDistinct ws → stored (record_of rows q) ≡ map_of.get db q → map_of.get (applied_all db ws) q ≡ now_or (left_by ws rows q) (map_of.get db q)
+left_of_writes rows db ws q distinct is = seen_of db ws q distinct ∙ by_change (written ws q) ∙ ap (λ c. now_or (option_map (λ change. changed change c) (written ws q)) (map_of.get db q)) (sym is)
+  where
+    by_change : (o : Option Change) → seen o (map_of.get db q) ≡ now_or (option_map (λ change. changed change (map_of.get db q)) o) (map_of.get db q)
+    by_change None = refl
+    by_change (Some change) = refl
 
 module _ (old new : Store) (h : History) (s : ℕ) (reply : Reply) (stands : Stands old h) where
   abbrev st : Setting
@@ -105,7 +122,7 @@ module _ (old new : Store) (h : History) (s : ℕ) (reply : Reply) (stands : Sta
       let now = rw d.0 at legal in
       let at = open_then old h s mine stands none in
       let left : Option Active → Store = λ a. record old {
-        kept = record old.kept { rows = released_rows (number_in a) (map (written_row (writes_in a)) old.kept.rows) };
+        kept = record old.kept { rows = released_rows (number_in a) (map (written_row (left_by (writes_in a) old.kept.rows)) old.kept.rows) };
         log = old.log ++ Commit s (writes_in a) ∷ [];
         sessions = with_session old.sessions s None;
         cycle = record old.cycle { open_set = old.cycle.open_set ++ new_keys old.kept.rows (writes_in a) };
@@ -114,7 +131,7 @@ module _ (old new : Store) (h : History) (s : ℕ) (reply : Reply) (stands : Sta
     where
       committed_off : IsOpenIn old h s → HasLegalEffects st (with_step h (asked.Commit s) (told.Committed (length old.log + 1))) →
           IsLeft old (record old {
-            kept = record old.kept { rows = released_rows (number_of s h) (map (written_row (writes_of s h)) old.kept.rows) };
+            kept = record old.kept { rows = released_rows (number_of s h) (map (written_row (left_by (writes_of s h) old.kept.rows)) old.kept.rows) };
             log = old.log ++ Commit s (writes_of s h) ∷ [];
             sessions = with_session old.sessions s None;
             cycle = record old.cycle { open_set = old.cycle.open_set ++ new_keys old.kept.rows (writes_of s h) };
@@ -125,8 +142,8 @@ module _ (old new : Store) (h : History) (s : ℕ) (reply : Reply) (stands : Sta
           let closed = closed_stays st h step legal refl in (
             same_setting old _ (length-set old.sessions _ _),
             record {
-              records = released_records old.base.pairs old.kept.rows h (step ∷ h) (writes_of s h) (number_of s h) (distinct_writes s h) locks.settled (held_writes h s locks at.opened)
-                  (after-append old.base.pairs (log_of h) (Commit s (writes_of s h) ∷ [])) (λ q. refl) refl closed (states_stay st h step legal) stands.parts.records;
+              records = released_records old.base.pairs old.kept.rows h (step ∷ h) (writes_of s h) (left_by (writes_of s h) old.kept.rows) (number_of s h) (is_left (writes_of s h) old.kept.rows) locks.settled (held_writes h s locks at.opened)
+                  (λ q. ap (λ (db : Database). map_of.get db q) (after-append old.base.pairs (log_of h) (Commit s (writes_of s h) ∷ [])) ∙ left_of_writes old.kept.rows (contents old.base.pairs h) (writes_of s h) q (distinct_writes s h) (stands.parts.records.stored q)) (λ q. refl) refl closed (states_stay st h step legal) stands.parts.records;
               log = ap (λ (log : List Entry). log ++ Commit s (writes_of s h) ∷ []) stands.parts.log;
               begun = stands.parts.begun;
               sessions = sessions_with old s None (λ t. active_by t (Commits s) h) (one_session old.sessions s None (Commits s) h at.there (rw (same_number s) refl) (λ t other. rw other refl) stands.parts.sessions);

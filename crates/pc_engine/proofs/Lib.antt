@@ -8,6 +8,7 @@ mod LegalQueues
 mod LoggedTexts
 mod Owing
 mod LocalSteps
+mod Foretelling
 mod Requests
 mod Endings
 mod Standing
@@ -15,6 +16,7 @@ mod Runs
 mod Soundness
 mod Cycles
 mod PlacedWrites
+mod SetKeys
 mod Together
 mod Within
 mod Counted

@@ -1,5 +1,10 @@
 -- What a read and a write leave of a world that stands after a history.
-use Rattle.std.proofs.Common.{◌≡◌, ℕ, List, [], ◌∷◌, length, subst, Option, Some, None, is_some, is_none, refl, sym, ap, ◌∙◌, cond, true, false, Bool, not, eqb, ◌&&◌}
+use Rattle.std.specs.Prelude.{ℤ}
+use Rattle.pc_types.specs.declared.Change.TheVariants.{Add}
+use Rattle.pc_types.specs.Changes.{added, fits}
+use Rattle.pc_model.proofs.AddLaws.{add_stands}
+use Rattle.pc_engine.specs.Adds.{add_causes, sum_in}
+use Rattle.std.proofs.Common.{◌≡◌, ℕ, List, [], ◌∷◌, ◌++◌, length, subst, Option, Some, None, is_some, is_none, refl, sym, ap, ◌∙◌, cond, true, false, Bool, not, eqb, ◌&&◌}
 use Rattle.std.proofs.lemmas.List.{length-set}
 use Rattle.pc_types.specs.declared.Mode.{Mode}
 use Rattle.pc_types.specs.declared.Mode.TheVariants.{Shared, Exclusive}
@@ -10,25 +15,24 @@ use Rattle.pc_types.specs.declared.Reply.TheVariants as told
 use Rattle.pc_types.specs.declared.Refusal.{Refusal}
 use Rattle.pc_types.specs.declared.Refusal.TheVariants as why
 use Rattle.pc_types.specs.Limits.{IsKey, IsValue}
-use Rattle.pc_model.specs.Database.{same_bytes, written}
+use Rattle.pc_model.specs.Database.{same_bytes, written, seen, change_to, write_of}
 use Rattle.pc_model.specs.Log.{after}
-use Rattle.pc_model.specs.History.{History, Effect, effect_of, effect_of_get, effect_of_write, is_open, number_of, writes_of, has_died}
-use Rattle.pc_model.specs.History.Effect.{Reads, Writes, Waits, Dies}
+use Rattle.pc_model.specs.History.{History, Effect, effect_of, effect_of_get, effect_of_write, is_open, number_of, writes_of, has_died, effect_of_add}
+use Rattle.pc_model.specs.History.Effect.{Reads, Writes, Waits, Dies, Adds}
 use Rattle.pc_model.specs.Headline.{ValueBy}
 use Rattle.pc_model.specs.Standing.{HasLegalEffects}
 use Rattle.pc_types.specs.declared.Outcome.{Outcome}
 use Rattle.pc_model.specs.Locks.{Queue, outcome, queue_of, queue_by, queue_after, is_waiting}
 use Rattle.pc_types.specs.declared.Outcome.TheVariants.{Granted, Queued, Died}
-use Rattle.pc_model.specs.Replies.{first_refusal, no_session, too_many, is_full, read_reply, value_read, by_outcome}
-use Rattle.pc_records.specs.Rows.{record_of, stored}
+use Rattle.pc_model.specs.Replies.{first_refusal, no_session, too_many, is_full, read_reply, by_outcome, seen_by, sum_reply, write_causes as causes_of_write, add_causes as causes_of_add}
 use Rattle.pc_records.specs.RowSteps.{is_full_for, rows_after}
 use Rattle.pc_records.specs.Following.{AreRecords}
 use Rattle.pc_records.specs.NewKeys.{is_one_too_many}
 use Rattle.pc_records.proofs.FollowingLaws.{asked_records}
 use Rattle.pc_records.proofs.OccupiedLaws.{full_now}
-use Rattle.pc_engine.specs.Sessions.{number_in, writes_in, with_session, after_writing, after_dying, if_granted}
+use Rattle.pc_engine.specs.Sessions.{number_in, writes_in, seen_in, with_session, after_writing, after_dying, if_granted}
 use Rattle.pc_engine.specs.Store.{Active, Store, setting_of, active, active_in as session_at}
-use Rattle.pc_engine.specs.Steps.{open_causes, write_causes, after_asking, outcome_in, Gets, WritesKey}
+use Rattle.pc_engine.specs.Steps.{open_causes, write_causes, after_asking, outcome_in, Gets, WritesKey, AddsTo, adding_causes}
 use Rattle.pc_engine.specs.Stands.{IsReadOff, Stands, Follows}
 use Rattle.pc_engine.proofs.ActiveSessions.{is_past, active_now, active_by, same_number, one_session}
 use Rattle.pc_engine.proofs.LocalSteps.{IsLocal, local_left, log_stays, keys_stay, closed_set_stays, state_stays_at}
@@ -50,6 +54,18 @@ write_effect : (s : ℕ) (key : List ℕ) (content : Option (List ℕ)) (o : Out
 write_effect s key content Granted = refl
 write_effect s key content Queued = refl
 write_effect s key content Died = refl
+
+add_effect : (s : ℕ) (key : List ℕ) (delta sum : ℤ) (o : Outcome) → effect_of_add s key delta (by_outcome o (told.Sum sum)) ≡ asked_effect s key Exclusive (Adds s key delta sum) o
+add_effect s key delta sum Granted = refl
+add_effect s key delta sum Queued = refl
+add_effect s key delta sum Died = refl
+
+-- where a granted add has a sum, that is told
+sum_told : (o : Outcome) (sum : Option ℤ) → (o ≡ Granted → is_none sum ≡ false) → by_outcome o (told.Sum (sum_in sum)) ≡ by_outcome o (sum_reply sum)
+sum_told Granted None some = absurd (let no : true ≡ false = some refl in cc)
+sum_told Granted (Some n) some = refl
+sum_told Queued sum some = refl
+sum_told Died sum some = refl
 
 -- what a granted request does: it takes the lock, and leaves these sessions
 record IsGrant (w : Store) (h : History) (s : ℕ) (key : List ℕ) (mode : Mode) (granted : Effect) (sessions : List (Option Active)) : Type 0 where
@@ -109,12 +125,21 @@ read_grant w h s key answer parts = record {
   value = tt;
 }
 
-write_grant : (w : Store) (h : History) (s : ℕ) (key : List ℕ) (content : Option (List ℕ)) → IsOpenIn w h s → IsReadOff w h → IsGrant w h s key Exclusive (Writes s key content) (with_session w.sessions s (after_writing (active w s) (record { key = key; value = content })))
+write_grant : (w : Store) (h : History) (s : ℕ) (key : List ℕ) (content : Option (List ℕ)) → IsOpenIn w h s → IsReadOff w h → IsGrant w h s key Exclusive (Writes s key content) (with_session w.sessions s (after_writing (active w s) (write_of key (change_to content))))
 write_grant w h s key content at parts = record {
   stays = record { no_entry = refl; no_begin = refl; same_phase = refl; same_point = refl; no_key = refl; same_closed = refl; none_taken = refl; none_shelved = refl };
   queues = λ q. refl;
   same = length-set w.sessions _ _;
-  are = one_session w.sessions s (after_writing (active w s) (record { key = key; value = content })) (Writes s key content) h at.there (ap (λ a. after_writing a (record { key = key; value = content })) at.same ∙ rw (at.opened, same_number s) refl) (λ t other. rw other refl) parts.sessions;
+  are = one_session w.sessions s (after_writing (active w s) (write_of key (change_to content))) (Writes s key content) h at.there (ap (λ a. after_writing a (write_of key (change_to content))) at.same ∙ rw (at.opened, same_number s) refl) (λ t other. rw other refl) parts.sessions;
+  value = tt;
+}
+
+add_grant : (w : Store) (h : History) (s : ℕ) (key : List ℕ) (delta sum : ℤ) → IsOpenIn w h s → IsReadOff w h → IsGrant w h s key Exclusive (Adds s key delta sum) (with_session w.sessions s (after_writing (active w s) (write_of key (Add delta))))
+add_grant w h s key delta sum at parts = record {
+  stays = record { no_entry = refl; no_begin = refl; same_phase = refl; same_point = refl; no_key = refl; same_closed = refl; none_taken = refl; none_shelved = refl };
+  queues = λ q. refl;
+  same = length-set w.sessions _ _;
+  are = one_session w.sessions s (after_writing (active w s) (write_of key (Add delta))) (Adds s key delta sum) h at.there (ap (λ a. after_writing a (write_of key (Add delta))) at.same ∙ rw (at.opened, same_number s) refl) (λ t other. rw other refl) parts.sessions;
   value = tt;
 }
 
@@ -122,7 +147,7 @@ module _ (old new : Store) (h : History) (s : ℕ) (reply : Reply) (stands : Sta
   pub gets_follows : (key : List ℕ) → Gets old s key reply new → Follows (setting_of old) h (asked_for.Get s key) reply new
   gets_follows key step =
       let mine : List (Bool × Refusal) = (is_full_for old.kept key, why.Full) ∷ [] in
-      let answer : Option (List ℕ) = value_read (written (writes_in (active old s)) key) (stored (record_of old.kept.rows key)) in
+      let answer : Option (List ℕ) = seen_in old.kept.rows (active old s) key in
       let o : Outcome = outcome_in old s key Shared in
       owes_follows old new h (asked_for.Get s key) reply _ (first_refusal (open_causes old s mine)) stands tt
       (in_transaction old h s mine ((is_full (setting_of old) key h, why.Full) ∷ []) stands (λ there opened. ap (λ b. first_refusal ((b, why.Full) ∷ [])) (full_now (setting_of old) old.kept h key refl stands.parts.records)))
@@ -130,8 +155,8 @@ module _ (old new : Store) (h : History) (s : ℕ) (reply : Reply) (stands : Sta
       (λ none d.
       let at = open_then old h s mine stands none in
       d.0 ∙ ap (λ o. by_outcome o (read_reply answer)) (outcome_same old h s key Shared at stands.parts)
-      ∙ ap (λ a. by_outcome (outcome (queue_of key h) (number_of s h) Shared) (read_reply (value_read (written (writes_in a) key) (stored (record_of old.kept.rows key))))) at.same
-      ∙ ap (λ v. by_outcome (outcome (queue_of key h) (number_of s h) Shared) (read_reply (value_read (written (writes_of s h) key) v))) (stands.parts.records.stored key))
+      ∙ ap (λ a. by_outcome (outcome (queue_of key h) (number_of s h) Shared) (read_reply (seen_in old.kept.rows a key))) at.same
+      ∙ ap (λ v. by_outcome (outcome (queue_of key h) (number_of s h) Shared) (read_reply (seen (written (writes_of s h) key) v))) (stands.parts.records.stored key))
       (λ none d legal.
       let now = rw d.0 at legal in
       rw (d.0, d.1) (subst (λ sessions. IsLeft old (after_asking old s key Shared o sessions) h (asked_for.Get s key) (by_outcome o (read_reply answer))) (same_either o old.sessions)
@@ -151,11 +176,11 @@ module _ (old new : Store) (h : History) (s : ℕ) (reply : Reply) (stands : Sta
 
   write_left : (key : List ℕ) (content : Option (List ℕ)) (event : Event) → ((r : Reply) → effect_of event r ≡ effect_of_write s key content r) → first_refusal (write_causes old s key) ≡ None →
       HasLegalEffects (setting_of old) (with_step h event (by_outcome (outcome_in old s key Exclusive) told.Ok)) →
-      IsLeft old (after_asking old s key Exclusive (outcome_in old s key Exclusive) (if_granted (outcome_in old s key Exclusive) (with_session old.sessions s (after_writing (active old s) (record { key = key; value = content }))) old.sessions)) h event (by_outcome (outcome_in old s key Exclusive) told.Ok)
+      IsLeft old (after_asking old s key Exclusive (outcome_in old s key Exclusive) (if_granted (outcome_in old s key Exclusive) (with_session old.sessions s (after_writing (active old s) (write_of key (change_to content)))) old.sessions)) h event (by_outcome (outcome_in old s key Exclusive) told.Ok)
   write_left key content event same none legal =
       let o : Outcome = outcome_in old s key Exclusive in
       let at = write_open key none in
-      asked_left old h s key Exclusive event (by_outcome o told.Ok) (Writes s key content) (with_session old.sessions s (after_writing (active old s) (record { key = key; value = content }))) o (same (by_outcome o told.Ok) ∙ write_effect s key content o) (write_grant old h s key content at stands.parts) legal at stands.parts
+      asked_left old h s key Exclusive event (by_outcome o told.Ok) (Writes s key content) (with_session old.sessions s (after_writing (active old s) (write_of key (change_to content)))) o (same (by_outcome o told.Ok) ∙ write_effect s key content o) (write_grant old h s key content at stands.parts) legal at stands.parts
 
   pub puts_follows : (key value : List ℕ) → IsKey key × IsValue value → WritesKey old s key (Some value) reply new → Follows (setting_of old) h (asked_for.Put s key value) reply new
   puts_follows key value limits step =
@@ -168,3 +193,40 @@ module _ (old new : Store) (h : History) (s : ℕ) (reply : Reply) (stands : Sta
       owes_follows old new h (asked_for.Del s key) reply _ (first_refusal (write_causes old s key)) stands limits (write_causes_are key) (refused_idle (asked_for.Del s key) (write_causes old s key)) step
       (λ none d. d.0 ∙ ap (λ o. by_outcome o told.Ok) (outcome_same old h s key Exclusive (write_open key none) stands.parts))
       (λ none d legal. let now = rw d.0 at legal in rw (d.0, d.1) (write_left key None (asked_for.Del s key) (λ r. refl) none now))
+
+  -- what the session's transaction sees, and how its request is answered, is what the history says
+  add_seen : (key : List ℕ) → IsOpenIn old h s → seen_in old.kept.rows (active old s) key ≡ seen_by (setting_of old) s key h
+  add_seen key at = ap (λ a. seen_in old.kept.rows a key) at.same ∙ ap (seen (written (writes_of s h) key)) (stands.parts.records.stored key)
+
+  -- the causes of an add's refusals are those of the history
+  adding_causes_are : (key : List ℕ) (delta : ℤ) → first_refusal (adding_causes old s key delta) ≡ first_refusal (causes_of_write (setting_of old) s key h ++ causes_of_add (setting_of old) s key delta h)
+  adding_causes_are key delta =
+      let mine = add_causes (outcome_in old s key Exclusive) (seen_in old.kept.rows (active old s) key) (written (writes_in (active old s)) key) delta in
+      in_transaction old h s ((is_one_too_many (writes_in (active old s)) key, why.TooManyWrites) ∷ (is_full_for old.kept key, why.Full) ∷ mine) ((too_many s key h, why.TooManyWrites) ∷ (is_full (setting_of old) key h, why.Full) ∷ causes_of_add (setting_of old) s key delta h) stands
+      (λ there opened.
+      let same : active old s ≡ Some (active_now s h) = stands.parts.sessions s there ∙ ap (λ b. cond b (Some (active_now s h)) None) opened in
+      let at : IsOpenIn old h s = record { there = there; opened = opened; same = same } in
+      ap (λ b. first_refusal ((b, why.TooManyWrites) ∷ (is_full_for old.kept key, why.Full) ∷ mine)) (ap (λ a. is_one_too_many (writes_in a) key) same ∙ ap (λ b. eqb (length (writes_of s h)) 256 && b) (is_none-some (written (writes_of s h) key)))
+      ∙ ap (λ b. first_refusal ((too_many s key h, why.TooManyWrites) ∷ (b, why.Full) ∷ mine)) (full_now (setting_of old) old.kept h key refl stands.parts.records)
+      ∙ (λ i. first_refusal ((too_many s key h, why.TooManyWrites) ∷ (is_full (setting_of old) key h, why.Full) ∷ add_causes (outcome_same old h s key Exclusive at stands.parts i) (add_seen key at i) (written (writes_in (same i)) key) delta)))
+
+  pub adds_follows : (key : List ℕ) (delta : ℤ) → IsKey key × (fits delta ≡ true) → AddsTo old s key delta reply new → Follows (setting_of old) h (asked_for.Add s key delta) reply new
+  adds_follows key delta limits step =
+      let o : Outcome = outcome_in old s key Exclusive in
+      let there : Option (List ℕ) = seen_in old.kept.rows (active old s) key in
+      let sum : ℤ = sum_in (added delta there) in
+      let then : List (Option Active) = with_session old.sessions s (after_writing (active old s) (write_of key (Add delta))) in
+      owes_follows old new h (asked_for.Add s key delta) reply _ (first_refusal (adding_causes old s key delta)) stands limits (adding_causes_are key delta) (refused_idle (asked_for.Add s key delta) (adding_causes old s key delta)) step
+      (λ none d.
+      let at = add_open key delta none in
+      let O : Outcome = outcome (queue_of key h) (number_of s h) Exclusive in
+      d.0 ∙ ap (λ o. by_outcome o (told.Sum sum)) (outcome_same old h s key Exclusive at stands.parts) ∙ ap (λ v. by_outcome O (told.Sum (sum_in (added delta v)))) (add_seen key at)
+      ∙ sum_told O (added delta (seen_by (setting_of old) s key h)) (λ granted. (add_stands (setting_of old) h s key delta (sym (adding_causes_are key delta) ∙ none) granted).0))
+      (λ none d legal.
+      let now = rw d.0 at legal in
+      let at = add_open key delta none in
+      rw (d.0, d.1) (asked_left old h s key Exclusive (asked_for.Add s key delta) (by_outcome o (told.Sum sum)) (Adds s key delta sum) then o (add_effect s key delta sum o) (add_grant old h s key delta sum at stands.parts) now at stands.parts))
+    where
+      add_open : (key : List ℕ) (delta : ℤ) → first_refusal (adding_causes old s key delta) ≡ None → IsOpenIn old h s
+      add_open key delta none =
+          open_then old h s ((is_one_too_many (writes_in (active old s)) key, why.TooManyWrites) ∷ (is_full_for old.kept key, why.Full) ∷ add_causes (outcome_in old s key Exclusive) (seen_in old.kept.rows (active old s) key) (written (writes_in (active old s)) key) delta) stands none

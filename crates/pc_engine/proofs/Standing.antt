@@ -1,13 +1,14 @@
 -- What every event keeps of a world, and that a new world stands after no event.
+use Rattle.pc_types.specs.declared.Change.TheVariants.{Add}
 use Rattle.std.proofs.Common.{◌≡◌, ℕ, ◌+◌, ◌-◌, ◌≤◌, zero, suc, List, [], ◌∷◌, length, get_or, replicate, Option, Some, None, refl, sym, ap, subst, ◌∙◌, inl, inr, map}
-use Rattle.std.specs.Prelude.{MatchOption}
+use Rattle.std.specs.Prelude.{MatchOption, ℤ}
 use Rattle.std.proofs.lemmas.List.{length-replicate, length-set}
 use Rattle.pc_types.specs.declared.Mode.TheVariants.{Shared, Exclusive}
 use Rattle.pc_types.specs.declared.Phase.{Phase}
 use Rattle.pc_types.specs.declared.Phase.TheVariants.{Rest}
 use Rattle.pc_types.specs.declared.Reply.{Reply}
 use Rattle.pc_types.specs.declared.Reply.TheVariants as told
-use Rattle.pc_model.specs.Database.{KeysRise, database_of}
+use Rattle.pc_model.specs.Database.{KeysRise, database_of, change_to, write_of}
 use Rattle.pc_model.specs.Files.{File, file_at, join_of}
 use Rattle.pc_types.specs.declared.Outcome.{Outcome}
 use Rattle.pc_types.specs.declared.Outcome.TheVariants.{Granted, Queued, Died}
@@ -17,7 +18,7 @@ use Rattle.pc_records.proofs.FirstKeyLaws.{first_records}
 use Rattle.pc_engine.specs.Sessions.{with_session, after_writing, after_dying, if_died, if_granted}
 use Rattle.pc_engine.specs.Store.{Active, active_in, Store, setting_of, active}
 use Rattle.pc_types.specs.declared.Class.{Class}
-use Rattle.pc_engine.specs.Steps.{outcome_in, abort_causes, Owes, Begins, Gets, WritesKey, Commits, Aborts, StartsPoint, Seals, Moves, TakesFirstKey, Takes, Shelves, Joins}
+use Rattle.pc_engine.specs.Steps.{outcome_in, abort_causes, Owes, Begins, Gets, WritesKey, AddsTo, Commits, Aborts, StartsPoint, Seals, Moves, TakesFirstKey, Takes, Shelves, Joins}
 use Rattle.pc_engine.specs.Stands.{Stands, IfRefused}
 use Rattle.pc_engine.proofs.LocalSteps.{same_setting}
 
@@ -47,6 +48,11 @@ not_refused_write Granted Fact = tt
 not_refused_write Queued Fact = tt
 not_refused_write Died Fact = tt
 
+not_refused_sum : (o : Outcome) (sum : ℤ) (Fact : Type 0) → IfRefused (by_outcome o (told.Sum sum)) Fact
+not_refused_sum Granted sum Fact = tt
+not_refused_sum Queued sum Fact = tt
+not_refused_sum Died sum Fact = tt
+
 -- there are as many sessions, however a request is answered
 asked_length : (o : Outcome) (old dead sessions : List (Option Active)) → length dead ≡ length old → length sessions ≡ length old → length (if_died o dead (if_granted o sessions old)) ≡ length old
 asked_length Granted old dead sessions d s = s
@@ -70,8 +76,17 @@ writes_keeps old s key content reply new =
     owes_keeps _ old reply new _
     (λ d. (
       ap setting_of d.1
-          ∙ same_setting old _ (asked_length (outcome_in old s key Exclusive) old.sessions (with_session old.sessions s (after_dying (active old s))) (with_session old.sessions s (after_writing (active old s) (record { key = key; value = content }))) (length-set old.sessions _ _) (length-set old.sessions _ _)),
+          ∙ same_setting old _ (asked_length (outcome_in old s key Exclusive) old.sessions (with_session old.sessions s (after_dying (active old s))) (with_session old.sessions s (after_writing (active old s) (write_of key (change_to content)))) (length-set old.sessions _ _) (length-set old.sessions _ _)),
       rw d.0 (not_refused_write (outcome_in old s key Exclusive) _),
+    ))
+
+pub adds_keeps : (old : Store) (s : ℕ) (key : List ℕ) (delta : ℤ) (reply : Reply) (new : Store) → AddsTo old s key delta reply new → Keeps old reply new
+adds_keeps old s key delta reply new =
+    owes_keeps _ old reply new _
+    (λ d. (
+      ap setting_of d.1
+          ∙ same_setting old _ (asked_length (outcome_in old s key Exclusive) old.sessions (with_session old.sessions s (after_dying (active old s))) (with_session old.sessions s (after_writing (active old s) (write_of key (Add delta)))) (length-set old.sessions _ _) (length-set old.sessions _ _)),
+      rw d.0 (not_refused_sum (outcome_in old s key Exclusive) _ _),
     ))
 
 pub commits_keeps : (old : Store) (s : ℕ) (reply : Reply) (new : Store) → Commits old s reply new → Keeps old reply new

@@ -1,4 +1,5 @@
 -- That sessions, records and phases stand together whatever a call makes of them.
+use Rattle.pc_model.specs.Changes.{Applies}
 use Rattle.std.proofs.Common.{◌≡◌, ℕ, zero, suc, ◌+◌, ◌-◌, ◌<◌, ◌≤◌, List, [], ◌∷◌, ◌++◌, length, map, set, replicate, Option, Some, None, is_some, is_none, refl, sym, ap, subst, ◌∙◌, arith, true, false, inl, inr}
 use Rattle.std.specs.Prelude.{◌⊎◌, Ok}
 use Rattle.std.proofs.lemmas.List.{length-replicate, length-set}
@@ -22,7 +23,7 @@ use Rattle.pc_records.specs.NewKeys.{new_keys, is_one_too_many}
 use Rattle.pc_records.proofs.NewKeyLaws.{few_enough}
 use Rattle.pc_slots.specs.Slots.{Pending}
 use Rattle.pc_records.specs.Tables.{RecordsView, pending_at, pending_without, pending_after, kept_of, IsClearFor}
-use Rattle.pc_engine.specs.Sessions.{number_in, class_at, writes_in, after_writing, after_dying, if_died, if_granted, with_session, AreFew}
+use Rattle.pc_engine.specs.Sessions.{number_in, class_at, writes_in, left_by, seen_in, after_writing, after_dying, if_died, if_granted, with_session, AreFew}
 use Rattle.pc_engine.specs.Store.{Active, active_in}
 use Rattle.pc_engine.specs.Counts.{AreCounted}
 use Rattle.pc_engine.specs.Ongoing.{Ongoing, after_answer, after_ending, with_rows}
@@ -85,7 +86,7 @@ died_few (Some a) le = le
 
 wrote_few : (a : Option Active) (write : Write) → length (writes_in a) ≤ 256 → is_one_too_many (writes_in a) write.key ≡ false → length (writes_in (after_writing a write)) ≤ 256
 wrote_few None write le one = le
-wrote_few (Some a) write le one = few_enough a.writes write.key write.value le one
+wrote_few (Some a) write le one = few_enough a.writes write le one
 
 length_died : (o : Outcome) (ss : List (Option Active)) (j : ℕ) (x y : Option Active) → length (if_died o (set ss j x) (if_granted o (set ss j y) ss)) ≡ length ss
 length_died Granted ss j x y = length-set ss j y
@@ -132,14 +133,14 @@ module _ (t : RecordsView) (ss : List (Option Active)) (phases : Phases) (begun 
       (few_set ss j (after_dying (at_place ss j)) all.few (died_few (at_place ss j) (all.few j))) (length-set ss j (after_dying (at_place ss j))))
 
   -- a request to write was answered
-  pub request_stands : (after : RecordsView) (then : List (Option Active)) (j : ℕ) (a : Active) (write : Write) (o : Outcome) → j < length ss → at_place ss j ≡ Some a → is_one_too_many a.writes write.key ≡ false →
+  pub request_stands : (after : RecordsView) (then : List (Option Active)) (j : ℕ) (a : Active) (write : Write) (value : Option (List ℕ)) (o : Outcome) → j < length ss → at_place ss j ≡ Some a → is_one_too_many a.writes write.key ≡ false → (o ≡ Granted → Applies write.change (seen_in t.rows (at_place ss j) write.key)) → (o ≡ Granted → value ≡ seen_in t.rows (after_writing (at_place ss j) write) write.key) →
       then ≡ if_died o (set ss j (after_dying (at_place ss j))) (if_granted o (set ss j (after_writing (at_place ss j) write)) ss) →
       kept_of after ≡ record (kept_of t) { rows = rows_after t.rows write.key a.number Exclusive o } →
-      ((q : List ℕ) → pending_at after q ≡ pending_after o t write.key (let p : Pending = record { by = a.number; class = a.class; value = write.value } in p) q) → (o ≡ Granted → IsClearFor t write.key a.number) →
+      ((q : List ℕ) → pending_at after q ≡ pending_after o t write.key (let p : Pending = record { by = a.number; class = a.class; value = value } in p) q) → (o ≡ Granted → IsClearFor t write.key a.number) →
       after.point ≡ t.point → after.opened ≡ t.opened → after.shut ≡ t.shut → StandTogether after then phases begun
-  request_stands after then j a write o inside own one gone rows pending clear still opened shut =
+  request_stands after then j a write value o inside own one applies leaves gone rows pending clear still opened shut =
       rw gone (stands_with after _ opened shut
-      (written_together t after ss j write.key write.value o inside (ap is_some own) (rw own rows) (rw own pending) (rw own clear) still begun phases.phase phases.point t.opened t.shut all.hold)
+      (written_together t after ss j write value o inside (ap is_some own) applies leaves (rw own rows) (rw own pending) (rw own clear) still begun phases.phase phases.point t.opened t.shut all.hold)
       (request_counted phases ss all.counted {A = Unit {0}} {E = Unit {0}} (Ok tt) (λ r. o) write _ j refl tt)
       (few o) (length_died o ss j (after_dying (at_place ss j)) (after_writing (at_place ss j) write)))
     where
@@ -166,7 +167,7 @@ module _ (t : RecordsView) (ss : List (Option Active)) (phases : Phases) (begun 
       at_point = left_point phases now (class_at (at_place ss j)) is
 
   pub committed_stands : (middle after : RecordsView) (then : List (Option Active)) (j n : ℕ) (ws : List Write) (now : Phases) → j < length ss → is_some (at_place ss j) ≡ true → KeysRise t.rows → ws ≡ writes_in (at_place ss j) → then ≡ set ss j None → now ≡ left phases (class_at (at_place ss j)) →
-      kept_of middle ≡ record (kept_of t) { rows = map (written_row ws) t.rows } → ((q : List ℕ) → pending_at middle q ≡ pending_without ws t q) → middle.point ≡ t.point → middle.opened ≡ t.opened ++ new_keys t.rows ws → middle.shut ≡ t.shut →
+      kept_of middle ≡ record (kept_of t) { rows = map (written_row (left_by ws t.rows)) t.rows } → ((q : List ℕ) → pending_at middle q ≡ pending_without ws t q) → middle.point ≡ t.point → middle.opened ≡ t.opened ++ new_keys t.rows ws → middle.shut ≡ t.shut →
       after ≡ record middle { rows = released_rows n middle.rows } → StandTogether after then now begun
   committed_stands middle after then j n ws now inside there rise mine gone is rows pending still opened shut released =
       rw gone (over_stands after j now inside there is

@@ -1,6 +1,7 @@
 -- What each event keeps of the sessions, the records and the cycle together, and what that gives to each.
+use Rattle.pc_model.specs.Changes.{Applies, AppliesIfAny}
 use Rattle.std.proofs.Common.{◌≡◌, ℕ, zero, suc, ◌+◌, ◌<◌, ◌≤◌, List, [], ◌∷◌, ◌++◌, length, map, set, replicate, Option, Some, None, is_some, is_none, refl, sym, ap, subst, ◌∙◌, arith, Bool, true, false, cond, eqb, ◌||◌, inl, inr}
-use Rattle.std.specs.Prelude.{◌⊎◌, filter, option_map}
+use Rattle.std.specs.Prelude.{◌⊎◌, filter}
 use Rattle.pc_types.specs.declared.Mode.TheVariants.{Shared, Exclusive}
 use Rattle.pc_types.specs.declared.Class.{Class}
 use Rattle.pc_types.specs.declared.Class.TheVariants.{Before, During, After}
@@ -15,21 +16,22 @@ use Rattle.pc_model.specs.History.{class_in}
 use Rattle.pc_types.specs.declared.Outcome.{Outcome}
 use Rattle.pc_types.specs.declared.Outcome.TheVariants.{Granted, Queued, Died}
 use Rattle.pc_model.specs.Points.{is_among}
-use Rattle.pc_model.specs.Replies.{by_outcome, read_reply, value_read}
+use Rattle.pc_model.specs.Replies.{by_outcome, read_reply}
 use Rattle.pc_types.specs.Phases.{same_phase, same_class}
 use Rattle.pc_model.proofs.JoinLaws.{one_key}
-use Rattle.pc_records.specs.Rows.{Row, Kept, record_of, is_in_open_set, is_in_closed_set}
+use Rattle.pc_records.specs.Rows.{Row, Kept, record_of, stored, is_in_open_set, is_in_closed_set}
 use Rattle.pc_records.specs.RowSteps.{rows_after, released_rows, written_row, closed_row, left_rows, committed_row}
 use Rattle.pc_records.specs.NewKeys.{new_keys, with_new}
 use Rattle.pc_slots.specs.Slots.{Pending}
-use Rattle.pc_records.specs.Tables.{RecordsView, pending_at, pending_without, kept_of, pending_after, value_of, read_of, IsClearFor}
-use Rattle.pc_records.proofs.SetFlagLaws.{asked_sets, released_sets, written_open, written_closed, closed_sets, left_open, left_closed}
-use Rattle.pc_records.specs.RowSets.{HaveSameSets}
+use Rattle.pc_records.specs.Tables.{RecordsView, pending_at, pending_without, made_committed, kept_of, pending_after, read_of, IsClearFor}
+use Rattle.pc_records.proofs.SetFlagLaws.{asked_sets, released_sets, written_value, written_open, written_closed, closed_value, closed_sets, left_value, left_open, left_closed}
+use Rattle.pc_records.specs.RowSets.{HaveSameContents}
 use Rattle.pc_records.proofs.ReleaseLaws.{rise_written}
-use Rattle.pc_engine.specs.Sessions.{number_in, class_at, writes_in, after_writing, after_dying, if_died, if_granted, is_of, count_of}
+use Rattle.pc_records.proofs.WrittenKeys.{written_first}
+use Rattle.pc_engine.specs.Sessions.{number_in, class_at, writes_in, left_by, seen_in, after_writing, after_dying, if_died, if_granted, is_of, count_of}
 use Rattle.pc_engine.specs.Store.{Active}
 use Rattle.pc_engine.specs.InPlace.{at_place, write_in, may_be_active, fits, AreSetsListed, is_open_point, HoldTogether, AreOpen}
-use Rattle.pc_engine.proofs.PlacedWrites.{by_place, number_of, own_write, same_writes, same_places, wrote_in_place, ended_in_place, begun_numbers, same_numbers, values_stand, none_by, reads_right}
+use Rattle.pc_engine.proofs.PlacedWrites.{by_place, number_of, own_write, same_writes, same_places, wrote_in_place, ended_in_place, begun_numbers, same_numbers, is_left, writes_stand, made_left, none_by, reads_right}
 
 -- whatever number was given last, and whatever phase, point and sets these held together with, the others hold together with
 -- the same
@@ -44,7 +46,7 @@ all_idle (suc n) (suc i) = all_idle n i
 -- at the start nothing is open, and no key is in a set
 pub hold_first : (capacity n : ℕ) (pairs : List (List ℕ × List ℕ)) → HoldTogether (record { capacity = capacity; rows = map committed_row pairs; pending = []; point = 0; opened = []; shut = [] }) (replicate n None) 0 Rest 0 [] []
 hold_first capacity n pairs = record {
-  writes = record { placed = λ i q some. absurd (let no : false ≡ true = sym (ap (λ a. is_some (write_in a q)) (all_idle n i)) ∙ some in cc); owned = λ q. inl refl };
+  writes = record { placed = λ i q some. absurd (let no : false ≡ true = sym (ap (λ a. is_some (write_in (map committed_row pairs) a q)) (all_idle n i)) ∙ some in cc); owned = λ q. inl refl; apply = λ i q. subst (λ a. AppliesIfAny (written (writes_in a) q) (stored (record_of (map committed_row pairs) q))) (sym (all_idle n i)) tt };
   numbers = record {
     apart = λ i j some other same. absurd (let no : false ≡ true = sym (ap (is_some {T = Active}) (all_idle n i)) ∙ some in cc);
     given = λ i. omega (arith, ap number_in (all_idle n i));
@@ -75,7 +77,7 @@ begun_fits Complete = refl
 -- a key of the writes is new, or was in the open set
 new_or_open : (rows : List Row) (ws : List Write) (q : List ℕ) → is_some (written ws q) ≡ true → (is_in_open_set (record_of rows q) ≡ true) ⊎ (is_among (new_keys rows ws) q ≡ true)
 new_or_open rows [] q some = absurd (let no : false ≡ true = some in cc)
-new_or_open rows (w ∷ ws) q some = by_match (same_bytes w.key q) refl some (new_or_open rows ws q)
+new_or_open rows (w ∷ ws) q some = by_match (same_bytes w.key q) refl (sym (written_first w ws q) ∙ some) (new_or_open rows ws q)
   where
     same : same_bytes w.key q ≡ true → same_bytes q w.key ≡ true
     same e = ap (λ k. same_bytes q k) (one_key w.key q e) ∙ (eq_by_cmp_equiv key_order.total).refl q
@@ -88,7 +90,7 @@ new_or_open rows (w ∷ ws) q some = by_match (same_bytes w.key q) refl some (ne
     by_new true e m = inl (ap (λ k. is_in_open_set (record_of rows k)) (sym (one_key w.key q m)) ∙ e)
     by_new false e m = inr (ap (λ b. b || is_among (new_keys rows ws) q) (same m))
 
-    by_match : (b : Bool) → same_bytes w.key q ≡ b → is_some (cond b (Some w.value) (written ws q)) ≡ true →
+    by_match : (b : Bool) → same_bytes w.key q ≡ b → (b || is_some (written ws q)) ≡ true →
         (is_some (written ws q) ≡ true → (is_in_open_set (record_of rows q) ≡ true) ⊎ (is_among (new_keys rows ws) q ≡ true)) →
         (is_in_open_set (record_of rows q) ≡ true) ⊎ (is_among (with_new (is_in_open_set (record_of rows w.key)) w.key (new_keys rows ws)) q ≡ true)
     by_match true e s rest = by_new (is_in_open_set (record_of rows w.key)) refl e
@@ -168,7 +170,7 @@ module _ (t : RecordsView) (ss : List (Option Active)) (begun : ℕ) (phase : Ph
 
   -- a transaction that writes a key again is of the class that it had
   pub same_again : (j : ℕ) (q : List ℕ) (p : Pending) → is_some (at_place ss j) ≡ true → pending_at t q ≡ Some p → p.by ≡ number_in (at_place ss j) → p.class ≡ class_at (at_place ss j)
-  same_again j q p there stands own = (number_of (at_place ss j) q p (own_write t ss begun hold.writes hold.numbers j q p there stands own)).1
+  same_again j q p there stands own = (number_of t.rows (at_place ss j) q p (own_write t ss begun hold.writes hold.numbers j q p there stands own)).1
 
   -- what stands in a place is of a class that may be active
   pub may_stand : (q : List ℕ) (p : Pending) → pending_at t q ≡ Some p → (i : ℕ) × (p.class ≡ class_at (at_place ss i)) × (is_some (at_place ss i) ≡ true) × (may_be_active phase p.class ≡ true)
@@ -178,10 +180,10 @@ module _ (t : RecordsView) (ss : List (Option Active)) (begun : ℕ) (phase : Ph
       by_active None e f = absurd (let no : false ≡ true = e in cc)
       by_active (Some a) e f = f
 
-      by_owner : (pending_at t q ≡ None) ⊎ ((i : ℕ) × (pending_at t q ≡ write_in (at_place ss i) q)) → (i : ℕ) × (p.class ≡ class_at (at_place ss i)) × (is_some (at_place ss i) ≡ true) × (may_be_active phase p.class ≡ true)
+      by_owner : (pending_at t q ≡ None) ⊎ ((i : ℕ) × (pending_at t q ≡ write_in t.rows (at_place ss i) q)) → (i : ℕ) × (p.class ≡ class_at (at_place ss i)) × (is_some (at_place ss i) ≡ true) × (may_be_active phase p.class ≡ true)
       by_owner (inl none) = absurd (let no : true ≡ false = ap is_some (sym stands ∙ none) in cc)
       by_owner (inr owner) =
-          let found = number_of (at_place ss owner.0) q p (sym owner.1 ∙ stands) in
+          let found = number_of t.rows (at_place ss owner.0) q p (sym owner.1 ∙ stands) in
           (owner.0, found.1, found.2, ap (may_be_active phase) found.1 ∙ by_active (at_place ss owner.0) found.2 (hold.classes owner.0))
 
   -- at the seal each write in place is of a During transaction
@@ -211,7 +213,7 @@ module _ (t : RecordsView) (ss : List (Option Active)) (begun : ℕ) (phase : Ph
   -- a transaction begins
   pub hold_begun : (j : ℕ) (a : Active) → j < length ss → a.number ≡ begun + 1 → a.class ≡ class_in phase → a.writes ≡ [] → is_none (at_place ss j) ≡ true → HoldTogether t (set ss j (Some a)) (begun + 1) phase point open_keys closed
   hold_begun j a inside number class bare idle = record {
-    writes = same_writes t ss begun hold.writes hold.numbers t j (Some a) inside (λ q. refl) (λ q. ap (λ ws. write_in (Some (record a { writes = ws })) q) bare ∙ sym (nothing (at_place ss j) q idle));
+    writes = same_writes t ss begun hold.writes hold.numbers t j (Some a) inside (λ q. refl) (λ q. refl) (λ q. ap (λ ws. write_in t.rows (Some (record a { writes = ws })) q) bare ∙ sym (nothing (at_place ss j) q idle)) (λ q. ap (λ ws. written ws q) bare ∙ sym (unwritten (at_place ss j) q idle));
     numbers = begun_numbers t ss begun hold.writes hold.numbers j a inside number;
     classes = by_place ss j (Some a) (λ i x. fits phase x ≡ true) inside (ap (may_be_active phase) class ∙ begun_fits phase) (λ i other. hold.classes i);
     sets = hold.sets;
@@ -220,17 +222,21 @@ module _ (t : RecordsView) (ss : List (Option Active)) (begun : ℕ) (phase : Ph
     fresh = hold.fresh;
   }
     where
-      nothing : (x : Option Active) (q : List ℕ) → is_none x ≡ true → write_in x q ≡ None
+      unwritten : (x : Option Active) (q : List ℕ) → is_none x ≡ true → written (writes_in x) q ≡ None
+      unwritten None q e = refl
+      unwritten (Some x) q e = absurd (let no : false ≡ true = e in cc)
+
+      nothing : (x : Option Active) (q : List ℕ) → is_none x ≡ true → write_in t.rows x q ≡ None
       nothing None q e = refl
       nothing (Some x) q e = absurd (let no : false ≡ true = e in cc)
 
-  listed : (rows : List Row) → HaveSameSets t.rows rows → AreSetsListed rows open_keys closed
+  listed : (rows : List Row) → HaveSameContents t.rows rows → AreSetsListed rows open_keys closed
   listed rows same = record { open_set = λ q e. hold.sets.open_set q (sym (same.open_set q) ∙ e); closed_set = λ q e. hold.sets.closed_set q (sym (same.closed_set q) ∙ e) }
 
   -- a request was answered
-  pub hold_asked : (after : RecordsView) → HaveSameSets t.rows after.rows → ((q : List ℕ) → pending_at after q ≡ pending_at t q) → after.point ≡ t.point → HoldTogether after ss begun phase point open_keys closed
+  pub hold_asked : (after : RecordsView) → HaveSameContents t.rows after.rows → ((q : List ℕ) → pending_at after q ≡ pending_at t q) → after.point ≡ t.point → HoldTogether after ss begun phase point open_keys closed
   hold_asked after same stays still = record {
-    writes = same_places t ss begun hold.writes hold.numbers after stays;
+    writes = same_places t ss begun hold.writes hold.numbers after same.value stays;
     numbers = hold.numbers;
     classes = hold.classes;
     sets = listed after.rows same;
@@ -242,7 +248,7 @@ module _ (t : RecordsView) (ss : List (Option Active)) (begun : ℕ) (phase : Ph
   -- a request has died
   pub hold_died : (j : ℕ) → j < length ss → HoldTogether t (set ss j (after_dying (at_place ss j))) begun phase point open_keys closed
   hold_died j inside = record {
-    writes = same_writes t ss begun hold.writes hold.numbers t j (after_dying (at_place ss j)) inside (λ q. refl) (λ q. same_write (at_place ss j) q);
+    writes = same_writes t ss begun hold.writes hold.numbers t j (after_dying (at_place ss j)) inside (λ q. refl) (λ q. refl) (λ q. same_write (at_place ss j) q) (λ q. same_change (at_place ss j) q);
     numbers = same_numbers t ss begun hold.writes hold.numbers j (after_dying (at_place ss j)) inside (λ e. there (at_place ss j) e) (λ e. number (at_place ss j)) (subst (λ n. n ≤ begun) (sym (number (at_place ss j))) (hold.numbers.given j));
     classes = by_place ss j (after_dying (at_place ss j)) (λ i x. fits phase x ≡ true) inside (class (at_place ss j) (hold.classes j)) (λ i other. hold.classes i);
     sets = hold.sets;
@@ -251,9 +257,13 @@ module _ (t : RecordsView) (ss : List (Option Active)) (begun : ℕ) (phase : Ph
     fresh = hold.fresh;
   }
     where
-      same_write : (a : Option Active) (q : List ℕ) → write_in (after_dying a) q ≡ write_in a q
+      same_write : (a : Option Active) (q : List ℕ) → write_in t.rows (after_dying a) q ≡ write_in t.rows a q
       same_write None q = refl
       same_write (Some a) q = refl
+
+      same_change : (a : Option Active) (q : List ℕ) → written (writes_in (after_dying a)) q ≡ written (writes_in a) q
+      same_change None q = refl
+      same_change (Some a) q = refl
 
       there : (a : Option Active) → is_some (after_dying a) ≡ true → is_some a ≡ true
       there None e = e
@@ -268,11 +278,11 @@ module _ (t : RecordsView) (ss : List (Option Active)) (begun : ℕ) (phase : Ph
       class (Some a) e = e
 
   -- a write was made
-  pub hold_wrote : (after : RecordsView) (j : ℕ) (key : List ℕ) (value : Option (List ℕ)) → j < length ss → is_some (at_place ss j) ≡ true → HaveSameSets t.rows after.rows → after.point ≡ t.point → IsClearFor t key (number_in (at_place ss j)) →
-      ((q : List ℕ) → pending_at after q ≡ cond (same_bytes key q) (Some (let p : Pending = record { by = number_in (at_place ss j); class = class_at (at_place ss j); value = value } in p)) (pending_at t q)) →
-      HoldTogether after (set ss j (after_writing (at_place ss j) (record { key = key; value = value }))) begun phase point open_keys closed
-  hold_wrote after j key value inside there same still clear is = record {
-    writes = wrote_in_place t ss begun hold.writes hold.numbers after j key value inside there clear is;
+  pub hold_wrote : (after : RecordsView) (j : ℕ) (w : Write) (value : Option (List ℕ)) → j < length ss → is_some (at_place ss j) ≡ true → HaveSameContents t.rows after.rows → after.point ≡ t.point → IsClearFor t w.key (number_in (at_place ss j)) → Applies w.change (seen_in t.rows (at_place ss j) w.key) → value ≡ seen_in t.rows (after_writing (at_place ss j) w) w.key →
+      ((q : List ℕ) → pending_at after q ≡ cond (same_bytes w.key q) (Some (let p : Pending = record { by = number_in (at_place ss j); class = class_at (at_place ss j); value = value } in p)) (pending_at t q)) →
+      HoldTogether after (set ss j (after_writing (at_place ss j) w)) begun phase point open_keys closed
+  hold_wrote after j w value inside there same still clear applies leaves is = record {
+    writes = wrote_in_place t ss begun hold.writes hold.numbers after j w value inside there clear applies leaves same.value is;
     numbers = same_numbers t ss begun hold.writes hold.numbers j (after_writing (at_place ss j) w) inside (λ e. there) (λ e. number (at_place ss j)) (subst (λ n. n ≤ begun) (sym (number (at_place ss j))) (hold.numbers.given j));
     classes = by_place ss j (after_writing (at_place ss j) w) (λ i x. fits phase x ≡ true) inside (class (at_place ss j) (hold.classes j)) (λ i other. hold.classes i);
     sets = listed after.rows same;
@@ -281,9 +291,6 @@ module _ (t : RecordsView) (ss : List (Option Active)) (begun : ℕ) (phase : Ph
     fresh = λ prepare. subst (λ n. n < point) (sym still) (hold.fresh prepare);
   }
     where
-      w : Write
-      w = record { key = key; value = value }
-
       number : (a : Option Active) → number_in (after_writing a w) ≡ number_in a
       number None = refl
       number (Some a) = refl
@@ -292,9 +299,9 @@ module _ (t : RecordsView) (ss : List (Option Active)) (begun : ℕ) (phase : Ph
       class None e = e
       class (Some a) e = e
 
-  over : (after : RecordsView) (keys : List (List ℕ)) (j : ℕ) → j < length ss → ((q : List ℕ) → pending_at after q ≡ pending_without (writes_in (at_place ss j)) t q) → after.point ≡ t.point → AreSetsListed after.rows keys closed → HoldTogether after (set ss j None) begun phase point keys closed
-  over after keys j inside is still sets = record {
-    writes = ended_in_place t ss begun hold.writes hold.numbers after j inside is;
+  over : (after : RecordsView) (keys : List (List ℕ)) (j : ℕ) → j < length ss → ((q : List ℕ) → is_some (written (writes_in (at_place ss j)) q) ≡ false → stored (record_of after.rows q) ≡ stored (record_of t.rows q)) → ((q : List ℕ) → pending_at after q ≡ pending_without (writes_in (at_place ss j)) t q) → after.point ≡ t.point → AreSetsListed after.rows keys closed → HoldTogether after (set ss j None) begun phase point keys closed
+  over after keys j inside values is still sets = record {
+    writes = ended_in_place t ss begun hold.writes hold.numbers after j inside values is;
     numbers = same_numbers t ss begun hold.writes hold.numbers j None inside (λ e. absurd (let no : false ≡ true = e in cc)) (λ e. absurd (let no : false ≡ true = e in cc)) (omega arith);
     classes = by_place ss j None (λ i x. fits phase x ≡ true) inside refl (λ i other. hold.classes i);
     sets = sets;
@@ -304,27 +311,36 @@ module _ (t : RecordsView) (ss : List (Option Active)) (begun : ℕ) (phase : Ph
   }
 
   -- a transaction is committed
-  pub hold_committed : (after : RecordsView) (j n : ℕ) → j < length ss → KeysRise t.rows → after.rows ≡ released_rows n (map (written_row (writes_in (at_place ss j))) t.rows) → ((q : List ℕ) → pending_at after q ≡ pending_without (writes_in (at_place ss j)) t q) → after.point ≡ t.point →
+  pub hold_committed : (after : RecordsView) (j n : ℕ) → j < length ss → KeysRise t.rows → after.rows ≡ released_rows n (map (written_row (left_by (writes_in (at_place ss j)) t.rows)) t.rows) → ((q : List ℕ) → pending_at after q ≡ pending_without (writes_in (at_place ss j)) t q) → after.point ≡ t.point →
       HoldTogether after (set ss j None) begun phase point (open_keys ++ new_keys t.rows (writes_in (at_place ss j))) closed
-  hold_committed after j n inside rise rows is still = over after (open_keys ++ new_keys t.rows ws) j inside is still (subst (λ rs. AreSetsListed rs (open_keys ++ new_keys t.rows ws) closed) (sym rows) (record { open_set = λ q e. by_open q (written_open ws t.rows q (sym (same.open_set q) ∙ e)); closed_set = λ q e. hold.sets.closed_set q (sym (written_closed ws t.rows q) ∙ sym (same.closed_set q) ∙ e) }))
+  hold_committed after j n inside rise rows is still =
+      over after (open_keys ++ new_keys t.rows ws) j inside values is still
+      (subst (λ rs. AreSetsListed rs (open_keys ++ new_keys t.rows ws) closed) (sym rows) (record { open_set = λ q e. by_open q (written_open left t.rows q (sym (same.open_set q) ∙ e)); closed_set = λ q e. hold.sets.closed_set q (sym (written_closed left t.rows q) ∙ sym (same.closed_set q) ∙ e) }))
     where
       ws : List Write
       ws = writes_in (at_place ss j)
 
-      same : HaveSameSets (map (written_row ws) t.rows) (released_rows n (map (written_row ws) t.rows))
-      same = released_sets n (map (written_row ws) t.rows) (rise_written ws t.rows rise)
+      left : List ℕ → Option (Option (List ℕ))
+      left = left_by ws t.rows
+
+      same : HaveSameContents (map (written_row left) t.rows) (released_rows n (map (written_row left) t.rows))
+      same = released_sets n (map (written_row left) t.rows) (rise_written left t.rows rise)
+
+      values : (q : List ℕ) → is_some (written ws q) ≡ false → stored (record_of after.rows q) ≡ stored (record_of t.rows q)
+      values q none = ap (λ rs. stored (record_of rs q)) rows ∙ same.value q ∙ written_value left t.rows q (is_left ws t.rows q ∙ none)
 
       by_new : (q : List ℕ) → (is_in_open_set (record_of t.rows q) ≡ true) ⊎ (is_among (new_keys t.rows ws) q ≡ true) → is_among (open_keys ++ new_keys t.rows ws) q ≡ true
       by_new q (inl e) = in_first open_keys (new_keys t.rows ws) q (hold.sets.open_set q e)
       by_new q (inr e) = in_second open_keys (new_keys t.rows ws) q e
 
-      by_open : (q : List ℕ) → (is_in_open_set (record_of t.rows q) ≡ true) ⊎ (is_some (written ws q) ≡ true) → is_among (open_keys ++ new_keys t.rows ws) q ≡ true
+      by_open : (q : List ℕ) → (is_in_open_set (record_of t.rows q) ≡ true) ⊎ (is_some (left q) ≡ true) → is_among (open_keys ++ new_keys t.rows ws) q ≡ true
       by_open q (inl e) = by_new q (inl e)
-      by_open q (inr e) = by_new q (new_or_open t.rows ws q e)
+      by_open q (inr e) = by_new q (new_or_open t.rows ws q (sym (is_left ws t.rows q) ∙ e))
 
   -- a transaction is undone
   pub hold_aborted : (after : RecordsView) (j n : ℕ) → j < length ss → KeysRise t.rows → after.rows ≡ released_rows n t.rows → ((q : List ℕ) → pending_at after q ≡ pending_without (writes_in (at_place ss j)) t q) → after.point ≡ t.point → HoldTogether after (set ss j None) begun phase point open_keys closed
-  hold_aborted after j n inside rise rows is still = over after open_keys j inside is still (subst (λ rs. AreSetsListed rs open_keys closed) (sym rows) (listed (released_rows n t.rows) (released_sets n t.rows rise)))
+  hold_aborted after j n inside rise rows is still =
+      over after open_keys j inside (λ q none. ap (λ rs. stored (record_of rs q)) rows ∙ (released_sets n t.rows rise).value q) is still (subst (λ rs. AreSetsListed rs open_keys closed) (sym rows) (listed (released_rows n t.rows) (released_sets n t.rows rise)))
 
   -- the phase has changed to one in which the same transactions may be active
   after_moving : (to : Phase) (next : ℕ) → ((i : ℕ) → fits to (at_place ss i) ≡ true) → (is_open_point to ≡ false → closed ≡ []) → t.point ≤ next → (same_phase to Prepare ≡ true → t.point < next) → HoldTogether t ss begun to next open_keys closed
@@ -371,7 +387,7 @@ module _ (t : RecordsView) (ss : List (Option Active)) (begun : ℕ) (phase : Ph
   -- the open set is closed
   pub hold_sealed : same_phase phase Prepare ≡ true → count_of Before ss ≡ 0 → HoldTogether (record t { rows = map closed_row t.rows; point = point; opened = []; shut = t.opened }) ss begun Resolve point [] open_keys
   hold_sealed prepare none = record {
-    writes = same_places t ss begun hold.writes hold.numbers (record t { rows = map closed_row t.rows; point = point; opened = []; shut = t.opened }) (λ q. refl);
+    writes = same_places t ss begun hold.writes hold.numbers (record t { rows = map closed_row t.rows; point = point; opened = []; shut = t.opened }) (λ q. closed_value t.rows q) (λ q. refl);
     numbers = hold.numbers;
     classes = fits_without Resolve Before none (λ c e. may c (subst (λ p. may_be_active p c ≡ true) (is_this phase Prepare prepare) e));
     sets = record { open_set = λ q e. absurd (let no : false ≡ true = sym (closed_sets t.rows q).1 ∙ e in cc); closed_set = λ q e. hold.sets.open_set q (sym (closed_sets t.rows q).0 ∙ e) };
@@ -388,7 +404,7 @@ module _ (t : RecordsView) (ss : List (Option Active)) (begun : ℕ) (phase : Ph
   -- the first key of the closed set is taken
   pub hold_taken : (k : List ℕ) (ks : List (List ℕ)) → closed ≡ k ∷ ks → HoldTogether (record t { rows = left_rows t.rows k; shut = ks }) ss begun phase point open_keys ks
   hold_taken k ks is = record {
-    writes = same_places t ss begun hold.writes hold.numbers (record t { rows = left_rows t.rows k; shut = ks }) (λ q. refl);
+    writes = same_places t ss begun hold.writes hold.numbers (record t { rows = left_rows t.rows k; shut = ks }) (λ q. left_value t.rows k q) (λ q. refl);
     numbers = hold.numbers;
     classes = hold.classes;
     sets = record { open_set = λ q e. hold.sets.open_set q (sym (left_open t.rows k q) ∙ e); closed_set = λ q e. by_rest q (left_closed t.rows k q e) };
@@ -403,7 +419,7 @@ module _ (t : RecordsView) (ss : List (Option Active)) (begun : ℕ) (phase : Ph
 -- a request to read was answered
 pub shared_together : (t after : RecordsView) (ss : List (Option Active)) (key : List ℕ) (n : ℕ) (o : Outcome) → after ≡ record t { rows = rows_after t.rows key n Shared o } → StayTogether t ss after ss
 shared_together t after ss key n o is begun phase point open_keys closed hold =
-    hold_asked t ss begun phase point open_keys closed hold after (subst (λ rows. HaveSameSets t.rows rows) (sym (ap (λ (a : RecordsView). a.rows) is)) (asked_sets t.rows key n Shared o)) (λ q. ap (λ (a : RecordsView). pending_at a q) is) (ap (λ (a : RecordsView). a.point) is)
+    hold_asked t ss begun phase point open_keys closed hold after (subst (λ rows. HaveSameContents t.rows rows) (sym (ap (λ (a : RecordsView). a.rows) is)) (asked_sets t.rows key n Shared o)) (λ q. ap (λ (a : RecordsView). pending_at a q) is) (ap (λ (a : RecordsView). a.point) is)
 
 -- a request to read has died
 pub shared_dead : (t after : RecordsView) (ss : List (Option Active)) (j : ℕ) (key : List ℕ) (n : ℕ) (o : Outcome) → j < length ss → after ≡ record t { rows = rows_after t.rows key n Shared o } → StayTogether t ss after (set ss j (after_dying (at_place ss j)))
@@ -411,20 +427,20 @@ shared_dead t after ss j key n o inside is begun phase point open_keys closed ho
     hold_died after ss begun phase point open_keys closed (shared_together t after ss key n o is begun phase point open_keys closed hold) j inside
 
 -- a request to write was answered
-pub written_together : (t after : RecordsView) (ss : List (Option Active)) (j : ℕ) (key : List ℕ) (value : Option (List ℕ)) (o : Outcome) → j < length ss → is_some (at_place ss j) ≡ true →
-    kept_of after ≡ record (kept_of t) { rows = rows_after t.rows key (number_in (at_place ss j)) Exclusive o } →
-    ((q : List ℕ) → pending_at after q ≡ pending_after o t key (let p : Pending = record { by = number_in (at_place ss j); class = class_at (at_place ss j); value = value } in p) q) → (o ≡ Granted → IsClearFor t key (number_in (at_place ss j))) → after.point ≡ t.point →
-    StayTogether t ss after (if_died o (set ss j (after_dying (at_place ss j))) (if_granted o (set ss j (after_writing (at_place ss j) (record { key = key; value = value }))) ss))
-written_together t after ss j key value o inside there rows pending clear still begun phase point open_keys closed hold = by_outcome o pending (λ e. clear e)
+pub written_together : (t after : RecordsView) (ss : List (Option Active)) (j : ℕ) (w : Write) (value : Option (List ℕ)) (o : Outcome) → j < length ss → is_some (at_place ss j) ≡ true → (o ≡ Granted → Applies w.change (seen_in t.rows (at_place ss j) w.key)) → (o ≡ Granted → value ≡ seen_in t.rows (after_writing (at_place ss j) w) w.key) →
+    kept_of after ≡ record (kept_of t) { rows = rows_after t.rows w.key (number_in (at_place ss j)) Exclusive o } →
+    ((q : List ℕ) → pending_at after q ≡ pending_after o t w.key (let p : Pending = record { by = number_in (at_place ss j); class = class_at (at_place ss j); value = value } in p) q) → (o ≡ Granted → IsClearFor t w.key (number_in (at_place ss j))) → after.point ≡ t.point →
+    StayTogether t ss after (if_died o (set ss j (after_dying (at_place ss j))) (if_granted o (set ss j (after_writing (at_place ss j) w)) ss))
+written_together t after ss j w value o inside there applies leaves rows pending clear still begun phase point open_keys closed hold = by_outcome o pending (λ e. clear e) (λ e. applies e) (λ e. leaves e)
   where
-    same : HaveSameSets t.rows after.rows
-    same = subst (λ rs. HaveSameSets t.rows rs) (sym (ap (λ (k : Kept). k.rows) rows)) (asked_sets t.rows key (number_in (at_place ss j)) Exclusive o)
+    same : HaveSameContents t.rows after.rows
+    same = subst (λ rs. HaveSameContents t.rows rs) (sym (ap (λ (k : Kept). k.rows) rows)) (asked_sets t.rows w.key (number_in (at_place ss j)) Exclusive o)
 
-    by_outcome : (o : Outcome) → ((q : List ℕ) → pending_at after q ≡ pending_after o t key (let p : Pending = record { by = number_in (at_place ss j); class = class_at (at_place ss j); value = value } in p) q) → (o ≡ Granted → IsClearFor t key (number_in (at_place ss j))) →
-        HoldTogether after (if_died o (set ss j (after_dying (at_place ss j))) (if_granted o (set ss j (after_writing (at_place ss j) (record { key = key; value = value }))) ss)) begun phase point open_keys closed
-    by_outcome Granted pending clear = hold_wrote t ss begun phase point open_keys closed hold after j key value inside there same still (clear refl) pending
-    by_outcome Queued pending clear = hold_asked t ss begun phase point open_keys closed hold after same pending still
-    by_outcome Died pending clear = hold_died after ss begun phase point open_keys closed (hold_asked t ss begun phase point open_keys closed hold after same pending still) j inside
+    by_outcome : (o : Outcome) → ((q : List ℕ) → pending_at after q ≡ pending_after o t w.key (let p : Pending = record { by = number_in (at_place ss j); class = class_at (at_place ss j); value = value } in p) q) → (o ≡ Granted → IsClearFor t w.key (number_in (at_place ss j))) → (o ≡ Granted → Applies w.change (seen_in t.rows (at_place ss j) w.key)) → (o ≡ Granted → value ≡ seen_in t.rows (after_writing (at_place ss j) w) w.key) →
+        HoldTogether after (if_died o (set ss j (after_dying (at_place ss j))) (if_granted o (set ss j (after_writing (at_place ss j) w)) ss)) begun phase point open_keys closed
+    by_outcome Granted pending clear applies leaves = hold_wrote t ss begun phase point open_keys closed hold after j w value inside there same still (clear refl) (applies refl) (leaves refl) pending
+    by_outcome Queued pending clear applies leaves = hold_asked t ss begun phase point open_keys closed hold after same pending still
+    by_outcome Died pending clear applies leaves = hold_died after ss begun phase point open_keys closed (hold_asked t ss begun phase point open_keys closed hold after same pending still) j inside
 
 -- the classes that may be active once the phase has changed
 pub opens_capture : (c : Class) → may_be_active Resolve c ≡ true → same_class c During ≡ false → may_be_active Capture c ≡ true
@@ -438,12 +454,12 @@ goes_to_rest During e f = e
 goes_to_rest After e f = absurd (let no : true ≡ false = f in cc)
 
 -- a transaction's writes are committed where they stand, and its requests released
-pub committed_together : (t middle after : RecordsView) (ss : List (Option Active)) (j n : ℕ) (ws : List Write) → j < length ss → KeysRise t.rows → ws ≡ writes_in (at_place ss j) → kept_of middle ≡ record (kept_of t) { rows = map (written_row ws) t.rows } → ((q : List ℕ) → pending_at middle q ≡ pending_without ws t q) →
+pub committed_together : (t middle after : RecordsView) (ss : List (Option Active)) (j n : ℕ) (ws : List Write) → j < length ss → KeysRise t.rows → ws ≡ writes_in (at_place ss j) → kept_of middle ≡ record (kept_of t) { rows = map (written_row (left_by ws t.rows)) t.rows } → ((q : List ℕ) → pending_at middle q ≡ pending_without ws t q) →
     middle.point ≡ t.point → after ≡ record middle { rows = released_rows n middle.rows } → (begun : ℕ) (phase : Phase) (point : ℕ) (open_keys closed : List (List ℕ)) → HoldTogether t ss begun phase point open_keys closed →
     HoldTogether after (set ss j None) begun phase point (open_keys ++ new_keys t.rows (writes_in (at_place ss j))) closed
 committed_together t middle after ss j n ws inside rise mine rows pending still left begun phase point open_keys closed hold =
     hold_committed t ss begun phase point open_keys closed hold after j n inside rise
-    (ap (λ (a : RecordsView). a.rows) left ∙ ap (released_rows n) (ap (λ (k : Kept). k.rows) rows ∙ ap (λ w. map (written_row w) t.rows) mine))
+    (ap (λ (a : RecordsView). a.rows) left ∙ ap (released_rows n) (ap (λ (k : Kept). k.rows) rows ∙ ap (λ w. map (written_row (left_by w t.rows)) t.rows) mine))
     (λ q. ap (λ (a : RecordsView). pending_at a q) left ∙ pending q ∙ ap (λ w. pending_without w t q) mine) (ap (λ (a : RecordsView). a.point) left ∙ still)
 
 -- a transaction's writes are undone, and its requests released
@@ -454,9 +470,17 @@ aborted_together t middle after ss j n ws inside rise mine rows pending still le
     (ap (λ (a : RecordsView). a.rows) left ∙ ap (released_rows n) (ap (λ (k : Kept). k.rows) rows))
     (λ q. ap (λ (a : RecordsView). pending_at a q) left ∙ pending q ∙ ap (λ w. pending_without w t q) mine) (ap (λ (a : RecordsView). a.point) left ∙ still)
 
--- the values of its writes stand in their places until then
-pub values_placed : (t : RecordsView) (ss : List (Option Active)) (begun j : ℕ) (ws : List Write) → AreOpen t ss begun → is_some (at_place ss j) ≡ true → ws ≡ writes_in (at_place ss j) → (q : List ℕ) → is_some (written ws q) ≡ true → option_map value_of (pending_at t q) ≡ written ws q
-values_placed t ss begun j ws placed there mine = subst (λ w. (q : List ℕ) → is_some (written w q) ≡ true → option_map value_of (pending_at t q) ≡ written w q) (sym mine) (values_stand t ss begun placed.writes placed.numbers j there)
+-- each of its keys has a write in its place until then
+pub writes_placed : (t : RecordsView) (ss : List (Option Active)) (begun j : ℕ) (ws : List Write) → AreOpen t ss begun → ws ≡ writes_in (at_place ss j) → (q : List ℕ) → is_some (written ws q) ≡ true → is_some (pending_at t q) ≡ true
+writes_placed t ss begun j ws placed mine = subst (λ w. (q : List ℕ) → is_some (written w q) ≡ true → is_some (pending_at t q) ≡ true) (sym mine) (writes_stand t ss begun placed.writes placed.numbers j)
+
+-- what a commit makes the keys' values is what its writes leave
+pub rows_left : (t : RecordsView) (kept : Kept) (ss : List (Option Active)) (begun j : ℕ) (ws : List Write) → AreOpen t ss begun → is_some (at_place ss j) ≡ true → ws ≡ writes_in (at_place ss j) → kept ≡ record (kept_of t) { rows = map (written_row (made_committed ws t)) t.rows } →
+    kept ≡ record (kept_of t) { rows = map (written_row (left_by ws t.rows)) t.rows }
+rows_left t kept ss begun j ws placed there mine rows = rows ∙ ap (λ (left : List ℕ → Option (Option (List ℕ))). record (kept_of t) { rows = map (written_row left) t.rows }) (λ i q. made q i)
+  where
+    made : (q : List ℕ) → made_committed ws t q ≡ left_by ws t.rows q
+    made q = subst (λ w. made_committed w t q ≡ left_by w t.rows q) (sym mine) (made_left t ss begun placed.writes placed.numbers j q there)
 
 -- and then none stands
 pub none_placed : (t middle : RecordsView) (ss : List (Option Active)) (begun j n : ℕ) (ws : List Write) → AreOpen t ss begun → is_some (at_place ss j) ≡ true → ws ≡ writes_in (at_place ss j) → n ≡ number_in (at_place ss j) → ((q : List ℕ) → pending_at middle q ≡ pending_without ws t q) →
@@ -464,11 +488,16 @@ pub none_placed : (t middle : RecordsView) (ss : List (Option Active)) (begun j 
 none_placed t middle ss begun j n ws placed there mine number pending q p stands =
     ap (eqb p.by) number ∙ none_by t ss begun placed.writes placed.numbers middle j there (λ k. pending k ∙ ap (λ w. pending_without w t k) mine) q p stands
 
--- what is read where the request was granted is what the transaction has written, or else what is committed
-pub read_granted : (t : RecordsView) (ss : List (Option Active)) (begun j n : ℕ) (key : List ℕ) (o : Outcome) (found : Reply) (committed : Option (List ℕ)) → AreOpen t ss begun → is_some (at_place ss j) ≡ true → Granted ≡ o → n ≡ number_in (at_place ss j) → IsClearFor t key n →
-    found ≡ read_reply (read_of (pending_at t key) committed) → found ≡ by_outcome o (read_reply (value_read (written (writes_in (at_place ss j)) key) committed))
-read_granted t ss begun j n key o found committed placed there granted number clear is =
-    is ∙ ap read_reply (reads_right t ss begun placed.writes placed.numbers j key committed there (subst (λ k. IsClearFor t key k) number clear)) ∙ ap (λ x. by_outcome x (read_reply (value_read (written (writes_in (at_place ss j)) key) committed))) granted
+-- what is read where the request was granted is what the transaction sees
+pub read_granted : (t : RecordsView) (ss : List (Option Active)) (begun j n : ℕ) (key : List ℕ) (o : Outcome) (found : Reply) → AreOpen t ss begun → is_some (at_place ss j) ≡ true → Granted ≡ o → n ≡ number_in (at_place ss j) → IsClearFor t key n →
+    found ≡ read_reply (read_of (pending_at t key) (stored (record_of t.rows key))) → found ≡ by_outcome o (read_reply (seen_in t.rows (at_place ss j) key))
+read_granted t ss begun j n key o found placed there granted number clear is =
+    is ∙ ap read_reply (reads_right t ss begun placed.writes placed.numbers j key there (subst (λ k. IsClearFor t key k) number clear)) ∙ ap (λ x. by_outcome x (read_reply (seen_in t.rows (at_place ss j) key))) granted
+
+-- and so it sees what stands in the place of a key that it may write
+pub seen_granted : (t : RecordsView) (ss : List (Option Active)) (begun j n : ℕ) (key : List ℕ) (found : Option (List ℕ)) → AreOpen t ss begun → is_some (at_place ss j) ≡ true → n ≡ number_in (at_place ss j) → IsClearFor t key n → found ≡ read_of (pending_at t key) (stored (record_of t.rows key)) →
+    found ≡ seen_in t.rows (at_place ss j) key
+seen_granted t ss begun j n key found placed there number clear is = is ∙ reads_right t ss begun placed.writes placed.numbers j key there (subst (λ k. IsClearFor t key k) number clear)
 
 -- the same lists of both sets
 pub same_sets : (t : RecordsView) (ss : List (Option Active)) (begun : ℕ) (phase : Phase) (point : ℕ) (open_keys now closed left : List (List ℕ)) → now ≡ open_keys → left ≡ closed → HoldTogether t ss begun phase point open_keys closed → HoldTogether t ss begun phase point now left

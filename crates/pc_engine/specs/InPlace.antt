@@ -1,34 +1,37 @@
 -- What the sessions, the records and the cycle keep together: open transactions have their writes in place.
+use Rattle.pc_model.specs.Database.{written}
+use Rattle.pc_model.specs.Changes.{AppliesIfAny}
 use Rattle.std.specs.Prelude.{◌≡◌, ℕ, ◌<◌, ◌≤◌, Bool, true, false, List, [], length, Option, Some, None, is_some, option_map, slice_index_or, ◌⊎◌}
 use Rattle.pc_types.specs.declared.Class.{Class}
 use Rattle.pc_types.specs.declared.Class.TheVariants.{Before, During, After}
 use Rattle.pc_types.specs.declared.Phase.{Phase}
 use Rattle.pc_types.specs.declared.Phase.TheVariants.{Rest, Prepare, Resolve, Capture, Complete}
-use Rattle.pc_model.specs.Database.{written}
 use Rattle.pc_model.specs.Points.{is_among}
 use Rattle.pc_types.specs.Phases.{same_phase}
 use Rattle.pc_types.specs.declared.limits.TheConstants.{MOST_SESSIONS, MOST_TRANSACTIONS}
 use Rattle.pc_phase.specs.Phases.{Phases}
-use Rattle.pc_records.specs.Rows.{Row, record_of, is_in_open_set, is_in_closed_set}
+use Rattle.pc_records.specs.Rows.{Row, record_of, is_in_open_set, is_in_closed_set, stored}
 use Rattle.pc_slots.specs.Slots.{Pending}
 use Rattle.pc_records.specs.Tables.{RecordsView, pending_at}
 use Rattle.pc_engine.specs.Counts.{AreCounted}
-use Rattle.pc_engine.specs.Sessions.{number_in, AreFew}
+use Rattle.pc_engine.specs.Sessions.{number_in, left_by, AreFew, writes_in}
 use Rattle.pc_engine.specs.Store.{Active}
 
 -- the open transaction at the place, if there is one
 abbrev pub at_place : List (Option Active) → ℕ → Option Active
 at_place sessions i = slice_index_or sessions i None
 
--- what the transaction has written of the key, as it stands in the key's place
-abbrev pub write_in : Option Active → List ℕ → Option Pending
-write_in None key = None
-write_in (Some t) key = option_map (λ value. record { by = t.number; class = t.class; value = value }) (written t.writes key)
+-- what the transaction has written of the key, as it stands in the key's place, where these rows say what is committed
+abbrev pub write_in : List Row → Option Active → List ℕ → Option Pending
+write_in rows None key = None
+write_in rows (Some t) key = option_map (λ value. record { by = t.number; class = t.class; value = value }) (left_by t.writes rows key)
 
--- each write of an open transaction stands in its key's place, and what stands there is such a write
+-- Each write of an open transaction stands in its key's place, and what stands there is such a write; and what it does to the key
+-- applies to what is committed.
 pub record AreInPlace (table : RecordsView) (sessions : List (Option Active)) : Type 0 where
-  pub placed : (i : ℕ) (q : List ℕ) → is_some (write_in (at_place sessions i) q) ≡ true → pending_at table q ≡ write_in (at_place sessions i) q
-  pub owned : (q : List ℕ) → (pending_at table q ≡ None) ⊎ ((i : ℕ) × (pending_at table q ≡ write_in (at_place sessions i) q))
+  pub placed : (i : ℕ) (q : List ℕ) → is_some (write_in table.rows (at_place sessions i) q) ≡ true → pending_at table q ≡ write_in table.rows (at_place sessions i) q
+  pub owned : (q : List ℕ) → (pending_at table q ≡ None) ⊎ ((i : ℕ) × (pending_at table q ≡ write_in table.rows (at_place sessions i) q))
+  pub apply : (i : ℕ) (q : List ℕ) → AppliesIfAny (written (writes_in (at_place sessions i)) q) (stored (record_of table.rows q))
 
 -- open transactions have numbers of their own, and none has one that is still to be given
 pub record AreNumbered (begun : ℕ) (sessions : List (Option Active)) : Type 0 where

@@ -11,3 +11,4 @@ pub mod Runs
 pub mod Checks
 pub mod Laws
 pub mod Asking
+pub mod Adds

@@ -12,7 +12,7 @@ use Rattle.pc_phase.specs.Phases.{Phases, entered, left, advanced}
 use Rattle.pc_records.specs.Rows.{Row, Kept, record_of, requests_on}
 use Rattle.pc_records.specs.RowSteps.{committed_row, rows_after, released_rows, written_row, closed_row, left_rows}
 use Rattle.pc_records.specs.NewKeys.{new_keys}
-use Rattle.pc_engine.specs.Sessions.{with_session, number_in, class_at, writes_in, after_dying, if_died}
+use Rattle.pc_engine.specs.Sessions.{with_session, number_in, class_at, writes_in, left_by, after_dying, if_died}
 use Rattle.pc_engine.specs.Store.{Active, active_in}
 
 -- the sessions with their open transactions; the records, and the keys of their open and their closed set in order; the phases,
@@ -64,9 +64,9 @@ after_answer o s key mode answer sessions =
 abbrev pub after_ending : Ongoing → ℕ → List Row → Ongoing
 after_ending o s rows = record o { kept = with_rows (released_rows (number_in (own o s)) rows) o.kept; sessions = with_session o.sessions s None; phases = left o.phases (class_at (own o s)) }
 
--- once it has committed: its writes are the keys' values, and their keys are in the open set
+-- once it has committed: what its writes leave of the keys is their value, and the keys are in the open set
 abbrev pub after_committing : Ongoing → ℕ → Ongoing
-after_committing o s = record (after_ending o s (map (written_row (writes_in (own o s))) o.kept.rows)) { open_set = o.open_set ++ new_keys o.kept.rows (writes_in (own o s)) }
+after_committing o s = record (after_ending o s (map (written_row (left_by (writes_in (own o s)) o.kept.rows)) o.kept.rows)) { open_set = o.open_set ++ new_keys o.kept.rows (writes_in (own o s)) }
 
 -- once it was undone
 abbrev pub after_aborting : Ongoing → ℕ → Ongoing

@@ -1,7 +1,8 @@
 -- What happens to the sessions' open transactions.
-use Rattle.std.specs.Prelude.{ℕ, ◌-◌, ◌≤◌, Bool, true, false, List, [], map, filter, length, Option, Some, None, slice_index_or, slice_set}
+use Rattle.std.specs.Prelude.{ℕ, ◌-◌, ◌≤◌, Bool, true, false, List, [], map, filter, length, Option, Some, None, slice_index_or, slice_set, option_map}
 use Rattle.pc_types.specs.declared.Write.{Write}
-use Rattle.pc_model.specs.Database.{with_write}
+use Rattle.pc_types.specs.Changes.{changed}
+use Rattle.pc_model.specs.Database.{with_write, written, seen}
 use Rattle.pc_types.specs.declared.Outcome.{Outcome}
 use Rattle.pc_types.specs.declared.Outcome.TheVariants.{Granted, Queued, Died}
 use Rattle.pc_types.specs.declared.Class.{Class}
@@ -9,7 +10,7 @@ use Rattle.pc_types.specs.declared.Class.TheVariants.{After}
 use Rattle.pc_types.specs.Phases.{same_class}
 use Rattle.pc_types.specs.declared.limits.TheConstants.{MOST_WRITES}
 use Rattle.pc_engine.specs.declared.lanes.Transaction.{Transaction}
-use Rattle.pc_records.specs.Rows.{Row}
+use Rattle.pc_records.specs.Rows.{Row, record_of, stored}
 use Rattle.pc_records.specs.RowSteps.{is_waiting}
 use Rattle.pc_engine.specs.Store.{Active}
 
@@ -63,6 +64,14 @@ count_of class sessions = length (filter (is_of class) sessions)
 abbrev pub writes_in : Option Active → List Write
 writes_in None = []
 writes_in (Some t) = t.writes
+
+-- what the writes leave of a key, if they are of it, where these rows say what is committed
+abbrev pub left_by : List Write → List Row → List ℕ → Option (Option (List ℕ))
+left_by writes rows key = option_map (λ change. changed change (stored (record_of rows key))) (written writes key)
+
+-- what the transaction sees of a key: what its own writes leave of it, or else what these rows say is committed
+abbrev pub seen_in : List Row → Option Active → List ℕ → Option (List ℕ)
+seen_in rows t key = seen (written (writes_in t) key) (stored (record_of rows key))
 
 -- the transaction once it has written this too
 abbrev pub after_writing : Option Active → Write → Option Active

@@ -1,4 +1,5 @@
 -- Which histories a world stands after.
+use Rattle.pc_model.specs.Changes.{AddsApply}
 use Rattle.std.specs.Prelude.{◌≡◌, ℕ, ◌≤◌, true, false, Option, Some, None, List, ◌∷◌, length, if◌then◌else◌}
 use Rattle.pc_types.specs.declared.Event.{Event}
 use Rattle.pc_types.specs.declared.Reply.{Reply}
@@ -54,11 +55,12 @@ pub record Stands (w : Store) (history : History) : Type 0 where
   pub values : TakesPointValue w.base.pairs history
   pub parts : IsReadOff w history
 
--- Serial truth: each key's committed value is that of the log replayed on the base, and the reads of each committed
--- transaction are right.
+-- Serial truth: each key's committed value is that of the log replayed on the base, the reads and the sums of each committed
+-- transaction are right, and each add of the log applies to what was committed before it.
 pub record IsSerial (w : Store) (history : History) : Type 0 where
   pub contents : (key : List ℕ) → stored (record_of w.kept.rows key) ≡ map_of.get (after w.base.pairs w.log) key
   pub reads : HasRightReads w.base.pairs history
+  pub adds : AddsApply w.base.pairs w.log
 
 -- What checkpoints promise: each touched key is taken once, with what it has at the point, and the headline.
 pub record KeepsPoints (w : Store) (history : History) : Type 0 where

@@ -1,5 +1,5 @@
 -- What one event does to a world.
-use Rattle.std.specs.Prelude.{⊤, ◌≡◌, ℕ, ◌+◌, ◌-◌, ◌<◌, ◌==◌, not, Bool, false, List, [], ◌∷◌, ◌++◌, length, map, Option, Some, None, ◌⊎◌, is_some, is_none, if◌then◌else◌, MatchOption}
+use Rattle.std.specs.Prelude.{⊤, ◌≡◌, ℕ, ◌+◌, ◌-◌, ◌<◌, ◌==◌, not, Bool, false, List, [], ◌∷◌, ◌++◌, length, map, Option, Some, None, ◌⊎◌, is_some, is_none, ℤ, if◌then◌else◌, MatchOption}
 use Rattle.std.specs.FinMap.{put as put_entry}
 use Rattle.pc_types.specs.declared.Entry.TheVariants.{Commit, Token}
 use Rattle.pc_types.specs.declared.Phase.{Phase}
@@ -9,10 +9,12 @@ use Rattle.pc_types.specs.declared.Reply.TheVariants as told
 use Rattle.pc_types.specs.declared.Refusal.{Refusal}
 use Rattle.pc_types.specs.declared.Refusal.TheVariants as why
 use Rattle.pc_types.specs.declared.limits.TheConstants.{MOST_FILES, MOST_LOG_ENTRIES, MOST_POINTS, MOST_TRANSACTIONS}
-use Rattle.pc_model.specs.Database.{key_cmp, written}
+use Rattle.pc_types.specs.declared.Change.TheVariants.{Add}
+use Rattle.pc_types.specs.Changes.{added}
+use Rattle.pc_model.specs.Database.{key_cmp, change_to, write_of, written}
 use Rattle.pc_model.specs.Sets as set
 use Rattle.pc_model.specs.Files.{File, file_at, join_of, triples_taken}
-use Rattle.pc_model.specs.Replies.{first_refusal, or_else, not_yet, no_session, read_reply, value_read, by_outcome, is_empty, join_refusal, IsFileReply}
+use Rattle.pc_model.specs.Replies.{first_refusal, or_else, not_yet, no_session, read_reply, by_outcome, is_empty, join_refusal, IsFileReply}
 use Rattle.pc_types.specs.Phases.{same_phase}
 use Rattle.pc_types.specs.declared.Mode.{Mode}
 use Rattle.pc_types.specs.declared.Mode.TheVariants.{Shared, Exclusive}
@@ -23,11 +25,12 @@ use Rattle.pc_types.specs.declared.Class.{Class}
 use Rattle.pc_types.specs.declared.Class.TheVariants.{Before, During, After}
 use Rattle.pc_phase.specs.declared.change.Change.{Change}
 use Rattle.pc_phase.specs.declared.change.Change.TheVariants as change
-use Rattle.pc_records.specs.Rows.{record_of, stored, at_point, requests_on}
+use Rattle.pc_records.specs.Rows.{record_of, at_point, requests_on}
 use Rattle.pc_records.specs.RowSteps.{is_full_for, is_waiting, rows_after, released_rows, written_row, closed_row, left_rows}
 use Rattle.pc_records.specs.NewKeys.{new_keys, is_one_too_many}
+use Rattle.pc_engine.specs.Adds.{add_causes, sum_in}
 use Rattle.pc_engine.specs.Store.{Active, Store, setting_of, active}
-use Rattle.pc_engine.specs.Sessions.{with_session, number_in, has_died_in, writes_in, count_of, after_writing, after_dying, if_died, if_granted}
+use Rattle.pc_engine.specs.Sessions.{with_session, number_in, has_died_in, writes_in, left_by, seen_in, count_of, after_writing, after_dying, if_died, if_granted}
 
 -- What is certain is answered and changes nothing; where nothing is certain this is done, or memory ran out and nothing changed.
 abbrev pub Owes : Option Reply → Store → Reply → Store → Type 0 → Type 0
@@ -78,11 +81,11 @@ after_asking w s key mode o sessions = record w { kept = record w.kept { rows = 
 abbrev pub outcome_in : Store → ℕ → List ℕ → Mode → Outcome
 outcome_in w s key mode = outcome (requests_on (record_of w.kept.rows key)) (number_in (active w s)) mode
 
--- the transaction's own write is read, or else what is committed, where the request is granted
+-- what the transaction sees of the key is read, where the request is granted
 abbrev pub Gets : Store → ℕ → List ℕ → Reply → Store → Type 0
 Gets old s key reply new =
     Owes (first_refusal (open_causes old s ((is_full_for old.kept key, why.Full) ∷ []))) old reply new
-    ((reply ≡ by_outcome (outcome_in old s key Shared) (read_reply (value_read (written (writes_in (active old s)) key) (stored (record_of old.kept.rows key)))))
+    ((reply ≡ by_outcome (outcome_in old s key Shared) (read_reply (seen_in old.kept.rows (active old s) key)))
     × (new ≡ after_asking old s key Shared (outcome_in old s key Shared) old.sessions))
 
 -- the causes of a write's refusals
@@ -99,7 +102,19 @@ abbrev pub WritesKey : Store → ℕ → List ℕ → Option (List ℕ) → Repl
 WritesKey old s key content reply new =
     Owes (first_refusal (write_causes old s key)) old reply new
     ((reply ≡ by_outcome (outcome_in old s key Exclusive) told.Ok)
-    × (new ≡ after_asking old s key Exclusive (outcome_in old s key Exclusive) (if_granted (outcome_in old s key Exclusive) (with_session old.sessions s (after_writing (active old s) (record { key = key; value = content }))) old.sessions)))
+    × (new ≡ after_asking old s key Exclusive (outcome_in old s key Exclusive) (if_granted (outcome_in old s key Exclusive) (with_session old.sessions s (after_writing (active old s) (write_of key (change_to content)))) old.sessions)))
+
+-- the causes of an add's refusals
+abbrev pub adding_causes : Store → ℕ → List ℕ → ℤ → List (Bool × Refusal)
+adding_causes w s key delta =
+    write_causes w s key ++ add_causes (outcome_in w s key Exclusive) (seen_in w.kept.rows (active w s) key) (written (writes_in (active w s)) key) delta
+
+-- the transaction adds to the number that it sees of the key, where the request is granted
+abbrev pub AddsTo : Store → ℕ → List ℕ → ℤ → Reply → Store → Type 0
+AddsTo old s key delta reply new =
+    Owes (first_refusal (adding_causes old s key delta)) old reply new
+    ((reply ≡ by_outcome (outcome_in old s key Exclusive) (told.Sum (sum_in (added delta (seen_in old.kept.rows (active old s) key)))))
+    × (new ≡ after_asking old s key Exclusive (outcome_in old s key Exclusive) (if_granted (outcome_in old s key Exclusive) (with_session old.sessions s (after_writing (active old s) (write_of key (Add delta)))) old.sessions)))
 
 -- the writes are logged and committed, and the transaction is over: none of its requests stands
 abbrev pub Commits : Store → ℕ → Reply → Store → Type 0
@@ -107,7 +122,7 @@ Commits old s reply new =
     Owes (first_refusal (open_causes old s ((is_log_full old, why.LogFull) ∷ []))) old reply new
     ((reply ≡ told.Committed (length old.log + 1))
     × (new ≡ record old {
-      kept = record old.kept { rows = released_rows (number_in (active old s)) (map (written_row (writes_in (active old s))) old.kept.rows) };
+      kept = record old.kept { rows = released_rows (number_in (active old s)) (map (written_row (left_by (writes_in (active old s)) old.kept.rows)) old.kept.rows) };
       log = old.log ++ Commit s (writes_in (active old s)) ∷ [];
       sessions = with_session old.sessions s None;
       cycle = record old.cycle { open_set = old.cycle.open_set ++ new_keys old.kept.rows (writes_in (active old s)) };

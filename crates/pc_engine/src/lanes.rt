@@ -1,9 +1,12 @@
 //! The lanes of sessions: each has the session's open transaction, and what it has written.
-ghost use Rattle.std.specs.Prelude.{◌≡◌, ◌<◌, ◌≤◌, [], option_map, None, Some, IfOk, OnOk, is_none, true, false};
+ghost use Rattle.std.specs.Prelude.{◌≡◌, ◌<◌, ◌≤◌, [], option_map, None, Some, OnOk, is_none, true, false};
+ghost use Rattle.pc_types.specs.declared.Outcome.TheVariants.{Granted};
+ghost use Rattle.pc_types.specs.Changes.{CanMerge};
+ghost use Rattle.pc_model.specs.Database.{written};
 ghost use Rattle.pc_engine.specs.Sessions.{with_writes, writes_in, after_writing, after_dying, if_died, if_granted};
 
 use pc_txn::WriteSet;
-use pc_types::{Class, Outcome, SlotId, TxnNo, Value, Write, copy_content};
+use pc_types::{Class, Outcome, SlotId, TxnNo, Write};
 use std::alloc::{AllocError, Global};
 use std::marker::Model;
 
@@ -109,42 +112,39 @@ impl Lane {
         }
     }
 
-    /// A copy of the content, with room for one more write.
-    pub(crate) fn prepared(
-        &mut self,
-        alloc: Global,
-        content: &Option<Value>,
-    ) -> Result<Option<Value>, AllocError>
-        ensures copy { IfOk result (λ copy. copy ≡ content.now) }
+    /// Makes room for one more write.
+    pub(crate) fn reserve(&mut self) -> Result<(), AllocError>
         ensures room { OnOk result (0 < self.new.room) }
         ensures same { self.new.own ≡ self.old.own }
     {
         self.writes.reserve()?;
         self.slots.reserve(1)?;
-        copy_content(alloc, content)
+        Ok(())
     }
 
     /// The transaction's request of the write was answered so. There is room for the write.
-    pub(crate) fn answered(&mut self, outcome: Outcome, write: Write, slot: SlotId)
+    pub(crate) fn answered(&mut self, alloc: Global, outcome: Outcome, write: Write, slot: SlotId)
         requires opened { is_none self.old.own ≡ false }
         requires room { 0 < self.old.room }
+        requires merges { outcome ≡ Granted → CanMerge (written (writes_in self.old.own) write.key) write.change }
         ensures { self.new.own ≡ if_granted outcome (after_writing self.old.own write) (if_died outcome (after_dying self.old.own) self.old.own) }
     {
         match outcome {
-            Outcome::Granted => self.note(write, slot),
+            Outcome::Granted => self.note(alloc, write, slot),
             Outcome::Queued => {}
             Outcome::Died => self.note_death(),
         }
     }
 
     // Notes the write, and the slot of a key that it is the first write of.
-    fn note(&mut self, write: Write, slot: SlotId)
+    fn note(&mut self, alloc: Global, write: Write, slot: SlotId)
         requires opened { is_none self.old.own ≡ false }
         requires room { 0 < self.old.room }
+        requires merges { CanMerge (written (writes_in self.old.own) write.key) write.change }
         ensures { self.new.own ≡ after_writing self.old.own write }
     {
         let known = self.writes.len();
-        self.writes.note(write);
+        self.writes.note(alloc, write);
         if known != self.writes.len() {
             self.slots.push_reserved(slot.0);
         }

@@ -1,31 +1,45 @@
 //! The sessions, with the transactions that they have open: over the records in which these write in place, and in the phases that
 //! count them.
-ghost use Rattle.std.specs.Prelude.{◌≡◌, ◌<◌, ◌≤◌, ◌⊎◌, ◌-◌, ◌+◌, length, [], ◌∷◌, option_map, None, Some, List, ℕ, IfOk, IfErr, OnErr, is_none, is_some, replicate, true, false};
+ghost use Rattle.std.specs.Prelude.{◌≡◌, ◌<◌, ◌≤◌, ◌⊎◌, ◌-◌, ◌+◌, length, [], ◌∷◌, option_map, None, Some, List, ℕ, IfOk, IfErr, OnErr, is_none, is_some, option_copied, replicate, true, false};
 ghost use Rattle.pc_types.specs.declared.limits.TheConstants.{MOST_KEYS, MOST_SESSIONS, MOST_TRANSACTIONS, MOST_WRITES};
 ghost use Rattle.pc_types.specs.declared.Mode.TheVariants.{Shared, Exclusive};
 ghost use Rattle.pc_types.specs.declared.Phase.TheVariants.{Capture, Rest};
+ghost use Rattle.pc_types.specs.Changes.{CanMerge, added, can_add};
 ghost use Rattle.pc_types.specs.Phases.{same_phase};
+ghost use Rattle.pc_types.specs.declared.Outcome.TheVariants.{Granted};
+ghost use Rattle.pc_model.specs.Changes.{Applies, AppliesIfAny};
 ghost use Rattle.pc_model.specs.DistinctWrites.{AreDistinct};
 ghost use Rattle.pc_model.specs.Maps.{get};
 ghost use Rattle.pc_model.specs.Database.{KeysRise, database_of, written};
-ghost use Rattle.pc_model.specs.Replies.{by_outcome, read_reply, value_read};
+ghost use Rattle.pc_model.specs.Replies.{by_outcome, read_reply};
 ghost use Rattle.pc_phase.specs.Phases.{held_back};
 ghost use Rattle.pc_records.specs.Rows.{record_of, stored};
 ghost use Rattle.pc_records.specs.RowSteps.{is_full_for, why_refused, is_waiting};
 ghost use Rattle.pc_records.specs.NewKeys.{is_one_too_many};
 ghost use Rattle.pc_records.specs.Tables.{content_behind, first_pinned, kept_of};
+ghost use Rattle.pc_engine.specs.Adds.{GoesOn, IsRefusedFor};
 ghost use Rattle.pc_engine.specs.Counts.{AreCounted};
-ghost use Rattle.pc_engine.specs.Sessions.{actives_of, with_writes, number_in, waits_in, writes_in, after_writing, after_dying, if_granted, with_session};
+ghost use Rattle.pc_engine.specs.Sessions.{actives_of, with_writes, number_in, waits_in, writes_in, seen_in, after_writing, after_dying, if_granted, with_session};
 ghost use Rattle.pc_engine.specs.Ongoing.{own, at_start, answer_to, after_answer, after_beginning, after_committing, after_aborting, after_taking, changed};
 ghost use Rattle.pc_engine.specs.Store.{active_in};
 
 use crate::lanes::{Lane, Transaction};
 use pc_phase::{Change, Held, Phases};
-use pc_records::{Reading, Records, Requested};
-use pc_types::{Key, Outcome, Phase, Point, Refusal, Reply, SessionNo, TxnNo, Value, Write};
+use pc_records::{Look, Reading, Records, Requested};
+use pc_types::{
+    Key, Outcome, Phase, Point, Refusal, Reply, SessionNo, SlotId, TxnNo, Value, Write, is_number,
+    sum,
+};
 use std::alloc::{AllocError, Global};
 use std::hash::RandomState;
 use std::marker::Model;
+
+/// How an add would go: its sum, where its request would be granted, and the slot of its key, if that has one.
+#[derive(Clone, Copy)]
+pub(crate) struct Prospect {
+    pub(crate) sum: Option<i64>,
+    pub(crate) near: Option<SlotId>,
+}
 
 /// The sessions of a store, numbered from 1, each with its open transaction, if there is one; the records, in which these have
 /// their writes in place; and the phases, which count them by class.
@@ -184,9 +198,9 @@ impl Sessions {
         number
     }
 
-    /// The session's transaction requests to read the key, and reads it where the request is granted: what it has written
-    /// itself, or else what is committed. Refuses with `Full` exactly where the key has no record and can't get one, and else
-    /// only with `OutOfMemory`; nothing changed then.
+    /// The session's transaction requests to read the key, and reads it where the request is granted: what its own writes
+    /// leave of it, or else what is committed. Refuses with `Full` exactly where the key has no record and can't get one, and
+    /// else only with `OutOfMemory`; nothing changed then.
     pub(crate) fn read(
         &mut self,
         alloc: Global,
@@ -196,7 +210,7 @@ impl Sessions {
         requires place { session - 1 < length self.old.sessions }
         requires opened { is_none (own self.old session) ≡ false }
         requires ready { is_waiting self.old.kept.rows (number_in (own self.old session)) ≡ false }
-        ensures reply { IfOk result (λ reply. reply ≡ by_outcome (answer_to self.old session key.now Shared) (read_reply (value_read (written (writes_in (own self.old session)) key.now) (stored (record_of self.old.kept.rows key.now))))) }
+        ensures reply { IfOk result (λ reply. reply ≡ by_outcome (answer_to self.old session key.now Shared) (read_reply (seen_in self.old.kept.rows (own self.old session) key.now))) }
         ensures answered { IfOk result (λ reply. self.new ≡ after_answer self.old session key.now Shared (answer_to self.old session key.now Shared) self.old.sessions) }
         ensures room { IfOk result (λ reply. is_full_for self.old.kept key.now ≡ false) }
         ensures refusal { IfErr result (λ why. why ≡ why_refused self.old.kept key.now) }
@@ -214,17 +228,113 @@ impl Sessions {
         }
     }
 
-    /// The session's transaction requests the write, and makes it where the request is granted. Refuses with `Full` exactly
-    /// where the key has no record and can't get one, and else only with `OutOfMemory`; nothing changed then.
+    /// How an add to the key would go, where no request of the session's transaction waits: its sum, if its request would be granted.
+    /// It is refused with `Full` exactly where the key has no record and can't get one, and else, only where the request would be
+    /// granted, with `NotNumber` or `OutOfRange`. It changes nothing and takes no memory.
+    pub(crate) fn foretell(
+        &self,
+        session: SessionNo,
+        key: &Key,
+        delta: i64,
+    ) -> Result<Prospect, Refusal>
+        requires opened { is_none (own self.now session) ≡ false }
+        requires ready { is_waiting self.now.kept.rows (number_in (own self.now session)) ≡ false }
+        ensures goes_on { IfOk result (λ prospect. GoesOn (is_full_for self.now.kept key.now) (answer_to self.now session key.now Exclusive) (seen_in self.now.kept.rows (own self.now session) key.now) (written (writes_in (own self.now session)) key.now) delta prospect.sum) }
+        ensures refused { IfErr result (IsRefusedFor (is_full_for self.now.kept key.now) (answer_to self.now session key.now Exclusive) (seen_in self.now.kept.rows (own self.now session) key.now) (written (writes_in (own self.now session)) key.now) delta) }
+        ensures apply { AppliesIfAny (written (writes_in (own self.now session)) key.now) (stored (record_of self.now.kept.rows key.now)) }
+    {
+        let number = number(self.lanes.as_slice(), session);
+        let Look {
+            outcome,
+            found,
+            slot,
+        } = self.records.look(number, key);
+        if self.lacks_room(key, slot.is_some()) {
+            return Err(Refusal::Full);
+        }
+        let sum = match self.sum_if_granted(outcome, session, key, found, delta) {
+            Ok(sum) => sum,
+            Err(why) => return Err(why),
+        };
+        Ok(Prospect { sum, near: slot })
+    }
+
+    // Whether the key, of which it is said whether it has a record, has none and can't get one.
+    fn lacks_room(&self, key: &Key, has_record: bool) -> bool
+        requires { has_record ≡ is_some (record_of self.now.kept.rows key.now) }
+        ensures { result ≡ is_full_for self.now.kept key.now }
+    {
+        !has_record && self.records.is_full_for(key)
+    }
+
+    // The sum of an add whose request would be answered so; none where it would not be granted.
+    fn sum_if_granted(
+        &self,
+        outcome: Outcome,
+        session: SessionNo,
+        key: &Key,
+        found: Option<&Value>,
+        delta: i64,
+    ) -> Result<Option<i64>, Refusal>
+        ensures goes_on { IfOk result (GoesOn false outcome (option_copied found.entry) (written (writes_in (own self.now session)) key.now) delta) }
+        ensures refused { IfErr result (λ why. (outcome ≡ Granted) × IsRefusedFor false Granted (option_copied found.entry) (written (writes_in (own self.now session)) key.now) delta why) }
+    {
+        match outcome {
+            Outcome::Granted => Ok(Some(self.sum_of(session, key, found, delta)?)),
+            _ => Ok(None),
+        }
+    }
+
+    // The sum of an add to what the session's transaction sees of the key.
+    fn sum_of(
+        &self,
+        session: SessionNo,
+        key: &Key,
+        found: Option<&Value>,
+        delta: i64,
+    ) -> Result<i64, Refusal>
+        ensures sum { IfOk result (λ sum. (added delta (option_copied found.entry) ≡ Some sum) × (can_add (written (writes_in (own self.now session)) key.now) delta ≡ true)) }
+        ensures refused { IfErr result (IsRefusedFor false Granted (option_copied found.entry) (written (writes_in (own self.now session)) key.now) delta) }
+    {
+        if !is_number(found) {
+            return Err(Refusal::NotNumber);
+        }
+        let Some(sum) = sum(found, delta) else {
+            return Err(Refusal::OutOfRange);
+        };
+        if !self.can_add(session, key, delta) {
+            return Err(Refusal::OutOfRange);
+        }
+        Ok(sum)
+    }
+
+    // Whether an add to the key can be kept as one change with what the session's open transaction has written of it.
+    fn can_add(&self, session: SessionNo, key: &Key, delta: i64) -> bool
+        ensures { result ≡ can_add (written (writes_in (own self.now session)) key.now) delta }
+    {
+        match self.lanes.get(place(session)) {
+            Some(lane) => lane.writes().can_add(key, delta),
+            None => true,
+        }
+    }
+
+    /// The session's transaction requests the write, and makes it where the request is granted: then it applies to what the
+    /// transaction sees of the key, and the value is what it sees after it. The key is looked for near that slot first. Refuses with `Full` exactly where the key has no record and can't get one, and else only with `OutOfMemory`;
+    /// nothing changed then.
     pub(crate) fn request(
         &mut self,
         alloc: Global,
         session: SessionNo,
         write: Write,
+        value: Option<Value>,
+        near: Option<SlotId>,
     ) -> Result<Outcome, Refusal>
         requires place { session - 1 < length self.old.sessions }
         requires opened { is_none (own self.old session) ≡ false }
         requires one { is_one_too_many (writes_in (own self.old session)) write.key ≡ false }
+        requires merges { answer_to self.old session write.key Exclusive ≡ Granted → CanMerge (written (writes_in (own self.old session)) write.key) write.change }
+        requires applies { answer_to self.old session write.key Exclusive ≡ Granted → Applies write.change (seen_in self.old.kept.rows (own self.old session) write.key) }
+        requires left { answer_to self.old session write.key Exclusive ≡ Granted → value ≡ seen_in self.old.kept.rows (after_writing (own self.old session) write) write.key }
         requires ready { is_waiting self.old.kept.rows (number_in (own self.old session)) ≡ false }
         ensures told { IfOk result (λ outcome. outcome ≡ answer_to self.old session write.key Exclusive) }
         ensures answered { IfOk result (λ outcome. self.new ≡ after_answer self.old session write.key Exclusive outcome (if_granted outcome (with_session self.old.sessions session (after_writing (own self.old session) write)) self.old.sessions)) }
@@ -233,14 +343,14 @@ impl Sessions {
         ensures same { OnErr result (self.new ≡ self.old) }
     {
         let lane = &mut self.lanes[place(session)];
-        let Ok(value) = lane.prepared(alloc, &write.value) else {
+        let Ok(()) = lane.reserve() else {
             return Err(why_refused(&self.records, &write.key));
         };
         let Transaction { number, class, .. } = lane.opened();
         let Requested { outcome, slot } = self
             .records
-            .write(alloc, number, class, &write.key, value)?;
-        lane.answered(outcome, write, slot);
+            .write(alloc, number, class, &write.key, value, near)?;
+        lane.answered(alloc, outcome, write, slot);
         Ok(outcome)
     }
 

@@ -1,9 +1,9 @@
 //! What each event of a session does.
 ghost use Rattle.std.specs.Prelude.{◌≡◌, ◌==◌, ◌||◌, nat_lt, Some, None, option_copied};
-ghost use Rattle.pc_engine.specs.Steps.{OpenCause, WriteCause, Begins, Gets, WritesKey, Commits, Aborts};
+ghost use Rattle.pc_engine.specs.Steps.{OpenCause, WriteCause, Begins, Gets, WritesKey, AddsTo, Commits, Aborts};
 
 use crate::world::World;
-use crate::writes::write_of;
+use crate::writes::{add_write, content_write};
 use pc_log::commit_size;
 use pc_types::{Key, MOST_TRANSACTIONS, Outcome, Refusal, Reply, SessionNo, Value};
 
@@ -73,11 +73,39 @@ impl World {
         if let Some(why) = self.write_cause(session, key) {
             return Reply::Refused(why);
         }
-        let Ok(write) = write_of(self.alloc, key, value) else {
+        let Ok((write, value)) = content_write(self.alloc, key, value) else {
             return Reply::Refused(self.sessions.why_refused(key));
         };
-        match self.sessions.request(self.alloc, session, write) {
+        match self
+            .sessions
+            .request(self.alloc, session, write, value, None)
+        {
             Ok(Outcome::Granted) => Reply::Ok,
+            Ok(Outcome::Queued) => Reply::Wait,
+            Ok(Outcome::Died) => Reply::Died,
+            Err(why) => Reply::Refused(why),
+        }
+    }
+
+    pub(crate) fn add(&mut self, session: SessionNo, key: &Key, delta: i64) -> Reply
+        ensures { AddsTo self.old session key.now delta result self.new }
+    {
+        if let Some(why) = self.write_cause(session, key) {
+            return Reply::Refused(why);
+        }
+        let prospect = match self.sessions.foretell(session, key, delta) {
+            Ok(prospect) => prospect,
+            Err(why) => return Reply::Refused(why),
+        };
+        let Ok((write, value)) = add_write(self.alloc, key, delta, prospect.sum) else {
+            return Reply::Refused(Refusal::OutOfMemory);
+        };
+        let near = prospect.near;
+        match self
+            .sessions
+            .request(self.alloc, session, write, value, near)
+        {
+            Ok(Outcome::Granted) => Reply::Sum(prospect.sum.unwrap_or(0)),
             Ok(Outcome::Queued) => Reply::Wait,
             Ok(Outcome::Died) => Reply::Died,
             Err(why) => Reply::Refused(why),

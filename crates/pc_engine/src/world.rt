@@ -5,6 +5,7 @@ ghost use Rattle.pc_model.specs.Maps.{get, len};
 ghost use Rattle.pc_model.specs.Files.{file_at};
 ghost use Rattle.pc_model.specs.Database.{KeysRise, database_of, written};
 ghost use Rattle.pc_model.specs.History.{History};
+ghost use Rattle.pc_types.specs.Changes.{fits};
 ghost use Rattle.pc_model.specs.Limits.{IsInLimits};
 ghost use Rattle.pc_model.specs.FewWrites.{HasFewWrites};
 ghost use Rattle.pc_model.specs.Log.{after};
@@ -106,7 +107,7 @@ impl World {
 
     /// Answers one event. For every history that the world stands after, the reply is legal, and what the world stands
     /// after is then that history and, behind it, the event with this reply. Of that history each key's committed value is that of the log
-    /// replayed on the base, and committed transactions have read right. Each key that was written since the point
+    /// replayed on the base, and committed transactions have read and added right. Each key that was written since the point
     /// before was taken once, with what it had at the point. Files of the shelf, and joins of them, that cover the same
     /// points are one file, and the base with one of the points 1 to n laid on it is what was committed before point n's
     /// token. A refused event changes nothing.
@@ -121,6 +122,7 @@ impl World {
             Event::Get(session, key) => self.get(*session, key),
             Event::Put(session, key, value) => self.put(*session, key, value),
             Event::Del(session, key) => self.delete(*session, key),
+            Event::Add(session, key, delta) => self.add(*session, key, *delta),
             Event::Commit(session) => self.commit(*session),
             Event::Abort(session) => self.abort(*session),
             Event::StartPoint => self.advance(Change::StartPoint),
@@ -234,7 +236,7 @@ impl World {
     }
 }
 
-// What an event asks to write is within the limits of keys and values: their types say so.
+// What an event asks to write or to add is within the limits of keys, values and numbers: their types say so.
 pub(crate) fn in_limits(event: &Event)
     ensures { IsInLimits event.now }
 {
@@ -246,8 +248,19 @@ pub(crate) fn in_limits(event: &Event)
         Event::Del(_, key) => {
             let _ = key.as_bytes();
         }
+        Event::Add(_, key, delta) => {
+            let _ = key.as_bytes();
+            number_in_limits(*delta);
+        }
         _ => {}
     }
+}
+
+// A number has 64 bits with a sign.
+fn number_in_limits(number: i64)
+    ensures { fits number ≡ true }
+{
+    let _ = number;
 }
 
 /// Runs the events, in order, on a new store that starts from the base, and gives the store and the replies. The whole

@@ -1,8 +1,8 @@
 -- What a line of a workload spells by itself.
-use Rattle.std.specs.Prelude.{ℕ, ◌&&◌, nat_le, Bool, List, [], ◌∷◌, Option, Some, None, if◌then◌else◌, codes}
+use Rattle.std.specs.Prelude.{ℕ, ◌&&◌, nat_le, Bool, ℤ, List, [], ◌∷◌, Option, Some, None, if◌then◌else◌, codes}
 use Rattle.std.specs.Str.{bytes_eq}
 use Rattle.pc_types.specs.declared.limits.TheConstants.{MOST_SESSIONS}
-use Rattle.pc_lines.specs.Words.{number_of, text_of}
+use Rattle.pc_lines.specs.Words.{number_of, signed_number_of, text_of}
 use Rattle.pc_lines.specs.Lines.{words_of, is_key, is_value, is_comment}
 use Rattle.pc_jobs.specs.declared.works.Op.TheVariants as op
 use Rattle.pc_jobs.specs.declared.phrases.Phrase.{Phrase}
@@ -61,6 +61,11 @@ abbrev pub put_line : Option (List ℕ) → Option (List ℕ) → Phrase
 put_line (Some key) (Some value) = phrase.Does (op.Put key value)
 put_line key value = phrase.Malformed
 
+-- an add
+abbrev pub add_line : Option (List ℕ) → Option ℤ → Phrase
+add_line (Some key) (Some delta) = phrase.Does (op.Add key delta)
+add_line key delta = phrase.Malformed
+
 -- a fill
 abbrev pub fill_line : Option (List ℕ) → Option ℕ → Option (List ℕ) → Phrase
 fill_line (Some prefix) (Some count) (Some value) = phrase.Fill (record { prefix = prefix; count = count; value = value })
@@ -82,7 +87,9 @@ two_words verb word =
 
 -- what three words spell
 abbrev pub three_words : List ℕ → List ℕ → List ℕ → Phrase
-three_words verb key value = if bytes_eq verb (codes "put") then put_line (key_of key) (value_of value) else phrase.Malformed
+three_words verb key word =
+    if bytes_eq verb (codes "put") then put_line (key_of key) (value_of word)
+    else (if bytes_eq verb (codes "add") then add_line (key_of key) (signed_number_of word) else phrase.Malformed)
 
 -- what four words spell
 abbrev pub four_words : List ℕ → List ℕ → List ℕ → List ℕ → Phrase
@@ -94,7 +101,7 @@ abbrev pub spelled_by : List (List ℕ) → Phrase
 spelled_by [] = phrase.Silent
 spelled_by (verb ∷ []) = one_word verb
 spelled_by (verb ∷ word ∷ []) = two_words verb word
-spelled_by (verb ∷ key ∷ value ∷ []) = three_words verb key value
+spelled_by (verb ∷ key ∷ word ∷ []) = three_words verb key word
 spelled_by (verb ∷ prefix ∷ count ∷ value ∷ []) = four_words verb prefix count value
 spelled_by words = phrase.Malformed
 

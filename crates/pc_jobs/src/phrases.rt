@@ -1,10 +1,11 @@
 //! What a line of a workload spells by itself.
 ghost use Rattle.std.specs.Prelude.{◌≡◌, ◌≤◌, IfOk, IfErr, map};
-ghost use Rattle.pc_jobs.specs.Phrases.{key_of, value_of, prefix_of, number_within, points_line, client_line, get_line, del_line, put_line, fill_line, one_word, two_words, three_words, four_words, spelled_by, spelled};
+ghost use Rattle.pc_lines.specs.Words.{signed_number_of};
+ghost use Rattle.pc_jobs.specs.Phrases.{key_of, value_of, prefix_of, number_within, points_line, client_line, get_line, del_line, put_line, add_line, fill_line, one_word, two_words, three_words, four_words, spelled_by, spelled};
 
 use crate::prefixes::Prefix;
 use crate::works::{Fill, Op};
-use pc_lines::{is_comment, is_key, is_value, number, text_of, words_of};
+use pc_lines::{is_comment, is_key, is_value, number, signed_number, text_of, words_of};
 use pc_types::{Key, MOST_SESSIONS, Refusal, SessionNo, Value};
 use std::alloc::Global;
 
@@ -56,7 +57,7 @@ fn spelled_by(alloc: Global, words: &[&[u8]]) -> Result<Phrase, Refusal>
         [] => Ok(Phrase::Silent),
         [verb] => Ok(one_word(verb)),
         [verb, word] => two_words(alloc, verb, word),
-        [verb, key, value] => three_words(alloc, verb, key, value),
+        [verb, key, word] => three_words(alloc, verb, key, word),
         [verb, prefix, count, value] => four_words(alloc, verb, prefix, count, value),
         _ => Ok(Phrase::Malformed),
     }
@@ -91,12 +92,14 @@ fn two_words(alloc: Global, verb: &[u8], word: &[u8]) -> Result<Phrase, Refusal>
     }
 }
 
-fn three_words(alloc: Global, verb: &[u8], key: &[u8], value: &[u8]) -> Result<Phrase, Refusal>
-    ensures phrase { IfOk result (λ phrase. phrase ≡ three_words verb.now key.now value.now) }
+fn three_words(alloc: Global, verb: &[u8], key: &[u8], word: &[u8]) -> Result<Phrase, Refusal>
+    ensures phrase { IfOk result (λ phrase. phrase ≡ three_words verb.now key.now word.now) }
     ensures refusals { IfErr result (λ e. e ≡ Refusal.OutOfMemory) }
 {
     if verb == b"put".as_slice() {
-        put_line(alloc, key, value)
+        put_line(alloc, key, word)
+    } else if verb == b"add".as_slice() {
+        add_line(alloc, key, word)
     } else {
         Ok(Phrase::Malformed)
     }
@@ -165,6 +168,17 @@ fn put_line(alloc: Global, key: &[u8], value: &[u8]) -> Result<Phrase, Refusal>
     let value = value_of(alloc, value)?;
     match (key, value) {
         (Some(key), Some(value)) => Ok(Phrase::Does(Op::Put(key, value))),
+        _ => Ok(Phrase::Malformed),
+    }
+}
+
+fn add_line(alloc: Global, key: &[u8], delta: &[u8]) -> Result<Phrase, Refusal>
+    ensures phrase { IfOk result (λ phrase. phrase ≡ add_line (key_of key.now) (signed_number_of delta.now)) }
+    ensures refusals { IfErr result (λ e. e ≡ Refusal.OutOfMemory) }
+{
+    let key = key_of(alloc, key)?;
+    match (key, signed_number(delta)) {
+        (Some(key), Some(delta)) => Ok(Phrase::Does(Op::Add(key, delta))),
         _ => Ok(Phrase::Malformed),
     }
 }

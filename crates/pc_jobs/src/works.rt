@@ -11,6 +11,8 @@ pub enum Op {
     Put(Key, Value),
     /// Removes the key.
     Del(Key),
+    /// Adds this to the number that the key has, or to 0 where it has no value.
+    Add(Key, i64),
 }
 
 /// What one transaction does, in order.

@@ -13,7 +13,7 @@ among_written : (ws : List Write) (key : List ℕ) → is_among (keys_of ws) key
 among_written [] key = refl
 among_written (w ∷ ws) key = ap (λ b. b || is_among (keys_of ws) key) ((eq_by_cmp_equiv key_order.total).symm key w.key) ∙ by (same_bytes w.key key) (among_written ws key)
   where
-    by : (b : Bool) → is_among (keys_of ws) key ≡ is_some (written ws key) → (b || is_among (keys_of ws) key) ≡ is_some (cond b (Some w.value) (written ws key))
+    by : (b : Bool) → is_among (keys_of ws) key ≡ is_some (written ws key) → (b || is_among (keys_of ws) key) ≡ is_some (cond b (Some w.change) (written ws key))
     by true later = refl
     by false later = later
 

@@ -8,9 +8,10 @@ use Rattle.pc_types.specs.declared.refusal.Refusal.TheVariants.{BadLength}
 use Rattle.pc_types.specs.declared.Entry.{Entry}
 use Rattle.pc_types.specs.declared.Entry.TheVariants.{Commit, Token}
 use Rattle.pc_types.specs.declared.Write.{Write}
-use Rattle.pc_types.specs.Fields.{key_text, content_text}
-use Rattle.pc_types.proofs.FieldLaws.{wide16, key_again, content_again}
-use Rattle.pc_log.specs.Texts.{write_text, entry_text, IsWrite, IsEntry}
+use Rattle.pc_types.specs.Fields.{key_text}
+use Rattle.pc_types.proofs.FieldLaws.{wide16, key_again}
+use Rattle.pc_log.specs.Texts.{change_text, write_text, entry_text, IsWrite, IsEntry}
+use Rattle.pc_log.proofs.ChangeTexts.{change_again}
 use Rattle.pc_kept_log.specs.Logs.{writes_of_entry}
 use Rattle.pc_kept_log.specs.LentWrites.{plain_write_at, and_more, writes_in}
 use Rattle.pc_kept_log.proofs.ChunkLaws.{take_all, some_is_entry, first_of}
@@ -46,8 +47,8 @@ never_fails count bytes some fault read counted = some (sym counted ∙ ap lengt
 write_again : (write : Write) (rest : List ℕ) → IsWrite write → plain_write_at (write_text write ++ rest) ≡ Ok (write, rest)
 unfolding plain_write_at
 write_again write rest limits =
-    ap plain_write_at (append_assoc (key_text write.key) (content_text write.value) rest)
-    ∙ rw (key_again BadLength write.key (content_text write.value ++ rest) limits.0, content_again BadLength write.value rest limits.1) refl
+    ap plain_write_at (append_assoc (key_text write.key) (change_text write.change) rest)
+    ∙ rw (key_again BadLength write.key (change_text write.change ++ rest) limits.0, change_again write.change rest limits.1) refl
 
 all_again : (writes : List Write) (rest : List ℕ) → AllByRecursion IsWrite writes → writes_in (length writes) (flat_map write_text writes ++ rest) ≡ writes
 all_again [] rest limits = none_of rest

@@ -3,14 +3,15 @@ use Rattle.std.specs.Prelude.{ℕ, zero, suc, List, [], ◌∷◌, Result, Ok, E
 use Rattle.pc_types.specs.declared.refusal.Refusal.{Refusal}
 use Rattle.pc_types.specs.declared.refusal.Refusal.TheVariants.{BadLength}
 use Rattle.pc_types.specs.declared.Write.{Write}
-use Rattle.pc_types.specs.Fields.{◌>>=◌, key_at, content_at}
+use Rattle.pc_types.specs.Fields.{◌>>=◌, key_at}
+use Rattle.pc_log.specs.Reading.{change_at}
 
 -- a write, whatever writes were before it
 unfoldable pub plain_write_at : List ℕ → Result (Write × List ℕ) Refusal
 plain_write_at bytes = do
   key ← key_at BadLength bytes
-  content ← content_at BadLength key.1
-  Ok (record { key = key.0; value = content.0 }, content.1)
+  change ← change_at key.1
+  Ok (record { key = key.0; change = change.0 }, change.1)
 
 -- the write that was read, and those behind it
 abbrev pub and_more : Result (Write × List ℕ) Refusal → (List ℕ → List Write) → List Write

@@ -1,4 +1,5 @@
 pub mod Logs
+pub mod LentChanges
 pub mod LentWrites
 pub mod Placing
 pub mod Chunks

@@ -1,32 +1,47 @@
 //! The writes of an entry are lent from its text, without memory.
-ghost use Rattle.std.specs.Prelude.{◌≡◌, ◌<◌, [], length, option_copied, slice_get};
+ghost use Rattle.std.specs.Prelude.{◌≡◌, ◌<◌, [], length, slice_get};
 ghost use Rattle.std.specs.Iterator.{YieldsFirst, item_count};
-ghost use Rattle.pc_types.specs.Fields.{Reads, key_at, content_at, value_at};
+ghost use Rattle.pc_types.specs.Fields.{Reads, key_at, value_at};
 ghost use Rattle.pc_types.specs.declared.refusal.Refusal.TheVariants.{BadLength};
+ghost use Rattle.pc_log.specs.Reading.{change_at};
 ghost use Rattle.pc_kept_log.specs.Logs.{entries_of, writes_of_entry};
+ghost use Rattle.pc_kept_log.specs.LentChanges.{lent_change};
 ghost use Rattle.pc_kept_log.specs.LentWrites.{plain_write_at};
 
 use crate::chunk::Chunk;
 use crate::log::Log;
 use pc_log::COMMIT;
-use pc_types::{MOST_VALUE_BYTES, Refusal, read_bytes, read_sized_key, read_u16, read_u32};
+use pc_types::{
+    MOST_VALUE_BYTES, Refusal, read_bytes, read_sized_key, read_u16, read_u32, read_u64,
+};
 use std::marker::Model;
 
 /// A write of a log's entry, lent. A contract sees the write.
 #[derive(Drop)]
 pub struct LentWrite<'a> {
     pub key: &'a [u8],
-    /// What the key has after it, a value or nothing.
-    pub value: Option<&'a [u8]>,
+    /// What it does to the key.
+    pub change: LentChange<'a>,
+}
+
+/// What a lent write does to its key. A contract sees the change by `lent_change`.
+#[derive(Drop)]
+pub enum LentChange<'a> {
+    /// The key has this value then.
+    Set(&'a [u8]),
+    /// The key has no value then.
+    Remove,
+    /// This is added to the number that the key has.
+    Add(i64),
 }
 
 impl<'a> Model for LentWrite<'a> {
-    ghost use Rattle.std.specs.Prelude.{option_copied};
     ghost use Rattle.pc_types.specs.declared.Write.{Write};
+    ghost use Rattle.pc_kept_log.specs.LentChanges.{lent_change};
 
     ghost Value = { Write };
 
-    ghost view = { λ w. record { key = w.key.now; value = option_copied w.value } };
+    ghost view = { λ w. record { key = w.key.now; change = lent_change w.change } };
 }
 
 /// The writes of an entry, lent one after the other. A contract sees those to come.
@@ -134,8 +149,8 @@ fn lend_write(bytes: &[u8]) -> Result<(LentWrite<'_>, &[u8]), Refusal>
     ensures { Reads (λ x. (x.0, x.1.now)) result (plain_write_at bytes.now) }
 {
     let (key, rest) = lend_key(bytes)?;
-    let (value, rest) = lend_content(rest)?;
-    Ok((LentWrite { key, value }, rest))
+    let (change, rest) = lend_change(rest)?;
+    Ok((LentWrite { key, change }, rest))
 }
 
 // A key, its length before it.
@@ -147,17 +162,21 @@ fn lend_key(bytes: &[u8]) -> Result<(&[u8], &[u8]), Refusal>
     read_sized_key(rest, count, Refusal::BadLength)
 }
 
-// What a key has: a kind of 0 and nothing, or a kind of 1 and a value.
-#[tactic(auto, unfolding(pc_types::specs::Fields::content_at))]
-fn lend_content(bytes: &[u8]) -> Result<(Option<&[u8]>, &[u8]), Refusal>
-    ensures { Reads (λ x. (option_copied x.0, x.1.now)) result (content_at BadLength bytes.now) }
+// What a write does to its key: a kind of 0 and nothing, of 1 and a value, or of 2 and a number in two's complement.
+#[tactic(auto, unfolding(pc_log::specs::Reading::change_at))]
+fn lend_change(bytes: &[u8]) -> Result<(LentChange<'_>, &[u8]), Refusal>
+    ensures { Reads (λ x. (lent_change x.0, x.1.now)) result (change_at bytes.now) }
 {
     match bytes {
         [] => Err(Refusal::BadLength),
-        [0, rest @ ..] => Ok((None, rest)),
+        [0, rest @ ..] => Ok((LentChange::Remove, rest)),
         [1, rest @ ..] => {
             let (value, rest) = lend_value(rest)?;
-            Ok((Some(value), rest))
+            Ok((LentChange::Set(value), rest))
+        }
+        [2, rest @ ..] => {
+            let (number, rest) = read_u64(rest, Refusal::BadLength)?;
+            Ok((LentChange::Add(number.cast_signed()), rest))
         }
         [_, ..] => Err(Refusal::BadKind),
     }

@@ -9,5 +9,5 @@ mod log;
 mod placing;
 
 pub use lending::LentTexts;
-pub use lent_writes::{LentWrite, LentWrites};
+pub use lent_writes::{LentChange, LentWrite, LentWrites};
 pub use log::Log;

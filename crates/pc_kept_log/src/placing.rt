@@ -1,14 +1,15 @@
 //! The text of an entry is put into a room of memory, behind the bytes that stand there.
 ghost use Rattle.std.specs.Prelude.{◌≤◌, length, Some, All};
 ghost use Rattle.std.specs.List.{flat_map};
+ghost use Rattle.pc_types.specs.declared.Change.TheVariants.{Add};
 ghost use Rattle.pc_types.specs.declared.Entry.TheVariants.{Commit, Token};
 ghost use Rattle.pc_types.specs.Fields.{content_text};
 ghost use Rattle.pc_types.specs.Limits.{IsValue};
-ghost use Rattle.pc_log.specs.Texts.{write_text, commit_head_text, entry_text, IsWrite};
+ghost use Rattle.pc_log.specs.Texts.{change_text, write_text, commit_head_text, entry_text, IsChange, IsWrite};
 ghost use Rattle.pc_kept_log.specs.Placing.{ArePut, HasSpace};
 
-use pc_log::{ABSENCE, COMMIT, TOKEN, VALUE, phases, writes_size};
-use pc_types::{MOST_POINTS, MOST_WRITES, Phase, Point, SessionNo, Write};
+use pc_log::{ABSENCE, ADD, COMMIT, TOKEN, VALUE, number_bytes, phases, writes_size};
+use pc_types::{Change, MOST_POINTS, MOST_WRITES, Phase, Point, SessionNo, Write};
 
 // The text of a commit is put at this place. Answers where it ends.
 pub(crate) fn put_commit(room: &mut [u8], at: usize, session: SessionNo, writes: &[Write]) -> usize
@@ -65,9 +66,10 @@ fn put_write(room: &mut [u8], at: usize, write: &Write) -> usize
     let key = write.key.as_bytes();
     let at = put(room, at, &(key.len() as u16).to_be_bytes());
     let at = put(room, at, key);
-    match &write.value {
-        None => put(room, at, &[ABSENCE]),
-        Some(value) => put_value(room, at, value.as_bytes()),
+    match &write.change {
+        Change::Remove => put(room, at, &[ABSENCE]),
+        Change::Set(value) => put_value(room, at, value.as_bytes()),
+        Change::Add(delta) => put_number(room, at, *delta),
     }
 }
 
@@ -79,6 +81,15 @@ fn put_value(room: &mut [u8], at: usize, value: &[u8]) -> usize
     let at = put(room, at, &[VALUE]);
     let at = put(room, at, &(value.len() as u32).to_be_bytes());
     put(room, at, value)
+}
+
+fn put_number(room: &mut [u8], at: usize, number: i64) -> usize
+    requires { HasSpace room.old at (length (change_text (Add number))) }
+    ensures put { ArePut room.old room.new at (change_text (Add number)) result }
+    ensures in_limits { IsChange (Add number) }
+{
+    let at = put(room, at, &[ADD]);
+    put(room, at, &number_bytes(number))
 }
 
 // The bytes are put at this place. Answers where they end.

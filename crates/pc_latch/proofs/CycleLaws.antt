@@ -16,7 +16,7 @@ use Rattle.pc_model.specs.Files.{File, shelved_by, shelf, triples_taken}
 use Rattle.pc_model.specs.Replies.{Setting}
 use Rattle.pc_model.specs.Calls.{counts, session_of, is_call_of, calls_of, Extends, HasCallsOf}
 use Rattle.pc_model.proofs.BeginningLaws.{calls_of-append}
-use Rattle.pc_model.proofs.EffectCases.{begin_case, get_case, write_case, commit_case, abort_case}
+use Rattle.pc_model.proofs.EffectCases.{begin_case, get_case, write_case, add_case, commit_case, abort_case}
 use Rattle.pc_latch.specs.Cycles.{entered_by, phases_entered}
 
 -- an effect that leaves the checkpoint's cycle and the shelf
@@ -53,6 +53,7 @@ step_is_aside (asked.Begin s) r is = begin_case IsAside tt s r (λ yes. tt)
 step_is_aside (asked.Get s key) r is = get_case IsAside tt s key r (λ answer yes. tt) tt tt
 step_is_aside (asked.Put s key value) r is = write_case IsAside tt s key (Some value) r (λ yes. tt) tt tt
 step_is_aside (asked.Del s key) r is = write_case IsAside tt s key None r (λ yes. tt) tt tt
+step_is_aside (asked.Add s key delta) r is = add_case IsAside tt s key delta r (λ sum yes. tt) tt tt
 step_is_aside (asked.Commit s) r is = commit_case IsAside tt s r (λ yes. tt)
 step_is_aside (asked.Abort s) r is = abort_case IsAside tt s r (λ yes. tt)
 step_is_aside asked.StartPoint r is = move_aside r (alone (counts r) is)

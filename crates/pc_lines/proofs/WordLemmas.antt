@@ -19,9 +19,9 @@ digit_at (d ∷ ds) (suc i) h lt = digit_at ds i (grind (arith, nat_tests)) (ome
 pub digit_worth : (d : ℕ) → 47 < d → d < 58 → digit_value d ≡ d - 48
 digit_worth d low high = grind (arith, nat_tests)
 
--- fewer than nine digits so far
-pub room : (i : ℕ) → i < 9 → 10 ^ i ≤ 100000000
-room i h = pow-le-pow_right {n = 10} (omega arith) {i = i} {j = 8} (omega arith)
+-- fewer than nineteen digits so far
+pub room : (i : ℕ) → i < 19 → 10 ^ i ≤ 1000000000000000000
+room i h = pow-le-pow_right {n = 10} (omega arith) {i = i} {j = 18} (omega arith)
 
 one_byte : (text : List ℕ) (b : ℕ) (rest whole : Option (List ℕ)) → option_map (λ r. text ++ r) (with_byte b rest) ≡ whole
     → option_map (λ r. (text ++ b ∷ []) ++ r) rest ≡ whole

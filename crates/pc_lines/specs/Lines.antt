@@ -1,5 +1,5 @@
 -- The words of a script's line, and what a line spells.
-use Rattle.std.specs.Prelude.{ℕ, ◌==◌, ◌&&◌, nat_lt, nat_le, Bool, false, List, [], ◌∷◌, Option, Some, None, if◌then◌else◌, length, map, filter, codes}
+use Rattle.std.specs.Prelude.{ℕ, ◌==◌, ◌&&◌, nat_lt, nat_le, Bool, false, ℤ, List, [], ◌∷◌, Option, Some, None, if◌then◌else◌, length, map, filter, codes}
 use Rattle.std.specs.List.{slice_split}
 use Rattle.std.specs.Str.{bytes_eq}
 use Rattle.bstr.specs.Text.{lines_of, without_terminator}
@@ -9,7 +9,7 @@ use Rattle.pc_types.specs.declared.limits.TheConstants.{MOST_KEY_BYTES, MOST_VAL
 use Rattle.pc_lines.specs.declared.lines.Line.{Line}
 use Rattle.pc_lines.specs.declared.lines.Line.TheVariants as line
 use Rattle.pc_lines.specs.declared.lines.View.TheVariants as view
-use Rattle.pc_lines.specs.Words.{number_of, text_of}
+use Rattle.pc_lines.specs.Words.{number_of, signed_number_of, text_of}
 
 -- the lines: each ends with a line feed, before which one carriage return is dropped; the last one may lack its line feed
 abbrev pub lines_in : List ℕ → List (List ℕ)
@@ -47,6 +47,11 @@ abbrev pub put_line : Option ℕ → Option (List ℕ) → Option (List ℕ) →
 put_line (Some session) (Some key) (Some value) =
     if is_key key then (if is_value value then line.Asks (asked.Put session key value) else line.AsksRefused why.ValueLength) else line.AsksRefused why.KeyLength
 put_line session key value = line.Malformed
+
+-- an add
+abbrev pub add_line : Option ℕ → Option (List ℕ) → Option ℤ → Line
+add_line (Some session) (Some key) (Some delta) = if is_key key then line.Asks (asked.Add session key delta) else line.AsksRefused why.KeyLength
+add_line session key delta = line.Malformed
 
 -- what a word alone spells
 abbrev pub one_word : List ℕ → Line
@@ -93,7 +98,8 @@ three_words verb first second =
 -- what four words spell
 abbrev pub four_words : List ℕ → List ℕ → List ℕ → List ℕ → Line
 four_words verb first second third =
-    if bytes_eq verb (codes "put") then put_line (number_of first) (text_of second) (text_of third) else line.Malformed
+    if bytes_eq verb (codes "put") then put_line (number_of first) (text_of second) (text_of third)
+    else (if bytes_eq verb (codes "add") then add_line (number_of first) (text_of second) (signed_number_of third) else line.Malformed)
 
 -- what the words of a line spell
 abbrev pub spelled_by : List (List ℕ) → Line

@@ -1,8 +1,9 @@
 -- The words of a script: numbers, and the texts of keys and values.
-use Rattle.std.specs.Prelude.{ℕ, ◌+◌, ◌*◌, ◌-◌, ◌==◌, ◌&&◌, not, nat_lt, Bool, List, [], ◌∷◌, Option, Some, None, if◌then◌else◌, length}
+use Rattle.std.specs.Prelude.{ℕ, ◌+◌, ◌*◌, ◌-◌, ◌==◌, ◌&&◌, not, nat_lt, Bool, true, false, ℤ, pos, neg_ℤ, List, [], ◌∷◌, Option, Some, None, if◌then◌else◌, length}
 use Rattle.std.specs.List.{list_all}
 use Rattle.std.specs.Str.{bytes_eq}
 use Rattle.std.specs.Str.Parse.{digits_value}
+use Rattle.pc_types.specs.Changes.{fits}
 
 -- a decimal digit, 0 to 9
 abbrev pub is_digit : ℕ → Bool
@@ -15,6 +16,28 @@ is_numeral word = nat_lt 0 (length word) && nat_lt (length word) 10 && list_all 
 -- the number that a word writes; none where it isn't 1 to 9 decimal digits
 abbrev pub number_of : List ℕ → Option ℕ
 number_of word = if is_numeral word then Some (digits_value 10 word) else None
+
+-- 1 to 19 decimal digits
+abbrev pub is_long_numeral : List ℕ → Bool
+is_long_numeral word = nat_lt 0 (length word) && nat_lt (length word) 20 && list_all is_digit word
+
+-- the number, where 64 bits hold it with its sign
+abbrev pub held : ℤ → Option ℤ
+held z = if fits z then Some z else None
+
+-- the same of the number of this size, which is below 0 where there is a minus
+abbrev pub signed_by : Bool → ℕ → Option ℤ
+signed_by minus size = held (if minus then neg_ℤ (pos size) else pos size)
+
+-- the same of the size that 1 to 19 decimal digits write
+abbrev pub number_by : Bool → List ℕ → Option ℤ
+number_by minus digits = if is_long_numeral digits then signed_by minus (digits_value 10 digits) else None
+
+-- the signed number that a word writes: 1 to 19 decimal digits, with a hyphen before them as its minus; none where it isn't
+-- so, or 64 bits don't hold the number
+abbrev pub signed_number_of : List ℕ → Option ℤ
+signed_number_of [] = None
+signed_number_of (b ∷ word) = if b == 45 then number_by true word else number_by false (b ∷ word)
 
 -- a byte that stands for itself: 0x21 to 0x7E, but not the backslash
 abbrev pub is_plain : ℕ → Bool

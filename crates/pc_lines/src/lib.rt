@@ -5,4 +5,4 @@ mod lines;
 mod words;
 
 pub use lines::{Line, View, is_comment, is_key, is_value, read_line, words_of};
-pub use words::{is_plain, number, text_of};
+pub use words::{is_plain, number, signed_number, text_of};

@@ -1,10 +1,10 @@
 //! The lines of a script, and what each spells.
 ghost use Rattle.std.specs.Prelude.{◌≡◌, ◌==◌, ℕ, List, Some, map, length, IfOk, IfErr};
 ghost use Rattle.std.specs.List.{slice_split};
-ghost use Rattle.pc_lines.specs.Words.{number_of, text_of};
-ghost use Rattle.pc_lines.specs.Lines.{words_of, is_key, is_value, base_line, get_line, del_line, put_line, one_word, numbered_line, two_words, three_words, four_words, spelled_by, is_comment, spelled};
+ghost use Rattle.pc_lines.specs.Words.{number_of, signed_number_of, text_of};
+ghost use Rattle.pc_lines.specs.Lines.{words_of, is_key, is_value, base_line, get_line, del_line, put_line, add_line, one_word, numbered_line, two_words, three_words, four_words, spelled_by, is_comment, spelled};
 
-use crate::words::{number, text_of};
+use crate::words::{number, signed_number, text_of};
 use pc_types::{Event, FileNo, Key, MOST_KEY_BYTES, MOST_VALUE_BYTES, Refusal, SessionNo, Value};
 use std::alloc::{AllocError, Global};
 
@@ -189,6 +189,8 @@ fn four_words(
 {
     if verb == b"put".as_slice() {
         put_words(alloc, first, second, third)
+    } else if verb == b"add".as_slice() {
+        add_words(alloc, first, second, third)
     } else {
         Ok(Line::Malformed)
     }
@@ -202,6 +204,17 @@ fn put_words(alloc: Global, first: &[u8], second: &[u8], third: &[u8]) -> Result
     let value = text_of(alloc, third)?;
     match (number(first), key, value) {
         (Some(session), Some(key), Some(value)) => put_line(alloc, session, &key, &value),
+        _ => Ok(Line::Malformed),
+    }
+}
+
+fn add_words(alloc: Global, first: &[u8], second: &[u8], third: &[u8]) -> Result<Line, Refusal>
+    ensures line { IfOk result (λ line. line ≡ add_line (number_of first.now) (text_of second.now) (signed_number_of third.now)) }
+    ensures refusals { IfErr result (λ e. e ≡ Refusal.OutOfMemory) }
+{
+    let text = text_of(alloc, second)?;
+    match (number(first), text, signed_number(third)) {
+        (Some(session), Some(key), Some(delta)) => add_line(alloc, session, &key, delta),
         _ => Ok(Line::Malformed),
     }
 }
@@ -254,6 +267,17 @@ fn put_line(alloc: Global, session: u32, key: &[u8], value: &[u8]) -> Result<Lin
     let key = Key::new(alloc, key)?;
     let value = Value::new(alloc, value)?;
     Ok(Line::Asks(Event::Put(SessionNo(session), key, value)))
+}
+
+fn add_line(alloc: Global, session: u32, key: &[u8], delta: i64) -> Result<Line, Refusal>
+    ensures line { IfOk result (λ line. line ≡ add_line (Some session) (Some key.now) (Some delta)) }
+    ensures refusals { IfErr result (λ e. e ≡ Refusal.OutOfMemory) }
+{
+    if !is_key(key) {
+        return Ok(Line::AsksRefused(Refusal::KeyLength));
+    }
+    let key = Key::new(alloc, key)?;
+    Ok(Line::Asks(Event::Add(SessionNo(session), key, delta)))
 }
 
 /// Whether the bytes can be a key: 1 to 255.

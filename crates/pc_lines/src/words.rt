@@ -1,9 +1,9 @@
 //! The words of a script: numbers, and the texts of keys and values.
-ghost use Rattle.std.specs.Prelude.{◌≡◌, ℕ, ◌<◌, ◌≤◌, ◌==◌, length, drop, IsTrue, IfOk, true, MatchOption, Some, None};
+ghost use Rattle.std.specs.Prelude.{◌≡◌, ℕ, ◌<◌, ◌≤◌, ◌==◌, ◌^◌, length, drop, IsTrue, IfOk, true, MatchOption, Some, None};
 ghost use Rattle.std.specs.List.{list_all};
 ghost use Rattle.std.specs.Option.{option_map};
 ghost use Rattle.std.specs.Str.Parse.{digits_value};
-ghost use Rattle.pc_lines.specs.Words.{is_digit, is_numeral, number_of, is_plain, hex_value, escaped, unescaped, with_byte, text_of};
+ghost use Rattle.pc_lines.specs.Words.{is_digit, is_numeral, is_long_numeral, number_of, signed_by, number_by, signed_number_of, is_plain, hex_value, escaped, unescaped, with_byte, text_of};
 
 use std::alloc::{AllocError, Global};
 
@@ -12,9 +12,43 @@ pub fn number(word: &[u8]) -> Option<u32>
     ensures { result ≡ number_of word.now }
 {
     if is_numeral(word) {
-        Some(value(word))
+        Some(value(word) as u32)
     } else {
         None
+    }
+}
+
+/// The number of 64 bits with a sign that a word writes: 1 to 19 decimal digits, with a `-` before them where it is below 0;
+/// `None` for any other word.
+pub fn signed_number(word: &[u8]) -> Option<i64>
+    ensures { result ≡ signed_number_of word.now }
+{
+    match word {
+        [b'-', digits @ ..] => number_by(true, digits),
+        _ => number_by(false, word),
+    }
+}
+
+// The number that digits write, below 0 where there is a minus before them.
+fn number_by(minus: bool, digits: &[u8]) -> Option<i64>
+    ensures { result ≡ number_by minus digits.now }
+{
+    if is_long_numeral(digits) {
+        signed_by(minus, value(digits))
+    } else {
+        None
+    }
+}
+
+// The number of this size, below 0 where there is a minus, if 64 bits hold it.
+fn signed_by(minus: bool, size: u64) -> Option<i64>
+    ensures { result ≡ signed_by minus size }
+{
+    let zero: i64 = 0;
+    if minus {
+        zero.checked_sub_unsigned(size)
+    } else {
+        zero.checked_add_unsigned(size)
     }
 }
 
@@ -36,14 +70,21 @@ fn is_numeral(word: &[u8]) -> bool
     !word.is_empty() && word.len() < 10 && are_digits(word)
 }
 
-fn value(digits: &[u8]) -> u32
-    requires length { length digits.now < 10 }
-    requires digits { list_all is_digit digits.now ≡ true }
-    ensures { result ≡ digits_value 10 digits.now }
+fn is_long_numeral(word: &[u8]) -> bool
+    ensures { result ≡ is_long_numeral word.now }
 {
-    let mut value: u32 = 0;
+    !word.is_empty() && word.len() < 20 && are_digits(word)
+}
+
+fn value(digits: &[u8]) -> u64
+    requires length { length digits.now < 20 }
+    requires digits { list_all is_digit digits.now ≡ true }
+    ensures value { result ≡ digits_value 10 digits.now }
+    ensures small { length digits.now < 10 → result < 2 ^ 32 }
+{
+    let mut value: u64 = 0;
     for digit in digits {
-        value = value * 10 + u32::from(*digit - b'0');
+        value = value * 10 + u64::from(*digit - b'0');
     }
     value
 }

@@ -2,6 +2,7 @@
 ghost use Rattle.std.specs.Prelude.{◌≡◌, ◌==◌, [], not, true, false, ℕ, length, IfOk, OnErr, IfSome, IfNone};
 ghost use Rattle.pc_chain.specs.declared.chain.Chain.{Chain};
 ghost use Rattle.pc_chain.specs.Chains.{IsEmpty};
+ghost use Rattle.pc_model.specs.Locks.{outcome};
 ghost use Rattle.pc_locks.specs.States.{queue_at, slots_of, first_of, is_waiting, IsRequestAnswered, IsReleased, AreAlike};
 ghost use Rattle.pc_locks.specs.Keepers.{queues_of, lists_of, state_of, AreEnds, AreLocksSound};
 
@@ -66,6 +67,26 @@ impl Locks {
         match self.table.find_own(queue, transaction) {
             Some(found) => Ok(self.table.again(queue, found, transaction, mode)),
             None => self.table.first(keeper, slot, queue, transaction, mode),
+        }
+    }
+
+    /// How `request` would answer, where no request of the transaction waits; whether one does isn't looked at. It changes
+    /// nothing and takes no memory.
+    pub fn outcome<K, E: QueueEnds<K>>(
+        &self,
+        keeper: &E,
+        transaction: TxnNo,
+        slot: SlotId,
+        mode: Mode,
+    ) -> Outcome
+        requires ends { AreEnds (E.ends_of keeper.now) self.now }
+        requires has { E.has keeper.now slot }
+        ensures { result ≡ outcome (queue_at (queues_of (E.ends_of keeper.now) self.now) slot) transaction mode }
+    {
+        let queue = keeper.ends(slot);
+        match self.table.find_own(queue, transaction) {
+            Some(found) => self.table.outcome_again(queue, found, transaction, mode),
+            None => self.table.outcome_of_new(queue, transaction, mode),
         }
     }
 

@@ -1,7 +1,7 @@
 //! The requests of all slots, each linked into its slot's queue and into its transaction's chain.
 ghost use Rattle.std.specs.Prelude.{◌&&◌, ◌||◌, ◌==◌, not, ◌≡◌, ◌≢◌, ◌<◌, ◌≤◌, ◌++◌, ◌∷◌, [], ℕ, List, true, false, length, option_map, IfOk, OnOk, OnErr, IfSome, IfNone, IsOk, None, Some};
 ghost use Rattle.std.specs.List.{list_any};
-ghost use Rattle.pc_model.specs.Locks.{is_exclusive, outcome_of_new, outcome_beside, queue_after, granted_behind};
+ghost use Rattle.pc_model.specs.Locks.{is_exclusive, outcome_of_new, outcome_of_upgrade, outcome_beside, queue_after, granted_behind};
 ghost use Rattle.pc_model.specs.Queues.{stands_in, AreOnce};
 ghost use Rattle.pc_locks.specs.Changes.{HasRoomForRequest, IsAdded, IsFreed};
 ghost use Rattle.pc_locks.specs.Lines.{ids_by, next_in, HasLink, IsQueue, AreLines, LineBecomes};
@@ -140,8 +140,13 @@ impl RequestTable {
         self.find(queue, test).is_some()
     }
 
-    // How a request of a transaction that has none in the queue is answered.
-    fn outcome_of_new(&self, queue: Chain<usize>, transaction: TxnNo, mode: Mode) -> Outcome
+    /// How a request of a transaction that has none in the queue is answered.
+    pub(crate) fn outcome_of_new(
+        &self,
+        queue: Chain<usize>,
+        transaction: TxnNo,
+        mode: Mode,
+    ) -> Outcome
         requires { IsQueue (links_of self.now) queue }
         ensures { result ≡ outcome_of_new (queue_along self.now queue) transaction mode }
     {
@@ -157,6 +162,36 @@ impl RequestTable {
         } else {
             Outcome::Died
         }
+    }
+
+    // How an upgrade of the transaction's own request of the queue is answered.
+    fn outcome_of_upgrade(&self, queue: Chain<usize>, transaction: TxnNo) -> Outcome
+        requires { IsQueue (links_of self.now) queue }
+        ensures { result ≡ outcome_of_upgrade (queue_along self.now queue) transaction }
+    {
+        if self.has(queue, Test::HeldBeside(transaction)) {
+            Outcome::Died
+        } else {
+            Outcome::Granted
+        }
+    }
+
+    /// How a request of a transaction whose own request of the queue was found is answered.
+    pub(crate) fn outcome_again(
+        &self,
+        queue: Chain<usize>,
+        found: FoundId,
+        transaction: TxnNo,
+        mode: Mode,
+    ) -> Outcome
+        requires { IsQueue (links_of self.now) queue }
+        ensures { result ≡ outcome_beside (queue_along self.now queue) transaction mode (Some (request_at self.now.nodes.slots found.id)) }
+    {
+        let own = self.request(found.id);
+        if covers(own.mode, mode) {
+            return Outcome::Granted;
+        }
+        self.outcome_of_upgrade(queue, transaction)
     }
 
     // Adds a request, which is in no queue, at the end of its transaction's chain, and gives its id. It asks for memory only
@@ -297,15 +332,17 @@ impl RequestTable {
         if covers(own.mode, mode) {
             return Outcome::Granted;
         }
-        if self.has(queue, Test::HeldBeside(transaction)) {
-            return Outcome::Died;
+        match self.outcome_of_upgrade(queue, transaction) {
+            Outcome::Granted => {
+                let upgraded = Request {
+                    mode: Mode::Exclusive,
+                    ..own
+                };
+                self.write(found.id, upgraded);
+                Outcome::Granted
+            }
+            answer => answer,
         }
-        let upgraded = Request {
-            mode: Mode::Exclusive,
-            ..own
-        };
-        self.write(found.id, upgraded);
-        Outcome::Granted
     }
 
     /// The last id of the transaction.

@@ -1,6 +1,6 @@
 -- What was written of entries is read again.
-use Rattle.std.proofs.Common.{◌≡◌, ℕ, suc, ◌*◌, ◌^◌, ◌<◌, ◌≤◌, Bool, true, false, List, [], ◌∷◌, ◌++◌, length, ◌&&◌, ◌||◌, Option, Some, None, Result, Ok, refl, sym, ap, subst, ◌∙◌, append_assoc, arith}
-use Rattle.std.specs.Prelude.{nat_le, IfSome}
+use Rattle.std.proofs.Common.{◌≡◌, ℕ, suc, ◌*◌, ◌^◌, ◌<◌, ◌≤◌, Bool, true, false, List, [], ◌∷◌, ◌++◌, length, ◌&&◌, ◌||◌, Result, Ok, refl, sym, ap, subst, ◌∙◌, append_assoc, arith}
+use Rattle.std.specs.Prelude.{nat_le}
 use Rattle.std.specs.List.{flat_map, IsDistinct, AllByRecursion}
 use Rattle.std.specs.Int.{w8, w16, w32, w64, to_be_bytes}
 use Rattle.std.proofs.lemmas.Bool.Decides.{nat_tests}
@@ -11,15 +11,15 @@ use Rattle.pc_types.specs.declared.Entry.{Entry}
 use Rattle.pc_types.specs.declared.Entry.TheVariants.{Commit, Token}
 use Rattle.pc_types.specs.declared.Phase.{Phase}
 use Rattle.pc_types.specs.declared.Write.{Write}
-use Rattle.pc_types.specs.Limits.{IsValue}
-use Rattle.pc_types.specs.Fields.{◌>>=◌, where_true, number_at, key_text, content_text}
-use Rattle.pc_types.proofs.FieldLaws.{wide16, wide32, wide64, bytes_again, number_again, magic_again, key_again, content_again}
+use Rattle.pc_types.specs.Fields.{◌>>=◌, where_true, number_at, key_text}
+use Rattle.pc_types.proofs.FieldLaws.{wide16, wide32, wide64, bytes_again, number_again, magic_again, key_again}
 use Rattle.pc_log.specs.declared.order.LastToken.{LastToken}
-use Rattle.pc_log.specs.Texts.{log_magic, header_text, write_text, phase_number, body_text, entry_text, same_key, keys_of, IsWrite, IsEntry, IsCommit, IsTokenPoint}
+use Rattle.pc_log.specs.Texts.{log_magic, header_text, change_text, write_text, phase_number, body_text, entry_text, same_key, keys_of, IsWrite, IsEntry, IsCommit, IsTokenPoint}
 use Rattle.pc_log.specs.Orders.{comes_next, token_after, no_token, FollowFrom}
 use Rattle.pc_log.specs.Reading.{is_written, write_at, writes_at, commit_at, token_at, kind_at, body_at, entry_at, header_at, log_at, with_entry, of_run, all_at}
 use Rattle.pc_log.proofs.TokenOrders.{ComesNext, next_holds, numbered_is, follow_first}
 use Rattle.pc_log.proofs.EntryTexts.{one_byte, same_key_laws}
+use Rattle.pc_log.proofs.ChangeTexts.{change_again, change_length}
 use Rattle.pc_log.proofs.TurnLaws.{all_go_on, with_front}
 
 -- ---- writes
@@ -27,8 +27,8 @@ use Rattle.pc_log.proofs.TurnLaws.{all_go_on, with_front}
 write_again : (earlier : List Write) (write : Write) (rest : List ℕ) → IsWrite write → is_written earlier write.key ≡ false → write_at earlier (write_text write ++ rest) ≡ Ok (write, rest)
 unfolding write_at
 write_again earlier write rest limits new =
-    let parts : write_text write ++ rest ≡ key_text write.key ++ (content_text write.value ++ rest) = append_assoc (key_text write.key) (content_text write.value) rest in
-    ap (write_at earlier) parts ∙ rw (key_again BadLength write.key (content_text write.value ++ rest) limits.0, new, content_again BadLength write.value rest limits.1) refl
+    let parts : write_text write ++ rest ≡ key_text write.key ++ (change_text write.change ++ rest) = append_assoc (key_text write.key) (change_text write.change) rest in
+    ap (write_at earlier) parts ∙ rw (key_again BadLength write.key (change_text write.change ++ rest) limits.0, new, change_again write.change rest limits.1) refl
 
 -- what holds of all keys holds of one in the middle
 in_middle : (P : List ℕ → Type 0) (earlier : List Write) (write : Write) (more : List Write) → AllByRecursion P (keys_of (earlier ++ write ∷ more)) → P write.key
@@ -58,11 +58,7 @@ writes_again (w ∷ ws) earlier rest limits once =
 writes_length : (writes : List Write) → AllByRecursion IsWrite writes → length (flat_map write_text writes) ≤ 65797 * length writes
 writes_length [] limits = omega arith
 writes_length (w ∷ ws) limits =
-    omega (arith, writes_length ws limits.1, length-append (write_text w) (flat_map write_text ws), length-append (key_text w.key) (content_text w.value), limits.0.0.1, value_length w.value limits.0.1)
-  where
-    value_length : (value : Option (List ℕ)) → IfSome value IsValue → length (content_text value) ≤ 65540
-    value_length None limit = omega arith
-    value_length (Some value) limit = omega (arith, limit)
+    omega (arith, writes_length ws limits.1, length-append (write_text w) (flat_map write_text ws), length-append (key_text w.key) (change_text w.change), limits.0.0.1, change_length w.change limits.0.1)
 
 -- ---- bodies
 

@@ -1,5 +1,5 @@
 -- What was read of an entry is its text.
-use Rattle.std.proofs.Common.{◌≡◌, ℕ, zero, suc, ◌^◌, ◌<◌, ◌≤◌, Bool, false, ltb, eqb, List, [], ◌∷◌, ◌++◌, length, take, drop, ◌&&◌, ◌||◌, not, Option, Ok, refl, sym, ap, subst, ◌∙◌, append_assoc, arith}
+use Rattle.std.proofs.Common.{◌≡◌, ℕ, zero, suc, ◌^◌, ◌<◌, ◌≤◌, Bool, false, ltb, eqb, List, [], ◌∷◌, ◌++◌, length, take, drop, ◌&&◌, ◌||◌, not, Ok, refl, sym, ap, subst, ◌∙◌, append_assoc, arith}
 use Rattle.std.specs.Prelude.{nat_le}
 use Rattle.std.specs.List.{flat_map, list_any, IsDistinct, AllByRecursion}
 use Rattle.std.specs.Int.{w8, w16, w32, to_be_bytes}
@@ -14,17 +14,19 @@ use Rattle.pc_types.specs.declared.refusal.Refusal.{Refusal}
 use Rattle.pc_types.specs.declared.refusal.Refusal.TheVariants.{Short, KeyOrder, BadLength, Trailing, TokenOrder}
 use Rattle.pc_types.specs.declared.Entry.{Entry}
 use Rattle.pc_types.specs.declared.Entry.TheVariants.{Commit, Token}
+use Rattle.pc_types.specs.declared.Change.{Change}
 use Rattle.pc_types.specs.declared.Write.{Write}
-use Rattle.pc_types.specs.Fields.{◌>>=◌, where_true, bytes_at, number_at, key_at, content_at, key_text, content_text}
-use Rattle.pc_types.proofs.FieldLaws.{IsBytes-take, IsBytes-rest, bind_ok, guard_ok, where_ok, ok_is, TakesText-then, bytes_take, wide16, wide32, number_takes, key_takes, content_takes}
+use Rattle.pc_types.specs.Fields.{◌>>=◌, where_true, bytes_at, number_at, key_at, key_text}
+use Rattle.pc_types.proofs.FieldLaws.{IsBytes-take, IsBytes-rest, bind_ok, guard_ok, where_ok, ok_is, TakesText-then, bytes_take, wide16, wide32, number_takes, key_takes}
 use Rattle.pc_types.specs.FieldForms.{IsBytes, TakesText}
 use Rattle.pc_log.specs.declared.order.LastToken.{LastToken}
 use Rattle.pc_model.specs.FewWrites.{HasFewWrites}
-use Rattle.pc_log.specs.Texts.{write_text, phase_number, body_text, entry_text, same_key, keys_of, IsWrite, IsEntry}
+use Rattle.pc_log.specs.Texts.{change_text, write_text, phase_number, body_text, entry_text, same_key, keys_of, IsWrite, IsEntry}
 use Rattle.pc_log.specs.Orders.{comes_next}
-use Rattle.pc_log.specs.Reading.{byte_at, is_written, write_at, writes_at, commit_at, phase_numbered, token_at, kind_at, body_at, entry_at}
+use Rattle.pc_log.specs.Reading.{byte_at, is_written, change_at, write_at, writes_at, commit_at, phase_numbered, token_at, kind_at, body_at, entry_at}
 use Rattle.pc_log.proofs.TokenOrders.{ComesNext, HasBegun, next_is, number_is}
 use Rattle.pc_log.proofs.StepLaws.{where_then, made_ok}
+use Rattle.pc_log.proofs.ChangeTexts.{TakesText-front, change_takes}
 use Rattle.pc_log.proofs.TurnLaws.{entry_parts}
 
 pub byte_takes : (bytes : List ℕ) (byte : ℕ) (rest : List ℕ) → IsBytes bytes → byte_at bytes ≡ Ok (byte, rest) → TakesText bytes (byte ∷ []) rest × (byte < 256)
@@ -34,9 +36,6 @@ byte_takes (b ∷ bs) byte rest fits e =
 
 pub one_byte : (n : ℕ) → n < 256 → to_be_bytes w8 n ≡ n ∷ []
 one_byte n lt = ap (λ (b : ℕ). b ∷ []) (omega arith)
-
-TakesText-front : (b : ℕ) (bytes text rest : List ℕ) → TakesText bytes text rest → TakesText (b ∷ bytes) (b ∷ text) rest
-TakesText-front b bytes text rest t = record { parts = ap (λ (bs : List ℕ). b ∷ bs) t.parts; rest_fits = t.rest_fits }
 
 -- ---- writes
 
@@ -48,8 +47,8 @@ pub by_keys : (writes : List Write) (key : List ℕ) → list_any (same_key key)
 by_keys [] key = refl
 by_keys (w ∷ ws) key = ap (λ (b : Bool). same_key key w.key || b) (by_keys ws key)
 
-abbrev write_of : List ℕ → Option (List ℕ) × List ℕ → Write × List ℕ
-write_of key content = (record { key = key; value = content.0 }, content.1)
+abbrev write_of : List ℕ → Change × List ℕ → Write × List ℕ
+write_of key change = (record { key = key; change = change.0 }, change.1)
 
 record WriteTakes (earlier : List Write) (bytes : List ℕ) (write : Write) (rest : List ℕ) : Type 0 where
   taken : TakesText bytes (write_text write) rest
@@ -59,13 +58,13 @@ record WriteTakes (earlier : List Write) (bytes : List ℕ) (write : Write) (res
 write_takes : (earlier : List Write) (bytes : List ℕ) (write : Write) (rest : List ℕ) → IsBytes bytes → write_at earlier bytes ≡ Ok (write, rest) → WriteTakes earlier bytes write rest
 unfolding write_at
 write_takes earlier bytes write rest fits e =
-    let a = bind_ok (key_at BadLength bytes) (λ key. where_true (not (is_written earlier key.0)) KeyOrder key >>= λ first. content_at BadLength first.1 >>= λ content. Ok (write_of first.0 content)) (write, rest) e in
-    let g = where_then (not (is_written earlier a.0.0)) KeyOrder a.0 (λ first. content_at BadLength first.1 >>= λ content. Ok (write_of first.0 content)) (write, rest) a.2 in
-    let c = made_ok (content_at BadLength a.0.1) (write_of a.0.0) (write, rest) g.1 in
+    let a = bind_ok (key_at BadLength bytes) (λ key. where_true (not (is_written earlier key.0)) KeyOrder key >>= λ first. change_at first.1 >>= λ change. Ok (write_of first.0 change)) (write, rest) e in
+    let g = where_then (not (is_written earlier a.0.0)) KeyOrder a.0 (λ first. change_at first.1 >>= λ change. Ok (write_of first.0 change)) (write, rest) a.2 in
+    let c = made_ok (change_at a.0.1) (write_of a.0.0) (write, rest) g.1 in
     let k = key_takes BadLength bytes a.0.0 a.0.1 fits a.1 in
-    let v = content_takes BadLength a.0.1 c.0.0 c.0.1 k.0.rest_fits c.1 in
+    let v = change_takes a.0.1 c.0.0 c.0.1 k.0.rest_fits c.1 in
     subst (λ (p : Write × List ℕ). WriteTakes earlier bytes p.0 p.1) c.2 (record {
-      taken = TakesText-then bytes (key_text a.0.0) a.0.1 (content_text c.0.0) c.0.1 k.0 v.0;
+      taken = TakesText-then bytes (key_text a.0.0) a.0.1 (change_text c.0.0) c.0.1 k.0 v.0;
       in_limits = (k.1, v.1);
       new = not-true (is_written earlier a.0.0) g.0;
     })

@@ -1,11 +1,14 @@
 -- The log of a run has a text.
-use Rattle.std.proofs.Common.{◌≡◌, ℕ, ◌≤◌, eqb, ◌&&◌, not, Bool, true, false, cond, List, [], ◌∷◌, ◌++◌, length, Option, Some, None, is_some, refl, sym, ap, subst, ◌∙◌, arith, ◌⊎◌, inl, inr}
+use Rattle.std.proofs.Common.{◌≡◌, ℕ, ◌≤◌, eqb, ◌&&◌, not, Bool, true, false, cond, List, [], ◌∷◌, ◌++◌, length, Some, None, is_some, refl, sym, ap, subst, ◌∙◌, arith, ◌⊎◌, inl, inr}
 use Rattle.std.specs.Prelude.{IfSome, ⊤}
 use Rattle.std.specs.List.{AllByRecursion}
 use Rattle.std.proofs.lemmas.Bool.Decides.{nat_tests}
 use Rattle.std.proofs.lemmas.List.{append-nil}
 use Rattle.std.proofs.lemmas.List.Elements.{All-from_recursion}
+use Rattle.pc_types.specs.declared.Change.{Change}
+use Rattle.pc_types.specs.declared.Change.TheVariants.{Add}
 use Rattle.pc_types.specs.declared.Write.{Write}
+use Rattle.pc_types.specs.Changes.{fits, CanMerge}
 use Rattle.pc_types.specs.declared.Entry.{Entry}
 use Rattle.pc_types.specs.declared.Entry.TheVariants.{Commit, Token}
 use Rattle.pc_types.specs.declared.Event.{Event}
@@ -17,20 +20,20 @@ use Rattle.pc_types.specs.declared.Phase.TheVariants.{Rest, Prepare, Resolve, Ca
 use Rattle.pc_types.specs.declared.Class.TheVariants.{Before, During, After}
 use Rattle.pc_types.specs.Limits.{IsKey, IsValue}
 use Rattle.pc_model.specs.History.{History, Effect, effect, effect_of, log_of, entries_by, phase_of, phase_by, point_of, point_by, writes_of, writes_by, is_open, has_died}
-use Rattle.pc_model.specs.History.Effect.{Begins, Reads, Writes, Waits, Dies, Commits, Aborts, Moves, Takes, Shelves, Joins, Nothing}
-use Rattle.pc_model.specs.Database.{written, with_write}
-use Rattle.pc_model.specs.Replies.{Setting, certain, Answers, IsLegal, first_refusal, no_session, is_in, log_is_full, too_many, is_full, write_causes, transaction_causes, wrong_phase}
+use Rattle.pc_model.specs.History.Effect.{Begins, Reads, Writes, Adds, Waits, Dies, Commits, Aborts, Moves, Takes, Shelves, Joins, Nothing}
+use Rattle.pc_model.specs.Database.{change_to, write_of, written, with_write}
+use Rattle.pc_model.specs.Replies.{Setting, certain, Answers, IsLegal, first_refusal, no_session, is_in, log_is_full, too_many, is_full, write_causes, add_causes, transaction_causes, wrong_phase}
 use Rattle.pc_model.specs.Standing.{HasLegalEffects}
 use Rattle.pc_model.specs.Limits.{IsInLimits, AreInLimits}
-use Rattle.pc_model.proofs.EffectCases.{begin_case, get_case, write_case, commit_case, abort_case, take_case, done_case, join_case}
-use Rattle.pc_model.proofs.EffectLaws.{no_first, no_other}
+use Rattle.pc_model.proofs.EffectCases.{begin_case, get_case, write_case, add_case, commit_case, abort_case, take_case, done_case, join_case}
+use Rattle.pc_model.proofs.EffectLaws.{no_first, no_other, no_firsts}
 use Rattle.pc_model.proofs.LegalEffectLaws.{settled, causes_idle, or_else_idle, or_else_none, held_back_idle, is_a_session, effect_fits}
 use Rattle.pc_model.specs.LegalEffects.{Fits, FitsMove, IsIdle}
 use Rattle.pc_model.specs.Locks.{is_waiting}
-use Rattle.pc_log.specs.Texts.{IsEntry}
+use Rattle.pc_log.specs.Texts.{IsChange, IsEntry}
 use Rattle.pc_log.specs.Orders.{FollowFrom, next_phase, next_point}
 use Rattle.pc_log.specs.Laws.{LogsOfRunsHaveTexts}
-use Rattle.pc_log.proofs.LawfulWrites.{AreLawful, none_lawful, lawful_with}
+use Rattle.pc_log.proofs.LawfulWrites.{AreLawful, none_lawful, lawful_change, merges_to, lawful_with}
 
 -- ---- what is lawful of an effect
 
@@ -38,9 +41,10 @@ abbrev pub IsLawfulMove : History → Phase → Type 0
 IsLawfulMove h Prepare = eqb (point_of h) 65535 ≡ false
 IsLawfulMove h other = ⊤
 
--- a write is within its limits and not one too many, a commit is of a session from 1 to 64, and a cycle begins before the last point
+-- a write or an add is within its limits and not one too many, a commit is of a session from 1 to 64, and a cycle begins before the last point
 abbrev pub IsLawful : History → Effect → Type 0
 IsLawful h (Writes s key content) = ((eqb (length (writes_of s h)) 256 && not (is_some (written (writes_of s h) key))) ≡ false) × IsKey key × IfSome content IsValue
+IsLawful h (Adds s key delta sum) = ((eqb (length (writes_of s h)) 256 && not (is_some (written (writes_of s h) key))) ≡ false) × IsKey key × (fits delta ≡ true)
 IsLawful h (Commits s) = (1 ≤ s) × (s ≤ 64)
 IsLawful h (Moves phase n) = IsLawfulMove h phase
 IsLawful h other = ⊤
@@ -71,6 +75,12 @@ module _ (st : Setting) (h : History) (few : st.sessions ≤ 64) where
       elim (settled (certain st h (asked.Del s key)) (Answers st h (asked.Del s key) reply) reply (causes_idle (write_causes st s key h)) legal) [
         | inl answered ↦ write_case (IsLawful h) tt s key None reply (λ counts. (not_too_many s key answered.0, limits, tt)) tt tt
         | inr idle ↦ idle_lawful (asked.Del s key) reply idle
+      ]
+  legal_lawful (asked.Add s key delta) reply legal limits =
+      let causes = write_causes st s key h ++ add_causes st s key delta h in
+      elim (settled (certain st h (asked.Add s key delta)) (Answers st h (asked.Add s key delta) reply) reply (causes_idle causes) legal) [
+        | inl answered ↦ add_case (IsLawful h) tt s key delta reply (λ sum counts. (not_too_many s key (no_firsts (write_causes st s key h) (add_causes st s key delta h) answered.0), limits.0, limits.1)) tt tt
+        | inr idle ↦ idle_lawful (asked.Add s key delta) reply idle
       ]
   legal_lawful (asked.Commit s) reply legal limits =
       elim (settled (certain st h (asked.Commit s)) (Answers st h (asked.Commit s) reply) reply (causes_idle (transaction_causes st s h ++ (log_is_full h, why.LogFull) ∷ [])) legal) [
@@ -170,13 +180,14 @@ module _ (st : Setting) (h : History) (before : IsSound (log_of h) (phase_of h) 
       by s true = none_lawful
       by s false = before.writes s
 
-  one_more : (t : ℕ) (key : List ℕ) (content : Option (List ℕ)) → IsLawful h (Writes t key content) → SoundAfter (Writes t key content)
-  one_more t key content is = record { leads = unlogged.leads; entries = unlogged.entries; last = unlogged.last; begun = unlogged.begun; writes = λ s. by s (eqb t s) refl }
+  one_more : (t : ℕ) (key : List ℕ) (change : Change) → (eqb (length (writes_of t h)) 256 && not (is_some (written (writes_of t h) key))) ≡ false → IsKey key → IsChange change → CanMerge (written (writes_of t h) key) change
+      → IsSound (log_of h ++ []) (phase_of h) (point_of h) (λ s. cond (eqb t s) (with_write (writes_of s h) (write_of key change)) (writes_of s h))
+  one_more t key change few is_key is can = record { leads = unlogged.leads; entries = unlogged.entries; last = unlogged.last; begun = unlogged.begun; writes = λ s. by s (eqb t s) refl }
     where
-      by : (s : ℕ) (b : Bool) → eqb t s ≡ b → AreLawful (cond b (with_write (writes_of s h) (record { key = key; value = content })) (writes_of s h))
+      by : (s : ℕ) (b : Bool) → eqb t s ≡ b → AreLawful (cond b (with_write (writes_of s h) (write_of key change)) (writes_of s h))
       by s true same =
           let own : t ≡ s = grind (arith, nat_tests) in
-          subst (λ k. AreLawful (with_write (writes_of k h) (record { key = key; value = content }))) own (lawful_with key content (writes_of t h) is.1 is.2 is.0 (before.writes t))
+          subst (λ k. AreLawful (with_write (writes_of k h) (write_of key change))) own (lawful_with key change (writes_of t h) is_key is can few (before.writes t))
       by s false other = before.writes s
 
   commits : (s : ℕ) → IsLawful h (Commits s) → SoundAfter (Commits s)
@@ -225,7 +236,8 @@ module _ (st : Setting) (h : History) (before : IsSound (log_of h) (phase_of h) 
   after_effect : (e : Effect) → Fits st h e → IsLawful h e → SoundAfter e
   after_effect (Begins t) fits is = begun_anew t
   after_effect (Reads t key content) fits is = unlogged
-  after_effect (Writes t key content) fits is = one_more t key content is
+  after_effect (Writes t key content) fits is = one_more t key (change_to content) is.0 is.1 (lawful_change content is.2) (merges_to (written (writes_of t h) key) content)
+  after_effect (Adds t key delta sum) fits is = one_more t key (Add delta) is.0 is.1 is.2 fits
   after_effect (Waits t key exclusive) fits is = unlogged
   after_effect (Dies t key exclusive) fits is = unlogged
   after_effect (Commits t) fits is = commits t is

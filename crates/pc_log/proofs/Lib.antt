@@ -1,4 +1,5 @@
 pub mod StepLaws
+pub mod ChangeTexts
 mod Loops
 mod CommitTexts
 pub mod TurnLaws

@@ -1,15 +1,17 @@
 -- Reading a log's text from left to right, with the first fault that is met.
 use Rattle.std.specs.Prelude.{ℕ, zero, suc, Bool, not, List, [], ◌∷◌, ◌++◌, length, Option, Some, None, Result, Ok, Err, nat_le, ◌==◌, ◌&&◌}
 use Rattle.std.specs.List.{list_any}
-use Rattle.std.specs.Int.{w16, w32, w64}
+use Rattle.std.specs.Int.{w16, w32, w64, cast_signed}
 use Rattle.pc_types.specs.declared.refusal.Refusal.{Refusal}
 use Rattle.pc_types.specs.declared.refusal.Refusal.TheVariants.{Short, BadRanges, KeyOrder, BadKind, BadLength, Trailing, TokenOrder}
 use Rattle.pc_types.specs.declared.Entry.{Entry}
 use Rattle.pc_types.specs.declared.Entry.TheVariants.{Commit, Token}
 use Rattle.pc_types.specs.declared.Phase.{Phase}
 use Rattle.pc_types.specs.declared.Phase.TheVariants.{Rest, Prepare, Resolve, Capture, Complete}
+use Rattle.pc_types.specs.declared.Change.{Change}
+use Rattle.pc_types.specs.declared.Change.TheVariants.{Set, Remove, Add}
 use Rattle.pc_types.specs.declared.Write.{Write}
-use Rattle.pc_types.specs.Fields.{◌>>=◌, where_true, bytes_at, number_at, magic_at, key_at, content_at}
+use Rattle.pc_types.specs.Fields.{◌>>=◌, where_true, bytes_at, number_at, magic_at, key_at, value_at}
 use Rattle.pc_types.specs.declared.limits.TheConstants.{MOST_SESSIONS, MOST_WRITES}
 use Rattle.pc_log.specs.declared.reading.TheConstants.{MOST_BODY_BYTES}
 use Rattle.pc_log.specs.declared.order.LastToken.{LastToken}
@@ -28,13 +30,25 @@ byte_at (byte ∷ rest) = Ok (byte, rest)
 abbrev pub is_written : List Write → List ℕ → Bool
 is_written writes key = list_any (λ (write : Write). same_key key write.key) writes
 
+-- what a write does to its key: a kind of 0 and nothing, of 1 and a value, or of 2 and a number in two's complement
+unfoldable pub change_at : List ℕ → Result (Change × List ℕ) Refusal
+change_at [] = Err BadLength
+change_at (zero ∷ rest) = Ok (Remove, rest)
+change_at (suc zero ∷ rest) = do
+  value ← value_at BadLength rest
+  Ok (Set value.0, value.1)
+change_at (suc (suc zero) ∷ rest) = do
+  number ← number_at BadLength w64 rest
+  Ok (Add (cast_signed w64 number.0), number.1)
+change_at (suc (suc (suc kind)) ∷ rest) = Err BadKind
+
 -- a write whose key none of the earlier ones has
 unfoldable pub write_at : List Write → List ℕ → Result (Write × List ℕ) Refusal
 write_at earlier bytes = do
   key ← key_at BadLength bytes
   first ← where_true (not (is_written earlier key.0)) KeyOrder key
-  content ← content_at BadLength first.1
-  Ok (record { key = first.0; value = content.0 }, content.1)
+  change ← change_at first.1
+  Ok (record { key = first.0; change = change.0 }, change.1)
 
 -- the earlier writes, and so many more
 unfoldable pub writes_at : ℕ → List Write → List ℕ → Result (List Write × List ℕ) Refusal

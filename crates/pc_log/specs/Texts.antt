@@ -1,5 +1,5 @@
 -- The text of a log: the bytes that stand for it. Numbers stand with their highest byte first.
-use Rattle.std.specs.Prelude.{ℕ, ◌≤◌, Bool, List, ◌∷◌, ◌++◌, length, map, codes, IfSome}
+use Rattle.std.specs.Prelude.{◌≡◌, ℕ, ◌≤◌, Bool, true, List, ◌∷◌, ◌++◌, length, map, codes, Some, None, ⊤}
 use Rattle.std.specs.List.{flat_map, IsDistinct, AllByRecursion}
 use Rattle.std.specs.Int.{w8, w16, w32, w64, to_be_bytes}
 use Rattle.std.specs.Ordering.{nat_cmp, eq_by_cmp}
@@ -8,7 +8,10 @@ use Rattle.pc_types.specs.declared.Entry.{Entry}
 use Rattle.pc_types.specs.declared.Entry.TheVariants.{Commit, Token}
 use Rattle.pc_types.specs.declared.Phase.{Phase}
 use Rattle.pc_types.specs.declared.Phase.TheVariants.{Rest, Prepare, Resolve, Capture, Complete}
+use Rattle.pc_types.specs.declared.Change.{Change}
+use Rattle.pc_types.specs.declared.Change.TheVariants.{Set, Remove, Add}
 use Rattle.pc_types.specs.declared.Write.{Write}
+use Rattle.pc_types.specs.Changes.{fits, number_text}
 use Rattle.pc_types.specs.Fields.{key_text, content_text}
 use Rattle.pc_types.specs.Limits.{IsKey, IsValue}
 use Rattle.pc_types.specs.declared.limits.TheConstants.{MOST_POINTS, MOST_SESSIONS, MOST_WRITES}
@@ -21,9 +24,15 @@ log_magic = codes "PCALCL01"
 abbrev pub header_text : ℕ → List ℕ
 header_text run = log_magic ++ (to_be_bytes w64 run ++ to_be_bytes w32 0)
 
--- a write: its key, and what the key has after it
+-- what a write does to its key: the kind, and behind it the value that is set, or the number that is added
+abbrev pub change_text : Change → List ℕ
+change_text Remove = content_text None
+change_text (Set value) = content_text (Some value)
+change_text (Add d) = 2 ∷ number_text d
+
+-- a write: its key, and what it does to it
 abbrev pub write_text : Write → List ℕ
-write_text write = key_text write.key ++ content_text write.value
+write_text write = key_text write.key ++ change_text write.change
 
 -- the number that stands for a phase
 abbrev pub phase_number : Phase → ℕ
@@ -59,9 +68,15 @@ same_key = eq_by_cmp (slice_cmp nat_cmp)
 abbrev pub keys_of : List Write → List (List ℕ)
 keys_of writes = map (λ (write : Write). write.key) writes
 
--- a write within the limits of keys and values
+-- a change within the limits of values and numbers
+abbrev pub IsChange : Change → Type 0
+IsChange Remove = ⊤
+IsChange (Set value) = IsValue value
+IsChange (Add d) = fits d ≡ true
+
+-- a write within the limits of keys, values and numbers
 abbrev pub IsWrite : Write → Type 0
-IsWrite write = IsKey write.key × IfSome write.value IsValue
+IsWrite write = IsKey write.key × IsChange write.change
 
 -- a commit that has a text: of a session from 1 to 64, of at most 256 writes within their limits, and of no key twice
 pub record IsCommit (session : ℕ) (writes : List Write) : Type 0 where

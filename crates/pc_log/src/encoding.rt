@@ -1,6 +1,7 @@
 //! The text of a log goes out.
 ghost use Rattle.std.specs.Prelude.{ℕ, ◌≡◌, ◌≤◌, ◌*◌, length, All};
 ghost use Rattle.std.specs.List.{flat_map};
+ghost use Rattle.pc_types.specs.Changes.{number_text};
 ghost use Rattle.pc_types.specs.Tallies.{Puts};
 ghost use Rattle.pc_model.specs.FewWrites.{HasFewWrites};
 ghost use Rattle.pc_log.specs.Texts.{header_text, write_text, body_text, commit_head_text, entry_text, log_text};
@@ -8,7 +9,7 @@ ghost use Rattle.pc_types.specs.declared.Entry.TheVariants.{Commit, Token};
 
 use crate::phases;
 use byteorder::{BigEndian, ByteOrder};
-use pc_types::{Entry, MOST_WRITES, Phase, Point, Refusal, SessionNo, Tally, Write};
+use pc_types::{Change, Entry, MOST_WRITES, Phase, Point, Refusal, SessionNo, Tally, Write};
 use std::io;
 
 const MAGIC: [u8; 8] = *b"PCALCL01";
@@ -27,6 +28,9 @@ pub const ABSENCE: u8 = 0;
 
 /// The kind of a write that gives its key a value, the byte behind the key.
 pub const VALUE: u8 = 1;
+
+/// The kind of a write that adds to the number that its key has, the byte behind the key.
+pub const ADD: u8 = 2;
 
 /// Writes what stands before the entries of the run. It takes no memory, and refuses with `Device` exactly where the device
 /// failed; then a beginning of the text went out, and not all of it.
@@ -113,15 +117,23 @@ fn put_write<W: io::Write>(out: &mut Tally<W>, write: &Write) -> Result<(), Refu
     let key = write.key.as_bytes();
     let mut key_len = [0u8; 2];
     BigEndian::write_u16(&mut key_len, key.len() as u16);
-    match &write.value {
-        None => out.put_all(&[&key_len, key, &[ABSENCE]]),
-        Some(value) => {
+    match &write.change {
+        Change::Remove => out.put_all(&[&key_len, key, &[ABSENCE]]),
+        Change::Set(value) => {
             let value = value.as_bytes();
             let mut value_len = [0u8; 4];
             BigEndian::write_u32(&mut value_len, value.len() as u32);
             out.put_all(&[&key_len, key, &[VALUE], &value_len, value])
         }
+        Change::Add(delta) => out.put_all(&[&key_len, key, &[ADD], &number_bytes(*delta)]),
     }
+}
+
+/// The eight bytes of a number in two's complement, the highest first.
+pub fn number_bytes(number: i64) -> [u8; 8]
+    ensures { result ≡ number_text number }
+{
+    number.to_be_bytes()
 }
 
 fn put_token<W: io::Write>(out: &mut Tally<W>, phase: Phase, point: Point) -> Result<(), Refusal>
@@ -172,8 +184,9 @@ fn write_size(write: &Write) -> u32
     ensures limit { result ≤ 65797 }
 {
     let key = write.key.as_bytes().len() as u32;
-    match &write.value {
-        None => 3 + key,
-        Some(value) => 7 + key + value.as_bytes().len() as u32,
+    match &write.change {
+        Change::Remove => 3 + key,
+        Change::Set(value) => 7 + key + value.as_bytes().len() as u32,
+        Change::Add(_) => 11 + key,
     }
 }

@@ -10,8 +10,8 @@ mod plain;
 mod reading;
 
 pub use encoding::{
-    ABSENCE, COMMIT, TOKEN, TOKEN_SIZE, VALUE, commit_size, encode_entry, encode_header,
-    encode_log, entry_size, writes_size,
+    ABSENCE, ADD, COMMIT, TOKEN, TOKEN_SIZE, VALUE, commit_size, encode_entry, encode_header,
+    encode_log, entry_size, number_bytes, writes_size,
 };
 pub use laws::{
     cut_logs_are_read, entry_texts_are_read, log_texts_are_read, logs_of_runs_have_texts,

@@ -1,16 +1,16 @@
 //! A log is read from its text, which may have been cut off.
 ghost use Rattle.std.specs.Prelude.{◌≡◌, ◌<◌, [], length, IfOk, Ok, Err, Some};
 ghost use Rattle.pc_types.specs.Fields.{Gives, Reads};
-ghost use Rattle.pc_log.specs.Reading.{byte_at, write_at, writes_at, commit_at, token_at, kind_at, body_at, entry_at, entries_at, header_at, log_at, text_of, of_run, is_written};
+ghost use Rattle.pc_log.specs.Reading.{byte_at, change_at, write_at, writes_at, commit_at, token_at, kind_at, body_at, entry_at, entries_at, header_at, log_at, text_of, of_run, is_written};
 ghost use Rattle.pc_log.specs.Orders.{no_token};
 ghost use Rattle.pc_log.specs.Laws.{AreWholeEntries};
 
 use crate::order::LastToken;
 use crate::phases;
 use pc_types::{
-    Entry, Items, Key, MOST_KEY_BYTES, MOST_SESSIONS, MOST_VALUE_BYTES, MOST_WRITES, Point,
-    Refusal, SessionNo, Write, read_bytes, read_content, read_key, read_magic, read_u16, read_u32,
-    read_u64,
+    Change, Entry, Items, Key, MOST_KEY_BYTES, MOST_SESSIONS, MOST_VALUE_BYTES, MOST_WRITES, Point,
+    Refusal, SessionNo, Write, read_bytes, read_key, read_magic, read_u16, read_u32, read_u64,
+    read_value,
 };
 use std::alloc::Global;
 
@@ -210,8 +210,28 @@ fn read_write<'a>(
     if is_written(earlier, &key) {
         return Err(Refusal::KeyOrder);
     }
-    let (value, rest) = read_content(alloc, rest, Refusal::BadLength)?;
-    Ok((Write { key, value }, rest))
+    let (change, rest) = read_change(alloc, rest)?;
+    Ok((Write { key, change }, rest))
+}
+
+// What a write does to its key: a kind of 0 and nothing, of 1 and a value, or of 2 and a number in two's complement.
+#[tactic(auto, unfolding(crate::specs::Reading::change_at))]
+fn read_change(alloc: Global, bytes: &[u8]) -> Result<(Change, &[u8]), Refusal>
+    ensures { Gives (λ x. (x.0, x.1.now)) result (change_at bytes.now) }
+{
+    match bytes {
+        [] => Err(Refusal::BadLength),
+        [0, rest @ ..] => Ok((Change::Remove, rest)),
+        [1, rest @ ..] => {
+            let (value, rest) = read_value(alloc, rest, Refusal::BadLength)?;
+            Ok((Change::Set(value), rest))
+        }
+        [2, rest @ ..] => {
+            let (number, rest) = read_u64(rest, Refusal::BadLength)?;
+            Ok((Change::Add(number.cast_signed()), rest))
+        }
+        [_, ..] => Err(Refusal::BadKind),
+    }
 }
 
 // Whether one of the writes has this key.

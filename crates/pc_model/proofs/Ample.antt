@@ -1,4 +1,5 @@
 -- After every history every event has a legal reply: the one that is given with ample memory.
+use Rattle.pc_types.specs.Changes.{added}
 use Rattle.std.proofs.Common.{◌≡◌, ℕ, ◌+◌, List, [], ◌∷◌, length, Option, Some, None, refl, subst, ◌⊎◌, inl, inr, Bool, reverse, map, true, false}
 use Rattle.std.specs.Prelude.{MatchOption, if◌then◌else◌}
 use Rattle.pc_types.specs.declared.Phase.TheVariants as phase
@@ -10,14 +11,14 @@ use Rattle.pc_types.specs.declared.Refusal.TheVariants as why
 use Rattle.pc_types.specs.declared.Mode.TheVariants.{Shared, Exclusive}
 use Rattle.pc_model.specs.Maps as map_of
 use Rattle.pc_model.specs.Sets as set
-use Rattle.pc_model.specs.Database.{Database, written}
+use Rattle.pc_model.specs.Database.{Database, written, seen}
 use Rattle.pc_model.specs.Log.{state_at}
 use Rattle.pc_types.specs.declared.Step.{Step}
 use Rattle.pc_model.specs.History.{History, writes_of, log_of, contents, begun, number_of, point_of}
 use Rattle.pc_model.specs.Locks.{outcome, queue_of}
 use Rattle.pc_model.specs.Points.{taken}
 use Rattle.pc_model.specs.Files.{File, shelf, file_at, join_of}
-use Rattle.pc_model.specs.Replies.{Setting, closed_set, certain, or_else, is_empty, join_refusal, value_read, read_reply, by_outcome, TakesFirst, IsFileReply, Answers, IsLegal, IsLegalHistory, wrong_phase}
+use Rattle.pc_model.specs.Replies.{Setting, closed_set, certain, or_else, is_empty, join_refusal, read_reply, by_outcome, TakesFirst, IsFileReply, Answers, IsLegal, IsLegalHistory, wrong_phase, seen_by, sum_reply}
 
 -- the Took of the first key, with what the database has
 abbrev pub take_reply : List (List ℕ) → Database → Reply
@@ -32,9 +33,10 @@ file_reply (f ∷ fs) number = told.File number (set.items f.points) (map_of.len
 abbrev pub answer : Setting → History → Event → Reply
 answer st history (asked.Begin s) = told.Begun (begun history + 1)
 answer st history (asked.Get s key) =
-    by_outcome (outcome (queue_of key history) (number_of s history) Shared) (read_reply (value_read (written (writes_of s history) key) (map_of.get (contents st.base history) key)))
+    by_outcome (outcome (queue_of key history) (number_of s history) Shared) (read_reply (seen (written (writes_of s history) key) (map_of.get (contents st.base history) key)))
 answer st history (asked.Put s key value) = by_outcome (outcome (queue_of key history) (number_of s history) Exclusive) told.Ok
 answer st history (asked.Del s key) = by_outcome (outcome (queue_of key history) (number_of s history) Exclusive) told.Ok
+answer st history (asked.Add s key delta) = by_outcome (outcome (queue_of key history) (number_of s history) Exclusive) (sum_reply (added delta (seen_by st s key history)))
 answer st history (asked.Commit s) = told.Committed (length (log_of history) + 1)
 answer st history (asked.Abort s) = told.Aborted
 answer st history asked.StartPoint = told.Phase phase.Prepare (point_of history + 1)
@@ -81,6 +83,7 @@ ample_is_legal st history (asked.Begin s) = legal_where st history (asked.Begin 
 ample_is_legal st history (asked.Get s key) = legal_where st history (asked.Get s key) _ (λ _. refl)
 ample_is_legal st history (asked.Put s key value) = legal_where st history (asked.Put s key value) _ (λ _. refl)
 ample_is_legal st history (asked.Del s key) = legal_where st history (asked.Del s key) _ (λ _. refl)
+ample_is_legal st history (asked.Add s key delta) = legal_where st history (asked.Add s key delta) _ (λ _. refl)
 ample_is_legal st history (asked.Commit s) = legal_where st history (asked.Commit s) _ (λ _. refl)
 ample_is_legal st history (asked.Abort s) = legal_where st history (asked.Abort s) _ (λ none. never_none _ _ none)
 ample_is_legal st history asked.StartPoint = legal_where st history asked.StartPoint _ (λ _. refl)

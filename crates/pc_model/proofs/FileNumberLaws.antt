@@ -17,7 +17,7 @@ use Rattle.pc_model.specs.Files.{File, shelf, shelved_by, file_at, triples_taken
 use Rattle.pc_model.specs.Standing.{HasLegalEffects}
 use Rattle.pc_model.specs.Replies.{Setting}
 use Rattle.pc_model.specs.LegalEffects.{Fits}
-use Rattle.pc_model.proofs.EffectCases.{begin_case, get_case, write_case, commit_case, abort_case, move_case, take_case, done_case}
+use Rattle.pc_model.proofs.EffectCases.{begin_case, get_case, write_case, commit_case, abort_case, move_case, take_case, done_case, add_case}
 use Rattle.pc_model.proofs.LegalEffectLaws.{effect_fits}
 use Rattle.pc_model.specs.SessionLaws.{IsNoJoin, HasNoJoins}
 
@@ -49,6 +49,7 @@ no_joined (asked.Begin s) r n = begin_case IsNoJoined tt s r (λ counts. tt)
 no_joined (asked.Get s key) r n = get_case IsNoJoined tt s key r (λ answer counts. tt) tt tt
 no_joined (asked.Put s key value) r n = write_case IsNoJoined tt s key (Some value) r (λ counts. tt) tt tt
 no_joined (asked.Del s key) r n = write_case IsNoJoined tt s key None r (λ counts. tt) tt tt
+no_joined (asked.Add s key delta) r n = add_case IsNoJoined tt s key delta r (λ sum counts. tt) tt tt
 no_joined (asked.Commit s) r n = commit_case IsNoJoined tt s r (λ counts. tt)
 no_joined (asked.Abort s) r n = abort_case IsNoJoined tt s r (λ counts. tt)
 no_joined asked.StartPoint r n = move_case IsNoJoined tt r (λ phase point. tt)

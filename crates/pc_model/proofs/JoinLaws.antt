@@ -6,7 +6,8 @@ use Rattle.std.specs.FinMap.{find}
 use Rattle.pc_model.specs.Maps.{get}
 use Rattle.pc_model.proofs.MapLaws.{get-insert, get-remove, get-empty, get-entries}
 use Rattle.std.specs.Ordering.{is_eq}
-use Rattle.pc_model.specs.Database.{Database, key_cmp, key_order, same_bytes, put, applied_all}
+use Rattle.pc_model.specs.Database.{Database, key_cmp, key_order, same_bytes, put, applied, applied_all}
+use Rattle.pc_types.specs.Changes.{changed}
 use Rattle.pc_model.specs.Points.{Triples, AtPoint, newer, later, joined_entries, joined, laid_at, laid_entries, laid, triples_of, is_among, with_key, with_keys, with_written}
 use Rattle.pc_types.specs.declared.Write.{Write}
 use Rattle.pc_types.specs.declared.Entry.{Entry}
@@ -111,7 +112,8 @@ is_among-with_written keys (Token phase point ∷ log) q = is_among-with_written
 -- a key that isn't written keeps what it has
 applied_all_other : (db : Database) (ws : List Write) (q : List ℕ) → have_key ws q ≡ false → get (applied_all db ws) q ≡ get db q
 applied_all_other db [] q none = refl
-applied_all_other db (w ∷ ws) q none = applied_all_other (put db w.key w.value) ws q (second (same_bytes q w.key) (have_key ws q) none) ∙ get_put db w.key q w.value ∙ ap (λ b. cond b w.value (get db q)) (first (same_bytes q w.key) (have_key ws q) none)
+applied_all_other db (w ∷ ws) q none =
+    applied_all_other (applied db w) ws q (second (same_bytes q w.key) (have_key ws q) none) ∙ get_put db w.key q (changed w.change (get db w.key)) ∙ ap (λ b. cond b (changed w.change (get db w.key)) (get db q)) (first (same_bytes q w.key) (have_key ws q) none)
 
 pub after_other : (db : Database) (log : List Entry) (q : List ℕ) → has_written log q ≡ false → get (after db log) q ≡ get db q
 after_other db [] q none = refl

@@ -1,6 +1,12 @@
 -- What a legal effect says of the history before it.
+use Rattle.pc_types.specs.declared.Mode.TheVariants.{Exclusive}
+use Rattle.pc_types.specs.declared.Outcome.{Outcome}
+use Rattle.pc_types.specs.declared.Outcome.TheVariants.{Granted, Queued, Died}
+use Rattle.pc_model.specs.Database.{written}
+use Rattle.pc_types.specs.Changes.{added, can_add}
+use Rattle.pc_model.proofs.AddLaws.{add_stands}
 use Rattle.std.proofs.Common.{◌≡◌, ℕ, zero, suc, ◌≤◌, List, [], ◌∷◌, ◌++◌, length, eqb, not, ◌||◌, Option, Some, None, refl, sym, ap, subst, ◌∙◌, cond, Bool, true, false, ◌⊎◌, inl, inr, arith}
-use Rattle.std.specs.Prelude.{MatchOption}
+use Rattle.std.specs.Prelude.{MatchOption, ℤ}
 use Rattle.std.specs.List.{list_any}
 use Rattle.std.proofs.lemmas.Bool.Decides.{nat_tests}
 use Rattle.std.proofs.lemmas.List.Folds.{list_any-append}
@@ -12,28 +18,28 @@ use Rattle.pc_types.specs.declared.Reply.{Reply}
 use Rattle.pc_types.specs.declared.Reply.TheVariants as told
 use Rattle.pc_types.specs.declared.Refusal.{Refusal}
 use Rattle.pc_types.specs.declared.Refusal.TheVariants as why
-use Rattle.pc_model.specs.History.{History, Effect, effect_of, is_open, phase_of, point_of, has_died}
+use Rattle.pc_model.specs.History.{History, Effect, effect_of, is_open, phase_of, point_of, has_died, effect_of_add, writes_of, number_of}
 use Rattle.pc_model.specs.History.Effect.{Nothing}
 use Rattle.pc_types.specs.declared.Class.{Class}
 use Rattle.pc_types.specs.declared.Class.TheVariants.{Before, During, After}
-use Rattle.pc_model.specs.Locks.{is_waiting}
+use Rattle.pc_model.specs.Locks.{is_waiting, outcome, queue_of}
 use Rattle.pc_model.specs.Files.{shelf, numbers_to}
-use Rattle.pc_model.specs.Replies.{Setting, is_in, closed_set, is_empty, first_refusal, or_else, no_session, log_is_full, transaction_causes, not_yet, wrong_phase, held_back, TakesFirst, certain, Answers, IsLegal, IsLegalHistory}
+use Rattle.pc_model.specs.Replies.{Setting, is_in, closed_set, is_empty, first_refusal, or_else, no_session, log_is_full, transaction_causes, not_yet, wrong_phase, held_back, TakesFirst, certain, Answers, IsLegal, IsLegalHistory, write_causes, add_causes, seen_by, sum_reply, by_outcome}
 use Rattle.pc_model.specs.LegalEffects.{some_active, Fits, IsIdle, IsIdleIfAny}
 use Rattle.pc_types.specs.Phases.{same_phase}
 use Rattle.pc_model.specs.Standing.{HasLegalEffects}
 use Rattle.pc_model.proofs.EffectCases.{by_event, begin_case, get_case, write_case, abort_case, join_case}
 use Rattle.pc_model.proofs.EffectLaws.{refused_does_nothing, no_first, no_other}
-use Rattle.pc_model.proofs.CertainReplies.{answer_or_kind, by_either, by_causes, by_phase, by_count, by_held}
+use Rattle.pc_model.proofs.CertainReplies.{answer_or_kind, by_either, by_causes, by_phase, by_count, by_held, answer_or_refusal}
 
 refused_idle : (w : Refusal) → IsIdle (told.Refused w)
 refused_idle w event = refused_does_nothing event w
 
 pub not_yet_does_nothing : (event : Event) (n : ℕ) → effect_of event (told.NotYet n) ≡ Nothing
-not_yet_does_nothing event n = by_event (λ e. e ≡ Nothing) (told.NotYet n) (λ s. refl) (λ s key. refl) (λ s key value. refl) (λ s. refl) (λ s. refl) refl refl refl (λ a b. refl) event
+not_yet_does_nothing event n = by_event (λ e. e ≡ Nothing) (told.NotYet n) (λ s. refl) (λ s key. refl) (λ s key value. refl) (λ s key delta. refl) (λ s. refl) (λ s. refl) refl refl refl (λ a b. refl) event
 
 none_left_does_nothing : (event : Event) → effect_of event told.NoneLeft ≡ Nothing
-none_left_does_nothing event = by_event (λ e. e ≡ Nothing) told.NoneLeft (λ s. refl) (λ s key. refl) (λ s key value. refl) (λ s. refl) (λ s. refl) refl refl refl (λ a b. refl) event
+none_left_does_nothing event = by_event (λ e. e ≡ Nothing) told.NoneLeft (λ s. refl) (λ s key. refl) (λ s key value. refl) (λ s key delta. refl) (λ s. refl) (λ s. refl) refl refl refl (λ a b. refl) event
 
 -- what the first cause gives is idle
 pub causes_idle : (causes : List (Bool × Refusal)) → IsIdleIfAny (first_refusal causes)
@@ -128,12 +134,23 @@ module _ (st : Setting) (h : History) where
   take_fits reply [] is from first = absurd first
   take_fits reply (key ∷ keys) is from first = let P : Reply → Type 0 = (λ r. Fits st h (effect_of asked.Take r)) in subst P (sym first.1) (from, keys, is)
 
+  add_fits : (s : ℕ) (key : List ℕ) (delta : ℤ) (o : Outcome) (sum : Option ℤ) → (o ≡ Granted → can_add (written (writes_of s h) key) delta ≡ true) → Fits st h (effect_of_add s key delta (by_outcome o (sum_reply sum)))
+  add_fits s key delta Granted None may = tt
+  add_fits s key delta Granted (Some n) may = may refl
+  add_fits s key delta Queued sum may = tt
+  add_fits s key delta Died sum may = tt
+
   -- the effect of a legal reply fits
   pub legal_fits : (event : Event) (reply : Reply) → IsLegal st h event reply → Fits st h (effect_of event reply)
   legal_fits (asked.Begin s) reply legal = begin_case (Fits st h) tt s reply (λ counts. tt)
   legal_fits (asked.Get s key) reply legal = get_case (Fits st h) tt s key reply (λ answer counts. tt) tt tt
   legal_fits (asked.Put s key value) reply legal = write_case (Fits st h) tt s key (Some value) reply (λ counts. tt) tt tt
   legal_fits (asked.Del s key) reply legal = write_case (Fits st h) tt s key None reply (λ counts. tt) tt tt
+  legal_fits (asked.Add s key delta) reply legal = elim (answer_or_refusal (write_causes st s key h ++ add_causes st s key delta h) (Answers st h (asked.Add s key delta) reply) reply legal) [
+    | inl answered ↦ let P : Reply → Type 0 = (λ r. Fits st h (effect_of (asked.Add s key delta) r)) in
+        subst P (sym answered.1) (add_fits s key delta (outcome (queue_of key h) (number_of s h) Exclusive) (added delta (seen_by st s key h)) (λ granted. (add_stands st h s key delta answered.0 granted).1))
+    | inr refused ↦ let P : Effect → Type 0 = Fits st h in subst P (sym (ap (effect_of (asked.Add s key delta)) refused.1 ∙ refused_does_nothing (asked.Add s key delta) refused.0)) tt
+  ]
   legal_fits (asked.Commit s) reply legal =
       elim (settled (certain st h (asked.Commit s)) (Answers st h (asked.Commit s) reply) reply (causes_idle (transaction_causes st s h ++ (log_is_full h, why.LogFull) ∷ [])) legal) [
         | inl answered ↦ let P : Reply → Type 0 = (λ r. Fits st h (effect_of (asked.Commit s) r)) in subst P (sym answered.1) (commit_active s answered.0)

@@ -32,6 +32,8 @@ pub mod QueueLaws
 mod Holding
 pub mod WrittenKeyLaws
 pub mod DistinctWriteLaws
+pub mod ChangeLaws
+pub mod AddLaws
 mod SessionLocks
 pub mod LegalQueueLaws
 pub mod OccupiedKeyLaws

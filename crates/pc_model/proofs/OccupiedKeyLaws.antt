@@ -1,4 +1,5 @@
 -- Which keys are occupied, key by key. A request stands only on a key that was asked for.
+use Rattle.std.specs.Prelude.{ℤ}
 use Rattle.std.proofs.Common.{◌≡◌, ℕ, List, [], ◌∷◌, ◌++◌, Option, Some, None, is_some, refl, sym, ap, ◌∙◌, cond, true, false, Bool, not, ◌||◌, ◌&&◌}
 use Rattle.std.specs.List.{list_any}
 use Rattle.std.specs.FinMap.Entries.{is_some-find}
@@ -13,12 +14,12 @@ use Rattle.pc_model.specs.Maps as map_of
 use Rattle.pc_model.specs.Sets as set
 use Rattle.pc_model.specs.Database.{Database, key_cmp, key_order, same_bytes}
 use Rattle.pc_model.specs.Points.{is_among, with_key}
-use Rattle.pc_model.specs.History.{History, Effect, contents, effect_of, effect_of_write, number_of}
+use Rattle.pc_model.specs.History.{History, Effect, contents, effect_of, effect_of_write, number_of, effect_of_add}
 use Rattle.pc_types.specs.declared.Request.{Request}
 use Rattle.pc_model.specs.Locks.{Queue, queue_of, queue_by, queue_after, queue_without, granted_behind}
 use Rattle.pc_types.specs.declared.Outcome.TheVariants.{Granted, Queued}
 use Rattle.pc_model.specs.Replies.{Setting, occupied, is_empty, requested, asked_for, asked_by, open_set, closed_set}
-use Rattle.pc_model.proofs.EffectCases.{begin_case, get_case, write_case, commit_case, abort_case, move_case, take_case, done_case, join_case}
+use Rattle.pc_model.proofs.EffectCases.{begin_case, get_case, write_case, commit_case, abort_case, move_case, take_case, done_case, join_case, add_case}
 use Rattle.pc_model.proofs.JoinLaws.{one_key}
 use Rattle.pc_model.proofs.MapLaws.{get-entries}
 use Rattle.pc_model.proofs.SetLaws.{contains-from_list}
@@ -85,6 +86,10 @@ module _ (h : History) (q : List ℕ) (was : Has (queue_of q h) → is_among (as
   written s k value reply =
       write_case (Then (with_key (asked_for h) k)) (still k) s k value reply (λ counts. now k (queue_after (queue_of q h) (number_of s h) Exclusive Granted)) (now k (queue_after (queue_of q h) (number_of s h) Exclusive Queued)) (still k)
 
+  added_to : (s : ℕ) (k : List ℕ) (delta : ℤ) (reply : Reply) → Then (with_key (asked_for h) k) (effect_of_add s k delta reply)
+  added_to s k delta reply =
+      add_case (Then (with_key (asked_for h) k)) (still k) s k delta reply (λ sum counts. now k (queue_after (queue_of q h) (number_of s h) Exclusive Granted)) (now k (queue_after (queue_of q h) (number_of s h) Exclusive Queued)) (still k)
+
   -- what is asked for and answered
   asked_by_event : (event : Event) (reply : Reply) → Then (asked_by event (asked_for h)) (effect_of event reply)
   asked_by_event (asked.Begin s) reply = begin_case (Then (asked_for h)) was s reply (λ counts. was)
@@ -92,6 +97,7 @@ module _ (h : History) (q : List ℕ) (was : Has (queue_of q h) → is_among (as
       get_case (Then (with_key (asked_for h) k)) (still k) s k reply (λ answer counts. now k (queue_after (queue_of q h) (number_of s h) Shared Granted)) (now k (queue_after (queue_of q h) (number_of s h) Shared Queued)) (still k)
   asked_by_event (asked.Put s k v) reply = written s k (Some v) reply
   asked_by_event (asked.Del s k) reply = written s k None reply
+  asked_by_event (asked.Add s k delta) reply = added_to s k delta reply
   asked_by_event (asked.Commit s) reply = commit_case (Then (asked_for h)) was s reply (λ counts. ended s)
   asked_by_event (asked.Abort s) reply = abort_case (Then (asked_for h)) was s reply (λ counts. ended s)
   asked_by_event asked.StartPoint reply = move_case (Then (asked_for h)) was reply (λ phase point. was)

@@ -8,10 +8,10 @@ use Rattle.pc_types.specs.declared.Reply.TheVariants as told
 use Rattle.pc_types.specs.declared.Step.{Step}
 use Rattle.pc_types.specs.declared.Write.{Write}
 use Rattle.pc_model.specs.History.{History, Effect, effect, effect_of, writes_by, writes_of, open_by, is_open}
-use Rattle.pc_model.specs.History.Effect.{Begins, Reads, Writes, Commits, Aborts}
+use Rattle.pc_model.specs.History.Effect.{Begins, Reads, Writes, Adds, Commits, Aborts}
 use Rattle.pc_model.specs.Calls.{counts, session_of, is_call_of, calls_of}
 use Rattle.pc_model.specs.Receipts.{Read, reads_by, Own, own, receipts_by_commit, receipts_by, own_by, own_of}
-use Rattle.pc_model.proofs.EffectCases.{begin_case, get_case, write_case, commit_case, abort_case, move_case, take_case, done_case, join_case}
+use Rattle.pc_model.proofs.EffectCases.{begin_case, get_case, write_case, commit_case, abort_case, move_case, take_case, done_case, join_case, add_case}
 
 keep : {A : Type 0} (b : Bool) (x y : A) → b ≡ false → cond b x y ≡ y
 keep b x y e = ap (λ (t : Bool). cond t x y) e
@@ -21,6 +21,7 @@ abbrev IsOthers : ℕ → Effect → Type 0
 IsOthers s (Begins t) = (t == s) ≡ false
 IsOthers s (Reads t key answer) = (t == s) ≡ false
 IsOthers s (Writes t key value) = (t == s) ≡ false
+IsOthers s (Adds t key delta sum) = (t == s) ≡ false
 IsOthers s (Commits t) = (t == s) ≡ false
 IsOthers s (Aborts t) = (t == s) ≡ false
 IsOthers s other = ⊤
@@ -36,6 +37,7 @@ module _ (s : ℕ) where
   step_is_others (asked.Get t key) r is = get_case (IsOthers s) tt t key r (λ answer. not_both (counts r) (t == s) is) tt tt
   step_is_others (asked.Put t key value) r is = write_case (IsOthers s) tt t key (Some value) r (not_both (counts r) (t == s) is) tt tt
   step_is_others (asked.Del t key) r is = write_case (IsOthers s) tt t key None r (not_both (counts r) (t == s) is) tt tt
+  step_is_others (asked.Add t key delta) r is = add_case (IsOthers s) tt t key delta r (λ sum. not_both (counts r) (t == s) is) tt tt
   step_is_others (asked.Commit t) r is = commit_case (IsOthers s) tt t r (not_both (counts r) (t == s) is)
   step_is_others (asked.Abort t) r is = abort_case (IsOthers s) tt t r (not_both (counts r) (t == s) is)
   step_is_others asked.StartPoint r is = move_case (IsOthers s) tt r (λ phase point. tt)
@@ -57,6 +59,7 @@ module _ (s : ℕ) where
   writes_other : (ws : List Write) (e : Effect) → IsOthers s e → writes_by s e ws ≡ ws
   writes_other ws (Begins t) is = keep (t == s) [] ws is
   writes_other ws (Writes t key value) is = keep (t == s) _ ws is
+  writes_other ws (Adds t key delta sum) is = keep (t == s) _ ws is
   writes_other ws other is = refl
 
   -- its reads

@@ -15,16 +15,17 @@ use Rattle.pc_types.specs.declared.Refusal.TheVariants as why
 use Rattle.pc_types.specs.declared.Entry.{Entry}
 use Rattle.pc_types.specs.declared.Entry.TheVariants as logged
 use Rattle.pc_types.specs.declared.Step.{Step}
+use Rattle.pc_types.specs.declared.Change.{Change}
 use Rattle.pc_types.specs.declared.Write.{Write}
 use Rattle.pc_types.proofs.ListEndLaws.{at_end}
 use Rattle.pc_model.specs.Maps.{get}
-use Rattle.pc_model.specs.Database.{Database, written}
+use Rattle.pc_model.specs.Database.{Database, written, seen}
 use Rattle.pc_model.specs.Log.{after}
 use Rattle.pc_model.specs.History.{History, Effect, effect, effect_of, effect_of_commit, entries_by, log_of, writes_of, contents}
-use Rattle.pc_model.specs.History.Effect.{Begins, Reads, Commits, Moves}
+use Rattle.pc_model.specs.History.Effect.{Begins, Reads, Commits, Moves, Adds}
 use Rattle.pc_model.specs.Reads.{HasRightReads, HasReadFrom, ReadBy, RightBy}
-use Rattle.pc_model.specs.Replies.{Setting, transaction_causes, log_is_full, value_read, IsLegal, IsLegalHistory}
-use Rattle.pc_model.proofs.EffectCases.{begin_case, get_case, write_case, abort_case, move_case, take_case, done_case, join_case}
+use Rattle.pc_model.specs.Replies.{Setting, transaction_causes, log_is_full, IsLegal, IsLegalHistory}
+use Rattle.pc_model.proofs.EffectCases.{begin_case, get_case, write_case, abort_case, move_case, take_case, done_case, join_case, add_case}
 use Rattle.pc_model.proofs.CertainReplies.{answer_or_refusal}
 use Rattle.pc_model.proofs.RightReadLaws.{reads_right}
 use Rattle.pc_types.specs.declared.Receipt.{Receipt}
@@ -32,9 +33,9 @@ use Rattle.pc_model.specs.Receipts.{Read, is_read, with_read, reads_by, Own, rec
 use Rattle.pc_model.proofs.OwnCallLaws.{own_writes}
 
 -- what an effect adds to the log: nothing, a token, or a commit
-data Adds (s : ℕ) : List Entry → Type 0 where
-  Nought : Adds s []
-  Other : (e : Entry) → ((ws : List Write) → e ≢ logged.Commit s ws) → Adds s (e ∷ [])
+data AddsTo (s : ℕ) : List Entry → Type 0 where
+  Nought : AddsTo s []
+  Other : (e : Entry) → ((ws : List Write) → e ≢ logged.Commit s ws) → AddsTo s (e ∷ [])
 
 module _ (base : Database) (log : List Entry) (s : ℕ) (rs : List Receipt) where
   still : (e : Entry) (r : Receipt) → IsReceipt base log s r → IsReceipt base (log ++ e ∷ []) s r
@@ -44,7 +45,7 @@ module _ (base : Database) (log : List Entry) (s : ℕ) (rs : List Receipt) wher
   all_still e all k d lt = still e (get_or rs k d) (all k d lt)
 
   -- another entry leaves them exact
-  exact_more : (es : List Entry) → Adds s es → AreExact base log s rs → AreExact base (log ++ es) s rs
+  exact_more : (es : List Entry) → AddsTo s es → AreExact base log s rs → AreExact base (log ++ es) s rs
   exact_more es Nought x = subst (λ (l : List Entry). AreExact base l s rs) (sym (append-nil log)) x
   exact_more es (Other e other) x = record {
     each = all_still e x.each;
@@ -75,7 +76,7 @@ module _ (base : Database) (log : List Entry) (s : ℕ) (rs : List Receipt) wher
 
 -- what is read of a key that was not written is what stands there
 module _ (db : Database) (s : ℕ) where
-  one_right : (own : Option (Option (List ℕ))) (b : Bool) (reads : List Read) (key : List ℕ) (answer : Option (List ℕ)) → AreRight db reads → answer ≡ value_read own (get db key)
+  one_right : (own : Option Change) (b : Bool) (reads : List Read) (key : List ℕ) (answer : Option (List ℕ)) → AreRight db reads → answer ≡ seen own (get db key)
       → AreRight db (cond (is_some own || b) reads (reads ++ (key, answer) ∷ []))
   one_right (Some own) b reads key answer right is = right
   one_right None true reads key answer right is = right
@@ -86,12 +87,13 @@ module _ (db : Database) (s : ℕ) where
     begins_right true m = All-nil (λ (r : Read). r.1 ≡ get db r.0)
     begins_right false m = right m
 
-    reads_right_by : (b : Bool) (key : List ℕ) (answer : Option (List ℕ)) → (b ≡ true → answer ≡ value_read (written (writes_of s h) key) (get db key)) → Earlier → AreRight db (cond b (with_read ws rs key answer) rs)
-    reads_right_by true key answer is m = one_right (written ws key) (is_read rs key) rs key answer (right m) (is refl ∙ ap (λ l. value_read (written l key) (get db key)) (sym same))
+    reads_right_by : (b : Bool) (key : List ℕ) (answer : Option (List ℕ)) → (b ≡ true → answer ≡ seen (written (writes_of s h) key) (get db key)) → Earlier → AreRight db (cond b (with_read ws rs key answer) rs)
+    reads_right_by true key answer is m = one_right (written ws key) (is_read rs key) rs key answer (right m) (is refl ∙ ap (λ l. seen (written l key) (get db key)) (sym same))
     reads_right_by false key answer is m = right m
 
     by_effect : (e : Effect) → ReadBy s db e h Earlier → AreRight db (reads_by s e ws rs)
     by_effect (Begins t) m = begins_right (t == s) m
+    by_effect (Adds t key delta sum) m = right m.1
     by_effect (Reads t key answer) m = reads_right_by (t == s) key answer (λ e. m.0 (grind (arith, nat_tests))) m.1
     by_effect other m = right m
 
@@ -103,7 +105,7 @@ module _ (st : Setting) (s : ℕ) (h : History) (x : AreExact st.base (log_of h)
   abbrev Goal : Event → Reply → Type 0
   Goal e r = AreExact st.base (log_of h ++ entries_by (effect_of e r) h) s (receipts_by s e r (own_of s h))
 
-  more : (es : List Entry) → Adds s es → AreExact st.base (log_of h ++ es) s (own_of s h).receipts
+  more : (es : List Entry) → AddsTo s es → AreExact st.base (log_of h ++ es) s (own_of s h).receipts
   more es adds = exact_more st.base (log_of h) s (own_of s h).receipts es adds x
 
   committed : (t : ℕ) → HasReadFrom (contents st.base h) t h → Goal (asked.Commit t) (told.Committed (length (log_of h) + 1))
@@ -119,7 +121,7 @@ module _ (st : Setting) (s : ℕ) (h : History) (x : AreExact st.base (log_of h)
       by_case false e = more (logged.Commit t (writes_of t h) ∷ []) (Other _ (λ ws is. absurd (true≢false (sym (eq-eqb t s (cc (is))) ∙ e))))
 
   abbrev Then : Effect → Type 0
-  Then e = Adds s (entries_by e h)
+  Then e = AddsTo s (entries_by e h)
 
   moved : (phase : Phase) (point : ℕ) → Then (Moves phase point)
   moved phase point = Other _ (λ ws is. cc (is))
@@ -129,6 +131,7 @@ module _ (st : Setting) (s : ℕ) (h : History) (x : AreExact st.base (log_of h)
   exact_step (asked.Get t key) r legal read = more _ (get_case Then Nought t key r (λ answer counts. Nought) Nought Nought)
   exact_step (asked.Put t key value) r legal read = more _ (write_case Then Nought t key (Some value) r (λ counts. Nought) Nought Nought)
   exact_step (asked.Del t key) r legal read = more _ (write_case Then Nought t key None r (λ counts. Nought) Nought Nought)
+  exact_step (asked.Add t key delta) r legal read = more _ (add_case Then Nought t key delta r (λ sum counts. Nought) Nought Nought)
   exact_step (asked.Commit t) r legal read =
       ⊎_elim (λ answered. subst (λ (q : Reply). Goal (asked.Commit t) q) (sym answered.1) (committed t (read t (ap (effect_of_commit t) answered.1))))
       (λ (is : (w : Refusal) × (r ≡ told.Refused w)). subst (λ (q : Reply). Goal (asked.Commit t) q) (sym is.1) (more [] Nought))

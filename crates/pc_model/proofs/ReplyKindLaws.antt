@@ -1,6 +1,7 @@
 -- Of which kind a legal reply is.
+use Rattle.pc_types.specs.Changes.{added}
 use Rattle.std.proofs.Common.{◌≡◌, ◌⊎◌, ◌==◌, ◌+◌, not, length, ℕ, Bool, true, false, cond, List, [], ◌∷◌, ◌++◌, sym, subst, ⊎_elim}
-use Rattle.std.specs.Prelude.{Option, Some, None, MatchOption, IfSome, is_none, ◌||◌}
+use Rattle.std.specs.Prelude.{Option, Some, None, MatchOption, IfSome, is_none, ◌||◌, ℤ}
 use Rattle.pc_types.specs.declared.Phase.{Phase}
 use Rattle.pc_types.specs.declared.Phase.TheVariants as phase
 use Rattle.pc_types.specs.declared.Class.{Class}
@@ -16,13 +17,13 @@ use Rattle.pc_types.specs.declared.Refusal.{Refusal}
 use Rattle.pc_types.specs.declared.Refusal.TheVariants as why
 use Rattle.pc_types.specs.declared.limits.TheConstants.{MOST_FILES, MOST_POINTS, MOST_TRANSACTIONS}
 use Rattle.pc_model.specs.Maps.{get}
-use Rattle.pc_model.specs.Database.{written}
+use Rattle.pc_model.specs.Database.{written, seen}
 use Rattle.pc_model.specs.History.{History, is_open, begun, writes_of, number_of, log_of, contents, point_of}
 use Rattle.pc_model.specs.Points.{taken}
 use Rattle.pc_model.specs.Files.{File, shelf, file_at, join_of}
 use Rattle.pc_model.specs.Locks.{outcome, queue_of}
-use Rattle.pc_model.specs.Replies.{Setting, first_refusal, or_else, no_session, is_full, log_is_full, transaction_causes, write_causes, not_yet, wrong_phase, held_back, closed_set, is_empty, join_causes, value_read, read_reply, by_outcome, TakesFirst, IsFileReply, IsLegal}
-use Rattle.pc_model.specs.ReplyKinds.{IsBeginReply, IsGetReply, IsWriteReply, IsCommitReply, IsAbortReply, IsMoveReply, IsTakeReply, IsDoneReply, IsJoinReply, IsReplyTo}
+use Rattle.pc_model.specs.Replies.{Setting, first_refusal, or_else, no_session, is_full, log_is_full, transaction_causes, write_causes, not_yet, wrong_phase, held_back, closed_set, is_empty, join_causes, read_reply, by_outcome, TakesFirst, IsFileReply, IsLegal, add_causes, seen_by, sum_reply}
+use Rattle.pc_model.specs.ReplyKinds.{IsBeginReply, IsGetReply, IsWriteReply, IsCommitReply, IsAbortReply, IsMoveReply, IsTakeReply, IsDoneReply, IsJoinReply, IsReplyTo, IsAddReply}
 use Rattle.pc_model.proofs.CertainReplies.{answer_or_kind, by_either, by_causes, by_phase, by_count, by_held}
 
 -- where what is certain is of the kind, and so are the answer and a refusal, a legal reply is
@@ -49,6 +50,12 @@ write_kind Granted = tt
 write_kind Queued = tt
 write_kind Died = tt
 
+add_kind : (o : Outcome) (sum : Option ℤ) → IsAddReply (by_outcome o (sum_reply sum))
+add_kind Granted None = tt
+add_kind Granted (Some n) = tt
+add_kind Queued sum = tt
+add_kind Died sum = tt
+
 none_left_kind : (b : Bool) → IfSome (cond b (Some told.NoneLeft) None) IsTakeReply
 none_left_kind true = tt
 none_left_kind false = tt
@@ -70,7 +77,7 @@ pub reply_kind : (st : Setting) (h : History) (e : Event) (r : Reply) → IsLega
 reply_kind st h (asked.Begin s) r legal =
     legal_kind IsBeginReply (λ w. tt) ((no_session st s, why.NoSession) ∷ (is_open s h, why.AlreadyBegun) ∷ (begun h == MOST_TRANSACTIONS, why.LogFull) ∷ []) (r ≡ told.Begun (begun h + 1)) r (as_told IsBeginReply (told.Begun (begun h + 1)) r tt) legal
 reply_kind st h (asked.Get s key) r legal =
-    let found = value_read (written (writes_of s h) key) (get (contents st.base h) key) in
+    let found = seen (written (writes_of s h) key) (get (contents st.base h) key) in
     let o = outcome (queue_of key h) (number_of s h) Shared in
     legal_kind IsGetReply (λ w. tt) (transaction_causes st s h ++ (is_full st key h, why.Full) ∷ []) (r ≡ by_outcome o (read_reply found)) r (as_told IsGetReply (by_outcome o (read_reply found)) r (read_kind o found)) legal
 reply_kind st h (asked.Put s key value) r legal =
@@ -79,6 +86,10 @@ reply_kind st h (asked.Put s key value) r legal =
 reply_kind st h (asked.Del s key) r legal =
     let o = outcome (queue_of key h) (number_of s h) Exclusive in
     legal_kind IsWriteReply (λ w. tt) (write_causes st s key h) (r ≡ by_outcome o told.Ok) r (as_told IsWriteReply (by_outcome o told.Ok) r (write_kind o)) legal
+reply_kind st h (asked.Add s key delta) r legal =
+    let o = outcome (queue_of key h) (number_of s h) Exclusive in
+    let sum = added delta (seen_by st s key h) in
+    legal_kind IsAddReply (λ w. tt) (write_causes st s key h ++ add_causes st s key delta h) (r ≡ by_outcome o (sum_reply sum)) r (as_told IsAddReply (by_outcome o (sum_reply sum)) r (add_kind o sum)) legal
 reply_kind st h (asked.Commit s) r legal =
     let answer : Reply = told.Committed (length (log_of h) + 1) in
     legal_kind IsCommitReply (λ w. tt) (transaction_causes st s h ++ (log_is_full h, why.LogFull) ∷ []) (r ≡ answer) r (as_told IsCommitReply answer r tt) legal

@@ -1,7 +1,8 @@
 -- In a legal history each committed transaction has read right: while it is open, no other commit changes what it has
 -- read, since it holds a lock there.
+use Rattle.pc_types.specs.Changes.{added}
 use Rattle.std.proofs.Common.{◌≡◌, ℕ, List, [], ◌∷◌, ◌++◌, append-nil, eqb, not, ◌||◌, Option, Some, None, is_some, refl, sym, ap, subst, ◌∙◌, cond, Bool, true, false, ◌⊎◌, inl, inr, arith}
-use Rattle.std.specs.Prelude.{⊤, MatchOption, IfSome, MatchBool}
+use Rattle.std.specs.Prelude.{⊤, MatchOption, IfSome, MatchBool, ℤ}
 use Rattle.std.proofs.lemmas.Bool.Decides.{nat_tests}
 use Rattle.std.proofs.lemmas.Cmp.{eq_by_cmp_equiv}
 use Rattle.pc_types.specs.declared.Entry.{Entry}
@@ -15,17 +16,17 @@ use Rattle.pc_types.specs.declared.Refusal.TheVariants as why
 use Rattle.pc_types.specs.declared.Step.{Step}
 use Rattle.pc_types.specs.declared.Mode.TheVariants.{Shared, Exclusive}
 use Rattle.pc_model.specs.Maps.{get}
-use Rattle.pc_model.specs.Database.{Database, key_order, same_bytes, written}
+use Rattle.pc_model.specs.Database.{Database, key_order, same_bytes, written, seen}
 use Rattle.pc_model.specs.Log.{after}
-use Rattle.pc_model.specs.History.{History, Effect, effect, contents, log_of, begun, is_open, number_of, writes_of, has_died, effect_of, effect_of_get, effect_of_write, entries_by, open_by}
-use Rattle.pc_model.specs.History.Effect.{Begins, Reads, Writes, Waits, Dies, Commits, Aborts, Moves, Takes, Shelves, Joins, Nothing}
+use Rattle.pc_model.specs.History.{History, Effect, effect, contents, log_of, begun, is_open, number_of, writes_of, has_died, effect_of, effect_of_get, effect_of_write, entries_by, open_by, effect_of_add}
+use Rattle.pc_model.specs.History.Effect.{Begins, Reads, Writes, Adds, Waits, Dies, Commits, Aborts, Moves, Takes, Shelves, Joins, Nothing}
 use Rattle.pc_types.specs.declared.Outcome.{Outcome}
 use Rattle.pc_model.specs.Locks.{outcome, queue_of, is_waiting}
 use Rattle.pc_types.specs.declared.Outcome.TheVariants.{Granted, Queued, Died}
 use Rattle.pc_model.specs.Points.{is_among}
 use Rattle.pc_model.specs.Reads.{HasRightReads, HasReadFrom, ReadBy, RightBy}
 use Rattle.pc_model.specs.Standing.{HasLegalEffects}
-use Rattle.pc_model.specs.Replies.{Setting, first_refusal, or_else, transaction_causes, write_causes, too_many, is_full, log_is_full, no_session, read_reply, value_read, by_outcome, Answers, IsLegal, IsLegalHistory}
+use Rattle.pc_model.specs.Replies.{Setting, first_refusal, or_else, transaction_causes, write_causes, too_many, is_full, log_is_full, no_session, read_reply, by_outcome, Answers, IsLegal, IsLegalHistory, add_causes, seen_by, sum_reply}
 use Rattle.pc_model.proofs.EffectLaws.{refused_does_nothing, first_refusal_refuses, no_first, no_other}
 use Rattle.pc_model.proofs.EffectCases.{move_case, take_case, done_case, join_case}
 use Rattle.pc_model.proofs.CertainReplies.{answer_or_refusal}
@@ -39,9 +40,10 @@ use Rattle.pc_model.specs.SessionLocks.{read_by, keys_read, Locked}
 itself : (key : List ℕ) → same_bytes key key ≡ true
 itself key = (eq_by_cmp_equiv key_order.total).refl key
 
--- what a legal effect says: what locking allows, and that a read gave what stands there
+-- what a legal effect says: what locking allows, that a read gave what stands there, and an add the sum with it
 abbrev IsAnswer : Database → History → Effect → Type 0
-IsAnswer base history (Reads s key answer) = answer ≡ value_read (written (writes_of s history) key) (get (contents base history) key)
+IsAnswer base history (Reads s key answer) = answer ≡ seen (written (writes_of s history) key) (get (contents base history) key)
+IsAnswer base history (Adds s key delta sum) = added delta (seen (written (writes_of s history) key) (get (contents base history) key)) ≡ Some sum
 IsAnswer base history other = ⊤
 
 abbrev IsSound : Database → History → Effect → Type 0
@@ -63,7 +65,7 @@ module _ (st : Setting) (history : History) where
       (turned (is_open s history) (no_first (not (is_open s history), why.NoTransaction) waits first), no_first (is_waiting s history, why.StillWaiting) died second)
 
   read_sound : (s : ℕ) (key : List ℕ) (o : Outcome) (answer : Option (List ℕ)) → MayAsk s history → outcome (queue_of key history) (number_of s history) Shared ≡ o →
-      answer ≡ value_read (written (writes_of s history) key) (get (contents st.base history) key) → IsSound st.base history (effect_of_get s key (by_outcome o (read_reply answer)))
+      answer ≡ seen (written (writes_of s history) key) (get (contents st.base history) key) → IsSound st.base history (effect_of_get s key (by_outcome o (read_reply answer)))
   read_sound s key Granted None may is answer = ((may, is), answer)
   read_sound s key Granted (Some v) may is answer = ((may, is), answer)
   read_sound s key Queued answer may is right = ((may, is), tt)
@@ -73,6 +75,13 @@ module _ (st : Setting) (history : History) where
   write_sound s key content Granted may is = ((may, is), tt)
   write_sound s key content Queued may is = ((may, is), tt)
   write_sound s key content Died may is = (tt, tt)
+
+  sum_sound : (s : ℕ) (key : List ℕ) (delta : ℤ) (o : Outcome) (sum : Option ℤ) → MayAsk s history → outcome (queue_of key history) (number_of s history) Exclusive ≡ o →
+      added delta (seen_by st s key history) ≡ sum → IsSound st.base history (effect_of_add s key delta (by_outcome o (sum_reply sum)))
+  sum_sound s key delta Granted None may is right = (tt, tt)
+  sum_sound s key delta Granted (Some n) may is right = ((may, is), right)
+  sum_sound s key delta Queued sum may is right = ((may, is), tt)
+  sum_sound s key delta Died sum may is right = (tt, tt)
 
   begin_sound : (s : ℕ) (reply : Reply) → IsLegal st history (asked.Begin s) reply → IsSound st.base history (effect_of (asked.Begin s) reply)
   begin_sound s reply legal =
@@ -119,12 +128,18 @@ module _ (st : Setting) (history : History) where
   legal_sound (asked.Begin s) reply legal = begin_sound s reply legal
   legal_sound (asked.Get s key) reply legal = elim (answer_or_refusal (transaction_causes st s history ++ (is_full st key history, why.Full) ∷ []) (Answers st history (asked.Get s key) reply) reply legal) [
     | inl answered ↦ let P : Reply → Type 0 = (λ r. IsSound st.base history (effect_of (asked.Get s key) r)) in
-        subst P (sym answered.1) (read_sound s key (outcome (queue_of key history) (number_of s history) Shared) (value_read (written (writes_of s history) key) (get (contents st.base history) key))
+        subst P (sym answered.1) (read_sound s key (outcome (queue_of key history) (number_of s history) Shared) (seen (written (writes_of s history) key) (get (contents st.base history) key))
         (may_ask s ((is_full st key history, why.Full) ∷ []) answered.0) refl refl)
     | inr refused ↦ refused_sound st.base history (asked.Get s key) reply refused
   ]
   legal_sound (asked.Put s key value) reply legal = written_sound s key (Some value) (asked.Put s key value) reply (λ r. refl) legal
   legal_sound (asked.Del s key) reply legal = written_sound s key None (asked.Del s key) reply (λ r. refl) legal
+  legal_sound (asked.Add s key delta) reply legal = elim (answer_or_refusal (write_causes st s key history ++ add_causes st s key delta history) (Answers st history (asked.Add s key delta) reply) reply legal) [
+    | inl answered ↦ let P : Reply → Type 0 = (λ r. IsSound st.base history (effect_of (asked.Add s key delta) r)) in
+        subst P (sym answered.1) (sum_sound s key delta (outcome (queue_of key history) (number_of s history) Exclusive) (added delta (seen_by st s key history))
+        (may_ask s ((too_many s key history, why.TooManyWrites) ∷ (is_full st key history, why.Full) ∷ add_causes st s key delta history) answered.0) refl refl)
+    | inr refused ↦ refused_sound st.base history (asked.Add s key delta) reply refused
+  ]
   legal_sound (asked.Commit s) reply legal = elim (answer_or_refusal (transaction_causes st s history ++ (log_is_full history, why.LogFull) ∷ []) (Answers st history (asked.Commit s) reply) reply legal) [
     | inl answered ↦ let P : Reply → Type 0 = (λ r. IsSound st.base history (effect_of (asked.Commit s) r)) in
         subst P (sym answered.1) ((may_ask s ((log_is_full history, why.LogFull) ∷ []) answered.0).0, tt)
@@ -178,13 +193,20 @@ reads_stay old new s (step ∷ history) same reads = by_effect (effect step) sam
     by_effect : (e : Effect) → ((key : List ℕ) → is_among (read_by s e (keys_read s history)) key ≡ true → get old key ≡ get new key) → ReadBy s old e history (HasReadFrom old s history) → Later → ReadBy s new e history (HasReadFrom new s history)
     by_effect (Begins t) same reads later = begun_by_own (eqb t s) same reads later
     by_effect (Reads t k answer) same reads later = (
-      λ own. reads.0 own ∙ ap (value_read (written (writes_of s history) k)) (same k (first own)),
+      λ own. reads.0 own ∙ ap (seen (written (writes_of s history) k)) (same k (first own)),
       later (λ key there. same key (more t k key (eqb t s) there)) reads.1,
     )
       where
         first : t ≡ s → is_among (cond (eqb t s) (k ∷ keys_read s history) (keys_read s history)) k ≡ true
         first own = let is : eqb t s ≡ true = grind (arith, nat_tests, own) in rw is (ap (λ b. b || is_among (keys_read s history) k) (itself k))
     by_effect (Writes t k v) same reads later = later same reads
+    by_effect (Adds t k d n) same reads later = (
+      λ own. ap (λ there. added d (seen (written (writes_of s history) k) there)) (sym (same k (first own))) ∙ reads.0 own,
+      later (λ key there. same key (more t k key (eqb t s) there)) reads.1,
+    )
+      where
+        first : t ≡ s → is_among (cond (eqb t s) (k ∷ keys_read s history) (keys_read s history)) k ≡ true
+        first own = let is : eqb t s ≡ true = grind (arith, nat_tests, own) in rw is (ap (λ b. b || is_among (keys_read s history) k) (itself k))
     by_effect (Waits t k x) same reads later = later same reads
     by_effect (Dies t k x) same reads later = later same reads
     by_effect (Commits t) same reads later = later same reads
@@ -208,6 +230,7 @@ still_right : (base : Database) (s : ℕ) (history : History) (e : Effect) → I
     ReadBy s (after base (log_of history ++ entries_by e history)) e history (HasReadFrom (after base (log_of history ++ entries_by e history)) s history)
 still_right base s history (Begins t) sound l before is = elim (eqb t s) as (λ b. cond b true (is_open s history) ≡ true → MatchBool b ⊤ (HasReadFrom (after base (log_of history ++ [])) s history)) [ true ↦ λ e. tt | false ↦ λ e. rw append-nil (before e) ] is
 still_right base s history (Reads t key answer) sound l before is = (λ own. rw append-nil (rw own at sound.1), rw append-nil (before is))
+still_right base s history (Adds t key delta sum) sound l before is = (λ own. rw append-nil (rw own at sound.1), rw append-nil (before is))
 still_right base s history (Commits t) sound l before is = by_own (eqb t s) refl is
   where
     entries : List Entry

@@ -1,6 +1,7 @@
 -- What each call makes of what its session kept, and what is answered to a session that has no transaction open.
+use Rattle.pc_types.specs.declared.Change.TheVariants.{Add}
 use Rattle.std.proofs.Common.{◌≡◌, ◌⊎◌, ◌==◌, not, ℕ, Bool, true, false, true≢false, cond, List, [], ◌∷◌, ◌++◌, refl, ap, sym, ◌∙◌, subst, eq-eqb}
-use Rattle.std.specs.Prelude.{Option, Some, None, MatchOption}
+use Rattle.std.specs.Prelude.{Option, Some, None, MatchOption, ℤ}
 use Rattle.pc_types.specs.declared.Event.{Event}
 use Rattle.pc_types.specs.declared.Event.TheVariants as asked
 use Rattle.pc_types.specs.declared.Reply.{Reply}
@@ -10,12 +11,12 @@ use Rattle.pc_types.specs.declared.Refusal.TheVariants as why
 use Rattle.pc_types.specs.declared.Receipt.{Receipt}
 use Rattle.pc_types.specs.declared.Step.{Step}
 use Rattle.pc_types.specs.declared.Write.{Write}
-use Rattle.pc_model.specs.Database.{with_write}
+use Rattle.pc_model.specs.Database.{with_write, write_of, change_to}
 use Rattle.pc_model.specs.History.{History, is_open, has_died}
 use Rattle.pc_model.specs.Locks.{is_waiting}
-use Rattle.pc_model.specs.Replies.{Setting, first_refusal, or_else, no_session, is_full, too_many, log_is_full, certain, Answers, IsLegal, IsLegalHistory}
+use Rattle.pc_model.specs.Replies.{Setting, first_refusal, or_else, no_session, is_full, too_many, log_is_full, certain, Answers, IsLegal, IsLegalHistory, add_causes}
 use Rattle.pc_model.specs.Calls.{step_of, session_of, calls_of, Extends, IsAnswered, AsksOpen}
-use Rattle.pc_model.specs.Calls.AsksOpen.{Gets, Puts, Dels, Commits, Aborts}
+use Rattle.pc_model.specs.Calls.AsksOpen.{Gets, Puts, Dels, Commits, Aborts, Adds}
 use Rattle.pc_model.specs.Receipts.{Read, with_read, Own, own, receipt_of, own_by, own_of}
 use Rattle.pc_model.proofs.BeginningLaws.{calls_of-append, beginning_self}
 use Rattle.pc_model.proofs.OwnCallLaws.{own_own}
@@ -43,17 +44,23 @@ module _ (st : Setting) (n : ℕ) (before after : History) (o : Bool) (ws : List
   pub get_died_own : (key : List ℕ) → Extends st before (step_of (asked.Get n key) told.Died) after → own o ws rs ks ≡ own_of n after
   get_died_own key x = after_call (asked.Get n key) told.Died refl x
 
-  pub put_own : (key value : List ℕ) → Extends st before (step_of (asked.Put n key value) told.Ok) after → own o (with_write ws (record { key = key; value = Some value })) rs ks ≡ own_of n after
-  put_own key value x = (λ i. own o (own_case n (with_write ws (record { key = key; value = Some value })) ws i) rs ks) ∙ after_call (asked.Put n key value) told.Ok refl x
+  pub put_own : (key value : List ℕ) → Extends st before (step_of (asked.Put n key value) told.Ok) after → own o (with_write ws (write_of key (change_to (Some value)))) rs ks ≡ own_of n after
+  put_own key value x = (λ i. own o (own_case n (with_write ws (write_of key (change_to (Some value)))) ws i) rs ks) ∙ after_call (asked.Put n key value) told.Ok refl x
 
   pub put_died_own : (key value : List ℕ) → Extends st before (step_of (asked.Put n key value) told.Died) after → own o ws rs ks ≡ own_of n after
   put_died_own key value x = after_call (asked.Put n key value) told.Died refl x
 
-  pub del_own : (key : List ℕ) → Extends st before (step_of (asked.Del n key) told.Ok) after → own o (with_write ws (record { key = key; value = None })) rs ks ≡ own_of n after
-  del_own key x = (λ i. own o (own_case n (with_write ws (record { key = key; value = None })) ws i) rs ks) ∙ after_call (asked.Del n key) told.Ok refl x
+  pub del_own : (key : List ℕ) → Extends st before (step_of (asked.Del n key) told.Ok) after → own o (with_write ws (write_of key (change_to None))) rs ks ≡ own_of n after
+  del_own key x = (λ i. own o (own_case n (with_write ws (write_of key (change_to None))) ws i) rs ks) ∙ after_call (asked.Del n key) told.Ok refl x
 
   pub del_died_own : (key : List ℕ) → Extends st before (step_of (asked.Del n key) told.Died) after → own o ws rs ks ≡ own_of n after
   del_died_own key x = after_call (asked.Del n key) told.Died refl x
+
+  pub add_own : (key : List ℕ) (delta sum : ℤ) → Extends st before (step_of (asked.Add n key delta) (told.Sum sum)) after → own o (with_write ws (write_of key (Add delta))) rs ks ≡ own_of n after
+  add_own key delta sum x = (λ i. own o (own_case n (with_write ws (write_of key (Add delta))) ws i) rs ks) ∙ after_call (asked.Add n key delta) (told.Sum sum) refl x
+
+  pub add_died_own : (key : List ℕ) (delta : ℤ) → Extends st before (step_of (asked.Add n key delta) told.Died) after → own o ws rs ks ≡ own_of n after
+  add_died_own key delta x = after_call (asked.Add n key delta) told.Died refl x
 
   pub committed_own : (number : ℕ) → Extends st before (step_of (asked.Commit n) (told.Committed number)) after → own false ws rs (ks ++ receipt_of n number (own o ws rs ks) ∷ []) ≡ own_of n after
   committed_own number x = (λ i. own (own_case n false o i) ws rs (own_case n (ks ++ receipt_of n number (own o ws rs ks) ∷ []) ks i)) ∙ after_call (asked.Commit n) (told.Committed number) refl x
@@ -86,6 +93,8 @@ module _ (st : Setting) (s : ℕ) (h : History) (known : no_session st s ≡ fal
       due (certain st h e) (Answers st h e (told.Refused why.NoTransaction)) (second (no_session st s) (is_open s h) (waiting ++ (too_many s key h, why.TooManyWrites) ∷ (is_full st key h, why.Full) ∷ []) known idle)
   idle_is_told e (Dels key) =
       due (certain st h e) (Answers st h e (told.Refused why.NoTransaction)) (second (no_session st s) (is_open s h) (waiting ++ (too_many s key h, why.TooManyWrites) ∷ (is_full st key h, why.Full) ∷ []) known idle)
+  idle_is_told e (Adds key delta) =
+      due (certain st h e) (Answers st h e (told.Refused why.NoTransaction)) (second (no_session st s) (is_open s h) (waiting ++ (too_many s key h, why.TooManyWrites) ∷ (is_full st key h, why.Full) ∷ add_causes st s key delta h) known idle)
   idle_is_told e Commits = due (certain st h e) (Answers st h e (told.Refused why.NoTransaction)) (second (no_session st s) (is_open s h) (waiting ++ (log_is_full h, why.LogFull) ∷ []) known idle)
   idle_is_told e Aborts = due (certain st h e) ⊥ (ap (λ o. or_else o (Some told.Aborted)) (second (no_session st s) (is_open s h) [] known idle))
 

@@ -1,18 +1,21 @@
 -- Strict two-phase locking keeps, after every history: each queue settled, each open session its own number, and for
 -- whatever an open session has read or written since its begin a lock that it holds.
-use Rattle.std.proofs.Common.{◌≡◌, ℕ, ◌+◌, ◌≤◌, ◌==◌, List, [], ◌∷◌, ◌++◌, Option, Some, None, is_some, Bool, true, false, ◌||◌, inl, inr, cond, refl, sym, ◌∙◌, ap, subst, arith}
+use Rattle.std.specs.Prelude.{ℤ}
+use Rattle.pc_types.specs.declared.Change.TheVariants.{Add}
+use Rattle.pc_types.specs.declared.Change.{Change}
+use Rattle.std.proofs.Common.{◌≡◌, ℕ, ◌+◌, ◌≤◌, ◌==◌, List, [], ◌∷◌, ◌++◌, Option, Some, None, is_some, Bool, true, false, ◌||◌, ◌&&◌, inl, inr, cond, refl, sym, ◌∙◌, ap, subst, arith}
 use Rattle.std.proofs.lemmas.Bool.Decides.{nat_tests}
 use Rattle.std.proofs.lemmas.Cmp.{eq_by_cmp_equiv}
 use Rattle.pc_types.specs.declared.Mode.{Mode}
 use Rattle.pc_types.specs.declared.Mode.TheVariants.{Shared, Exclusive}
-use Rattle.pc_model.specs.Database.{key_order, same_bytes, written, with_write}
+use Rattle.pc_model.specs.Database.{key_order, same_bytes, written, with_write, write_of, change_to}
 use Rattle.pc_model.specs.History.{History, Effect, begun, begun_by, is_open, open_by, number_of, number_by, writes_of, writes_by}
-use Rattle.pc_model.specs.History.Effect.{Begins, Reads, Writes, Waits, Dies, Commits, Aborts, Moves, Takes, Shelves, Joins, Nothing}
+use Rattle.pc_model.specs.History.Effect.{Begins, Reads, Writes, Adds, Waits, Dies, Commits, Aborts, Moves, Takes, Shelves, Joins, Nothing}
 use Rattle.pc_types.specs.declared.Request.{Request}
-use Rattle.pc_model.specs.Locks.{Queue, outcome, request_in, queue_of, queue_by, queue_after, queue_without, is_ungranted, waited_for, waits_by, waits_on, is_waiting}
+use Rattle.pc_model.specs.Locks.{Queue, outcome, is_exclusive, request_in, queue_of, queue_by, queue_after, queue_without, is_ungranted, waited_for, waits_by, waits_on, is_waiting}
 use Rattle.pc_types.specs.declared.Outcome.TheVariants.{Granted, Queued}
 use Rattle.pc_model.specs.Points.{is_among}
-use Rattle.pc_model.specs.Queues.{IsSettled, stands_in, holds}
+use Rattle.pc_model.specs.Queues.{IsSettled, stands_in, is_granted_as, holds}
 use Rattle.pc_model.proofs.JoinLaws.{one_key}
 use Rattle.pc_model.proofs.QueueLaws.{kept_after, kept_without}
 use Rattle.pc_model.proofs.Holding.{other_with, other_push, own_with, keeps_with, keeps_push, keeps_without, waits_without, holds_waits, waits_stands, stands_with, stands_push, stands_without}
@@ -31,6 +34,7 @@ abbrev pub IsAllowed : History → Effect → Type 0
 IsAllowed h (Begins s) = is_open s h ≡ false
 IsAllowed h (Reads s key answer) = MayAsk s h × (outcome (queue_of key h) (number_of s h) Shared ≡ Granted)
 IsAllowed h (Writes s key value) = MayAsk s h × (outcome (queue_of key h) (number_of s h) Exclusive ≡ Granted)
+IsAllowed h (Adds s key delta sum) = MayAsk s h × (outcome (queue_of key h) (number_of s h) Exclusive ≡ Granted)
 IsAllowed h (Waits s key mode) = MayAsk s h × (outcome (queue_of key h) (number_of s h) mode ≡ Queued)
 IsAllowed h (Commits s) = is_open s h ≡ true
 IsAllowed h (Aborts s) = is_open s h ≡ true
@@ -173,6 +177,20 @@ reads_locked h s k answer may granted l = record {
         by_key false f read = granted_keeps h s k Shared l may granted key (number_of t h) Shared (l.reads t key is read)
 
 -- after a write
+module _ (h : History) (s : ℕ) (k : List ℕ) (change : Change) (may : MayAsk s h) (granted : outcome (queue_of k h) (number_of s h) Exclusive ≡ Granted) (l : Locked h) where
+  -- whatever an open session has read since its begin it holds still
+  still_reads : (t : ℕ) (key : List ℕ) → is_open t h ≡ true → is_among (keys_read t h) key ≡ true → holds (now h s k Exclusive l may granted key) (number_of t h) Shared ≡ true
+  still_reads t key is read = granted_keeps h s k Exclusive l may granted key (number_of t h) Shared (l.reads t key is read)
+
+  -- and so what it has written, this write with it
+  wrote_by : (t : ℕ) (key : List ℕ) (b : Bool) → (s == t) ≡ b → is_open t h ≡ true → is_some (written (cond b (with_write (writes_of t h) (write_of k change)) (writes_of t h)) key) ≡ true → holds (now h s k Exclusive l may granted key) (number_of t h) Exclusive ≡ true
+  wrote_by t key false e is wrote = granted_keeps h s k Exclusive l may granted key (number_of t h) Exclusive (l.writes t key is wrote)
+  wrote_by t key true e is wrote = by_key (same_bytes k key) refl (sym (held_by (writes_of t h) (write_of k change) key) ∙ wrote)
+    where
+      by_key : (c : Bool) → same_bytes k key ≡ c → (c || is_some (written (writes_of t h) key)) ≡ true → holds (now h s k Exclusive l may granted key) (number_of t h) Exclusive ≡ true
+      by_key true f wrote = subst (λ u. holds (now h s k Exclusive l may granted key) (number_of u h) Exclusive ≡ true) (same_session s t e) (granted_own h s k Exclusive l may granted key f)
+      by_key false f wrote = granted_keeps h s k Exclusive l may granted key (number_of t h) Exclusive (l.writes t key is wrote)
+
 writes_locked : (h : History) (s : ℕ) (k : List ℕ) (value : Option (List ℕ)) → MayAsk s h → outcome (queue_of k h) (number_of s h) Exclusive ≡ Granted → Locked h → LockedBy h (Writes s k value)
 writes_locked h s k value may granted l = record {
   settled = granted_settled_at h s k Exclusive l may granted;
@@ -180,17 +198,43 @@ writes_locked h s k value may granted l = record {
   numbered = l.numbered;
   apart = l.apart;
   waits = granted_waits h s k Exclusive l may granted;
-  reads = λ t key is read. granted_keeps h s k Exclusive l may granted key (number_of t h) Shared (l.reads t key is read);
-  writes = λ t key is wrote. by_own t key (s == t) refl is wrote;
+  reads = still_reads h s k (change_to value) may granted l;
+  writes = λ t key is wrote. wrote_by h s k (change_to value) may granted l t key (s == t) refl is wrote;
+}
+
+-- what is held exclusively is held
+weaker : (queue : Queue) (n : ℕ) → holds queue n Exclusive ≡ true → holds queue n Shared ≡ true
+weaker queue n held = by_request (request_in queue n) held
+  where
+    by_mode : (g x : Bool) → (g && (x || false)) ≡ true → (g && (x || true)) ≡ true
+    by_mode true true e = refl
+    by_mode true false e = refl
+    by_mode false x e = e
+
+    by_request : (o : Option Request) → is_granted_as Exclusive o ≡ true → is_granted_as Shared o ≡ true
+    by_request None e = e
+    by_request (Some r) e = by_mode r.granted (is_exclusive r.mode) e
+
+-- after an add
+adds_locked : (h : History) (s : ℕ) (k : List ℕ) (delta sum : ℤ) → MayAsk s h → outcome (queue_of k h) (number_of s h) Exclusive ≡ Granted → Locked h → LockedBy h (Adds s k delta sum)
+adds_locked h s k delta sum may granted l = record {
+  settled = granted_settled_at h s k Exclusive l may granted;
+  known = granted_known h s k Exclusive l may granted;
+  numbered = l.numbered;
+  apart = l.apart;
+  waits = granted_waits h s k Exclusive l may granted;
+  reads = λ t key is read. by_own t key (s == t) refl is read;
+  writes = λ t key is wrote. wrote_by h s k (Add delta) may granted l t key (s == t) refl is wrote;
 }
   where
-    by_own : (t : ℕ) (key : List ℕ) (b : Bool) → (s == t) ≡ b → is_open t h ≡ true → is_some (written (cond b (with_write (writes_of t h) (record { key = k; value = value })) (writes_of t h)) key) ≡ true → holds (now h s k Exclusive l may granted key) (number_of t h) Exclusive ≡ true
-    by_own t key false e is wrote = granted_keeps h s k Exclusive l may granted key (number_of t h) Exclusive (l.writes t key is wrote)
-    by_own t key true e is wrote = by_key (same_bytes k key) refl (sym (held_by (writes_of t h) k key value) ∙ wrote)
+    by_own : (t : ℕ) (key : List ℕ) (b : Bool) → (s == t) ≡ b → is_open t h ≡ true → is_among (cond b (k ∷ keys_read t h) (keys_read t h)) key ≡ true → holds (now h s k Exclusive l may granted key) (number_of t h) Shared ≡ true
+    by_own t key false e is read = still_reads h s k (Add delta) may granted l t key is read
+    by_own t key true e is read = by_key (same_bytes key k) refl read
       where
-        by_key : (c : Bool) → same_bytes k key ≡ c → (c || is_some (written (writes_of t h) key)) ≡ true → holds (now h s k Exclusive l may granted key) (number_of t h) Exclusive ≡ true
-        by_key true f wrote = subst (λ u. holds (now h s k Exclusive l may granted key) (number_of u h) Exclusive ≡ true) (same_session s t e) (granted_own h s k Exclusive l may granted key f)
-        by_key false f wrote = granted_keeps h s k Exclusive l may granted key (number_of t h) Exclusive (l.writes t key is wrote)
+        by_key : (c : Bool) → same_bytes key k ≡ c → (c || is_among (keys_read t h) key) ≡ true → holds (now h s k Exclusive l may granted key) (number_of t h) Shared ≡ true
+        by_key true f read = subst (λ u. holds (now h s k Exclusive l may granted key) (number_of u h) Shared ≡ true) (same_session s t e)
+            (weaker (now h s k Exclusive l may granted key) (number_of s h) (granted_own h s k Exclusive l may granted key (turned_key k key ∙ f)))
+        by_key false f read = still_reads h s k (Add delta) may granted l t key is read
 
 -- after a request that waits
 waits_locked : (h : History) (s : ℕ) (k : List ℕ) (x : Mode) → MayAsk s h → outcome (queue_of k h) (number_of s h) x ≡ Queued → Locked h → LockedBy h (Waits s k x)
@@ -257,6 +301,7 @@ pub allowed_locked : (h : History) (e : Effect) → IsAllowed h e → Locked h �
 allowed_locked h (Begins s) closed l = begins_locked h s closed l
 allowed_locked h (Reads s k answer) is l = reads_locked h s k answer is.0 is.1 l
 allowed_locked h (Writes s k value) is l = writes_locked h s k value is.0 is.1 l
+allowed_locked h (Adds s k delta sum) is l = adds_locked h s k delta sum is.0 is.1 l
 allowed_locked h (Waits s k x) is l = waits_locked h s k x is.0 is.1 l
 allowed_locked h (Commits s) opened l = (ends_locked h s opened l).locked
 allowed_locked h (Aborts s) opened l = (ends_locked h s opened l).locked

@@ -1,6 +1,6 @@
 -- Sessions' calls in a history: which steps are a session's own, and what a session that has seen a beginning of a history
 -- knows of it.
-use Rattle.std.specs.Prelude.{◌≡◌, ◌==◌, ◌&&◌, ℕ, Bool, true, false, List, [], ◌∷◌, ◌++◌}
+use Rattle.std.specs.Prelude.{◌≡◌, ◌==◌, ◌&&◌, ℕ, ℤ, Bool, true, false, List, [], ◌∷◌, ◌++◌}
 use Rattle.std.specs.List.{filter}
 use Rattle.pc_types.specs.declared.Event.{Event}
 use Rattle.pc_types.specs.declared.Event.TheVariants as asked
@@ -20,6 +20,7 @@ session_of (asked.Begin s) = s
 session_of (asked.Get s key) = s
 session_of (asked.Put s key value) = s
 session_of (asked.Del s key) = s
+session_of (asked.Add s key delta) = s
 session_of (asked.Commit s) = s
 session_of (asked.Abort s) = s
 session_of other = 0
@@ -59,5 +60,6 @@ pub data AsksOpen (s : ℕ) : Event → Type 0 where
   Gets : (key : List ℕ) → AsksOpen s (asked.Get s key)
   Puts : (key value : List ℕ) → AsksOpen s (asked.Put s key value)
   Dels : (key : List ℕ) → AsksOpen s (asked.Del s key)
+  Adds : (key : List ℕ) (delta : ℤ) → AsksOpen s (asked.Add s key delta)
   Commits : AsksOpen s (asked.Commit s)
   Aborts : AsksOpen s (asked.Abort s)

@@ -4,9 +4,12 @@ use Rattle.std.specs.declared.cmp.Ordering.{Ordering}
 use Rattle.std.specs.Ordering.{nat_cmp, eq_by_cmp}
 use Rattle.std.specs.Cmp.Lexicographic.{slice_cmp, nat_list_cmp_total}
 use Rattle.std.specs.FinMap.{slice_cmp-IsAntisymmetric, nat_cmp-IsAntisymmetric, is_sorted}
-use Rattle.pc_model.specs.Maps.{Order, Map, insert, remove, code, from_list}
+use Rattle.pc_model.specs.Maps.{Order, Map, get, insert, remove, code, from_list}
 use Rattle.std.specs.Coded.{Coded, coded_list, coded_ℕ}
+use Rattle.pc_types.specs.declared.Change.{Change}
+use Rattle.pc_types.specs.declared.Change.TheVariants.{Set, Remove}
 use Rattle.pc_types.specs.declared.Write.{Write}
+use Rattle.pc_types.specs.Changes.{changed, merged}
 
 -- the order of keys, byte by byte
 abbrev pub key_cmp : List ℕ → List ℕ → Ordering
@@ -39,22 +42,36 @@ put db key (Some value) = insert db key value
 
 -- the database after one write
 abbrev pub applied : Database → Write → Database
-applied db write = put db write.key write.value
+applied db write = put db write.key (changed write.change (get db write.key))
 
 -- after the writes, in order
 abbrev pub applied_all : Database → List Write → Database
 applied_all db [] = db
 applied_all db (write ∷ writes) = applied_all (applied db write) writes
 
--- the writes with one more: in the place of the earlier write of its key, or else at the end
+-- a key is set to a value, or removed
+abbrev pub change_to : Option (List ℕ) → Change
+change_to None = Remove
+change_to (Some value) = Set value
+
+-- a write of this change
+abbrev pub write_of : List ℕ → Change → Write
+write_of key change = record { key = key; change = change }
+
+-- the writes with one more: merged with the earlier write of its key, or else at the end
 abbrev pub with_write : List Write → Write → List Write
 with_write [] write = write ∷ []
-with_write (w ∷ ws) write = if same_bytes w.key write.key then write ∷ ws else w ∷ with_write ws write
+with_write (w ∷ ws) write = if same_bytes w.key write.key then write_of w.key (merged w.change write.change) ∷ ws else w ∷ with_write ws write
 
--- what the writes leave at the key: nothing said, or a value or absence
-abbrev pub written : List Write → List ℕ → Option (Option (List ℕ))
+-- what the writes do to the key, if anything
+abbrev pub written : List Write → List ℕ → Option Change
 written [] key = None
-written (w ∷ ws) key = if same_bytes w.key key then Some w.value else written ws key
+written (w ∷ ws) key = if same_bytes w.key key then Some w.change else written ws key
+
+-- what a transaction sees of a key: what its own change, if it has one, makes of what the database has
+abbrev pub seen : Option Change → Option (List ℕ) → Option (List ℕ)
+seen None there = there
+seen (Some own) there = changed own there
 
 -- a database is stored as its pairs
 abbrev pub database_code : Coded Database

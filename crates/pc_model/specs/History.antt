@@ -1,6 +1,7 @@
 -- Histories, and what is read off them: the log, the commits' writes, the phase and the point, the transactions and
 -- their classes. Nothing else is known of a run: what the store may answer is said of its history alone.
-use Rattle.std.specs.Prelude.{ℕ, ◌+◌, ◌==◌, Bool, true, false, List, [], ◌∷◌, ◌++◌, Option, Some, None, if◌then◌else◌}
+use Rattle.std.specs.Prelude.{ℕ, ◌+◌, ◌==◌, Bool, true, false, List, [], ◌∷◌, ◌++◌, Option, Some, None, if◌then◌else◌, ℤ}
+use Rattle.pc_types.specs.declared.Change.TheVariants.{Add}
 use Rattle.pc_types.specs.declared.Class.{Class}
 use Rattle.pc_types.specs.declared.Class.TheVariants.{Before, During, After}
 use Rattle.pc_types.specs.declared.Mode.{Mode}
@@ -15,7 +16,7 @@ use Rattle.pc_types.specs.declared.Event.TheVariants as asked
 use Rattle.pc_types.specs.declared.Reply.{Reply}
 use Rattle.pc_types.specs.declared.Reply.TheVariants as told
 use Rattle.pc_types.specs.declared.Step.{Step}
-use Rattle.pc_model.specs.Database.{Database, with_write}
+use Rattle.pc_model.specs.Database.{Database, change_to, write_of, with_write}
 use Rattle.pc_model.specs.Log.{after}
 
 -- a history: the steps of a run so far, each an event with its reply, the last one first
@@ -30,6 +31,8 @@ pub data Effect : Type 0 where
   Reads : ℕ → List ℕ → Option (List ℕ) → Effect
   -- the session sets or removes the key
   Writes : ℕ → List ℕ → Option (List ℕ) → Effect
+  -- the session adds to the number that the key has, and the sum is this
+  Adds : ℕ → List ℕ → ℤ → ℤ → Effect
   -- the session's request of the key waits, or its transaction dies of it; the request is of this mode
   Waits : ℕ → List ℕ → Mode → Effect
   Dies : ℕ → List ℕ → Mode → Effect
@@ -65,6 +68,13 @@ effect_of_write s key value told.Ok = Writes s key value
 effect_of_write s key value told.Wait = Waits s key Exclusive
 effect_of_write s key value told.Died = Dies s key Exclusive
 effect_of_write s key value other = Nothing
+
+-- that of an add
+abbrev pub effect_of_add : ℕ → List ℕ → ℤ → Reply → Effect
+effect_of_add s key delta (told.Sum sum) = Adds s key delta sum
+effect_of_add s key delta told.Wait = Waits s key Exclusive
+effect_of_add s key delta told.Died = Dies s key Exclusive
+effect_of_add s key delta other = Nothing
 
 -- that of a commit
 abbrev pub effect_of_commit : ℕ → Reply → Effect
@@ -102,6 +112,7 @@ effect_of (asked.Begin s) reply = effect_of_begin s reply
 effect_of (asked.Get s key) reply = effect_of_get s key reply
 effect_of (asked.Put s key value) reply = effect_of_write s key (Some value) reply
 effect_of (asked.Del s key) reply = effect_of_write s key None reply
+effect_of (asked.Add s key delta) reply = effect_of_add s key delta reply
 effect_of (asked.Commit s) reply = effect_of_commit s reply
 effect_of (asked.Abort s) reply = effect_of_abort s reply
 effect_of asked.StartPoint reply = effect_of_move reply
@@ -131,10 +142,11 @@ is_open s (step ∷ history) = open_by s (effect step) (is_open s history)
 -- the session's writes after this effect, given those before
 abbrev pub writes_by : ℕ → Effect → List Write → List Write
 writes_by s (Begins t) ws = if t == s then [] else ws
-writes_by s (Writes t key value) ws = if t == s then with_write ws (record { key = key; value = value }) else ws
+writes_by s (Writes t key value) ws = if t == s then with_write ws (write_of key (change_to value)) else ws
+writes_by s (Adds t key delta sum) ws = if t == s then with_write ws (write_of key (Add delta)) else ws
 writes_by s other ws = ws
 
--- the session's writes since its last begin: of each key the last one, the keys as they were first written
+-- the session's writes since its last begin: of each key all its changes as one, the keys as they were first written
 abbrev pub writes_of : ℕ → History → List Write
 writes_of s [] = []
 writes_of s (step ∷ history) = writes_by s (effect step) (writes_of s history)

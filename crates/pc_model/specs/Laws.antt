@@ -1,11 +1,17 @@
 -- Laws of the definitions: of replay, of points, of replies and of reads.
-use Rattle.std.specs.Prelude.{◌≡◌, ℕ, ◌+◌, ◌≤◌, ◌<◌, List, ◌∷◌, ◌++◌, IsTrue, IsFalse, Contains}
+use Rattle.std.specs.Prelude.{◌≡◌, ℕ, ◌+◌, ◌≤◌, ◌<◌, List, ◌∷◌, ◌++◌, [], Option, Some, None, ℤ, FitsSigned, IsTrue, IsFalse, Contains}
+use Rattle.std.specs.Int.{w64}
+use Rattle.pc_types.specs.declared.Change.{Change}
+use Rattle.pc_types.specs.declared.Change.TheVariants.{Add}
+use Rattle.pc_types.specs.declared.Write.{Write}
+use Rattle.pc_types.specs.Changes.{number_text, number_of, added, changed, merged}
+use Rattle.pc_model.specs.Changes.{Applies, AllApplyInTurn, AddsApply, merged_writes}
 use Rattle.pc_types.specs.declared.Entry.{Entry}
 use Rattle.pc_types.specs.declared.Event.{Event}
 use Rattle.pc_types.specs.declared.Reply.{Reply}
 use Rattle.pc_types.specs.declared.Step.{Step}
 use Rattle.pc_model.specs.Maps.{get}
-use Rattle.pc_model.specs.Database.{Database}
+use Rattle.pc_model.specs.Database.{Database, applied, applied_all, write_of}
 use Rattle.pc_model.specs.Log.{after, state_at}
 use Rattle.pc_model.specs.Standing.{PrecedesNext, HasLegalEffects, HasTokensInOrder, IsOfItsPoints, JoinsWell, is_past_token}
 use Rattle.pc_model.specs.History.{History, log_of, phase_of, point_of, contents}
@@ -19,6 +25,22 @@ use Rattle.pc_model.specs.Queues.{IsLegalQueue}
 use Rattle.pc_model.specs.Reads.{HasRightReads}
 use Rattle.pc_model.specs.Quiet.{IsQuiet}
 use Rattle.pc_model.specs.Headline.{TakesEachKeyOnce, TakesPointValue, IsMade, HasHeadline, is_taking}
+
+-- A number is read of its own eight bytes.
+abbrev pub NumbersAreRead : Type 0
+NumbersAreRead = (z : ℤ) → FitsSigned w64 z → number_of (Some (number_text z)) ≡ Some z
+
+-- Two changes of a key in a row, each of which applies, are the merged one, which applies too.
+abbrev pub ChangesMerge : Type 0
+ChangesMerge = (a b : Change) (there : Option (List ℕ)) → Applies a there → Applies b (changed a there) → (changed (merged a b) there ≡ changed b (changed a there)) × Applies (merged a b) there
+
+-- The final writes of a transaction, one for each key, do what its writes did one after the other, where each applied.
+abbrev pub FinalWritesAgree : Type 0
+FinalWritesAgree = (db : Database) (ws : List Write) → AllApplyInTurn db ws → applied_all db (merged_writes [] ws) ≡ applied_all db ws
+
+-- An add that doesn't apply changes nothing.
+abbrev pub OtherAddsDoNothing : Type 0
+OtherAddsDoNothing = (db : Database) (key : List ℕ) (d : ℤ) → added d (get db key) ≡ None → applied db (write_of key (Add d)) ≡ db
 
 -- Replay of a log in two pieces is replay of the second on the replay of the first.
 abbrev pub ReplaysInPieces : Type 0
@@ -47,9 +69,13 @@ ContentsMakeStates = (base : Database) (log : List Entry) (b n : ℕ) (points : 
 abbrev pub EveryEventHasALegalReply : Type 0
 EveryEventHasALegalReply = (st : Setting) (history : History) (event : Event) → (reply : Reply) × IsLegal st history event reply
 
--- Serial truth: in a legal history, of however many sessions, the reads of each committed transaction are right.
+-- Serial truth: in a legal history, of however many sessions, the reads and the sums of each committed transaction are right.
 abbrev pub CommittedReadsAreRight : Type 0
 CommittedReadsAreRight = (st : Setting) (history : History) → IsLegalHistory st history → HasRightReads st.base history
+
+-- The adds of a legal history apply: in its log each finds a number in the database right before its commit, and the sum fits.
+abbrev pub AddsOfRunsApply : Type 0
+AddsOfRunsApply = (st : Setting) (history : History) → IsLegalHistory st history → AddsApply st.base (log_of history)
 
 -- After a legal history no two granted requests of a key conflict.
 abbrev pub LocksNeverConflict : Type 0

@@ -1,6 +1,7 @@
 pub mod Maps
 pub mod Sets
 pub mod Database
+pub mod Changes
 pub mod Places
 pub mod Log
 pub mod History

@@ -18,7 +18,7 @@ use Rattle.pc_types.specs.declared.Outcome.TheVariants.{Granted, Queued, Died}
 use Rattle.pc_types.specs.declared.Request.{Request}
 use Rattle.pc_model.specs.Database.{same_bytes}
 use Rattle.pc_model.specs.History.{History, Effect, effect, number_of}
-use Rattle.pc_model.specs.History.Effect.{Begins, Reads, Writes, Waits, Commits, Aborts}
+use Rattle.pc_model.specs.History.Effect.{Begins, Reads, Writes, Adds, Waits, Commits, Aborts}
 
 -- the requests of a key, in the order of arrival
 abbrev pub Queue : Type 0
@@ -86,6 +86,7 @@ queue_without queue t = granted_behind [] (filter (λ r. not (r.transaction == t
 abbrev pub queue_by : List ℕ → Effect → History → Queue → Queue
 queue_by key (Reads s k answer) history queue = if same_bytes k key then queue_after queue (number_of s history) Shared Granted else queue
 queue_by key (Writes s k value) history queue = if same_bytes k key then queue_after queue (number_of s history) Exclusive Granted else queue
+queue_by key (Adds s k delta sum) history queue = if same_bytes k key then queue_after queue (number_of s history) Exclusive Granted else queue
 queue_by key (Waits s k mode) history queue = if same_bytes k key then queue_after queue (number_of s history) mode Queued else queue
 queue_by key (Commits s) history queue = queue_without queue (number_of s history)
 queue_by key (Aborts s) history queue = queue_without queue (number_of s history)

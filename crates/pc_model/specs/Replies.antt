@@ -1,5 +1,7 @@
 -- Which reply to an event is legal after a history: first the refusals in their order, then the answer.
-use Rattle.std.specs.Prelude.{◌≡◌, ℕ, ◌+◌, ◌==◌, ◌&&◌, ◌||◌, not, nat_lt, Bool, true, false, List, [], ◌∷◌, ◌++◌, Option, Some, None, if◌then◌else◌, map, filter, length, MatchOption, ◌⊎◌, ⊤, is_some, is_none}
+use Rattle.std.specs.Prelude.{◌≡◌, ℕ, ◌+◌, ◌==◌, ◌&&◌, ◌||◌, not, nat_lt, Bool, true, false, List, [], ◌∷◌, ◌++◌, Option, Some, None, if◌then◌else◌, map, filter, length, MatchOption, ◌⊎◌, ⊤, is_some, is_none, ℤ}
+use Rattle.pc_types.specs.Changes.{added, can_add}
+use Rattle.pc_types.specs.Changes as change
 use Rattle.pc_types.specs.Phases.{same_phase, same_class}
 use Rattle.pc_model.specs.Maps as map_of
 use Rattle.pc_model.specs.Sets as set
@@ -12,7 +14,7 @@ use Rattle.pc_types.specs.declared.Reply.{Reply}
 use Rattle.pc_types.specs.declared.Reply.TheVariants as told
 use Rattle.pc_types.specs.declared.Refusal.{Refusal}
 use Rattle.pc_types.specs.declared.Refusal.TheVariants as why
-use Rattle.pc_model.specs.Database.{Database, key_order, written}
+use Rattle.pc_model.specs.Database.{Database, key_order, written, seen}
 use Rattle.pc_model.specs.Log.{has_token, is_resolve}
 use Rattle.pc_model.specs.History.{History, Effect, effect, is_open, writes_of, log_of, contents, begun, number_of, phase_of, point_of, class_of, has_died}
 use Rattle.pc_types.specs.declared.Class.{Class}
@@ -66,6 +68,7 @@ abbrev pub asked_by : Event → List (List ℕ) → List (List ℕ)
 asked_by (asked.Get s key) keys = with_key keys key
 asked_by (asked.Put s key value) keys = with_key keys key
 asked_by (asked.Del s key) keys = with_key keys key
+asked_by (asked.Add s key delta) keys = with_key keys key
 asked_by other keys = keys
 
 -- the keys that were asked for, each once
@@ -117,10 +120,36 @@ abbrev pub transaction_causes : Setting → ℕ → History → List (Bool × Re
 transaction_causes st s history =
     (no_session st s, why.NoSession) ∷ (not (is_open s history), why.NoTransaction) ∷ (is_waiting s history, why.StillWaiting) ∷ (has_died s history, why.MustAbort) ∷ []
 
--- those of Put and Del
+-- those of Put, Del and Add
 abbrev pub write_causes : Setting → ℕ → List ℕ → History → List (Bool × Refusal)
 write_causes st s key history =
     transaction_causes st s history ++ (too_many s key history, why.TooManyWrites) ∷ (is_full st key history, why.Full) ∷ []
+
+-- what the session's transaction sees of the key
+abbrev pub seen_by : Setting → ℕ → List ℕ → History → Option (List ℕ)
+seen_by st s key history = seen (written (writes_of s history) key) (map_of.get (contents st.base history) key)
+
+-- the request is granted
+abbrev pub is_granted : Outcome → Bool
+is_granted Granted = true
+is_granted other = false
+
+-- the session's request to write the key would be granted
+abbrev pub may_write : ℕ → List ℕ → History → Bool
+may_write s key history = is_granted (outcome (queue_of key history) (number_of s history) Exclusive)
+
+-- NotNumber: what it sees is no number
+abbrev pub no_number : Setting → ℕ → List ℕ → History → Bool
+no_number st s key history = is_none (change.number_of (seen_by st s key history))
+
+-- OutOfRange: the sum leaves 64 bits, or that of all that the transaction has added to the key does
+abbrev pub out_of_range : Setting → ℕ → List ℕ → ℤ → History → Bool
+out_of_range st s key delta history = is_none (added delta (seen_by st s key history)) || not (can_add (written (writes_of s history) key) delta)
+
+-- those that Add has behind them, only where its lock would be granted
+abbrev pub add_causes : Setting → ℕ → List ℕ → ℤ → History → List (Bool × Refusal)
+add_causes st s key delta history =
+    (may_write s key history && no_number st s key history, why.NotNumber) ∷ (may_write s key history && out_of_range st s key delta history, why.OutOfRange) ∷ []
 
 -- NotYet, where some are left
 abbrev pub not_yet : ℕ → Option Reply
@@ -153,6 +182,7 @@ certain st history (asked.Begin s) =
 certain st history (asked.Get s key) = first_refusal (transaction_causes st s history ++ (is_full st key history, why.Full) ∷ [])
 certain st history (asked.Put s key value) = first_refusal (write_causes st s key history)
 certain st history (asked.Del s key) = first_refusal (write_causes st s key history)
+certain st history (asked.Add s key delta) = first_refusal (write_causes st s key history ++ add_causes st s key delta history)
 certain st history (asked.Commit s) = first_refusal (transaction_causes st s history ++ (log_is_full history, why.LogFull) ∷ [])
 certain st history (asked.Abort s) =
     or_else (first_refusal ((no_session st s, why.NoSession) ∷ (not (is_open s history), why.NoTransaction) ∷ [])) (Some told.Aborted)
@@ -167,15 +197,15 @@ certain st history asked.Done =
 certain st history asked.Rest = held_back st phase.Complete After history
 certain st history (asked.Join a b) = join_refusal (shelf st.run history) (file_at (shelf st.run history) a) (file_at (shelf st.run history) b)
 
--- what a read gives: the transaction's own latest write of the key, or else what the database has
-abbrev pub value_read : Option (Option (List ℕ)) → Option (List ℕ) → Option (List ℕ)
-value_read (Some own) there = own
-value_read None there = there
-
 -- the reply to a read that gives this
 abbrev pub read_reply : Option (List ℕ) → Reply
 read_reply None = told.Absent
 read_reply (Some value) = told.Found value
+
+-- the reply to an add that gives this; where there is no sum it is refused
+abbrev pub sum_reply : Option ℤ → Reply
+sum_reply None = told.Refused why.OutOfRange
+sum_reply (Some sum) = told.Sum sum
 
 -- the reply by the outcome of the request: this one where it is granted
 abbrev pub by_outcome : Outcome → Reply → Reply
@@ -197,9 +227,11 @@ IsFileReply (f ∷ fs) number reply = reply ≡ told.File number (set.items f.po
 abbrev pub Answers : Setting → History → Event → Reply → Type 0
 Answers st history (asked.Begin s) reply = reply ≡ told.Begun (begun history + 1)
 Answers st history (asked.Get s key) reply =
-    reply ≡ by_outcome (outcome (queue_of key history) (number_of s history) Shared) (read_reply (value_read (written (writes_of s history) key) (map_of.get (contents st.base history) key)))
+    reply ≡ by_outcome (outcome (queue_of key history) (number_of s history) Shared) (read_reply (seen_by st s key history))
 Answers st history (asked.Put s key value) reply = reply ≡ by_outcome (outcome (queue_of key history) (number_of s history) Exclusive) told.Ok
 Answers st history (asked.Del s key) reply = reply ≡ by_outcome (outcome (queue_of key history) (number_of s history) Exclusive) told.Ok
+Answers st history (asked.Add s key delta) reply =
+    reply ≡ by_outcome (outcome (queue_of key history) (number_of s history) Exclusive) (sum_reply (added delta (seen_by st s key history)))
 Answers st history (asked.Commit s) reply = reply ≡ told.Committed (length (log_of history) + 1)
 Answers st history (asked.Abort s) reply = ⊥
 Answers st history asked.StartPoint reply = reply ≡ told.Phase phase.Prepare (point_of history + 1)

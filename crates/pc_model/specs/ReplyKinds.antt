@@ -28,6 +28,14 @@ IsWriteReply told.Died = ⊤
 IsWriteReply (told.Refused why) = ⊤
 IsWriteReply other = ⊥
 
+-- an add's
+abbrev pub IsAddReply : Reply → Type 0
+IsAddReply (told.Sum number) = ⊤
+IsAddReply told.Wait = ⊤
+IsAddReply told.Died = ⊤
+IsAddReply (told.Refused why) = ⊤
+IsAddReply other = ⊥
+
 -- a commit's
 abbrev pub IsCommitReply : Reply → Type 0
 IsCommitReply (told.Committed number) = ⊤
@@ -73,6 +81,7 @@ IsReplyTo (asked.Begin s) reply = IsBeginReply reply
 IsReplyTo (asked.Get s key) reply = IsGetReply reply
 IsReplyTo (asked.Put s key value) reply = IsWriteReply reply
 IsReplyTo (asked.Del s key) reply = IsWriteReply reply
+IsReplyTo (asked.Add s key delta) reply = IsAddReply reply
 IsReplyTo (asked.Commit s) reply = IsCommitReply reply
 IsReplyTo (asked.Abort s) reply = IsAbortReply reply
 IsReplyTo asked.StartPoint reply = IsMoveReply reply

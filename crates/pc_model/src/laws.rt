@@ -1,5 +1,25 @@
 //! Laws of the definitions. Each function does nothing, and its contract is a law.
-ghost use Rattle.pc_model.specs.Laws.{ReplaysInPieces, CyclesMakeStates, UntouchedKeysStay, PartsMakeStates, ContentsMakeStates, EveryEventHasALegalReply, CommittedReadsAreRight, LocksNeverConflict, LegalHistoriesHaveLegalEffects, TokensStandInOrder, EachKeyIsTakenOnce, PointStatesStay, QuietContentsStay, JoinsAreContents, FilesAreOfTheirPoints, FilesJoinWell, FilesAreStates};
+ghost use Rattle.pc_model.specs.Laws.{NumbersAreRead, ChangesMerge, FinalWritesAgree, OtherAddsDoNothing, AddsOfRunsApply, ReplaysInPieces, CyclesMakeStates, UntouchedKeysStay, PartsMakeStates, ContentsMakeStates, EveryEventHasALegalReply, CommittedReadsAreRight, LocksNeverConflict, LegalHistoriesHaveLegalEffects, TokensStandInOrder, EachKeyIsTakenOnce, PointStatesStay, QuietContentsStay, JoinsAreContents, FilesAreOfTheirPoints, FilesJoinWell, FilesAreStates};
+
+/// A number is read of its own eight bytes.
+pub fn numbers_are_read()
+    ensures { NumbersAreRead }
+{}
+
+/// Two changes of a key in a row, each of which applies, are the merged one.
+pub fn changes_merge()
+    ensures { ChangesMerge }
+{}
+
+/// The final writes of a transaction do what its writes did one after the other, where each applied.
+pub fn final_writes_agree()
+    ensures { FinalWritesAgree }
+{}
+
+/// An add that doesn't apply changes nothing.
+pub fn other_adds_do_nothing()
+    ensures { OtherAddsDoNothing }
+{}
 
 /// Replay of a log in two pieces is replay of the second on the replay of the first.
 pub fn replay_in_pieces()
@@ -35,6 +55,11 @@ pub fn every_event_has_a_legal_reply()
 /// Serial truth: in a legal history, of however many sessions, the reads of each committed transaction are right.
 pub fn committed_reads_are_right()
     ensures { CommittedReadsAreRight }
+{}
+
+/// The adds of a legal history apply.
+pub fn adds_of_runs_apply()
+    ensures { AddsOfRunsApply }
 {}
 
 /// After a legal history no two granted requests of a key conflict.

@@ -8,7 +8,7 @@ use Rattle.pc_types.specs.declared.Event.TheVariants as asked
 use Rattle.pc_types.specs.declared.Reply.TheVariants as told
 use Rattle.pc_model.specs.Files.{numbers_to}
 use Rattle.pc_model.specs.History.{History, Effect, effect, is_open, open_by, class_of, class_by, class_in, phase_of, phase_by, point_of, point_by}
-use Rattle.pc_model.specs.History.Effect.{Begins, Reads, Writes, Waits, Dies, Commits, Aborts, Moves, Takes, Shelves, Joins, Nothing}
+use Rattle.pc_model.specs.History.Effect.{Begins, Reads, Writes, Adds, Waits, Dies, Commits, Aborts, Moves, Takes, Shelves, Joins, Nothing}
 use Rattle.pc_types.specs.declared.Phase.{Phase}
 use Rattle.pc_types.specs.declared.Phase.TheVariants as phase
 use Rattle.pc_model.specs.Replies.{Setting, active_in, no_session}
@@ -167,6 +167,7 @@ leaves (Moves phase point) is = absurd cc
 leaves (Shelves point) is = absurd cc
 leaves (Reads s key value) is = record { phase = λ _. refl; point = λ _. refl; opened = λ _ _. refl; class = λ _ _ _. refl }
 leaves (Writes s key value) is = record { phase = λ _. refl; point = λ _. refl; opened = λ _ _. refl; class = λ _ _ _. refl }
+leaves (Adds s key delta sum) is = record { phase = λ _. refl; point = λ _. refl; opened = λ _ _. refl; class = λ _ _ _. refl }
 leaves (Waits s key exclusive) is = record { phase = λ _. refl; point = λ _. refl; opened = λ _ _. refl; class = λ _ _ _. refl }
 leaves (Dies s key exclusive) is = record { phase = λ _. refl; point = λ _. refl; opened = λ _ _. refl; class = λ _ _ _. refl }
 leaves (Takes key value) is = record { phase = λ _. refl; point = λ _. refl; opened = λ _ _. refl; class = λ _ _ _. refl }

@@ -72,7 +72,7 @@ closed_records base rows h after none cs qs ws ls ps are =
     kept_by (Some r) e f = e ∙ ap (λ b. is_some r.value || (not (is_empty r.requests) || (r.is_in_open_set || b))) f ∙ turn (is_some r.value) (not (is_empty r.requests)) r.is_in_open_set
 
 -- the record that a taken key has left keeps all but the closed set
-stored-left : (o : Option Record) → stored (left_of o) ≡ stored o
+pub stored-left : (o : Option Record) → stored (left_of o) ≡ stored o
 stored-left None = refl
 stored-left (Some r) = stored-if (record r { is_in_closed_set = false; pinned = None })
 

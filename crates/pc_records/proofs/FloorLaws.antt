@@ -101,7 +101,7 @@ spots_alike queues new alike [] = refl
 spots_alike queues new alike (s ∷ slots) = ap (λ (q : Queue). record { slot = s; queue = q } ∷ spots_of new slots) (alike s.number) ∙ ap (λ (xs : List Spot). spot_of queues s ∷ xs) (spots_alike queues new alike slots)
 
 -- the queue at a slot that is there
-queue_there : (queues : Queues) (id : ℕ) (slots : List Slot) → has_spot (spots_of queues slots) id ≡ true → queue_of (spots_of queues slots) id ≡ queue_at queues id
+pub queue_there : (queues : Queues) (id : ℕ) (slots : List Slot) → has_spot (spots_of queues slots) id ≡ true → queue_of (spots_of queues slots) id ≡ queue_at queues id
 queue_there queues id [] has = absurd (cc (has))
 queue_there queues id (s ∷ slots) has = by_test (eqb s.number id) refl has (queue_there queues id slots)
   where

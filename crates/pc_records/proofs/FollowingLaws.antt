@@ -38,7 +38,7 @@ same_records base rows h after cs qs ws ls ps are =
     }
 
 -- a record with other requests keeps the rest, and a request keeps it
-stored-with : (r : Option Record) (queue : Queue) → stored (Some (with_requests r queue)) ≡ stored r
+pub stored-with : (r : Option Record) (queue : Queue) → stored (Some (with_requests r queue)) ≡ stored r
 stored-with None queue = refl
 stored-with (Some r) queue = refl
 

@@ -35,6 +35,7 @@ mod FloorLaws
 mod FloorMaking
 mod FloorTaking
 mod FloorTidying
+pub mod WrittenKeys
 mod SpotLaws
 mod SpotTidying
 mod SpotWrites

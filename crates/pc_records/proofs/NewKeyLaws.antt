@@ -4,13 +4,13 @@ use Rattle.std.proofs.lemmas.List.{append-nil}
 use Rattle.std.proofs.lemmas.List.Folds.{list_any-append}
 use Rattle.std.proofs.lemmas.Bool.Decides.{nat_tests}
 use Rattle.pc_types.specs.declared.Write.{Write}
-use Rattle.pc_model.specs.Database.{same_bytes, with_write, written, key_order}
+use Rattle.pc_model.specs.Database.{same_bytes, with_write, written}
 use Rattle.pc_model.specs.Points.{is_among, with_keys}
-use Rattle.std.proofs.lemmas.Cmp.{eq_by_cmp_equiv}
 use Rattle.pc_model.proofs.JoinLaws.{one_key}
 use Rattle.pc_model.specs.DistinctWrites.{AreDistinct}
 use Rattle.pc_records.specs.NewKeys.{with_new, new_keys, is_one_too_many}
 use Rattle.pc_records.specs.Rows.{Row, record_of, is_in_open_set}
+use Rattle.pc_records.proofs.WrittenKeys.{written_own, written_later}
 
 pub no_more_new : (rows : List Row) (writes : List Write) → length (new_keys rows writes) ≤ length writes
 no_more_new rows [] = omega arith
@@ -30,14 +30,10 @@ with_keys_new keys rows [] distinct open_now = sym (append-nil keys)
 with_keys_new keys rows (w ∷ ws) distinct open_now = by_there (is_among keys w.key) refl (λ more. with_keys_new more rows ws distinct.1)
   where
     own : is_in_open_set (record_of rows w.key) ≡ is_among keys w.key
-    own = open_now w.key (ap (λ b. is_some (cond b (Some w.value) (written ws w.key))) ((eq_by_cmp_equiv key_order.total).refl w.key))
+    own = open_now w.key (written_own w ws)
 
     later : (q : List ℕ) → is_some (written ws q) ≡ true → is_in_open_set (record_of rows q) ≡ is_among keys q
-    later q there = open_now q (by_same (same_bytes w.key q))
-      where
-        by_same : (b : Bool) → is_some (cond b (Some w.value) (written ws q)) ≡ true
-        by_same true = refl
-        by_same false = there
+    later q there = open_now q (written_later w ws q there)
 
     apart : (q : List ℕ) → is_some (written ws q) ≡ true → same_bytes q w.key ≡ false
     apart q there = by_same (same_bytes q w.key) refl
@@ -56,19 +52,19 @@ with_keys_new keys rows (w ∷ ws) distinct open_now = by_there (is_among keys w
     by_there false e again =
         rw (own ∙ e) (again (keys ++ w.key ∷ []) (λ q there. later q there ∙ or_first (is_among keys q) (same_bytes q w.key) (apart q there) ∙ sym (list_any-append (same_bytes q) keys (w.key ∷ []))) ∙ append_assoc keys (w.key ∷ []) (new_keys rows ws))
 
-length-with_write : (ws : List Write) (k : List ℕ) (v : Option (List ℕ)) → length (with_write ws (record { key = k; value = v })) ≡ length ws + cond (is_none (written ws k)) 1 0
-length-with_write [] k v = refl
-length-with_write (w ∷ ws) k v = by_same (same_bytes w.key k) (length-with_write ws k v)
+length-with_write : (ws : List Write) (write : Write) → length (with_write ws write) ≡ length ws + cond (is_none (written ws write.key)) 1 0
+length-with_write [] write = refl
+length-with_write (w ∷ ws) write = by_same (same_bytes w.key write.key) _ _ (written ws write.key) (length-with_write ws write)
   where
-    by_same : (b : Bool) → length (with_write ws (record { key = k; value = v })) ≡ length ws + cond (is_none (written ws k)) 1 0 →
-        length (cond b (record { key = k; value = v } ∷ ws) (w ∷ with_write ws (record { key = k; value = v }))) ≡ length (w ∷ ws) + cond (is_none (cond b (Some w.value) (written ws k))) 1 0
-    by_same true e = omega arith
-    by_same false e = omega (arith, e)
+    by_same : {A : Type 0} (b : Bool) (x : Write) (y : A) (o : Option A) → length (with_write ws write) ≡ length ws + cond (is_none o) 1 0 →
+        length (cond b (x ∷ ws) (w ∷ with_write ws write)) ≡ length (w ∷ ws) + cond (is_none (cond b (Some y) o)) 1 0
+    by_same true x y o e = omega arith
+    by_same false x y o e = omega (arith, e)
 
 -- one more write where they aren't too many
-pub few_enough : (ws : List Write) (k : List ℕ) (v : Option (List ℕ)) → length ws ≤ 256 → is_one_too_many ws k ≡ false → length (with_write ws (record { key = k; value = v })) ≤ 256
-few_enough ws k v le few = by_new (is_none (written ws k)) few (length-with_write ws k v)
+pub few_enough : (ws : List Write) (write : Write) → length ws ≤ 256 → is_one_too_many ws write.key ≡ false → length (with_write ws write) ≤ 256
+few_enough ws write le few = by_new (is_none (written ws write.key)) few (length-with_write ws write)
   where
-    by_new : (b : Bool) → (eqb (length ws) 256 && b) ≡ false → length (with_write ws (record { key = k; value = v })) ≡ length ws + cond b 1 0 → length (with_write ws (record { key = k; value = v })) ≤ 256
+    by_new : (b : Bool) → (eqb (length ws) 256 && b) ≡ false → length (with_write ws write) ≡ length ws + cond b 1 0 → length (with_write ws write) ≤ 256
     by_new true few e = grind (arith, nat_tests, few, e, le)
     by_new false few e = omega (arith, e, le)

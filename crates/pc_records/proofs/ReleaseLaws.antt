@@ -7,22 +7,21 @@ use Rattle.std.specs.FinMap.Entries.{is_some-find, below_all}
 use Rattle.std.specs.Ordering.{is_lt}
 use Rattle.pc_types.specs.declared.Write.{Write}
 use Rattle.pc_model.specs.Maps as map_of
-use Rattle.pc_model.specs.Database.{Database, KeysRise, key_cmp, same_bytes, applied_all, written}
+use Rattle.pc_model.specs.Database.{Database, KeysRise, key_cmp, same_bytes, written}
 use Rattle.pc_model.specs.Points.{is_among, with_keys}
 use Rattle.pc_model.specs.Log.{state_at}
 use Rattle.pc_model.specs.History.{History, contents, log_of, point_of}
 use Rattle.pc_types.specs.declared.Request.{Request}
 use Rattle.pc_model.specs.Locks.{Queue, are_compatible, queue_of, queue_without, granted_behind}
 use Rattle.pc_model.specs.Queues.{AllWait, IsSettledBehind, IsSettled, stands_in, grant}
-use Rattle.pc_model.specs.Replies.{is_empty, open_set, closed_set, value_read}
+use Rattle.pc_model.specs.Replies.{is_empty, open_set, closed_set}
 use Rattle.pc_model.proofs.CountLaws.{below_apart, and_both}
 use Rattle.pc_model.proofs.JoinLaws.{one_key}
 use Rattle.pc_records.specs.Rows.{Row, Record, record_of, stored, is_in_open_set, is_in_closed_set, at_point, requests_on}
 use Rattle.pc_records.specs.RowSteps.{if_kept, with_row, released, released_rows, given, written_row}
 use Rattle.pc_records.specs.Following.{AreRecords, stands_kept}
 use Rattle.pc_records.proofs.Keeping.{stored-if, requests-if, open-if, closed-if, point-if, kept-if}
-use Rattle.pc_records.proofs.DistinctLaws.{get-applied_all, among_with_keys}
-use Rattle.pc_model.specs.DistinctWrites.{AreDistinct}
+use Rattle.pc_records.proofs.DistinctLaws.{among_with_keys}
 
 -- a queue in which the transaction has no request stays as it is without it
 none_removed : (queue : Queue) (t : ℕ) → stands_in queue t ≡ false → filter (λ r. not (r.transaction == t)) queue ≡ queue
@@ -114,7 +113,7 @@ found_released t (row ∷ rows) q h =
 
 -- What a record says once the request is removed.
 module _ (t : ℕ) where
-  stored-released : (o : Option Record) → stored (released_at t o) ≡ stored o
+  pub stored-released : (o : Option Record) → stored (released_at t o) ≡ stored o
   stored-released None = refl
   stored-released (Some r) = by_own (stands_in r.requests t)
     where
@@ -186,28 +185,34 @@ abbrev pub given_at : Option (Option (List ℕ)) → Option Record → Option Re
 given_at o None = None
 given_at o (Some r) = Some (given o r)
 
-below_written : (ws : List Write) (key : List ℕ) (rows : List Row) → below_all key_cmp key (map (written_row ws) rows) ≡ below_all key_cmp key rows
-below_written ws key [] = refl
-below_written ws key (row ∷ rows) = ap (λ b. is_lt (key_cmp key row.0) && b) (below_written ws key rows)
+-- what a key has once this is committed of it: nothing, and then what it had, or a value or absence
+abbrev pub now_or : Option (Option (List ℕ)) → Option (List ℕ) → Option (List ℕ)
+now_or None there = there
+now_or (Some value) there = value
 
-sorted_written : (ws : List Write) (rows : List Row) → is_sorted key_cmp (map (written_row ws) rows) ≡ is_sorted key_cmp rows
-sorted_written ws [] = refl
-sorted_written ws (row ∷ rows) = rw (below_written ws row.0 rows, sorted_written ws rows) refl
+module _ (committed : List ℕ → Option (Option (List ℕ))) where
+  below_written : (key : List ℕ) (rows : List Row) → below_all key_cmp key (map (written_row committed) rows) ≡ below_all key_cmp key rows
+  below_written key [] = refl
+  below_written key (row ∷ rows) = ap (λ b. is_lt (key_cmp key row.0) && b) (below_written key rows)
 
-pub rise_written : (ws : List Write) (rows : List Row) → KeysRise rows → KeysRise (map (written_row ws) rows)
-rise_written ws rows rise = sorted_written ws rows ∙ rise
+  sorted_written : (rows : List Row) → is_sorted key_cmp (map (written_row committed) rows) ≡ is_sorted key_cmp rows
+  sorted_written [] = refl
+  sorted_written (row ∷ rows) = rw (below_written row.0 rows, sorted_written rows) refl
 
-pub found_written : (ws : List Write) (rows : List Row) (q : List ℕ) → record_of (map (written_row ws) rows) q ≡ given_at (written ws q) (record_of rows q)
-found_written ws [] q = refl
-found_written ws (row ∷ rows) q = by_match (same_bytes q row.0) refl (found_written ws rows q)
-  where
-    by_match : (b : Bool) → same_bytes q row.0 ≡ b → record_of (map (written_row ws) rows) q ≡ given_at (written ws q) (record_of rows q) →
-        cond b (Some (given (written ws row.0) row.1)) (record_of (map (written_row ws) rows) q) ≡ given_at (written ws q) (cond b (Some row.1) (record_of rows q))
-    by_match true same later = ap (λ k. Some (given (written ws k) row.1)) (sym (one_key q row.0 same))
-    by_match false same later = later
+  pub rise_written : (rows : List Row) → KeysRise rows → KeysRise (map (written_row committed) rows)
+  rise_written rows rise = sorted_written rows ∙ rise
+
+  pub found_written : (rows : List Row) (q : List ℕ) → record_of (map (written_row committed) rows) q ≡ given_at (committed q) (record_of rows q)
+  found_written [] q = refl
+  found_written (row ∷ rows) q = by_match (same_bytes q row.0) refl (found_written rows q)
+    where
+      by_match : (b : Bool) → same_bytes q row.0 ≡ b → record_of (map (written_row committed) rows) q ≡ given_at (committed q) (record_of rows q) →
+          cond b (Some (given (committed row.0) row.1)) (record_of (map (written_row committed) rows) q) ≡ given_at (committed q) (cond b (Some row.1) (record_of rows q))
+      by_match true same later = ap (λ k. Some (given (committed k) row.1)) (sym (one_key q row.0 same))
+      by_match false same later = later
 
 -- what a record says once this is committed of its key
-stored-given : (o : Option (Option (List ℕ))) (r : Option Record) → (is_some o ≡ true → is_some r ≡ true) → stored (given_at o r) ≡ value_read o (stored r)
+stored-given : (o : Option (Option (List ℕ))) (r : Option Record) → (is_some o ≡ true → is_some r ≡ true) → stored (given_at o r) ≡ now_or o (stored r)
 stored-given None None there = refl
 stored-given (Some v) None there = absurd (let no : false ≡ true = there refl in cc)
 stored-given None (Some r) there = refl
@@ -244,36 +249,36 @@ kept-given (Some v) (Some r) kept = by_value (is_some v) (not (is_empty r.reques
     by_value false true = refl
     by_value false false = refl
 
-written_read : (ws : List Write) (rows : List Row) (content past : List ℕ → Option (List ℕ)) (queue : List ℕ → Queue) (in_open in_closed : List ℕ → Bool) → ((q : List ℕ) → is_some (written ws q) ≡ true → is_some (record_of rows q) ≡ true) →
-    AreRead rows content past queue in_open in_closed → AreRead (map (written_row ws) rows) (λ q. value_read (written ws q) (content q)) past queue (λ q. in_open q || is_some (written ws q)) in_closed
-written_read ws rows content past queue in_open in_closed there are =
+written_read : (committed : List ℕ → Option (Option (List ℕ))) (rows : List Row) (content past : List ℕ → Option (List ℕ)) (queue : List ℕ → Queue) (in_open in_closed : List ℕ → Bool) → ((q : List ℕ) → is_some (committed q) ≡ true → is_some (record_of rows q) ≡ true) →
+    AreRead rows content past queue in_open in_closed → AreRead (map (written_row committed) rows) (λ q. now_or (committed q) (content q)) past queue (λ q. in_open q || is_some (committed q)) in_closed
+written_read committed rows content past queue in_open in_closed there are =
     record {
-      sorted = rise_written ws rows are.sorted;
-      stored = λ q. ap stored (found q) ∙ stored-given (written ws q) (record_of rows q) (there q) ∙ ap (value_read (written ws q)) (are.stored q);
-      requests = λ q. ap requests_on (found q) ∙ requests-given (written ws q) (record_of rows q) ∙ are.requests q;
-      open_set = λ q. ap is_in_open_set (found q) ∙ open-given (written ws q) (record_of rows q) (there q) ∙ ap (λ b. b || is_some (written ws q)) (are.open_set q);
-      closed_set = λ q. ap is_in_closed_set (found q) ∙ closed-given (written ws q) (record_of rows q) ∙ are.closed_set q;
-      point = λ q closed. ap at_point (found q) ∙ point-given (written ws q) (record_of rows q) (was_closed q closed) ∙ are.point q (was_closed q closed);
-      kept = λ q. ap is_some (found q) ∙ kept-given (written ws q) (record_of rows q) (are.kept q) ∙ ap stands_kept (sym (found q));
+      sorted = rise_written committed rows are.sorted;
+      stored = λ q. ap stored (found q) ∙ stored-given (committed q) (record_of rows q) (there q) ∙ ap (now_or (committed q)) (are.stored q);
+      requests = λ q. ap requests_on (found q) ∙ requests-given (committed q) (record_of rows q) ∙ are.requests q;
+      open_set = λ q. ap is_in_open_set (found q) ∙ open-given (committed q) (record_of rows q) (there q) ∙ ap (λ b. b || is_some (committed q)) (are.open_set q);
+      closed_set = λ q. ap is_in_closed_set (found q) ∙ closed-given (committed q) (record_of rows q) ∙ are.closed_set q;
+      point = λ q closed. ap at_point (found q) ∙ point-given (committed q) (record_of rows q) (was_closed q closed) ∙ are.point q (was_closed q closed);
+      kept = λ q. ap is_some (found q) ∙ kept-given (committed q) (record_of rows q) (are.kept q) ∙ ap stands_kept (sym (found q));
     }
   where
-    found : (q : List ℕ) → record_of (map (written_row ws) rows) q ≡ given_at (written ws q) (record_of rows q)
-    found q = found_written ws rows q
+    found : (q : List ℕ) → record_of (map (written_row committed) rows) q ≡ given_at (committed q) (record_of rows q)
+    found q = found_written committed rows q
 
-    was_closed : (q : List ℕ) → is_in_closed_set (record_of (map (written_row ws) rows) q) ≡ true → is_in_closed_set (record_of rows q) ≡ true
-    was_closed q closed = sym (ap is_in_closed_set (found q) ∙ closed-given (written ws q) (record_of rows q)) ∙ closed
+    was_closed : (q : List ℕ) → is_in_closed_set (record_of (map (written_row committed) rows) q) ≡ true → is_in_closed_set (record_of rows q) ≡ true
+    was_closed q closed = sym (ap is_in_closed_set (found q) ∙ closed-given (committed q) (record_of rows q)) ∙ closed
 
--- the transaction with these writes was committed
-pub released_records : (base : Database) (rows : List Row) (h after : History) (ws : List Write) (n : ℕ) → AreDistinct ws → ((q : List ℕ) → IsSettled (queue_of q h)) → ((q : List ℕ) → is_some (written ws q) ≡ true → stands_in (queue_of q h) n ≡ true) →
-    contents base after ≡ applied_all (contents base h) ws → ((q : List ℕ) → queue_of q after ≡ queue_without (queue_of q h) n) → open_set after ≡ with_keys (open_set h) ws →
+-- the transaction with these writes was committed, and of each of their keys this
+pub released_records : (base : Database) (rows : List Row) (h after : History) (ws : List Write) (committed : List ℕ → Option (Option (List ℕ))) (n : ℕ) → ((q : List ℕ) → is_some (committed q) ≡ is_some (written ws q)) → ((q : List ℕ) → IsSettled (queue_of q h)) → ((q : List ℕ) → is_some (written ws q) ≡ true → stands_in (queue_of q h) n ≡ true) →
+    ((q : List ℕ) → map_of.get (contents base after) q ≡ now_or (committed q) (map_of.get (contents base h) q)) → ((q : List ℕ) → queue_of q after ≡ queue_without (queue_of q h) n) → open_set after ≡ with_keys (open_set h) ws →
     closed_set after ≡ closed_set h → ((q : List ℕ) → is_among (closed_set h) q ≡ true → map_of.get (state_at base (log_of after) (point_of after)) q ≡ map_of.get (state_at base (log_of h) (point_of h)) q) →
-    AreRecords base rows h → AreRecords base (released_rows n (map (written_row ws) rows)) after
-released_records base rows h after ws n distinct settled held cs qs keys ls ps are =
+    AreRecords base rows h → AreRecords base (released_rows n (map (written_row committed) rows)) after
+released_records base rows h after ws committed n own settled held cs qs keys ls ps are =
     record {
       sorted = read.sorted;
-      stored = λ q. read.stored q ∙ sym (get-applied_all (contents base h) ws q distinct) ∙ ap (λ db. map_of.get db q) (sym cs);
+      stored = λ q. read.stored q ∙ sym (cs q);
       requests = λ q. read.requests q ∙ sym (qs q);
-      open_set = λ q. read.open_set q ∙ sym (among_with_keys (open_set h) ws q) ∙ ap (λ ks. is_among ks q) (sym keys);
+      open_set = λ q. read.open_set q ∙ ap (λ b. is_among (open_set h) q || b) (own q) ∙ sym (among_with_keys (open_set h) ws q) ∙ ap (λ ks. is_among ks q) (sym keys);
       closed_set = λ q. read.closed_set q ∙ ap (λ ks. is_among ks q) (sym ls);
       point = λ q closed. read.point q closed ∙ sym (ps q (sym (read.closed_set q) ∙ closed));
       kept = read.kept;
@@ -283,11 +288,11 @@ released_records base rows h after ws n distinct settled held cs qs keys ls ps a
     some_then None e = cc
     some_then (Some r) e = refl
 
-    there : (q : List ℕ) → is_some (written ws q) ≡ true → is_some (record_of rows q) ≡ true
-    there q e = some_then (record_of rows q) (ap (λ u. stands_in u n) (are.requests q) ∙ held q e)
+    there : (q : List ℕ) → is_some (committed q) ≡ true → is_some (record_of rows q) ≡ true
+    there q e = some_then (record_of rows q) (ap (λ u. stands_in u n) (are.requests q) ∙ held q (sym (own q) ∙ e))
 
-    read : AreRead (released_rows n (map (written_row ws) rows)) (λ q. value_read (written ws q) (map_of.get (contents base h) q)) (map_of.get (state_at base (log_of h) (point_of h))) (λ q. queue_without (queue_of q h) n) (λ q. is_among (open_set h) q || is_some (written ws q)) (is_among (closed_set h))
-    read = released_read n (map (written_row ws) rows) _ _ _ _ _ settled (written_read ws rows _ _ _ _ _ there (read_records base rows h are))
+    read : AreRead (released_rows n (map (written_row committed) rows)) (λ q. now_or (committed q) (map_of.get (contents base h) q)) (map_of.get (state_at base (log_of h) (point_of h))) (λ q. queue_without (queue_of q h) n) (λ q. is_among (open_set h) q || is_some (committed q)) (is_among (closed_set h))
+    read = released_read n (map (written_row committed) rows) _ _ _ _ _ settled (written_read committed rows _ _ _ _ _ there (read_records base rows h are))
 
 -- the transaction was aborted
 pub let_go_records : (base : Database) (rows : List Row) (h after : History) (n : ℕ) → ((q : List ℕ) → IsSettled (queue_of q h)) → contents base after ≡ contents base h → ((q : List ℕ) → queue_of q after ≡ queue_without (queue_of q h) n) →

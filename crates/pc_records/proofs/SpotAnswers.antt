@@ -84,7 +84,7 @@ module _ (t : ℕ) (mode : Mode) (o : Outcome) where
       (λ s. elim (eqb s.slot.number id) as (λ b. pending_in (cond b (asked t mode o s) s).slot ≡ pending_in s.slot) [ true ↦ refl | false ↦ refl ]) ss
 
 module _ (floor : Floor) (whole : IsFloorWhole floor) (key : List ℕ) (id : ℕ) (spot : Spot) (f : IsFound floor.spots key id spot) where
-  record_here : record_of (rows_in floor.spots) key ≡ Some (row_in spot).1
+  pub record_here : record_of (rows_in floor.spots) key ≡ Some (row_in spot).1
   record_here = found_record floor.spots key ∙ ap record_in f.at
 
   pub write_here : find key_cmp key (writes_in floor.spots) ≡ pending_in spot.slot
@@ -216,7 +216,7 @@ module _ (floor : Floor) (whole : IsFloorWhole floor) (key : List ℕ) (id : ℕ
 
 -- a key that has no spot
 module _ (floor : Floor) (key : List ℕ) (none : number_of floor.spots key ≡ None) where
-  no_record : record_of (rows_in floor.spots) key ≡ None
+  pub no_record : record_of (rows_in floor.spots) key ≡ None
   no_record = found_record floor.spots key ∙ ap record_in (none_found floor.spots key none)
 
   pub no_write : Rise (rows_in floor.spots) → find key_cmp key (writes_in floor.spots) ≡ None

@@ -1,5 +1,5 @@
 -- Spots once writes are committed or undone, one after the other.
-use Rattle.std.proofs.Common.{◌≡◌, ℕ, zero, suc, ◌+◌, ◌<◌, ◌≤◌, List, [], ◌∷◌, ◌++◌, append_assoc, append-nil, length, drop, get_or, map, Option, Some, None, is_some, option_map, refl, sym, ap, ◌∙◌, subst, cond, Bool, true, false, eqb, ◌&&◌, not}
+use Rattle.std.proofs.Common.{◌≡◌, ℕ, zero, suc, ◌+◌, ◌<◌, ◌≤◌, List, [], ◌∷◌, ◌++◌, append_assoc, append-nil, length, drop, get_or, map, Option, Some, None, is_some, option_map, refl, sym, ap, ◌∙◌, subst, cond, Bool, true, false, eqb, ◌&&◌, ◌||◌, not}
 use Rattle.std.proofs.lemmas.List.{drop_all}
 use Rattle.std.specs.FinMap.{find}
 use Rattle.pc_types.specs.declared.Write.{Write}
@@ -17,7 +17,8 @@ use Rattle.pc_records.specs.NewKeys.{with_new, new_keys}
 use Rattle.pc_records.specs.Tables.{value_of}
 use Rattle.pc_records.specs.Floor.{Spot, Floor, IsFloorWhole, Each, AreSpotsSound, row_in, rows_in, writes_in, changed, at_key, at_writes, with_spot, number_of, newly_opened, newly_opened_key, newly_opened_keys, with_settled, with_undone}
 use Rattle.pc_records.proofs.Moments.{settled_key, row_settled, row_undone}
-use Rattle.pc_records.proofs.SpotLaws.{no, no_some, one_some, same_self, spot_of_key, record_in, write_in, found_record, found_write, key_found, each_by_key, each_map, key_map, spot_of_number, none_found, lacking_stay, found}
+use Rattle.pc_records.proofs.WrittenKeys.{written_first, written_own, written_later}
+use Rattle.pc_records.proofs.SpotLaws.{no, spot_of_key, record_in, write_in, found_record, found_write, key_found, each_by_key, each_map, key_map, spot_of_number, none_found, lacking_stay, found}
 
 -- a change of slots that keeps keys, leaves no writer, and does nothing twice
 module _ (f : Slot → Slot) (keys : (s : Slot) → (f s).key ≡ s.key) (none : (s : Slot) → (f s).writer ≡ None) (again : (s : Slot) → f (f s) ≡ f s) where
@@ -25,9 +26,9 @@ module _ (f : Slot → Slot) (keys : (s : Slot) → (f s).key ≡ s.key) (none :
   keeps_writes ws s = elim (is_some (written ws s.slot.key)) as (λ b. (cond b (changed f s) s).slot.key ≡ s.slot.key) [ true ↦ keys s.slot | false ↦ refl ]
 
   at_next : (w : Write) (ws : List Write) (s : Spot) → at_writes (changed f) ws (at_key (changed f) w.key s) ≡ at_writes (changed f) (w ∷ ws) s
-  at_next w ws s = by_test (same_bytes w.key s.slot.key) (is_some (written ws s.slot.key)) refl
+  at_next w ws s = by_test (same_bytes w.key s.slot.key) (is_some (written ws s.slot.key)) refl ∙ ap (λ b. cond b (changed f s) s) (sym (written_first w ws s.slot.key))
     where
-      by_test : (b c : Bool) → is_some (written ws s.slot.key) ≡ c → at_writes (changed f) ws (cond b (changed f s) s) ≡ cond (is_some (cond b (Some w.value) (written ws s.slot.key))) (changed f s) s
+      by_test : (b c : Bool) → is_some (written ws s.slot.key) ≡ c → at_writes (changed f) ws (cond b (changed f s) s) ≡ cond (b || is_some (written ws s.slot.key)) (changed f s) s
       by_test true true e =
           ap (λ k. cond (is_some (written ws k)) (changed f (changed f s)) (changed f s)) (keys s.slot) ∙ ap (λ b. cond b (changed f (changed f s)) (changed f s)) e
           ∙ ap (λ (x : Slot). record { slot = x; queue = s.queue }) (again s.slot)
@@ -103,9 +104,9 @@ module _ (point : ℕ) where
 
   others_open : (ss : List Spot) (key : List ℕ) (ws : List Write) → is_some (written ws key) ≡ false → newly_opened_keys (settles key ss) ws ≡ newly_opened_keys ss ws
   others_open ss key [] none = refl
-  others_open ss key (w ∷ ws) none = by_test (same_bytes w.key key) refl none (others_open ss key ws)
+  others_open ss key (w ∷ ws) none = by_test (same_bytes w.key key) refl (sym (written_first w ws key) ∙ none) (others_open ss key ws)
     where
-      by_test : (b : Bool) → same_bytes w.key key ≡ b → is_some (cond b (Some w.value) (written ws key)) ≡ false → (is_some (written ws key) ≡ false → newly_opened_keys (settles key ss) ws ≡ newly_opened_keys ss ws) → newly_opened_key (settles key ss) w.key ++ newly_opened_keys (settles key ss) ws ≡ newly_opened_key ss w.key ++ newly_opened_keys ss ws
+      by_test : (b : Bool) → same_bytes w.key key ≡ b → (b || is_some (written ws key)) ≡ false → (is_some (written ws key) ≡ false → newly_opened_keys (settles key ss) ws ≡ newly_opened_keys ss ws) → newly_opened_key (settles key ss) w.key ++ newly_opened_keys (settles key ss) ws ≡ newly_opened_key ss w.key ++ newly_opened_keys ss ws
       by_test true same none rest = no (sym none)
       by_test false other none rest = ap (λ ks. ks ++ newly_opened_keys (settles key ss) ws) (other_opens ss key w.key other) ∙ ap (λ ks. newly_opened_key ss w.key ++ ks) (rest none)
 
@@ -128,17 +129,17 @@ module _ (point : ℕ) where
 -- where each of the keys has a write in place, the keys that go in are those that are new
 module _ (ss : List Spot) (rise : Rise (rows_in ss)) where
   abbrev Stand : List Write → Type 0
-  Stand ws = (q : List ℕ) → is_some (written ws q) ≡ true → option_map value_of (find key_cmp q (writes_in ss)) ≡ written ws q
+  Stand ws = (q : List ℕ) → is_some (written ws q) ≡ true → is_some (find key_cmp q (writes_in ss)) ≡ true
 
-  stands : (ws : List Write) → Stand ws → (q : List ℕ) → is_some (written ws q) ≡ true → option_map value_of (write_in (spot_of_key ss q)) ≡ written ws q
-  stands ws stand q some = ap (option_map value_of) (sym (found_write ss q rise)) ∙ stand q some
+  stands : (ws : List Write) → Stand ws → (q : List ℕ) → is_some (written ws q) ≡ true → is_some (write_in (spot_of_key ss q)) ≡ true
+  stands ws stand q some = ap is_some (sym (found_write ss q rise)) ∙ stand q some
 
-  new_one : (q : List ℕ) (v : Option (Option (List ℕ))) (o : Option Spot) → option_map value_of (write_in o) ≡ v → is_some v ≡ true → opened_in q o ≡ with_new (is_in_open_set (record_in o)) q []
-  new_one q v None e some = no (ap is_some e ∙ some)
-  new_one q v (Some s) e some = ap (λ b. cond (b && not s.slot.is_in_open_set) (q ∷ []) []) (by_writer s.slot.writer refl) ∙ elim s.slot.is_in_open_set as (λ b. cond (not b) (q ∷ []) [] ≡ with_new b q []) [ true ↦ refl | false ↦ refl ]
+  new_one : (q : List ℕ) (o : Option Spot) → is_some (write_in o) ≡ true → opened_in q o ≡ with_new (is_in_open_set (record_in o)) q []
+  new_one q None some = no some
+  new_one q (Some s) some = ap (λ b. cond (b && not s.slot.is_in_open_set) (q ∷ []) []) (by_writer s.slot.writer refl) ∙ elim s.slot.is_in_open_set as (λ b. cond (not b) (q ∷ []) [] ≡ with_new b q []) [ true ↦ refl | false ↦ refl ]
     where
       by_writer : (o : Option Writer) → s.slot.writer ≡ o → is_some o ≡ true
-      by_writer None is = no (ap is_some (sym (ap (λ o. option_map value_of (write_of o s.slot.live)) is) ∙ e) ∙ some)
+      by_writer None is = no (ap (λ o. is_some (write_of o s.slot.live)) (sym is) ∙ some)
       by_writer (Some w) is = refl
 
   with_front : (b : Bool) (q : List ℕ) (ks : List (List ℕ)) → with_new b q [] ++ ks ≡ with_new b q ks
@@ -148,44 +149,48 @@ module _ (ss : List Spot) (rise : Rise (rows_in ss)) where
   all_new : (vs ws : List Write) → Stand vs → ((q : List ℕ) → is_some (written ws q) ≡ true → is_some (written vs q) ≡ true) → newly_opened_keys ss ws ≡ new_keys (rows_in ss) ws
   all_new vs [] stand in_all = refl
   all_new vs (w ∷ ws) stand in_all =
-      let some : is_some (written vs w.key) ≡ true = in_all w.key (ap (λ b. is_some (cond b (Some w.value) (written ws w.key))) (same_self w.key)) in
-      ap (λ ks. ks ++ newly_opened_keys ss ws) (by_spots ss w.key ∙ new_one w.key (written vs w.key) (spot_of_key ss w.key) (stands vs stand w.key some) some ∙ ap (λ o. with_new (is_in_open_set o) w.key []) (sym (found_record ss w.key)))
+      ap (λ ks. ks ++ newly_opened_keys ss ws) (by_spots ss w.key ∙ new_one w.key (spot_of_key ss w.key) (stands vs stand w.key (in_all w.key (written_own w ws))) ∙ ap (λ o. with_new (is_in_open_set o) w.key []) (sym (found_record ss w.key)))
       ∙ with_front (is_in_open_set (record_of (rows_in ss) w.key)) w.key (newly_opened_keys ss ws)
-      ∙ ap (with_new (is_in_open_set (record_of (rows_in ss) w.key)) w.key) (all_new vs ws stand (λ q e. in_all q (later (same_bytes w.key q) q e)))
-    where
-      later : (b : Bool) (q : List ℕ) → is_some (written ws q) ≡ true → is_some (cond b (Some w.value) (written ws q)) ≡ true
-      later true q e = refl
-      later false q e = e
+      ∙ ap (with_new (is_in_open_set (record_of (rows_in ss) w.key)) w.key) (all_new vs ws stand (λ q e. in_all q (written_later w ws q e)))
 
   pub keys_opened : (ws : List Write) → Stand ws → newly_opened_keys ss ws ≡ new_keys (rows_in ss) ws
   keys_opened ws stand = all_new ws ws stand (λ q e. e)
 
   -- the rows once the writes are committed
   module _ (point : ℕ) (ws : List Write) (stand : Stand ws) where
+    -- what stands in the places of their keys
+    abbrev standing : List ℕ → Option (Option (List ℕ))
+    standing q = cond (is_some (written ws q)) (option_map value_of (find key_cmp q (writes_in ss))) None
+
+    -- the spot's own write is what stands in the place of its key, and it has one where the key is written
     abbrev Stands : Spot → Type 0
-    Stands s = is_some (written ws s.slot.key) ≡ true → option_map value_of (pending_in s.slot) ≡ written ws s.slot.key
+    Stands s = (find key_cmp s.slot.key (writes_in ss) ≡ pending_in s.slot) × (is_some (written ws s.slot.key) ≡ true → is_some (pending_in s.slot) ≡ true)
 
     one : (q : List ℕ) (s : Spot) → spot_of_key ss q ≡ Some s → Stands s
-    one q s found some =
-        let key : q ≡ s.slot.key = key_found ss q s found in
-        sym (ap (λ (o : Option Spot). option_map value_of (write_in o)) found) ∙ stands ws stand q (ap (λ k. is_some (written ws k)) key ∙ some) ∙ ap (written ws) key
+    one q s found =
+        let key : q ≡ s.slot.key = key_found ss q s found in (
+          ap (λ k. find key_cmp k (writes_in ss)) (sym key) ∙ found_write ss q rise ∙ ap write_in found,
+          λ some. sym (ap (λ (o : Option Spot). is_some (write_in o)) found) ∙ stands ws stand q (ap (λ k. is_some (written ws k)) key ∙ some),
+        )
 
-    row_one : (s : Spot) → Stands s → row_in (at_writes (changed (settled point)) ws s) ≡ written_row ws (row_in s)
-    row_one s stands = by_written (written ws s.slot.key) stands
+    row_one : (s : Spot) → Stands s → row_in (at_writes (changed (settled point)) ws s) ≡ written_row standing (row_in s)
+    row_one s stands =
+        by_written (is_some (written ws s.slot.key)) stands.1
+        ∙ sym (ap (λ o. (s.slot.key, given (cond (is_some (written ws s.slot.key)) (option_map value_of o) None) (row_in s).1)) stands.0)
       where
-        by_written : (o : Option (Option (List ℕ))) → (is_some o ≡ true → option_map value_of (pending_in s.slot) ≡ o) → row_in (cond (is_some o) (changed (settled point) s) s) ≡ (s.slot.key, given o (row_in s).1)
-        by_written None stands = refl
-        by_written (Some v) stands = by_writer s.slot.writer refl (stands refl)
+        by_written : (b : Bool) → (b ≡ true → is_some (pending_in s.slot) ≡ true) → row_in (cond b (changed (settled point) s) s) ≡ (s.slot.key, given (cond b (option_map value_of (pending_in s.slot)) None) (row_in s).1)
+        by_written false stands = refl
+        by_written true stands = by_writer s.slot.writer refl (stands refl)
           where
-            by_writer : (o : Option Writer) → s.slot.writer ≡ o → option_map value_of (write_of o s.slot.live) ≡ Some v → row_in (changed (settled point) s) ≡ (s.slot.key, record (row_in s).1 { value = v; is_in_open_set = true })
-            by_writer None is e = no_some e
-            by_writer (Some w) is e = row_settled (λ n. s.queue) point s.slot w is ∙ ap (λ (x : Option (List ℕ)). (s.slot.key, record (row_in s).1 { value = x; is_in_open_set = true })) (one_some e)
+            by_writer : (o : Option Writer) → s.slot.writer ≡ o → is_some (write_of o s.slot.live) ≡ true → row_in (changed (settled point) s) ≡ (s.slot.key, given (option_map value_of (write_of o s.slot.live)) (row_in s).1)
+            by_writer None is e = no e
+            by_writer (Some w) is e = row_settled (λ n. s.queue) point s.slot w is
 
-    all : (xs : List Spot) → Each Stands xs → rows_in (map (at_writes (changed (settled point)) ws) xs) ≡ map (written_row ws) (rows_in xs)
+    all : (xs : List Spot) → Each Stands xs → rows_in (map (at_writes (changed (settled point)) ws) xs) ≡ map (written_row standing) (rows_in xs)
     all [] each = refl
-    all (x ∷ xs) each = ap (λ (r : Row). r ∷ rows_in (map (at_writes (changed (settled point)) ws) xs)) (row_one x each.0) ∙ ap (λ (rows : List Row). written_row ws (row_in x) ∷ rows) (all xs each.1)
+    all (x ∷ xs) each = ap (λ (r : Row). r ∷ rows_in (map (at_writes (changed (settled point)) ws) xs)) (row_one x each.0) ∙ ap (λ (rows : List Row). written_row standing (row_in x) ∷ rows) (all xs each.1)
 
-    pub rows_settled : rows_in (map (at_writes (changed (settled point)) ws) ss) ≡ map (written_row ws) (rows_in ss)
+    pub rows_settled : rows_in (map (at_writes (changed (settled point)) ws) ss) ≡ map (written_row standing) (rows_in ss)
     rows_settled = all ss (each_by_key Stands ss rise one)
 
 -- and once they are undone

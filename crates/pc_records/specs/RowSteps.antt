@@ -5,8 +5,7 @@ use Rattle.std.specs.FinMap.{put as put_entry}
 use Rattle.pc_types.specs.declared.Mode.{Mode}
 use Rattle.pc_types.specs.declared.Refusal.{Refusal}
 use Rattle.pc_types.specs.declared.Refusal.TheVariants.{Full, OutOfMemory}
-use Rattle.pc_types.specs.declared.Write.{Write}
-use Rattle.pc_model.specs.Database.{key_cmp, same_bytes, written}
+use Rattle.pc_model.specs.Database.{key_cmp, same_bytes}
 use Rattle.pc_types.specs.declared.Outcome.{Outcome}
 use Rattle.pc_model.specs.Locks.{Queue, request_in, is_ungranted, outcome, queue_after, queue_without}
 use Rattle.pc_types.specs.declared.Outcome.TheVariants.{Granted, Queued, Died}
@@ -62,14 +61,14 @@ abbrev pub released_rows : ℕ → List Row → List Row
 released_rows t [] = []
 released_rows t (row ∷ rows) = with_row (released t row.1) row.0 (released_rows t rows)
 
--- a record once this is committed of its key, where it was written
+-- a record once this is committed of its key, if anything is
 abbrev pub given : Option (Option (List ℕ)) → Record → Record
 given None r = r
 given (Some value) r = record r { value = value; is_in_open_set = true }
 
--- the row once these writes are committed
-abbrev pub written_row : List Write → Row → Row
-written_row writes row = (row.0, given (written writes row.0) row.1)
+-- the row once this is committed of each key, if anything is
+abbrev pub written_row : (List ℕ → Option (Option (List ℕ))) → Row → Row
+written_row committed row = (row.0, given (committed row.0) row.1)
 
 -- the row once the open set is closed
 abbrev pub closed_row : Row → Row

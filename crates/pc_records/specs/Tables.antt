@@ -1,6 +1,6 @@
 -- What the records hold beside the rows: the writes of open transactions, each in its key's place, the point of the last
 -- closed set, and the keys of the two sets in order.
-use Rattle.std.specs.Prelude.{◌≡◌, ℕ, List, [], ◌∷◌, Option, Some, None, is_some, option_copied, if◌then◌else◌, MatchOption}
+use Rattle.std.specs.Prelude.{◌≡◌, ℕ, List, [], ◌∷◌, Option, Some, None, is_some, option_map, option_copied, if◌then◌else◌, MatchOption}
 use Rattle.std.specs.FinMap.{find}
 use denote.Ref.{Bor}
 use Rattle.pc_types.specs.declared.Write.{Write}
@@ -77,6 +77,10 @@ pub record IsAsked (old new : RecordsView) (transaction : ℕ) (class : Class) (
 -- what stands of the key once the transaction of these writes is over
 abbrev pub pending_without : List Write → RecordsView → List ℕ → Option Pending
 pending_without writes t q = if is_some (written writes q) then None else pending_at t q
+
+-- what a commit of these writes makes committed of a key: where they write it, what stands in its place
+abbrev pub made_committed : List Write → RecordsView → List ℕ → Option (Option (List ℕ))
+made_committed writes t q = if is_some (written writes q) then option_map value_of (pending_at t q) else None
 
 -- each key is listed exactly where it is in the set
 pub record AreListed (t : RecordsView) : Type 0 where

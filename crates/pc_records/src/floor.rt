@@ -1,5 +1,5 @@
 //! The floor of slots: a table of slots, the locks on them and the two sets, as one value.
-ghost use Rattle.std.specs.Prelude.{◌≡◌, ◌≤◌, ◌++◌, [], map, true, false, IfOk, IfSome, IfNone, IfErr, OnErr, None, option_map, length, ◌==◌, if◌then◌else◌, List, ℕ};
+ghost use Rattle.std.specs.Prelude.{◌≡◌, ◌≤◌, ◌++◌, [], map, true, false, IfOk, IfSome, IfNone, IfErr, OnErr, None, option_map, option_copied, length, ◌==◌, if◌then◌else◌, List, ℕ};
 ghost use Rattle.pc_model.specs.Locks.{outcome};
 ghost use Rattle.pc_model.specs.Maps.{get};
 ghost use Rattle.pc_model.specs.Database.{KeysRise, database_of};
@@ -105,6 +105,14 @@ impl KeySlots {
         ensures { IfOk result (λ copy. copy ≡ of_spot (λ slot. slot.live) self.now.spots id) }
     {
         copy_content(alloc, &self.table.get(id).live)
+    }
+
+    /// What stands in the slot.
+    pub(crate) fn live(&self, id: SlotId) -> Option<&Value>
+        requires there { has_spot self.now.spots id ≡ true }
+        ensures { option_copied result ≡ of_spot (λ slot. slot.live) self.now.spots id }
+    {
+        self.table.get(id).live.as_ref()
     }
 
     /// A copy of what stands in the slot, where a write of a transaction of the class keeps one; else None. An error where memory ran out.
@@ -247,6 +255,14 @@ impl KeySlots {
             }
             None => None,
         }
+    }
+
+    /// How `request` would answer.
+    pub(crate) fn outcome(&self, transaction: TxnNo, id: SlotId, mode: Mode) -> Outcome
+        requires there { has_spot self.now.spots id ≡ true }
+        ensures { result ≡ outcome (queue_of self.now.spots id) transaction mode }
+    {
+        self.locks.outcome(&self.table, transaction, id, mode)
     }
 
     /// Answers the transaction's request of the slot, and puts it into the queue where it stands. It fails only where memory ran

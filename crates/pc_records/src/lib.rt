@@ -8,4 +8,4 @@ mod links;
 mod records;
 mod slots;
 
-pub use records::{Reading, Records, Requested};
+pub use records::{Look, Reading, Records, Requested};

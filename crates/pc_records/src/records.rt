@@ -1,5 +1,5 @@
 //! The records.
-ghost use Rattle.std.specs.Prelude.{◌≡◌, ◌==◌, ◌<◌, ◌≤◌, ◌++◌, ◌∷◌, [], false, true, length, map, is_some, option_map, None, Some, IfOk, IfErr, OnErr, if◌then◌else◌, List, ℕ};
+ghost use Rattle.std.specs.Prelude.{◌≡◌, ◌==◌, ◌<◌, ◌≤◌, ◌++◌, ◌∷◌, [], false, true, length, map, is_some, option_map, option_copied, None, Some, IfOk, IfErr, OnErr, if◌then◌else◌, List, ℕ};
 ghost use Rattle.pc_types.specs.declared.Mode.TheVariants.{Shared, Exclusive};
 ghost use Rattle.pc_types.specs.declared.Class.TheVariants.{Before, During};
 ghost use Rattle.pc_types.specs.declared.Outcome.TheVariants.{Granted};
@@ -11,7 +11,7 @@ ghost use Rattle.pc_slots.specs.Slots.{Pending, nothing_aside, granted_slot};
 ghost use Rattle.pc_records.specs.Rows.{record_of, stored, is_in_closed_set};
 ghost use Rattle.pc_records.specs.NewKeys.{new_keys};
 ghost use Rattle.pc_records.specs.RowSteps.{is_full_for, why_refused, outcome_on, is_waiting, released_rows, written_row, closed_row, left_rows, committed_row};
-ghost use Rattle.pc_records.specs.Tables.{kept_of, pending_at, value_of, latest, IsClearFor, IsOfClass, once_asked, IsAsked, pending_without, AreListed, first_content, content_behind};
+ghost use Rattle.pc_records.specs.Tables.{kept_of, pending_at, latest, IsClearFor, IsOfClass, once_asked, IsAsked, pending_without, made_committed, AreListed, first_content, content_behind};
 ghost use Rattle.pc_records.specs.Floor.{IsFloorWhole, AreSpotsSound, IsOver, IsFloorReleased, standing, stands_anywhere, waits_anywhere, number_of, has_spot, with_spot, with_new_spot, asked, changed, with_settled, with_all_settled, with_undone, with_all_undone};
 
 use crate::floor::KeySlots;
@@ -34,6 +34,15 @@ pub struct Requested {
 pub struct Reading {
     pub outcome: Outcome,
     pub found: Option<Value>,
+}
+
+/// How a request to write would be answered, what stands in the key's place, as in a `Reading`, and the slot of the key, where
+/// it has one.
+#[derive(Clone, Copy)]
+pub struct Look<'a> {
+    pub outcome: Outcome,
+    pub found: Option<&'a Value>,
+    pub slot: Option<SlotId>,
 }
 
 /// The records, at most as many as the capacity, each in a slot beside the requests of its key. The point is that of the last
@@ -130,9 +139,32 @@ impl Records {
         }
     }
 
+    /// How the transaction's request to write the key would be answered, where no request of it waits, with what stands in the
+    /// key's place. It changes nothing and takes no memory.
+    pub fn look(&self, transaction: TxnNo, key: &Key) -> Look<'_>
+        ensures told { result.outcome ≡ outcome_on self.now.rows key.now transaction Exclusive }
+        ensures found { option_copied result.found ≡ latest self.now key.now }
+        ensures clear { is_waiting self.now.rows transaction ≡ false → result.outcome ≡ Granted → IsClearFor self.now key.now transaction }
+        ensures slot { is_some result.slot ≡ is_some (record_of self.now.rows key.now) }
+    {
+        match self.slots.find(key, None) {
+            Some(id) => Look {
+                outcome: self.slots.outcome(transaction, id, Mode::Exclusive),
+                found: self.slots.live(id),
+                slot: Some(id),
+            },
+            None => Look {
+                outcome: Outcome::Granted,
+                found: None,
+                slot: None,
+            },
+        }
+    }
+
     /// Answers the transaction's request to write the key, and writes it in its place where the request is granted. It is
     /// refused with `Full` exactly where the key has no record and there are as many as there may be, and else only where
-    /// memory ran out; the records are then as they were.
+    /// memory ran out; the records are then as they were. The key is looked for near the slot first, as that which `look` told;
+    /// nothing else depends on it.
     pub fn write(
         &mut self,
         alloc: Global,
@@ -140,6 +172,7 @@ impl Records {
         class: Class,
         key: &Key,
         value: Option<Value>,
+        near: Option<SlotId>,
     ) -> Result<Requested, Refusal>
         requires ready { is_waiting self.old.rows transaction ≡ false }
         requires outside { class ≡ Before → is_in_closed_set (record_of self.old.rows key.now) ≡ false }
@@ -150,7 +183,7 @@ impl Records {
         ensures room { IfOk result (λ answer. is_full_for (kept_of self.old) key.now ≡ false) }
         ensures refusal { IfErr result (λ e. e ≡ why_refused (kept_of self.old) key.now) }
     {
-        match self.slots.find(key, None) {
+        match self.slots.find(key, near) {
             Some(id) => {
                 let copy = self.slots.copy_to_keep(alloc, id, self.point, class)?;
                 let room = self.slots.room(alloc)?;
@@ -192,15 +225,15 @@ impl Records {
         release(&mut self.slots, transaction);
     }
 
-    /// The transaction of these writes, which stand in their places, is committed: they are the keys' values, and their
-    /// keys are in the open set, at its end where they weren't in it. The slots are the numbers of those that `write` told of
-    /// these keys, in the order of the writes, as far as they are known: a key is looked for there before it is searched, and
-    /// nothing else depends on them. It takes no memory.
+    /// The transaction of these writes, each of whose keys has a write in its place, is committed: what stands there is the
+    /// key's value, and the keys are in the open set, at its end where they weren't in it. The slots are the numbers of those
+    /// that `write` told of these keys, in the order of the writes, as far as they are known: a key is looked for there before
+    /// it is searched, and nothing else depends on them. It takes no memory.
     pub fn commit(&mut self, writes: &[Write], slots: &[u32])
-        requires stand { (q : List ℕ) → is_some (written writes.now q) ≡ true → option_map value_of (pending_at self.old q) ≡ written writes.now q }
+        requires stand { (q : List ℕ) → is_some (written writes.now q) ≡ true → is_some (pending_at self.old q) ≡ true }
         requires distinct { AreDistinct writes.now }
         ensures rise { KeysRise self.old.rows }
-        ensures rows { kept_of self.new ≡ record (kept_of self.old) { rows = map (written_row writes.now) self.old.rows } }
+        ensures rows { kept_of self.new ≡ record (kept_of self.old) { rows = map (written_row (made_committed writes.now self.old)) self.old.rows } }
         ensures pending { (q : List ℕ) → pending_at self.new q ≡ pending_without writes.now self.old q }
         ensures point { self.new.point ≡ self.old.point }
         ensures opened { self.new.opened ≡ self.old.opened ++ new_keys self.old.rows writes.now }

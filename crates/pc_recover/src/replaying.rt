@@ -71,7 +71,9 @@ fn replay_entries(
                 last = last.after(&entry);
                 rest = after;
                 entries += 1;
-                let (next, is_next_behind) = replay_entry(database, point, is_behind, entry)?;
+                let (next, is_next_behind) = replay_entry(
+                    alloc, database, point, is_behind, entry,
+                )?;
                 database = next;
                 is_behind = is_next_behind;
             }
@@ -103,6 +105,7 @@ fn stopped(database: Overlay, entries: usize, fault: Refusal) -> Result<Replayed
 // The database once the entry is applied, if it is a commit behind the point's token, and whether what follows the entry is
 // behind that token.
 fn replay_entry(
+    alloc: Global,
     database: Overlay,
     point: Point,
     is_behind: bool,
@@ -112,18 +115,18 @@ fn replay_entry(
     ensures token { IfOk result (λ next. next.1 ≡ (is_behind || is_point_token point entry)) }
 {
     if is_behind {
-        let database = with_entry(database, entry)?;
+        let database = with_entry(alloc, database, entry)?;
         return Ok((database, true));
     }
     Ok((database, is_token_of(point, &entry)))
 }
 
 // The database once the entry is applied, if it is a commit.
-fn with_entry(database: Overlay, entry: Entry) -> Result<Overlay, AllocError>
+fn with_entry(alloc: Global, database: Overlay, entry: Entry) -> Result<Overlay, AllocError>
     ensures { IfOk result (λ after_it. after_it ≡ after database (entry ∷ [])) }
 {
     match entry {
-        Entry::Commit(_, writes) => database.with_writes(writes),
+        Entry::Commit(_, writes) => database.with_writes(alloc, writes),
         Entry::Token(_, _) => Ok(database),
     }
 }

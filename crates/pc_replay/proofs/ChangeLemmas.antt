@@ -53,6 +53,10 @@ module _ (db : Database) (old new : BTreeMap (List ℕ) Content) (key : List ℕ
       step true f there = refl
       step false f there = refl
 
+-- what stands at a key of which this is noted
+pub noted_there : (db : Database) (changes : BTreeMap (List ℕ) Content) (key : List ℕ) (o : Option Content) → o ≡ tree.get key_cmp changes key → get (overlaid db changes.entries) key ≡ overlaid_there (get db key) o
+noted_there db changes key o is = get-overlaid db changes.entries key ∙ ap (overlaid_there (get db key)) (find-lookup changes.entries key ∙ sym is)
+
 -- a key that isn't there is removed by nothing
 pub absent : (db : Database) (key : List ℕ) → get db key ≡ None → db ≡ put db key None
 absent db key none = same_database _ _ (λ q. kept q (same_bytes q key) refl ∙ sym (get_put db key q None))

@@ -1,17 +1,18 @@
 //! A database that is written over in place.
-ghost use Rattle.std.specs.Prelude.{◌≡◌, [], Some, None, IfOk, OnOk};
+ghost use Rattle.std.specs.Prelude.{◌≡◌, [], Some, None, IfOk, IfErr, OnOk, option_copied};
 ghost use Rattle.std.specs.Option.{option_to_list};
 ghost use Rattle.std.specs.BTreeMap.{Updates};
 ghost use Rattle.std.specs.FinMap.{put as put_entry};
 ghost use Rattle.pc_model.specs.Maps as map;
 ghost use Rattle.pc_replay.specs.Changes.{overlaid, overlaid_there};
-ghost use Rattle.pc_model.specs.Database.{KeysRise, key_cmp, database_of, applied, applied_all};
+ghost use Rattle.pc_types.specs.declared.Change.TheVariants.{Add};
+ghost use Rattle.pc_model.specs.Database.{KeysRise, key_cmp, database_of, applied, applied_all, write_of};
 ghost use Rattle.pc_model.specs.Merges.{with_content, with_item};
-ghost use Rattle.pc_model.specs.Places.{IsAt};
+ghost use Rattle.pc_model.specs.Places.{IsAt, IsGap};
 
 use crate::samples::KeySamples;
 use itertools::{EitherOrBoth, Itertools};
-use pc_types::{Items, Key, Value, Write};
+use pc_types::{Change, Items, Key, Value, Write, sum};
 use std::alloc::{AllocError, Global};
 use std::collections::BTreeMap;
 use std::marker::Model;
@@ -63,12 +64,12 @@ impl Overlay {
 
     /// The database once the writes are applied, in order. They are taken over, not copied. It fails only where memory ran
     /// out, and then nothing of the database is left.
-    pub fn with_writes(self, writes: Items<Write>) -> Result<Overlay, AllocError>
+    pub fn with_writes(self, alloc: Global, writes: Items<Write>) -> Result<Overlay, AllocError>
         ensures { IfOk result (λ overlay. overlay ≡ applied_all self writes) }
     {
         let mut overlay = self;
         for write in writes.into_vec() {
-            overlay.apply(write)?;
+            overlay.apply(alloc, write)?;
         }
         Ok(overlay)
     }
@@ -87,13 +88,14 @@ impl Overlay {
     }
 
     // Applies the write.
-    fn apply(&mut self, write: Write) -> Result<(), AllocError>
+    fn apply(&mut self, alloc: Global, write: Write) -> Result<(), AllocError>
         ensures { OnOk result (self.new ≡ applied self.old write) }
     {
-        let Write { key, value } = write;
-        match value {
-            Some(value) => self.insert(key, value),
-            None => self.remove(key),
+        let Write { key, change } = write;
+        match change {
+            Change::Set(value) => self.insert(key, value),
+            Change::Remove => self.remove(key),
+            Change::Add(delta) => self.add(alloc, key, delta),
         }
     }
 
@@ -101,13 +103,21 @@ impl Overlay {
     fn insert(&mut self, key: Key, value: Value) -> Result<(), AllocError>
         ensures { OnOk result (self.new ≡ map.insert self.old key value) }
     {
-        match self.samples.place(&self.pairs, &key) {
-            Ok(i) => {
-                replace(&mut self.pairs, i, &key, value);
-                forget(&mut self.changes, key);
-                Ok(())
+        let place = self.samples.place(&self.pairs, &key);
+        set_at(&mut self.pairs, &mut self.changes, place, key, value)
+    }
+
+    // Adds to the number that a key has; nothing changes where it has none, or the sum doesn't fit.
+    fn add(&mut self, alloc: Global, key: Key, delta: i64) -> Result<(), AllocError>
+        ensures { OnOk result (self.new ≡ applied self.old (write_of key (Add delta))) }
+    {
+        let place = self.samples.place(&self.pairs, &key);
+        match sum(there(&self.pairs, &self.changes, place, &key), delta) {
+            Some(number) => {
+                let value = Value::of_number(alloc, number);
+                set_at(&mut self.pairs, &mut self.changes, place, key, value)
             }
-            Err(_) => note(&mut self.changes, key, Some(value)),
+            None => Ok(()),
         }
     }
 
@@ -122,6 +132,51 @@ impl Overlay {
                 Ok(())
             }
         }
+    }
+}
+
+// Sets the value of a key, whose pair is at this place, or which has none: in place, where it has one.
+fn set_at(
+    pairs: &mut Vec<(Key, Value)>,
+    changes: &mut BTreeMap<Key, Option<Value>>,
+    place: Result<usize, usize>,
+    key: Key,
+    value: Value,
+) -> Result<(), AllocError>
+    requires rise { KeysRise pairs.old.items }
+    requires at { IfOk place (IsAt pairs.old.items key) }
+    requires gap { IfErr place (IsGap pairs.old.items key) }
+    ensures rise { KeysRise pairs.new.items }
+    ensures set { OnOk result (overlaid (database_of pairs.new.items) changes.new.entries ≡ map.insert (overlaid (database_of pairs.old.items) changes.old.entries) key value) }
+{
+    match place {
+        Ok(i) => {
+            replace(pairs, i, &key, value);
+            forget(changes, key);
+            Ok(())
+        }
+        Err(_) => note(changes, key, Some(value)),
+    }
+}
+
+// What a key has, whose pair is at this place, or which has none.
+fn there<'a>(
+    pairs: &'a [(Key, Value)],
+    changes: &'a BTreeMap<Key, Option<Value>>,
+    place: Result<usize, usize>,
+    key: &Key,
+) -> Option<&'a Value>
+    requires rise { KeysRise pairs.now }
+    requires at { IfOk place (IsAt pairs.now key.now) }
+    requires gap { IfErr place (IsGap pairs.now key.now) }
+    ensures { option_copied result ≡ map.get (overlaid (database_of pairs.now) changes.now.entries) key.now }
+{
+    match changes.get(key) {
+        Some(content) => content.as_ref(),
+        None => match place {
+            Ok(i) => Some(&pairs[i].1),
+            Err(_) => None,
+        },
     }
 }
 

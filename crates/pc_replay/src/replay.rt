@@ -1,10 +1,12 @@
 //! Replay of a log, as the definition says it.
 ghost use Rattle.std.specs.Prelude.{◌≡◌, ◌≤◌, length, take, IfOk, OnOk, OnErr};
-ghost use Rattle.pc_model.specs.Database.{put, applied, applied_all};
+ghost use Rattle.pc_types.specs.declared.Change.TheVariants.{Add};
+ghost use Rattle.pc_model.specs.Maps as map;
+ghost use Rattle.pc_model.specs.Database.{put, applied, applied_all, write_of};
 ghost use Rattle.pc_model.specs.Log.{after, front, state_at};
 
 use crate::pairs::Pairs;
-use pc_types::{Entry, Key, Phase, Point, Value, Write};
+use pc_types::{Change, Entry, Key, Phase, Point, Value, Write, sum};
 use std::alloc::{AllocError, Global};
 
 /// Sets the key to the value, or removes it.
@@ -18,11 +20,7 @@ pub(crate) fn put(
     ensures err { OnErr result (pairs.new ≡ pairs.old) }
 {
     match content {
-        Some(value) => {
-            let key = key.copy(alloc)?;
-            let value = value.copy(alloc)?;
-            pairs.insert(key, value)
-        }
+        Some(value) => set(alloc, pairs, key, value),
         None => {
             pairs.remove(key);
             Ok(())
@@ -30,12 +28,43 @@ pub(crate) fn put(
     }
 }
 
+// Sets the key to a copy of the value.
+fn set(alloc: Global, pairs: &mut Pairs, key: &Key, value: &Value) -> Result<(), AllocError>
+    ensures ok { OnOk result (pairs.new ≡ map.insert pairs.old key.now value.now) }
+    ensures err { OnErr result (pairs.new ≡ pairs.old) }
+{
+    let key = key.copy(alloc)?;
+    let value = value.copy(alloc)?;
+    pairs.insert(key, value)
+}
+
 /// Applies one write.
 pub fn apply(alloc: Global, pairs: &mut Pairs, write: &Write) -> Result<(), AllocError>
     ensures ok { OnOk result (pairs.new ≡ applied pairs.old write.now) }
     ensures err { OnErr result (pairs.new ≡ pairs.old) }
 {
-    put(alloc, pairs, &write.key, &write.value)
+    match &write.change {
+        Change::Set(value) => set(alloc, pairs, &write.key, value),
+        Change::Remove => {
+            pairs.remove(&write.key);
+            Ok(())
+        }
+        Change::Add(delta) => add(alloc, pairs, &write.key, *delta),
+    }
+}
+
+// Adds to the number that the key has; nothing changes where it has none, or the sum doesn't fit.
+fn add(alloc: Global, pairs: &mut Pairs, key: &Key, delta: i64) -> Result<(), AllocError>
+    ensures ok { OnOk result (pairs.new ≡ applied pairs.old (write_of key.now (Add delta))) }
+    ensures err { OnErr result (pairs.new ≡ pairs.old) }
+{
+    match sum(pairs.get(key), delta) {
+        Some(number) => {
+            let key = key.copy(alloc)?;
+            pairs.insert(key, Value::of_number(alloc, number))
+        }
+        None => Ok(()),
+    }
 }
 
 // Applies the writes, in order.

@@ -1,15 +1,16 @@
 //! A database as a tree of keys: a look-up, a write and a removal cost a logarithm of its size.
-ghost use Rattle.std.specs.Prelude.{◌≡◌, ◌↔◌, IsTrue, Some, IfOk, OnOk};
+ghost use Rattle.std.specs.Prelude.{◌≡◌, ◌↔◌, IsTrue, Some, IfOk, OnOk, option_copied};
 ghost use Rattle.std.specs.List.{list_all};
 ghost use Rattle.std.specs.BTreeMap.{IsOrdered};
 ghost use Rattle.pc_model.specs.Maps as map;
-ghost use Rattle.pc_model.specs.Database.{key_cmp, database_of, put, applied_all};
+ghost use Rattle.pc_types.specs.declared.Change.TheVariants.{Add};
+ghost use Rattle.pc_model.specs.Database.{key_cmp, database_of, put, applied, applied_all, write_of};
 ghost use Rattle.pc_model.specs.Log.{after};
 ghost use Rattle.pc_model.specs.Files.{same_content};
 ghost use Rattle.pc_replay.specs.Laying.{laid_in_turn};
 ghost use Rattle.pc_replay.specs.Trees.{has_all};
 
-use pc_types::{Entry, Key, Point, Triple, Value, Write};
+use pc_types::{Change, Entry, Key, Point, Triple, Value, Write, sum};
 use std::alloc::{AllocError, Global};
 use std::collections::BTreeMap;
 use std::marker::Model;
@@ -93,9 +94,40 @@ impl Tree {
         ensures { OnOk result (self.new ≡ applied_all self.old writes.now) }
     {
         for write in writes {
-            self.put(alloc, &write.key, &write.value)?;
+            self.apply(alloc, write)?;
         }
         Ok(())
+    }
+
+    // Applies one write.
+    fn apply(&mut self, alloc: Global, write: &Write) -> Result<(), AllocError>
+        ensures { OnOk result (self.new ≡ applied self.old write.now) }
+    {
+        match &write.change {
+            Change::Set(value) => self.insert(write.key.copy(alloc)?, value.copy(alloc)?),
+            Change::Remove => {
+                self.remove(&write.key);
+                Ok(())
+            }
+            Change::Add(delta) => self.add(alloc, &write.key, *delta),
+        }
+    }
+
+    // Adds to the number that the key has; nothing changes where it has none, or the sum doesn't fit.
+    fn add(&mut self, alloc: Global, key: &Key, delta: i64) -> Result<(), AllocError>
+        ensures { OnOk result (self.new ≡ applied self.old (write_of key.now (Add delta))) }
+    {
+        match sum(self.get(key), delta) {
+            Some(number) => self.insert(key.copy(alloc)?, Value::of_number(alloc, number)),
+            None => Ok(()),
+        }
+    }
+
+    // The value of a key.
+    fn get(&self, key: &Key) -> Option<&Value>
+        ensures { option_copied result ≡ map.get self.now key.now }
+    {
+        self.pairs.get(key)
     }
 
     // Applies the commits of the log, in order.
@@ -145,7 +177,7 @@ impl Tree {
     fn has(&self, key: &Key, value: &Value) -> bool
         ensures { result ≡ same_content (Some value.now) (map.get self.now key.now) }
     {
-        match self.pairs.get(key) {
+        match self.get(key) {
             Some(there) => value.is(there),
             None => false,
         }

@@ -15,7 +15,7 @@ use Rattle.pc_types.specs.declared.Write.{Write}
 use Rattle.pc_model.specs.History.{History, Effect, effect_of, entries_by, log_of, writes_of}
 use Rattle.pc_model.specs.History.Effect.{Moves}
 use Rattle.pc_model.specs.Receipts.{receipts_by, own_of, receipt_of}
-use Rattle.pc_model.proofs.EffectCases.{begin_case, get_case, write_case, abort_case, move_case, take_case, done_case, join_case}
+use Rattle.pc_model.proofs.EffectCases.{begin_case, get_case, write_case, abort_case, move_case, take_case, done_case, join_case, add_case}
 use Rattle.pc_model.proofs.OwnCallLaws.{own_writes}
 use Rattle.pc_runs.specs.Worked.{commits_of}
 
@@ -72,6 +72,7 @@ module _ (s : ℕ) (h : History) (so_far : commits_of s (log_of h) ≡ written_i
   step (asked.Get t key) r = more _ (get_case Then refl t key r (λ answer counts. refl) refl refl)
   step (asked.Put t key value) r = more _ (write_case Then refl t key (Some value) r (λ counts. refl) refl refl)
   step (asked.Del t key) r = more _ (write_case Then refl t key None r (λ counts. refl) refl refl)
+  step (asked.Add t key delta) r = more _ (add_case Then refl t key delta r (λ sum counts. refl) refl refl)
   step (asked.Commit t) r = answered t r
   step (asked.Abort t) r = more _ (abort_case Then refl t r (λ counts. refl))
   step asked.StartPoint r = more _ (move_case Then refl r moved)

@@ -1,6 +1,6 @@
 -- A workload that was read has a session of the store for each client, and keeps it where its clients are dealt to workers.
 use Rattle.std.proofs.Common.{◌≡◌, ◌==◌, ◌≤◌, ◌+◌, ◌||◌, ◌&&◌, ℕ, zero, suc, Bool, true, false, List, [], ◌∷◌, ◌++◌, Option, Some, None, map, All, refl, ap, subst, ◌∙◌, arith}
-use Rattle.std.specs.Prelude.{⊤, codes, if◌then◌else◌, nat_eq, nat_le}
+use Rattle.std.specs.Prelude.{⊤, ℤ, codes, if◌then◌else◌, nat_eq, nat_le}
 use Rattle.std.specs.List.{AllByRecursion, IsDistinct}
 use Rattle.std.proofs.lemmas.Bool.Decides.{nat_tests}
 use Rattle.std.proofs.lemmas.List.Elements.{All-nil, All-cons, All-head, All-tail}
@@ -14,7 +14,7 @@ use Rattle.pc_jobs.specs.declared.phrases.TheConstants.{MOST_FILL, MOST_RUN_POIN
 use Rattle.pc_jobs.specs.declared.works.Client.{Client}
 use Rattle.pc_jobs.specs.declared.works.Workload.{Workload}
 use Rattle.pc_jobs.specs.declared.workloads.WorkloadReading.TheVariants as reading
-use Rattle.pc_jobs.specs.Phrases.{client_line, del_line, fill_line, get_line, key_of, number_within, points_line, prefix_of, put_line, spelled, spelled_by, two_words, value_of, within}
+use Rattle.pc_jobs.specs.Phrases.{add_line, client_line, del_line, fill_line, get_line, key_of, number_within, points_line, prefix_of, put_line, spelled, spelled_by, two_words, value_of, within}
 use Rattle.pc_jobs.specs.Workloads as workloads
 use Rattle.pc_model.specs.Replies.{Setting}
 use Rattle.pc_shared.specs.Sitters.{HasAll, Sitter, is_there, new_sitters, sitter}
@@ -166,6 +166,11 @@ put_range None value = tt
 put_range (Some k) None = tt
 put_range (Some k) (Some v) = tt
 
+add_range : (key : Option (List ℕ)) (delta : Option ℤ) → IsInRange (add_line key delta)
+add_range None delta = tt
+add_range (Some k) None = tt
+add_range (Some k) (Some d) = tt
+
 fill_range : (prefix : Option (List ℕ)) (count : Option ℕ) (value : Option (List ℕ)) → IsInRange (fill_line prefix count value)
 fill_range None count value = tt
 fill_range (Some p) None value = tt
@@ -183,7 +188,9 @@ words_range : (words : List (List ℕ)) → IsInRange (spelled_by words)
 words_range [] = tt
 words_range (verb ∷ []) = if_range (bytes_eq verb (codes "txn")) phrase.Begin _ tt (if_range (bytes_eq verb (codes "end")) phrase.End phrase.Malformed tt tt)
 words_range (verb ∷ word ∷ []) = two_range verb word
-words_range (verb ∷ key ∷ value ∷ []) = if_range (bytes_eq verb (codes "put")) (put_line (key_of key) (value_of value)) phrase.Malformed (put_range (key_of key) (value_of value)) tt
+words_range (verb ∷ key ∷ word ∷ []) =
+    if_range (bytes_eq verb (codes "put")) (put_line (key_of key) (value_of word)) _ (put_range (key_of key) (value_of word))
+    (if_range (bytes_eq verb (codes "add")) _ phrase.Malformed (add_range (key_of key) _) tt)
 words_range (verb ∷ prefix ∷ count ∷ value ∷ []) =
     if_range (bytes_eq verb (codes "fill")) (fill_line (prefix_of prefix) (number_within 1 MOST_FILL count) (value_of value)) phrase.Malformed
     (fill_range (prefix_of prefix) (number_within 1 MOST_FILL count) (value_of value)) tt

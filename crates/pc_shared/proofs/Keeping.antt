@@ -1,25 +1,26 @@
 -- What each call leaves a session with.
 use Rattle.std.proofs.Common.{◌≡◌, ℕ, Bool, true, false, true≢false, List, [], ◌∷◌, ◌++◌, map, refl, ap, sym, ◌∙◌}
-use Rattle.std.specs.Prelude.{Option, Some, None, is_some}
+use Rattle.std.specs.Prelude.{Option, Some, None, is_some, ℤ}
 use Rattle.std.proofs.lemmas.List.{map_push}
 use Rattle.pc_types.specs.declared.Event.{Event}
 use Rattle.pc_types.specs.declared.Event.TheVariants as asked
 use Rattle.pc_types.specs.declared.Reply.TheVariants as told
 use Rattle.pc_types.specs.declared.Receipt.{Receipt}
 use Rattle.pc_types.specs.declared.Step.{Step}
+use Rattle.pc_types.specs.declared.Change.TheVariants.{Add}
 use Rattle.pc_types.specs.declared.Write.{Write}
-use Rattle.pc_model.specs.Database.{with_write, written}
+use Rattle.pc_model.specs.Database.{change_to, write_of, with_write, written}
 use Rattle.pc_model.specs.History.{History}
 use Rattle.pc_model.specs.Replies.{Setting}
 use Rattle.pc_model.specs.Calls.{step_of, Extends}
 use Rattle.pc_model.specs.Receipts.{Read, with_read, Own, own, own_of, receipt_of}
 use Rattle.pc_model.proofs.OwnCallLaws.{own_open}
-use Rattle.pc_model.proofs.SessionCallLaws.{begun_own, found_own, absent_own, get_died_own, put_own, put_died_own, del_own, del_died_own, committed_own, aborted_own}
+use Rattle.pc_model.proofs.SessionCallLaws.{begun_own, found_own, absent_own, get_died_own, put_own, put_died_own, del_own, del_died_own, add_own, add_died_own, committed_own, aborted_own}
 use Rattle.pc_txn.specs.declared.got.Got.{Got}
 use Rattle.pc_txn.specs.declared.got.Got.TheVariants as got
 use Rattle.pc_txn.specs.Commits.{CommitNote, commit_note, notes_of}
 use Rattle.pc_txn.specs.Notes.{noting, reads_after, value_of}
-use Rattle.pc_shared.specs.Asked.{IsGot, IsWriteMade, write_event}
+use Rattle.pc_shared.specs.Asked.{IsGot, IsWriteMade, IsAdded, write_event}
 use Rattle.pc_shared.specs.Finds.{found_by, found_in}
 use Rattle.pc_shared.specs.Sitters.{SessionKeeps}
 
@@ -65,7 +66,7 @@ module _ (st : Setting) (n : ℕ) (before after : History) where
 
   -- the writes that it gives it after a write that was made, or whose request died
   abbrev writes_then : List ℕ → Option (List ℕ) → Bool → List Write
-  writes_then key content true = with_write o.writes (record { key = key; value = content })
+  writes_then key content true = with_write o.writes (write_of key (change_to content))
   writes_then key content false = o.writes
 
   made_own : (key : List ℕ) (content : Option (List ℕ)) (made : Bool) → IsWriteMade st before (write_event n key content) made after → own o.is_open (writes_then key content made) o.reads o.receipts ≡ own_of n after
@@ -73,6 +74,15 @@ module _ (st : Setting) (n : ℕ) (before after : History) where
   made_own key (Some value) false x = put_died_own st n before after o.is_open o.writes o.reads o.receipts refl key value x
   made_own key None true x = del_own st n before after o.is_open o.writes o.reads o.receipts refl key x
   made_own key None false x = del_died_own st n before after o.is_open o.writes o.reads o.receipts refl key x
+
+  -- and after an add
+  abbrev writes_added : List ℕ → ℤ → Option ℤ → List Write
+  writes_added key delta (Some sum) = with_write o.writes (write_of key (Add delta))
+  writes_added key delta None = o.writes
+
+  summed_own : (key : List ℕ) (delta : ℤ) (sum : Option ℤ) → IsAdded st before (asked.Add n key delta) sum after → own o.is_open (writes_added key delta sum) o.reads o.receipts ≡ own_of n after
+  summed_own key delta (Some sum) x = add_own st n before after o.is_open o.writes o.reads o.receipts refl key delta sum x
+  summed_own key delta None x = add_died_own st n before after o.is_open o.writes o.reads o.receipts refl key delta x
 
   -- but for commits no call gives it a receipt
   pub begun_receipts : (t : ℕ) → Extends st before (step_of (asked.Begin n) (told.Begun t)) after → (own_of n after).receipts ≡ o.receipts
@@ -83,6 +93,9 @@ module _ (st : Setting) (n : ℕ) (before after : History) where
 
   pub made_receipts : (key : List ℕ) (content : Option (List ℕ)) (made : Bool) → IsWriteMade st before (write_event n key content) made after → (own_of n after).receipts ≡ o.receipts
   made_receipts key content made x = ap (λ (o : Own). o.receipts) (sym (made_own key content made x))
+
+  pub summed_receipts : (key : List ℕ) (delta : ℤ) (sum : Option ℤ) → IsAdded st before (asked.Add n key delta) sum after → (own_of n after).receipts ≡ o.receipts
+  summed_receipts key delta sum x = ap (λ (o : Own). o.receipts) (sym (summed_own key delta sum x))
 
   pub aborted_receipts : Extends st before (step_of (asked.Abort n) told.Aborted) after → (own_of n after).receipts ≡ o.receipts
   aborted_receipts x = ap (λ (o : Own). o.receipts) (sym (aborted x))
@@ -108,6 +121,9 @@ module _ (st : Setting) (n : ℕ) (before after : History) where
     pub write_keeps : (key : List ℕ) (content : Option (List ℕ)) (made : Bool) → busy ≡ true → IsWriteMade st before (write_event n key content) made after → then ≡ busy → rs' ≡ rs → ks' ≡ ks → SessionKeeps then rs' ks' n after
     write_keeps key content made is x b r s = whole then rs' ks' (own o.is_open (writes_then key content made) o.reads o.receipts) n after (made_own key content made x) (b ∙ opened) (r ∙ k.while_busy is) (s ∙ k.of_commits)
 
+    pub add_keeps : (key : List ℕ) (delta : ℤ) (sum : Option ℤ) → busy ≡ true → IsAdded st before (asked.Add n key delta) sum after → then ≡ busy → rs' ≡ rs → ks' ≡ ks → SessionKeeps then rs' ks' n after
+    add_keeps key delta sum is x b r s = whole then rs' ks' (own o.is_open (writes_added key delta sum) o.reads o.receipts) n after (summed_own key delta sum x) (b ∙ opened) (r ∙ k.while_busy is) (s ∙ k.of_commits)
+
     pub commit_keeps : (number : ℕ) → busy ≡ true → Extends st before (step_of (asked.Commit n) (told.Committed number)) after → then ≡ false → ks' ≡ ks ++ commit_note number rs ∷ [] → SessionKeeps then rs' ks' n after
     commit_keeps number is x over s =
         let told : notes_of (o.receipts ++ receipt_of n number o ∷ []) ≡ notes_of o.receipts ++ commit_note number o.reads ∷ [] = map_push (λ (r : Receipt). commit_note r.number r.reads) o.receipts (receipt_of n number o) in
@@ -128,3 +144,7 @@ got_found st n before after key got.Died x = step_found st before after (step_of
 pub made_found : (st : Setting) (before after : History) (event : Event) (made : Bool) → IsWriteMade st before event made after → found_in after ≡ None
 made_found st before after event true x = step_found st before after (step_of event told.Ok) x
 made_found st before after event false x = step_found st before after (step_of event told.Died) x
+
+pub summed_found : (st : Setting) (before after : History) (event : Event) (sum : Option ℤ) → IsAdded st before event sum after → found_in after ≡ None
+summed_found st before after event (Some sum) x = step_found st before after (step_of event (told.Sum sum)) x
+summed_found st before after event None x = step_found st before after (step_of event told.Died) x

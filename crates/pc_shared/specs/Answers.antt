@@ -1,5 +1,5 @@
 -- How a session is told of what was answered.
-use Rattle.std.specs.Prelude.{◌≡◌, ℕ, Bool, true, false, List}
+use Rattle.std.specs.Prelude.{◌≡◌, ℕ, ℤ, Bool, true, false, List, Option, Some, None}
 use Rattle.pc_types.specs.declared.Event.{Event}
 use Rattle.pc_model.specs.History.{History}
 use Rattle.pc_model.specs.Replies.{Setting}
@@ -7,7 +7,7 @@ use Rattle.pc_txn.specs.declared.got.Got.{Got}
 use Rattle.pc_txn.specs.declared.got.Got.TheVariants as got
 use Rattle.pc_shared.specs.declared.session.CallAnswer.{CallAnswer}
 use Rattle.pc_shared.specs.declared.session.CallAnswer.TheVariants as answer
-use Rattle.pc_shared.specs.Asked.{IsGot, IsWriteMade}
+use Rattle.pc_shared.specs.Asked.{IsGot, IsWriteMade, IsAdded}
 
 -- a session's answer to a read
 abbrev pub answer_of : Got → CallAnswer
@@ -27,3 +27,12 @@ answer_to false = answer.Died
 -- what a session's write tells
 abbrev pub IsWriteAnswered : Setting → History → Event → CallAnswer → History → Type 0
 IsWriteAnswered st before event a after = (made : Bool) × (a ≡ answer_to made) × IsWriteMade st before event made after
+
+-- a session's answer to an add
+abbrev pub answer_to_add : Option ℤ → CallAnswer
+answer_to_add (Some sum) = answer.Sum sum
+answer_to_add None = answer.Died
+
+-- what a session's add tells
+abbrev pub IsAddAnswered : Setting → History → Event → CallAnswer → History → Type 0
+IsAddAnswered st before event a after = (sum : Option ℤ) × (a ≡ answer_to_add sum) × IsAdded st before event sum after

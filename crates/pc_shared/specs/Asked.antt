@@ -1,5 +1,5 @@
 -- What a session's calls were answered.
-use Rattle.std.specs.Prelude.{ℕ, Bool, true, false, List, Option, Some, None}
+use Rattle.std.specs.Prelude.{ℕ, ℤ, Bool, true, false, List, Option, Some, None}
 use Rattle.pc_types.specs.declared.Event.{Event}
 use Rattle.pc_types.specs.declared.Event.TheVariants as asked
 use Rattle.pc_types.specs.declared.Refusal.TheVariants as why
@@ -27,6 +27,11 @@ IsGot st before s key got.Died after = Extends st before (step_of (asked.Get s k
 abbrev pub IsWriteMade : Setting → History → Event → Bool → History → Type 0
 IsWriteMade st before event true after = Extends st before (step_of event told.Ok) after
 IsWriteMade st before event false after = Extends st before (step_of event told.Died) after
+
+-- an add gave this sum, or its request died
+abbrev pub IsAdded : Setting → History → Event → Option ℤ → History → Type 0
+IsAdded st before event (Some sum) after = Extends st before (step_of event (told.Sum sum)) after
+IsAdded st before event None after = Extends st before (step_of event told.Died) after
 
 -- the event that sets the key to the content, or removes it
 abbrev pub write_event : ℕ → List ℕ → Option (List ℕ) → Event

@@ -3,11 +3,11 @@ ghost use Rattle.std.specs.Prelude.{◌≡◌, ◌≢◌, true, is_some, IfOk, I
 ghost use Rattle.pc_model.specs.Database.{written};
 ghost use Rattle.pc_model.specs.History.{is_open};
 ghost use Rattle.pc_model.specs.Receipts.{own_of};
-ghost use Rattle.pc_types.specs.declared.Event.TheVariants.{Begin, Get, Put, Del, Commit, Abort};
+ghost use Rattle.pc_types.specs.declared.Event.TheVariants.{Begin, Get, Put, Del, Add, Commit, Abort};
 ghost use Rattle.pc_types.specs.declared.Reply.TheVariants.{Begun, Committed, Aborted, Refused};
 ghost use Rattle.pc_model.specs.Calls.{step_of, Extends, IsAnswered};
-ghost use Rattle.pc_shared.specs.Asked.{IsGot, IsWriteMade};
-ghost use Rattle.pc_shared.specs.Answers.{answer_of, answer_to};
+ghost use Rattle.pc_shared.specs.Asked.{IsGot, IsWriteMade, IsAdded};
+ghost use Rattle.pc_shared.specs.Answers.{answer_of, answer_to, answer_to_add};
 
 use crate::session::CallAnswer;
 use crate::store::Shared;
@@ -35,6 +35,16 @@ pub(crate) fn answer_to(made: bool) -> CallAnswer
         CallAnswer::Ok
     } else {
         CallAnswer::Died
+    }
+}
+
+// How a session is told of an add that gave this sum, or of one whose request died.
+pub(crate) fn answer_to_add(sum: Option<i64>) -> CallAnswer
+    ensures { result ≡ answer_to_add sum }
+{
+    match sum {
+        Some(sum) => CallAnswer::Sum(sum),
+        None => CallAnswer::Died,
     }
 }
 
@@ -147,6 +157,31 @@ impl<N: StoreName> Shared<N> {
         match reply {
             Reply::Ok => Ok(true),
             Reply::Died => Ok(false),
+            Reply::Refused(why) => Err(why),
+            _ => unreachable!(),
+        }
+    }
+
+    // Adds to the number that the key has, and gives the sum; None where the request died.
+    pub(crate) fn add_as<R: Wait>(
+        &self,
+        rt: &R,
+        seat: &mut SessionSeat<N>,
+        key: Key,
+        delta: i64,
+    ) -> Result<Option<i64>, Refusal>
+        ensures number { seat.new.number ≡ seat.old.number }
+        ensures call { IfOk result (λ sum. IsAdded N.name.setting seat.old.seen (Add seat.old.number key delta) sum seat.new.seen) }
+        ensures refused { IfErr result (λ why. IsAnswered N.name.setting seat.old.number seat.old.seen (Add seat.old.number key delta) (Refused why)) }
+        ensures no_wait { IfErr result (λ why. why ≢ Refusal.StillWaiting) }
+        ensures same { OnErr result (seat.new.seen ≡ seat.old.seen) }
+    {
+        let mut step = asking(Event::Add(seat.number(), key, delta));
+        self.step_as(rt, seat, &mut step, true);
+        let Step { event: _, reply } = step;
+        match reply {
+            Reply::Sum(sum) => Ok(Some(sum)),
+            Reply::Died => Ok(None),
             Reply::Refused(why) => Err(why),
             _ => unreachable!(),
         }

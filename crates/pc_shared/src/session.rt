@@ -1,18 +1,18 @@
 //! Sessions, and their calls.
 ghost use Rattle.std.specs.Prelude.{◌≡◌, ◌≢◌, ◌∷◌, ◌++◌, [], true, false, Some, None, IfOk, IfErr, OnErr, option_copied, slice_get};
 ghost use Rattle.pc_types.specs.declared.Event.{Event};
-ghost use Rattle.pc_types.specs.declared.Event.TheVariants.{Begin, Get, Put, Del, Commit, Abort};
+ghost use Rattle.pc_types.specs.declared.Event.TheVariants.{Begin, Get, Put, Del, Add, Commit, Abort};
 ghost use Rattle.pc_types.specs.declared.Reply.TheVariants.{Begun, Committed, Aborted, Refused};
 ghost use Rattle.pc_model.specs.History.{is_open};
 ghost use Rattle.pc_model.specs.Calls.{step_of, Extends, IsAnswered, AsksOpen};
 ghost use Rattle.pc_model.specs.Receipts.{own_of, receipt_of};
 ghost use Rattle.pc_kept_log.specs.Logs.{entries_of};
 ghost use Rattle.pc_txn.specs.Commits.{notes_of};
-ghost use Rattle.pc_shared.specs.Answers.{IsRead, IsWriteAnswered};
+ghost use Rattle.pc_shared.specs.Answers.{IsRead, IsWriteAnswered, IsAddAnswered};
 ghost use Rattle.pc_shared.specs.Finds.{found_in};
 ghost use Rattle.pc_shared.specs.Lent.{AreLentBy};
 
-use crate::asks::{answer_of, answer_to};
+use crate::asks::{answer_of, answer_to, answer_to_add};
 use crate::store::Shared;
 use pc_kept_log::{LentWrites, Log};
 use pc_tie::{SessionSeat, StoreName};
@@ -30,6 +30,8 @@ pub enum CallAnswer {
     Absent,
     /// The write was made.
     Ok,
+    /// The add was made, and the key has this number now.
+    Sum(i64),
     /// The request of the key's lock died; the transaction accepts only an abort.
     Died,
 }
@@ -243,6 +245,36 @@ impl<N: StoreName> Shared<N> {
         };
         session.work.find_nothing();
         Ok(answer_to(made))
+    }
+
+    /// The session's transaction adds to the number that the key has, or to 0 where it has no value, once its lock is granted, and
+    /// is told the sum; or the request died. It waits as `put` does. An add is no read of the receipt. Refusals are those of `put`,
+    /// and before `OutOfMemory`, where the lock would be granted: `NotNumber` where the key has a value that has not eight bytes,
+    /// and `OutOfRange` where the sum, or that of all that the transaction has added to the key, leaves 64 bits. None makes a
+    /// request.
+    pub fn add<R: Wait>(
+        &self,
+        rt: &R,
+        session: &mut Session<N>,
+        key: Key,
+        delta: i64,
+    ) -> Result<CallAnswer, Refusal>
+        ensures number { session.new.number ≡ session.old.number }
+        ensures receipts { session.new.receipts ≡ session.old.receipts }
+        ensures call { IfOk result (λ answer. IsAddAnswered N.name.setting session.old.seen (Add session.old.number key delta) answer session.new.seen) }
+        ensures refused { IfErr result (λ why. IsAnswered N.name.setting session.old.number session.old.seen (Add session.old.number key delta) (Refused why)) }
+        ensures no_wait { IfErr result (λ why. why ≢ Refusal.StillWaiting) }
+        ensures same { OnErr result (session.new ≡ session.old) }
+    {
+        if !session.work.busy {
+            return Err(told_idle(&session.seat));
+        }
+        let sum = match self.add_as(rt, &mut session.seat, key, delta) {
+            Ok(sum) => sum,
+            Err(why) => return Err(why),
+        };
+        session.work.find_nothing();
+        Ok(answer_to_add(sum))
     }
 
     /// The session's transaction commits, and the session has its receipt: the number of its entry in the log, and what it has

@@ -3,6 +3,7 @@ use Rattle.std.specs.Prelude.{ℕ, ◌/◌, ◌%◌, ◌==◌, Bool, List, [], �
 use Rattle.std.specs.List.{flat_map}
 use Rattle.std.specs.Str.{bytes_eq}
 use Rattle.std.specs.Char.{digit_char}
+use Rattle.std.specs.Fmt.{signed_decimal}
 use Rattle.pc_types.specs.Names.{name_of}
 use Rattle.pc_types.specs.declared.Phase.{Phase}
 use Rattle.pc_types.specs.declared.Phase.TheVariants as phase
@@ -58,6 +59,7 @@ reply_text (told.Begun txn) = codes "begun " ++ decimal txn
 reply_text (told.Found value) = codes "= " ++ printed value
 reply_text told.Absent = codes "absent"
 reply_text told.Ok = codes "ok"
+reply_text (told.Sum sum) = codes "sum " ++ signed_decimal sum
 reply_text told.Wait = codes "wait"
 reply_text told.Died = codes "died"
 reply_text (told.Committed lsn) = codes "committed " ++ decimal lsn

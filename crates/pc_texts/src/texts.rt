@@ -2,6 +2,7 @@
 ghost use Rattle.std.specs.Prelude.{◌≡◌, ◌<◌, ◌++◌, List, ℕ, codes, decimal};
 ghost use Rattle.std.specs.List.{flat_map};
 ghost use Rattle.std.specs.Char.{digit_char};
+ghost use Rattle.std.specs.Fmt.{signed_decimal};
 ghost use Rattle.pc_types.specs.Tallies.{Puts};
 ghost use Rattle.pc_model.specs.Ranges.{ranges_of};
 ghost use Rattle.pc_texts.specs.Texts.{printed_byte, printed, printed_value, phase_name, range_text, ranges_text, refusal_text, reply_text, pair_text, state_head, state_text, hex_byte, hex_line, check_line, file_line, joined_line, collapsed_line};
@@ -21,6 +22,7 @@ pub fn put_reply<W: Write>(out: &mut Tally<W>, reply: &Reply) -> Result<(), Refu
         Reply::Found(value) => put_named(out, b"= ", value.as_bytes()),
         Reply::Absent => out.put(b"absent"),
         Reply::Ok => out.put(b"ok"),
+        Reply::Sum(sum) => put_sum(out, *sum),
         Reply::Wait => out.put(b"wait"),
         Reply::Died => out.put(b"died"),
         Reply::Committed(lsn) => put_number(out, b"committed ", u64::from(lsn.0)),
@@ -48,6 +50,14 @@ fn put_number<W: Write>(out: &mut Tally<W>, word: &[u8], number: u64) -> Result<
 {
     let mut buffer = Buffer::new();
     out.put_all(&[word, buffer.format(number).as_bytes()])
+}
+
+// A sum, with a minus where it is below 0.
+fn put_sum<W: Write>(out: &mut Tally<W>, sum: i64) -> Result<(), Refusal>
+    ensures { Puts W.contents out.old out.new result (codes "sum " ++ signed_decimal sum) }
+{
+    let mut buffer = Buffer::new();
+    out.put_all(&[b"sum ", buffer.format(sum).as_bytes()])
 }
 
 // A word and the printed form of some bytes.

@@ -1,16 +1,17 @@
 -- What a write or a read that is noted leaves.
-use Rattle.std.proofs.Common.{◌≡◌, ℕ, List, [], ◌∷◌, ◌++◌, length, set, get_or, Some, Result, Ok, Err, IfOk, IfErr, is_ok, is_some, slice_get, Option, refl, sym, ap, subst, ◌∙◌, cond, Bool, true, false, ◌||◌}
+use Rattle.std.proofs.Common.{◌≡◌, ℕ, List, [], ◌∷◌, ◌++◌, length, get_or, Some, None, Result, Ok, Err, IfOk, IfErr, is_ok, is_some, slice_get, Option, refl, sym, ap, subst, ◌∙◌, cond, Bool, true, false}
 use Rattle.std.specs.Prelude.{insert}
 use Rattle.std.proofs.lemmas.List.{map_push, length-map}
+use Rattle.pc_types.specs.declared.Change.{Change}
 use Rattle.pc_types.specs.declared.Write.{Write}
 use Rattle.pc_model.specs.Database.{with_write, written}
 use Rattle.pc_model.specs.Places.{IsAt, IsGap}
 use Rattle.pc_model.specs.Receipts.{Read, is_read}
 use Rattle.pc_txn.specs.Notes.{noting}
 use Rattle.pc_txn.specs.Orders.{place_of, entries, IsOrder}
-use Rattle.pc_txn.specs.Sets.{written_keys, read_keys}
+use Rattle.pc_txn.specs.Sets.{written_keys, read_keys, change_at, merged_at}
 use Rattle.pc_txn.proofs.Orders.{found_place, nowhere, order_added}
-use Rattle.pc_txn.proofs.Written.{written_again, written_first, same_keys, has_written, has_read}
+use Rattle.pc_txn.proofs.Written.{written_again, written_first, written_at, same_keys, has_written, has_read}
 
 -- whether a search found the key is whether the key has a place
 tells : (keys : List (List ℕ)) (order : List ℕ) (key : List ℕ) (r : Result ℕ ℕ) → IsOrder keys order → IfOk r (IsAt (entries keys order) key) → IfErr r (IsGap (entries keys order) key) → is_ok r ≡ is_some (place_of keys key)
@@ -24,7 +25,7 @@ pub tells_read : (rs : List Read) (order : List ℕ) (key : List ℕ) (r : Resul
 tells_read rs order key r sorted at gap = tells (read_keys rs) order key r sorted at gap ∙ has_read rs key
 
 -- a write of a key that is written
-module _ (ws new : List Write) (order : List ℕ) (w : Write) (at : ℕ) (sorted : IsOrder (written_keys ws) order) (there : IsAt (entries (written_keys ws) order) w.key at) (is : new ≡ set ws (get_or order at 0) w) where
+module _ (ws new : List Write) (order : List ℕ) (w : Write) (at : ℕ) (sorted : IsOrder (written_keys ws) order) (there : IsAt (entries (written_keys ws) order) w.key at) (is : new ≡ merged_at ws (get_or order at 0) w.change) where
   place : place_of (written_keys ws) w.key ≡ Some (get_or order at 0)
   place = found_place (written_keys ws) order w.key at sorted there
 
@@ -32,7 +33,18 @@ module _ (ws new : List Write) (order : List ℕ) (w : Write) (at : ℕ) (sorted
   noted_again = is ∙ sym (written_again ws w (get_or order at 0) place)
 
   pub order_again : IsOrder (written_keys new) order
-  order_again = subst (λ keys. IsOrder keys order) (sym (ap written_keys is ∙ same_keys ws w (get_or order at 0) place)) sorted
+  order_again = subst (λ keys. IsOrder keys order) (sym (ap written_keys is ∙ same_keys ws (get_or order at 0) w.change)) sorted
+
+-- what is written of a key that was found, or was not
+pub found_change : (ws : List Write) (order : List ℕ) (key : List ℕ) (at : ℕ) → IsOrder (written_keys ws) order → IsAt (entries (written_keys ws) order) key at → written ws key ≡ change_at ws (get_or order at 0)
+found_change ws order key at sorted there = written_at ws key (get_or order at 0) (found_place (written_keys ws) order key at sorted there)
+
+pub no_change : (ws : List Write) (order : List ℕ) (key : List ℕ) (at : ℕ) → IsOrder (written_keys ws) order → IsGap (entries (written_keys ws) order) key at → written ws key ≡ None
+no_change ws order key at sorted gap = not_some (written ws key) (sym (has_written ws key) ∙ ap is_some (nowhere (written_keys ws) order key at sorted gap))
+  where
+    not_some : (o : Option Change) → is_some o ≡ false → o ≡ None
+    not_some None e = refl
+    not_some (Some c) e = cc
 
 -- a first write of a key
 module _ (ws new : List Write) (order after : List ℕ) (w : Write) (at n : ℕ) (sorted : IsOrder (written_keys ws) order) (gap : IsGap (entries (written_keys ws) order) w.key at) (count : n ≡ length ws) (put_in : after ≡ insert order at n) (is : new ≡ ws ++ w ∷ []) where

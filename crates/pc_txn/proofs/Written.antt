@@ -1,18 +1,19 @@
 -- Writes and reads by the places of their keys.
-use Rattle.std.proofs.Common.{◌≡◌, ℕ, zero, suc, ◌<◌, List, [], ◌∷◌, ◌++◌, length, set, Option, Some, None, option_map, is_some, refl, sym, ap, ◌∙◌, arith, cond, Bool, true, false, ◌||◌}
+use Rattle.std.proofs.Common.{◌≡◌, ℕ, zero, suc, ◌<◌, List, [], ◌∷◌, ◌++◌, length, set, get_or, Option, Some, None, option_map, is_some, refl, ap, ◌∙◌, arith, cond, Bool, true, false, ◌||◌}
 use Rattle.pc_types.specs.declared.Write.{Write}
-use Rattle.pc_model.specs.Database.{same_bytes, with_write, written}
-use Rattle.pc_model.proofs.JoinLaws.{one_key}
+use Rattle.pc_types.specs.declared.Change.{Change}
+use Rattle.pc_types.specs.Changes.{merged}
+use Rattle.pc_model.specs.Database.{same_bytes, write_of, with_write, written}
 use Rattle.pc_model.specs.Receipts.{Read, is_read}
 use Rattle.pc_txn.specs.Orders.{place_of}
-use Rattle.pc_txn.specs.Sets.{written_keys, read_keys}
+use Rattle.pc_txn.specs.Sets.{written_keys, read_keys, change_at, merged_at}
 
--- a write of a key that has a place goes there
-pub written_again : (ws : List Write) (w : Write) (i : ℕ) → place_of (written_keys ws) w.key ≡ Some i → with_write ws w ≡ set ws i w
+-- a write of a key that has a place is merged there
+pub written_again : (ws : List Write) (w : Write) (i : ℕ) → place_of (written_keys ws) w.key ≡ Some i → with_write ws w ≡ merged_at ws i w.change
 written_again [] w i h = absurd cc
 written_again (v ∷ vs) w i h = by_test (same_bytes v.key w.key) (place_of (written_keys vs) w.key) i (written_again vs w) h
   where
-    by_test : (b : Bool) (o : Option ℕ) (i : ℕ) → ((j : ℕ) → o ≡ Some j → with_write vs w ≡ set vs j w) → cond b (Some 0) (option_map suc o) ≡ Some i → cond b (w ∷ vs) (v ∷ with_write vs w) ≡ set (v ∷ vs) i w
+    by_test : (b : Bool) (o : Option ℕ) (i : ℕ) → ((j : ℕ) → o ≡ Some j → with_write vs w ≡ merged_at vs j w.change) → cond b (Some 0) (option_map suc o) ≡ Some i → cond b (write_of v.key (merged v.change w.change) ∷ vs) (v ∷ with_write vs w) ≡ merged_at (v ∷ vs) i w.change
     by_test true o zero same h = refl
     by_test true o (suc i) same h = let is : 0 ≡ suc i = cc in absurd (omega arith)
     by_test false None i same h = absurd cc
@@ -24,22 +25,34 @@ pub written_first : (ws : List Write) (w : Write) → place_of (written_keys ws)
 written_first [] w h = refl
 written_first (v ∷ vs) w h = by_test (same_bytes v.key w.key) (place_of (written_keys vs) w.key) (written_first vs w) h
   where
-    by_test : (b : Bool) (o : Option ℕ) → (o ≡ None → with_write vs w ≡ vs ++ w ∷ []) → cond b (Some 0) (option_map suc o) ≡ None → cond b (w ∷ vs) (v ∷ with_write vs w) ≡ v ∷ vs ++ w ∷ []
+    by_test : (b : Bool) (o : Option ℕ) → (o ≡ None → with_write vs w ≡ vs ++ w ∷ []) → cond b (Some 0) (option_map suc o) ≡ None → cond b (write_of v.key (merged v.change w.change) ∷ vs) (v ∷ with_write vs w) ≡ v ∷ vs ++ w ∷ []
     by_test true o same h = absurd cc
     by_test false None same h = ap (λ rest. v ∷ rest) (same refl)
     by_test false (Some j) same h = absurd cc
 
--- a write in the place of one of its key leaves the keys
-pub same_keys : (ws : List Write) (w : Write) (i : ℕ) → place_of (written_keys ws) w.key ≡ Some i → written_keys (set ws i w) ≡ written_keys ws
-same_keys [] w i h = absurd cc
-same_keys (v ∷ vs) w i h = by_test (same_bytes v.key w.key) refl (place_of (written_keys vs) w.key) i (same_keys vs w) h
+-- a change that is merged with another leaves the keys
+pub same_keys : (ws : List Write) (i : ℕ) (later : Change) → written_keys (merged_at ws i later) ≡ written_keys ws
+same_keys [] i later = refl
+same_keys (v ∷ vs) zero later = refl
+same_keys (v ∷ vs) (suc i) later = ap (λ ks. v.key ∷ ks) (same_keys vs i later)
+
+-- what is written of a key that has a place stands there
+pub written_at : (ws : List Write) (key : List ℕ) (i : ℕ) → place_of (written_keys ws) key ≡ Some i → written ws key ≡ change_at ws i
+written_at [] key i h = absurd cc
+written_at (v ∷ vs) key i h = by_test (same_bytes v.key key) (place_of (written_keys vs) key) i (written_at vs key) h
   where
-    by_test : (b : Bool) → same_bytes v.key w.key ≡ b → (o : Option ℕ) (i : ℕ) → ((j : ℕ) → o ≡ Some j → written_keys (set vs j w) ≡ written_keys vs) → cond b (Some 0) (option_map suc o) ≡ Some i → written_keys (set (v ∷ vs) i w) ≡ v.key ∷ written_keys vs
-    by_test true e o zero same h = ap (λ k. k ∷ written_keys vs) (sym (one_key v.key w.key e))
-    by_test true e o (suc i) same h = let is : 0 ≡ suc i = cc in absurd (omega arith)
-    by_test false e None i same h = absurd cc
-    by_test false e (Some j) zero same h = let is : suc j ≡ 0 = cc in absurd (omega arith)
-    by_test false e (Some j) (suc i) same h = let is : suc j ≡ suc i = cc in ap (λ ks. v.key ∷ ks) (same i (ap (λ n. Some n) (omega arith)))
+    by_test : (b : Bool) (o : Option ℕ) (i : ℕ) → ((j : ℕ) → o ≡ Some j → written vs key ≡ change_at vs j) → cond b (Some 0) (option_map suc o) ≡ Some i → cond b (Some v.change) (written vs key) ≡ change_at (v ∷ vs) i
+    by_test true o zero same h = refl
+    by_test true o (suc i) same h = let is : 0 ≡ suc i = cc in absurd (omega arith)
+    by_test false None i same h = absurd cc
+    by_test false (Some j) zero same h = let is : suc j ≡ 0 = cc in absurd (omega arith)
+    by_test false (Some j) (suc i) same h = let is : suc j ≡ suc i = cc in same i (ap (λ n. Some n) (omega arith))
+
+-- the write that was put at a place is the merged one
+pub set_merged : (ws : List Write) (i : ℕ) (w : Write) (later : Change) → i < length ws → w ≡ get_or ws i w → set ws i (write_of w.key (merged w.change later)) ≡ merged_at ws i later
+set_merged [] i w later below is = absurd (omega arith)
+set_merged (v ∷ vs) zero w later below is = ap (λ (u : Write). write_of u.key (merged u.change later) ∷ vs) is
+set_merged (v ∷ vs) (suc i) w later below is = ap (λ rest. v ∷ rest) (set_merged vs i w later (omega arith) is)
 
 -- a place is within the list
 pub place_within : (keys : List (List ℕ)) (key : List ℕ) (i : ℕ) → place_of keys key ≡ Some i → i < length keys
@@ -60,7 +73,7 @@ pub has_written : (ws : List Write) (key : List ℕ) → is_some (place_of (writ
 has_written [] key = refl
 has_written (w ∷ ws) key = by_test (same_bytes w.key key) (has_written ws key)
   where
-    by_test : (b : Bool) → is_some (place_of (written_keys ws) key) ≡ is_some (written ws key) → is_some (cond b (Some 0) (option_map suc (place_of (written_keys ws) key))) ≡ is_some (cond b (Some w.value) (written ws key))
+    by_test : (b : Bool) → is_some (place_of (written_keys ws) key) ≡ is_some (written ws key) → is_some (cond b (Some 0) (option_map suc (place_of (written_keys ws) key))) ≡ is_some (cond b (Some w.change) (written ws key))
     by_test true behind = refl
     by_test false behind = later (place_of (written_keys ws) key) ∙ behind
 

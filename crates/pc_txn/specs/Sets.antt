@@ -1,6 +1,9 @@
 -- What one transaction has written and read.
-use Rattle.std.specs.Prelude.{ℕ, List, map}
+use Rattle.std.specs.Prelude.{ℕ, zero, suc, List, [], ◌∷◌, map, Option, option_map, slice_get}
+use Rattle.pc_types.specs.declared.Change.{Change}
 use Rattle.pc_types.specs.declared.Write.{Write}
+use Rattle.pc_types.specs.Changes.{merged}
+use Rattle.pc_model.specs.Database.{write_of}
 use Rattle.pc_model.specs.Receipts.{Read}
 
 -- items in their order, and how many more there is room for
@@ -11,6 +14,16 @@ pub record Roomy (X : Type 0) : Type 0 where
 -- the keys that are written
 abbrev pub written_keys : List Write → List (List ℕ)
 written_keys writes = map (λ w. w.key) writes
+
+-- the change of the write at the place
+abbrev pub change_at : List Write → ℕ → Option Change
+change_at writes place = option_map (λ (w : Write). w.change) (slice_get writes place)
+
+-- the writes once a later change is merged with the one at the place
+abbrev pub merged_at : List Write → ℕ → Change → List Write
+merged_at [] place later = []
+merged_at (w ∷ ws) zero later = write_of w.key (merged w.change later) ∷ ws
+merged_at (w ∷ ws) (suc place) later = w ∷ merged_at ws place later
 
 -- the keys that are read
 abbrev pub read_keys : List Read → List (List ℕ)

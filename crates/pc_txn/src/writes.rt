@@ -1,10 +1,11 @@
-//! A write set: the final write of each key.
-ghost use Rattle.std.specs.Prelude.{◌≡◌, ◌<◌, ◌≤◌, ◌+◌, ◌==◌, ◌&&◌, ◌++◌, [], length, slice_set, is_none, is_some, IsOk, OnOk, IfOk, IfErr, vec_len, vec_capacity};
+//! A write set: of each key all its changes, as one.
+ghost use Rattle.std.specs.Prelude.{◌≡◌, ◌<◌, ◌≤◌, ◌+◌, ◌==◌, ◌&&◌, ◌++◌, [], length, is_none, is_some, IsOk, OnOk, IfOk, IfErr, vec_len, vec_capacity};
 ghost use Rattle.pc_model.specs.Database.{key_cmp, with_write, written};
 ghost use Rattle.pc_model.specs.DistinctWrites.{AreDistinct};
 ghost use Rattle.pc_model.specs.Places.{IsAt, IsGap};
 ghost use Rattle.pc_txn.specs.Orders.{key_at, entries, IsOrder};
-ghost use Rattle.pc_txn.specs.Sets.{Roomy, written_keys};
+ghost use Rattle.pc_txn.specs.Sets.{Roomy, written_keys, change_at, merged_at};
+ghost use Rattle.pc_types.specs.Changes.{can_add, CanMerge};
 
 use crate::order;
 use pc_types::{Key, MOST_WRITES, Write};
@@ -12,8 +13,8 @@ use std::alloc::{AllocError, Global};
 use std::cmp::Ordering;
 use std::marker::Model;
 
-/// What one transaction has written: the final write of each key, in the order of first writes. A key is found by a search
-/// by halves.
+/// What one transaction has written: of each key all its changes as one, in the order of first writes. A key is found by a
+/// search by halves.
 #[derive(Drop)]
 pub struct WriteSet {
     writes: Vec<Write>,
@@ -45,7 +46,7 @@ impl WriteSet {
         }
     }
 
-    /// The final write of each key, in the order of first writes.
+    /// The writes: of each key one, in the order of first writes.
     pub fn as_slice(&self) -> &[Write]
         ensures writes { result.now ≡ self.now.items }
         ensures distinct { AreDistinct result.now }
@@ -85,14 +86,25 @@ impl WriteSet {
         Ok(())
     }
 
-    /// Notes a write, for which there is room: in the place of the earlier write of its key, or else at the end. It takes
-    /// no memory.
-    pub fn note(&mut self, write: Write)
-        requires { 0 < self.old.room }
+    /// Whether an add to the key can be kept as one change with what is already written of it: the sum of two adds must have
+    /// 64 bits.
+    pub fn can_add(&self, key: &Key, delta: i64) -> bool
+        ensures { result ≡ can_add (written self.now.items key.now) delta }
+    {
+        match position(self.writes.as_slice(), self.order.as_slice(), key) {
+            Ok(at) => can_add_at(self.writes.as_slice(), self.order.as_slice()[at], delta),
+            Err(_) => true,
+        }
+    }
+
+    /// Notes a write, for which there is room: merged with the earlier write of its key, or else at the end. It takes no memory.
+    pub fn note(&mut self, alloc: Global, write: Write)
+        requires room { 0 < self.old.room }
+        requires merges { CanMerge (written self.old.items write.key) write.change }
         ensures { self.new.items ≡ with_write self.old.items write }
     {
         match position(self.writes.as_slice(), self.order.as_slice(), &write.key) {
-            Ok(at) => replace(&mut self.writes, self.order.as_slice()[at], write),
+            Ok(at) => merge_at(alloc, &mut self.writes, self.order.as_slice()[at], write),
             Err(at) => {
                 order::add(&mut self.order, at, self.writes.len());
                 self.writes.push_reserved(write);
@@ -144,10 +156,19 @@ fn position(writes: &[Write], order: &[usize], key: &Key) -> Result<usize, usize
     order.binary_search_by(|place| compare_at(writes, *place, key))
 }
 
-// Puts the write in the place of another.
-fn replace(writes: &mut Vec<Write>, place: usize, write: Write)
-    requires { place < length writes.old.items }
-    ensures { writes.new.items ≡ slice_set writes.old.items place write }
+// Whether an add can be kept as one change with the write at the place.
+fn can_add_at(writes: &[Write], place: usize, delta: i64) -> bool
+    requires { place < length writes.now }
+    ensures { result ≡ can_add (change_at writes.now place) delta }
 {
-    writes[place] = write;
+    writes[place].change.can_add(delta)
+}
+
+// A later write of its key is merged with the write at the place.
+fn merge_at(alloc: Global, writes: &mut Vec<Write>, place: usize, later: Write)
+    requires place { place < length writes.old.items }
+    requires merges { CanMerge (change_at writes.old.items place) later.change }
+    ensures { writes.new.items ≡ merged_at writes.old.items place later.change }
+{
+    writes[place].change.merge(alloc, later.change);
 }

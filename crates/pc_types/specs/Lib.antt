@@ -6,3 +6,4 @@ pub mod Tallies
 pub mod Phases
 pub mod FieldForms
 pub mod Heads
+pub mod Changes

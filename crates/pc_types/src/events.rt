@@ -2,11 +2,12 @@
 ghost use Rattle.std.specs.Prelude.{◌≡◌, IfOk};
 ghost use Rattle.pc_types.specs.Phases.{same_phase};
 
+use crate::changes::Write;
 use crate::keys::Key;
 use crate::lists::Items;
 use crate::numbers::{FileNo, Lsn, Point, SessionNo, TxnNo};
 use crate::refusal::Refusal;
-use crate::values::{Value, copy_content};
+use crate::values::Value;
 use std::alloc::{AllocError, Global};
 
 /// The five phases of a checkpoint's cycle, in their order; rest stands between two cycles.
@@ -37,24 +38,6 @@ pub enum Class {
     During,
     /// It began in resolve or capture.
     After,
-}
-
-/// A write of one key: a value, or absence.
-#[derive(Drop)]
-pub struct Write {
-    pub key: Key,
-    pub value: Option<Value>,
-}
-
-impl Write {
-    /// The same write once more. It fails only where memory ran out.
-    pub fn copy(&self, alloc: Global) -> Result<Write, AllocError>
-        ensures { IfOk result (λ write. write ≡ self.now) }
-    {
-        let key = self.key.copy(alloc)?;
-        let value = copy_content(alloc, &self.value)?;
-        Ok(Write { key, value })
-    }
 }
 
 /// An entry of the log.
@@ -103,6 +86,8 @@ pub enum Event {
     Put(SessionNo, Key, Value),
     /// The session's transaction removes the key.
     Del(SessionNo, Key),
+    /// The session's transaction adds this to the number that the key has, or to 0 where it has no value.
+    Add(SessionNo, Key, i64),
     /// The session's transaction commits.
     Commit(SessionNo),
     /// The session's transaction ends without effect.
@@ -134,6 +119,8 @@ pub enum Reply {
     Absent,
     /// Put and Del, also of a key that has no value.
     Ok,
+    /// Add: the key has this number now.
+    Sum(i64),
     /// The lock request waits; the same event is asked again later.
     Wait,
     /// The lock request died; the transaction accepts only Abort.

@@ -2,6 +2,7 @@
 //! and readers and writers whose failures are counted.
 #![tactic(auto)]
 
+mod changes;
 mod events;
 mod fields;
 mod gate;
@@ -18,7 +19,8 @@ mod tally;
 mod triples;
 mod values;
 
-pub use events::{Class, Entry, Event, Phase, Reply, Step, Write};
+pub use changes::{Change, Write, is_number, sum};
+pub use events::{Class, Entry, Event, Phase, Reply, Step};
 pub use fields::{
     read_bytes, read_content, read_key, read_magic, read_sized_key, read_u16, read_u32, read_u64,
     read_value,

@@ -1,5 +1,5 @@
 //! What a session keeps of a commit.
-use crate::events::Write;
+use crate::changes::Write;
 use crate::keys::Key;
 use crate::lists::Items;
 use crate::numbers::{Lsn, SessionNo};

@@ -47,6 +47,10 @@ pub enum Refusal {
     ShelfFull,
     /// The session's request still waits.
     StillWaiting,
+    /// An add to a key whose value has not eight bytes.
+    NotNumber,
+    /// An add whose sum, or the sum of all that the transaction has added to the key, leaves 64 bits.
+    OutOfRange,
     /// The bytes end inside a field.
     Short,
     /// The first 8 bytes are there and aren't the magic.
@@ -93,6 +97,8 @@ impl Refusal {
             Refusal::Gap(_) => "Gap",
             Refusal::ShelfFull => "ShelfFull",
             Refusal::StillWaiting => "StillWaiting",
+            Refusal::NotNumber => "NotNumber",
+            Refusal::OutOfRange => "OutOfRange",
             Refusal::Short => "Short",
             Refusal::BadMagic => "BadMagic",
             Refusal::BadRanges => "BadRanges",
@@ -127,6 +133,8 @@ impl Refusal {
             Refusal::Gap(_) => "a point is not covered",
             Refusal::ShelfFull => "the shelf is full",
             Refusal::StillWaiting => "the session's request still waits",
+            Refusal::NotNumber => "the key has a value that is no number of eight bytes",
+            Refusal::OutOfRange => "the sum leaves 64 bits",
             Refusal::Short => "the bytes end inside a field",
             Refusal::BadMagic => "the first 8 bytes are not the magic",
             Refusal::BadRanges => "the ranges of points break their rule",

@@ -3,6 +3,7 @@ ghost use Rattle.std.specs.Prelude.{◌≡◌, ◌≤◌, ◌↔◌, length, IsO
 ghost use Rattle.std.specs.Ordering.{nat_cmp, eq_by_cmp};
 ghost use Rattle.std.specs.Cmp.Lexicographic.{slice_cmp};
 ghost use Rattle.pc_types.specs.Limits.{IsValue};
+ghost use Rattle.pc_types.specs.Changes.{number_text};
 
 use crate::limits::MOST_VALUE_BYTES;
 use crate::refusal::Refusal;
@@ -43,6 +44,16 @@ impl Value {
         match SmallVec::from_slice(alloc, bytes) {
             Ok(bytes) => Ok(Value { bytes }),
             Err(_) => Err(Refusal::OutOfMemory),
+        }
+    }
+
+    /// The value that stands for a number: its eight bytes in two's complement, the highest first. It takes no memory.
+    pub fn of_number(alloc: Global, number: i64) -> Value
+        ensures { result ≡ number_text number }
+    {
+        match Value::new(alloc, &number.to_be_bytes()) {
+            Ok(value) => value,
+            Err(_) => unreachable!(),
         }
     }
 

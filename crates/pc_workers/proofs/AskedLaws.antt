@@ -1,6 +1,6 @@
 -- What a session's calls were answered, as attempts at a job tell it.
-use Rattle.std.proofs.Common.{◌≡◌, ◌≢◌, ℕ, Bool, true, false, true≢false, List, Result, Ok, Err, IfOk, IfErr, OnErr, refl, sym, ap, subst}
-use Rattle.std.specs.Prelude.{MatchBool, is_err}
+use Rattle.std.proofs.Common.{◌≡◌, ◌≢◌, ℕ, Bool, true, false, true≢false, List, Some, None, Result, Ok, Err, IfOk, IfErr, OnErr, refl, sym, ap, subst}
+use Rattle.std.specs.Prelude.{MatchBool, is_err, ℤ}
 use Rattle.pc_types.specs.declared.Event.TheVariants as asked
 use Rattle.pc_types.specs.declared.Refusal.{Refusal}
 use Rattle.pc_types.specs.declared.Reply.TheVariants as told
@@ -9,10 +9,10 @@ use Rattle.pc_model.specs.Replies.{Setting}
 use Rattle.pc_model.specs.Calls.{step_of, Extends, IsAnswered}
 use Rattle.pc_txn.specs.declared.got.Got.TheVariants as got
 use Rattle.pc_jobs.specs.declared.works.Op.{Op}
-use Rattle.pc_jobs.specs.declared.works.Op.TheVariants.{Get, Put, Del}
+use Rattle.pc_jobs.specs.declared.works.Op.TheVariants.{Get, Put, Del, Add}
 use Rattle.pc_shared.specs.declared.session.CallAnswer.{CallAnswer}
 use Rattle.pc_shared.specs.declared.session.CallAnswer.TheVariants as answer
-use Rattle.pc_shared.specs.Answers.{IsRead, IsWriteAnswered}
+use Rattle.pc_shared.specs.Answers.{IsRead, IsWriteAnswered, IsAddAnswered}
 use Rattle.pc_shared.specs.Sitters.{Sitter}
 use Rattle.pc_workers.specs.Attempts.{IsOpMade, Dies, WasBegun, WasAborted}
 use Rattle.pc_workers.specs.Courses.{IsAsked}
@@ -32,10 +32,15 @@ module _ (st : Setting) (s : ℕ) (a b : History) where
   del_asked key ans (true, is, ext) = subst (λ (x : CallAnswer). IsAsked st s (Del key) x a b) (sym is) (told.Ok, refl, ext)
   del_asked key ans (false, is, ext) = subst (λ (x : CallAnswer). IsAsked st s (Del key) x a b) (sym is) ext
 
+  add_asked : (key : List ℕ) (delta : ℤ) (ans : CallAnswer) → IsAddAnswered st a (asked.Add s key delta) ans b → IsAsked st s (Add key delta) ans a b
+  add_asked key delta ans (Some sum, is, ext) = subst (λ (x : CallAnswer). IsAsked st s (Add key delta) x a b) (sym is) (told.Sum sum, refl, ext)
+  add_asked key delta ans (None, is, ext) = subst (λ (x : CallAnswer). IsAsked st s (Add key delta) x a b) (sym is) ext
+
   pub asked_made : (op : Op) (ans : CallAnswer) → ans ≢ answer.Died → IsAsked st s op ans a b → IsOpMade st s op a b
   asked_made op answer.Found alive is = is
   asked_made op answer.Absent alive is = is
   asked_made op answer.Ok alive is = is
+  asked_made op (answer.Sum sum) alive is = is
   asked_made op answer.Died alive is = absurd (alive refl)
 
   pub asked_dies : (op : Op) (ans : CallAnswer) → ans ≡ answer.Died → IsAsked st s op ans a b → Dies st s op a b
@@ -54,6 +59,10 @@ module _ (st : Setting) (s : ℕ) (a b : History) where
   pub del_call : (key : List ℕ) (result : Result CallAnswer Refusal) → IfOk result (λ ans. IsWriteAnswered st a (asked.Del s key) ans b) → IfOk result (λ ans. IsAsked st s (Del key) ans a b)
   del_call key (Ok ans) is = del_asked key ans is
   del_call key (Err cause) is = tt
+
+  pub add_call : (key : List ℕ) (delta : ℤ) (result : Result CallAnswer Refusal) → IfOk result (λ ans. IsAddAnswered st a (asked.Add s key delta) ans b) → IfOk result (λ ans. IsAsked st s (Add key delta) ans a b)
+  add_call key delta (Ok ans) is = add_asked key delta ans is
+  add_call key delta (Err cause) is = tt
 
 -- ---- an abort
 

@@ -10,13 +10,13 @@ use Rattle.pc_model.specs.Replies.{Setting}
 use Rattle.pc_model.specs.Calls.{step_of, Extends, IsAnswered}
 use Rattle.pc_jobs.specs.declared.works.Job.{Job}
 use Rattle.pc_jobs.specs.declared.works.Op.{Op}
-use Rattle.pc_jobs.specs.declared.works.Op.TheVariants.{Get, Put, Del}
+use Rattle.pc_jobs.specs.declared.works.Op.TheVariants.{Get, Put, Del, Add}
 use Rattle.pc_workers.specs.Attempts.{event_of, IsOpMade, Dies, WasBegun, WasAborted, AreMade, OneDies, IsRefusedOp, IsStuck, IsAttempt, AreDeaths, IsLast, IsTried, AreTried}
 use Rattle.pc_workers.specs.Courses.{IsCourse, IsRepeated, mark_of}
 use Rattle.pc_workers.specs.declared.clients.EndedTransaction.{EndedTransaction}
 use Rattle.pc_workers.specs.declared.clients.EndedTransaction.TheVariants.{Committed, Died, Refused}
 use Rattle.pc_workers.specs.declared.clients.TheConstants.{MOST_REPEATS}
-use Rattle.pc_workers.proofs.OpenLaws.{begun_open, committed_closed, aborted_closed, read_stays, put_stays, del_stays}
+use Rattle.pc_workers.proofs.OpenLaws.{begun_open, committed_closed, aborted_closed, read_stays, put_stays, del_stays, add_stays}
 
 pub not_committed : (ended : EndedTransaction) → ended ≡ Refused → ended ≢ Committed
 not_committed Refused is other = cc
@@ -30,6 +30,7 @@ module _ (st : Setting) (s : ℕ) where
   op_stays (Get key) reply a b ext = read_stays st s a b key reply ext
   op_stays (Put key value) reply a b ext = put_stays st s a b key value reply ext
   op_stays (Del key) reply a b ext = del_stays st s a b key reply ext
+  op_stays (Add key delta) reply a b ext = add_stays st s a b key delta reply ext
 
   made_stays : (ops : List Op) (a b : History) → AreMade st s ops a b → is_open s b ≡ is_open s a
   made_stays [] a b made = ap (is_open s) made

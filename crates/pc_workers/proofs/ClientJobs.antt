@@ -1,6 +1,7 @@
 -- What a session's calls make of what its transaction has written, and what is committed of jobs.
+use Rattle.pc_types.specs.declared.Change.TheVariants.{Add}
 use Rattle.std.proofs.Common.{◌≡◌, ◌≢◌, ℕ, ◌+◌, ◌<◌, ◌==◌, ◌++◌, Bool, true, false, List, [], ◌∷◌, Some, None, Result, Ok, Err, IfOk, length, map, take, get_or, append-nil, length-append, refl, sym, ap, subst, ◌∙◌, arith}
-use Rattle.std.specs.Prelude.{if◌then◌else◌}
+use Rattle.std.specs.Prelude.{if◌then◌else◌, ℤ}
 use Rattle.std.proofs.lemmas.Bool.Decides.{nat_tests}
 use Rattle.std.proofs.lemmas.List.{append_assoc, map-append, take_more}
 use Rattle.pc_types.specs.declared.Event.TheVariants as asked
@@ -8,7 +9,7 @@ use Rattle.pc_types.specs.declared.Receipt.{Receipt}
 use Rattle.pc_types.specs.declared.Refusal.{Refusal}
 use Rattle.pc_types.specs.declared.Reply.TheVariants as told
 use Rattle.pc_types.specs.declared.Write.{Write}
-use Rattle.pc_model.specs.Database.{with_write}
+use Rattle.pc_model.specs.Database.{with_write, change_to, write_of}
 use Rattle.pc_model.specs.History.{History, is_open}
 use Rattle.pc_model.specs.Replies.{Setting}
 use Rattle.pc_model.specs.Calls.{step_of, Extends}
@@ -19,7 +20,7 @@ use Rattle.pc_jobs.specs.declared.works.Job.{Job}
 use Rattle.pc_jobs.specs.declared.works.Op.{Op}
 use Rattle.pc_shared.specs.declared.session.CallAnswer.{CallAnswer}
 use Rattle.pc_shared.specs.declared.session.CallAnswer.TheVariants as answer
-use Rattle.pc_shared.specs.Answers.{IsRead, IsWriteAnswered}
+use Rattle.pc_shared.specs.Answers.{IsRead, IsWriteAnswered, IsAddAnswered}
 use Rattle.pc_shared.specs.Sitters.{Sitter}
 use Rattle.pc_workers.specs.Attempts.{IsTried, AreTried}
 use Rattle.pc_workers.specs.Clients.{wrote, wrote_all, writes_of, written_by, done_by, HasCommitted, HasRun, HasTried, marked}
@@ -40,17 +41,23 @@ module _ (st : Setting) (s : ℕ) (before after : History) where
   read key a (got.Absent, is, ext) alive = ap (λ (o : Own). o.writes) (makes_own st before (step_of (asked.Get s key) told.Absent) after ext)
   read key a (got.Died, is, ext) alive = absurd (alive is)
 
-  put : (key value : List ℕ) (a : CallAnswer) → IsWriteAnswered st before (asked.Put s key value) a after → a ≢ answer.Died → (own_of s after).writes ≡ with_write (own_of s before).writes (record { key = key; value = Some value })
+  put : (key value : List ℕ) (a : CallAnswer) → IsWriteAnswered st before (asked.Put s key value) a after → a ≢ answer.Died → (own_of s after).writes ≡ with_write (own_of s before).writes (write_of key (change_to (Some value)))
   put key value a (true, is, ext) alive =
       ap (λ (o : Own). o.writes) (makes_own st before (step_of (asked.Put s key value) told.Ok) after ext)
-      ∙ ap (λ b. if b then with_write (own_of s before).writes (record { key = key; value = Some value }) else (own_of s before).writes) (itself s)
+      ∙ ap (λ b. if b then with_write (own_of s before).writes (write_of key (change_to (Some value))) else (own_of s before).writes) (itself s)
   put key value a (false, is, ext) alive = absurd (alive is)
 
-  del : (key : List ℕ) (a : CallAnswer) → IsWriteAnswered st before (asked.Del s key) a after → a ≢ answer.Died → (own_of s after).writes ≡ with_write (own_of s before).writes (record { key = key; value = None })
+  del : (key : List ℕ) (a : CallAnswer) → IsWriteAnswered st before (asked.Del s key) a after → a ≢ answer.Died → (own_of s after).writes ≡ with_write (own_of s before).writes (write_of key (change_to None))
   del key a (true, is, ext) alive =
       ap (λ (o : Own). o.writes) (makes_own st before (step_of (asked.Del s key) told.Ok) after ext)
-      ∙ ap (λ b. if b then with_write (own_of s before).writes (record { key = key; value = None }) else (own_of s before).writes) (itself s)
+      ∙ ap (λ b. if b then with_write (own_of s before).writes (write_of key (change_to None)) else (own_of s before).writes) (itself s)
   del key a (false, is, ext) alive = absurd (alive is)
+
+  add : (key : List ℕ) (delta : ℤ) (a : CallAnswer) → IsAddAnswered st before (asked.Add s key delta) a after → a ≢ answer.Died → (own_of s after).writes ≡ with_write (own_of s before).writes (write_of key (Add delta))
+  add key delta a (Some sum, is, ext) alive =
+      ap (λ (o : Own). o.writes) (makes_own st before (step_of (asked.Add s key delta) (told.Sum sum)) after ext)
+      ∙ ap (λ b. if b then with_write (own_of s before).writes (write_of key (Add delta)) else (own_of s before).writes) (itself s)
+  add key delta a (None, is, ext) alive = absurd (alive is)
 
 -- what a call's result tells of the writes
 module _ (st : Setting) (old new : Sitter) (same : new.number ≡ old.number) where
@@ -64,13 +71,17 @@ module _ (st : Setting) (old new : Sitter) (same : new.number ≡ old.number) wh
   get_wrote key (Ok a) call = λ alive. now (written_by old) (read st old.number old.seen new.seen key a call alive)
   get_wrote key (Err why) call = tt
 
-  pub put_wrote : (key value : List ℕ) (result : Result CallAnswer Refusal) → IfOk result (λ a. IsWriteAnswered st old.seen (asked.Put old.number key value) a new.seen) → Wrote (with_write (written_by old) (record { key = key; value = Some value })) result
-  put_wrote key value (Ok a) call = λ alive. now (with_write (written_by old) (record { key = key; value = Some value })) (put st old.number old.seen new.seen key value a call alive)
+  pub put_wrote : (key value : List ℕ) (result : Result CallAnswer Refusal) → IfOk result (λ a. IsWriteAnswered st old.seen (asked.Put old.number key value) a new.seen) → Wrote (with_write (written_by old) (write_of key (change_to (Some value)))) result
+  put_wrote key value (Ok a) call = λ alive. now (with_write (written_by old) (write_of key (change_to (Some value)))) (put st old.number old.seen new.seen key value a call alive)
   put_wrote key value (Err why) call = tt
 
-  pub del_wrote : (key : List ℕ) (result : Result CallAnswer Refusal) → IfOk result (λ a. IsWriteAnswered st old.seen (asked.Del old.number key) a new.seen) → Wrote (with_write (written_by old) (record { key = key; value = None })) result
-  del_wrote key (Ok a) call = λ alive. now (with_write (written_by old) (record { key = key; value = None })) (del st old.number old.seen new.seen key a call alive)
+  pub del_wrote : (key : List ℕ) (result : Result CallAnswer Refusal) → IfOk result (λ a. IsWriteAnswered st old.seen (asked.Del old.number key) a new.seen) → Wrote (with_write (written_by old) (write_of key (change_to None))) result
+  del_wrote key (Ok a) call = λ alive. now (with_write (written_by old) (write_of key (change_to None))) (del st old.number old.seen new.seen key a call alive)
   del_wrote key (Err why) call = tt
+
+  pub add_wrote : (key : List ℕ) (delta : ℤ) (result : Result CallAnswer Refusal) → IfOk result (λ a. IsAddAnswered st old.seen (asked.Add old.number key delta) a new.seen) → Wrote (with_write (written_by old) (write_of key (Add delta))) result
+  add_wrote key delta (Ok a) call = λ alive. now (with_write (written_by old) (write_of key (Add delta))) (add st old.number old.seen new.seen key delta a call alive)
+  add_wrote key delta (Err why) call = tt
 
 -- ---- many operations
 

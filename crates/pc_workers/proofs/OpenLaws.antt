@@ -1,6 +1,6 @@
 -- Whether a session's transaction is open, call by call; and that just an open one is aborted.
 use Rattle.std.proofs.Common.{◌≡◌, ◌==◌, ◌⊎◌, not, ℕ, Bool, true, false, true≢false, cond, List, [], ◌∷◌, ◌++◌, refl, ap, sym, ◌∙◌, subst, eq-eqb, arith}
-use Rattle.std.specs.Prelude.{Option, Some, None, MatchOption, IfSome}
+use Rattle.std.specs.Prelude.{Option, Some, None, MatchOption, IfSome, ℤ}
 use Rattle.std.proofs.lemmas.Bool.Decides.{nat_tests}
 use Rattle.pc_types.specs.declared.Event.{Event}
 use Rattle.pc_types.specs.declared.Event.TheVariants as asked
@@ -13,7 +13,7 @@ use Rattle.pc_model.specs.Replies.{Setting, first_refusal, or_else, no_session, 
 use Rattle.pc_model.specs.Calls.{counts, step_of, session_of, calls_of, Extends, IsAnswered}
 use Rattle.pc_model.specs.Receipts.{Own, own_of}
 use Rattle.pc_model.proofs.BeginningLaws.{calls_of-append}
-use Rattle.pc_model.proofs.EffectCases.{begin_case, get_case, write_case, commit_case, abort_case, move_case, take_case, done_case, join_case}
+use Rattle.pc_model.proofs.EffectCases.{begin_case, get_case, write_case, commit_case, abort_case, move_case, take_case, done_case, join_case, add_case}
 use Rattle.pc_model.proofs.EffectLaws.{first_refusal_refuses, no_first}
 use Rattle.pc_model.proofs.OwnCallLaws.{own_own, own_open}
 use Rattle.pc_model.proofs.SessionCallLaws.{makes_own}
@@ -54,6 +54,9 @@ module _ (st : Setting) (s : ℕ) (before after : History) where
   pub del_stays : (key : List ℕ) (reply : Reply) → Extends st before (step_of (asked.Del s key) reply) after → is_open s after ≡ is_open s before
   del_stays key reply ext = after_call (asked.Del s key) reply refl ext ∙ write_case (λ e. open_by s e (is_open s before) ≡ is_open s before) refl s key None reply (λ counted. refl) refl refl
 
+  pub add_stays : (key : List ℕ) (delta : ℤ) (reply : Reply) → Extends st before (step_of (asked.Add s key delta) reply) after → is_open s after ≡ is_open s before
+  add_stays key delta reply ext = after_call (asked.Add s key delta) reply refl ext ∙ add_case (λ e. open_by s e (is_open s before) ≡ is_open s before) refl s key delta reply (λ sum counted. refl) refl refl
+
 -- ---- who has a transaction open is a session of the store
 
 -- where the reply counts no refusal is certain
@@ -79,6 +82,7 @@ module _ (st : Setting) (s : ℕ) where
   known_by h was (asked.Get t key) reply legal = get_case (λ e. Tells h (open_by s e (is_open s h))) was t key reply (λ answer counted. was) was was
   known_by h was (asked.Put t key value) reply legal = write_case (λ e. Tells h (open_by s e (is_open s h))) was t key (Some value) reply (λ counted. was) was was
   known_by h was (asked.Del t key) reply legal = write_case (λ e. Tells h (open_by s e (is_open s h))) was t key None reply (λ counted. was) was was
+  known_by h was (asked.Add t key delta) reply legal = add_case (λ e. Tells h (open_by s e (is_open s h))) was t key delta reply (λ sum counted. was) was was
   known_by h was (asked.Commit t) reply legal = commit_case (λ e. Tells h (open_by s e (is_open s h))) was t reply (λ counted. closes h was (t == s))
     where
       closes : (h : History) → Tells h (is_open s h) → (b : Bool) → Tells h (cond b false (is_open s h))

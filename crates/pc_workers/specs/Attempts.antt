@@ -12,7 +12,7 @@ use Rattle.pc_model.specs.Replies.{Setting}
 use Rattle.pc_model.specs.Calls.{step_of, Extends, IsAnswered}
 use Rattle.pc_jobs.specs.declared.works.Job.{Job}
 use Rattle.pc_jobs.specs.declared.works.Op.{Op}
-use Rattle.pc_jobs.specs.declared.works.Op.TheVariants.{Get, Put, Del}
+use Rattle.pc_jobs.specs.declared.works.Op.TheVariants.{Get, Put, Del, Add}
 use Rattle.pc_workers.specs.declared.clients.EndedTransaction.{EndedTransaction}
 use Rattle.pc_workers.specs.declared.clients.EndedTransaction.TheVariants.{Committed, Died, Refused}
 use Rattle.pc_workers.specs.declared.clients.TheConstants.{MOST_REPEATS}
@@ -22,12 +22,14 @@ abbrev pub event_of : ℕ → Op → Event
 event_of s (Get key) = asked.Get s key
 event_of s (Put key value) = asked.Put s key value
 event_of s (Del key) = asked.Del s key
+event_of s (Add key delta) = asked.Add s key delta
 
 -- the reply says that the operation was made
 abbrev pub is_made : Reply → Bool
 is_made (told.Found value) = true
 is_made told.Absent = true
 is_made told.Ok = true
+is_made (told.Sum sum) = true
 is_made other = false
 
 -- the operation was asked for, and made
@@ -70,6 +72,7 @@ abbrev pub TakesMemory : Op → Type 0
 TakesMemory (Get key) = 16 < length key
 TakesMemory (Put key value) = (16 < length key) ⊎ (16 < length value)
 TakesMemory (Del key) = 16 < length key
+TakesMemory (Add key delta) = 16 < length key
 
 -- the session, which has seen so much, was refused the operation; or memory was wanting for a copy of what it names
 abbrev pub IsRefusedOp : Setting → ℕ → Op → Refusal → History → Type 0

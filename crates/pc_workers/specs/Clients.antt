@@ -1,14 +1,15 @@
 -- What a client's loop adds to its session: a receipt for each job that was committed, with what the job writes.
+use Rattle.pc_types.specs.declared.Change.TheVariants as change
 use Rattle.std.specs.Prelude.{◌≡◌, ◌++◌, ℕ, Bool, true, false, List, [], ◌∷◌, Some, None, length, map}
 use Rattle.pc_types.specs.declared.Receipt.{Receipt}
 use Rattle.pc_types.specs.declared.Write.{Write}
-use Rattle.pc_model.specs.Database.{with_write}
+use Rattle.pc_model.specs.Database.{with_write, change_to, write_of}
 use Rattle.pc_model.specs.History.{is_open}
 use Rattle.pc_model.specs.Receipts.{own_of}
 use Rattle.pc_model.specs.Replies.{Setting}
 use Rattle.pc_jobs.specs.declared.works.Job.{Job}
 use Rattle.pc_jobs.specs.declared.works.Op.{Op}
-use Rattle.pc_jobs.specs.declared.works.Op.TheVariants.{Get, Put, Del}
+use Rattle.pc_jobs.specs.declared.works.Op.TheVariants.{Get, Put, Del, Add}
 use Rattle.pc_shared.specs.Sitters.{Sitter}
 use Rattle.pc_workers.specs.Attempts.{AreTried}
 use Rattle.pc_workers.specs.declared.clients.EndedTransaction.{EndedTransaction}
@@ -17,8 +18,9 @@ use Rattle.pc_workers.specs.declared.clients.EndedTransaction.TheVariants.{Commi
 -- the writes of a transaction once it has made the operation too
 abbrev pub wrote : List Write → Op → List Write
 wrote writes (Get key) = writes
-wrote writes (Put key value) = with_write writes (record { key = key; value = Some value })
-wrote writes (Del key) = with_write writes (record { key = key; value = None })
+wrote writes (Put key value) = with_write writes (write_of key (change_to (Some value)))
+wrote writes (Del key) = with_write writes (write_of key (change_to None))
+wrote writes (Add key delta) = with_write writes (write_of key (change.Add delta))
 
 -- and once it has made all of these
 abbrev pub wrote_all : List Write → List Op → List Write

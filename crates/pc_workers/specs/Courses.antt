@@ -1,14 +1,21 @@
 -- How far an attempt at a job has come.
-use Rattle.std.specs.Prelude.{◌≡◌, ◌⊎◌, ◌<◌, ℕ, ◌+◌, Bool, true, false, List}
+use Rattle.std.specs.Prelude.{◌≡◌, ◌⊎◌, ◌<◌, ⊤, ℕ, ◌+◌, Bool, true, false, List}
+use Rattle.pc_types.specs.Changes.{fits}
 use Rattle.pc_model.specs.History.{History}
 use Rattle.pc_model.specs.Replies.{Setting}
 use Rattle.pc_jobs.specs.declared.works.Op.{Op}
+use Rattle.pc_jobs.specs.declared.works.Op.TheVariants.{Add}
 use Rattle.pc_shared.specs.declared.session.CallAnswer.{CallAnswer}
 use Rattle.pc_shared.specs.declared.session.CallAnswer.TheVariants as answer
 use Rattle.pc_workers.specs.Attempts.{IsOpMade, Dies, WasBegun, WasCommitted, AreMade, OneDies, IsStuck, IsNotBegun, IsAttempt, AreDeaths}
 use Rattle.pc_workers.specs.declared.clients.EndedTransaction.{EndedTransaction}
 use Rattle.pc_workers.specs.declared.clients.EndedTransaction.TheVariants.{Committed, Died, Refused}
 use Rattle.pc_workers.specs.declared.clients.TheConstants.{MOST_REPEATS}
+
+-- what it adds, if anything, has 64 bits with a sign
+abbrev pub IsInRange : Op → Type 0
+IsInRange (Add key delta) = fits delta ≡ true
+IsInRange other = ⊤
 
 -- the operation was so answered: made, or it died
 abbrev pub IsAsked : Setting → ℕ → Op → CallAnswer → History → History → Type 0

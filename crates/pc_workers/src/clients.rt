@@ -1,9 +1,10 @@
 //! A client's loop: a session runs jobs, each as a transaction.
 ghost use Rattle.std.specs.Prelude.{◌≡◌, ◌≢◌, ◌<◌, ◌-◌, ◌^◌, ◌+◌, true, false, [], length, IfOk, IfErr, OnErr, MatchBool};
+ghost use Rattle.pc_types.specs.Changes.{fits};
 ghost use Rattle.pc_model.specs.History.{is_open};
 ghost use Rattle.pc_workers.specs.Attempts.{WasAborted, AreMade, OneDies, IsRefusedOp, IsStuck, IsAttempt, IsTried};
 ghost use Rattle.pc_workers.specs.Clients.{HasCommitted, HasRun, HasTried, done_by, written_by, wrote, wrote_all, writes_of};
-ghost use Rattle.pc_workers.specs.Courses.{IsAsked, IsCourse, IsRepeated, mark_of};
+ghost use Rattle.pc_workers.specs.Courses.{IsInRange, IsAsked, IsCourse, IsRepeated, mark_of};
 
 use pc_jobs::{Job, Op};
 use pc_shared::{CallAnswer, Session, Shared, pause};
@@ -65,6 +66,7 @@ fn make<N: StoreName, R: Wait>(
     ensures refused { IfErr result (λ cause. IsRefusedOp N.name.setting session.old.number op.now cause session.old.seen) }
     ensures same { OnErr result (session.new ≡ session.old) }
 {
+    in_range(op);
     match op {
         Op::Get(key) => {
             let key = key.copy(alloc)?;
@@ -79,7 +81,27 @@ fn make<N: StoreName, R: Wait>(
             let key = key.copy(alloc)?;
             shared.del(rt, session, key)
         }
+        Op::Add(key, delta) => {
+            let key = key.copy(alloc)?;
+            shared.add(rt, session, key, *delta)
+        }
     }
+}
+
+// What the operation adds has 64 bits with a sign: its type says so.
+fn in_range(op: &Op)
+    ensures { IsInRange op.now }
+{
+    match op {
+        Op::Add(_, delta) => number_in_range(*delta),
+        _ => {}
+    }
+}
+
+fn number_in_range(number: i64)
+    ensures { fits number ≡ true }
+{
+    let _ = number;
 }
 
 // Makes the operations, until one dies: then false.

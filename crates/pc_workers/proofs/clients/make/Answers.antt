@@ -1,5 +1,8 @@
-use Rattle.pc_workers.proofs.AskedLaws.{get_call, put_call, del_call}
-use Rattle.pc_workers.proofs.ClientJobs.{get_wrote, put_wrote, del_wrote}
+use Rattle.std.specs.Int.{w64}
+use Rattle.std.proofs.lemmas.Int.{to_z-of_z}
+use Rattle.pc_types.proofs.NumberLaws.{fits_is}
+use Rattle.pc_workers.proofs.AskedLaws.{get_call, put_call, del_call, add_call}
+use Rattle.pc_workers.proofs.ClientJobs.{get_wrote, put_wrote, del_wrote, add_wrote}
 use Rattle.pc_workers.proofs.clients.make.Goals as goal
 
 pub returns-in_ok-key-in-Get-clause-wrote : goal.returns-in_ok-key-in-Get-clause-wrote
@@ -30,3 +33,13 @@ pub returns-in_ok-key-in-Del-clause-asked : goal.returns-in_ok-key-in-Del-clause
 returns-in_ok-key-in-Del-clause-asked g c =
     rw (c.in-Del.is, ← c.in_ok-key-in-Del.ensures.copy)
     (del_call g.N.StoreName.name.setting c.args.session.now.number c.args.session.now.seen c.del.new.session.seen c.in_ok-key-in-Del.key c.del.result c.del.ensures.call)
+
+pub returns-in_ok-key-in-Add-clause-wrote : goal.returns-in_ok-key-in-Add-clause-wrote
+returns-in_ok-key-in-Add-clause-wrote g c =
+    rw (c.in-Add.is, ← c.in_ok-key-in-Add.ensures.copy)
+    (add_wrote g.N.StoreName.name.setting c.args.session.now c.add.new.session c.add.ensures.number c.in_ok-key-in-Add.key c.in-Add.delta c.add.result (rw (to_z-of_z w64 c.in-Add.delta (fits_is c.in-Add.delta (rw c.in-Add.is at c.in_range.ensures))) at c.add.ensures.call))
+
+pub returns-in_ok-key-in-Add-clause-asked : goal.returns-in_ok-key-in-Add-clause-asked
+returns-in_ok-key-in-Add-clause-asked g c =
+    rw (c.in-Add.is, ← c.in_ok-key-in-Add.ensures.copy)
+    (add_call g.N.StoreName.name.setting c.args.session.now.number c.args.session.now.seen c.add.new.session.seen c.in_ok-key-in-Add.key c.in-Add.delta c.add.result (rw (to_z-of_z w64 c.in-Add.delta (fits_is c.in-Add.delta (rw c.in-Add.is at c.in_range.ensures))) at c.add.ensures.call))

@@ -33,6 +33,6 @@ pub returns-in-Granted-clause-reply : goal.returns-in-Granted-clause-reply
 returns-in-Granted-clause-reply c =
     let number = rw c.as_slice.ensures.value at c.number-number.ensures in
     rw (← c.self.view_is)
-    (read_granted c.self.inside.records _ c.self.inside.begun (c.args.session - 1) c.number-number.result _ _ _ _ (record { writes = c.self.invariant.hold.writes; numbers = c.self.invariant.hold.numbers })
+    (read_granted c.self.inside.records _ c.self.inside.begun (c.args.session - 1) c.number-number.result _ _ _ (record { writes = c.self.invariant.hold.writes; numbers = c.self.invariant.hold.numbers })
     (is_there _ (rw (← c.self.view_is) at c.requires.opened)) (sym c.in-Granted.is ∙ c.in_ok-outcome.ensures.told ∙ ap (λ n. outcome (requests_on (record_of c.self.inside.records.rows c.args.key.now)) n Shared) number) number (c.in_ok-outcome.ensures.clear c.in-Granted.is)
     (c.answer.ensures ∙ ap read_reply c.in_ok-outcome.ensures.found))

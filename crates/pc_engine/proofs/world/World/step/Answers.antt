@@ -1,6 +1,10 @@
-use Rattle.pc_engine.proofs.Standing.{begins_keeps, gets_keeps, writes_keeps, commits_keeps, aborts_keeps, starts_keeps, seals_keeps, moves_keeps, takes_keeps, shelves_keeps, joins_keeps}
+use Rattle.std.proofs.Common.{Some, None}
+use Rattle.std.specs.Int.{w64}
+use Rattle.std.proofs.lemmas.Int.{to_z-of_z}
+use Rattle.pc_types.proofs.NumberLaws.{fits_is}
+use Rattle.pc_engine.proofs.Standing.{begins_keeps, gets_keeps, writes_keeps, adds_keeps, commits_keeps, aborts_keeps, starts_keeps, seals_keeps, moves_keeps, takes_keeps, shelves_keeps, joins_keeps}
 use Rattle.pc_engine.proofs.Endings.{begins_follows, commits_follows, aborts_follows}
-use Rattle.pc_engine.proofs.Requests.{gets_follows, puts_follows, dels_follows}
+use Rattle.pc_engine.proofs.Requests.{gets_follows, puts_follows, dels_follows, adds_follows}
 use Rattle.pc_engine.proofs.Cycles.{starts_follows, seals_follows, opens_follows, takes_follows, shelves_follows, rests_follows, joins_follows}
 use Rattle.pc_engine.proofs.world.World.step.Goals as goal
 
@@ -16,13 +20,20 @@ returns-in-Get c =
 
 pub returns-in-Put : goal.returns-in-Put
 returns-in-Put c =
-    let kept = writes_keeps _ _ _ _ _ _ c.put.ensures in
+    let kept = writes_keeps _ _ _ (Some _) _ _ c.put.ensures in
     record { follows = λ history stands. rw c.in-Put.is (puts_follows _ _ history _ _ stands _ _ (rw c.in-Put.is at c.in_limits.ensures) c.put.ensures); setting = kept.0; refused = kept.1 }
 
 pub returns-in-Del : goal.returns-in-Del
 returns-in-Del c =
-    let kept = writes_keeps _ _ _ _ _ _ c.delete.ensures in
+    let kept = writes_keeps _ _ _ None _ _ c.delete.ensures in
     record { follows = λ history stands. rw c.in-Del.is (dels_follows _ _ history _ _ stands _ (rw c.in-Del.is at c.in_limits.ensures) c.delete.ensures); setting = kept.0; refused = kept.1 }
+
+pub returns-in-Add : goal.returns-in-Add
+returns-in-Add c =
+    let limits = rw c.in-Add.is at c.in_limits.ensures in
+    let adds = rw (to_z-of_z w64 c.in-Add.delta (fits_is c.in-Add.delta limits.1)) at c.add.ensures in
+    let kept = adds_keeps _ _ _ _ _ _ adds in
+    record { follows = λ history stands. rw c.in-Add.is (adds_follows _ _ history _ _ stands _ _ limits adds); setting = kept.0; refused = kept.1 }
 
 pub returns-in-Commit : goal.returns-in-Commit
 returns-in-Commit c =

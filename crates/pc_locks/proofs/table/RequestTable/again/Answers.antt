@@ -16,8 +16,8 @@ returns-then-covers-clause-queue c =
     let e : (is_exclusive own.mode || not (is_exclusive c.args.mode)) ≡ true = ap (λ (r : Request). is_exclusive r.mode || not (is_exclusive c.args.mode)) (sym c.request-own.ensures) ∙ (sym c.covers.ensures ∙ c.if-covers.true) in
     sym (with_covered (requests nodes ids) n own (own_is nodes ids c.args.transaction c.args.found.previous c.args.found.id c.requires.own) e)
 
-pub returns-clause-queue : goal.returns-clause-queue
-returns-clause-queue c =
+pub returns-in-Granted-clause-queue : goal.returns-in-Granted-clause-queue
+returns-in-Granted-clause-queue c =
     let nodes = c.args.self.now.nodes.slots in
     let ids = ids_of (links_in c.args.self.now.nodes.slots) c.args.queue in
     upgraded_queue nodes _ ids c.args.transaction c.args.found.previous c.args.found.id c.request-own.result c.args.mode c.requires.own (c.requires.held c.args.found.id) c.requires.once

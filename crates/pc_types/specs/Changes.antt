@@ -1,0 +1,74 @@
+-- What a write does to its key: the key is set, removed, or a signed number is added to the one that it has.
+use Rattle.std.specs.Prelude.{◌≡◌, ℕ, ◌==◌, ◌^◌, nat_lt, Bool, true, List, length, Option, Some, None, if◌then◌else◌, ℤ, pos, negsuc, ◌+ℤ◌}
+use Rattle.std.specs.Int.{w64, to_be_bytes, from_be_bytes, cast_signed, cast_unsigned}
+use Rattle.pc_types.specs.declared.changes.Change.{Change}
+use Rattle.pc_types.specs.declared.changes.Change.TheVariants.{Set, Remove, Add}
+
+-- the number has 64 bits with a sign
+abbrev pub fits : ℤ → Bool
+fits (pos n) = nat_lt n (2 ^ 63)
+fits (negsuc n) = nat_lt n (2 ^ 63)
+
+-- the value that stands for a number: its eight bytes in two's complement, the highest first
+unfoldable pub number_text : ℤ → List ℕ
+number_text z = to_be_bytes w64 (cast_unsigned w64 z)
+
+-- the number for which eight bytes stand
+unfoldable pub number_in : List ℕ → ℤ
+number_in value = cast_signed w64 (from_be_bytes w64 value)
+
+-- the number that a key has: that of a value of eight bytes, 0 of nothing, and none of any other value
+unfoldable pub number_of : Option (List ℕ) → Option ℤ
+number_of None = Some (pos 0)
+number_of (Some value) = if length value == 8 then Some (number_in value) else None
+
+-- the sum of two numbers, where it fits
+abbrev pub sum_of : ℤ → ℤ → Option ℤ
+sum_of a b = if fits (a +ℤ b) then Some (a +ℤ b) else None
+
+-- the same where there may be no first number
+abbrev pub sum_if : Option ℤ → ℤ → Option ℤ
+sum_if None d = None
+sum_if (Some n) d = sum_of n d
+
+-- what an add makes of what the key has: the new number, or none where it has no number or the sum doesn't fit
+abbrev pub added : ℤ → Option (List ℕ) → Option ℤ
+added d there = sum_if (number_of there) d
+
+-- the value of this number, or else what was there
+abbrev pub or_same : Option (List ℕ) → Option ℤ → Option (List ℕ)
+or_same there None = there
+or_same there (Some n) = Some (number_text n)
+
+-- what a key has after a change of what it had; an add that doesn't apply leaves what was there
+abbrev pub changed : Change → Option (List ℕ) → Option (List ℕ)
+changed (Set value) there = Some value
+changed Remove there = None
+changed (Add d) there = or_same there (added d there)
+
+-- a set value with a number added to it, where that can be
+abbrev pub set_to : List ℕ → Option ℤ → Change
+set_to value None = Set value
+set_to value (Some n) = Set (number_text n)
+
+-- an add behind an earlier change of its key, as one change
+abbrev pub added_to : Change → ℤ → Change
+added_to (Set value) d = set_to value (added d (Some value))
+added_to Remove d = Set (number_text d)
+added_to (Add e) d = Add (e +ℤ d)
+
+-- a change behind an earlier one of its key, as one change
+abbrev pub merged : Change → Change → Change
+merged before (Set value) = Set value
+merged before Remove = Remove
+merged before (Add d) = added_to before d
+
+-- whether an add can be kept as one change with the earlier change of its key, if there is one: the sum of two adds must fit
+abbrev pub can_add : Option Change → ℤ → Bool
+can_add (Some (Add e)) d = fits (e +ℤ d)
+can_add before d = true
+
+-- the change can be kept as one with the earlier change of its key, if there is one
+abbrev pub CanMerge : Option Change → Change → Type 0
+CanMerge before (Add d) = can_add before d ≡ true
+CanMerge before other = Unit {0}
