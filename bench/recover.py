@@ -3,6 +3,7 @@
 
     bench/recover.py 1000000 1000000 8    a base of so many pairs, a log of so many commits of one put each over the same keys in a scattered order, and
                                           so many part files of the points from 1 on, fewer than commits, each of an eighth of the keys
+    bench/recover.py --adds 1000000 1000000 8    the same with an add in place of each put
 
 The tokens of the points stand in the log, as many commits apart. A record is a pair, a commit or an entry of a part. A run's time is that of the whole
 program, which reads the files and prints all pairs to a file.
@@ -46,24 +47,24 @@ def part(point, pairs):
     return head + b"".join(b"\0\x08" + key(first + point % 8) + behind for first in range(0, pairs - 7, 8)) + bytes(2) + (pairs // 8).to_bytes(4, "big")
 
 
-def entries(pairs, commits, parts):
-    """The entries of the log."""
+def entries(pairs, commits, parts, adds):
+    """The entries of the log. The plain form takes bytes for a put, and a number for an add."""
     apart = max(1, commits // (parts + 1))
     for number in range(commits):
-        yield "commit", 1, [(key(number * SCATTER % pairs), number.to_bytes(8, "big"))]
+        yield "commit", 1, [(key(number * SCATTER % pairs), number if adds else number.to_bytes(8, "big"))]
         point, rest = divmod(number + 1, apart)
         if rest == 0 and point <= parts:
             yield from (("token", phase, point) for phase in CYCLE)
 
 
-def log(pairs, commits, parts):
-    bodies = map(plain_files.body_text, entries(pairs, commits, parts))
+def log(pairs, commits, parts, adds):
+    bodies = map(plain_files.body_text, entries(pairs, commits, parts, adds))
     return plain_files.Log(RUN).text() + b"".join(len(body).to_bytes(4, "big") + body for body in bodies)
 
 
-def write_folder(folder, pairs, commits, parts):
+def write_folder(folder, pairs, commits, parts, adds):
     """Writes the files, and tells how many bytes they have together."""
-    files = {"base.pcb": base(pairs), "log.pcl": log(pairs, commits, parts)}
+    files = {"base.pcb": base(pairs), "log.pcl": log(pairs, commits, parts, adds)}
     files.update(("%05d.pcp" % point, part(point, pairs)) for point in range(1, parts + 1))
     for name, text in files.items():
         with open(os.path.join(folder, name), "wb") as it:
@@ -82,9 +83,11 @@ def run(folder, wanted):
 
 
 def main():
-    if len(sys.argv) != 4:
+    words = sys.argv[1:]
+    adds = words[:1] == ["--adds"]
+    if len(words) != 3 + adds:
         sys.exit(__doc__)
-    pairs, commits, parts = map(int, sys.argv[1:])
+    pairs, commits, parts = map(int, words[adds:])
     if not (1 <= pairs <= 10_000_000 and parts < commits):
         sys.exit("1 to 10,000,000 pairs are wanted, and fewer parts than commits")
     if not os.access(PROGRAM, os.X_OK):
@@ -92,13 +95,13 @@ def main():
     records = pairs + commits + parts * (pairs // 8)
     wanted = b"point %d\nentries %d\npairs %d\n" % (parts, commits + len(CYCLE) * parts, pairs)
     with tempfile.TemporaryDirectory() as folder:
-        size = write_folder(folder, pairs, commits, parts)
+        size = write_folder(folder, pairs, commits, parts, adds)
         print("%d records, %.1f MB, %d runs" % (records, size / 1e6, RUNS), flush=True)
         runs = [run(folder, wanted) for _ in range(RUNS)]
     times = [seconds for seconds, _ in runs]
     rates = (records / max(times), records / min(times), size / max(times) / 1e6, size / min(times) / 1e6)
     print("%.3f to %.3f s, %.0f to %.0f records a second, %.1f to %.1f MB a second" % (min(times), max(times), *rates))
-    figure = "recover: %d pairs, %d commits, %d parts" % (pairs, commits, parts)
+    figure = "recover: %d pairs, %d commits%s, %d parts" % (pairs, commits, " of adds" if adds else "", parts)
     history.note(figure, rates[1], "records a second")
     history.note(figure, max(peak for _, peak in runs) / 1e6, "MB")
     print("peak %.0f MB" % (max(peak for _, peak in runs) / 1e6))

@@ -2,7 +2,8 @@
 
 How many transactions were answered is seen from outside, as a user sees it: standard error is a terminal, and the last line of progress before the
 kill has the number. At most so many entries of the log as `--lag` allows may be lost of those. What is recovered is to be what `plain_files.py` makes
-of the files, and of each client the work of a beginning of its transactions, which is known: nobody else writes its keys, and none is given up.
+of the files, and of each client the work of a beginning of its transactions, which is known: nobody else writes its keys, and none is given up. Each
+transaction adds 1 to a number of its client too, so that one which is lost or made twice is seen there.
 Moments are chosen by the same line, so they are spread over a run however fast the machine is.
 """
 
@@ -36,13 +37,18 @@ def key_of(name, client, number):
     return b"%s%dk%02d" % (name, client, number % KEYS)
 
 
+def counter_of(name, client):
+    return b"%s%dn" % (name, client)
+
+
 def workload(name):
-    """Each client's transactions read some keys that nobody writes, which makes them slow, and put their own number under one of its own keys."""
+    """Each client's transactions read some keys that nobody writes, which makes them slow, put their own number under one of its own keys, and count."""
     reads = b"".join(b"get r%d\n" % number for number in range(READS))
     lines = [b"points %d\n" % POINTS]
     for client in range(1, CLIENTS + 1):
         lines.append(b"client %d\n" % client)
-        lines += [b"txn\n%sput %s %d\nend\n" % (reads, key_of(name, client, number), number) for number in range(COUNT)]
+        adds = b"add %s 1\n" % counter_of(name, client)
+        lines += [b"txn\n%sput %s %d\n%send\n" % (reads, key_of(name, client, number), number, adds) for number in range(COUNT)]
     return b"".join(lines)
 
 
@@ -112,12 +118,14 @@ def faults_of(folder, name, pairs, least):
     lines, commits = [], in_log(folder)
     reached = 0
     for client, logged in commits.items():
-        if logged != [[(key_of(name, client, number), b"%d" % number)] for number in range(len(logged))]:
+        if logged != [[(key_of(name, client, number), b"%d" % number), (counter_of(name, client), 1)] for number in range(len(logged))]:
             lines.append(f"the log hasn't the first transactions of client {client}")
         own = {key: value for key, value in pairs.items() if key.startswith(b"%s%dk" % (name, client))}
         count = 1 + max((int(value) for value in own.values()), default=-1)
         if own != work_of(name, client, count) or count < len(logged):
             lines.append(f"what is recovered of client {client} is no state that it has made")
+        if pairs.get(counter_of(name, client), bytes(8)) != count.to_bytes(8, "big"):
+            lines.append(f"client {client} has not counted its transactions")
         reached += count
     count = sum(map(len, commits.values()))
     if count < least:

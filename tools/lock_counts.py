@@ -6,7 +6,8 @@ are gone through depth first; the queues are copied, so that no list is begun an
 """
 
 NOT_ASKED, GRANTED, QUEUED, DIED, RELEASED, NOTHING = "not asked", "granted", "queued", "died", "released", "nothing"
-NAMES = (NOT_ASKED, GRANTED, QUEUED, DIED, RELEASED, NOTHING)
+NOT_FORETOLD = "not foretold"  # no list comes to it
+NAMES = (NOT_ASKED, GRANTED, QUEUED, DIED, RELEASED, NOTHING, NOT_FORETOLD)
 FNV_OFFSET, FNV_PRIME, MASK = 0xCBF29CE484222325, 0x100000001B3, (1 << 64) - 1
 EVENTS = [(transaction, slot, writes) for transaction in (1, 2, 3) for slot, writes in ((0, False), (0, True), (1, False), (1, True), (None, None))]
 

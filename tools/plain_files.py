@@ -8,6 +8,8 @@ rules of docs/FORMATS.md alone. Expected outputs of the gate's programs come fro
 
 import sys
 
+from plain_store import changed, run_script
+
 
 class Refused(Exception):
     """Why bytes are no file, or files give none."""
@@ -41,9 +43,15 @@ class Fields:
 
     def content(self):
         """A value, or None for a tombstone or an absence."""
+        return self.change(1)
+
+    def change(self, greatest_kind=2):
+        """What a write does to its key: a value, None for a removal, or the number that is added."""
         kind = self.number(1)
-        if kind > 1:
+        if kind > greatest_kind:
             raise Refused("BadKind")
+        if kind == 2:
+            return int.from_bytes(self.bytes(8), "big", signed=True)
         return self.sized(4, 0, 65_535) if kind == 1 else None
 
     def magic(self, magic):
@@ -95,7 +103,8 @@ class Base:
 class Log:
     """A run, the whole entries with the places behind them, and the fault of the rest or None.
 
-    An entry is ("commit", session, writes) or ("token", phase, point)."""
+    An entry is ("commit", session, writes) or ("token", phase, point). A write is a key with a value, None for a removal, or the number that is
+    added."""
 
     def __init__(self, run):
         self.run, self.entries, self.ends, self.fault = run, [], [20], None
@@ -115,12 +124,16 @@ def content_text(value):
     return b"\0" if value is None else b"\1" + len(value).to_bytes(4, "big") + value
 
 
+def change_text(change):
+    return b"\2" + change.to_bytes(8, "big", signed=True) if isinstance(change, int) else content_text(change)
+
+
 def body_text(entry):
     if entry[0] == "token":
         return b"\2" + bytes([PHASES.index(entry[1])]) + entry[2].to_bytes(4, "big")
     body = b"\1" + bytes([entry[1]]) + len(entry[2]).to_bytes(2, "big")
-    for key, value in entry[2]:
-        body += len(key).to_bytes(2, "big") + key + content_text(value)
+    for key, change in entry[2]:
+        body += len(key).to_bytes(2, "big") + key + change_text(change)
     return body
 
 
@@ -218,7 +231,7 @@ def read_body(body, tokens):
             key = body.sized(2, 1, 255)
             if any(key == other for other, _ in writes):
                 raise Refused("KeyOrder")
-            writes.append((key, body.content()))
+            writes.append((key, body.change()))
         entry = ("commit", session, writes)
     elif kind == 2:
         phase = body.number(1)
@@ -365,11 +378,16 @@ def recover(base_text, files, log_text):
         raise Refused("OtherRun")
     pairs = dict(state.pairs)
     for entry in behind(log.entries, point):
-        for key, value in entry[2]:
-            pairs.pop(key, None)
-            if value is not None:
-                pairs[key] = value
+        for key, change in entry[2]:
+            apply(pairs, key, change)
     return Recovered(point, len(log.entries), log.fault, [(files[place][0], reasons[place]) for place in sorted(reasons)], pairs)
+
+
+def apply(pairs, key, change):
+    """The pairs are written over with the change."""
+    value = changed(pairs.pop(key, None), change)
+    if value is not None:
+        pairs[key] = value
 
 
 def behind(entries, point):
@@ -426,6 +444,10 @@ def content_word(value):
     return "tombstone" if value is None else "= " + digits(value)
 
 
+def change_word(change):
+    return "+ %d" % change if isinstance(change, int) else content_word(change)
+
+
 def part_lines(part):
     ranges = "".join(" %d-%d" % it for it in part.ranges)
     lines = ["run %d complete to %d points%s" % (part.run, part.complete_to(), ranges)]
@@ -446,7 +468,7 @@ def log_lines(log, length):
         if entry[0] == "token":
             body = "%s %d" % entry[1:]
         else:
-            body = "commit of %d" % entry[1] + "".join(" %s %s" % (digits(key), content_word(value)) for key, value in entry[2])
+            body = "commit of %d" % entry[1] + "".join(" %s %s" % (digits(key), change_word(change)) for key, change in entry[2])
         lines.append("%d of %d left %d: %s" % (number, number, length - end, body))
     return lines + (["refused " + log.fault] if log.fault else [])
 
@@ -575,10 +597,8 @@ def print_rows(path):
         elif words[1] == b"cuts":
             sys.stdout.buffer.write(cuts_text(folder_of(lines)))
         else:
-            import plain_store
-
             script = b"".join(line + b"\n" for line in lines)
-            sys.stdout.buffer.write(plain_store.run_script(["=="] + head.decode().split(" "), script))
+            sys.stdout.buffer.write(run_script(["=="] + head.decode().split(" "), script))
 
 
 if __name__ == "__main__":

@@ -16,10 +16,39 @@ BEFORE, DURING, AFTER = "Before", "During", "After"
 CLASS_OF = {"rest": BEFORE, "complete": BEFORE, "prepare": DURING, "resolve": AFTER, "capture": AFTER}
 MOST_WRITES = 256
 TOMBSTONE = None
+GRANTED = "granted"
+
+
+# What a change is: the bytes that are set, None where the key is removed, or the number that is added.
+
+def fits(number):
+    """Whether the number has 64 bits with a sign."""
+    return -(2**63) <= number < 2**63
+
+
+def number_in(there):
+    """The number that a key has with this value, or with none; None where the value isn't one."""
+    if there is None:
+        return 0
+    return int.from_bytes(there, "big", signed=True) if len(there) == 8 else None
+
+
+def text_of(number):
+    """The value that stands for the number."""
+    return number.to_bytes(8, "big", signed=True)
+
+
+def changed(there, change):
+    """What a key has after the change. An add that finds no number, or whose sum doesn't fit, changes nothing."""
+    if not isinstance(change, int):
+        return change
+    number = number_in(there)
+    return there if number is None or not fits(number + change) else text_of(number + change)
 
 
 class Transaction:
-    """An open transaction: its number and class, its final writes in the order of first writes, the keys it has requests on, and what holds it."""
+    """An open transaction: its number and class, what it does to each key in the order of first writes, the keys it has requests on, and what holds
+    it."""
 
     __slots__ = ("number", "kind", "writes", "requested", "is_dead")
 
@@ -94,29 +123,35 @@ class Store:
         keys = set(self.committed) | {it for it, queue in self.queues.items() if queue} | set(self.opened) | set(self.closed)
         return len(keys) == self.capacity
 
-    def lock(self, mine, key, is_exclusive):
-        """Asks for the key's lock: what is answered where it isn't granted. The queue has (number, is exclusive, is granted)."""
-        queue = self.queues.setdefault(key, [])
+    def outcome(self, mine, key, is_exclusive):
+        """What a request for the key's lock comes to. The queue has (number, is exclusive, is granted)."""
+        queue = self.queues.get(key, [])
         own = [it for it in queue if it[0] == mine.number]
         others = [it for it in queue if it[0] != mine.number]
         if own:
-            if own[0][1] or not is_exclusive:
-                return None
-            if any(is_granted for _, _, is_granted in others):
-                mine.is_dead = True
-                return ("died",)
-            queue[queue.index(own[0])] = (mine.number, True, True)
-            return None
+            is_held = own[0][1] or not is_exclusive
+            return "died" if not is_held and any(it[2] for it in others) else GRANTED
         if not others or (not is_exclusive and not any(it[1] for it in others)):
-            queue.append((mine.number, is_exclusive, True))
+            return GRANTED
+        return "wait" if all(mine.number < it[0] for it in others) else "died"
+
+    def lock(self, mine, key, is_exclusive):
+        """Asks for the key's lock: what is answered where it isn't granted."""
+        outcome, queue = self.outcome(mine, key, is_exclusive), self.queues.setdefault(key, [])
+        if outcome == "died":
+            mine.is_dead = True
+        elif key not in mine.requested:
+            queue.append((mine.number, is_exclusive, outcome == GRANTED))
             mine.requested.append(key)
-            return None
-        if all(mine.number < it[0] for it in others):
-            queue.append((mine.number, is_exclusive, False))
-            mine.requested.append(key)
-            return ("wait",)
-        mine.is_dead = True
-        return ("died",)
+        elif is_exclusive:
+            place = next(place for place, it in enumerate(queue) if it[0] == mine.number)
+            queue[place] = (mine.number, True, True)
+        return None if outcome == GRANTED else (outcome,)
+
+    def seen(self, mine, key):
+        """What the transaction sees of the key: what its own change makes of what is committed."""
+        there = self.committed.get(key)
+        return changed(there, mine.writes[key]) if key in mine.writes else there
 
     def on_get(self, session, key):
         refusal = self.why_not(session)
@@ -126,18 +161,24 @@ class Store:
         held = self.lock(mine, key, False)
         if held:
             return held
-        value = mine.writes[key] if key in mine.writes else self.committed.get(key)
+        value = self.seen(mine, key)
         return ("absent",) if value is None else ("found", value)
 
-    def on_put(self, session, key, value):
+    def why_no_write(self, session, key):
+        """The refusal that stands before any write of the key."""
         refusal = self.why_not(session)
         if refusal:
             return refusal
-        mine = self.open[session]
-        if key not in mine.writes and len(mine.writes) == MOST_WRITES:
+        writes = self.open[session].writes
+        if key not in writes and len(writes) == MOST_WRITES:
             return ("refused", "TooManyWrites")
-        if self.is_full_for(key):
-            return ("refused", "Full")
+        return ("refused", "Full") if self.is_full_for(key) else None
+
+    def on_put(self, session, key, value):
+        refusal = self.why_no_write(session, key)
+        if refusal:
+            return refusal
+        mine = self.open[session]
         held = self.lock(mine, key, True)
         if held:
             return held
@@ -146,6 +187,35 @@ class Store:
 
     def on_del(self, session, key):
         return self.on_put(session, key, TOMBSTONE)
+
+    def why_no_sum(self, mine, key, delta):
+        """The refusal of an add whose lock would be granted."""
+        number, own = number_in(self.seen(mine, key)), mine.writes.get(key)
+        if number is None:
+            return ("refused", "NotNumber")
+        is_kept = fits(own + delta) if isinstance(own, int) else True
+        return None if is_kept and fits(number + delta) else ("refused", "OutOfRange")
+
+    def on_add(self, session, key, delta):
+        refusal = self.why_no_write(session, key)
+        if refusal:
+            return refusal
+        mine = self.open[session]
+        if self.outcome(mine, key, True) == GRANTED:
+            refusal = self.why_no_sum(mine, key, delta)
+            if refusal:
+                return refusal
+        held = self.lock(mine, key, True)
+        if held:
+            return held
+        number = number_in(self.seen(mine, key)) + delta
+        if key not in mine.writes:
+            mine.writes[key] = delta
+        elif isinstance(mine.writes[key], int):
+            mine.writes[key] += delta
+        else:
+            mine.writes[key] = text_of(number)
+        return ("sum", number)
 
     def end(self, session):
         """Lets all locks of the session's transaction go, one after the other; each removal grants from the front of its queue."""
@@ -167,7 +237,8 @@ class Store:
         if refusal:
             return refusal
         self.log += 1
-        for key, value in self.open[session].writes.items():
+        for key, change in self.open[session].writes.items():
+            value = changed(self.committed.get(key), change)
             if value is None:
                 self.committed.pop(key, None)
             else:
@@ -327,7 +398,7 @@ def reply_text(reply):
         return pairs_text(*rest)
     if kind == "text":
         return b"text " + rest[0].hex().encode()
-    plain = {"begun": b"begun %d", "committed": b"committed %d", "notyet": b"not yet %d", "partdone": b"part %d file %d entries %d"}
+    plain = {"begun": b"begun %d", "sum": b"sum %d", "committed": b"committed %d", "notyet": b"not yet %d", "partdone": b"part %d file %d entries %d"}
     return plain[kind] % rest if kind in plain else {"noneleft": b"none left"}.get(kind, kind.encode())
 
 
@@ -343,6 +414,12 @@ def number(text):
     return int(text)
 
 
+def delta(text):
+    if not re.fullmatch(rb"-?[0-9]{1,19}", text) or not fits(int(text)):
+        raise Malformed
+    return int(text)
+
+
 def content(text):
     """The bytes that a key or value word stands for."""
     if text == b"-":
@@ -354,10 +431,10 @@ def content(text):
 
 FORMS = {
     b"base": (content, content), b"begin": (number,), b"get": (number, content), b"put": (number, content, content), b"del": (number, content),
-    b"commit": (number,), b"abort": (number,), b"point": (), b"seal": (), b"capture": (), b"take": (), b"done": (), b"rest": (),
+    b"add": (number, content, delta), b"commit": (number,), b"abort": (number,), b"point": (), b"seal": (), b"capture": (), b"take": (), b"done": (), b"rest": (),
     b"join": (number, number), b"state": (number,), b"text": (number,), b"check": (),
 }
-KEY_AT = {b"base": 0, b"get": 1, b"put": 1, b"del": 1}
+KEY_AT = {b"base": 0, b"get": 1, b"put": 1, b"del": 1, b"add": 1}
 VALUE_AT = {b"base": 1, b"put": 2}
 
 

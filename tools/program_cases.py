@@ -161,12 +161,61 @@ def long_script():
     lines = [b"base k%d %d" % (number % 90, number) for number in range(200)]
     for number in range(2500):
         key = b"k%d" % (number * 7 % 100)
-        lines += [b"begin 1", b"put 1 %s value%d" % (key, number), b"get 1 %s" % key, b"commit 1"]
+        lines += [b"begin 1", b"put 1 %s value%d" % (key, number), b"get 1 %s" % key, b"add 1 n%d %d" % (number % 3, (number % 11 - 5) * 10**18), b"commit 1"]
         if number in (1000, 2000):
-            lines += [b"point", b"seal", b"capture", *[b"take"] * 101, b"done", b"rest", b"state 1"]
+            lines += [b"point", b"seal", b"capture", *[b"take"] * 104, b"done", b"rest", b"state 1"]
     script = b"".join(line + b"\n" for line in lines)
     run = plain_store.Script(8, 1024, 1)
     return script, b"".join(run.answer(line) for line in plain_store.lines_of(script))
+
+
+ADDS = b"""begin 1
+add 1 n 5
+add 1 n -2
+get 1 n
+commit 1
+begin 1
+put 1 t x
+add 1 t 1
+add 1 n 9223372036854775807
+add 1 n -4
+commit 1
+point
+seal
+capture
+take
+take
+"""
+ADDS_TOLD = rb"""begun 1
+sum 5
+sum 3
+= \x00\x00\x00\x00\x00\x00\x00\x03
+committed 1
+begun 2
+ok
+refused NotNumber
+refused OutOfRange
+sum -1
+committed 2
+phase prepare 1
+phase resolve 1
+phase capture 1
+took n \xff\xff\xff\xff\xff\xff\xff\xff
+took t x
+"""
+
+
+def add_cases(folder):
+    """Scripts that add: which numbers may be added, and up to where the sums go."""
+    written(folder, "adds.pcs", ADDS)
+    yield Case("adds of two transactions", ("step", "adds.pcs"), 0, ADDS_TOLD)
+    deltas = (b"-0", b"007", b"9223372036854775800", b"1", b"-9223372036854775808", b"-9223372036854775807", b"-1")
+    written(folder, "ends.pcs", b"begin 1\n" + b"".join(b"add 1 n %s\n" % delta for delta in deltas) + b"get 1 n\n")
+    sums = b"sum 0\nsum 7\nsum 9223372036854775807\nrefused OutOfRange\nsum -1\nsum -9223372036854775808\nrefused OutOfRange\n"
+    yield Case("sums up to both ends", ("step", "ends.pcs"), 0, b"begun 1\n" + sums + b"= \\x80" + b"\\x00" * 7 + b"\n")
+    for number, wrong in enumerate((b"+1", b"-", b"", b"1 2", b"00000000000000000001", b"9223372036854775808", b"-9223372036854775809")):
+        written(folder, f"delta{number}.pcs", b"begin 1\nadd 1 n " + wrong + b"\nadd 1 n 1\n")
+        yield Case("what is no number to add", ("step", f"delta{number}.pcs"), 3, b"begun 1\nbad line\nsum 1\n")
 
 
 def script_cases(folder):
@@ -474,6 +523,6 @@ def collapse_fault_cases(folder):
 
 def cases(folder):
     """Each case, whose files are written into the folder right before it."""
-    together = (usage_cases, option_cases, script_cases, folder_cases, listed_cases, long_folder_cases, memory_cases)
+    together = (usage_cases, option_cases, add_cases, script_cases, folder_cases, listed_cases, long_folder_cases, memory_cases)
     for some in (*together, collapse_usage_cases, collapse_cases, pipe_cases, closed_cases, collapse_fault_cases):
         yield from some(folder)

@@ -8,6 +8,7 @@ threads mix can't be told beforehand; what is compared is the same for every ord
 import os
 
 import plain_files
+import plain_store
 from program_cases import FAULTS, FULL, LITTLE, MANY, Case, beside, feed, piped, sparse, written
 
 EMPTY = plain_files.Base(1, 0, {}).text()
@@ -56,6 +57,14 @@ BAD_LINES = [
     (b"client 1\ntxn\nget " + b"k" * 256 + b"\nend\n", 3),
     (b"client 1\ntxn\nput k " + b"v" * 65_536 + b"\nend\n", 3),
     (b"client 1\ntxn\nput k \\x4\nend\n", 3),
+    (b"client 1\nadd k 1\n", 2),
+    (b"client 1\ntxn\nadd k\nend\n", 3),
+    (b"client 1\ntxn\nadd k 1\nadd k +1\nend\n", 4),
+    (b"client 1\ntxn\nadd k -\nend\n", 3),
+    (b"client 1\ntxn\nadd k 9223372036854775807\nadd k -9223372036854775808\nadd k 9223372036854775808\nend\n", 5),
+    (b"client 1\ntxn\nadd k 1 1\nend\n", 3),
+    (b"client 1\ntxn\nadd - 1\nend\n", 3),
+    (b"client 1\ntxn\nadd " + b"k" * 256 + b" 1\nend\n", 3),
     (b"client 1\nfill " + b"k" * 250 + b" 1 x\n", 2),
     (b"client 1\nfill a 0 x\n", 2),
     (b"client 1\nfill a 1000001 x\n", 2),
@@ -199,6 +208,11 @@ def put_hot(number):
     return b"put hot %d\n" % number
 
 
+def add_hot(number):
+    """An add to the one key that all want."""
+    return b"add hot %d\n" % number
+
+
 def put_hot_and_other(number):
     """The same, and a put of one of eight others."""
     return put_hot(number) + b"put other%d v\n" % (number * 5 % 8)
@@ -224,7 +238,7 @@ def contended(clients, count, ops):
 
 def contention_cases(folder):
     """Clients that want the same keys, each on a thread of its own: none of their transactions is given up."""
-    wants = [("one key", put_hot, (4, 64)), ("one key and eight", put_hot_and_other, (4, 16, 64))]
+    wants = [("one key", put_hot, (4, 64)), ("one number", add_hot, (4, 64)), ("one key and eight", put_hot_and_other, (4, 16, 64))]
     wants += [(f"two of {keys} keys", transfer(keys), (4, 16, 64)) for keys in (10, 100)]
     told = b"commits %d\ngave up 0\npoints 0\ncollapsed none\ncheck ok\n" % CONTENDED
     for number, (what, ops, sizes) in enumerate(wants):
@@ -265,17 +279,27 @@ def arena_cases(folder):
 
 
 def mixed(client, number):
-    """A transaction of a client that wants some of 100 keys, as its operations: they wait for one another, and die."""
+    """A transaction of a client that wants some of 100 keys and adds 1 to one of 20 others, as its operations: they wait for one another, and die."""
     keys = [b"a%d" % ((client * 37 + number * 11 + place * 29) % 100) for place in range(4)]
-    return [(b"get", keys[0]), (b"put", keys[1], b"%d" % number), (b"del", keys[2]), (b"put", keys[3], b"%d" % client)]
+    count = b"n%d" % ((client * 7 + number) % 20)
+    return [(b"get", keys[0]), (b"put", keys[1], b"%d" % number), (b"add", count, b"1"), (b"del", keys[2]), (b"put", keys[3], b"%d" % client)]
+
+
+def with_delta(change, delta):
+    """What an add behind this change of its key is with it."""
+    if isinstance(change, int):
+        return change + delta
+    return plain_store.text_of(plain_store.number_in(change) + delta)
 
 
 def writes_of(ops):
-    """The final writes of these operations, in the order of first writes."""
+    """What these operations do in all to each key, in the order of first writes; none of them is refused."""
     final = {}
     for verb, key, *value in ops:
-        if verb != b"get":
-            final[key] = value[0] if value else None
+        if verb == b"add":
+            final[key] = with_delta(final.get(key, 0), int(value[0]))
+        elif verb != b"get":
+            final[key] = plain_store.content(value[0]) if value else None
     return [*final.items()]
 
 
@@ -301,7 +325,85 @@ def everything_cases(folder):
     told = [b"commits 3200\ngave up 0\npoints 100\ncollapsed 1-100 entries ", b"\ncheck ok\n"]
     wanted = {client: [writes_of(ops) for ops in transactions] for client, transactions in jobs.items()}
     yield Case("64 clients, 100 points and eight collapsers", words, 0, parts=told, checks={"everything/log.pcl": has_commits(wanted)})
-    yield recovery("everything", "the folder of all that", plain_files.recover(*files_of(os.path.join(folder, "everything"))))
+    whole = plain_files.recover(*files_of(os.path.join(folder, "everything")))
+    assert sum(int.from_bytes(whole.pairs[b"n%d" % number], "big", signed=True) for number in range(20)) == 3200
+    yield recovery("everything", "the folder of all that", whole)
+
+
+def number_of_all(number):
+    """What a recovery of a counter prints of its pair."""
+    return b"pairs 1\nn " + b"".join(b"%c" % byte if 0x21 <= byte <= 0x7E and byte != 0x5C else b"\\x%02x" % byte for byte in number.to_bytes(8, "big")) + b"\n"
+
+
+# The log of the adds of two transactions, which are the worked row of docs/FORMATS.md.
+ADDS = b"points 1\nclient 1\ntxn\nadd n 5\nadd n -2\nget n\nend\ntxn\nput t x\nadd n -4\nend\n"
+ADDS_LOG = "5043414c434c3031 0000000000000001 00000000 00000010 01 01 0001 0001 6e 02 0000000000000003"
+ADDS_LOG += "00000019 01 01 0002 0001 74 01 00000001 78 0001 6e 02 fffffffffffffffc"
+ADDS_PART = "5043414c43503031 0000000000000001 00000001 00000001 00000001"
+ADDS_PART += "0001 6e 00000001 01 00000008 ffffffffffffffff 0001 74 00000001 01 00000001 78 0000 00000002"
+# What one transaction does, and the one change that is kept of each key.
+MERGED = [rb"put a \x00\x00\x00\x00\x00\x00\x00\x05", b"add a 2", b"del b", b"add b -3", b"add k 4", b"add k 5", b"add x 1", b"put x 6"]
+MERGED += [b"add y 1", b"del y", b"add z 1", b"del z", b"add z 8", b"add z 8"]
+MERGED_WRITES = [(b"a", bytes(7) + b"\7"), (b"b", b"\xff" * 7 + b"\xfd"), (b"k", 9), (b"x", b"6"), (b"y", None), (b"z", bytes(7) + b"\x10")]
+COUNTED = b"points 8\n" + b"".join(b"client %d\n" % client + b"txn\nadd n 1\nend\n" * 1000 for client in range(1, 5))
+
+
+def add_cases(folder):
+    """Runs that add: what their logs and files have, and that no add is lost or made twice."""
+    written(folder, "adds.pcw", ADDS)
+    told = b"commits 2\ngave up 0\npoints 1\ncollapsed 1 entries 2\nstate pairs 2\ncheck ok\n"
+    log = bytes.fromhex(ADDS_LOG)
+    checks = {"adds/log.pcl": lambda text: len(log) == 69 and (text or b"").startswith(log)}
+    yield Case("adds of two transactions", ("run", "adds.pcw", "--dir", new_folder(folder, "adds")), 0, told, checks=checks, files={"adds/part-00001.pcp": bytes.fromhex(ADDS_PART)})
+    yield Case("what they leave", ("recover", "adds"), 0, b"point 1\nentries 7\npairs 2\nn " + b"\\xff" * 8 + b"\nt x\n")
+    log = plain_files.Log(1)
+    log.entries = [("commit", 1, MERGED_WRITES)]
+    written(folder, "merged.pcw", b"client 1\ntxn\n" + b"".join(line + b"\n" for line in MERGED) + b"end\n")
+    told = b"commits 1\ngave up 0\npoints 0\ncollapsed none\ncheck ok\n"
+    yield Case("adds behind other changes", ("run", "merged.pcw", "--dir", new_folder(folder, "merged")), 0, told, files={"merged/log.pcl": log.text()})
+    written(folder, "refused.pcw", b"client 1\ntxn\nput t 1234567\nput m 12345678\nend\ntxn\nadd t 1\nend\ntxn\nadd m 9223372036854775807\nend\ntxn\nadd m 1\nend\n")
+    yield Case("adds that are refused", ("run", "refused.pcw"), 0, b"commits 2\ngave up 2\npoints 0\ncollapsed none\ncheck ok\n")
+    written(folder, "counted.pcw", COUNTED)
+    told = b"commits 4000\ngave up 0\npoints 8\ncollapsed 1-8 entries 1\nstate pairs 1\ncheck ok\n"
+    for number, more in enumerate((("--lag", "0"), ("--every", "1"), ("--workers", "1"))):
+        words = ("run", "counted.pcw", "--dir", new_folder(folder, f"counted{number}"), *more)
+        yield Case("four clients that count", words, 0, told)
+        yield Case("what they have counted", ("recover", f"counted{number}"), 0, b"point 8\nentries 4040\n" + number_of_all(4000))
+    words = ("run", "counted.pcw", "--from", "counted0", "--dir", new_folder(folder, "counted_on"))
+    yield Case("four clients that count on", words, 0, told)
+    yield Case("what all have counted", ("recover", "counted_on"), 0, b"point 8\nentries 4040\n" + number_of_all(8000))
+    yield from counted_cut_cases(folder)
+    yield from cut_add_cases(folder)
+
+
+def counted_cut_cases(folder):
+    """The folder of those that count, with its log cut and without its parts: each whole commit counts once."""
+    base, parts, log = files_of(os.path.join(folder, "counted0"))
+    for name, text in [("base.pcb", base), *[(os.fsdecode(name), text) for name, text in parts]]:
+        written(folder, "counted_cut/" + name, text)
+    written(folder, "counted_log/base.pcb", base)
+    for cut in range(1, CUTS):
+        text = log[: cut * len(log) // CUTS]
+        for place, some in (("counted_cut", parts), ("counted_log", [])):
+            written(folder, f"{place}/log.pcl", text)
+            yield recovery(place, f"{len(text)} bytes of their log", plain_files.recover(base, some, text))
+
+
+def cut_add_cases(folder):
+    """A folder whose log has adds before and behind the token of its part's point, whole and with its log cut at each byte."""
+    log = plain_files.Log(1)
+    log.entries = [("commit", 1, [(b"n", 5), (b"m", -1)]), ("token", "prepare", 1), ("commit", 2, [(b"n", -2)]), ("token", "resolve", 1)]
+    log.entries += [("commit", 1, [(b"n", -4), (b"t", b"x")]), ("token", "capture", 1), ("commit", 64, [(b"m", 2**62), (b"l", -(2**63))])]
+    number = lambda of: of.to_bytes(8, "big", signed=True)
+    base = plain_files.Base(1, 0, {b"n": number(100)}).text()
+    part = plain_files.Part(1, [(1, 1)], {b"n": (1, number(103)), b"m": (1, number(-1))}).text()
+    written(folder, "cut_adds/base.pcb", base)
+    written(folder, "cut_adds/part-00001.pcp", part)
+    whole = plain_files.recover(base, [(b"part-00001.pcp", part)], log.text())
+    assert whole.pairs == {b"n": number(99), b"m": number(2**62 - 1), b"l": number(-(2**63)), b"t": b"x"}
+    for cut in range(len(log.text()) + 1):
+        written(folder, "cut_adds/log.pcl", log.text()[:cut])
+        yield recovery("cut_adds", f"{cut} bytes of a log with adds", plain_files.recover(base, [(b"part-00001.pcp", part)], log.text()[:cut]))
 
 
 def fault_cases(folder):
@@ -492,5 +594,5 @@ def number_cases(folder):
 
 def cases(folder):
     """Each case, whose files are written into the folder right before it."""
-    for some in (usage_cases, workload_cases, telling_cases, pace_cases, contention_cases, arena_cases, everything_cases, fault_cases, used_cases, from_cases, number_cases, folder_cases):
+    for some in (usage_cases, workload_cases, telling_cases, pace_cases, contention_cases, arena_cases, add_cases, everything_cases, fault_cases, used_cases, from_cases, number_cases, folder_cases):
         yield from some(folder)

@@ -31,8 +31,11 @@ PROGRAM = os.path.abspath(os.path.join(os.path.dirname(os.path.abspath(__file__)
 LANES = os.cpu_count() or 1
 SECONDS = 600
 KEYS = [b"a", b"b", b"c", b"d", b"e", b"k\\x00", b"\\xff"]
-VALUES = [b"-", b"1", b"22", b"\\x5c\\x2d", b"x" * 40]
+# the last four are numbers, or have a byte less or more than one
+VALUES = [b"-", b"1", b"22", b"\\x5c\\x2d", b"x" * 40, b"\\x00" * 7 + b"5", b"\\x7f" + b"\\xff" * 7, b"1234567", b"123456789"]
+DELTAS = [b"0", b"1", b"-1", b"7", b"-0", b"007", b"-300", b"%d" % (2**63 - 1), b"%d" % -(2**63), b"%d" % 2**62, b"%d" % -(2**62)]
 ODD = [b"", b"# nothing", b"frob", b"get 1", b"put 1 a", b"put 1 - x", b"get 0 a", b"begin 257", b"text 99", b"join 1 99", b"state 0", b"base a 1"]
+ODD += [b"add 1 a", b"add 1 a +1", b"add 1 a -", b"add 1 a 9223372036854775808", b"add 1 a -9223372036854775809", b"add 1 a 00000000000000000001", b"add 1 - 1"]
 NEXT = {"rest": [b"point"], "prepare": [b"seal"], "resolve": [b"capture"], "capture": [b"take", b"take", b"done"], "complete": [b"rest"]}
 
 
@@ -83,6 +86,7 @@ class Scripts:
         return chance.choice(
             [b"begin %d" % session, b"commit %d" % session, chance.choice([b"abort %d" % session, b"commit %d" % session])]
             + [b"put %d %s %s" % (session, key, chance.choice(VALUES)), b"get %d %s" % (session, key), b"del %d %s" % (session, key)] * 2
+            + [b"add %d %s %s" % (session, key, chance.choice(DELTAS))] * 3
             + [chance.choice(NEXT[store.phase]), chance.choice(sum(NEXT.values(), []))] * 2
             + [b"join %d %d" % (chance.randint(1, files + 1), chance.randint(1, files + 1)), b"state %d" % chance.randint(0, files + 1)]
             + [b"text %d" % chance.randint(0, files + 1), b"check", chance.choice(ODD)]
@@ -107,15 +111,16 @@ class Scripts:
 
 def history(chance, run):
     """The base, the parts of the points, by their numbers, and the log of a run of its own."""
-    drawn = lambda count: {b"k%d" % chance.randrange(9): chance.choice([None, b"", b"1", b"22", b"x" * 30]) for _ in range(count)}
+    drawn = lambda count: {b"k%d" % chance.randrange(9): chance.choice([None, b"", b"1", b"22", b"x" * 30, bytes(7) + b"7"]) for _ in range(count)}
     base = plain_files.Base(run, 0, {key: value for key, value in drawn(chance.randrange(4)).items() if value is not None})
     log, parts, state, dirty = plain_files.Log(run), {}, dict(base.pairs), set()
 
     def commits():
         for _ in range(chance.randrange(4)):
             writes = drawn(chance.randint(1, 3))
+            writes.update({b"k%d" % chance.randrange(9): int(chance.choice(DELTAS)) for _ in range(chance.randrange(3))})
             log.entries.append(("commit", chance.randint(1, 64), [*writes.items()]))
-            state.update(writes)
+            state.update({key: plain_store.changed(state.get(key), change) for key, change in writes.items()})
             dirty.update(writes)
 
     for point in range(1, chance.randint(1, 5)):
@@ -270,8 +275,8 @@ def replayed(base, entries):
     """The pairs of the base after the commits among the entries."""
     pairs = dict(base.pairs)
     for entry in entries:
-        for key, value in entry[2] if entry[0] == "commit" else ():
-            pairs.pop(key, None)
+        for key, change in entry[2] if entry[0] == "commit" else ():
+            value = plain_store.changed(pairs.pop(key, None), change)
             pairs.update({} if value is None else {key: value})
     return pairs
 
@@ -292,7 +297,10 @@ class Runs:
         return (points, words + chance.choice([[], ["--lag=0"], ["--lag=5"], ["--sync", "--lag=100"]]), chance.randbytes(8)), pieces
 
     def line(self, chance, key):
-        return chance.choice([b"put %s %d" % (key, chance.randrange(99)), b"del %s" % key, b"get %s" % key])
+        """Keys that are added to are their own, and have numbers, so that none is refused."""
+        add = b"add n%s %d" % (key, chance.choice([1, -1, 5, 2**40, -(2**40)]))
+        number = chance.choice([add, add, add, b"put n%s \\x00%s" % (key, b"1234567"), b"del n%s" % key, b"get n%s" % key])
+        return chance.choice([b"put %s %d" % (key, chance.randrange(99)), b"del %s" % key, b"get %s" % key, number])
 
     def workload(self, points, pieces):
         clients = {}

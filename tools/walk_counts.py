@@ -34,13 +34,17 @@ def of_session(session, seed):
         return ("begin", session)
     if kind in (5, 6):
         return ("get", session, key)
-    if kind <= 12:
+    if kind <= 10:
         return ("put", session, key, WORD[start : start + drawn(seed, 35, 28)])
+    if kind <= 12:
+        return ("add", session, key, drawn(seed, 35, 28) - 14)
     return ("del", session, key) if kind <= 14 else ("abort", session) if kind == 15 else ("commit", session)
 
 
 def size_of(writes):
-    return COMMIT + sum(3 + len(key) + (0 if value is None else 4 + len(value)) for key, value in writes.items())
+    """How many bytes a commit of these writes takes in the log."""
+    sizes = [0 if change is None else 8 if isinstance(change, int) else 4 + len(change) for change in writes.values()]
+    return COMMIT + sum(3 + len(key) for key in writes) + sum(sizes)
 
 
 def walked(seed):

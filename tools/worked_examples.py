@@ -11,12 +11,14 @@ examples, in the words of scripts:
     about TEXT               what it shows
     base K V, capacity N, sessions N      the setting, where it isn't the plain one
     after NAME               it goes on from that one
-    COMMAND: REPLY           its steps
+    COMMAND: REPLY           its steps; a value is a digit, `seven` or `nine` of so many bytes, or the number N as `#N`
     file POINTS: K N V, ..   the files on the shelf, in order; V may be `tombstone`, `none` stands for no entries
     state F: point N pairs K V, ..        file F laid on the base
     gap F: N                 the point that file F lacks first
     contents: K V, ..        the committed contents at the end
     quiet, not quiet         whether no transaction was open outside rest
+    log: E; E; ..            the log's entries: a token as PHASE POINT, or a commit as its session and its writes, parted by commas:
+                             `sets K V`, `removes K`, `adds N to K`
 
     illegal NAME             a reply that isn't legal
     about TEXT
@@ -30,19 +32,32 @@ import sys
 
 TOOLS = pathlib.Path(__file__).resolve().parent
 CRATE = TOOLS.parent / 'crates' / 'test_model'
-UNFOLDING = 'unfolding map_of.empty map_of.get map_of.insert map_of.remove\n'
+UNFOLDING = 'unfolding map_of.empty map_of.get map_of.insert map_of.remove'
+NUMBERS = ' number_text number_in number_of'
 BY_SESSION = {'begin': 'Begin', 'commit': 'Commit', 'abort': 'Abort'}
 ALONE = {'point': 'StartPoint', 'seal': 'Seal', 'capture': 'OpenCapture', 'take': 'Take', 'done': 'Done', 'rest': 'Rest'}
 LIMITS = {'capacity': 'with_room_for', 'sessions': 'with_sessions'}
 WORDS = {'none': 'NoneLeft', 'absent': 'Absent', 'ok': 'Ok', 'wait': 'Wait', 'died': 'Died', 'aborted': 'Aborted'}
 
 
-def value(word):
-    return 'v' + word if word.isdigit() else word
-
-
 def listed(items):
     return ''.join(f'{item} ∷ ' for item in items) + '[]'
+
+
+def number(word):
+    """A number with a sign."""
+    return f'(pos {int(word)})' if int(word) >= 0 else f'(negsuc {-int(word) - 1})'
+
+
+def unfolding(text):
+    """The words that are unfolded for a text of steps: those of numbers too where it has adds."""
+    return UNFOLDING + (NUMBERS if 'asked.Add' in text else '') + '\n'
+
+
+def value(word):
+    if word.startswith('#'):
+        return f'({listed(int(word[1:]).to_bytes(8, "big", signed=True))})'
+    return 'v' + word if word.isdigit() else word
 
 
 def pieces(text):
@@ -67,6 +82,8 @@ def event(command):
         return f'(asked.{words[0].capitalize()} {words[1]} {words[2]})'
     if words[0] == 'put':
         return f'(asked.Put {words[1]} {words[2]} {value(words[3])})'
+    if words[0] == 'add':
+        return f'(asked.Add {words[1]} {words[2]} {number(words[3])})'
     if words[0] == 'join':
         return f'(asked.Join {words[1]} {words[2]})'
     raise ValueError(command)
@@ -77,6 +94,8 @@ def reply(text):
     match words[0]:
         case 'begun' | 'committed':
             return f'(told.{words[0].capitalize()} {words[1]})'
+        case 'sum':
+            return f'(told.Sum {number(words[1])})'
         case '=':
             return f'(told.Found {value(words[1])})'
         case 'phase':
@@ -106,6 +125,27 @@ def pair(words):
 
 def pairs(text):
     return listed(pair(words) for words in pieces(text))
+
+
+def written(text):
+    """A write of the log."""
+    words = text.split()
+    match words[0]:
+        case 'sets':
+            return f'write_of {words[1]} (does.Set {value(words[2])})'
+        case 'removes':
+            return f'write_of {words[1]} does.Remove'
+        case 'adds':
+            return f'write_of {words[3]} (does.Add {number(words[1])})'
+    raise ValueError(text)
+
+
+def logged(text):
+    """An entry of the log."""
+    head, _, rest = text.partition(' ')
+    if head.isdigit():
+        return f'Commit {head} ({listed(written(piece) for piece in rest.split(", "))})'
+    return f'Token {head.capitalize()} {rest}'
 
 
 class Example:
@@ -145,6 +185,8 @@ class Example:
                 self.facts.append((f'gap_{words[1]}', 'Lacks', f'{words[1]} {rest}'))
             case 'quiet':
                 self.facts.append(('is_quiet', 'IsQuietRun', ''))
+            case 'log':
+                self.facts.append(('log', 'HasLog', f'({listed(logged(piece) for piece in rest.split("; "))})'))
             case 'not':
                 self.facts.append(('is_not_quiet', 'IsNoQuietRun', ''))
             case 'contents':
@@ -162,7 +204,8 @@ class Example:
         files = listed(self.files)
         yield f'{self.name}_runs', f'RunsTo {self.setting()} {self.name} ({files}) ({self.contents})'
         for name, word, rest in self.facts:
-            yield f'{self.name}_{name}', f'{word} {self.setting()} {self.name} {rest}'.rstrip()
+            setting = '' if word == 'HasLog' else self.setting() + ' '
+            yield f'{self.name}_{name}', f'{word} {setting}{self.name} {rest}'.rstrip()
 
     def proofs(self):
         run = 'legal_lean_run' if self.lean else 'legal_run'
@@ -219,22 +262,27 @@ def read(path):
     return about, found
 
 
-SPEC_USES = '''use Rattle.std.specs.Prelude.{ℕ, List, [], ◌∷◌, ◌++◌, Some, None, take}
+SPEC_USES = '''use Rattle.std.specs.Prelude.{ℕ, List, [], ◌∷◌, ◌++◌, Some, None, take, pos, negsuc}
 use Rattle.pc_types.specs.declared.Phase.TheVariants.{Rest, Prepare, Resolve, Capture}
 use Rattle.pc_types.specs.declared.Event.TheVariants as asked
 use Rattle.pc_types.specs.declared.Reply.TheVariants as told
 use Rattle.pc_types.specs.declared.Refusal.TheVariants as why
 use Rattle.pc_types.specs.declared.Step.{Step}
-use Rattle.test_model.specs.Examples.{step, plain, holding, with_room_for, with_sessions, has, lacks, RunsTo, LaysTo, Lacks, IsQuietRun, IsNoQuietRun, IsIllegal, a, b, k, x, y, z, v1, v2, v3, v4, v5, v6, v7, v8, v9}
+use Rattle.pc_types.specs.declared.Entry.TheVariants.{Commit, Token}
+use Rattle.pc_types.specs.declared.Change.TheVariants as does
+use Rattle.pc_model.specs.Database.{write_of}
+use Rattle.test_model.specs.Examples.{step, plain, holding, with_room_for, with_sessions, has, lacks, RunsTo, LaysTo, Lacks, HasLog, IsQuietRun, IsNoQuietRun, IsIllegal, a, b, k, n, t, x, y, z, v1, v2, v3, v4, v5, v6, v7, v8, v9, seven, nine}
 '''
-PROOF_USES = '''use Rattle.std.proofs.Common.{◌≡◌, ℕ, Bool, List, [], ◌∷◌, ◌++◌, take, Option, Some, None, refl, ap, inl, inr, true, false}
+PROOF_USES = '''use Rattle.std.specs.Prelude.{pos, negsuc}
+use Rattle.std.proofs.Common.{◌≡◌, ℕ, Bool, List, [], ◌∷◌, ◌++◌, take, Option, Some, None, refl, ap, inl, inr, true, false}
 use Rattle.pc_types.specs.declared.Phase.TheVariants.{Rest, Prepare, Resolve, Capture}
 use Rattle.pc_types.specs.declared.Event.TheVariants as asked
 use Rattle.pc_types.specs.declared.Reply.TheVariants as told
 use Rattle.pc_types.specs.declared.Refusal.TheVariants as why
+use Rattle.pc_types.specs.Changes.{number_text, number_in, number_of}
 use Rattle.pc_model.specs.Maps as map_of
 use Rattle.pc_model.specs.Database.{same_bytes}
-use Rattle.test_model.specs.Examples.{plain, holding, with_room_for, with_sessions, has, lacks, RunsTo, LaysTo, Lacks, IsQuietRun, IsNoQuietRun, IsIllegal, a, b, k, x, y, z, v1, v2, v3, v4, v5, v6, v7, v8, v9}
+use Rattle.test_model.specs.Examples.{plain, holding, with_room_for, with_sessions, has, lacks, RunsTo, LaysTo, Lacks, HasLog, IsQuietRun, IsNoQuietRun, IsIllegal, a, b, k, n, t, x, y, z, v1, v2, v3, v4, v5, v6, v7, v8, v9, seven, nine}
 use Rattle.pc_model.proofs.Ample.{legal_run, legal_lean_run}
 use Rattle.test_model.proofs.Taken.{key_taken}
 '''
@@ -255,11 +303,11 @@ def used(names):
 def main():
     subjects = {path.stem: read(path) for path in sorted((TOOLS / 'worked_examples').glob('*.txt'))}
     modules = {stem: 'ExamplesOf' + ''.join(word.capitalize() for word in stem.split('_')) for stem in subjects}
-    home, settings = {}, {}
+    home, settings, steps = {}, {}, {}
     for stem, (_, found) in subjects.items():
         for example in found:
             if isinstance(example, Example):
-                home[example.name], settings[example.name] = modules[stem], example.setting()
+                home[example.name], settings[example.name], steps[example.name] = modules[stem], example.setting(), example.history()
     for stem, (about, found) in subjects.items():
         module, record = modules[stem], modules[stem]
         lower = 'examples_of_' + stem
@@ -274,12 +322,12 @@ def main():
             else:
                 statement = example.statement(settings)
                 fields.append(f'  -- {example.about}\n  pub {example.name} : {statement}\n')
-                proofs.append(f'{example.name} : {statement}\n' + UNFOLDING + '\n'.join(example.proof()) + '\n')
+                proofs.append(f'{example.name} : {statement}\n' + unfolding(steps[example.example] + statement) + '\n'.join(example.proof()) + '\n')
                 parts.append(f'  {example.name} = {example.name};\n')
                 cited.append((example.example, home[example.example]))
         cited = sorted(set(cited), key=lambda c: (c[1], c[0]))
         specs.append(f'-- {about}\npub record {record} : Type 0 where\n' + ''.join(fields))
-        proofs.append(f'pub {lower} : {record}\n{UNFOLDING}{lower} = record {{\n{"".join(parts)}}}\n')
+        proofs.append(f'pub {lower} : {record}\n{unfolding("".join(specs))}{lower} = record {{\n{"".join(parts)}}}\n')
         elsewhere = used([c for c in cited if c[1] != module])
         write(CRATE / 'specs' / f'{module}.antt', about, SPEC_USES + elsewhere, specs)
         write(CRATE / 'proofs' / f'{module}.antt', about, PROOF_USES + used(cited + [(record, module)]), proofs)

@@ -1,9 +1,11 @@
 """What plain forms print is what is stored of the programs, and they agree with one another where they say the same of locks."""
 
+import collections
 import contextlib
 import io
 import itertools
 import pathlib
+import random
 import unittest
 
 from support import ROOT, InFolder, stored
@@ -12,6 +14,7 @@ import list_counts
 import lock_counts
 import plain_files
 import plain_store
+import soak
 import walk_counts
 import worked_examples
 
@@ -65,11 +68,14 @@ class Stored(unittest.TestCase):
         self.assertEqual(written(both), stored("crates/test_crowds/stdout"))
 
     def test_lists(self):
-        """Of the quickest family all, and of each how many lists there are."""
-        rows = rows_of(stored("crates/test_lists/stdout").decode(), "== ")
-        self.assertEqual(list_counts.family_text("one session"), rows[0] + "\n")
-        counts = [(row.split("\n")[0], row.split("\n")[1]) for row in rows]
-        self.assertEqual(counts, [(f"== {name}", f"replies {len(it[2]) + it[6]}") for name, it in list_counts.FAMILIES.items()])
+        """Of the quickest families all, and of each whose lists were counted before how many there are."""
+        rows = {row.split("\n")[0].removeprefix("== "): row for row in rows_of(stored("crates/test_lists/stdout").decode(), "== ")}
+        self.assertEqual([*rows], [*list_counts.FAMILIES])
+        for name in ("one session", "two sessions that add"):
+            self.assertEqual(list_counts.family_text(name), rows[name] + "\n")
+        for name, (_, _, start, _, _, _, lists) in list_counts.FAMILIES.items():
+            if lists is not None:
+                self.assertEqual(rows[name].split("\n")[1], f"replies {len(start) + lists}")
 
     def test_walks(self):
         self.assertEqual(written(walk_counts.main), stored("crates/test_walks/stdout"))
@@ -142,7 +148,7 @@ class Locks(unittest.TestCase):
         """Each of eight requests is granted and stands at its slot, and there is nothing to release."""
         counts = lock_counts.Counts(10, 1)
         counts.go_through(NOTHING_YET, 1)
-        self.assertEqual(counts.counts, {"lists": 10, "not asked": 0, "granted": 8, "queued": 0, "died": 0, "released": 0, "nothing": 2, "waiting": 0, "standing": 8})
+        self.assertEqual(counts.counts, {"lists": 10, "not asked": 0, "granted": 8, "queued": 0, "died": 0, "released": 0, "nothing": 2, "not foretold": 0, "waiting": 0, "standing": 8})
 
     def test_a_list_does_not_go_on_behind_what_was_not_asked(self):
         """The second transaction writes what the first one reads, and dies; asked again it is not asked, and no list goes on there."""
@@ -170,6 +176,154 @@ def without_imports(text):
     return " ".join(" ".join(line for line in lines if not line.startswith("use ")).split())
 
 
+ROW = b"""begin 1\nadd 1 n 5\nadd 1 n -2\nget 1 n\ncommit 1\nbegin 1\nput 1 t x\nadd 1 t 1\nadd 1 n 9223372036854775807\nadd 1 n -4\ncommit 1
+point\nseal\ncapture\ntake\ntake\n"""
+REPLIES_OF_ROW = rb"""begun 1
+sum 5
+sum 3
+= \x00\x00\x00\x00\x00\x00\x00\x03
+committed 1
+begun 2
+ok
+refused NotNumber
+refused OutOfRange
+sum -1
+committed 2
+phase prepare 1
+phase resolve 1
+phase capture 1
+took n \xff\xff\xff\xff\xff\xff\xff\xff
+took t x
+status 0
+"""
+LOG_OF_ROW = "5043414c434c3031 0000000000000001 00000000 00000010 01 01 0001 0001 6e 02 0000000000000003"
+LOG_OF_ROW += "00000019 01 01 0002 0001 74 01 00000001 78 0001 6e 02 fffffffffffffffc"
+GREATEST, LEAST = 2**63 - 1, -(2**63)
+
+
+class Adds(unittest.TestCase):
+    """Adds of the plain store and in plain logs."""
+
+    def answers(self, script, **setting):
+        """What the plain store answers to the lines, parted by `; `."""
+        run = plain_store.Script(setting.get("sessions", 8), setting.get("capacity", 16), 1)
+        return "; ".join(run.answer(line.encode()).decode().rstrip("\n") for line in script.split("; "))
+
+    def test_the_worked_row(self):
+        self.assertEqual(plain_store.run_script([], ROW), REPLIES_OF_ROW)
+
+    def test_spellings(self):
+        told = self.answers("begin 1; add 1 n -0; add 1 n 007; add 1 n 0000000000000000001; add 1 m 9223372036854775807; add 1 o -9223372036854775808")
+        self.assertEqual(told, "begun 1; sum 0; sum 7; sum 8; sum 9223372036854775807; sum -9223372036854775808")
+        for wrong in ("", "+1", "-", "--1", "1-", "1_0", "0x1", "00000000000000000001", "9223372036854775808", "-9223372036854775809", "1 2"):
+            self.assertEqual(self.answers(f"begin 1; add 1 n {wrong}"), "begun 1; bad line", wrong)
+
+    def test_the_length_of_the_key(self):
+        self.assertEqual(self.answers("add 9 - 1; add 9 - +1; add 0 k 1"), "refused KeyLength; bad line; refused NoSession")
+
+    def test_values_that_are_no_numbers(self):
+        told = self.answers("base a 1234567; base b 12345678; base c 123456789; base d -; begin 1; add 1 a 0; add 1 b 1; add 1 c 0; add 1 d 0; get 1 b")
+        self.assertEqual(told, "ok; ok; ok; ok; begun 1; refused NotNumber; sum 3544952156018063161; refused NotNumber; refused NotNumber; = 12345679")
+
+    def test_what_changes_make_together(self):
+        store = plain_store.Store({b"c": b"x"})
+        for event in (("begin", 1), ("put", 1, b"a", plain_store.text_of(5)), ("add", 1, b"a", 2), ("del", 1, b"b"), ("add", 1, b"b", -3), ("add", 1, b"k", 4), ("add", 1, b"k", 5), ("add", 1, b"y", 1), ("put", 1, b"y", b"6"), ("add", 1, b"z", 1), ("del", 1, b"z"), ("del", 1, b"c"), ("add", 1, b"c", 0)):
+            self.assertNotEqual(store.step(event)[0], "refused", event)
+        writes = {b"a": plain_store.text_of(7), b"b": plain_store.text_of(-3), b"k": 9, b"y": b"6", b"z": None, b"c": bytes(8)}
+        self.assertEqual([*store.open[1].writes.items()], [*writes.items()])
+
+    def test_sums_of_deltas(self):
+        """The number would fit, and what is added in all doesn't; behind an own put only the number counts."""
+        store = plain_store.Store({b"a": plain_store.text_of(-GREATEST)})
+        steps = [(("begin", 1), ("begun", 1)), (("add", 1, b"a", GREATEST), ("sum", 0)), (("add", 1, b"a", GREATEST), ("refused", "OutOfRange"))]
+        steps += [(("add", 1, b"a", 1), ("refused", "OutOfRange")), (("put", 1, b"a", bytes(8)), ("ok",)), (("add", 1, b"a", GREATEST), ("sum", GREATEST))]
+        steps += [(("add", 1, b"a", LEAST), ("sum", -1)), (("add", 1, b"a", LEAST), ("refused", "OutOfRange"))]
+        for event, reply in steps:
+            self.assertEqual(store.step(event), reply, event)
+
+    def test_locks_come_before_what_stands_there(self):
+        told = self.answers("base k 1; begin 1; begin 2; get 2 k; add 1 k 1; commit 2; add 1 k 1; begin 2; put 2 k 12345678; add 1 k 1; commit 1")
+        self.assertEqual(told, "ok; begun 1; begun 2; = 1; wait; committed 1; refused NotNumber; begun 3; died; refused NotNumber; committed 2")
+        told = self.answers("base k 1; begin 1; begin 2; add 1 k 1; put 2 k 2; add 1 k 1")
+        self.assertEqual(told, "ok; begun 1; begun 2; refused NotNumber; ok; wait")
+
+    def test_causes_in_order(self):
+        told = self.answers("base a 1234567; add 3 a 1; add 1 a 1; begin 1; add 1 b 1; add 1 a 9223372036854775807", sessions=2, capacity=1)
+        self.assertEqual(told, "ok; refused NoSession; refused NoTransaction; begun 1; refused Full; refused NotNumber")
+        writes = "; ".join(f"add 1 k{number} {number}" for number in range(256))
+        self.assertTrue(self.answers(f"begin 1; {writes}; add 1 k256 1; add 1 k255 1", capacity=1024).endswith("sum 255; refused TooManyWrites; sum 256"))
+
+    def test_what_is_committed_is_the_log_replayed(self):
+        """Of drawn scripts: each add of the log finds a number, and replayed, also by a recovery of the log's text, the log makes what is committed."""
+        kinds = collections.Counter()
+        for number in range(150):
+            (sessions, capacity, run), lines = soak.Scripts().draw(random.Random(f"adds {number}"))
+            script, log = plain_store.Script(sessions, capacity, run), plain_files.Log(run)
+            for line in lines:
+                words = line.split(b" ")
+                opened = script.store.open.get(int(words[1])) if script.store and words[0] == b"commit" else None
+                writes = [*opened.writes.items()] if opened else []
+                if script.answer(line).startswith(b"committed"):
+                    log.entries.append(("commit", 1, writes))
+            store = script.stored()
+            pairs = dict(store.base)
+            for _, _, writes in plain_files.read_log(log.text()).entries:
+                for key, change in writes:
+                    there = pairs.pop(key, bytes(8))
+                    if isinstance(change, int):
+                        self.assertEqual(len(there), 8)
+                        pairs[key] = (int.from_bytes(there, "big", signed=True) + change).to_bytes(8, "big", signed=True)
+                    elif change is not None:
+                        pairs[key] = change
+                    kinds[type(change).__name__] += 1
+            self.assertEqual(pairs, store.committed, number)
+            base = plain_files.Base(run, 0, store.base)
+            self.assertEqual(plain_files.recover(base.text(), [], log.text()).pairs, store.committed, number)
+        self.assertGreater(min(kinds["int"], kinds["bytes"], kinds["NoneType"]), 50)
+
+    def test_the_log_of_the_row(self):
+        log = plain_files.Log(1)
+        log.entries = [("commit", 1, [(b"n", 3)]), ("commit", 1, [(b"t", b"x"), (b"n", -4)])]
+        self.assertEqual(log.text(), bytes.fromhex(LOG_OF_ROW))
+        self.assertEqual(plain_files.read_log(log.text()).entries, log.entries)
+        lines = ["run 1", "1 of 1 left 29: commit of 1 6e + 3", "2 of 2 left 0: commit of 1 74 = 78 6e + -4"]
+        self.assertEqual(plain_files.log_lines(plain_files.read_log(log.text()), 69), lines)
+
+    def test_logs_both_ways(self):
+        for delta in (0, 1, -1, GREATEST, LEAST):
+            log = plain_files.Log(1)
+            log.entries = [("commit", 64, [(b"k" * 255, delta), (b"l", None)])]
+            text = log.text()
+            self.assertEqual((plain_files.read_log(text).entries, plain_files.read_log(text).fault), (log.entries, None))
+            self.assertEqual(plain_files.read_log(text[:-1]).fault, "Short")
+
+    def test_damaged_adds(self):
+        head = bytes.fromhex("5043414c434c3031 0000000000000001 00000000")
+
+        def fault(body):
+            return plain_files.read_log(head + (len(body) // 2).to_bytes(4, "big") + bytes.fromhex(body)).fault
+
+        self.assertIsNone(fault("01 01 0001 0001 6e 02 0000000000000003".replace(" ", "")))
+        self.assertEqual(fault("01010001 00016e 02 00000000000003".replace(" ", "")), "BadLength")
+        self.assertEqual(fault("01010001 00016e 02 000000000000000300".replace(" ", "")), "Trailing")
+        self.assertEqual(fault("01010001 00016e 03 0000000000000003".replace(" ", "")), "BadKind")
+        self.assertEqual(fault("01010002 00016e 02 0000000000000003 00016e 02 0000000000000003".replace(" ", "")), "KeyOrder")
+        part = bytes.fromhex("5043414c43503031 0000000000000001 00000001 00000001 00000001 0001 6e 00000001 02 0000000000000003 0000 00000001")
+        self.assertRaisesRegex(plain_files.Refused, "BadKind", plain_files.read_part, part)
+
+    def test_what_a_log_with_adds_is_worth(self):
+        """Adds behind the token of a part's point are added to what the part has; one that finds no number, or leaves 64 bits, does nothing."""
+        log = plain_files.Log(1)
+        log.entries = [("commit", 1, [(b"a", 5), (b"b", 1)]), ("token", "prepare", 1), ("token", "resolve", 1), ("commit", 1, [(b"a", -7), (b"c", 2), (b"d", 3), (b"e", 1)])]
+        base = plain_files.Base(1, 0, {b"a": plain_store.text_of(10), b"d": b"1234567", b"e": plain_store.text_of(GREATEST)})
+        part = plain_files.Part(1, [(1, 1)], {b"a": (1, plain_store.text_of(15)), b"b": (1, plain_store.text_of(1))})
+        wanted = {b"a": 8, b"b": 1, b"c": 2}
+        for parts in ([], [(b"a.pcp", part.text())]):
+            pairs = plain_files.recover(base.text(), parts, log.text()).pairs
+            self.assertEqual((pairs.pop(b"d"), pairs.pop(b"e")), (b"1234567", plain_store.text_of(GREATEST)))
+            self.assertEqual(pairs, {key: plain_store.text_of(number) for key, number in wanted.items()})
+
+
 class Worked(InFolder):
     def test_what_is_stored_is_made_of_the_texts(self):
         crate = pathlib.Path(self.folder)
@@ -178,16 +332,25 @@ class Worked(InFolder):
         self.replace(worked_examples, CRATE=crate)
         worked_examples.main()
         made = sorted(it.relative_to(crate) for it in crate.glob("*/*.antt"))
-        self.assertEqual(len(made), 14)
+        self.assertEqual(len(made), 16)
         for file in made:
             self.assertEqual(without_imports((crate / file).read_text()), without_imports(stored("crates", "test_model", str(file)).decode()), file)
 
     def test_words(self):
         self.assertEqual(worked_examples.event("put 1 a 7"), "(asked.Put 1 a v7)")
+        self.assertEqual(worked_examples.event("add 2 k -7"), "(asked.Add 2 k (negsuc 6))")
+        self.assertEqual(worked_examples.event("put 1 a #-2"), "(asked.Put 1 a (" + "255 ∷ " * 7 + "254 ∷ []))")
+        self.assertEqual(worked_examples.reply("sum 0"), "(told.Sum (pos 0))")
         self.assertEqual(worked_examples.reply("took a tombstone"), "(told.Took a None)")
         self.assertEqual(worked_examples.reply("file 3 points 1-2,4 entries 5"), "(told.File 3 (1 ∷ 2 ∷ 4 ∷ []) 5)")
         self.assertRaises(ValueError, worked_examples.event, "frob 1")
         self.assertRaises(KeyError, worked_examples.reply, "frob")
+
+    def test_entries_of_the_log(self):
+        self.assertEqual(worked_examples.logged("prepare 3"), "Token Prepare 3")
+        writes = "write_of a (does.Set v7) ∷ write_of b does.Remove ∷ write_of k (does.Add (negsuc 0)) ∷ []"
+        self.assertEqual(worked_examples.logged("2 sets a 7, removes b, adds -1 to k"), f"Commit 2 ({writes})")
+        self.assertRaises(ValueError, worked_examples.logged, "2 frobs a")
 
     def test_an_example(self):
         path = pathlib.Path(self.write("one.txt", "about all\n\nexample first\nabout it begins\nbase a 1\nbegin 1: begun 1\ncontents: a 1\n\nexample second\nafter first\ncommit 1: committed 1\n"))

@@ -54,17 +54,21 @@ def collapse(option, out, *names):
 
 def run(workload, option, place, *words):
     """The clients one after the other, without points: the lines up to the last two are those that are looked at."""
-    log, client, final = plain_files.Log(1), None, {}
+    log, store, client = plain_files.Log(1), plain_store.Store((), 64, 1024), None
     with open(workload, "rb") as it:
         lines = [line.split() for line in it]
     for verb, *rest in lines[1:]:
         if verb == b"client":
             client = int(rest[0])
+        elif verb == b"txn":
+            store.step(("begin", client))
         elif verb == b"end":
-            log.entries.append(("commit", client, [*final.items()]))
-            final = {}
-        elif verb in (b"put", b"del"):
-            final[rest[0]] = rest[1] if verb == b"put" else None
+            log.entries.append(("commit", client, [*store.open[client].writes.items()]))
+            store.step(("commit", client))
+        elif verb == b"add":
+            store.step(("add", client, rest[0], int(rest[1])))
+        else:
+            store.step((verb.decode(), client, *map(plain_store.content, rest)))
     for name, text in (("base.pcb", plain_files.Base(1, 0, {}).text()), ("log.pcl", log.text())):
         with open(os.path.join(place, name), "wb") as it:
             it.write(text)
@@ -135,6 +139,38 @@ class Soaks(InFolder):
         with mock.patch.dict(COMMANDS, step=wrong):
             lines = self.found(soak.Scripts(), 400)
         self.assertCountEqual([line.split(" ")[0] for line in lines[2:-2]], ["begin", "del", "commit", "point", "seal", "capture", "take"])
+
+    def test_a_script_whose_adds_forget_the_sign(self):
+        def wrong(*words):
+            status, out, err = step(*words)
+            return status, out.replace(b"sum -", b"sum "), err
+
+        with mock.patch.dict(COMMANDS, step=wrong):
+            lines = self.found(soak.Scripts(), 400)
+        self.assertEqual([line.split(" ")[0] for line in lines[2:-2]], ["begin", "add"])
+
+    def test_a_recovery_that_leaves_out_adds(self):
+        def wrong(place):
+            with mock.patch.object(plain_files, "changed", lambda there, change: there if isinstance(change, int) else change):
+                return recover(place)
+
+        with mock.patch.dict(COMMANDS, recover=wrong):
+            self.assertIn("recoveries", self.found(soak.Recoveries())[0])
+
+    def test_a_run_whose_adds_replace_one_another(self):
+        self.without_points()
+
+        def wrong(workload, option, place, *words):
+            with open(workload, "rb") as it:
+                lines = it.read().replace(b"add n", b"put n")
+            with open(workload, "wb") as it:
+                it.write(lines)
+            return run(workload, option, place, *words)
+
+        with mock.patch.dict(COMMANDS, run=wrong):
+            lines = self.found(soak.Runs())
+        self.assertIn("runs", lines[0])
+        self.assertEqual(lines[2].count("txn"), 1)
 
     def test_a_recovery_that_reads_a_whole_entry_too_few(self):
         def wrong(place):

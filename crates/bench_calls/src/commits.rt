@@ -5,7 +5,7 @@ ghost use Rattle.bench_calls.specs.Commits.{events_of};
 use crate::failure::BenchFailure;
 use crate::options::Rounds;
 use crate::pairs::scattered;
-use crate::stepped::{SESSION, ask, put, step};
+use crate::stepped::{SESSION, ask, step, write};
 use pc_engine::World;
 use pc_part::Base;
 use pc_types::{Event, Refusal, Reply};
@@ -105,7 +105,7 @@ fn commit_all(
     let mut committed = 0;
     let mut asked = none_asked();
     for number in 0..rounds.commits {
-        commit_one(alloc, world, number % rounds.keys)?;
+        commit_one(alloc, world, number % rounds.keys, rounds.is_adding)?;
         committed += 1;
         asked = ask_beside(world, asked, rounds.has_points)?;
     }
@@ -124,10 +124,15 @@ fn none_asked() -> CycleProgress
     }
 }
 
-// One transaction, which writes the key of this number.
-fn commit_one(alloc: Global, world: &mut World, number: u32) -> Result<(), Refusal> {
+// One transaction, which writes the key of this number, by a put or by an add.
+fn commit_one(
+    alloc: Global,
+    world: &mut World,
+    number: u32,
+    is_adding: bool,
+) -> Result<(), Refusal> {
     step(world, &Event::Begin(SESSION))?;
-    put(alloc, world, scattered(number))?;
+    write(alloc, world, scattered(number), is_adding)?;
     match ask(world, &Event::Commit(SESSION))? {
         Reply::Committed(_) => Ok(()),
         _ => Err(Refusal::MustAbort),

@@ -29,27 +29,29 @@ pub struct Cycles {
     ghost in_range: { (1 ≤ keys) × (keys ≤ MOST_KEYS) },
 }
 
-/// How many transactions commit, each with one write, how many keys they go round, 1 to 1,048,576, and whether
-/// checkpoints are taken beside them.
+/// How many transactions commit, each with one write, how many keys they go round, 1 to 1,048,576, whether the writes are
+/// adds, and whether checkpoints are taken beside them.
 #[derive(Clone, Copy)]
 pub struct Rounds {
     pub commits: u32,
     pub keys: u32,
+    pub is_adding: bool,
     pub has_points: bool,
     ghost in_range: { (1 ≤ keys) × (keys ≤ MOST_KEYS) },
 }
 
 /// How many threads there are, 1 to 64, how many transactions each of them commits, and how many keys it goes round,
-/// 1 to 15,000.
+/// 1 to 15,000, or for a single thread as many as a store may have; and whether the writes are adds.
 #[derive(Clone, Copy)]
 pub struct Crowd {
     pub threads: u8,
     pub commits: u32,
     pub keys: u32,
-    ghost in_range: { (1 ≤ threads) × (threads ≤ MOST_SESSIONS) × (1 ≤ keys) × (keys ≤ 15000) },
+    pub is_adding: bool,
+    ghost in_range: { (1 ≤ threads) × (threads ≤ MOST_SESSIONS) × (1 ≤ keys) × (keys ≤ MOST_KEYS) },
 }
 
-// The greatest number of keys of a thread: 64 threads then have fewer than a store may.
+// The greatest number of keys of each of several threads: 64 threads then have fewer than a store may.
 const MOST_OWN_KEYS: u32 = 15_000;
 
 const MOST_COMMITS: u32 = 10_000_000;
@@ -64,18 +66,19 @@ pub struct Options {
 
 /// What words the program takes; each number is 1 or more.
 pub const USAGE: &str = "usage: bench_calls [--times] points POINTS KEYS
-       bench_calls [--times] commits [--points] COUNT KEYS
-       bench_calls [--times] shared THREADS COMMITS KEYS
+       bench_calls [--times] commits [--adds] [--points] COUNT KEYS
+       bench_calls [--times] shared [--adds] THREADS COMMITS KEYS
        bench_calls [--times] mutex THREADS COMMITS KEYS
        bench_calls [--times] floor THREADS COMMITS KEYS
        bench_calls [--times] calls THREADS COMMITS KEYS
 
 points   takes so many points over keys that are all written before each
 commits  commits so many transactions of one write each, with --points checkpoints beside them
-shared   commits so many transactions of one put on each of the threads, which share a store
+shared   commits so many transactions of one write on each of the threads, which share a store
 mutex    locks a bare mutex three times in the place of each transaction
 floor    fills a store under a bare mutex
 calls    makes the calls of a shared store by one thread, each by itself
+--adds   adds to the keys in place of putting them
 --times  tells times too";
 
 /// What the program's name and the words behind it ask for. None where they aren't those of its usage, or a number is out of
@@ -107,10 +110,10 @@ fn work_of(name: &str, words: &[&str]) -> Option<Work> {
     match name {
         "points" => Some(Work::Points(cycles_of(words)?)),
         "commits" => Some(Work::Commits(commits_of(words)?)),
-        "shared" => Some(Work::Shared(crowd_of(words)?)),
-        "mutex" => Some(Work::Mutex(crowd_of(words)?)),
-        "floor" => Some(Work::Floor(crowd_of(words)?)),
-        "calls" => Some(Work::Calls(crowd_of(words)?)),
+        "shared" => Some(Work::Shared(shared_of(words)?)),
+        "mutex" => Some(Work::Mutex(crowd_of(words, false)?)),
+        "floor" => Some(Work::Floor(crowd_of(words, false)?)),
+        "calls" => Some(Work::Calls(crowd_of(words, false)?)),
         _ => None,
     }
 }
@@ -128,13 +131,20 @@ fn cycles_of(words: &[&str]) -> Option<Cycles> {
 }
 
 fn commits_of(words: &[&str]) -> Option<Rounds> {
-    match behind("--points", words) {
-        Some(others) => rounds_of(others, true),
-        None => rounds_of(words, false),
+    match behind("--adds", words) {
+        Some(others) => rounds_beside(others, true),
+        None => rounds_beside(words, false),
     }
 }
 
-fn rounds_of(words: &[&str], has_points: bool) -> Option<Rounds> {
+fn rounds_beside(words: &[&str], is_adding: bool) -> Option<Rounds> {
+    match behind("--points", words) {
+        Some(others) => rounds_of(others, is_adding, true),
+        None => rounds_of(words, is_adding, false),
+    }
+}
+
+fn rounds_of(words: &[&str], is_adding: bool, has_points: bool) -> Option<Rounds> {
     if words.len() != 2 {
         return None;
     }
@@ -143,21 +153,41 @@ fn rounds_of(words: &[&str], has_points: bool) -> Option<Rounds> {
     Some(Rounds {
         commits,
         keys,
+        is_adding,
         has_points,
     })
 }
 
-fn crowd_of(words: &[&str]) -> Option<Crowd> {
+fn shared_of(words: &[&str]) -> Option<Crowd> {
+    match behind("--adds", words) {
+        Some(others) => crowd_of(others, true),
+        None => crowd_of(words, false),
+    }
+}
+
+// How many keys each of so many threads may have.
+fn most_keys_of(threads: u32) -> u32
+    ensures { result ≤ MOST_KEYS }
+{
+    if threads == 1 {
+        MOST_KEYS
+    } else {
+        MOST_OWN_KEYS
+    }
+}
+
+fn crowd_of(words: &[&str], is_adding: bool) -> Option<Crowd> {
     if words.len() != 3 {
         return None;
     }
     let threads = number_of(words[0], u32::from(MOST_SESSIONS))?;
     let commits = number_of(words[1], MOST_COMMITS)?;
-    let keys = number_of(words[2], MOST_OWN_KEYS)?;
+    let keys = number_of(words[2], most_keys_of(threads))?;
     Some(Crowd {
         threads: threads as u8,
         commits,
         keys,
+        is_adding,
     })
 }
 

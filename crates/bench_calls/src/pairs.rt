@@ -10,6 +10,11 @@ pub fn scattered(number: u32) -> u32 {
     number.wrapping_mul(SCATTER)
 }
 
+/// The key of the number's four bytes.
+pub fn key_of(alloc: Global, number: u32) -> Result<Key, Refusal> {
+    Key::new(alloc, &number.to_be_bytes())
+}
+
 /// The key of the number's four bytes, and a value of the same.
 pub fn pair_of(alloc: Global, number: u32) -> Result<(Key, Value), Refusal> {
     let bytes = number.to_be_bytes();

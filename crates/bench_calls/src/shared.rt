@@ -1,8 +1,8 @@
-//! Threads that commit transactions of one put each, in a store that they share.
+//! Threads that commit transactions of one write each, in a store that they share.
 ghost use Rattle.std.specs.Prelude.{◌≡◌, ◌≤◌};
 
 use crate::options::Crowd;
-use crate::pairs::{pair_of, scattered};
+use crate::pairs::{key_of, pair_of, scattered};
 use pc_part::Base;
 use pc_shared::{Opened, Session, Shared};
 use pc_tie::StoreName;
@@ -27,17 +27,23 @@ pub fn open(alloc: Global, seed: RandomState, crowd: &Crowd) -> Result<Opened, R
     Opened::new(alloc, base, crowd.threads, capacity_of(crowd), seed)
 }
 
-// One transaction, which puts the pair of this number.
+// One transaction, which puts the pair of this number, or adds 1 to its key.
 fn commit_one<N: StoreName, R: Wait>(
     rt: &R,
     alloc: Global,
     shared: &Shared<N>,
     session: &mut Session<N>,
     number: u32,
+    is_adding: bool,
 ) -> Result<(), Refusal> {
     shared.begin(rt, session)?;
-    let (key, value) = pair_of(alloc, scattered(number))?;
-    shared.put(rt, session, key, value)?;
+    if is_adding {
+        let key = key_of(alloc, scattered(number))?;
+        shared.add(rt, session, key, 1)?;
+    } else {
+        let (key, value) = pair_of(alloc, scattered(number))?;
+        shared.put(rt, session, key, value)?;
+    }
     shared.commit(rt, session)?;
     Ok(())
 }
@@ -54,7 +60,7 @@ fn commit_all<N: StoreName, R: Wait>(
     let mut commits = 0u64;
     for count in 0..crowd.commits {
         let number = first.wrapping_add(count % crowd.keys);
-        if commit_one(rt, alloc, shared, session, number).is_err() {
+        if commit_one(rt, alloc, shared, session, number, crowd.is_adding).is_err() {
             return commits;
         }
         commits = commits.saturating_add(1);

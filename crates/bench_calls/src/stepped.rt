@@ -1,5 +1,5 @@
 //! One session's calls of a store that one thread steps.
-use crate::pairs::pair_of;
+use crate::pairs::{key_of, pair_of};
 use pc_engine::World;
 use pc_types::{Event, Refusal, Reply, SessionNo};
 use std::alloc::Global;
@@ -28,6 +28,20 @@ pub fn step(world: &mut World, event: &Event) -> Result<(), Refusal> {
 pub fn put(alloc: Global, world: &mut World, number: u32) -> Result<(), Refusal> {
     let put = put_of(alloc, number)?;
     step(world, &put)
+}
+
+/// Writes the key of this number: adds 1 to it, or puts its pair.
+pub fn write(
+    alloc: Global,
+    world: &mut World,
+    number: u32,
+    is_adding: bool,
+) -> Result<(), Refusal> {
+    if is_adding {
+        step(world, &Event::Add(SESSION, key_of(alloc, number)?, 1))
+    } else {
+        put(alloc, world, number)
+    }
 }
 
 fn put_of(alloc: Global, number: u32) -> Result<Event, Refusal> {

@@ -53,6 +53,11 @@ fn checkpointer(seed: u64, cycle: &WalkCycle) -> Ask<'static> {
     }
 }
 
+// A number from -14 to 13.
+fn delta_of(seed: u64) -> i64 {
+    i64::from(drawn(seed, 35, 28)).wrapping_sub(14)
+}
+
 // What a session asks. The one that was told that it must abort does so.
 fn session(seed: u64, dead: u32) -> Ask<'static> {
     if dead != 0 {
@@ -62,7 +67,8 @@ fn session(seed: u64, dead: u32) -> Ask<'static> {
     match drawn(seed, 45, 20) {
         0..=3 => Ask::Begin(session),
         4..=7 => Ask::Get(session, key_of(seed)),
-        8..=12 => Ask::Put(session, key_of(seed), drawn_value(seed)),
+        8..=10 => Ask::Put(session, key_of(seed), drawn_value(seed)),
+        11 | 12 => Ask::Add(session, key_of(seed), delta_of(seed)),
         13 | 14 => Ask::Del(session, key_of(seed)),
         15 => Ask::Abort(session),
         _ => Ask::Commit(session),
@@ -73,7 +79,8 @@ fn session(seed: u64, dead: u32) -> Ask<'static> {
 fn session_of(ask: Ask) -> u32 {
     match ask {
         Ask::Begin(session) | Ask::Commit(session) | Ask::Abort(session) => session,
-        Ask::Get(session, _) | Ask::Put(session, _, _) | Ask::Del(session, _) => session,
+        Ask::Get(session, _) | Ask::Del(session, _) => session,
+        Ask::Put(session, _, _) | Ask::Add(session, _, _) => session,
         _ => 0,
     }
 }

@@ -6,7 +6,7 @@ use crate::kinds::Kind;
 use pc_log::{LastToken, read_entry, read_header};
 use pc_part::{Base, Part, Range};
 use pc_taken::LentTriple;
-use pc_types::{Entry, Phase, Refusal, Tally, Value};
+use pc_types::{Change, Entry, Phase, Refusal, Tally, Value};
 use std::alloc::Global;
 use std::io::Write;
 
@@ -164,12 +164,32 @@ fn put_body<W: Write>(alloc: Global, entry: &Entry, out: &mut Tally<W>) -> Resul
             out.put(head.as_bytes())?;
             for write in writes.as_slice() {
                 out.put(b" ")?;
-                put_write(alloc, write.key.as_bytes(), &write.value, out)?;
+                put_change(alloc, write, out)?;
             }
             out.put(b"\n")
         }
         Entry::Token(phase, point) => {
             let text = format!(in alloc; "{} {}\n", name_of(*phase), point.0)?;
+            out.put(text.as_bytes())
+        }
+    }
+}
+
+// A key with its value, that it has none, or what is added to it.
+fn put_change<W: Write>(
+    alloc: Global,
+    write: &pc_types::Write,
+    out: &mut Tally<W>,
+) -> Result<(), Refusal> {
+    put_hex(alloc, write.key.as_bytes(), out)?;
+    match &write.change {
+        Change::Set(value) => {
+            out.put(b" = ")?;
+            put_hex(alloc, value.as_bytes(), out)
+        }
+        Change::Remove => out.put(b" tombstone"),
+        Change::Add(delta) => {
+            let text = format!(in alloc; " + {delta}")?;
             out.put(text.as_bytes())
         }
     }

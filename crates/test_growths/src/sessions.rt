@@ -13,6 +13,7 @@ pub(crate) enum Ask {
     Get(&'static [u8]),
     Put(&'static [u8], &'static [u8]),
     Del(&'static [u8]),
+    Add(&'static [u8], i64),
     Commit,
     Abort,
 }
@@ -22,6 +23,7 @@ pub(crate) enum Ask {
 pub(crate) enum Told {
     Begun(u64),
     Answer(CallAnswer),
+    Sum(i64),
     Committed(u32),
     Aborted,
     Refused(Refusal),
@@ -49,6 +51,7 @@ impl<'a, N: StoreName, R: Wait> Asker<'a, N, R> {
                 Told::Answer(shared.put(rt, session, key, value)?)
             }
             Ask::Del(key) => Told::Answer(shared.del(rt, session, self.key(key)?)?),
+            Ask::Add(key, delta) => told_of(shared.add(rt, session, self.key(key)?, delta)?),
             Ask::Commit => Told::Committed(shared.commit(rt, session)?.0),
             Ask::Abort => {
                 shared.abort(rt, session)?;
@@ -74,6 +77,14 @@ impl<'a, N: StoreName, R: Wait> Asker<'a, N, R> {
             Ok(told) => told,
             Err(why) => Told::Refused(why),
         }
+    }
+}
+
+// How an add is told.
+fn told_of(answer: CallAnswer) -> Told {
+    match answer {
+        CallAnswer::Sum(sum) => Told::Sum(sum),
+        answer => Told::Answer(answer),
     }
 }
 

@@ -59,6 +59,38 @@ const SECOND: [(usize, Ask, Told); 5] = [
 // Behind it, open till the end.
 const LAST: [(usize, Ask, Told); 2] = [(0, Ask::Begin, Told::Begun(4)), (0, Ask::Del(A), OK)];
 
+// What two sessions that add are asked and answered: keys that are new, that the transaction has written, and that have a record.
+const ADDS: [(usize, Ask, Told); 25] = [
+    (0, Ask::Begin, Told::Begun(1)),
+    (0, Ask::Add(A, 5), Told::Sum(5)),
+    (0, Ask::Add(A, -7), Told::Sum(-2)),
+    (0, Ask::Get(A), FOUND),
+    (0, Ask::Put(B, ONE), OK),
+    (0, Ask::Add(B, 1), Told::Refused(Refusal::NotNumber)),
+    (0, Ask::Add(A, i64::MIN), Told::Refused(Refusal::OutOfRange)),
+    (0, Ask::Commit, Told::Committed(1)),
+    (1, Ask::Begin, Told::Begun(2)),
+    (1, Ask::Add(B, 1), Told::Refused(Refusal::NotNumber)),
+    (1, Ask::Get(B), FOUND),
+    (1, Ask::Add(A, 3), Told::Sum(1)),
+    (1, Ask::Del(B), OK),
+    (1, Ask::Add(B, -9), Told::Sum(-9)),
+    (1, Ask::Commit, Told::Committed(2)),
+    (0, Ask::Begin, Told::Begun(3)),
+    (0, Ask::Add(A, 1), Told::Sum(2)),
+    (1, Ask::Begin, Told::Begun(4)),
+    (1, Ask::Add(A, 1), Told::Answer(CallAnswer::Died)),
+    (1, Ask::Add(A, 1), Told::Refused(Refusal::MustAbort)),
+    (1, Ask::Abort, Told::Aborted),
+    (0, Ask::Abort, Told::Aborted),
+    (1, Ask::Begin, Told::Begun(5)),
+    (1, Ask::Add(A, 1), Told::Sum(2)),
+    (1, Ask::Commit, Told::Committed(3)),
+];
+
+// What they leave of receipts: an add is no read.
+const ADDED: Receipts = [Some((1, 0, 2)), None, Some((2, 1, 2)), Some((3, 0, 1))];
+
 // The phases of a point.
 const PHASES: [Phase; 3] = [Phase::Prepare, Phase::Resolve, Phase::Capture];
 
@@ -149,22 +181,17 @@ impl<'a, N: StoreName, R: Wait> Table<'a, N, R> {
         self.pass.len() == ENTRIES
     }
 
-    // The store is closed, with the ticket; the list of tickets is made again where memory was wanting.
-    fn close(self, ticket: PartTicket<N>) -> Result<Closed<N>, Refusal> {
+    // The store is closed, with the tickets.
+    fn close(self, tickets: Vec<PartTicket<N>>) -> Closed<N> {
         let Table {
             rt: _,
-            alloc,
+            alloc: _,
             shared,
             sessions,
             checkpointer,
             pass,
         } = self;
-        let mut tickets = match Vec::with_capacity(alloc, 1) {
-            Ok(tickets) => tickets,
-            Err(_) => Vec::with_capacity(alloc, 1)?,
-        };
-        tickets.push_reserved(ticket);
-        Ok(shared.close(sessions, checkpointer, tickets, pass))
+        shared.close(sessions, checkpointer, tickets, pass)
     }
 }
 
@@ -188,9 +215,25 @@ fn join<N: StoreName>(
     joined.map_err(|(why, _first, _second)| why)
 }
 
-// What is left of a store: the receipts of both sessions, as their numbers, reads and writes; the entries of the log, and those
-// that were handed out; and of the joined part its last point and its entries.
-type Left = ([Option<(u32, usize, usize)>; 4], usize, usize, u16, usize);
+// A list of the ticket; made again where memory was wanting.
+fn listed<N: StoreName>(
+    alloc: Global,
+    ticket: PartTicket<N>,
+) -> Result<Vec<PartTicket<N>>, Refusal> {
+    let mut tickets = match Vec::with_capacity(alloc, 1) {
+        Ok(tickets) => tickets,
+        Err(_) => Vec::with_capacity(alloc, 1)?,
+    };
+    tickets.push_reserved(ticket);
+    Ok(tickets)
+}
+
+// The first two receipts of each session, as their numbers, reads and writes.
+type Receipts = [Option<(u32, usize, usize)>; 4];
+
+// What is left of a store: the receipts; the entries of the log, and those that were handed out; and of the joined part its last
+// point and its entries.
+type Left = (Receipts, usize, usize, u16, usize);
 
 const LEFT: Left = (
     [Some((1, 1, 2)), None, Some((7, 1, 2)), None],
@@ -213,13 +256,16 @@ fn receipt<N: StoreName>(
     ))
 }
 
-fn left<N: StoreName>(closed: &Closed<N>) -> Left {
-    let receipts = [
+fn receipts<N: StoreName>(closed: &Closed<N>) -> Receipts {
+    [
         receipt(closed, 0, 0),
         receipt(closed, 0, 1),
         receipt(closed, 1, 0),
         receipt(closed, 1, 1),
-    ];
+    ]
+}
+
+fn left<N: StoreName>(closed: &Closed<N>) -> Left {
     let (last, entries) = match closed.parts.first() {
         Some(ticket) => (
             ticket.part().complete_to().map_or(0, |point| point.0),
@@ -227,7 +273,13 @@ fn left<N: StoreName>(closed: &Closed<N>) -> Left {
         ),
         None => (0, 0),
     };
-    (receipts, closed.log().len(), closed.logged, last, entries)
+    (
+        receipts(closed),
+        closed.log().len(),
+        closed.logged,
+        last,
+        entries,
+    )
 }
 
 // All that is done: the numbers of the first wrong rows, whether both points and the log were taken, and what is left.
@@ -243,7 +295,25 @@ fn play<N: StoreName, R: Wait>(mut table: Table<N, R>) -> Result<Played, Refusal
     let two = table.ticket(FileNo(2))?;
     let joined = join(one, two)?;
     taken = taken && table.logs();
-    Ok(([first, second, last], taken, left(&table.close(joined)?)))
+    let tickets = listed(table.alloc, joined)?;
+    Ok(([first, second, last], taken, left(&table.close(tickets))))
+}
+
+// Everybody at the store; None where there was no memory to give it its name.
+fn named<N: StoreName, R: Wait>(rt: &R, alloc: Global, opened: Opened) -> Option<Table<'_, N, R>>
+    requires { opened ≡ N.name }
+{
+    let Ok((shared, sessions, checkpointer, pass)) = opened.named::<N>() else {
+        return None;
+    };
+    Some(Table {
+        rt,
+        alloc,
+        shared,
+        sessions,
+        checkpointer,
+        pass,
+    })
 }
 
 // What is played with the store; None where there was no memory to give it its name.
@@ -254,18 +324,23 @@ fn play_named<N: StoreName, R: Wait>(
 ) -> Result<Option<Played>, Refusal>
     requires { opened ≡ N.name }
 {
-    let Ok((shared, sessions, checkpointer, pass)) = opened.named::<N>() else {
-        return Ok(None);
-    };
-    let table = Table {
-        rt,
-        alloc,
-        shared,
-        sessions,
-        checkpointer,
-        pass,
-    };
-    Ok(Some(play(table)?))
+    match named::<N, R>(rt, alloc, opened) {
+        Some(table) => Ok(Some(play(table)?)),
+        None => Ok(None),
+    }
+}
+
+// The number of the first wrong row of the adds, and the receipts.
+type PlayedAdds = (usize, Receipts);
+
+// What is played with adds; None where there was no memory to give the store its name.
+fn add_named<N: StoreName, R: Wait>(rt: &R, alloc: Global, opened: Opened) -> Option<PlayedAdds>
+    requires { opened ≡ N.name }
+{
+    let mut table = named::<N, R>(rt, alloc, opened)?;
+    let wrong = table.first_wrong(&ADDS);
+    let closed = table.close(Vec::new(alloc));
+    Some((wrong, receipts(&closed)))
 }
 
 fn open(alloc: Global, seed: RandomState) -> Result<Opened, Refusal> {
@@ -280,6 +355,28 @@ fn play_opened<R: Wait>(
 ) -> Result<Option<Played>, Refusal> {
     let opened = again(|| open(alloc, seed))?;
     play_named::<Brand, _>(rt, alloc, opened)
+}
+
+fn add_opened<R: Wait>(
+    rt: &R,
+    alloc: Global,
+    seed: RandomState,
+) -> Result<Option<PlayedAdds>, Refusal> {
+    let opened = again(|| open(alloc, seed))?;
+    Ok(add_named::<Brand, _>(rt, alloc, opened))
+}
+
+// Whichever growth is refused, each call that is refused leaves its session as it was, and made again answers as with ample memory:
+// no add is made twice.
+#[test]
+fn sessions_add_the_same_at_each_refused_growth(rt: HostRuntime) -> Result<(), Fail> {
+    let seed = RandomState::new(&rt)?;
+    let played = match add_opened(&rt, rt.alloc(), seed)? {
+        None => add_opened(&rt, rt.alloc(), seed)?,
+        played => played,
+    };
+    assert_eq!(rt; played, Some((0, ADDED)));
+    Ok(())
 }
 
 // Whichever growth is refused, each call that is refused leaves its session and its pass as they were, and made again answers as

@@ -211,6 +211,76 @@ const IN_COMPLETE: [Ask<'static>; 11] = [
     Ask::Begin(1),
 ];
 
+// What one session does that adds to two keys, up to the ends of 64 bits, and sets and deletes one of them.
+const ONE_ADDING: [Ask<'static>; 10] = [
+    Ask::Begin(1),
+    Ask::Get(1, b"a"),
+    Ask::Add(1, b"a", 5),
+    Ask::Add(1, b"a", i64::MAX),
+    Ask::Add(1, b"b", -1),
+    Ask::Put(1, b"a", b"\x80\x00\x00\x00\x00\x00\x00\x00"),
+    Ask::Put(1, b"a", b"1"),
+    Ask::Del(1, b"a"),
+    Ask::Commit(1),
+    Ask::Abort(1),
+];
+
+// What two sessions do that add to two keys.
+const TWO_ADDING: [Ask<'static>; 14] = [
+    Ask::Begin(1),
+    Ask::Get(1, b"a"),
+    Ask::Add(1, b"a", 1),
+    Ask::Add(1, b"b", -1),
+    Ask::Put(1, b"b", b"22"),
+    Ask::Commit(1),
+    Ask::Abort(1),
+    Ask::Begin(2),
+    Ask::Get(2, b"b"),
+    Ask::Add(2, b"a", 10),
+    Ask::Add(2, b"b", i64::MAX),
+    Ask::Del(2, b"a"),
+    Ask::Commit(2),
+    Ask::Abort(2),
+];
+
+// The same, and the checkpointer.
+const ADDING_WITH_POINTS: [Ask<'static>; 20] = [
+    Ask::Begin(1),
+    Ask::Get(1, b"a"),
+    Ask::Add(1, b"a", 1),
+    Ask::Add(1, b"b", -1),
+    Ask::Put(1, b"b", b"22"),
+    Ask::Commit(1),
+    Ask::Abort(1),
+    Ask::Begin(2),
+    Ask::Get(2, b"b"),
+    Ask::Add(2, b"a", 10),
+    Ask::Add(2, b"b", i64::MAX),
+    Ask::Del(2, b"a"),
+    Ask::Commit(2),
+    Ask::Abort(2),
+    Ask::StartPoint,
+    Ask::Seal,
+    Ask::OpenCapture,
+    Ask::Take,
+    Ask::Done,
+    Ask::Rest,
+];
+
+// Both keys have numbers and are of the point. Session 2 adds since prepare, session 1 since the seal.
+const ADDED_IN_RESOLVE: [Ask<'static>; 10] = [
+    Ask::Begin(1),
+    Ask::Add(1, b"a", 1),
+    Ask::Add(1, b"b", 2),
+    Ask::Commit(1),
+    Ask::StartPoint,
+    Ask::Begin(2),
+    Ask::Add(2, b"a", 10),
+    Ask::Seal,
+    Ask::Begin(1),
+    Ask::Add(1, b"b", -1),
+];
+
 /// Lists of one session and the checkpointer.
 pub const ALONE: Family = Family {
     name: "one session",
@@ -274,5 +344,31 @@ pub const FROM_CAPTURE: Family = Family {
 pub const FROM_COMPLETE: Family = Family {
     name: "from complete",
     start: &IN_COMPLETE,
+    ..FROM_REST
+};
+
+/// Lists of one session that adds.
+pub const ADDING: Family = Family {
+    name: "one session that adds",
+    store: StoreFamily::OneSession,
+    start: &[],
+    letters: &ONE_ADDING,
+    most: 7,
+    rule: Rule::CheckLongest,
+};
+
+/// Lists of two sessions that add.
+pub const ADDING_BESIDE: Family = Family {
+    name: "two sessions that add",
+    letters: &TWO_ADDING,
+    most: 6,
+    ..BESIDE
+};
+
+/// Lists of two sessions that add and the checkpointer, from a start in resolve.
+pub const ADDING_FROM_RESOLVE: Family = Family {
+    name: "adds from resolve",
+    start: &ADDED_IN_RESOLVE,
+    letters: &ADDING_WITH_POINTS,
     ..FROM_REST
 };

@@ -6,8 +6,8 @@ mod families;
 mod lists;
 
 use families::{
-    ALONE, BESIDE, FROM_CAPTURE, FROM_COMPLETE, FROM_PREPARE, FROM_RESOLVE, FROM_REST, Family,
-    IN_ONE_ROOM,
+    ADDING, ADDING_BESIDE, ADDING_FROM_RESOLVE, ALONE, BESIDE, FROM_CAPTURE, FROM_COMPLETE,
+    FROM_PREPARE, FROM_RESOLVE, FROM_REST, Family, IN_ONE_ROOM,
 };
 use lists::sums_of;
 use std::hash::RandomState;
@@ -15,7 +15,7 @@ use std::io;
 use std::process::ExitCode;
 use test_support::tell;
 
-const FAMILIES: [Family; 8] = [
+const FAMILIES: [Family; 11] = [
     ALONE,
     BESIDE,
     IN_ONE_ROOM,
@@ -24,6 +24,9 @@ const FAMILIES: [Family; 8] = [
     FROM_RESOLVE,
     FROM_CAPTURE,
     FROM_COMPLETE,
+    ADDING,
+    ADDING_BESIDE,
+    ADDING_FROM_RESOLVE,
 ];
 
 // The status is 1 where memory, the output or the draw of a seed failed.

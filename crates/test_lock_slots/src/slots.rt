@@ -50,6 +50,12 @@ impl LockSlots {
         self.locks.has_request(&self.row, SlotId(slot % SLOTS))
     }
 
+    /// How a request of the slot would be answered, where the transaction doesn't wait.
+    pub fn outcome(&self, transaction: TxnNo, slot: u32, mode: Mode) -> Outcome {
+        self.locks
+            .outcome(&self.row, transaction, SlotId(slot % SLOTS), mode)
+    }
+
     /// How a request of the slot is answered; None where the transaction waits. Where memory ran out nothing changed.
     pub fn request(
         &mut self,

@@ -17,6 +17,7 @@ pub struct LockCounts {
     pub died: u64,
     pub released: u64,
     pub nothing: u64,
+    pub not_foretold: u64,
     pub waiting: u64,
     pub standing: u64,
     pub checksum: u64,
@@ -31,6 +32,7 @@ pub const NO_COUNTS: LockCounts = LockCounts {
     died: 0,
     released: 0,
     nothing: 0,
+    not_foretold: 0,
     waiting: 0,
     standing: 0,
     checksum: FNV_OFFSET,
@@ -72,6 +74,10 @@ impl LockCounts {
             Answer::Nothing => {
                 self.nothing = self.nothing.wrapping_add(1);
                 6
+            }
+            Answer::NotForetold => {
+                self.not_foretold = self.not_foretold.wrapping_add(1);
+                7
             }
         }
     }

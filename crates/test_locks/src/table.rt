@@ -13,6 +13,8 @@ pub enum Answer {
     Died,
     Released(u32),
     Nothing,
+    /// A request was answered otherwise than was foretold just before.
+    NotForetold,
 }
 
 /// A transaction, 1 to 3, a slot, and what it asks for there, or else a release.
@@ -83,8 +85,10 @@ impl LockTable {
         if is_dead {
             return Ok(Answer::NotAsked);
         }
+        let foretold = self.slots.outcome(number, slot, mode);
         match self.slots.request(number, slot, mode)? {
             None => Ok(Answer::NotAsked),
+            Some(answer) if answer != foretold => Ok(Answer::NotForetold),
             Some(Outcome::Granted) => {
                 self.requests |= request_bit(transaction, slot);
                 Ok(Answer::Granted)

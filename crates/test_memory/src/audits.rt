@@ -1,7 +1,7 @@
 //! An audit of a file against a log.
 
 use pc_replay::{CompleteFile, audit};
-use pc_types::{Entry, Items, Key, Phase, Point, Refusal, SessionNo, Triple, Value, Write};
+use pc_types::{Change, Entry, Items, Key, Phase, Point, Refusal, SessionNo, Triple, Value, Write};
 use std::alloc::{AllocError, Global};
 use std::test::Fail;
 
@@ -11,9 +11,9 @@ const LONG: &[u8] = b"more than 16 bytes";
 // A commit that sets the key to the value.
 fn commit(alloc: Global, key: &[u8], value: &[u8]) -> Result<Entry, Refusal> {
     let key = Key::new(alloc, key)?;
-    let value = Some(Value::new(alloc, value)?);
+    let change = Change::Set(Value::new(alloc, value)?);
     let mut writes = Items::new(alloc);
-    writes.push(Write { key, value })?;
+    writes.push(Write { key, change })?;
     Ok(Entry::Commit(SessionNo(1), writes))
 }
 

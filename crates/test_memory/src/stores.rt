@@ -218,6 +218,66 @@ fn points_are_the_same_at_each_refused_growth(rt: HostRuntime) -> Result<(), Fai
     Ok(())
 }
 
+// Adds of two transactions, of one that dies, and of two that commit behind the point, the later one first.
+const ADDS: [(Ask, Told); 35] = [
+    (Ask::Begin(1), Told::Begun(1)),
+    (Ask::Add(1, A, 5), Told::Sum(5)),
+    (Ask::Add(1, B, -1), Told::Sum(-1)),
+    (Ask::Add(1, A, -7), Told::Sum(-2)),
+    (Ask::Get(1, A), Told::Found(8)),
+    (Ask::Commit(1), Told::Committed(1)),
+    (Ask::Begin(1), Told::Begun(2)),
+    (Ask::Put(1, B, ONE), Told::Ok),
+    (Ask::Add(1, B, 1), Told::Refused(Refusal::NotNumber)),
+    (Ask::Add(1, A, i64::MIN), Told::Refused(Refusal::OutOfRange)),
+    (Ask::Add(1, A, 3), Told::Sum(1)),
+    (Ask::StartPoint, Told::Phase(Phase::Prepare, 1)),
+    (Ask::Begin(2), Told::Begun(3)),
+    (Ask::Add(2, A, 1), Told::Died),
+    (Ask::Abort(2), Told::Aborted),
+    (Ask::Seal, Told::NotYet(1)),
+    (Ask::Commit(1), Told::Committed(3)),
+    (Ask::Begin(2), Told::Begun(4)),
+    (Ask::Del(2, B), Told::Ok),
+    (Ask::Add(2, B, 9), Told::Sum(9)),
+    (Ask::Seal, Told::Phase(Phase::Resolve, 1)),
+    (Ask::Begin(3), Told::Begun(5)),
+    (Ask::Add(3, A, 100), Told::Sum(101)),
+    (Ask::Commit(3), Told::Committed(5)),
+    (Ask::Add(2, A, 10), Told::Sum(111)),
+    (Ask::OpenCapture, Told::NotYet(1)),
+    (Ask::Commit(2), Told::Committed(6)),
+    (Ask::OpenCapture, Told::Phase(Phase::Capture, 1)),
+    (Ask::Take, Told::Took(b'a', 0)),
+    (Ask::Take, Told::Took(b'b', b'1')),
+    (Ask::Take, Told::NoneLeft),
+    (Ask::Done, Told::PartDone(1, 1, 2)),
+    (Ask::Begin(1), Told::Begun(6)),
+    (Ask::Add(1, A, 0), Told::Sum(111)),
+    (Ask::Add(1, B, 0), Told::Sum(9)),
+];
+
+// The file of that point.
+const ADDED_FILE: [u8; 124] = *b"PCALCP01\
+    \x00\x00\x00\x00\x00\x00\x00\x01\
+    \x00\x00\x00\x01\x00\x00\x00\x01\x00\x00\x00\x01\
+    \x00\x14a word of 20 letters\x00\x00\x00\x01\x01\x00\x00\x00\x08\x00\x00\x00\x00\x00\x00\x00\x01\
+    \x00\x14b word of 20 letters\x00\x00\x00\x01\x01\x00\x00\x00\x141 word of 20 letters\
+    \x00\x00\x00\x00\x00\x02";
+
+fn adds(alloc: Global, seed: RandomState) -> Result<Ended, Refusal> {
+    let mut world = world_again(alloc, seed, None, 3)?;
+    ended(alloc, &mut world, &ADDS, &[(1, &ADDED_FILE)])
+}
+
+// Whichever growth is refused, asked again the store answers as with ample memory, then and later, and no add is made twice.
+#[test]
+fn adds_are_the_same_at_each_refused_growth(rt: HostRuntime) -> Result<(), Fail> {
+    let seed = RandomState::new(&rt)?;
+    assert_eq!(rt; adds(rt.alloc(), seed)?, RIGHT);
+    Ok(())
+}
+
 const LONG_K: &[u8] = b"k is a key that does not lie inline";
 
 const LONG_L: &[u8] = b"l is a key that does not lie inline";

@@ -7,5 +7,6 @@ mod ExamplesOfHeadlines
 mod ExamplesOfLocks
 mod ExamplesOfCapacity
 mod ExamplesOfRefusals
+mod ExamplesOfAdds
 mod ExamplesOfIllegalReplies
 mod ExamplesOfRules

@@ -3,6 +3,7 @@ use Rattle.std.specs.Prelude.{◌≡◌, ℕ, List, [], ◌∷◌, Option, Some,
 use Rattle.pc_types.specs.declared.Event.{Event}
 use Rattle.pc_types.specs.declared.Reply.{Reply}
 use Rattle.pc_types.specs.declared.Step.{Step}
+use Rattle.pc_types.specs.declared.Entry.{Entry}
 use Rattle.pc_model.specs.Maps as map_of
 use Rattle.pc_model.specs.Sets as set
 use Rattle.pc_model.specs.Log.{state_at}
@@ -89,6 +90,10 @@ pub record LaysTo (st : Setting) (steps : List Step) (number point : ℕ) (pairs
 abbrev pub Lacks : Setting → List Step → ℕ → ℕ → Type 0
 Lacks st steps number point = gap_of (file_after st steps number) ≡ Some point
 
+-- the log after the steps has these entries
+abbrev pub HasLog : List Step → List Entry → Type 0
+HasLog steps entries = log_of (reverse steps) ≡ entries
+
 -- outside rest no transaction was ever active
 abbrev pub IsQuietRun : Setting → List Step → Type 0
 IsQuietRun st steps = IsQuiet st (reverse steps)
@@ -110,6 +115,12 @@ b = 98 ∷ []
 
 abbrev pub k : List ℕ
 k = 107 ∷ []
+
+abbrev pub n : List ℕ
+n = 110 ∷ []
+
+abbrev pub t : List ℕ
+t = 116 ∷ []
 
 abbrev pub x : List ℕ
 x = 120 ∷ []
@@ -147,3 +158,10 @@ v8 = 56 ∷ []
 
 abbrev pub v9 : List ℕ
 v9 = 57 ∷ []
+
+-- values of seven bytes and of nine
+abbrev pub seven : List ℕ
+seven = 0 ∷ 0 ∷ 0 ∷ 0 ∷ 0 ∷ 0 ∷ 7 ∷ []
+
+abbrev pub nine : List ℕ
+nine = 0 ∷ 0 ∷ 0 ∷ 0 ∷ 0 ∷ 0 ∷ 0 ∷ 0 ∷ 9 ∷ []

@@ -1,11 +1,13 @@
 -- Replies that are not legal, each after the first steps of a worked example.
 -- Made from the text of the worked examples.
-use Rattle.std.specs.Prelude.{[], ◌∷◌, Some, take}
+use Rattle.std.specs.Prelude.{[], ◌∷◌, Some, take, pos, negsuc}
 use Rattle.pc_types.specs.declared.Phase.TheVariants.{Prepare, Resolve}
 use Rattle.pc_types.specs.declared.Event.TheVariants as asked
 use Rattle.pc_types.specs.declared.Reply.TheVariants as told
 use Rattle.pc_types.specs.declared.Refusal.TheVariants as why
-use Rattle.test_model.specs.Examples.{plain, holding, with_room_for, IsIllegal, a, b, k, y, v1, v2, v5, v6, v9}
+use Rattle.pc_types.specs.declared.Change.TheVariants as does
+use Rattle.test_model.specs.Examples.{plain, holding, with_room_for, has, IsIllegal, a, b, k, n, x, y, v1, v2, v5, v6, v9, seven, nine}
+use Rattle.test_model.specs.ExamplesOfAdds.{add_dies, add_waits_for_a_reader, adds_of_two_transactions, deltas_past_the_ends, reads_over_open_adds, sums_past_the_ends, values_that_are_no_numbers}
 use Rattle.test_model.specs.ExamplesOfCapacity.{read_key_is_occupied_until_the_end, removed_key_is_occupied_until_taken}
 use Rattle.test_model.specs.ExamplesOfFiles.{joins_of_three_points}
 use Rattle.test_model.specs.ExamplesOfLocks.{older_waits, upgrade_beside_another_reader_dies, younger_dies}
@@ -58,3 +60,23 @@ pub record ExamplesOfIllegalReplies : Type 0 where
   pub transaction_number_used_again : IsIllegal plain (take 4 aborted_writes_are_forgotten) (asked.Begin 1) (told.Begun 1)
   -- Points are numbered on by one.
   pub point_number_skipped : IsIllegal plain (take 6 empty_part) asked.StartPoint (told.Phase Prepare 3)
+  -- A value of seven bytes is no number, and none is added to it.
+  pub add_to_seven_bytes : IsIllegal (holding y [] (holding x nine (holding k seven plain))) (take 1 values_that_are_no_numbers) (asked.Add 1 k (pos 1)) (told.Sum (pos 1))
+  -- Want of memory is no answer where an add is refused for what stands there.
+  pub memory_before_not_number : IsIllegal (holding y [] (holding x nine (holding k seven plain))) (take 1 values_that_are_no_numbers) (asked.Add 1 k (pos 1)) (told.Refused why.OutOfMemory)
+  -- A sum that leaves 64 bits is not answered, neither as it is nor from the other end.
+  pub sum_past_the_greatest : IsIllegal (holding b (128 ∷ 0 ∷ 0 ∷ 0 ∷ 0 ∷ 0 ∷ 0 ∷ 0 ∷ []) (holding a (127 ∷ 255 ∷ 255 ∷ 255 ∷ 255 ∷ 255 ∷ 255 ∷ 255 ∷ []) plain)) (take 1 sums_past_the_ends) (asked.Add 1 a (pos 1)) (told.Sum (negsuc 9223372036854775807))
+  -- Nor is one where what the transaction adds to the key in all would leave them.
+  pub delta_past_the_greatest : IsIllegal (holding a (128 ∷ 0 ∷ 0 ∷ 0 ∷ 0 ∷ 0 ∷ 0 ∷ 1 ∷ []) plain) (take 2 deltas_past_the_ends) (asked.Add 1 a (pos 9223372036854775807)) (told.Sum (pos 9223372036854775807))
+  -- Where there is no number nothing is out of range.
+  pub out_of_range_before_not_number : IsIllegal (holding y [] (holding x nine (holding k seven plain))) (take 1 values_that_are_no_numbers) (asked.Add 1 k (pos 9223372036854775807)) (told.Refused why.OutOfRange)
+  -- The sum has what the transaction has added before.
+  pub sum_without_the_own_add : IsIllegal plain (take 2 adds_of_two_transactions) (asked.Add 1 n (negsuc 1)) (told.Sum (negsuc 1))
+  -- An add is told its sum.
+  pub add_that_is_told_ok : IsIllegal plain (take 1 adds_of_two_transactions) (asked.Add 1 n (pos 5)) told.Ok
+  -- A read finds what the transaction has added.
+  pub read_before_the_own_add : IsIllegal (holding a (0 ∷ 0 ∷ 0 ∷ 0 ∷ 0 ∷ 0 ∷ 0 ∷ 10 ∷ []) plain) (take 6 reads_over_open_adds) (asked.Get 1 b) told.Absent
+  -- An add that has to wait does, whatever stands there.
+  pub not_number_before_the_lock : IsIllegal (holding k seven plain) (take 3 add_waits_for_a_reader) (asked.Add 1 k (pos 1)) (told.Refused why.NotNumber)
+  -- And one that has to die does.
+  pub not_number_of_one_that_dies : IsIllegal (holding x nine (holding k (0 ∷ 0 ∷ 0 ∷ 0 ∷ 0 ∷ 0 ∷ 0 ∷ 5 ∷ []) plain)) (take 9 add_dies) (asked.Add 1 x (pos 1)) (told.Refused why.NotNumber)

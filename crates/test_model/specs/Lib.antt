@@ -6,5 +6,6 @@ pub mod ExamplesOfHeadlines
 pub mod ExamplesOfLocks
 pub mod ExamplesOfCapacity
 pub mod ExamplesOfRefusals
+pub mod ExamplesOfAdds
 pub mod ExamplesOfIllegalReplies
 pub mod ExamplesOfRules

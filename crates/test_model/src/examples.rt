@@ -7,6 +7,7 @@ ghost use Rattle.test_model.specs.ExamplesOfHeadlines.{ExamplesOfHeadlines};
 ghost use Rattle.test_model.specs.ExamplesOfLocks.{ExamplesOfLocks};
 ghost use Rattle.test_model.specs.ExamplesOfCapacity.{ExamplesOfCapacity};
 ghost use Rattle.test_model.specs.ExamplesOfRefusals.{ExamplesOfRefusals};
+ghost use Rattle.test_model.specs.ExamplesOfAdds.{ExamplesOfAdds};
 ghost use Rattle.test_model.specs.ExamplesOfIllegalReplies.{ExamplesOfIllegalReplies};
 ghost use Rattle.test_model.specs.ExamplesOfRules.{LockRules, FileRules, LimitRules, RefusalRules, ReadRules};
 
@@ -43,6 +44,11 @@ pub fn worked_examples_of_capacity()
 /// Refusals: which one is answered where several could be.
 pub fn worked_examples_of_refusals()
     ensures { ExamplesOfRefusals }
+{}
+
+/// Adds: the sums that they are told, what they are refused, and what a commit makes of them.
+pub fn worked_examples_of_adds()
+    ensures { ExamplesOfAdds }
 {}
 
 /// Replies that aren't legal.

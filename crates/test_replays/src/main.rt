@@ -1,7 +1,8 @@
 //! Reads rows of small databases, writes, logs and files, and prints what `pc_replay` makes of them.
 //!
-//! A key or value is one byte. Pairs, writes and entries are such bytes in turn, `-` for what is absent, and `.` alone for none of
-//! them. A log is commits, each its writes, and tokens, `^N` for that of prepare and `|N` for that of resolve, parted by commas. A
+//! A key or value is one byte, a value also a capital letter: the number that is its place in the alphabet, in eight bytes, 0 for
+//! `A`. Pairs, writes and entries are such bytes in turn, `-` for what is absent, and `.` alone for none of them. A write may add to
+//! a key: `+` 1, `<` -1, `>` the greatest number there is; a greater number than 25 is printed as `?`. A log is commits, each its writes, and tokens, `^N` for that of prepare and `|N` for that of resolve, parted by commas. A
 //! file is its point, `:`, and its triples: a key, a point's digit and a value each.
 //!
 //!     overlay PAIRS WRITES     the pairs written over in place, and by the plain form

@@ -25,7 +25,7 @@ pub fn answer(alloc: Global, words: &[&[u8]]) -> Result<Vec<u8>, Refusal> {
 // What the writes leave of the pairs that are written over in place.
 fn left_in_place(alloc: Global, base: Pairs, writes: &[u8]) -> Result<Vec<u8>, Refusal> {
     let overlay = Overlay::new(alloc, base.into_vec())?;
-    let overlay = overlay.with_writes(writes_of(alloc, writes)?)?;
+    let overlay = overlay.with_writes(alloc, writes_of(alloc, writes)?)?;
     let pairs = overlay.into_pairs(alloc)?;
     text_of(alloc, &pairs)
 }

@@ -1,19 +1,33 @@
 //! The texts of pairs, writes, logs and files.
 
 use pc_replay::{CompleteFile, Pairs};
-use pc_types::{Entry, Items, Key, Phase, Point, Refusal, SessionNo, Triple, Value, Write};
+use pc_types::{Change, Entry, Items, Key, Phase, Point, Refusal, SessionNo, Triple, Value, Write};
 use std::alloc::Global;
 
 fn key_of(alloc: Global, byte: u8) -> Result<Key, Refusal> {
     Key::new(alloc, &[byte])
 }
 
-/// The value of a byte, which `-` stands for the absence of.
+/// The value of a byte, which `-` stands for the absence of: a capital letter for the number of its place.
 pub fn content_of(alloc: Global, byte: u8) -> Result<Option<Value>, Refusal> {
-    if byte == b'-' {
-        return Ok(None);
+    match byte {
+        b'-' => Ok(None),
+        b'A'..=b'Z' => Ok(Some(Value::of_number(alloc, i64::from(byte - b'A')))),
+        _ => Ok(Some(Value::new(alloc, &[byte])?)),
     }
-    Ok(Some(Value::new(alloc, &[byte])?))
+}
+
+// The change of a byte: an add, or what the key has then.
+fn change_of(alloc: Global, byte: u8) -> Result<Change, Refusal> {
+    match byte {
+        b'+' => Ok(Change::Add(1)),
+        b'<' => Ok(Change::Add(-1)),
+        b'>' => Ok(Change::Add(i64::MAX)),
+        _ => match content_of(alloc, byte)? {
+            Some(value) => Ok(Change::Set(value)),
+            None => Ok(Change::Remove),
+        },
+    }
 }
 
 /// The keys and what they have, in the order in which they stand.
@@ -41,8 +55,10 @@ pub fn pairs_of(alloc: Global, text: &[u8]) -> Result<Pairs, Refusal> {
 
 pub fn writes_of(alloc: Global, text: &[u8]) -> Result<Items<Write>, Refusal> {
     let mut writes = Items::new(alloc);
-    for (key, value) in entries_of(alloc, text)? {
-        writes.push(Write { key, value })?;
+    for i in 0..text.len() / 2 {
+        let key = key_of(alloc, text[2 * i])?;
+        let change = change_of(alloc, text[2 * i + 1])?;
+        writes.push(Write { key, change })?;
     }
     Ok(writes)
 }
@@ -95,12 +111,25 @@ pub fn files_of(alloc: Global, words: &[&[u8]]) -> Result<Vec<CompleteFile>, Ref
     Ok(files)
 }
 
+// A value as it is written: a number by the letter of its place.
+fn shown(value: &[u8]) -> &[u8] {
+    let letters = b"ABCDEFGHIJKLMNOPQRSTUVWXYZ";
+    match value {
+        [0, 0, 0, 0, 0, 0, 0, place] => {
+            let place = usize::from(*place);
+            letters.get(place..place + 1).unwrap_or(b"?")
+        }
+        [_, _, _, _, _, _, _, _] => b"?",
+        _ => value,
+    }
+}
+
 /// The pairs as they are written; `.` where there is none.
 pub fn text_of(alloc: Global, pairs: &[(Key, Value)]) -> Result<Vec<u8>, Refusal> {
     let mut text = Vec::new(alloc);
     for (key, value) in pairs {
         text.extend_from_slice(key.as_bytes())?;
-        text.extend_from_slice(value.as_bytes())?;
+        text.extend_from_slice(shown(value.as_bytes()))?;
     }
     if text.is_empty() {
         text.push(b'.')?;

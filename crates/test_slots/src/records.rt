@@ -11,6 +11,8 @@ use std::test::Fail;
 #[derive(Clone, Copy)]
 enum Ask {
     Read(u64, u8),
+    // How it would be answered if it wrote.
+    Look(u64, u8),
     Release(u64),
     IsFullFor(u8),
     IsWaiting(u64),
@@ -18,7 +20,7 @@ enum Ask {
     Values,
 }
 
-use Ask::{IsFullFor, IsWaiting, Read, Release, Values};
+use Ask::{IsFullFor, IsWaiting, Look, Read, Release, Values};
 
 #[derive(Clone, Copy, Debug, PartialEq)]
 enum Told {
@@ -33,10 +35,12 @@ enum Told {
     Is(bool),
     // What a read found.
     Found(Option<u8>),
+    // What a look told, and found.
+    Seen(Outcome, Option<u8>),
     Count(usize),
 }
 
-use Told::{Count, Done, Found, Granted, Is, NoRoom, NotAsked, Refused};
+use Told::{Count, Done, Found, Granted, Is, NoRoom, NotAsked, Refused, Seen};
 
 // What an answer or a refusal says.
 fn told_of(answer: Result<Outcome, Refusal>) -> Result<Told, Refusal>
@@ -80,6 +84,12 @@ fn read(alloc: Global, records: &mut Records, transaction: u64, key: u8) -> Resu
     }
 }
 
+fn look(alloc: Global, records: &Records, transaction: u64, key: u8) -> Result<Told, Refusal> {
+    let key = Key::new(alloc, &[key])?;
+    let look = records.look(TxnNo(transaction), &key);
+    Ok(Seen(look.outcome, content_of(look.found)))
+}
+
 fn release(records: &mut Records, transaction: u64) -> Told
     requires { records.old.pending ≡ [] }
     ensures { records.new.pending ≡ [] }
@@ -91,6 +101,7 @@ fn release(records: &mut Records, transaction: u64) -> Told
 // What the records say, which changes nothing.
 fn said(alloc: Global, records: &Records, ask: Ask) -> Result<Told, Refusal> {
     match ask {
+        Look(transaction, key) => look(alloc, records, transaction, key),
         IsFullFor(key) => Ok(Is(records.is_full_for(&Key::new(alloc, &[key])?))),
         IsWaiting(transaction) => Ok(Is(records.is_waiting(TxnNo(transaction)))),
         _ => Ok(Count(records.committed(alloc)?.len())),
@@ -124,12 +135,20 @@ fn first_other(
     Ok(None)
 }
 
-const SLOTS: [(Ask, Told); 13] = [
-    // A key with a value, and one slot of two readers in turn: it is free once both have released.
+const SLOTS: [(Ask, Told); 20] = [
+    // A key with a value, and one slot of two readers in turn: it is free once both have released. A look tells what a write
+    // would come to.
+    (Look(3, 5), Seen(Outcome::Granted, Some(50))),
     (Read(3, 5), Found(Some(50))),
+    (Look(3, 5), Seen(Outcome::Granted, Some(50))),
+    (Look(1, 5), Seen(Outcome::Queued, Some(50))),
+    (Look(4, 5), Seen(Outcome::Died, Some(50))),
+    (Look(1, 7), Seen(Outcome::Granted, None)),
     (Values, Count(1)),
     (Read(1, 7), Found(None)),
+    (Look(2, 7), Seen(Outcome::Died, None)),
     (Read(2, 7), Found(None)),
+    (Look(1, 7), Seen(Outcome::Died, None)),
     (Read(2, 8), NoRoom),
     (Release(1), Done),
     (IsFullFor(8), Is(true)),
@@ -168,7 +187,7 @@ fn remove(alloc: Global, records: &mut Records, key: u8) -> Result<Told, Refusal
     if records.is_waiting(TxnNo(1)) {
         return Ok(NotAsked);
     }
-    match records.write(alloc, TxnNo(1), Class::During, &key, None) {
+    match records.write(alloc, TxnNo(1), Class::During, &key, None, None) {
         Ok(answer) => told_of(Ok(answer.outcome)),
         Err(why) => told_of(Err(why)),
     }

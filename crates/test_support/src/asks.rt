@@ -10,6 +10,7 @@ pub enum Ask<'a> {
     Get(u32, &'a [u8]),
     Put(u32, &'a [u8], &'a [u8]),
     Del(u32, &'a [u8]),
+    Add(u32, &'a [u8], i64),
     Commit(u32),
     Abort(u32),
     StartPoint,
@@ -28,6 +29,9 @@ pub fn event_of(alloc: Global, ask: Ask) -> Result<Event, Refusal> {
         Ask::Get(session, key) => Event::Get(SessionNo(session), Key::new(alloc, key)?),
         Ask::Put(session, key, value) => return put_of(alloc, session, key, value),
         Ask::Del(session, key) => Event::Del(SessionNo(session), Key::new(alloc, key)?),
+        Ask::Add(session, key, delta) => {
+            Event::Add(SessionNo(session), Key::new(alloc, key)?, delta)
+        }
         Ask::Commit(session) => Event::Commit(SessionNo(session)),
         Ask::Abort(session) => Event::Abort(SessionNo(session)),
         Ask::StartPoint => Event::StartPoint,

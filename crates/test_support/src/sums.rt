@@ -10,6 +10,7 @@ pub enum Kind {
     Found,
     Absent,
     Ok,
+    Sum,
     Wait,
     Died,
     Committed,
@@ -30,6 +31,7 @@ pub fn kind_of(reply: &Reply) -> Kind {
         Reply::Found(_) => Kind::Found,
         Reply::Absent => Kind::Absent,
         Reply::Ok => Kind::Ok,
+        Reply::Sum(_) => Kind::Sum,
         Reply::Wait => Kind::Wait,
         Reply::Died => Kind::Died,
         Reply::Committed(_) => Kind::Committed,
@@ -56,8 +58,9 @@ pub struct SumLine {
 ///
 /// The sum of a kind begins with 14,695,981,039,346,656,037; for each item of each of its replies, in their order, it
 /// becomes (sum xor item) times 1,099,511,628,211, modulo 2^64. The items of a reply are its number among all replies of
-/// the run, from 1; then its own numbers, a file's points between their count and the count of its entries; then, of
-/// its key and its value, the length and the bytes, where a tombstone is 2^64 - 1 in place of a value.
+/// the run, from 1; then its own numbers, one below 0 with 2^64 more, and a file's points between their count and the count
+/// of its entries; then, of its key and its value, the length and the bytes, where a tombstone is 2^64 - 1 in place of a
+/// value.
 #[derive(Drop)]
 pub struct Sums {
     lines: Vec<SumLine>,
@@ -106,6 +109,7 @@ fn with_reply(sum: u64, reply: &Reply) -> u64 {
     match reply {
         Reply::Begun(number) => with_item(sum, number.0),
         Reply::Found(value) => with_bytes(sum, value.as_bytes()),
+        Reply::Sum(number) => with_item(sum, number.cast_unsigned()),
         Reply::Committed(number) => with_item(sum, u64::from(number.0)),
         Reply::Phase(_, point) => with_item(sum, u64::from(point.0)),
         Reply::NotYet(count) => with_item(sum, u64::from(*count)),

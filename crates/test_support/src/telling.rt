@@ -42,6 +42,7 @@ fn kind_name(kind: Kind) -> &'static str {
         Kind::Found => "found",
         Kind::Absent => "absent",
         Kind::Ok => "ok",
+        Kind::Sum => "sum",
         Kind::Wait => "wait",
         Kind::Died => "died",
         Kind::Committed => "committed",

@@ -3,11 +3,12 @@ use pc_jobs::{Job, Op};
 use pc_types::{Items, Key, Refusal, Value};
 use std::alloc::Global;
 
-/// An operation, as plain data: values are of as many bytes as don't lie inline.
+/// An operation, as plain data: values that are put are of as many bytes as don't lie inline.
 #[derive(Clone, Copy)]
 pub enum Ask<'a> {
     Get(&'a [u8]),
     Put(&'a [u8], u8),
+    Add(&'a [u8], i64),
 }
 
 /// The operations of a transaction.
@@ -22,6 +23,8 @@ pub enum Work {
     Apart(u8, u16),
     /// The same, of a read and two puts of three of ten keys, in an order that is the transaction's own.
     Crowded(u8, u16),
+    /// The same, of a read and two adds.
+    Adding(u8, u16),
 }
 
 impl Work {
@@ -29,7 +32,8 @@ impl Work {
     pub fn sessions(&self) -> u8 {
         match *self {
             Work::Listed(sessions) => u8::try_from(sessions.len()).unwrap_or(u8::MAX),
-            Work::Apart(sessions, _) | Work::Crowded(sessions, _) => sessions,
+            Work::Apart(sessions, _) => sessions,
+            Work::Crowded(sessions, _) | Work::Adding(sessions, _) => sessions,
         }
     }
 
@@ -51,6 +55,7 @@ impl Work {
             },
             Work::Apart(_, count) => made(alloc, session, count, job_apart),
             Work::Crowded(_, count) => made(alloc, session, count, job_in_crowd),
+            Work::Adding(_, count) => made(alloc, session, count, adding_job),
         }
     }
 }
@@ -59,6 +64,7 @@ fn op_of(alloc: Global, ask: &Ask) -> Result<Op, Refusal> {
     Ok(match *ask {
         Ask::Get(key) => Op::Get(Key::new(alloc, key)?),
         Ask::Put(key, byte) => Op::Put(Key::new(alloc, key)?, Value::new(alloc, &[byte; 20])?),
+        Ask::Add(key, delta) => Op::Add(Key::new(alloc, key)?, delta),
     })
 }
 
@@ -99,11 +105,28 @@ fn job_apart(alloc: Global, session: u8, number: u16) -> Result<Job, Refusal> {
     job_of(alloc, &[Ask::Put(&[session, high, low], session)])
 }
 
-fn job_in_crowd(alloc: Global, session: u8, number: u16) -> Result<Job, Refusal> {
+// Three of the ten keys.
+fn keys_in_crowd(session: u8, number: u16) -> [[u8; 1]; 3] {
     let own = u16::from(session).wrapping_mul(3).wrapping_add(number);
-    let first = digit(own);
-    let second = digit(own.wrapping_mul(7).wrapping_add(1));
-    let third = digit(own.wrapping_mul(3).wrapping_add(2));
+    [
+        digit(own),
+        digit(own.wrapping_mul(7).wrapping_add(1)),
+        digit(own.wrapping_mul(3).wrapping_add(2)),
+    ]
+}
+
+fn adding_job(alloc: Global, session: u8, number: u16) -> Result<Job, Refusal> {
+    let [first, second, third] = keys_in_crowd(session, number);
+    let asks = [
+        Ask::Get(&first),
+        Ask::Add(&second, i64::from(session)),
+        Ask::Add(&third, -1),
+    ];
+    job_of(alloc, &asks)
+}
+
+fn job_in_crowd(alloc: Global, session: u8, number: u16) -> Result<Job, Refusal> {
+    let [first, second, third] = keys_in_crowd(session, number);
     let [_, low] = number.to_be_bytes();
     let asks = [
         Ask::Get(&first),

@@ -114,12 +114,13 @@ fn tell_example(rt: &HostRuntime, left: &Example) -> io::Result<()> {
 
 fn tell(rt: &HostRuntime, name: &str, left: &Left) -> io::Result<()> {
     let text = format!(in rt.alloc();
-        "{name}: met {}, commits {}, given up {}, receipts {}, reads {}, entries {}, tokens {}, logged {}, all {}, written {}, exact {}, right files {:?}\n",
+        "{name}: met {}, commits {}, given up {}, receipts {}, reads {}, adds {}, entries {}, tokens {}, logged {}, all {}, written {}, exact {}, right files {:?}\n",
         left.have_met,
         left.commits,
         left.given_up,
         left.receipts,
         left.reads,
+        left.adds,
         left.entries,
         left.tokens,
         left.logged,

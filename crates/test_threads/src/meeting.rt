@@ -8,7 +8,7 @@ use crate::audits::{right_files, take_parts};
 use crate::gate::Meeting;
 use crate::logged::TextOfLog;
 use crate::plans::Plan;
-use crate::receipts::{are_exact, count_of, reads_of};
+use crate::receipts::{adds_of, are_exact, count_of, reads_of};
 use crate::signs::Sign;
 use crate::writers::Desk;
 use pc_board::{Board, BoardPass};
@@ -30,9 +30,10 @@ pub struct Left {
     /// How many jobs were committed, and how many were given up.
     pub commits: u64,
     pub given_up: u64,
-    /// How many receipts the sessions have, and how many reads these.
+    /// How many receipts the sessions have, and how many reads and adds these.
     pub receipts: usize,
     pub reads: usize,
+    pub adds: usize,
     /// How many commits the log has, and how many tokens.
     pub entries: usize,
     pub tokens: usize,
@@ -270,6 +271,7 @@ fn left_by<N: StoreName>(
         given_up: done.given_up.load(Ordering::SeqCst),
         receipts: count_of(&closed.receipts),
         reads: reads_of(closed),
+        adds: adds_of(closed),
         entries: log.len().saturating_sub(tokens),
         tokens,
         logged: closed.logged,

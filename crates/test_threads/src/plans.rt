@@ -38,8 +38,11 @@ const SIXTY: [Asks; 60] = [&[Put(b"c", 3)]; 60];
 // The same, and one more.
 const SIXTY_ONE: [Asks; 61] = [&[Put(b"c", 3)]; 61];
 
+// What is added to one key then, each in a transaction of its own.
+const SIXTY_ADDS: [Asks; 60] = [&[Add(b"c", 3)]; 60];
+
 /// All of them.
-pub const PLANS: [Plan; 12] = [
+pub const PLANS: [Plan; 15] = [
     // Session 2 commits c before the point is begun. Session 1 begins once the phase is resolve, and stands with a locked until
     // session 2, which begins again only then, has committed b, and a key of the point was taken.
     Plan {
@@ -138,6 +141,35 @@ pub const PLANS: [Plan; 12] = [
         ],
         ..IDLE
     },
+    // Session 2 is the younger one. It adds to what session 1 has added to, dies, and begins again; session 1 commits only then, and
+    // session 2 goes on once it has.
+    Plan {
+        name: "the younger one dies of an add",
+        work: Work::Listed(&[&[&[Add(b"a", 5)]], &[&[Add(b"b", 2), Add(b"a", -7)]]]),
+        stops: &[
+            ((SecondStarts, 1), (FirstSteps, 1)),
+            ((FirstSteps, 1), (SecondStarts, 2)),
+            ((SecondStarts, 2), (FirstCommits, 1)),
+        ],
+        ..IDLE
+    },
+    // Session 1 is the older one. It adds to what session 2 has added to and waits, while session 3 adds sixty times; session 2 commits
+    // only then, and session 1 goes on once it has.
+    Plan {
+        name: "the older one waits to add",
+        work: Work::Listed(&[
+            &[&[Add(b"a", 1), Add(b"k", 5)]],
+            &[&[Add(b"k", -7)]],
+            &SIXTY_ADDS,
+        ]),
+        stops: &[
+            ((SecondStarts, 1), (FirstSteps, 1)),
+            ((FirstSteps, 1), (SecondSteps, 1)),
+            ((ThirdStarts, 1), (SecondSteps, 1)),
+            ((SecondSteps, 1), (ThirdCommits, 60)),
+        ],
+        ..IDLE
+    },
     // Session 1 is the older one. It asks for what session 2 has locked and waits, while session 3 commits sixty times. Only then
     // session 2 asks for what session 1 has locked, dies and is aborted, by which session 1 is to be woken: session 3, whose last
     // commit would wake it too, and session 2, which begins again, go on once session 1 has committed.
@@ -179,6 +211,13 @@ pub const PLANS: [Plan; 12] = [
         name: "a crowd over ten keys",
         points: 8,
         work: Work::Crowded(64, 2),
+        ..IDLE
+    },
+    // The same, which adds.
+    Plan {
+        name: "a crowd that adds",
+        points: 8,
+        work: Work::Adding(64, 2),
         ..IDLE
     },
 ];

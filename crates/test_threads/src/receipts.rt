@@ -1,9 +1,9 @@
 //! Receipts beside the log.
-use pc_kept_log::{LentWrite, LentWrites};
+use pc_kept_log::{LentChange, LentWrite, LentWrites};
 use pc_replay::{Pairs, apply};
 use pc_shared::{Closed, LentReceipt, Session};
 use pc_tie::StoreName;
-use pc_types::{Entry, Key, Lsn, Refusal, SessionNo, Value, Write};
+use pc_types::{Change, Entry, Key, Lsn, Refusal, SessionNo, Value, Write};
 use std::alloc::Global;
 
 /// Whether each commit of the log has one receipt of its session, with the entry's writes, whose reads are what the keys had
@@ -43,6 +43,32 @@ pub fn reads_of<N: StoreName>(closed: &Closed<N>) -> usize {
         count = count.saturating_add(reads_in(closed, session));
     }
     count
+}
+
+/// How many of the writes of the sessions' receipts are adds.
+pub fn adds_of<N: StoreName>(closed: &Closed<N>) -> usize {
+    let mut count = 0usize;
+    for session in 0..closed.receipts.len() {
+        count = count.saturating_add(adds_in(closed, session));
+    }
+    count
+}
+
+// How many writes of the receipts of the session at the place are adds.
+fn adds_in<N: StoreName>(closed: &Closed<N>, session: usize) -> usize {
+    let mut count = 0usize;
+    for place in 0..commits_of(closed, session) {
+        if let Some(receipt) = closed.receipt(session, place) {
+            count = count.saturating_add(adds_among(receipt.writes()));
+        }
+    }
+    count
+}
+
+fn adds_among(writes: LentWrites<'_>) -> usize {
+    writes
+        .filter(|write| matches!(write.change, LentChange::Add(_)))
+        .count()
 }
 
 // How many reads the receipts of the session at the place have.
@@ -103,13 +129,14 @@ fn are_same(ones: LentWrites<'_>, others: &[Write]) -> bool {
 }
 
 fn is_same(a: &LentWrite<'_>, b: &Write) -> bool {
-    a.key == b.key.as_bytes() && is_value(a.value, b.value.as_ref())
+    a.key == b.key.as_bytes() && is_change(&a.change, &b.change)
 }
 
-fn is_value(a: Option<&[u8]>, b: Option<&Value>) -> bool {
+fn is_change(a: &LentChange<'_>, b: &Change) -> bool {
     match (a, b) {
-        (Some(a), Some(b)) => a == b.as_bytes(),
-        (None, None) => true,
+        (LentChange::Set(a), Change::Set(b)) => *a == b.as_bytes(),
+        (LentChange::Remove, Change::Remove) => true,
+        (LentChange::Add(a), Change::Add(b)) => a == b,
         _ => false,
     }
 }

@@ -5,6 +5,8 @@
 #[cfg(test)]
 mod boards;
 #[cfg(test)]
+mod changes;
+#[cfg(test)]
 mod collapses;
 #[cfg(test)]
 mod notes;

@@ -2,7 +2,7 @@
 ghost use Rattle.std.specs.Prelude.{◌<◌};
 
 use pc_txn::{ReadSet, WriteSet};
-use pc_types::{Key, Refusal, Value, Write};
+use pc_types::{Change, Key, Refusal, Value, Write};
 use std::alloc::Global;
 use std::test::Fail;
 
@@ -17,16 +17,18 @@ fn key_of(alloc: Global, number: u16) -> Result<Key, Refusal> {
 // Writes the byte at the number's key.
 fn write_at(alloc: Global, set: &mut WriteSet, number: u16, byte: u8) -> Result<(), Refusal> {
     let key = key_of(alloc, number)?;
-    let value = Some(Value::new(alloc, &[byte; 20])?);
+    let change = Change::Set(Value::new(alloc, &[byte; 20])?);
     set.reserve()?;
-    set.note(Write { key, value });
+    set.note(alloc, Write { key, change });
     Ok(())
 }
 
 // The last byte of the key in the row, and the first of its value.
 fn told(writes: &[Write], row: usize) -> Option<(u8, u8)> {
     let write = writes.get(row)?;
-    let value = write.value.as_ref()?;
+    let Change::Set(value) = &write.change else {
+        return None;
+    };
     let key = write.key.as_bytes().last().copied()?;
     Some((key, value.as_bytes().first().copied()?))
 }

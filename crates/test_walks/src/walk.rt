@@ -47,12 +47,18 @@ fn put_of(alloc: Global, session: SessionNo, seed: u64) -> Result<Event, Refusal
     Ok(Event::Put(session, key, value))
 }
 
+// A number from -14 to 13.
+fn delta_of(seed: u64) -> i64 {
+    i64::from(drawn(seed, 35, 28)).wrapping_sub(14)
+}
+
 // What a session asks.
 fn session_asks(alloc: Global, session: SessionNo, seed: u64) -> Result<Event, Refusal> {
     match drawn(seed, 45, 20) {
         0..=4 => Ok(Event::Begin(session)),
         5 | 6 => Ok(Event::Get(session, Key::new(alloc, key_of(seed))?)),
-        7..=12 => put_of(alloc, session, seed),
+        7..=10 => put_of(alloc, session, seed),
+        11 | 12 => Ok(Event::Add(session, Key::new(alloc, key_of(seed))?, delta_of(seed))),
         13 | 14 => Ok(Event::Del(session, Key::new(alloc, key_of(seed))?)),
         15 => Ok(Event::Abort(session)),
         _ => Ok(Event::Commit(session)),
