@@ -1,5 +1,5 @@
 -- What is to come of a text and ends without a fault is the part that is read of it at once, where it has fewer than 2^64 entries.
-use Rattle.std.proofs.Common.{◌≡◌, ℕ, zero, suc, ◌+◌, ◌-◌, ◌^◌, ◌<◌, eqb, cond, Bool, true, false, List, [], ◌∷◌, ◌++◌, length, Option, Some, None, Result, Ok, Err, refl, sym, ap, subst, ◌∙◌, append_assoc, append-nil, arith}
+use Rattle.std.proofs.Common.{◌≡◌, ℕ, zero, suc, ◌+◌, ◌^◌, ◌<◌, eqb, cond, Bool, true, false, List, [], ◌∷◌, ◌++◌, length, Option, Some, None, Result, Ok, Err, refl, sym, ap, subst, ◌∙◌, append_assoc, append-nil, arith}
 use Rattle.std.specs.Int.{w32}
 use Rattle.std.proofs.lemmas.List.{length-append}
 use Rattle.pc_types.specs.Counted.{one_more}
@@ -7,8 +7,8 @@ use Rattle.pc_types.specs.Fields.{◌>>=◌, where_true, number_at}
 use Rattle.pc_types.specs.declared.Refusal.{Refusal}
 use Rattle.pc_types.specs.declared.Refusal.TheVariants.{Short, BadLength, Trailing}
 use Rattle.pc_types.specs.declared.Triple.{Triple}
+use Rattle.pc_types.specs.declared.formats.Format.{Format}
 use Rattle.pc_types.proofs.FieldLaws.{ok_is}
-use Rattle.pc_model.specs.Files.{File}
 use Rattle.pc_part.specs.declared.ranges.Range.{Range}
 use Rattle.pc_part.specs.Reading.{next_entry_at, entries_from, entries_at, header_at, PartFields, part_fields_at, part_of_fields, part_at}
 use Rattle.pc_merge.specs.Coming.{Coming, ended, refused}
@@ -58,41 +58,41 @@ entry_in_front header front entry (Ok behind) = ap (λ (es : List Triple). numbe
 abbrev Reads : ℕ × List Range → List Triple → Coming → Result (List Triple × List ℕ) Refusal → Type 0
 Reads header front coming r = coming.fault ≡ None → length front + length coming.entries < 2 ^ 64 → (r >>= after_front header front) ≡ read_as header (front ++ coming.entries)
 
-abbrev ReadsAt : ℕ → ℕ × List Range → List Triple → List ℕ → List ℕ → Type 0
-ReadsAt turns header front last bytes = Reads header front (coming_at turns header.1 (length front) last bytes) (entries_at turns header.1 last bytes)
+abbrev ReadsAt : Format → ℕ → ℕ × List Range → List Triple → List ℕ → List ℕ → Type 0
+ReadsAt format turns header front last bytes = Reads header front (coming_at format turns header.1 (length front) last bytes) (entries_at format turns header.1 last bytes)
 
 grows : (n m k : ℕ) → m ≡ suc n → n + suc k < 2 ^ 64 → one_more n ≡ m
 grows n m k is few = omega arith
 
 -- one step
-step : (turns : ℕ) (header : ℕ × List Range) (front : List Triple) → ((more : List Triple) (key rest : List ℕ) → ReadsAt turns header more key rest) → (r : Result (Option Triple × List ℕ) Refusal)
-    → Reads header front (coming_from (coming_at turns header.1 (one_more (length front))) (length front) r) (r >>= λ next. entries_from (entries_at turns header.1) next.0 next.1)
-step turns header front again (Err why) sound few = cc
-step turns header front again (Ok (None, rest)) sound few = end_is header front (number_at Short w32 rest) sound
-step turns header front again (Ok (Some entry, rest)) sound few =
+step : (format : Format) (turns : ℕ) (header : ℕ × List Range) (front : List Triple) → ((more : List Triple) (key rest : List ℕ) → ReadsAt format turns header more key rest) → (r : Result (Option Triple × List ℕ) Refusal)
+    → Reads header front (coming_from (coming_at format turns header.1 (one_more (length front))) (length front) r) (r >>= λ next. entries_from (entries_at format turns header.1) next.0 next.1)
+step format turns header front again (Err why) sound few = cc
+step format turns header front again (Ok (None, rest)) sound few = end_is header front (number_at Short w32 rest) sound
+step format turns header front again (Ok (Some entry, rest)) sound few =
     let many : length (front ++ entry ∷ []) ≡ suc (length front) = omega (arith, length-append front (entry ∷ [])) in
-    let more : one_more (length front) ≡ length (front ++ entry ∷ []) = grows (length front) (length (front ++ entry ∷ [])) (length (coming_at turns header.1 (one_more (length front)) entry.key rest).entries) many few in
-    entry_in_front header front entry (entries_at turns header.1 entry.key rest)
+    let more : one_more (length front) ≡ length (front ++ entry ∷ []) = grows (length front) (length (front ++ entry ∷ [])) (length (coming_at format turns header.1 (one_more (length front)) entry.key rest).entries) many few in
+    entry_in_front header front entry (entries_at format turns header.1 entry.key rest)
     ∙ again (front ++ entry ∷ []) entry.key rest
-    (subst (λ (count : ℕ). (coming_at turns header.1 count entry.key rest).fault ≡ None) more sound)
-    (subst (λ (count : ℕ). length (front ++ entry ∷ []) + length (coming_at turns header.1 count entry.key rest).entries < 2 ^ 64) more (omega (arith, many, few)))
-    ∙ ap (λ (count : ℕ). read_as header ((front ++ entry ∷ []) ++ (coming_at turns header.1 count entry.key rest).entries)) (sym more)
-    ∙ ap (λ (es : List Triple). read_as header es) (append_assoc front (entry ∷ []) (coming_at turns header.1 (one_more (length front)) entry.key rest).entries)
+    (subst (λ (count : ℕ). (coming_at format turns header.1 count entry.key rest).fault ≡ None) more sound)
+    (subst (λ (count : ℕ). length (front ++ entry ∷ []) + length (coming_at format turns header.1 count entry.key rest).entries < 2 ^ 64) more (omega (arith, many, few)))
+    ∙ ap (λ (count : ℕ). read_as header ((front ++ entry ∷ []) ++ (coming_at format turns header.1 count entry.key rest).entries)) (sym more)
+    ∙ ap (λ (es : List Triple). read_as header es) (append_assoc front (entry ∷ []) (coming_at format turns header.1 (one_more (length front)) entry.key rest).entries)
 
-entries_come : (turns : ℕ) (header : ℕ × List Range) (front : List Triple) (last bytes : List ℕ) → ReadsAt turns header front last bytes
+entries_come : (format : Format) (turns : ℕ) (header : ℕ × List Range) (front : List Triple) (last bytes : List ℕ) → ReadsAt format turns header front last bytes
 unfolding entries_at coming_at
-entries_come zero header front last bytes sound few = cc
-entries_come (suc turns) header front last bytes sound few = step turns header front (entries_come turns header) (next_entry_at header.1 last bytes) sound few
+entries_come format zero header front last bytes sound few = cc
+entries_come format (suc turns) header front last bytes sound few = step format turns header front (entries_come format turns header) (next_entry_at format header.1 last bytes) sound few
 
 -- the part
 pub part_comes : (bytes : List ℕ) (header : ℕ × List Range) → part_header bytes ≡ Ok header → (part_coming bytes).fault ≡ None → length (part_coming bytes).entries < 2 ^ 64 → part_at bytes ≡ Ok (file_of header.0 header.1 (part_coming bytes).entries)
 unfolding part_fields_at
 part_comes bytes header = by (header_at bytes)
   where
-    by : (r : Result ((ℕ × List Range) × List ℕ) Refusal) → (r >>= λ h. Ok h.0) ≡ Ok header → (coming_behind r).fault ≡ None → length (coming_behind r).entries < 2 ^ 64
-        → ((r >>= λ h. (entries_at (length h.1) h.0.1 [] h.1 >>= after_front h.0 [])) >>= λ part. Ok (part_of_fields part)) ≡ Ok (file_of header.0 header.1 (coming_behind r).entries)
+    by : (r : Result ((Format × (ℕ × List Range)) × List ℕ) Refusal) → (r >>= λ h. Ok h.0.1) ≡ Ok header → (coming_behind r).fault ≡ None → length (coming_behind r).entries < 2 ^ 64
+        → ((r >>= λ h. (entries_at h.0.0 (length h.1) h.0.1.1 [] h.1 >>= after_front h.0.1 [])) >>= λ part. Ok (part_of_fields part)) ≡ Ok (file_of header.0 header.1 (coming_behind r).entries)
     by (Err why) is sound few = cc
     by (Ok (h, rest)) is sound few =
-        let taken = entries_come (length rest) h [] [] rest sound (omega (arith, few)) in
+        let taken = entries_come h.0 (length rest) h.1 [] [] rest sound (omega (arith, few)) in
         ap (λ (p : Result PartFields Refusal). p >>= λ part. Ok (part_of_fields part)) taken
-        ∙ ap (λ (g : ℕ × List Range). Ok (file_of g.0 g.1 (coming_at (length rest) h.1 0 [] rest).entries)) (ok_is h header is)
+        ∙ ap (λ (g : ℕ × List Range). Ok (file_of g.0 g.1 (coming_at h.0 (length rest) h.1.1 0 [] rest).entries)) (ok_is h.1 header is)

@@ -126,7 +126,7 @@ impl Sessions {
         active(self.lanes.as_slice(), session)
     }
 
-    /// What the session's open transaction has written: the final write of each key, in the order of first writes.
+    /// What the session's open transaction has written: of each key all its changes as one, in the order of first writes.
     pub(crate) fn writes(&self, session: SessionNo) -> &[Write]
         ensures writes { result.now ≡ writes_in (own self.now session) }
         ensures few { length result.now ≤ MOST_WRITES }
@@ -319,8 +319,8 @@ impl Sessions {
     }
 
     /// The session's transaction requests the write, and makes it where the request is granted: then it applies to what the
-    /// transaction sees of the key, and the value is what it sees after it. The key is looked for near that slot first. Refuses with `Full` exactly where the key has no record and can't get one, and else only with `OutOfMemory`;
-    /// nothing changed then.
+    /// transaction sees of the key, and the value is what it sees after it. The key is looked for near that slot first. Refuses
+    /// with `Full` exactly where the key has no record and can't get one, and else only with `OutOfMemory`; nothing changed then.
     pub(crate) fn request(
         &mut self,
         alloc: Global,

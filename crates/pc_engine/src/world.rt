@@ -5,7 +5,6 @@ ghost use Rattle.pc_model.specs.Maps.{get, len};
 ghost use Rattle.pc_model.specs.Files.{file_at};
 ghost use Rattle.pc_model.specs.Database.{KeysRise, database_of, written};
 ghost use Rattle.pc_model.specs.History.{History};
-ghost use Rattle.pc_types.specs.Changes.{fits};
 ghost use Rattle.pc_model.specs.Limits.{IsInLimits};
 ghost use Rattle.pc_model.specs.FewWrites.{HasFewWrites};
 ghost use Rattle.pc_model.specs.Log.{after};
@@ -28,6 +27,7 @@ use pc_phase::Change;
 use pc_taken::Taken;
 use pc_types::{
     Event, FileNo, Key, MOST_KEYS, MOST_SESSIONS, Phase, Refusal, Reply, SessionNo, Value,
+    number_fits,
 };
 use std::alloc::Global;
 use std::hash::RandomState;
@@ -250,17 +250,10 @@ pub(crate) fn in_limits(event: &Event)
         }
         Event::Add(_, key, delta) => {
             let _ = key.as_bytes();
-            number_in_limits(*delta);
+            number_fits(*delta);
         }
         _ => {}
     }
-}
-
-// A number has 64 bits with a sign.
-fn number_in_limits(number: i64)
-    ensures { fits number ≡ true }
-{
-    let _ = number;
 }
 
 /// Runs the events, in order, on a new store that starts from the base, and gives the store and the replies. The whole

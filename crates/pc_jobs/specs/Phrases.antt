@@ -2,7 +2,7 @@
 use Rattle.std.specs.Prelude.{ℕ, ◌&&◌, nat_le, Bool, ℤ, List, [], ◌∷◌, Option, Some, None, if◌then◌else◌, codes}
 use Rattle.std.specs.Str.{bytes_eq}
 use Rattle.pc_types.specs.declared.limits.TheConstants.{MOST_SESSIONS}
-use Rattle.pc_lines.specs.Words.{number_of, signed_number_of, text_of}
+use Rattle.pc_lines.specs.Words.{number_of, signed_number_of, text_of, key_text_of}
 use Rattle.pc_lines.specs.Lines.{words_of, is_key, is_value, is_comment}
 use Rattle.pc_jobs.specs.declared.works.Op.TheVariants as op
 use Rattle.pc_jobs.specs.declared.phrases.Phrase.{Phrase}
@@ -17,7 +17,7 @@ text_with test None = None
 
 -- the key that a word spells
 abbrev pub key_of : List ℕ → Option (List ℕ)
-key_of word = text_with is_key (text_of word)
+key_of word = text_with is_key (key_text_of word)
 
 -- the value that a word spells
 abbrev pub value_of : List ℕ → Option (List ℕ)
@@ -25,7 +25,7 @@ value_of word = text_with is_value (text_of word)
 
 -- the prefix that a word spells
 abbrev pub prefix_of : List ℕ → Option (List ℕ)
-prefix_of word = text_with is_prefix (text_of word)
+prefix_of word = text_with is_prefix (key_text_of word)
 
 -- a number within limits
 abbrev pub within : ℕ → ℕ → Option ℕ → Option ℕ

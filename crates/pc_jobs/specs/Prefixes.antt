@@ -1,14 +1,14 @@
 -- The keys of a fill: a prefix with six digits behind it.
 use Rattle.std.specs.Prelude.{ℕ, ◌+◌, ◌/◌, ◌%◌, ◌≤◌, nat_le, Bool, List, [], ◌∷◌, length}
-use Rattle.pc_types.specs.declared.limits.TheConstants.{MOST_KEY_BYTES}
+use Rattle.pc_types.specs.declared.limits.TheConstants.{SPACE_BYTES, MOST_KEY_BYTES}
 
--- a prefix leaves room for six digits in a key
+-- a prefix, whose first bytes are those of its space, leaves room for six digits in a key
 abbrev pub is_prefix : List ℕ → Bool
-is_prefix bytes = nat_le (length bytes + 6) MOST_KEY_BYTES
+is_prefix prefix = nat_le (length prefix + 6) (SPACE_BYTES + MOST_KEY_BYTES)
 
 -- the same as a fact
 abbrev pub IsPrefix : List ℕ → Type 0
-IsPrefix bytes = length bytes + 6 ≤ MOST_KEY_BYTES
+IsPrefix prefix = (SPACE_BYTES ≤ length prefix) × (length prefix + 6 ≤ SPACE_BYTES + MOST_KEY_BYTES)
 
 -- the byte of a number's last decimal digit
 abbrev pub digit : ℕ → ℕ

@@ -1,5 +1,6 @@
 //! The transactions of a fill, made one by one in one place.
-ghost use Rattle.std.specs.Prelude.{◌≡◌, ◌⊎◌, ◌<◌, length, IfErr, OnErr, OnOk};
+ghost use Rattle.std.specs.Prelude.{◌≡◌, ◌⊎◌, ◌<◌, ◌+◌, length, IfErr, OnErr, OnOk};
+ghost use Rattle.pc_types.specs.declared.limits.TheConstants.{SPACE_BYTES};
 ghost use Rattle.pc_jobs.specs.Jobs.{job_of, key_at};
 
 use crate::works::{Fill, Job, Op};
@@ -37,12 +38,12 @@ impl FillJob {
     }
 
     /// Makes it the fill's transaction of this number: one put, of the fill's value under its prefix with the number behind it, of
-    /// which the last six decimal digits are written, zeros first. Refuses only with `OutOfMemory`, and only where the key or the
-    /// value has more than 16 bytes; then it stays as it was.
+    /// which the last six decimal digits are written, zeros first. Refuses only with `OutOfMemory`, and only where the key has
+    /// more than 16 bytes of its own, or the value more than 16; then it stays as it was.
     pub fn set(&mut self, alloc: Global, fill: &Fill, number: u32) -> Result<(), Refusal>
         ensures job { OnOk result (self.new ≡ job_of fill.now number) }
         ensures same { OnErr result (self.new ≡ self.old) }
-        ensures refusals { IfErr result (λ e. (e ≡ Refusal.OutOfMemory) × ((16 < length (key_at fill.now number)) ⊎ (16 < length fill.now.value))) }
+        ensures refusals { IfErr result (λ e. (e ≡ Refusal.OutOfMemory) × ((SPACE_BYTES + 16 < length (key_at fill.now number)) ⊎ (16 < length fill.now.value))) }
     {
         let key = fill.prefix.key(alloc, number)?;
         let value = fill.value.copy(alloc)?;

@@ -5,7 +5,7 @@ ghost use Rattle.pc_jobs.specs.Phrases.{key_of, value_of, prefix_of, number_with
 
 use crate::prefixes::Prefix;
 use crate::works::{Fill, Op};
-use pc_lines::{is_comment, is_key, is_value, number, signed_number, text_of, words_of};
+use pc_lines::{is_comment, is_value, key_text_of, number, signed_number, text_of, words_of};
 use pc_types::{Key, MOST_SESSIONS, Refusal, SessionNo, Value};
 use std::alloc::Global;
 
@@ -222,12 +222,12 @@ fn key_of(alloc: Global, word: &[u8]) -> Result<Option<Key>, Refusal>
     ensures key { IfOk result (λ key. key ≡ key_of word.now) }
     ensures refusals { IfErr result (λ e. e ≡ Refusal.OutOfMemory) }
 {
-    match text_of(alloc, word)? {
+    match key_text_of(alloc, word)? {
         Some(text) => {
-            if !is_key(&text) {
+            if !text.is_key() {
                 return Ok(None);
             }
-            Ok(Some(Key::new(alloc, &text)?))
+            Ok(Some(text.key(alloc)?))
         }
         None => Ok(None),
     }
@@ -254,8 +254,8 @@ fn prefix_of(alloc: Global, word: &[u8]) -> Result<Option<Prefix>, Refusal>
     ensures prefix { IfOk result (λ prefix. prefix ≡ prefix_of word.now) }
     ensures refusals { IfErr result (λ e. e ≡ Refusal.OutOfMemory) }
 {
-    match text_of(alloc, word)? {
-        Some(text) => Ok(Prefix::new(text)),
+    match key_text_of(alloc, word)? {
+        Some(text) => Ok(Prefix::new(text.space, text.own)),
         None => Ok(None),
     }
 }

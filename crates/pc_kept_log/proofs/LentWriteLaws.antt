@@ -8,6 +8,7 @@ use Rattle.pc_types.specs.declared.refusal.Refusal.TheVariants.{BadLength}
 use Rattle.pc_types.specs.declared.Entry.{Entry}
 use Rattle.pc_types.specs.declared.Entry.TheVariants.{Commit, Token}
 use Rattle.pc_types.specs.declared.Write.{Write}
+use Rattle.pc_types.specs.declared.Format.TheVariants.{Second}
 use Rattle.pc_types.specs.Fields.{key_text}
 use Rattle.pc_types.proofs.FieldLaws.{wide16, key_again}
 use Rattle.pc_log.specs.Texts.{change_text, write_text, entry_text, IsWrite, IsEntry}
@@ -48,7 +49,7 @@ write_again : (write : Write) (rest : List ℕ) → IsWrite write → plain_writ
 unfolding plain_write_at
 write_again write rest limits =
     ap plain_write_at (append_assoc (key_text write.key) (change_text write.change) rest)
-    ∙ rw (key_again BadLength write.key (change_text write.change ++ rest) limits.0, change_again write.change rest limits.1) refl
+    ∙ rw (key_again Second BadLength write.key (change_text write.change ++ rest) limits.0 tt, change_again write.change rest limits.1) refl
 
 all_again : (writes : List Write) (rest : List ℕ) → AllByRecursion IsWrite writes → writes_in (length writes) (flat_map write_text writes ++ rest) ≡ writes
 all_again [] rest limits = none_of rest

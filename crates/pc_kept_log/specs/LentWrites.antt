@@ -1,15 +1,16 @@
--- The writes of an entry, read of its text one after the other, each by itself.
+-- The writes of an entry, read of its text in format 02 one after the other, each by itself.
 use Rattle.std.specs.Prelude.{ℕ, zero, suc, List, [], ◌∷◌, Result, Ok, Err}
 use Rattle.pc_types.specs.declared.refusal.Refusal.{Refusal}
 use Rattle.pc_types.specs.declared.refusal.Refusal.TheVariants.{BadLength}
 use Rattle.pc_types.specs.declared.Write.{Write}
+use Rattle.pc_types.specs.declared.Format.TheVariants.{Second}
 use Rattle.pc_types.specs.Fields.{◌>>=◌, key_at}
 use Rattle.pc_log.specs.Reading.{change_at}
 
 -- a write, whatever writes were before it
 unfoldable pub plain_write_at : List ℕ → Result (Write × List ℕ) Refusal
 plain_write_at bytes = do
-  key ← key_at BadLength bytes
+  key ← key_at Second BadLength bytes
   change ← change_at key.1
   Ok (record { key = key.0; change = change.0 }, change.1)
 

@@ -3,6 +3,7 @@ ghost use Rattle.std.specs.Prelude.{◌≡◌, ◌<◌, [], length, slice_get};
 ghost use Rattle.std.specs.Iterator.{YieldsFirst, item_count};
 ghost use Rattle.pc_types.specs.Fields.{Reads, key_at, value_at};
 ghost use Rattle.pc_types.specs.declared.refusal.Refusal.TheVariants.{BadLength};
+ghost use Rattle.pc_types.specs.declared.formats.Format.TheVariants.{Second};
 ghost use Rattle.pc_log.specs.Reading.{change_at};
 ghost use Rattle.pc_kept_log.specs.Logs.{entries_of, writes_of_entry};
 ghost use Rattle.pc_kept_log.specs.LentChanges.{lent_change};
@@ -12,13 +13,14 @@ use crate::chunk::Chunk;
 use crate::log::Log;
 use pc_log::COMMIT;
 use pc_types::{
-    MOST_VALUE_BYTES, Refusal, read_bytes, read_sized_key, read_u16, read_u32, read_u64,
+    Format, MOST_VALUE_BYTES, Refusal, read_bytes, read_key_text, read_u16, read_u32, read_u64,
 };
 use std::marker::Model;
 
 /// A write of a log's entry, lent. A contract sees the write.
 #[derive(Drop)]
 pub struct LentWrite<'a> {
+    /// The bytes of its key, as `Key::as_bytes` has them: the space's two, and its own behind them.
     pub key: &'a [u8],
     /// What it does to the key.
     pub change: LentChange<'a>,
@@ -153,13 +155,13 @@ fn lend_write(bytes: &[u8]) -> Result<(LentWrite<'_>, &[u8]), Refusal>
     Ok((LentWrite { key, change }, rest))
 }
 
-// A key, its length before it.
+// A key, the length of its own bytes before it.
 #[tactic(auto, unfolding(pc_types::specs::Fields::key_at))]
 fn lend_key(bytes: &[u8]) -> Result<(&[u8], &[u8]), Refusal>
-    ensures { Reads (λ x. (x.0.now, x.1.now)) result (key_at BadLength bytes.now) }
+    ensures { Reads (λ x. (x.0.now, x.1.now)) result (key_at Second BadLength bytes.now) }
 {
     let (count, rest) = read_u16(bytes, Refusal::BadLength)?;
-    read_sized_key(rest, count, Refusal::BadLength)
+    read_key_text(Format::Second, rest, count, Refusal::BadLength)
 }
 
 // What a write does to its key: a kind of 0 and nothing, of 1 and a value, or of 2 and a number in two's complement.

@@ -9,7 +9,7 @@ ghost use Rattle.pc_log.specs.Texts.{change_text, write_text, commit_head_text, 
 ghost use Rattle.pc_kept_log.specs.Placing.{ArePut, HasSpace};
 
 use pc_log::{ABSENCE, ADD, COMMIT, TOKEN, VALUE, number_bytes, phases, writes_size};
-use pc_types::{Change, MOST_POINTS, MOST_WRITES, Phase, Point, SessionNo, Write};
+use pc_types::{Change, MOST_POINTS, MOST_WRITES, Phase, Point, SPACE_BYTES, SessionNo, Write};
 
 // The text of a commit is put at this place. Answers where it ends.
 pub(crate) fn put_commit(room: &mut [u8], at: usize, session: SessionNo, writes: &[Write]) -> usize
@@ -64,7 +64,7 @@ fn put_write(room: &mut [u8], at: usize, write: &Write) -> usize
     ensures in_limits { IsWrite write.now }
 {
     let key = write.key.as_bytes();
-    let at = put(room, at, &(key.len() as u16).to_be_bytes());
+    let at = put(room, at, &((key.len() - SPACE_BYTES) as u16).to_be_bytes());
     let at = put(room, at, key);
     match &write.change {
         Change::Remove => put(room, at, &[ABSENCE]),

@@ -1,15 +1,15 @@
 -- The words of a script's line, and what a line spells.
-use Rattle.std.specs.Prelude.{ℕ, ◌==◌, ◌&&◌, nat_lt, nat_le, Bool, false, ℤ, List, [], ◌∷◌, Option, Some, None, if◌then◌else◌, length, map, filter, codes}
+use Rattle.std.specs.Prelude.{ℕ, ◌+◌, ◌==◌, ◌&&◌, nat_lt, nat_le, Bool, false, ℤ, List, [], ◌∷◌, Option, Some, None, if◌then◌else◌, length, map, filter, codes}
 use Rattle.std.specs.List.{slice_split}
 use Rattle.std.specs.Str.{bytes_eq}
 use Rattle.bstr.specs.Text.{lines_of, without_terminator}
 use Rattle.pc_types.specs.declared.Event.TheVariants as asked
 use Rattle.pc_types.specs.declared.Refusal.TheVariants as why
-use Rattle.pc_types.specs.declared.limits.TheConstants.{MOST_KEY_BYTES, MOST_VALUE_BYTES}
+use Rattle.pc_types.specs.declared.limits.TheConstants.{SPACE_BYTES, MOST_KEY_BYTES, MOST_VALUE_BYTES}
 use Rattle.pc_lines.specs.declared.lines.Line.{Line}
 use Rattle.pc_lines.specs.declared.lines.Line.TheVariants as line
 use Rattle.pc_lines.specs.declared.lines.View.TheVariants as view
-use Rattle.pc_lines.specs.Words.{number_of, signed_number_of, text_of}
+use Rattle.pc_lines.specs.Words.{number_of, signed_number_of, text_of, key_text_of}
 
 -- the lines: each ends with a line feed, before which one carriage return is dropped; the last one may lack its line feed
 abbrev pub lines_in : List ℕ → List (List ℕ)
@@ -19,9 +19,9 @@ lines_in script = map without_terminator (lines_of script)
 abbrev pub words_of : List ℕ → List (List ℕ)
 words_of text = filter (λ word. nat_lt 0 (length word)) (slice_split (λ b. b == 32) text)
 
--- a key has 1 to 255 bytes
+-- a key has 1 to 255 bytes of its own, behind its space's two
 abbrev pub is_key : List ℕ → Bool
-is_key bytes = nat_lt 0 (length bytes) && nat_le (length bytes) MOST_KEY_BYTES
+is_key key = nat_lt SPACE_BYTES (length key) && nat_le (length key) (SPACE_BYTES + MOST_KEY_BYTES)
 
 -- a value has at most 65,535 bytes
 abbrev pub is_value : List ℕ → Bool
@@ -90,16 +90,16 @@ join_line first second = line.Malformed
 -- what three words spell
 abbrev pub three_words : List ℕ → List ℕ → List ℕ → Line
 three_words verb first second =
-    if bytes_eq verb (codes "get") then get_line (number_of first) (text_of second)
-    else (if bytes_eq verb (codes "del") then del_line (number_of first) (text_of second)
-    else (if bytes_eq verb (codes "base") then base_line (text_of first) (text_of second)
+    if bytes_eq verb (codes "get") then get_line (number_of first) (key_text_of second)
+    else (if bytes_eq verb (codes "del") then del_line (number_of first) (key_text_of second)
+    else (if bytes_eq verb (codes "base") then base_line (key_text_of first) (text_of second)
     else (if bytes_eq verb (codes "join") then join_line (number_of first) (number_of second) else line.Malformed)))
 
 -- what four words spell
 abbrev pub four_words : List ℕ → List ℕ → List ℕ → List ℕ → Line
 four_words verb first second third =
-    if bytes_eq verb (codes "put") then put_line (number_of first) (text_of second) (text_of third)
-    else (if bytes_eq verb (codes "add") then add_line (number_of first) (text_of second) (signed_number_of third) else line.Malformed)
+    if bytes_eq verb (codes "put") then put_line (number_of first) (key_text_of second) (text_of third)
+    else (if bytes_eq verb (codes "add") then add_line (number_of first) (key_text_of second) (signed_number_of third) else line.Malformed)
 
 -- what the words of a line spell
 abbrev pub spelled_by : List (List ℕ) → Line

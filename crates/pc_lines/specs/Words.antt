@@ -1,9 +1,10 @@
 -- The words of a script: numbers, and the texts of keys and values.
-use Rattle.std.specs.Prelude.{ℕ, ◌+◌, ◌*◌, ◌-◌, ◌==◌, ◌&&◌, not, nat_lt, Bool, true, false, ℤ, pos, neg_ℤ, List, [], ◌∷◌, Option, Some, None, if◌then◌else◌, length}
-use Rattle.std.specs.List.{list_all}
+use Rattle.std.specs.Prelude.{ℕ, ◌+◌, ◌*◌, ◌-◌, ◌==◌, ◌&&◌, not, nat_lt, Bool, true, false, ℤ, pos, neg_ℤ, List, [], ◌∷◌, Option, Some, None, if◌then◌else◌, length, take, drop}
+use Rattle.std.specs.List.{list_all, position}
 use Rattle.std.specs.Str.{bytes_eq}
 use Rattle.std.specs.Str.Parse.{digits_value}
 use Rattle.pc_types.specs.Changes.{fits}
+use Rattle.pc_types.specs.Keys.{key_of}
 
 -- a decimal digit, 0 to 9
 abbrev pub is_digit : ℕ → Bool
@@ -79,3 +80,36 @@ unescaped (b ∷ word) = with_plain b (unescaped word)
 -- the text of a key or value word: a hyphen alone stands for no bytes
 abbrev pub text_of : List ℕ → Option (List ℕ)
 text_of word = if bytes_eq word (45 ∷ []) then Some [] else unescaped word
+
+-- Key words. `\sN:` before the word of a key's own bytes tells its space, N from 1 to 65535; without it the space is 0.
+
+-- the space of this number; none where it is above 65,535
+abbrev pub space_within : Option ℕ → Option ℕ
+space_within None = None
+space_within (Some number) = if nat_lt number 65536 then Some number else None
+
+-- the space that decimal digits write, of which the first isn't 0
+abbrev pub space_in : List ℕ → Option ℕ
+space_in [] = None
+space_in (b ∷ digits) = if b == 48 then None else space_within (number_of (b ∷ digits))
+
+-- the key of a text of own bytes
+abbrev pub key_in : ℕ → Option (List ℕ) → Option (List ℕ)
+key_in space None = None
+key_in space (Some own) = Some (key_of space own)
+
+-- the same of a word of own bytes, which isn't empty
+abbrev pub key_behind : Option ℕ → List ℕ → Option (List ℕ)
+key_behind None word = None
+key_behind (Some space) [] = None
+key_behind (Some space) (b ∷ word) = key_in space (text_of (b ∷ word))
+
+-- what a space's digits, a colon at this place, and the word behind it stand for
+abbrev pub key_at_colon : List ℕ → Option ℕ → Option (List ℕ)
+key_at_colon text None = None
+key_at_colon text (Some at) = key_behind (space_in (take at text)) (drop (at + 1) text)
+
+-- what a key word stands for: the bytes of its space, and behind them those of its own, which may be too few or too many for a key
+abbrev pub key_text_of : List ℕ → Option (List ℕ)
+key_text_of (b ∷ s ∷ text) = if b == 92 && s == 115 then key_at_colon text (position (λ c. c == 58) text) else key_in 0 (text_of (b ∷ s ∷ text))
+key_text_of word = key_in 0 (text_of word)

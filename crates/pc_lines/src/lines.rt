@@ -1,11 +1,12 @@
 //! The lines of a script, and what each spells.
 ghost use Rattle.std.specs.Prelude.{◌≡◌, ◌==◌, ℕ, List, Some, map, length, IfOk, IfErr};
 ghost use Rattle.std.specs.List.{slice_split};
-ghost use Rattle.pc_lines.specs.Words.{number_of, signed_number_of, text_of};
-ghost use Rattle.pc_lines.specs.Lines.{words_of, is_key, is_value, base_line, get_line, del_line, put_line, add_line, one_word, numbered_line, two_words, three_words, four_words, spelled_by, is_comment, spelled};
+ghost use Rattle.pc_lines.specs.Words.{number_of, signed_number_of, text_of, key_text_of};
+ghost use Rattle.pc_lines.specs.Lines.{words_of, is_value, base_line, get_line, del_line, put_line, add_line, one_word, numbered_line, two_words, three_words, four_words, spelled_by, is_comment, spelled};
 
+use crate::key_words::{KeyText, key_text_of};
 use crate::words::{number, signed_number, text_of};
-use pc_types::{Event, FileNo, Key, MOST_KEY_BYTES, MOST_VALUE_BYTES, Refusal, SessionNo, Value};
+use pc_types::{Event, FileNo, Key, MOST_VALUE_BYTES, Refusal, SessionNo, Value};
 use std::alloc::{AllocError, Global};
 
 /// What a line of a script spells.
@@ -147,19 +148,19 @@ fn three_words(alloc: Global, verb: &[u8], first: &[u8], second: &[u8]) -> Resul
     ensures refusals { IfErr result (λ e. e ≡ Refusal.OutOfMemory) }
 {
     if verb == b"get".as_slice() {
-        let text = text_of(alloc, second)?;
-        match (number(first), text) {
+        let key = key_text_of(alloc, second)?;
+        match (number(first), key) {
             (Some(session), Some(key)) => get_line(alloc, session, &key),
             _ => Ok(Line::Malformed),
         }
     } else if verb == b"del".as_slice() {
-        let text = text_of(alloc, second)?;
-        match (number(first), text) {
+        let key = key_text_of(alloc, second)?;
+        match (number(first), key) {
             (Some(session), Some(key)) => del_line(alloc, session, &key),
             _ => Ok(Line::Malformed),
         }
     } else if verb == b"base".as_slice() {
-        let key = text_of(alloc, first)?;
+        let key = key_text_of(alloc, first)?;
         let value = text_of(alloc, second)?;
         match (key, value) {
             (Some(key), Some(value)) => base_line(alloc, &key, &value),
@@ -197,10 +198,10 @@ fn four_words(
 }
 
 fn put_words(alloc: Global, first: &[u8], second: &[u8], third: &[u8]) -> Result<Line, Refusal>
-    ensures line { IfOk result (λ line. line ≡ put_line (number_of first.now) (text_of second.now) (text_of third.now)) }
+    ensures line { IfOk result (λ line. line ≡ put_line (number_of first.now) (key_text_of second.now) (text_of third.now)) }
     ensures refusals { IfErr result (λ e. e ≡ Refusal.OutOfMemory) }
 {
-    let key = text_of(alloc, second)?;
+    let key = key_text_of(alloc, second)?;
     let value = text_of(alloc, third)?;
     match (number(first), key, value) {
         (Some(session), Some(key), Some(value)) => put_line(alloc, session, &key, &value),
@@ -209,82 +210,75 @@ fn put_words(alloc: Global, first: &[u8], second: &[u8], third: &[u8]) -> Result
 }
 
 fn add_words(alloc: Global, first: &[u8], second: &[u8], third: &[u8]) -> Result<Line, Refusal>
-    ensures line { IfOk result (λ line. line ≡ add_line (number_of first.now) (text_of second.now) (signed_number_of third.now)) }
+    ensures line { IfOk result (λ line. line ≡ add_line (number_of first.now) (key_text_of second.now) (signed_number_of third.now)) }
     ensures refusals { IfErr result (λ e. e ≡ Refusal.OutOfMemory) }
 {
-    let text = text_of(alloc, second)?;
-    match (number(first), text, signed_number(third)) {
+    let key = key_text_of(alloc, second)?;
+    match (number(first), key, signed_number(third)) {
         (Some(session), Some(key), Some(delta)) => add_line(alloc, session, &key, delta),
         _ => Ok(Line::Malformed),
     }
 }
 
-fn base_line(alloc: Global, key: &[u8], value: &[u8]) -> Result<Line, Refusal>
+fn base_line(alloc: Global, key: &KeyText, value: &[u8]) -> Result<Line, Refusal>
     ensures line { IfOk result (λ line. line ≡ base_line (Some key.now) (Some value.now)) }
     ensures refusals { IfErr result (λ e. e ≡ Refusal.OutOfMemory) }
 {
-    if !is_key(key) {
+    if !key.is_key() {
         return Ok(Line::SetsRefused(Refusal::KeyLength));
     }
     if !is_value(value) {
         return Ok(Line::SetsRefused(Refusal::ValueLength));
     }
-    Ok(Line::Sets(Key::new(alloc, key)?, Value::new(alloc, value)?))
+    Ok(Line::Sets(key.key(alloc)?, Value::new(alloc, value)?))
 }
 
-fn get_line(alloc: Global, session: u32, key: &[u8]) -> Result<Line, Refusal>
+fn get_line(alloc: Global, session: u32, key: &KeyText) -> Result<Line, Refusal>
     ensures line { IfOk result (λ line. line ≡ get_line (Some session) (Some key.now)) }
     ensures refusals { IfErr result (λ e. e ≡ Refusal.OutOfMemory) }
 {
-    if !is_key(key) {
+    if !key.is_key() {
         return Ok(Line::AsksRefused(Refusal::KeyLength));
     }
-    let key = Key::new(alloc, key)?;
+    let key = key.key(alloc)?;
     Ok(Line::Asks(Event::Get(SessionNo(session), key)))
 }
 
-fn del_line(alloc: Global, session: u32, key: &[u8]) -> Result<Line, Refusal>
+fn del_line(alloc: Global, session: u32, key: &KeyText) -> Result<Line, Refusal>
     ensures line { IfOk result (λ line. line ≡ del_line (Some session) (Some key.now)) }
     ensures refusals { IfErr result (λ e. e ≡ Refusal.OutOfMemory) }
 {
-    if !is_key(key) {
+    if !key.is_key() {
         return Ok(Line::AsksRefused(Refusal::KeyLength));
     }
-    let key = Key::new(alloc, key)?;
+    let key = key.key(alloc)?;
     Ok(Line::Asks(Event::Del(SessionNo(session), key)))
 }
 
-fn put_line(alloc: Global, session: u32, key: &[u8], value: &[u8]) -> Result<Line, Refusal>
+fn put_line(alloc: Global, session: u32, key: &KeyText, value: &[u8]) -> Result<Line, Refusal>
     ensures line { IfOk result (λ line. line ≡ put_line (Some session) (Some key.now) (Some value.now)) }
     ensures refusals { IfErr result (λ e. e ≡ Refusal.OutOfMemory) }
 {
-    if !is_key(key) {
+    if !key.is_key() {
         return Ok(Line::AsksRefused(Refusal::KeyLength));
     }
     if !is_value(value) {
         return Ok(Line::AsksRefused(Refusal::ValueLength));
     }
-    let key = Key::new(alloc, key)?;
+    let key = key.key(alloc)?;
     let value = Value::new(alloc, value)?;
     Ok(Line::Asks(Event::Put(SessionNo(session), key, value)))
 }
 
-fn add_line(alloc: Global, session: u32, key: &[u8], delta: i64) -> Result<Line, Refusal>
+fn add_line(alloc: Global, session: u32, key: &KeyText, delta: i64) -> Result<Line, Refusal>
     ensures line { IfOk result (λ line. line ≡ add_line (Some session) (Some key.now) (Some delta)) }
     ensures refusals { IfErr result (λ e. e ≡ Refusal.OutOfMemory) }
 {
-    if !is_key(key) {
+    if !key.is_key() {
         return Ok(Line::AsksRefused(Refusal::KeyLength));
     }
-    let key = Key::new(alloc, key)?;
+    let key = key.key(alloc)?;
     Ok(Line::Asks(Event::Add(SessionNo(session), key, delta)))
-}
-
-/// Whether the bytes can be a key: 1 to 255.
-pub fn is_key(bytes: &[u8]) -> bool
-    ensures { result ≡ is_key bytes.now }
-{
-    !bytes.is_empty() && bytes.len() <= MOST_KEY_BYTES
 }
 
 /// Whether the bytes can be a value: at most 65,535.

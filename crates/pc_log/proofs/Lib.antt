@@ -5,7 +5,7 @@ mod CommitTexts
 pub mod TurnLaws
 mod TokenOrders
 mod EntryTexts
-mod EntriesAgain
+pub mod EntriesAgain
 pub mod PlainTextLaws
 mod LogTexts
 pub mod CutTextLaws

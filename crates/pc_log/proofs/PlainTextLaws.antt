@@ -9,6 +9,7 @@ use Rattle.std.proofs.lemmas.List.Elements.{recursion_from_All}
 use Rattle.pc_types.specs.declared.refusal.Refusal.{Refusal}
 use Rattle.pc_types.specs.declared.refusal.Refusal.TheVariants.{Short, BadLength, TokenOrder}
 use Rattle.pc_types.specs.declared.Entry.{Entry}
+use Rattle.pc_types.specs.declared.Format.TheVariants.{Second}
 use Rattle.pc_types.specs.declared.Entry.TheVariants.{Commit, Token}
 use Rattle.pc_types.specs.declared.Phase.{Phase}
 use Rattle.pc_types.specs.Fields.{◌>>=◌, where_true, number_at}
@@ -16,7 +17,7 @@ use Rattle.pc_types.proofs.FieldLaws.{wide32, bytes_again, number_again}
 use Rattle.pc_log.specs.Texts.{phase_number, body_text, entry_text, IsEntry, IsTokenPoint}
 use Rattle.pc_log.specs.Plain.{plain_token_at, plain_kind_at, plain_body_at, plain_entry_at, and_behind, plain_entries_at, entries_in}
 use Rattle.pc_log.proofs.TokenOrders.{numbered_is}
-use Rattle.pc_log.proofs.EntriesAgain.{commit_again, body_length}
+use Rattle.pc_log.proofs.EntriesAgain.{commit_again, body_fits, second_has}
 
 token_again : (phase : Phase) (point : ℕ) → IsTokenPoint point → plain_token_at (phase_number phase ∷ to_be_bytes w32 point) ≡ Ok (Token phase point, [])
 unfolding plain_token_at
@@ -29,16 +30,15 @@ token_again phase point lawful =
 
 plain_body_again : (entry : Entry) → IsEntry entry → plain_body_at (body_text entry) ≡ Ok (entry, [])
 unfolding plain_body_at plain_kind_at
-plain_body_again (Commit session writes) lawful = commit_again session writes lawful
+plain_body_again (Commit session writes) lawful = commit_again Second session writes lawful (second_has (Commit session writes))
 plain_body_again (Token phase point) lawful = token_again phase point lawful
 
 pub plain_again : (entry : Entry) (rest : List ℕ) → IsEntry entry → plain_entry_at (entry_text entry ++ rest) ≡ Ok (entry, rest)
 unfolding plain_entry_at
 plain_again entry rest lawful =
     let size = length (body_text entry) in
-    let limit = body_length entry lawful in
     ap plain_entry_at (append_assoc (to_be_bytes w32 size) (body_text entry) rest)
-    ∙ rw (number_again Short w32 (2 ^ 32) wide32 size (body_text entry ++ rest) (omega (arith, limit.1)), bytes_again Short (body_text entry) rest, plain_body_again entry lawful) refl
+    ∙ rw (number_again Short w32 (2 ^ 32) wide32 size (body_text entry ++ rest) (body_fits Second entry lawful), bytes_again Short (body_text entry) rest, plain_body_again entry lawful) refl
 
 one_turn : (turns : ℕ) (bytes : List ℕ) (entry : Entry) (rest : List ℕ) → plain_entry_at bytes ≡ Ok (entry, rest) → plain_entries_at (suc turns) bytes ≡ entry ∷ plain_entries_at turns rest
 unfolding plain_entries_at

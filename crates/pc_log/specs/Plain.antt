@@ -1,4 +1,4 @@
--- Reading entries of bytes that are known to be their texts: each by itself, whatever token was before it.
+-- Reading entries of bytes that are known to be their texts in format 02: each by itself, whatever token was before it.
 use Rattle.std.specs.Prelude.{ℕ, zero, suc, List, [], ◌∷◌, length, Result, Ok, Err, nat_le}
 use Rattle.std.specs.Int.{w32}
 use Rattle.pc_types.specs.declared.refusal.Refusal.{Refusal}
@@ -6,6 +6,7 @@ use Rattle.pc_types.specs.declared.refusal.Refusal.TheVariants.{Short, BadKind, 
 use Rattle.pc_types.specs.declared.limits.TheConstants.{MOST_POINTS}
 use Rattle.pc_types.specs.declared.Entry.{Entry}
 use Rattle.pc_types.specs.declared.Entry.TheVariants.{Token}
+use Rattle.pc_types.specs.declared.Format.TheVariants.{Second}
 use Rattle.pc_types.specs.Fields.{◌>>=◌, where_true, bytes_at, number_at}
 use Rattle.pc_log.specs.Reading.{byte_at, phase_numbered, commit_at}
 
@@ -19,7 +20,7 @@ plain_token_at bytes = do
 
 -- what an entry of this kind has behind its kind
 unfoldable pub plain_kind_at : ℕ → List ℕ → Result (Entry × List ℕ) Refusal
-plain_kind_at (suc zero) bytes = commit_at bytes
+plain_kind_at (suc zero) bytes = commit_at Second bytes
 plain_kind_at (suc (suc zero)) bytes = plain_token_at bytes
 plain_kind_at other bytes = Err BadKind
 

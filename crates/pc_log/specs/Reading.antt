@@ -1,5 +1,5 @@
 -- Reading a log's text from left to right, with the first fault that is met.
-use Rattle.std.specs.Prelude.{ℕ, zero, suc, Bool, not, List, [], ◌∷◌, ◌++◌, length, Option, Some, None, Result, Ok, Err, nat_le, ◌==◌, ◌&&◌}
+use Rattle.std.specs.Prelude.{ℕ, zero, suc, ◌+◌, ◌*◌, Bool, not, List, [], ◌∷◌, ◌++◌, length, Option, Some, None, Result, Ok, Err, nat_le, ◌==◌, ◌&&◌}
 use Rattle.std.specs.List.{list_any}
 use Rattle.std.specs.Int.{w16, w32, w64, cast_signed}
 use Rattle.pc_types.specs.declared.refusal.Refusal.{Refusal}
@@ -11,9 +11,10 @@ use Rattle.pc_types.specs.declared.Phase.TheVariants.{Rest, Prepare, Resolve, Ca
 use Rattle.pc_types.specs.declared.Change.{Change}
 use Rattle.pc_types.specs.declared.Change.TheVariants.{Set, Remove, Add}
 use Rattle.pc_types.specs.declared.Write.{Write}
-use Rattle.pc_types.specs.Fields.{◌>>=◌, where_true, bytes_at, number_at, magic_at, key_at, value_at}
-use Rattle.pc_types.specs.declared.limits.TheConstants.{MOST_SESSIONS, MOST_WRITES}
-use Rattle.pc_log.specs.declared.reading.TheConstants.{MOST_BODY_BYTES}
+use Rattle.pc_types.specs.declared.Format.{Format}
+use Rattle.pc_types.specs.declared.Format.TheVariants.{First, Second}
+use Rattle.pc_types.specs.Fields.{◌>>=◌, where_true, bytes_at, number_at, magic_at, space_bytes, key_at, value_at}
+use Rattle.pc_types.specs.declared.limits.TheConstants.{MOST_KEY_BYTES, MOST_VALUE_BYTES, MOST_SESSIONS, MOST_WRITES}
 use Rattle.pc_log.specs.declared.order.LastToken.{LastToken}
 use Rattle.pc_log.specs.declared.reading.LogText.{LogText}
 use Rattle.pc_log.specs.Texts.{log_magic, same_key}
@@ -43,28 +44,28 @@ change_at (suc (suc zero) ∷ rest) = do
 change_at (suc (suc (suc kind)) ∷ rest) = Err BadKind
 
 -- a write whose key none of the earlier ones has
-unfoldable pub write_at : List Write → List ℕ → Result (Write × List ℕ) Refusal
-write_at earlier bytes = do
-  key ← key_at BadLength bytes
+unfoldable pub write_at : Format → List Write → List ℕ → Result (Write × List ℕ) Refusal
+write_at format earlier bytes = do
+  key ← key_at format BadLength bytes
   first ← where_true (not (is_written earlier key.0)) KeyOrder key
   change ← change_at first.1
   Ok (record { key = first.0; change = change.0 }, change.1)
 
 -- the earlier writes, and so many more
-unfoldable pub writes_at : ℕ → List Write → List ℕ → Result (List Write × List ℕ) Refusal
-writes_at zero earlier bytes = Ok (earlier, bytes)
-writes_at (suc count) earlier bytes = do
-  write ← write_at earlier bytes
-  writes_at count (earlier ++ write.0 ∷ []) write.1
+unfoldable pub writes_at : Format → ℕ → List Write → List ℕ → Result (List Write × List ℕ) Refusal
+writes_at format zero earlier bytes = Ok (earlier, bytes)
+writes_at format (suc count) earlier bytes = do
+  write ← write_at format earlier bytes
+  writes_at format count (earlier ++ write.0 ∷ []) write.1
 
 -- what a commit has behind its kind
-unfoldable pub commit_at : List ℕ → Result (Entry × List ℕ) Refusal
-commit_at bytes = do
+unfoldable pub commit_at : Format → List ℕ → Result (Entry × List ℕ) Refusal
+commit_at format bytes = do
   session ← byte_at bytes
   lawful ← where_true (nat_le 1 session.0 && nat_le session.0 MOST_SESSIONS) BadLength session
   count ← number_at BadLength w16 lawful.1
   few ← where_true (nat_le count.0 MOST_WRITES) BadLength count
-  writes ← writes_at few.0 [] few.1
+  writes ← writes_at format few.0 [] few.1
   Ok (Commit lawful.0 writes.0, writes.1)
 
 -- the phase for which a number stands
@@ -85,25 +86,30 @@ token_at last bytes = do
   where_true (comes_next last phase point.0) TokenOrder (Token phase point.0, point.1)
 
 -- what an entry of this kind has behind its kind
-unfoldable pub kind_at : ℕ → LastToken → List ℕ → Result (Entry × List ℕ) Refusal
-kind_at (suc zero) last bytes = commit_at bytes
-kind_at (suc (suc zero)) last bytes = token_at last bytes
-kind_at other last bytes = Err BadKind
+unfoldable pub kind_at : Format → ℕ → LastToken → List ℕ → Result (Entry × List ℕ) Refusal
+kind_at format (suc zero) last bytes = commit_at format bytes
+kind_at format (suc (suc zero)) last bytes = token_at last bytes
+kind_at format other last bytes = Err BadKind
 
 -- the body of an entry, all of the bytes
-unfoldable pub body_at : LastToken → List ℕ → Result Entry Refusal
-body_at last bytes = do
+unfoldable pub body_at : Format → LastToken → List ℕ → Result Entry Refusal
+body_at format last bytes = do
   kind ← byte_at bytes
-  entry ← kind_at kind.0 last kind.1
+  entry ← kind_at format kind.0 last kind.1
   where_true (length entry.1 == 0) Trailing entry.0
 
+-- the bytes of the longest body: those of the most writes, of the longest keys and values, each with two for the length of its
+-- key, one for its kind and four for the length of its value; and in front of them four
+abbrev pub most_body_bytes : Format → ℕ
+most_body_bytes format = 4 + MOST_WRITES * (2 + (space_bytes format + MOST_KEY_BYTES) + 1 + (4 + MOST_VALUE_BYTES))
+
 -- an entry, its length before it; the body is read once all its bytes are there
-unfoldable pub entry_at : LastToken → List ℕ → Result (Entry × List ℕ) Refusal
-entry_at last bytes = do
+unfoldable pub entry_at : Format → LastToken → List ℕ → Result (Entry × List ℕ) Refusal
+entry_at format last bytes = do
   size ← number_at Short w32 bytes
-  lawful ← where_true (nat_le 1 size.0 && nat_le size.0 MOST_BODY_BYTES) BadLength size
+  lawful ← where_true (nat_le 1 size.0 && nat_le size.0 (most_body_bytes format)) BadLength size
   body ← bytes_at Short lawful.0 lawful.1
-  entry ← body_at last body.0
+  entry ← body_at format last body.0
   Ok (entry, body.1)
 
 -- the entries that can be read one after the other, how many bytes are left, and the fault that stopped the reading
@@ -131,9 +137,9 @@ found_by bytes (Ok entry) behind = with_entry entry.0 (behind entry)
 found_by bytes (Err fault) behind = none_more bytes fault
 
 -- As many entries as can be read. Each takes some of the bytes, so that as many turns as there are bytes are enough.
-unfoldable pub entries_at : ℕ → LastToken → List ℕ → LogReading
-entries_at zero last bytes = none_more bytes Short
-entries_at (suc turns) last bytes = found_by bytes (entry_at last bytes) (λ entry. entries_at turns (token_after last entry.0) entry.1)
+unfoldable pub entries_at : Format → ℕ → LastToken → List ℕ → LogReading
+entries_at format zero last bytes = none_more bytes Short
+entries_at format (suc turns) last bytes = found_by bytes (entry_at format last bytes) (λ entry. entries_at format turns (token_after last entry.0) entry.1)
 
 -- what is read of a log's text
 pub record LogRead : Type 0 where
@@ -146,24 +152,24 @@ pub record LogRead : Type 0 where
 abbrev pub of_run : ℕ → LogReading → LogRead
 of_run run found = record { run = run; entries = found.entries; rest = found.rest; fault = found.fault }
 
--- the header: the run, and the bytes behind it
-unfoldable pub header_at : List ℕ → Result (ℕ × List ℕ) Refusal
+-- the header: the format, the run, and the bytes behind it
+unfoldable pub header_at : List ℕ → Result (Format × ℕ × List ℕ) Refusal
 header_at bytes = do
-  start ← magic_at log_magic bytes
-  run ← number_at Short w64 start
+  start ← magic_at (log_magic First) (log_magic Second) bytes
+  run ← number_at Short w64 start.1
   base ← number_at Short w32 run.1
-  where_true (base.0 == 0) BadRanges (run.0, base.1)
+  where_true (base.0 == 0) BadRanges (start.0, run.0, base.1)
 
--- all of the bytes: the header, and the entries behind it
+-- all of the bytes: the header, and the entries behind it in the header's format
 unfoldable pub log_at : List ℕ → Result LogRead Refusal
 log_at bytes = do
   header ← header_at bytes
-  Ok (of_run header.0 (entries_at (length header.1) no_token header.1))
+  Ok (of_run header.1 (entries_at header.0 (length header.2) no_token header.2))
 
 -- what a call has read, without where it lies in memory
 abbrev pub text_of : LogText → LogRead
 text_of text = record { run = text.run; entries = text.entries.items; rest = text.rest; fault = text.fault }
 
 -- all that can be read
-abbrev pub all_at : LastToken → List ℕ → LogReading
-all_at last bytes = entries_at (length bytes) last bytes
+abbrev pub all_at : Format → LastToken → List ℕ → LogReading
+all_at format last bytes = entries_at format (length bytes) last bytes

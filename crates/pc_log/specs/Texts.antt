@@ -1,5 +1,6 @@
--- The text of a log: the bytes that stand for it. Numbers stand with their highest byte first.
-use Rattle.std.specs.Prelude.{◌≡◌, ℕ, ◌≤◌, Bool, true, List, ◌∷◌, ◌++◌, length, map, codes, Some, None, ⊤}
+-- The text of a log: the bytes that stand for it, in either format. Numbers stand with their highest byte first. A word with _in
+-- takes the format; the same word without it is what is written, in format 02.
+use Rattle.std.specs.Prelude.{◌≡◌, ℕ, ◌≤◌, Bool, true, List, ◌∷◌, ◌++◌, length, map, codes, Some, None, All, ⊤}
 use Rattle.std.specs.List.{flat_map, IsDistinct, AllByRecursion}
 use Rattle.std.specs.Int.{w8, w16, w32, w64, to_be_bytes}
 use Rattle.std.specs.Ordering.{nat_cmp, eq_by_cmp}
@@ -12,17 +13,20 @@ use Rattle.pc_types.specs.declared.Change.{Change}
 use Rattle.pc_types.specs.declared.Change.TheVariants.{Set, Remove, Add}
 use Rattle.pc_types.specs.declared.Write.{Write}
 use Rattle.pc_types.specs.Changes.{fits, number_text}
-use Rattle.pc_types.specs.Fields.{key_text, content_text}
+use Rattle.pc_types.specs.declared.Format.{Format}
+use Rattle.pc_types.specs.declared.Format.TheVariants.{First, Second}
+use Rattle.pc_types.specs.Fields.{key_text_in, content_text, HasKey}
 use Rattle.pc_types.specs.Limits.{IsKey, IsValue}
 use Rattle.pc_types.specs.declared.limits.TheConstants.{MOST_POINTS, MOST_SESSIONS, MOST_WRITES}
 
--- the bytes that tell a log
-abbrev pub log_magic : List ℕ
-log_magic = codes "PCALCL01"
+-- the bytes that tell a log of a format
+abbrev pub log_magic : Format → List ℕ
+log_magic First = codes "PCALCL01"
+log_magic Second = codes "PCALCL02"
 
 -- what stands first: the magic, the run, and the base point, which is 0
-abbrev pub header_text : ℕ → List ℕ
-header_text run = log_magic ++ (to_be_bytes w64 run ++ to_be_bytes w32 0)
+abbrev pub header_text_in : Format → ℕ → List ℕ
+header_text_in format run = log_magic format ++ (to_be_bytes w64 run ++ to_be_bytes w32 0)
 
 -- what a write does to its key: the kind, and behind it the value that is set, or the number that is added
 abbrev pub change_text : Change → List ℕ
@@ -31,8 +35,8 @@ change_text (Set value) = content_text (Some value)
 change_text (Add d) = 2 ∷ number_text d
 
 -- a write: its key, and what it does to it
-abbrev pub write_text : Write → List ℕ
-write_text write = key_text write.key ++ change_text write.change
+abbrev pub write_text_in : Format → Write → List ℕ
+write_text_in format write = key_text_in format write.key ++ change_text write.change
 
 -- the number that stands for a phase
 abbrev pub phase_number : Phase → ℕ
@@ -44,21 +48,45 @@ phase_number Complete = 4
 
 -- what stands of an entry behind its length: of a commit its kind, its session, and its writes with their count before them;
 -- of a token its kind, its phase and its point
+abbrev pub body_text_in : Format → Entry → List ℕ
+body_text_in format (Commit session writes) = 1 ∷ (to_be_bytes w8 session ++ (to_be_bytes w16 (length writes) ++ flat_map (write_text_in format) writes))
+body_text_in format (Token phase point) = 2 ∷ (phase_number phase ∷ to_be_bytes w32 point)
+
+-- an entry: the length of its body, and its body
+abbrev pub entry_text_in : Format → Entry → List ℕ
+entry_text_in format entry = to_be_bytes w32 (length (body_text_in format entry)) ++ body_text_in format entry
+
+-- the text of a run's entries
+abbrev pub log_text_in : Format → ℕ → List Entry → List ℕ
+log_text_in format run entries = header_text_in format run ++ flat_map (entry_text_in format) entries
+
+-- ---- what is written
+
+-- the header
+abbrev pub header_text : ℕ → List ℕ
+header_text run = header_text_in Second run
+
+-- a write
+abbrev pub write_text : Write → List ℕ
+write_text write = write_text_in Second write
+
+-- an entry behind its length
 abbrev pub body_text : Entry → List ℕ
-body_text (Commit session writes) = 1 ∷ (to_be_bytes w8 session ++ (to_be_bytes w16 (length writes) ++ flat_map write_text writes))
-body_text (Token phase point) = 2 ∷ (phase_number phase ∷ to_be_bytes w32 point)
+body_text entry = body_text_in Second entry
 
 -- what stands of a commit before its writes
 abbrev pub commit_head_text : ℕ → List Write → List ℕ
 commit_head_text session writes = to_be_bytes w32 (length (body_text (Commit session writes))) ++ (1 ∷ (to_be_bytes w8 session ++ to_be_bytes w16 (length writes)))
 
--- an entry: the length of its body, and its body
+-- an entry
 abbrev pub entry_text : Entry → List ℕ
-entry_text entry = to_be_bytes w32 (length (body_text entry)) ++ body_text entry
+entry_text entry = entry_text_in Second entry
 
--- the text of a run's entries
+-- a run's entries
 abbrev pub log_text : ℕ → List Entry → List ℕ
-log_text run entries = header_text run ++ flat_map entry_text entries
+log_text run entries = log_text_in Second run entries
+
+-- ---- what has a text
 
 -- whether two keys have the same bytes
 abbrev pub same_key : List ℕ → List ℕ → Bool
@@ -91,7 +119,20 @@ pub record IsTokenPoint (point : ℕ) : Type 0 where
   pub first : 1 ≤ point
   pub last : point ≤ MOST_POINTS
 
--- what has a text
+-- an entry within its limits
 abbrev pub IsEntry : Entry → Type 0
 IsEntry (Commit session writes) = IsCommit session writes
 IsEntry (Token phase point) = IsTokenPoint point
+
+-- the format has a text of the entry: of each key that it writes
+abbrev pub HasEntry : Format → Entry → Type 0
+HasEntry format (Commit session writes) = AllByRecursion (λ (write : Write). HasKey format write.key) writes
+HasEntry format (Token phase point) = ⊤
+
+-- the format has a text of each of the entries
+abbrev pub HasLog : Format → List Entry → Type 0
+HasLog format entries = All (HasEntry format) entries
+
+-- the bytes are a text of these entries, of either format
+abbrev pub IsLogText : List ℕ → ℕ → List Entry → Type 0
+IsLogText bytes run entries = (format : Format) × HasLog format entries × (bytes ≡ log_text_in format run entries)

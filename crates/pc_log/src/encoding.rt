@@ -1,4 +1,4 @@
-//! The text of a log goes out.
+//! The text of a log goes out, in format 02.
 ghost use Rattle.std.specs.Prelude.{ℕ, ◌≡◌, ◌≤◌, ◌*◌, length, All};
 ghost use Rattle.std.specs.List.{flat_map};
 ghost use Rattle.pc_types.specs.Changes.{number_text};
@@ -9,10 +9,12 @@ ghost use Rattle.pc_types.specs.declared.Entry.TheVariants.{Commit, Token};
 
 use crate::phases;
 use byteorder::{BigEndian, ByteOrder};
-use pc_types::{Change, Entry, MOST_WRITES, Phase, Point, Refusal, SessionNo, Tally, Write};
+use pc_types::{
+    Change, Entry, MOST_WRITES, Phase, Point, Refusal, SPACE_BYTES, SessionNo, Tally, Write,
+};
 use std::io;
 
-const MAGIC: [u8; 8] = *b"PCALCL01";
+const MAGIC: [u8; 8] = *b"PCALCL02";
 
 // The base point of the header.
 const BASE_POINT: [u8; 4] = [0; 4];
@@ -116,7 +118,7 @@ fn put_write<W: io::Write>(out: &mut Tally<W>, write: &Write) -> Result<(), Refu
 {
     let key = write.key.as_bytes();
     let mut key_len = [0u8; 2];
-    BigEndian::write_u16(&mut key_len, key.len() as u16);
+    BigEndian::write_u16(&mut key_len, (key.len() - SPACE_BYTES) as u16);
     match &write.change {
         Change::Remove => out.put_all(&[&key_len, key, &[ABSENCE]]),
         Change::Set(value) => {
@@ -166,11 +168,11 @@ pub fn commit_size(writes: &[Write]) -> u32
 /// How many bytes the text of a token takes.
 pub const TOKEN_SIZE: u32 = 10;
 
-/// How many bytes the texts of these writes take, which are at most 256: at most 65,797 each.
+/// How many bytes the texts of these writes take, which are at most 256: at most 65,799 each.
 pub fn writes_size(writes: &[Write]) -> u32
     requires { length writes.now ≤ MOST_WRITES }
     ensures size { result ≡ length (flat_map write_text writes.now) }
-    ensures limit { result ≤ 65797 * length writes.now }
+    ensures limit { result ≤ 65799 * length writes.now }
 {
     let mut size = 0;
     for write in writes {
@@ -181,7 +183,7 @@ pub fn writes_size(writes: &[Write]) -> u32
 
 fn write_size(write: &Write) -> u32
     ensures size { result ≡ length (write_text write.now) }
-    ensures limit { result ≤ 65797 }
+    ensures limit { result ≤ 65799 }
 {
     let key = write.key.as_bytes().len() as u32;
     match &write.change {

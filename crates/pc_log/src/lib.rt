@@ -19,4 +19,4 @@ pub use laws::{
 };
 pub use order::LastToken;
 pub use plain::read_plain_entry;
-pub use reading::{LogText, MOST_BODY_BYTES, read_entry, read_header, read_log};
+pub use reading::{LogText, most_body_bytes, read_entry, read_header, read_log};

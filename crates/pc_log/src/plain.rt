@@ -1,16 +1,16 @@
-//! An entry is read by itself, whatever token was before it, of bytes that are known to be entries' texts.
+//! An entry is read by itself, whatever token was before it, of bytes that are known to be entries' texts in format 02.
 ghost use Rattle.pc_types.specs.Fields.{Gives, Reads};
 ghost use Rattle.pc_log.specs.Plain.{plain_token_at, plain_kind_at, plain_body_at, plain_entry_at};
 
 use crate::phases;
 use crate::reading::{read_byte, read_commit};
-use pc_types::{Entry, MOST_POINTS, Point, Refusal, read_bytes, read_u32};
+use pc_types::{Entry, Format, MOST_POINTS, Point, Refusal, read_bytes, read_u32};
 use std::alloc::Global;
 
-/// Reads the entry with which the bytes begin, whatever token was before it: the entry, and the bytes behind it. Of an entry's
-/// text that is just the entry. Refuses other bytes with the first fault that is met: `Short` where they end inside the entry,
-/// else `BadLength`, `BadKind`, `KeyOrder` or `TokenOrder`; what is left of a body behind its entry is passed over. It refuses
-/// with `OutOfMemory` only where a growth was refused, and takes memory for the entry alone.
+/// Reads the entry with which the bytes begin in format 02, whatever token was before it: the entry, and the bytes behind it. Of
+/// an entry's text that is just the entry. Refuses other bytes with the first fault that is met: `Short` where they end inside
+/// the entry, else `BadLength`, `BadKind`, `KeyOrder` or `TokenOrder`; what is left of a body behind its entry is passed over. It
+/// refuses with `OutOfMemory` only where a growth was refused, and takes memory for the entry alone.
 #[tactic(auto, unfolding(crate::specs::Plain::plain_entry_at))]
 pub fn read_plain_entry(alloc: Global, bytes: &[u8]) -> Result<(Entry, &[u8]), Refusal>
     ensures { Gives (λ x. (x.0, x.1.now)) result (plain_entry_at bytes.now) }
@@ -34,7 +34,7 @@ fn read_plain_kind(alloc: Global, kind: u8, bytes: &[u8]) -> Result<(Entry, &[u8
     ensures { Gives (λ x. (x.0, x.1.now)) result (plain_kind_at kind bytes.now) }
 {
     match kind {
-        1 => read_commit(alloc, bytes),
+        1 => read_commit(alloc, Format::Second, bytes),
         2 => read_plain_token(bytes),
         _ => Err(Refusal::BadKind),
     }

@@ -1,24 +1,31 @@
 //! A log is read from its text, which may have been cut off.
 ghost use Rattle.std.specs.Prelude.{◌≡◌, ◌<◌, [], length, IfOk, Ok, Err, Some};
 ghost use Rattle.pc_types.specs.Fields.{Gives, Reads};
-ghost use Rattle.pc_log.specs.Reading.{byte_at, change_at, write_at, writes_at, commit_at, token_at, kind_at, body_at, entry_at, entries_at, header_at, log_at, text_of, of_run, is_written};
+ghost use Rattle.pc_log.specs.Reading.{byte_at, change_at, write_at, writes_at, commit_at, token_at, kind_at, body_at, most_body_bytes, entry_at, entries_at, header_at, log_at, text_of, of_run, is_written};
 ghost use Rattle.pc_log.specs.Orders.{no_token};
 ghost use Rattle.pc_log.specs.Laws.{AreWholeEntries};
 
 use crate::order::LastToken;
 use crate::phases;
 use pc_types::{
-    Change, Entry, Items, Key, MOST_KEY_BYTES, MOST_SESSIONS, MOST_VALUE_BYTES, MOST_WRITES, Point,
-    Refusal, SessionNo, Write, read_bytes, read_key, read_magic, read_u16, read_u32, read_u64,
-    read_value,
+    Change, Entry, Format, Items, Key, MOST_KEY_BYTES, MOST_SESSIONS, MOST_VALUE_BYTES,
+    MOST_WRITES, Point, Refusal, SPACE_BYTES, SessionNo, Write, read_bytes, read_key, read_magic,
+    read_u16, read_u32, read_u64, read_value,
 };
 use std::alloc::Global;
 
-/// The body of an entry has at most so many bytes: those of the most writes, of the longest keys and values, with two for the
-/// length of each key, one for what stands behind it and four for the length of its value, behind one each for the kind and
-/// the session and two for the number of writes.
-pub const MOST_BODY_BYTES: usize = 4
-    + MOST_WRITES * (2 + MOST_KEY_BYTES + 1 + 4 + MOST_VALUE_BYTES);
+/// How many bytes the body of an entry has at most in this format: those of the most writes, of the longest keys and values,
+/// with two for the length of each key, one for what stands behind it and four for the length of its value, behind one each for
+/// the kind and the session and two for the number of writes.
+pub fn most_body_bytes(format: Format) -> usize
+    ensures { result ≡ most_body_bytes format }
+{
+    let key = match format {
+        Format::First => MOST_KEY_BYTES,
+        Format::Second => SPACE_BYTES + MOST_KEY_BYTES,
+    };
+    4 + MOST_WRITES * (2 + key + 1 + 4 + MOST_VALUE_BYTES)
+}
 
 /// What was read of a log's text: its whole entries, which are all that can be read behind the header one by one with their
 /// tokens in order, and what is left behind them.
@@ -34,8 +41,9 @@ pub struct LogText {
     pub fault: Option<Refusal>,
 }
 
-/// Reads a log's text. Refuses with `Short`, `BadMagic` or `BadRanges` where the header of 20 bytes has that fault, and with
-/// `OutOfMemory` only where a growth was refused. It takes memory for the entries alone.
+/// Reads a log's text, of either format: the header tells which, for all of it. Refuses with `Short`, `BadMagic` or `BadRanges`
+/// where the header of 20 bytes has that fault, and with `OutOfMemory` only where a growth was refused. It takes memory for the
+/// entries alone.
 pub fn read_log(alloc: Global, bytes: &[u8]) -> Result<LogText, Refusal>
     ensures exact { Gives text_of result (log_at bytes.now) }
     ensures whole { IfOk result (λ text. AreWholeEntries bytes.now text.run text.entries.items text.rest) }
@@ -48,35 +56,35 @@ pub fn read_log(alloc: Global, bytes: &[u8]) -> Result<LogText, Refusal>
 fn read_text(alloc: Global, bytes: &[u8]) -> Result<LogText, Refusal>
     ensures { Gives text_of result (log_at bytes.now) }
 {
-    let (run, rest) = read_header(bytes)?;
-    read_entries(alloc, run, rest)
+    let (format, run, rest) = read_header(bytes)?;
+    read_entries(alloc, format, run, rest)
 }
 
-/// Reads the header of 20 bytes with which a log's text begins: the number of the run, and the bytes behind it. Refuses with
-/// `Short` where there are fewer bytes, with `BadMagic` where the first 8 are others, and with `BadRanges` where the base
-/// point isn't 0; of several faults with the first. It takes no memory.
+/// Reads the header of 20 bytes with which a log's text begins: the format of all that stands behind it, the number of the run,
+/// and the bytes behind it. Refuses with `Short` where there are fewer bytes, with `BadMagic` where the first 8 are those of no
+/// format, and with `BadRanges` where the base point isn't 0; of several faults with the first. It takes no memory.
 #[tactic(auto, unfolding(crate::specs::Reading::header_at))]
-pub fn read_header(bytes: &[u8]) -> Result<(u64, &[u8]), Refusal>
-    ensures { Reads (λ x. (x.0, x.1.now)) result (header_at bytes.now) }
+pub fn read_header(bytes: &[u8]) -> Result<(Format, u64, &[u8]), Refusal>
+    ensures { Reads (λ x. (x.0, x.1, x.2.now)) result (header_at bytes.now) }
 {
-    let rest = read_magic(bytes, b"PCALCL01")?;
+    let (format, rest) = read_magic(bytes, b"PCALCL01", b"PCALCL02")?;
     let (run, rest) = read_u64(rest, Refusal::Short)?;
     let (base, rest) = read_u32(rest, Refusal::Short)?;
     if base != 0 {
         return Err(Refusal::BadRanges);
     }
-    Ok((run, rest))
+    Ok((format, run, rest))
 }
 
 // As many entries as can be read one after the other.
-fn read_entries(alloc: Global, run: u64, bytes: &[u8]) -> Result<LogText, Refusal>
-    ensures { Gives text_of result (Ok (of_run run (entries_at (length bytes.now) no_token bytes.now))) }
+fn read_entries(alloc: Global, format: Format, run: u64, bytes: &[u8]) -> Result<LogText, Refusal>
+    ensures { Gives text_of result (Ok (of_run run (entries_at format (length bytes.now) no_token bytes.now))) }
 {
     let mut entries = Vec::new(alloc);
     let mut last = LastToken::none();
     let mut rest = bytes;
     while !rest.is_empty() {
-        match read_entry(alloc, last, rest) {
+        match read_entry(alloc, format, last, rest) {
             Ok((entry, after)) => {
                 last = last.after(&entry);
                 entries.push(entry)?;
@@ -109,28 +117,33 @@ fn stopped(run: u64, entries: Vec<Entry>, rest: &[u8], fault: Refusal) -> Result
     })
 }
 
-/// Reads the entry with which the bytes begin: the entry, and the bytes behind it. A token has to be the one that follows the
-/// last token before these bytes. Refuses with the first fault of the entry: `Short` where the bytes end inside it, else
-/// `BadLength`, `BadKind`, `KeyOrder`, `TokenOrder` or `Trailing`; and with `OutOfMemory` only where a growth was refused. It
-/// takes memory for the entry alone.
+/// Reads the entry with which the bytes begin, in the format of their log: the entry, and the bytes behind it. A token has to be
+/// the one that follows the last token before these bytes. Refuses with the first fault of the entry: `Short` where the bytes end
+/// inside it, else `BadLength`, `BadKind`, `KeyOrder`, `TokenOrder` or `Trailing`; and with `OutOfMemory` only where a growth was
+/// refused. It takes memory for the entry alone.
 #[tactic(auto, unfolding(crate::specs::Reading::entry_at))]
-pub fn read_entry(alloc: Global, last: LastToken, bytes: &[u8]) -> Result<(Entry, &[u8]), Refusal>
-    ensures { Gives (λ x. (x.0, x.1.now)) result (entry_at last bytes.now) }
+pub fn read_entry(
+    alloc: Global,
+    format: Format,
+    last: LastToken,
+    bytes: &[u8],
+) -> Result<(Entry, &[u8]), Refusal>
+    ensures { Gives (λ x. (x.0, x.1.now)) result (entry_at format last bytes.now) }
 {
     let (size, rest) = read_u32(bytes, Refusal::Short)?;
-    if size == 0 || MOST_BODY_BYTES < size as usize {
+    if size == 0 || most_body_bytes(format) < size as usize {
         return Err(Refusal::BadLength);
     }
     let (body, rest) = read_bytes(rest, size as usize, Refusal::Short)?;
-    Ok((read_body(alloc, last, body)?, rest))
+    Ok((read_body(alloc, format, last, body)?, rest))
 }
 
 #[tactic(auto, unfolding(crate::specs::Reading::body_at, crate::specs::Reading::kind_at))]
-fn read_body(alloc: Global, last: LastToken, bytes: &[u8]) -> Result<Entry, Refusal>
-    ensures { Gives (λ entry. entry) result (body_at last bytes.now) }
+fn read_body(alloc: Global, format: Format, last: LastToken, bytes: &[u8]) -> Result<Entry, Refusal>
+    ensures { Gives (λ entry. entry) result (body_at format last bytes.now) }
 {
     let (kind, rest) = read_byte(bytes)?;
-    let (entry, rest) = read_kind(alloc, kind, last, rest)?;
+    let (entry, rest) = read_kind(alloc, format, kind, last, rest)?;
     if !rest.is_empty() {
         return Err(Refusal::Trailing);
     }
@@ -140,14 +153,15 @@ fn read_body(alloc: Global, last: LastToken, bytes: &[u8]) -> Result<Entry, Refu
 #[tactic(auto, unfolding(crate::specs::Reading::kind_at))]
 fn read_kind(
     alloc: Global,
+    format: Format,
     kind: u8,
     last: LastToken,
     bytes: &[u8],
 ) -> Result<(Entry, &[u8]), Refusal>
-    ensures { Gives (λ x. (x.0, x.1.now)) result (kind_at kind last bytes.now) }
+    ensures { Gives (λ x. (x.0, x.1.now)) result (kind_at format kind last bytes.now) }
 {
     match kind {
-        1 => read_commit(alloc, bytes),
+        1 => read_commit(alloc, format, bytes),
         2 => read_token(last, bytes),
         _ => Err(Refusal::BadKind),
     }
@@ -167,8 +181,12 @@ fn read_token(last: LastToken, bytes: &[u8]) -> Result<(Entry, &[u8]), Refusal>
 }
 
 #[tactic(auto, unfolding(crate::specs::Reading::commit_at))]
-pub(crate) fn read_commit(alloc: Global, bytes: &[u8]) -> Result<(Entry, &[u8]), Refusal>
-    ensures { Gives (λ x. (x.0, x.1.now)) result (commit_at bytes.now) }
+pub(crate) fn read_commit(
+    alloc: Global,
+    format: Format,
+    bytes: &[u8],
+) -> Result<(Entry, &[u8]), Refusal>
+    ensures { Gives (λ x. (x.0, x.1.now)) result (commit_at format bytes.now) }
 {
     let (session, rest) = read_byte(bytes)?;
     if session == 0 || MOST_SESSIONS < session {
@@ -178,20 +196,25 @@ pub(crate) fn read_commit(alloc: Global, bytes: &[u8]) -> Result<(Entry, &[u8]),
     if usize::from(count) > MOST_WRITES {
         return Err(Refusal::BadLength);
     }
-    let (writes, rest) = read_writes(alloc, count, rest)?;
+    let (writes, rest) = read_writes(alloc, format, count, rest)?;
     let session = SessionNo(u32::from(session));
     Ok((Entry::Commit(session, writes), rest))
 }
 
 // So many writes, of which no two have the same key. Room is taken for just as many.
-fn read_writes(alloc: Global, count: u16, bytes: &[u8]) -> Result<(Items<Write>, &[u8]), Refusal>
-    ensures { Gives (λ x. (x.0, x.1.now)) result (writes_at count [] bytes.now) }
+fn read_writes(
+    alloc: Global,
+    format: Format,
+    count: u16,
+    bytes: &[u8],
+) -> Result<(Items<Write>, &[u8]), Refusal>
+    ensures { Gives (λ x. (x.0, x.1.now)) result (writes_at format count [] bytes.now) }
 {
     let room = Vec::with_capacity(alloc, usize::from(count))?;
     let mut writes = Items::from_vec(room);
     let mut rest = bytes;
     for _ in 0..count {
-        let (write, after) = read_write(alloc, writes.as_slice(), rest)?;
+        let (write, after) = read_write(alloc, format, writes.as_slice(), rest)?;
         writes.push(write)?;
         rest = after;
     }
@@ -201,12 +224,13 @@ fn read_writes(alloc: Global, count: u16, bytes: &[u8]) -> Result<(Items<Write>,
 #[tactic(auto, unfolding(crate::specs::Reading::write_at))]
 fn read_write<'a>(
     alloc: Global,
+    format: Format,
     earlier: &[Write],
     bytes: &'a [u8],
 ) -> Result<(Write, &'a [u8]), Refusal>
-    ensures { Gives (λ x. (x.0, x.1.now)) result (write_at earlier.now bytes.now) }
+    ensures { Gives (λ x. (x.0, x.1.now)) result (write_at format earlier.now bytes.now) }
 {
-    let (key, rest) = read_key(alloc, bytes, Refusal::BadLength)?;
+    let (key, rest) = read_key(alloc, format, bytes, Refusal::BadLength)?;
     if is_written(earlier, &key) {
         return Err(Refusal::KeyOrder);
     }

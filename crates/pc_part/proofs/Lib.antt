@@ -12,6 +12,7 @@ mod JoinedLists
 mod LaidLists
 mod LawfulParts
 pub mod LocalSteps
+mod Magics
 pub mod PartFileLaws
 mod PartTexts
 mod PassedItems

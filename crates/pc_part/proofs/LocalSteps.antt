@@ -1,14 +1,15 @@
 -- Fields and the steps of a part are read of longer bytes as of these, unless these end too soon.
 use Rattle.std.proofs.Common.{◌≡◌, ℕ, zero, suc, ◌+◌, ◌≤◌, eqb, ltb, cond, Bool, true, false, List, [], ◌∷◌, ◌++◌, length, take, drop, append_assoc, Option, Some, None, Result, Ok, Err, refl, sym, ap, ◌∙◌, arith, ◌⊎◌, inl, inr}
-use Rattle.std.specs.Prelude.{nat_eq, nat_le, nat_lt, ◌&&◌}
+use Rattle.std.specs.Prelude.{nat_le, nat_lt, ◌&&◌}
 use Rattle.std.specs.Ordering.{is_lt}
-use Rattle.std.specs.Cmp.Lexicographic.{pointwise}
 use Rattle.std.specs.Int.{Width, w16, w32, w64, byte_len, from_be_bytes}
 use Rattle.std.proofs.lemmas.List.{take-append-le, take-append-drop, drop-append-le, length-append}
 use Rattle.std.proofs.lemmas.Bool.{ltb-false, le-ltb}
 use Rattle.pc_types.specs.declared.Refusal.{Refusal}
-use Rattle.pc_types.specs.declared.Refusal.TheVariants.{Short, BadMagic, BadLength, BadRanges, KeyOrder, NotCovered}
-use Rattle.pc_types.specs.Fields.{◌>>=◌, where_true, bytes_at, number_at, magic_at, sized_key_at, value_at, content_at}
+use Rattle.pc_types.specs.declared.Refusal.TheVariants.{Short, BadLength, BadRanges, KeyOrder, NotCovered}
+use Rattle.pc_types.specs.declared.formats.Format.{Format}
+use Rattle.pc_types.specs.declared.formats.Format.TheVariants.{First, Second}
+use Rattle.pc_types.specs.Fields.{◌>>=◌, where_true, bytes_at, number_at, format_told, magic_at, space_bytes, key_behind, sized_key_at, value_at, content_at}
 use Rattle.pc_types.proofs.CutFieldLaws.{IsCut, ReadsAlike}
 use Rattle.pc_types.proofs.FieldLaws.{bind_ok, guard_ok, ok_is}
 use Rattle.pc_model.specs.Database.{key_cmp}
@@ -102,13 +103,19 @@ local_lawful : (test : Bool) (count : ℕ) → IsLocal (λ bytes. where_true tes
 local_lawful true count = local_bytes count
 local_lawful false count = local_err BadLength
 
-local_sized_key : (count : ℕ) → IsLocal (sized_key_at Short count)
-unfolding sized_key_at
-local_sized_key count = local_lawful (nat_le 1 count && nat_le count 255) count
+-- behind a test
+local_where_then : {A X : Type 0} (test : Bool) (fault : Refusal) (x : A) (behind : A → Read X) → IsLocal (behind x) → IsLocal (λ bytes. where_true test fault x >>= λ some. behind some bytes)
+local_where_then true fault x behind local = local
+local_where_then false fault x behind local = local_err fault
 
-pub local_next_key : (last : List ℕ) (count : ℕ) → IsLocal (next_key_at last count)
+local_sized_key : (format : Format) (count : ℕ) → IsLocal (sized_key_at format Short count)
+unfolding sized_key_at
+local_sized_key format count = local_where_then (nat_le 1 count && nat_le count 255) BadLength count (λ lawful bytes. bytes_at Short (lawful + space_bytes format) bytes >>= λ text. Ok (key_behind format text.0, text.1))
+    (local_bind (bytes_at Short (count + space_bytes format)) (λ text bytes. Ok (key_behind format text, bytes)) (local_bytes (count + space_bytes format)) (λ text. local_ok (key_behind format text)))
+
+pub local_next_key : (format : Format) (last : List ℕ) (count : ℕ) → IsLocal (next_key_at format last count)
 unfolding next_key_at
-local_next_key last count = local_bind (sized_key_at Short count) (λ key bytes. where_true (is_lt (key_cmp last key)) KeyOrder (key, bytes)) (local_sized_key count) (λ key. local_where (is_lt (key_cmp last key)) KeyOrder key)
+local_next_key format last count = local_bind (sized_key_at format Short count) (λ key bytes. where_true (is_lt (key_cmp last key)) KeyOrder (key, bytes)) (local_sized_key format count) (λ key. local_where (is_lt (key_cmp last key)) KeyOrder key)
 
 local_point : (ranges : List Range) → IsLocal (point_at ranges)
 unfolding point_at
@@ -157,15 +164,15 @@ local_entry ranges = local_bind (point_at ranges) (λ point bytes. content_at Sh
 abbrev triple : List ℕ → AtPoint → Triple
 triple key there = record { key = key; point = there.point; content = there.content }
 
-pub next_entry_local : (ranges : List Range) (last : List ℕ) → IsLocal (next_entry_at ranges last)
+pub next_entry_local : (format : Format) (ranges : List Range) (last : List ℕ) → IsLocal (next_entry_at format ranges last)
 unfolding next_entry_at
-next_entry_local ranges last = local_bind (number_at Short w16)
-    (λ count bytes. cond (eqb count 0) (Ok (None, bytes)) (next_key_at last count bytes >>= λ key. entry_at ranges key.1 >>= λ there. Ok (Some (triple key.0 there.0), there.1)))
+next_entry_local format ranges last = local_bind (number_at Short w16)
+    (λ count bytes. cond (eqb count 0) (Ok (None, bytes)) (next_key_at format last count bytes >>= λ key. entry_at ranges key.1 >>= λ there. Ok (Some (triple key.0 there.0), there.1)))
     (local_number w16) (λ count. by (eqb count 0) count)
   where
-    by : (t : Bool) (count : ℕ) → IsLocal (λ bytes. cond t (Ok (None, bytes)) (next_key_at last count bytes >>= λ key. entry_at ranges key.1 >>= λ there. Ok (Some (triple key.0 there.0), there.1)))
+    by : (t : Bool) (count : ℕ) → IsLocal (λ bytes. cond t (Ok (None, bytes)) (next_key_at format last count bytes >>= λ key. entry_at ranges key.1 >>= λ there. Ok (Some (triple key.0 there.0), there.1)))
     by true count = local_ok None
-    by false count = local_bind (next_key_at last count) (λ key bytes. entry_at ranges bytes >>= λ there. Ok (Some (triple key there.0), there.1)) (local_next_key last count)
+    by false count = local_bind (next_key_at format last count) (λ key bytes. entry_at ranges bytes >>= λ there. Ok (Some (triple key there.0), there.1)) (local_next_key format last count)
         (λ key. local_bind (entry_at ranges) (λ there bytes. Ok (Some (triple key there), bytes)) (local_entry ranges) (λ there. local_ok (Some (triple key there))))
 
 -- ---- the header
@@ -187,34 +194,28 @@ local_range least = local_bind (number_at Short w32)
     (λ low. local_bind (number_at Short w32) (λ high bytes. where_true (nat_le least low && nat_le low high && nat_le high 65535) BadRanges (range low high, bytes)) (local_number w32)
     (λ high. local_where (nat_le least low && nat_le low high && nat_le high 65535) BadRanges (range low high)))
 
--- behind a test
-local_where_then : {A X : Type 0} (test : Bool) (fault : Refusal) (x : A) (behind : A → Read X) → IsLocal (behind x) → IsLocal (λ bytes. where_true test fault x >>= λ some. behind some bytes)
-local_where_then true fault x behind local = local
-local_where_then false fault x behind local = local_err fault
+-- what doesn't look at the bytes
+local_known : {X : Type 0} (r : Result X Refusal) → IsLocal (λ bytes. r >>= λ x. Ok (x, bytes))
+local_known (Ok x) = local_ok x
+local_known (Err e) = local_err e
 
--- behind the magic
-local_magic_then : {X : Type 0} (magic : List ℕ) (behind : Read X) → IsLocal behind → IsLocal (λ bytes. magic_at magic bytes >>= behind)
+local_magic : (first second : List ℕ) → IsLocal (magic_at first second)
 unfolding magic_at
-local_magic_then {X} magic behind local = IsLocal_same
-    (λ bytes. bytes_at Short 8 bytes >>= λ first. where_true (pointwise nat_eq first.0 magic) BadMagic first.1 >>= behind) (λ bytes. magic_at magic bytes >>= behind)
-    (λ bytes. regrouped (bytes_at Short 8 bytes))
-    (local_bind (bytes_at Short 8) (λ first bytes. where_true (pointwise nat_eq first magic) BadMagic bytes >>= behind) (local_bytes 8) (λ first. by (pointwise nat_eq first magic)))
-  where
-    by : (t : Bool) → IsLocal (λ bytes. where_true t BadMagic bytes >>= behind)
-    by true = local
-    by false = local_err BadMagic
+local_magic first second = local_bind (bytes_at Short 8) (λ magic bytes. format_told first second magic >>= λ format. Ok (format, bytes)) (local_bytes 8) (λ magic. local_known (format_told first second magic))
 
-    regrouped : (r : Result (List ℕ × List ℕ) Refusal) → (r >>= λ first. where_true (pointwise nat_eq first.0 magic) BadMagic first.1 >>= behind) ≡ ((r >>= λ first. where_true (pointwise nat_eq first.0 magic) BadMagic first.1) >>= behind)
-    regrouped (Ok x) = refl
-    regrouped (Err e) = refl
+abbrev header : Format → ℕ → List Range → Format × (ℕ × List Range)
+header format run ranges = (format, (run, ranges))
 
 pub header_local : IsLocal header_at
 unfolding header_at
-header_local = local_magic_then part_magic _ (local_bind (number_at Short w64)
-    (λ run bytes. number_at Short w32 bytes >>= λ count. where_true (nat_lt 0 count.0) BadRanges count.0 >>= λ some. ranges_at some 1 count.1 >>= λ ranges. Ok ((run, ranges.0), ranges.1)) (local_number w64)
-    (λ run. local_bind (number_at Short w32) (λ count bytes. where_true (nat_lt 0 count) BadRanges count >>= λ some. ranges_at some 1 bytes >>= λ ranges. Ok ((run, ranges.0), ranges.1)) (local_number w32)
-    (λ count. local_where_then (nat_lt 0 count) BadRanges count (λ some bytes. ranges_at some 1 bytes >>= λ ranges. Ok ((run, ranges.0), ranges.1))
-    (local_bind (ranges_at count 1) (λ ranges bytes. Ok ((run, ranges), bytes)) (local_items range_at (λ (r : Range). r.high + 2) local_range count 1) (λ ranges. local_ok (run, ranges))))))
+header_local = local_bind (magic_at (part_magic First) (part_magic Second))
+    (λ format bytes. number_at Short w64 bytes >>= λ run. number_at Short w32 run.1 >>= λ count. where_true (nat_lt 0 count.0) BadRanges count.0 >>= λ some. ranges_at some 1 count.1 >>= λ ranges. Ok (header format run.0 ranges.0, ranges.1))
+    (local_magic (part_magic First) (part_magic Second))
+    (λ format. local_bind (number_at Short w64)
+    (λ run bytes. number_at Short w32 bytes >>= λ count. where_true (nat_lt 0 count.0) BadRanges count.0 >>= λ some. ranges_at some 1 count.1 >>= λ ranges. Ok (header format run ranges.0, ranges.1)) (local_number w64)
+    (λ run. local_bind (number_at Short w32) (λ count bytes. where_true (nat_lt 0 count) BadRanges count >>= λ some. ranges_at some 1 bytes >>= λ ranges. Ok (header format run ranges.0, ranges.1)) (local_number w32)
+    (λ count. local_where_then (nat_lt 0 count) BadRanges count (λ some bytes. ranges_at some 1 bytes >>= λ ranges. Ok (header format run ranges.0, ranges.1))
+    (local_bind (ranges_at count 1) (λ ranges bytes. Ok (header format run ranges, bytes)) (local_items range_at (λ (r : Range). r.high + 2) local_range count 1) (λ ranges. local_ok (header format run ranges))))))
 
 pub steps_are_local : StepsAreLocal
 steps_are_local = (header_local, next_entry_local)

@@ -1,5 +1,5 @@
 -- What is read of ranges, keys, entries and pairs is what was written, and what was written is read again.
-use Rattle.std.proofs.Common.{◌≡◌, ℕ, zero, suc, ◌+◌, ◌^◌, ◌<◌, ◌≤◌, ◌&&◌, nat_le, eqb, true, false, cond, List, [], ◌∷◌, ◌++◌, length, Option, Some, None, Ok, refl, sym, ap, subst, ◌∙◌, append_assoc, arith}
+use Rattle.std.proofs.Common.{◌≡◌, ℕ, zero, suc, ◌+◌, ◌-◌, ◌^◌, ◌<◌, ◌≤◌, ◌&&◌, nat_le, eqb, true, false, cond, List, [], ◌∷◌, ◌++◌, length, Option, Some, None, Ok, refl, sym, ap, subst, ◌∙◌, append_assoc, arith}
 use Rattle.std.specs.Prelude.{IfSome}
 use Rattle.std.specs.List.{flat_map}
 use Rattle.std.specs.Ordering.{is_lt}
@@ -10,7 +10,8 @@ use Rattle.std.proofs.lemmas.List.{length-append}
 use Rattle.std.proofs.lemmas.List.Concat.{flat_map-cons}
 use Rattle.pc_types.specs.declared.Refusal.TheVariants.{Short, KeyOrder, NotCovered}
 use Rattle.pc_types.specs.Limits.{IsKey, IsValue}
-use Rattle.pc_types.specs.Fields.{◌>>=◌, where_true, number_at, sized_key_at, value_at, content_at, key_text, value_text, content_text}
+use Rattle.pc_types.specs.declared.formats.Format.{Format}
+use Rattle.pc_types.specs.Fields.{◌>>=◌, where_true, number_at, sized_key_at, value_at, content_at, key_text_in, sized_key_text, HasKey, value_text, content_text}
 use Rattle.pc_types.proofs.FieldLaws.{bind_ok, where_ok, ok_is, TakesText-then, wide16, wide32, number_takes, number_again, sized_key_takes, sized_key_again, value_takes, value_again, content_takes, content_again}
 use Rattle.pc_types.specs.FieldForms.{IsBytes, TakesText}
 use Rattle.pc_model.specs.Database.{key_cmp}
@@ -20,7 +21,7 @@ use Rattle.pc_part.specs.declared.ranges.Range.{Range}
 use Rattle.pc_part.specs.Lawful.{HasLimits, IsPair}
 use Rattle.pc_part.specs.Parts.{RangesFrom, covers}
 use Rattle.pc_part.specs.Reading.{range_at, ranges_at, next_key_at, point_at, entry_at, next_entry_at, entries_from, entries_at, pair_at, pairs_at}
-use Rattle.pc_part.specs.Texts.{bounds_text, triple_text, pair_text}
+use Rattle.pc_part.specs.Texts.{bounds_text, triple_text_in, pair_text_in}
 use Rattle.pc_part.proofs.ItemLaws.{items_take, items_again}
 use Rattle.pc_part.proofs.ReadLists.{range_steps, covered_fits}
 
@@ -53,17 +54,24 @@ ranges_again = items_again _ _ bounds_text RangesFrom (λ least r ranges rest h.
 
 -- ---- keys, entries and pairs
 
-key_takes : (last : List ℕ) (count : ℕ) (bytes : List ℕ) (x : List ℕ × List ℕ) → IsBytes bytes → next_key_at last count bytes ≡ Ok x → TakesText bytes x.0 x.1 × (length x.0 ≡ count) × IsKey x.0 × (is_lt (key_cmp last x.0) ≡ true)
+key_takes : (format : Format) (last : List ℕ) (count : ℕ) (bytes : List ℕ) (x : List ℕ × List ℕ) → IsBytes bytes → next_key_at format last count bytes ≡ Ok x
+    → TakesText bytes (sized_key_text format x.0) x.1 × (length x.0 ≡ count + 2) × IsKey x.0 × HasKey format x.0 × (is_lt (key_cmp last x.0) ≡ true)
 unfolding next_key_at
-key_takes last count bytes x fits e =
-    let a = bind_ok (sized_key_at Short count bytes) (λ key. where_true (is_lt (key_cmp last key.0)) KeyOrder key) x e in
-    let t = sized_key_takes Short count bytes a.0.0 a.0.1 fits a.1 in
+key_takes format last count bytes x fits e =
+    let a = bind_ok (sized_key_at format Short count bytes) (λ key. where_true (is_lt (key_cmp last key.0)) KeyOrder key) x e in
+    let t = sized_key_takes format Short count bytes a.0.0 a.0.1 fits a.1 in
     let g = where_ok (is_lt (key_cmp last a.0.0)) KeyOrder a.0 x a.2 in
-    subst (λ (y : List ℕ × List ℕ). TakesText bytes y.0 y.1 × (length y.0 ≡ count) × IsKey y.0 × (is_lt (key_cmp last y.0) ≡ true)) {x = a.0} g.1 (t.0, t.1, t.2, g.0)
+    subst (λ (y : List ℕ × List ℕ). TakesText bytes (sized_key_text format y.0) y.1 × (length y.0 ≡ count + 2) × IsKey y.0 × HasKey format y.0 × (is_lt (key_cmp last y.0) ≡ true)) {x = a.0} g.1 (t.0, t.1, t.2, t.3, g.0)
 
-key_again : (last key rest : List ℕ) → IsKey key → is_lt (key_cmp last key) ≡ true → next_key_at last (length key) (key ++ rest) ≡ Ok (key, rest)
+-- with its length before it, it is the key's text
+key_text_takes : (format : Format) (bytes : List ℕ) (count : ℕ) (behind key rest : List ℕ) → TakesText bytes (to_be_bytes w16 count) behind → TakesText behind (sized_key_text format key) rest → length key ≡ count + 2 → TakesText bytes (key_text_in format key) rest
+key_text_takes format bytes count behind key rest len text is =
+    let same : count ≡ length key - 2 = omega (arith, is) in
+    TakesText-then bytes (to_be_bytes w16 (length key - 2)) behind (sized_key_text format key) rest (subst (λ (n : ℕ). TakesText bytes (to_be_bytes w16 n) behind) same len) text
+
+key_again : (format : Format) (last key rest : List ℕ) → IsKey key → HasKey format key → is_lt (key_cmp last key) ≡ true → next_key_at format last (length key - 2) (sized_key_text format key ++ rest) ≡ Ok (key, rest)
 unfolding next_key_at
-key_again last key rest is_key above = rw (sized_key_again Short key rest is_key, above) refl
+key_again format last key rest is_key has above = rw (sized_key_again format Short key rest is_key has, above) refl
 
 -- what stands in an entry after its key
 abbrev there_text : AtPoint → List ℕ
@@ -90,144 +98,142 @@ entry_again ranges there rest limit covered is_value =
     let point : number_at Short w32 (there_text there ++ rest) ≡ Ok (there.point, content_text there.content ++ rest) = ap (number_at Short w32) parts ∙ number_again Short w32 (2 ^ 32) wide32 there.point (content_text there.content ++ rest) (omega arith) in
     rw (point, covered, content_again Short there.content rest is_value) refl
 
--- entries of the ranges' points, whose keys rise, the first above this one
-abbrev pub EntriesFrom : List Range → List ℕ → List Triple → Type 0
-EntriesFrom ranges last [] = Unit {0}
-EntriesFrom ranges last (t ∷ triples) = (is_lt (key_cmp last t.key) ≡ true) × HasLimits t × (covers ranges t.point ≡ true) × EntriesFrom ranges t.key triples
+-- entries of the ranges' points, whose keys rise, the first above this one, and each of which the format has a text
+abbrev pub EntriesFrom : Format → List Range → List ℕ → List Triple → Type 0
+EntriesFrom format ranges last [] = Unit {0}
+EntriesFrom format ranges last (t ∷ triples) = (is_lt (key_cmp last t.key) ≡ true) × HasLimits t × (covers ranges t.point ≡ true) × HasKey format t.key × EntriesFrom format ranges t.key triples
 
 -- the end mark
 abbrev pub end_mark : List ℕ
 end_mark = to_be_bytes w16 0
 
 -- what the next entry takes of the bytes: the end mark, or the text of an entry that may stand there
-abbrev pub NextTakes : List Range → List ℕ → List ℕ → Option Triple → List ℕ → Type 0
-NextTakes ranges last bytes None rest = TakesText bytes end_mark rest
-NextTakes ranges last bytes (Some entry) rest = TakesText bytes (triple_text entry) rest × (is_lt (key_cmp last entry.key) ≡ true) × HasLimits entry × (covers ranges entry.point ≡ true)
+abbrev pub NextTakes : Format → List Range → List ℕ → List ℕ → Option Triple → List ℕ → Type 0
+NextTakes format ranges last bytes None rest = TakesText bytes end_mark rest
+NextTakes format ranges last bytes (Some entry) rest = TakesText bytes (triple_text_in format entry) rest × (is_lt (key_cmp last entry.key) ≡ true) × HasLimits entry × (covers ranges entry.point ≡ true) × HasKey format entry.key
 
-pub next_entry_takes : (ranges : List Range) (last bytes : List ℕ) (x : Option Triple × List ℕ) → IsBytes bytes → next_entry_at ranges last bytes ≡ Ok x → NextTakes ranges last bytes x.0 x.1
+pub next_entry_takes : (format : Format) (ranges : List Range) (last bytes : List ℕ) (x : Option Triple × List ℕ) → IsBytes bytes → next_entry_at format ranges last bytes ≡ Ok x → NextTakes format ranges last bytes x.0 x.1
 unfolding next_entry_at
-next_entry_takes ranges last bytes x fits e =
+next_entry_takes format ranges last bytes x fits e =
     let a = bind_ok (number_at Short w16 bytes) (λ count. cond (eqb count.0 0) (Ok (None, count.1))
-    (next_key_at last count.0 count.1 >>= λ key. entry_at ranges key.1 >>= λ there. Ok (Some (record { key = key.0; point = there.0.point; content = there.0.content }), there.1))) x e in
+    (next_key_at format last count.0 count.1 >>= λ key. entry_at ranges key.1 >>= λ there. Ok (Some (record { key = key.0; point = there.0.point; content = there.0.content }), there.1))) x e in
     let len = number_takes Short w16 (2 ^ 16) wide16 bytes a.0.0 a.0.1 fits a.1 in
     elim (eqb a.0.0 0) as (λ b. eqb a.0.0 0 ≡ b → cond b (Ok (None, a.0.1))
-    (next_key_at last a.0.0 a.0.1 >>= λ key. entry_at ranges key.1 >>= λ there. Ok (Some (record { key = key.0; point = there.0.point; content = there.0.content }), there.1)) ≡ Ok x
-    → NextTakes ranges last bytes x.0 x.1) [
+    (next_key_at format last a.0.0 a.0.1 >>= λ key. entry_at ranges key.1 >>= λ there. Ok (Some (record { key = key.0; point = there.0.point; content = there.0.content }), there.1)) ≡ Ok x
+    → NextTakes format ranges last bytes x.0 x.1) [
       | true ↦ λ none is.
           let made : Option Triple × List ℕ = (None, a.0.1) in
-          subst (λ (y : Option Triple × List ℕ). NextTakes ranges last bytes y.0 y.1) {x = made} (ok_is made x is)
+          subst (λ (y : Option Triple × List ℕ). NextTakes format ranges last bytes y.0 y.1) {x = made} (ok_is made x is)
           (subst (λ (n : ℕ). TakesText bytes (to_be_bytes w16 n) a.0.1) (eqb-true _ _ none) len.0)
       | false ↦ λ some is.
-          let k = bind_ok (next_key_at last a.0.0 a.0.1) (λ key. entry_at ranges key.1 >>= λ there. Ok (Some (record { key = key.0; point = there.0.point; content = there.0.content }), there.1)) x is in
+          let k = bind_ok (next_key_at format last a.0.0 a.0.1) (λ key. entry_at ranges key.1 >>= λ there. Ok (Some (record { key = key.0; point = there.0.point; content = there.0.content }), there.1)) x is in
           let t = bind_ok (entry_at ranges k.0.1) (λ there. Ok (Some (record { key = k.0.0; point = there.0.point; content = there.0.content }), there.1)) x k.2 in
-          let key = key_takes last a.0.0 a.0.1 k.0 len.0.rest_fits k.1 in
+          let key = key_takes format last a.0.0 a.0.1 k.0 len.0.rest_fits k.1 in
           let there = entry_takes ranges k.0.1 t.0 key.0.rest_fits t.1 in
           let entry : Triple = record { key = k.0.0; point = t.0.0.point; content = t.0.0.content } in
           let made : Option Triple × List ℕ = (Some entry, t.0.1) in
-          let length_text : TakesText bytes (to_be_bytes w16 (length k.0.0)) a.0.1 = subst (λ (n : ℕ). TakesText bytes (to_be_bytes w16 n) a.0.1) (sym key.1) len.0 in
-          let all = TakesText-then bytes (key_text k.0.0) k.0.1 (there_text t.0.0) t.0.1 (TakesText-then bytes (to_be_bytes w16 (length k.0.0)) a.0.1 k.0.0 k.0.1 length_text key.0) there.0 in
-          subst (λ (y : Option Triple × List ℕ). NextTakes ranges last bytes y.0 y.1) {x = made} (ok_is made x t.2) (all, key.3, (key.2, there.2), there.1)
+          let all = TakesText-then bytes (key_text_in format k.0.0) k.0.1 (there_text t.0.0) t.0.1 (key_text_takes format bytes a.0.0 a.0.1 k.0.0 k.0.1 len.0 key.0 key.1) there.0 in
+          subst (λ (y : Option Triple × List ℕ). NextTakes format ranges last bytes y.0 y.1) {x = made} (ok_is made x t.2) (all, key.4, (key.2, there.2), there.1, key.3)
     ] refl a.2
 
 -- the bytes are the texts of entries that may stand there, and the end mark
-abbrev pub EntriesTake : List Range → List ℕ → List ℕ → List Triple × List ℕ → Type 0
-EntriesTake ranges last bytes x = TakesText bytes (flat_map triple_text x.0 ++ end_mark) x.1 × EntriesFrom ranges last x.0
+abbrev pub EntriesTake : Format → List Range → List ℕ → List ℕ → List Triple × List ℕ → Type 0
+EntriesTake format ranges last bytes x = TakesText bytes (flat_map (triple_text_in format) x.0 ++ end_mark) x.1 × EntriesFrom format ranges last x.0
 
-entries_behind : (turns : ℕ) (ranges : List Range) (last bytes : List ℕ) (x : List Triple × List ℕ)
-    → ((last bytes : List ℕ) (x : List Triple × List ℕ) → IsBytes bytes → entries_at turns ranges last bytes ≡ Ok x → EntriesTake ranges last bytes x)
-    → (next : Option Triple) (rest : List ℕ) → NextTakes ranges last bytes next rest → entries_from (entries_at turns ranges) next rest ≡ Ok x → EntriesTake ranges last bytes x
-entries_behind turns ranges last bytes x again None rest takes is =
+entries_behind : (format : Format) (turns : ℕ) (ranges : List Range) (last bytes : List ℕ) (x : List Triple × List ℕ)
+    → ((last bytes : List ℕ) (x : List Triple × List ℕ) → IsBytes bytes → entries_at format turns ranges last bytes ≡ Ok x → EntriesTake format ranges last bytes x)
+    → (next : Option Triple) (rest : List ℕ) → NextTakes format ranges last bytes next rest → entries_from (entries_at format turns ranges) next rest ≡ Ok x → EntriesTake format ranges last bytes x
+entries_behind format turns ranges last bytes x again None rest takes is =
     let made : List Triple × List ℕ = ([], rest) in
-    subst (EntriesTake ranges last bytes) {x = made} (ok_is made x is) (takes, tt)
-entries_behind turns ranges last bytes x again (Some entry) rest takes is =
-    let o = bind_ok (entries_at turns ranges entry.key rest) (λ others. Ok (entry ∷ others.0, others.1)) x is in
+    subst (EntriesTake format ranges last bytes) {x = made} (ok_is made x is) (takes, tt)
+entries_behind format turns ranges last bytes x again (Some entry) rest takes is =
+    let o = bind_ok (entries_at format turns ranges entry.key rest) (λ others. Ok (entry ∷ others.0, others.1)) x is in
     let others = again entry.key rest o.0 takes.0.rest_fits o.1 in
     let made : List Triple × List ℕ = (entry ∷ o.0.0, o.0.1) in
-    let all = TakesText-then bytes (triple_text entry) rest (flat_map triple_text o.0.0 ++ end_mark) o.0.1 takes.0 others.0 in
-    let text : triple_text entry ++ (flat_map triple_text o.0.0 ++ end_mark) ≡ flat_map triple_text (entry ∷ o.0.0) ++ end_mark =
-    sym (append_assoc (triple_text entry) (flat_map triple_text o.0.0) end_mark) ∙ ap (λ (s : List ℕ). s ++ end_mark) (sym (flat_map-cons triple_text entry o.0.0)) in
-    subst (EntriesTake ranges last bytes) {x = made} (ok_is made x o.2) (subst (λ (s : List ℕ). TakesText bytes s o.0.1) text all, (takes.1, takes.2, takes.3, others.1))
+    let all = TakesText-then bytes (triple_text_in format entry) rest (flat_map (triple_text_in format) o.0.0 ++ end_mark) o.0.1 takes.0 others.0 in
+    let text : triple_text_in format entry ++ (flat_map (triple_text_in format) o.0.0 ++ end_mark) ≡ flat_map (triple_text_in format) (entry ∷ o.0.0) ++ end_mark =
+    sym (append_assoc (triple_text_in format entry) (flat_map (triple_text_in format) o.0.0) end_mark) ∙ ap (λ (s : List ℕ). s ++ end_mark) (sym (flat_map-cons (triple_text_in format) entry o.0.0)) in
+    subst (EntriesTake format ranges last bytes) {x = made} (ok_is made x o.2) (subst (λ (s : List ℕ). TakesText bytes s o.0.1) text all, (takes.1, takes.2, takes.3, takes.4, others.1))
 
-pub entries_take : (turns : ℕ) (ranges : List Range) (last bytes : List ℕ) (x : List Triple × List ℕ) → IsBytes bytes → entries_at turns ranges last bytes ≡ Ok x → EntriesTake ranges last bytes x
+pub entries_take : (format : Format) (turns : ℕ) (ranges : List Range) (last bytes : List ℕ) (x : List Triple × List ℕ) → IsBytes bytes → entries_at format turns ranges last bytes ≡ Ok x → EntriesTake format ranges last bytes x
 unfolding entries_at
-entries_take zero ranges last bytes x fits e = absurd cc
-entries_take (suc turns) ranges last bytes x fits e =
-    let a = bind_ok (next_entry_at ranges last bytes) (λ next. entries_from (entries_at turns ranges) next.0 next.1) x e in
-    entries_behind turns ranges last bytes x (entries_take turns ranges) a.0.0 a.0.1 (next_entry_takes ranges last bytes a.0 fits a.1) a.2
+entries_take format zero ranges last bytes x fits e = absurd cc
+entries_take format (suc turns) ranges last bytes x fits e =
+    let a = bind_ok (next_entry_at format ranges last bytes) (λ next. entries_from (entries_at format turns ranges) next.0 next.1) x e in
+    entries_behind format turns ranges last bytes x (entries_take format turns ranges) a.0.0 a.0.1 (next_entry_takes format ranges last bytes a.0 fits a.1) a.2
 
 -- an entry takes at least a byte
-pub few_entries : (triples : List Triple) → length triples ≤ length (flat_map triple_text triples)
-few_entries [] = omega arith
-few_entries (t ∷ triples) =
-    let long : length (flat_map triple_text (t ∷ triples)) ≡ length (triple_text t) + length (flat_map triple_text triples) = ap length (flat_map-cons triple_text t triples) ∙ length-append (triple_text t) (flat_map triple_text triples) in
-    let some : 1 ≤ length (triple_text t) = omega arith in
-    omega (arith, long, some, few_entries triples)
+pub few_entries : (format : Format) (triples : List Triple) → length triples ≤ length (flat_map (triple_text_in format) triples)
+few_entries format [] = omega arith
+few_entries format (t ∷ triples) =
+    let long : length (flat_map (triple_text_in format) (t ∷ triples)) ≡ length (triple_text_in format t) + length (flat_map (triple_text_in format) triples) = ap length (flat_map-cons (triple_text_in format) t triples) ∙ length-append (triple_text_in format t) (flat_map (triple_text_in format) triples) in
+    let some : 1 ≤ length (triple_text_in format t) = omega arith in
+    omega (arith, long, some, few_entries format triples)
 
-pub next_entry_again : (least : ℕ) (ranges : List Range) → RangesFrom least ranges → (last : List ℕ) (t : Triple) (rest : List ℕ) → is_lt (key_cmp last t.key) ≡ true → HasLimits t → covers ranges t.point ≡ true
-    → next_entry_at ranges last (triple_text t ++ rest) ≡ Ok (Some t, rest)
+pub next_entry_again : (format : Format) (least : ℕ) (ranges : List Range) → RangesFrom least ranges → (last : List ℕ) (t : Triple) (rest : List ℕ) → is_lt (key_cmp last t.key) ≡ true → HasLimits t → covers ranges t.point ≡ true → HasKey format t.key
+    → next_entry_at format ranges last (triple_text_in format t ++ rest) ≡ Ok (Some t, rest)
 unfolding next_entry_at
-next_entry_again least ranges apart last t rest above limits covered =
+next_entry_again format least ranges apart last t rest above limits covered has =
     let there : AtPoint = record { point = t.point; content = t.content } in
     let fits = covered_fits least ranges t.point apart covered in
-    let text : triple_text t ++ rest ≡ to_be_bytes w16 (length t.key) ++ (t.key ++ (there_text there ++ rest)) = regrouped (to_be_bytes w16 (length t.key)) t.key (there_text there) rest in
-    let len = number_again Short w16 (2 ^ 16) wide16 (length t.key) (t.key ++ (there_text there ++ rest)) (omega (arith, limits.0.1)) in
-    let some : eqb (length t.key) 0 ≡ false = grind (arith, limits.0.0, nat_tests) in
-    ap (next_entry_at ranges last) text
-    ∙ rw (len, some, key_again last t.key (there_text there ++ rest) limits.0 above, entry_again ranges there rest fits covered limits.1) refl
+    let text : triple_text_in format t ++ rest ≡ to_be_bytes w16 (length t.key - 2) ++ (sized_key_text format t.key ++ (there_text there ++ rest)) = regrouped (to_be_bytes w16 (length t.key - 2)) (sized_key_text format t.key) (there_text there) rest in
+    let len = number_again Short w16 (2 ^ 16) wide16 (length t.key - 2) (sized_key_text format t.key ++ (there_text there ++ rest)) (omega (arith, limits.0.1)) in
+    let some : eqb (length t.key - 2) 0 ≡ false = grind (arith, limits.0.0, nat_tests) in
+    ap (next_entry_at format ranges last) text
+    ∙ rw (len, some, key_again format last t.key (there_text there ++ rest) limits.0 has above, entry_again ranges there rest fits covered limits.1) refl
   where
     regrouped : (len key there rest : List ℕ) → (((len ++ key) ++ there) ++ rest) ≡ len ++ (key ++ (there ++ rest))
     regrouped len key there rest = simp append_assoc
 
-pub end_mark_again : (ranges : List Range) (last rest : List ℕ) → next_entry_at ranges last (end_mark ++ rest) ≡ Ok (None, rest)
+pub end_mark_again : (format : Format) (ranges : List Range) (last rest : List ℕ) → next_entry_at format ranges last (end_mark ++ rest) ≡ Ok (None, rest)
 unfolding next_entry_at
-end_mark_again ranges last rest = rw (number_again Short w16 (2 ^ 16) wide16 0 rest (omega arith)) refl
+end_mark_again format ranges last rest = rw (number_again Short w16 (2 ^ 16) wide16 0 rest (omega arith)) refl
 
-pub entries_again : (turns least : ℕ) (ranges : List Range) → RangesFrom least ranges → (last : List ℕ) (triples : List Triple) (rest : List ℕ) → EntriesFrom ranges last triples → length triples < turns
-    → entries_at turns ranges last ((flat_map triple_text triples ++ end_mark) ++ rest) ≡ Ok (triples, rest)
+pub entries_again : (format : Format) (turns least : ℕ) (ranges : List Range) → RangesFrom least ranges → (last : List ℕ) (triples : List Triple) (rest : List ℕ) → EntriesFrom format ranges last triples → length triples < turns
+    → entries_at format turns ranges last ((flat_map (triple_text_in format) triples ++ end_mark) ++ rest) ≡ Ok (triples, rest)
 unfolding entries_at
-entries_again zero least ranges apart last triples rest h more = absurd (omega (arith, more))
-entries_again (suc turns) least ranges apart last [] rest h more = rw (end_mark_again ranges last rest) refl
-entries_again (suc turns) least ranges apart last (t ∷ triples) rest h more =
-    let after : List ℕ = (flat_map triple_text triples ++ end_mark) ++ rest in
-    let text : (flat_map triple_text (t ∷ triples) ++ end_mark) ++ rest ≡ triple_text t ++ after =
-    ap (λ (s : List ℕ). (s ++ end_mark) ++ rest) (flat_map-cons triple_text t triples) ∙ regrouped (triple_text t) (flat_map triple_text triples) end_mark rest in
-    ap (entries_at (suc turns) ranges last) text
-    ∙ rw (next_entry_again least ranges apart last t after h.0 h.1 h.2, entries_again turns least ranges apart t.key triples rest h.3 (omega arith)) refl
+entries_again format zero least ranges apart last triples rest h more = absurd (omega (arith, more))
+entries_again format (suc turns) least ranges apart last [] rest h more = rw (end_mark_again format ranges last rest) refl
+entries_again format (suc turns) least ranges apart last (t ∷ triples) rest h more =
+    let after : List ℕ = (flat_map (triple_text_in format) triples ++ end_mark) ++ rest in
+    let text : (flat_map (triple_text_in format) (t ∷ triples) ++ end_mark) ++ rest ≡ triple_text_in format t ++ after =
+    ap (λ (s : List ℕ). (s ++ end_mark) ++ rest) (flat_map-cons (triple_text_in format) t triples) ∙ regrouped (triple_text_in format t) (flat_map (triple_text_in format) triples) end_mark rest in
+    ap (entries_at format (suc turns) ranges last) text
+    ∙ rw (next_entry_again format least ranges apart last t after h.0 h.1 h.2 h.3, entries_again format turns least ranges apart t.key triples rest h.4 (omega arith)) refl
   where
     regrouped : (first others mark rest : List ℕ) → (((first ++ others) ++ mark) ++ rest) ≡ first ++ ((others ++ mark) ++ rest)
     regrouped first others mark rest = simp append_assoc
 
--- pairs within their limits, whose keys rise, the first above this one
-abbrev pub PairsFrom : List ℕ → List Pair → Type 0
-PairsFrom last [] = Unit {0}
-PairsFrom last (p ∷ pairs) = (is_lt (key_cmp last p.0) ≡ true) × IsPair p × PairsFrom p.0 pairs
+-- pairs within their limits, whose keys rise, the first above this one, and each of which the format has a text
+abbrev pub PairsFrom : Format → List ℕ → List Pair → Type 0
+PairsFrom format last [] = Unit {0}
+PairsFrom format last (p ∷ pairs) = (is_lt (key_cmp last p.0) ≡ true) × IsPair p × HasKey format p.0 × PairsFrom format p.0 pairs
 
-pair_takes : (last bytes : List ℕ) (x : Pair × List ℕ) → IsBytes bytes → pair_at last bytes ≡ Ok x → TakesText bytes (pair_text x.0) x.1 × (is_lt (key_cmp last x.0.0) ≡ true) × IsPair x.0
+pair_takes : (format : Format) (last bytes : List ℕ) (x : Pair × List ℕ) → IsBytes bytes → pair_at format last bytes ≡ Ok x → TakesText bytes (pair_text_in format x.0) x.1 × (is_lt (key_cmp last x.0.0) ≡ true) × IsPair x.0 × HasKey format x.0.0
 unfolding pair_at
-pair_takes last bytes x fits e =
-    let a = bind_ok (number_at Short w16 bytes) (λ count. next_key_at last count.0 count.1 >>= λ key. value_at Short key.1 >>= λ value. Ok ((key.0, value.0), value.1)) x e in
-    let k = bind_ok (next_key_at last a.0.0 a.0.1) (λ key. value_at Short key.1 >>= λ value. Ok ((key.0, value.0), value.1)) x a.2 in
+pair_takes format last bytes x fits e =
+    let a = bind_ok (number_at Short w16 bytes) (λ count. next_key_at format last count.0 count.1 >>= λ key. value_at Short key.1 >>= λ value. Ok ((key.0, value.0), value.1)) x e in
+    let k = bind_ok (next_key_at format last a.0.0 a.0.1) (λ key. value_at Short key.1 >>= λ value. Ok ((key.0, value.0), value.1)) x a.2 in
     let v = bind_ok (value_at Short k.0.1) (λ value. Ok ((k.0.0, value.0), value.1)) x k.2 in
     let len = number_takes Short w16 (2 ^ 16) wide16 bytes a.0.0 a.0.1 fits a.1 in
-    let key = key_takes last a.0.0 a.0.1 k.0 len.0.rest_fits k.1 in
+    let key = key_takes format last a.0.0 a.0.1 k.0 len.0.rest_fits k.1 in
     let value = value_takes Short k.0.1 v.0.0 v.0.1 key.0.rest_fits v.1 in
-    let length_text : TakesText bytes (to_be_bytes w16 (length k.0.0)) a.0.1 = subst (λ (n : ℕ). TakesText bytes (to_be_bytes w16 n) a.0.1) (sym key.1) len.0 in
-    let all = TakesText-then bytes (key_text k.0.0) k.0.1 (value_text v.0.0) v.0.1 (TakesText-then bytes (to_be_bytes w16 (length k.0.0)) a.0.1 k.0.0 k.0.1 length_text key.0) value.0 in
+    let all = TakesText-then bytes (key_text_in format k.0.0) k.0.1 (value_text v.0.0) v.0.1 (key_text_takes format bytes a.0.0 a.0.1 k.0.0 k.0.1 len.0 key.0 key.1) value.0 in
     let made : Pair × List ℕ = ((k.0.0, v.0.0), v.0.1) in
-    subst (λ (y : Pair × List ℕ). TakesText bytes (pair_text y.0) y.1 × (is_lt (key_cmp last y.0.0) ≡ true) × IsPair y.0) {x = made} (ok_is made x v.2) (all, key.3, (key.2, value.1))
+    subst (λ (y : Pair × List ℕ). TakesText bytes (pair_text_in format y.0) y.1 × (is_lt (key_cmp last y.0.0) ≡ true) × IsPair y.0 × HasKey format y.0.0) {x = made} (ok_is made x v.2) (all, key.4, (key.2, value.1), key.3)
 
-pair_again : (last : List ℕ) (pair : Pair) (rest : List ℕ) → is_lt (key_cmp last pair.0) ≡ true → IsPair pair → pair_at last (pair_text pair ++ rest) ≡ Ok (pair, rest)
+pair_again : (format : Format) (last : List ℕ) (pair : Pair) (rest : List ℕ) → is_lt (key_cmp last pair.0) ≡ true → IsPair pair → HasKey format pair.0 → pair_at format last (pair_text_in format pair ++ rest) ≡ Ok (pair, rest)
 unfolding pair_at
-pair_again last pair rest above lawful =
-    let text : pair_text pair ++ rest ≡ to_be_bytes w16 (length pair.0) ++ (pair.0 ++ (value_text pair.1 ++ rest)) = regrouped (to_be_bytes w16 (length pair.0)) pair.0 (value_text pair.1) rest in
-    let len = ap (number_at Short w16) text ∙ number_again Short w16 (2 ^ 16) wide16 (length pair.0) (pair.0 ++ (value_text pair.1 ++ rest)) (omega (arith, lawful.0.1)) in
-    rw (len, key_again last pair.0 (value_text pair.1 ++ rest) lawful.0 above, value_again Short pair.1 rest lawful.1) refl
+pair_again format last pair rest above lawful has =
+    let text : pair_text_in format pair ++ rest ≡ to_be_bytes w16 (length pair.0 - 2) ++ (sized_key_text format pair.0 ++ (value_text pair.1 ++ rest)) = regrouped (to_be_bytes w16 (length pair.0 - 2)) (sized_key_text format pair.0) (value_text pair.1) rest in
+    let len = ap (number_at Short w16) text ∙ number_again Short w16 (2 ^ 16) wide16 (length pair.0 - 2) (sized_key_text format pair.0 ++ (value_text pair.1 ++ rest)) (omega (arith, lawful.0.1)) in
+    rw (len, key_again format last pair.0 (value_text pair.1 ++ rest) lawful.0 has above, value_again Short pair.1 rest lawful.1) refl
   where
     regrouped : (len key value rest : List ℕ) → (((len ++ key) ++ value) ++ rest) ≡ len ++ (key ++ (value ++ rest))
     regrouped len key value rest = simp append_assoc
 
-pub pairs_take : (count : ℕ) (last bytes : List ℕ) (x : List Pair × List ℕ) → IsBytes bytes → pairs_at count last bytes ≡ Ok x → TakesText bytes (flat_map pair_text x.0) x.1 × (length x.0 ≡ count) × PairsFrom last x.0
-pairs_take = items_take _ _ pair_text PairsFrom (λ last. tt) (λ last bytes x fits e. let taken = pair_takes last bytes x fits e in (taken.0, λ others rise. (taken.1, taken.2, rise)))
+pub pairs_take : (format : Format) (count : ℕ) (last bytes : List ℕ) (x : List Pair × List ℕ) → IsBytes bytes → pairs_at format count last bytes ≡ Ok x → TakesText bytes (flat_map (pair_text_in format) x.0) x.1 × (length x.0 ≡ count) × PairsFrom format last x.0
+pairs_take format = items_take _ _ (pair_text_in format) (PairsFrom format) (λ last. tt) (λ last bytes x fits e. let taken = pair_takes format last bytes x fits e in (taken.0, λ others rise. (taken.1, taken.2, taken.3, rise)))
 
-pub pairs_again : (last : List ℕ) (pairs : List Pair) (rest : List ℕ) → PairsFrom last pairs → pairs_at (length pairs) last (flat_map pair_text pairs ++ rest) ≡ Ok (pairs, rest)
-pairs_again = items_again _ _ pair_text PairsFrom (λ last pair pairs rest h. (pair_again last pair rest h.0 h.1, h.2))
+pub pairs_again : (format : Format) (last : List ℕ) (pairs : List Pair) (rest : List ℕ) → PairsFrom format last pairs → pairs_at format (length pairs) last (flat_map (pair_text_in format) pairs ++ rest) ≡ Ok (pairs, rest)
+pairs_again format = items_again _ _ (pair_text_in format) (PairsFrom format) (λ last pair pairs rest h. (pair_again format last pair rest h.0 h.1 h.2, h.3))

@@ -1,9 +1,12 @@
--- How part files and base files are read: field by field, from left to right, with the first fault that is met.
+-- How part files and base files are read: field by field, from left to right, with the first fault that is met. The magic tells
+-- the format of the text.
 use Rattle.std.specs.Prelude.{ℕ, zero, suc, ◌+◌, ◌-◌, ◌==◌, ◌&&◌, nat_lt, nat_le, if◌then◌else◌, List, [], ◌∷◌, length, slice_get, Option, Some, None, Result, Ok, Err}
 use Rattle.std.specs.Int.{w16, w32, w64}
 use Rattle.std.specs.Ordering.{is_lt}
 use Rattle.pc_types.specs.declared.Refusal.{Refusal}
 use Rattle.pc_types.specs.declared.Refusal.TheVariants.{Short, BadRanges, KeyOrder, BadLength, Trailing, NotCovered}
+use Rattle.pc_types.specs.declared.formats.Format.{Format}
+use Rattle.pc_types.specs.declared.formats.Format.TheVariants.{First, Second}
 use Rattle.pc_types.specs.Fields.{◌>>=◌, where_true, number_at, magic_at, sized_key_at, value_at, content_at}
 use Rattle.pc_model.specs.Database.{key_cmp, database_of}
 use Rattle.pc_model.specs.Points.{AtPoint}
@@ -33,10 +36,10 @@ range_at least bytes = do
 abbrev pub ranges_at : ℕ → ℕ → List ℕ → Result (List Range × List ℕ) Refusal
 ranges_at = items_at range_at (λ (r : Range). r.high + 2)
 
--- a key of so many bytes that comes after the last one
-unfoldable pub next_key_at : List ℕ → ℕ → List ℕ → Result (List ℕ × List ℕ) Refusal
-next_key_at last count bytes = do
-  key ← sized_key_at Short count bytes
+-- a key of so many bytes of its own that comes after the last one
+unfoldable pub next_key_at : Format → List ℕ → ℕ → List ℕ → Result (List ℕ × List ℕ) Refusal
+next_key_at format last count bytes = do
+  key ← sized_key_at format Short count bytes
   where_true (is_lt (key_cmp last key.0)) KeyOrder key
 
 -- a point of one of the ranges
@@ -53,10 +56,10 @@ entry_at ranges bytes = do
   Ok (record { point = point.0; content = content.0 }, content.1)
 
 -- the entry whose key comes after the last one, or None at the end mark, which is a length of 0 where a key's would stand
-unfoldable pub next_entry_at : List Range → List ℕ → List ℕ → Result (Option Triple × List ℕ) Refusal
-next_entry_at ranges last bytes =
+unfoldable pub next_entry_at : Format → List Range → List ℕ → List ℕ → Result (Option Triple × List ℕ) Refusal
+next_entry_at format ranges last bytes =
     number_at Short w16 bytes >>= λ count. if count.0 == 0 then Ok (None, count.1) else
-    (next_key_at last count.0 count.1 >>= λ key. entry_at ranges key.1 >>= λ there.
+    (next_key_at format last count.0 count.1 >>= λ key. entry_at ranges key.1 >>= λ there.
     Ok (Some (record { key = key.0; point = there.0.point; content = there.0.content }), there.1))
 
 -- none at the end mark, else the entry and those that are read behind its key
@@ -74,19 +77,19 @@ last_key entries = key_or_empty (slice_get entries (length entries - 1))
 
 -- The entries up to the end mark. Keys rise, the first above this one. Each entry takes more than one of the bytes, so that no more
 -- turns are needed than there are bytes.
-unfoldable pub entries_at : ℕ → List Range → List ℕ → List ℕ → Result (List Triple × List ℕ) Refusal
-entries_at zero ranges last bytes = Err Short
-entries_at (suc turns) ranges last bytes = next_entry_at ranges last bytes >>= λ next. entries_from (entries_at turns ranges) next.0 next.1
+unfoldable pub entries_at : Format → ℕ → List Range → List ℕ → List ℕ → Result (List Triple × List ℕ) Refusal
+entries_at format zero ranges last bytes = Err Short
+entries_at format (suc turns) ranges last bytes = next_entry_at format ranges last bytes >>= λ next. entries_from (entries_at format turns ranges) next.0 next.1
 
--- the run and the ranges, which stand before the entries
-unfoldable pub header_at : List ℕ → Result ((ℕ × List Range) × List ℕ) Refusal
+-- what stands before the entries: the format, and the run and the ranges
+unfoldable pub header_at : List ℕ → Result ((Format × (ℕ × List Range)) × List ℕ) Refusal
 header_at bytes = do
-  start ← magic_at part_magic bytes
-  run ← number_at Short w64 start
+  start ← magic_at (part_magic First) (part_magic Second) bytes
+  run ← number_at Short w64 start.1
   count ← number_at Short w32 run.1
   some ← where_true (nat_lt 0 count.0) BadRanges count.0
   ranges ← ranges_at some 1 count.1
-  Ok ((run.0, ranges.0), ranges.1)
+  Ok ((start.0, (run.0, ranges.0)), ranges.1)
 
 -- a part file's run, ranges and entries
 pub record PartFields : Type 0 where
@@ -98,10 +101,10 @@ pub record PartFields : Type 0 where
 unfoldable pub part_fields_at : List ℕ → Result PartFields Refusal
 part_fields_at bytes = do
   header ← header_at bytes
-  entries ← entries_at (length header.1) header.0.1 [] header.1
+  entries ← entries_at header.0.0 (length header.1) header.0.1.1 [] header.1
   total ← number_at Short w32 entries.1
   rest ← where_true (total.0 == length entries.0) BadLength total.1
-  where_true (length rest == 0) Trailing (record { run = header.0.0; ranges = header.0.1; entries = entries.0 })
+  where_true (length rest == 0) Trailing (record { run = header.0.1.0; ranges = header.0.1.1; entries = entries.0 })
 
 -- the file of a part's fields
 abbrev pub part_of_fields : PartFields → File
@@ -114,16 +117,25 @@ part_at bytes = do
   Ok (part_of_fields part)
 
 -- a pair whose key comes after the last one
-unfoldable pub pair_at : List ℕ → List ℕ → Result ((List ℕ × List ℕ) × List ℕ) Refusal
-pair_at last bytes = do
+unfoldable pub pair_at : Format → List ℕ → List ℕ → Result ((List ℕ × List ℕ) × List ℕ) Refusal
+pair_at format last bytes = do
   count ← number_at Short w16 bytes
-  key ← next_key_at last count.0 count.1
+  key ← next_key_at format last count.0 count.1
   value ← value_at Short key.1
   Ok ((key.0, value.0), value.1)
 
+-- the key of the last of some pairs, in the same way
+abbrev pub pair_key_or_empty : Option (List ℕ × List ℕ) → List ℕ
+pair_key_or_empty None = []
+pair_key_or_empty (Some pair) = pair.0
+
+-- the same of a list
+abbrev pub last_pair_key : List (List ℕ × List ℕ) → List ℕ
+last_pair_key pairs = pair_key_or_empty (slice_get pairs (length pairs - 1))
+
 -- so many pairs, whose keys rise, the first above this one
-abbrev pub pairs_at : ℕ → List ℕ → List ℕ → Result (List (List ℕ × List ℕ) × List ℕ) Refusal
-pairs_at = items_at pair_at (λ (pair : List ℕ × List ℕ). pair.0)
+abbrev pub pairs_at : Format → ℕ → List ℕ → List ℕ → Result (List (List ℕ × List ℕ) × List ℕ) Refusal
+pairs_at format = items_at (pair_at format) (λ (pair : List ℕ × List ℕ). pair.0)
 
 -- a base file's run, point and pairs
 pub record BaseFields : Type 0 where
@@ -134,12 +146,12 @@ pub record BaseFields : Type 0 where
 -- the fields of a base file whose text is all of the bytes
 unfoldable pub base_fields_at : List ℕ → Result BaseFields Refusal
 base_fields_at bytes = do
-  start ← magic_at base_magic bytes
-  run ← number_at Short w64 start
+  start ← magic_at (base_magic First) (base_magic Second) bytes
+  run ← number_at Short w64 start.1
   point ← number_at Short w32 run.1
   lawful ← where_true (nat_le point.0 MOST_POINTS) BadRanges point.0
   count ← number_at Short w32 point.1
-  pairs ← pairs_at count.0 [] count.1
+  pairs ← pairs_at start.0 count.0 [] count.1
   where_true (length pairs.1 == 0) Trailing (record { run = run.0; point = lawful; pairs = pairs.0 })
 
 -- the base of a base file's fields

@@ -1,25 +1,26 @@
--- The laws of reading: each file has one text, which is read as it, and nothing else is read.
+-- The laws of reading: each file has one text in each format that has its keys, which is read as it, and nothing else is read.
 use Rattle.std.specs.Prelude.{◌≡◌, ◌⊎◌, ℕ, ◌<◌, List, ◌++◌, length, take, Result, Ok, Err}
 use Rattle.std.specs.List.{All}
 use Rattle.pc_types.specs.declared.Refusal.{Refusal}
 use Rattle.pc_types.specs.declared.Refusal.TheVariants.{Short}
+use Rattle.pc_types.specs.declared.formats.Format.{Format}
 use Rattle.pc_model.specs.Files.{File, BaseFile}
 use Rattle.pc_part.specs.declared.ranges.Range.{Range}
-use Rattle.pc_part.specs.Lawful.{IsPartFile, IsBaseFile}
+use Rattle.pc_part.specs.Lawful.{IsPartFile, IsBaseFile, HasPart, HasBase, IsPartText, IsBaseText}
 use Rattle.pc_part.specs.Reading.{next_entry_at, header_at, part_at, base_at}
-use Rattle.pc_part.specs.Texts.{part_text, base_text}
+use Rattle.pc_part.specs.Texts.{part_text_in, base_text_in}
 
--- The text of a part file is read as the file.
+-- The text of a part file in either format is read as the file.
 abbrev pub PartTextsAreRead : Type 0
-PartTextsAreRead = (file : File) → IsPartFile file → part_at (part_text file) ≡ Ok file
+PartTextsAreRead = (format : Format) (file : File) → IsPartFile file → HasPart format file → part_at (part_text_in format file) ≡ Ok file
 
--- Bytes that are read as a part file are the text of that file.
+-- Bytes that are read as a part file are a text of that file.
 abbrev pub ReadPartsAreTexts : Type 0
-ReadPartsAreTexts = (bytes : List ℕ) (file : File) → All (λ byte. byte < 256) bytes → part_at bytes ≡ Ok file → IsPartFile file × (bytes ≡ part_text file)
+ReadPartsAreTexts = (bytes : List ℕ) (file : File) → All (λ byte. byte < 256) bytes → part_at bytes ≡ Ok file → IsPartFile file × IsPartText bytes file
 
 -- The text of a part file that is cut off anywhere is short.
 abbrev pub CutPartTextsAreShort : Type 0
-CutPartTextsAreShort = (file : File) (n : ℕ) → IsPartFile file → n < length (part_text file) → part_at (take n (part_text file)) ≡ Err Short
+CutPartTextsAreShort = (format : Format) (file : File) (n : ℕ) → IsPartFile file → HasPart format file → n < length (part_text_in format file) → part_at (take n (part_text_in format file)) ≡ Err Short
 
 -- What is read from the front of bytes, with what is left of them: it is read of longer bytes too, and so is each fault but that of
 -- bytes that end too soon. What is left stands at the end of the bytes.
@@ -30,16 +31,16 @@ pub record IsLocal {X : Type 0} (read : List ℕ → Result (X × List ℕ) Refu
 
 -- A part's header and its next entry are read so.
 abbrev pub StepsAreLocal : Type 0
-StepsAreLocal = IsLocal header_at × ((ranges : List Range) (last : List ℕ) → IsLocal (next_entry_at ranges last))
+StepsAreLocal = IsLocal header_at × ((format : Format) (ranges : List Range) (last : List ℕ) → IsLocal (next_entry_at format ranges last))
 
--- The text of a base file is read as the base.
+-- The text of a base file in either format is read as the base.
 abbrev pub BaseTextsAreRead : Type 0
-BaseTextsAreRead = (base : BaseFile) → IsBaseFile base → base_at (base_text base) ≡ Ok base
+BaseTextsAreRead = (format : Format) (base : BaseFile) → IsBaseFile base → HasBase format base → base_at (base_text_in format base) ≡ Ok base
 
--- Bytes that are read as a base file are the text of that base.
+-- Bytes that are read as a base file are a text of that base.
 abbrev pub ReadBasesAreTexts : Type 0
-ReadBasesAreTexts = (bytes : List ℕ) (base : BaseFile) → All (λ byte. byte < 256) bytes → base_at bytes ≡ Ok base → IsBaseFile base × (bytes ≡ base_text base)
+ReadBasesAreTexts = (bytes : List ℕ) (base : BaseFile) → All (λ byte. byte < 256) bytes → base_at bytes ≡ Ok base → IsBaseFile base × IsBaseText bytes base
 
 -- The text of a base file that is cut off anywhere is short.
 abbrev pub CutBaseTextsAreShort : Type 0
-CutBaseTextsAreShort = (base : BaseFile) (n : ℕ) → IsBaseFile base → n < length (base_text base) → base_at (take n (base_text base)) ≡ Err Short
+CutBaseTextsAreShort = (format : Format) (base : BaseFile) (n : ℕ) → IsBaseFile base → HasBase format base → n < length (base_text_in format base) → base_at (take n (base_text_in format base)) ≡ Err Short

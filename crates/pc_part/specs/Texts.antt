@@ -1,10 +1,13 @@
--- The texts of part files and base files: the bytes that stand for them. Numbers stand with their highest byte first.
+-- The texts of part files and base files: the bytes that stand for them, in each of the two formats. Numbers stand with their
+-- highest byte first. Format 02 is written: a word without a format is that of it.
 use Rattle.std.specs.Prelude.{ℕ, List, ◌++◌, length, codes}
 use Rattle.std.specs.List.{flat_map}
 use Rattle.std.specs.Int.{w16, w32, w64, to_be_bytes}
 use Rattle.pc_model.specs.Maps as map
 use Rattle.pc_model.specs.Sets as set
-use Rattle.pc_types.specs.Fields.{key_text, value_text, content_text}
+use Rattle.pc_types.specs.declared.formats.Format.{Format}
+use Rattle.pc_types.specs.declared.formats.Format.TheVariants.{First, Second}
+use Rattle.pc_types.specs.Fields.{key_text_in, value_text, content_text}
 use Rattle.pc_model.specs.Files.{File, BaseFile}
 use Rattle.pc_model.specs.Points.{AtPoint, Triples}
 use Rattle.pc_model.specs.Ranges.{ranges_of}
@@ -14,12 +17,17 @@ use Rattle.pc_part.specs.declared.ranges.Range.{Range}
 use Rattle.pc_part.specs.Parts.{bounds}
 
 -- the bytes that tell a part file
-abbrev pub part_magic : List ℕ
-part_magic = codes "PCALCP01"
+abbrev pub part_magic : Format → List ℕ
+part_magic First = codes "PCALCP01"
+part_magic Second = codes "PCALCP02"
 
 -- what stands first: the magic, the run, and how many ranges there are
+abbrev pub head_text_in : Format → ℕ → ℕ → List ℕ
+head_text_in format run count = part_magic format ++ (to_be_bytes w64 run ++ to_be_bytes w32 count)
+
+-- the same as it is written
 abbrev pub head_text : ℕ → ℕ → List ℕ
-head_text run count = part_magic ++ (to_be_bytes w64 run ++ to_be_bytes w32 count)
+head_text run count = head_text_in Second run count
 
 -- a range: its first and its last point
 abbrev pub range_text : ℕ × ℕ → List ℕ
@@ -29,38 +37,67 @@ range_text bounds = to_be_bytes w32 bounds.0 ++ to_be_bytes w32 bounds.1
 abbrev pub bounds_text : Range → List ℕ
 bounds_text range = range_text (bounds range)
 
--- an entry: its key with its length before it, its point, and what the key had there
+-- an entry: its key with the length before it, its point, and what the key had there
+abbrev pub entry_text_in : Format → List ℕ × AtPoint → List ℕ
+entry_text_in format entry = key_text_in format entry.0 ++ (to_be_bytes w32 entry.1.point ++ content_text entry.1.content)
+
+-- the same as it is written
 abbrev pub entry_text : List ℕ × AtPoint → List ℕ
-entry_text entry = key_text entry.0 ++ (to_be_bytes w32 entry.1.point ++ content_text entry.1.content)
+entry_text entry = entry_text_in Second entry
 
 -- the same of a triple of a part
+abbrev pub triple_text_in : Format → Triple → List ℕ
+triple_text_in format triple = entry_text_in format (entry_of triple)
+
+-- the same as it is written
 abbrev pub triple_text : Triple → List ℕ
-triple_text triple = entry_text (entry_of triple)
+triple_text triple = triple_text_in Second triple
 
 -- what stands last: an end mark, which is the length of no key, and how many entries there are
 abbrev pub end_text : ℕ → List ℕ
 end_text count = to_be_bytes w16 0 ++ to_be_bytes w32 count
 
 -- the text of some ranges and some triples
-abbrev pub text_of : ℕ → List (ℕ × ℕ) → Triples → List ℕ
-text_of run ranges triples = head_text run (length ranges) ++ (flat_map range_text ranges ++ (flat_map entry_text triples.entries ++ end_text (map.len triples)))
+abbrev pub text_of_in : Format → ℕ → List (ℕ × ℕ) → Triples → List ℕ
+text_of_in format run ranges triples = head_text_in format run (length ranges) ++ (flat_map range_text ranges ++ (flat_map (entry_text_in format) triples.entries ++ end_text (map.len triples)))
 
--- the one text of a file
-unfoldable pub part_text : File → List ℕ
-part_text file = text_of file.run (ranges_of (set.items file.points)) file.triples
+-- the same as it is written
+abbrev pub text_of : ℕ → List (ℕ × ℕ) → Triples → List ℕ
+text_of run ranges triples = text_of_in Second run ranges triples
+
+-- the one text of a file in a format
+unfoldable pub part_text_in : Format → File → List ℕ
+part_text_in format file = text_of_in format file.run (ranges_of (set.items file.points)) file.triples
+
+-- the same as it is written
+abbrev pub part_text : File → List ℕ
+part_text file = part_text_in Second file
 
 -- the bytes that tell a base file
-abbrev pub base_magic : List ℕ
-base_magic = codes "PCALCB01"
+abbrev pub base_magic : Format → List ℕ
+base_magic First = codes "PCALCB01"
+base_magic Second = codes "PCALCB02"
 
 -- what stands first in a base file: the magic, the run, the point, and how many pairs there are
+abbrev pub base_head_text_in : Format → ℕ → ℕ → ℕ → List ℕ
+base_head_text_in format run point count = base_magic format ++ (to_be_bytes w64 run ++ (to_be_bytes w32 point ++ to_be_bytes w32 count))
+
+-- the same as it is written
 abbrev pub base_head_text : ℕ → ℕ → ℕ → List ℕ
-base_head_text run point count = base_magic ++ (to_be_bytes w64 run ++ (to_be_bytes w32 point ++ to_be_bytes w32 count))
+base_head_text run point count = base_head_text_in Second run point count
 
--- a pair: its key and its value, each with its length before it
+-- a pair: its key and its value, each with the length before it
+abbrev pub pair_text_in : Format → List ℕ × List ℕ → List ℕ
+pair_text_in format pair = key_text_in format pair.0 ++ value_text pair.1
+
+-- the same as it is written
 abbrev pub pair_text : List ℕ × List ℕ → List ℕ
-pair_text pair = key_text pair.0 ++ value_text pair.1
+pair_text pair = pair_text_in Second pair
 
--- the one text of a base
-unfoldable pub base_text : BaseFile → List ℕ
-base_text base = base_head_text base.run base.point (map.len base.pairs) ++ flat_map pair_text base.pairs.entries
+-- the one text of a base in a format
+unfoldable pub base_text_in : Format → BaseFile → List ℕ
+base_text_in format base = base_head_text_in format base.run base.point (map.len base.pairs) ++ flat_map (pair_text_in format) base.pairs.entries
+
+-- the same as it is written
+abbrev pub base_text : BaseFile → List ℕ
+base_text base = base_text_in Second base

@@ -7,13 +7,13 @@ ghost use Rattle.pc_part.specs.Texts.{base_head_text, pair_text, base_text};
 
 use crate::base::Base;
 use byteorder::{BigEndian, ByteOrder};
-use pc_types::{Key, Refusal, Tally, Value};
+use pc_types::{Key, Refusal, SPACE_BYTES, Tally, Value};
 use std::io::Write;
 
-const MAGIC: [u8; 8] = *b"PCALCB01";
+const MAGIC: [u8; 8] = *b"PCALCB02";
 
 impl Base {
-    /// Writes the one text of the base, from which `decode` reads the same base. It takes no memory, and refuses with
+    /// Writes the text of the base in format 02, from which `decode` reads the same base. It takes no memory, and refuses with
     /// `Device` exactly where the device failed; then a beginning of the text went out, and not all of it.
     pub fn encode<W: Write>(&self, out: &mut Tally<W>) -> Result<(), Refusal>
         ensures text { Puts W.contents out.old out.new result (base_text self.now) }
@@ -57,7 +57,7 @@ fn put_pair<W: Write>(out: &mut Tally<W>, key: &Key, value: &Value) -> Result<()
 {
     let key = key.as_bytes();
     let mut key_len = [0u8; 2];
-    BigEndian::write_u16(&mut key_len, key.len() as u16);
+    BigEndian::write_u16(&mut key_len, (key.len() - SPACE_BYTES) as u16);
     let value = value.as_bytes();
     let mut value_len = [0u8; 4];
     BigEndian::write_u32(&mut value_len, value.len() as u32);

@@ -3,30 +3,31 @@ ghost use Rattle.std.specs.Prelude.{◌≡◌, ◌<◌, ◌≤◌, [], length, I
 ghost use Rattle.std.specs.List.Sorted.{IsPartitionPoint};
 ghost use Rattle.std.specs.Ordering.{is_lt};
 ghost use Rattle.pc_types.specs.Fields.{Reads, Gives};
-ghost use Rattle.pc_types.specs.Limits.{IsKey};
 ghost use Rattle.pc_model.specs.Database.{key_cmp};
 ghost use Rattle.pc_model.specs.Files.{File};
-ghost use Rattle.pc_part.specs.Lawful.{IsPartFile};
+ghost use Rattle.pc_part.specs.Lawful.{IsPartFile, IsPartText};
 ghost use Rattle.pc_part.specs.Parts.{AreRanges, RangesFrom, covers};
 ghost use Rattle.pc_part.specs.Reading.{range_at, ranges_at, next_key_at, point_at, entry_at, last_key, next_entry_at, entries_at, header_at, part_fields_at, part_at};
-ghost use Rattle.pc_part.specs.Texts.{part_text};
 
 use crate::part::Part;
 use crate::ranges::Range;
 use pc_types::{
-    Key, MOST_POINTS, Point, Refusal, Triple, Value, read_content, read_magic, read_sized_key,
-    read_u16, read_u32, read_u64,
+    Format, Key, MOST_POINTS, Point, Refusal, Triple, Value, read_content, read_magic,
+    read_sized_key, read_u16, read_u32, read_u64,
 };
 use std::alloc::Global;
 
-const MAGIC: [u8; 8] = *b"PCALCP01";
+const FIRST: [u8; 8] = *b"PCALCP01";
+
+const SECOND: [u8; 8] = *b"PCALCP02";
 
 impl Part {
-    /// The part whose text is all of the bytes. It takes memory for the ranges, the entries and long keys and values
-    /// alone. Refuses with `OutOfMemory` only where memory ran out, else with the first fault from the left:
+    /// The part whose text is all of the bytes, in format 02, or in format 01, whose keys are all of space 0. It takes memory
+    /// for the ranges, the entries and long keys and values alone. Refuses with `OutOfMemory` only where memory ran out, else
+    /// with the first fault from the left:
     ///
     /// - `Short` where the bytes end inside a field;
-    /// - `BadMagic` where the first 8 bytes are others;
+    /// - `BadMagic` where the first 8 bytes tell neither format;
     /// - `BadRanges` where there are no ranges, or one breaks their rule;
     /// - `BadLength` where the length of a key or value is not within its limits, or the entry count is wrong;
     /// - `KeyOrder` where a key does not rise;
@@ -34,8 +35,8 @@ impl Part {
     /// - `BadKind` where an entry's kind is neither 0 nor 1;
     /// - `Trailing` where bytes follow the entry count.
     pub fn decode(alloc: Global, bytes: &[u8]) -> Result<Part, Refusal>
-        ensures found { IfOk result (λ part. IsPartFile part × (bytes.now ≡ part_text part)) }
-        ensures only { (file : File) → IsPartFile file → bytes.now ≡ part_text file → Gives (λ part. part) result (Ok file) }
+        ensures found { IfOk result (λ part. IsPartFile part × IsPartText bytes.now part) }
+        ensures only { (file : File) → IsPartFile file → IsPartText bytes.now file → Gives (λ part. part) result (Ok file) }
         ensures exact { Gives (λ part. part) result (part_at bytes.now) }
     {
         read_part(alloc, bytes)
@@ -67,8 +68,13 @@ struct FieldsOfPart {
 fn read_fields(alloc: Global, bytes: &[u8]) -> Result<FieldsOfPart, Refusal>
     ensures { Gives (λ f. record { run = f.run; ranges = f.ranges.items; entries = f.entries.items }) result (part_fields_at bytes.now) }
 {
-    let (PartHeader { run, ranges }, rest) = read_header(alloc, bytes)?;
-    let (entries, rest) = read_entries(alloc, &ranges, rest)?;
+    let (header, rest) = read_header(alloc, bytes)?;
+    let PartHeader {
+        format,
+        run,
+        ranges,
+    } = header;
+    let (entries, rest) = read_entries(alloc, format, &ranges, rest)?;
     let (total, rest) = read_u32(rest, Refusal::Short)?;
     if entries.len() != total as usize {
         return Err(Refusal::BadLength);
@@ -83,9 +89,10 @@ fn read_fields(alloc: Global, bytes: &[u8]) -> Result<FieldsOfPart, Refusal>
     })
 }
 
-/// What stands before the entries of a part: its run, and the points that it stands for as ranges.
+/// What stands before the entries of a part: the format of its text, its run, and the points that it stands for as ranges.
 #[derive(Drop)]
 pub struct PartHeader {
+    pub format: Format,
     pub run: u64,
     pub ranges: Vec<Range>,
 }
@@ -94,17 +101,22 @@ pub struct PartHeader {
 /// `OutOfMemory` only where memory ran out, else with `Short`, `BadMagic` or `BadRanges`, the first fault from the left.
 #[tactic(auto, unfolding(crate::specs::Reading::header_at))]
 pub fn read_header(alloc: Global, bytes: &[u8]) -> Result<(PartHeader, &[u8]), Refusal>
-    ensures read { Gives (λ x. ((x.0.run, x.0.ranges.items), x.1.now)) result (header_at bytes.now) }
+    ensures read { Gives (λ x. ((x.0.format, (x.0.run, x.0.ranges.items)), x.1.now)) result (header_at bytes.now) }
     ensures apart { IfOk result (λ x. AreRanges x.0.ranges.items) }
 {
-    let start = read_magic(bytes, &MAGIC)?;
+    let (format, start) = read_magic(bytes, &FIRST, &SECOND)?;
     let (run, rest) = read_u64(start, Refusal::Short)?;
     let (range_count, rest) = read_u32(rest, Refusal::Short)?;
     if range_count == 0 {
         return Err(Refusal::BadRanges);
     }
     let (ranges, rest) = read_ranges(alloc, range_count, rest)?;
-    Ok((PartHeader { run, ranges }, rest))
+    let header = PartHeader {
+        format,
+        run,
+        ranges,
+    };
+    Ok((header, rest))
 }
 
 // So many ranges, one after the other.
@@ -141,16 +153,18 @@ fn read_range(least: u32, bytes: &[u8]) -> Result<(u16, u16, &[u8]), Refusal>
 // The entries up to the end mark. An entry takes more than one of the bytes, so that the turns are enough.
 fn read_entries<'a>(
     alloc: Global,
+    format: Format,
     ranges: &[Range],
     bytes: &'a [u8],
 ) -> Result<(Vec<Triple>, &'a [u8]), Refusal>
     requires { RangesFrom 1 ranges.now }
-    ensures { Gives (λ x. (x.0.items, x.1.now)) result (entries_at (length bytes.now) ranges.now [] bytes.now) }
+    ensures { Gives (λ x. (x.0.items, x.1.now)) result (entries_at format (length bytes.now) ranges.now [] bytes.now) }
 {
     let mut entries = Vec::new(alloc);
     let mut rest = bytes;
     for _ in 0..bytes.len() {
-        let (next, after) = read_next_entry(alloc, ranges, last_key(&entries), rest)?;
+        let last = last_key(&entries);
+        let (next, after) = read_next_entry(alloc, format, ranges, last, rest)?;
         let Some(entry) = next else {
             return Ok((entries, after));
         };
@@ -170,26 +184,27 @@ fn last_key(entries: &[Triple]) -> &[u8]
     }
 }
 
-/// The entry at the front of the bytes, whose key comes after the last one, or None at the end mark; and the bytes behind
-/// it. It takes memory for long keys and values alone. Refuses with `OutOfMemory` only where memory ran out, else with
+/// The entry at the front of the bytes of a text in this format, whose key comes after the last one, or None at the end mark;
+/// and the bytes behind it. The last key is given by its space's two bytes and its own behind them; where it is empty, each key
+/// comes after it. It takes memory for long keys and values alone. Refuses with `OutOfMemory` only where memory ran out, else with
 /// `Short`, `BadLength`, `KeyOrder`, `NotCovered` or `BadKind`, the first fault from the left.
 #[tactic(auto, unfolding(crate::specs::Reading::next_entry_at))]
 pub fn read_next_entry<'a>(
     alloc: Global,
+    format: Format,
     ranges: &[Range],
     last: &[u8],
     bytes: &'a [u8],
 ) -> Result<(Option<Triple>, &'a [u8]), Refusal>
     requires { RangesFrom 1 ranges.now }
-    ensures { Gives (λ x. (x.0, x.1.now)) result (next_entry_at ranges.now last.now bytes.now) }
+    ensures { Gives (λ x. (x.0, x.1.now)) result (next_entry_at format ranges.now last.now bytes.now) }
 {
     let (count, rest) = read_u16(bytes, Refusal::Short)?;
     if count == 0 {
         return Ok((None, rest));
     }
-    let (key, rest) = read_next_key(last, count, rest)?;
+    let (key, rest) = read_next_key(alloc, format, last, count, rest)?;
     let (point, content, rest) = read_entry(alloc, ranges, rest)?;
-    let key = Key::new(alloc, key)?;
     let point = Point(point);
     let entry = Triple {
         key,
@@ -199,28 +214,29 @@ pub fn read_next_entry<'a>(
     Ok((Some(entry), rest))
 }
 
-// A key of so many bytes that comes after the last one.
+// A key of so many bytes of its own that comes after the last one.
 #[tactic(auto, unfolding(crate::specs::Reading::next_key_at))]
 pub(crate) fn read_next_key<'a>(
+    alloc: Global,
+    format: Format,
     last: &[u8],
     count: u16,
     bytes: &'a [u8],
-) -> Result<(&'a [u8], &'a [u8]), Refusal>
-    ensures read { Reads (λ x. (x.0.now, x.1.now)) result (next_key_at last.now count bytes.now) }
-    ensures in_limits { IfOk result (λ x. IsKey x.0.now) }
+) -> Result<(Key, &'a [u8]), Refusal>
+    ensures { Gives (λ x. (x.0, x.1.now)) result (next_key_at format last.now count bytes.now) }
 {
-    let (key, rest) = read_sized_key(bytes, count, Refusal::Short)?;
-    if !comes_after(key, last) {
+    let (key, rest) = read_sized_key(alloc, format, bytes, count, Refusal::Short)?;
+    if !comes_after(&key, last) {
         return Err(Refusal::KeyOrder);
     }
     Ok((key, rest))
 }
 
 // Whether the key comes after the last one.
-fn comes_after(key: &[u8], last: &[u8]) -> bool
+fn comes_after(key: &Key, last: &[u8]) -> bool
     ensures { result ≡ is_lt (key_cmp last.now key.now) }
 {
-    last.cmp(&key).is_lt()
+    last.cmp(&key.as_bytes()).is_lt()
 }
 
 // The point of a key's entry, and what the key had there.

@@ -9,10 +9,10 @@ use crate::part::Part;
 use crate::ranges::Range;
 use byteorder::{BigEndian, ByteOrder};
 use pc_taken::{LentTriple, Pass};
-use pc_types::{Refusal, Tally};
+use pc_types::{Refusal, SPACE_BYTES, Tally};
 use std::io::Write;
 
-const MAGIC: [u8; 8] = *b"PCALCP01";
+const MAGIC: [u8; 8] = *b"PCALCP02";
 
 // Stands where an entry would begin with the length of its key, which is never 0.
 const END_MARK: [u8; 2] = [0; 2];
@@ -24,7 +24,7 @@ const TOMBSTONE: u8 = 0;
 const VALUE: u8 = 1;
 
 impl Part {
-    /// Writes the one text of the part, from which `decode` reads the same part. It takes no memory, and refuses with
+    /// Writes the text of the part in format 02, from which `decode` reads the same part. It takes no memory, and refuses with
     /// `Device` exactly where the device failed; then a beginning of the text went out, and not all of it.
     pub fn encode<W: Write>(&self, out: &mut Tally<W>) -> Result<(), Refusal>
         ensures text { Puts W.contents out.old out.new result (part_text self.now) }
@@ -90,7 +90,7 @@ pub fn put_entry<W: Write>(out: &mut Tally<W>, entry: &LentTriple) -> Result<(),
 {
     let key = entry.key.as_bytes();
     let mut key_len = [0u8; 2];
-    BigEndian::write_u16(&mut key_len, key.len() as u16);
+    BigEndian::write_u16(&mut key_len, (key.len() - SPACE_BYTES) as u16);
     let mut point = [0u8; 4];
     BigEndian::write_u32(&mut point, u32::from(entry.point.0));
     match entry.content {

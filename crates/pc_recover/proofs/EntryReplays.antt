@@ -4,6 +4,7 @@ use Rattle.std.specs.Prelude.{◌==◌}
 use Rattle.pc_types.specs.declared.refusal.Refusal.{Refusal}
 use Rattle.pc_types.specs.declared.refusal.Refusal.TheVariants.{OutOfMemory}
 use Rattle.pc_types.specs.declared.Entry.{Entry}
+use Rattle.pc_types.specs.declared.Format.{Format}
 use Rattle.pc_types.specs.declared.Entry.TheVariants.{Commit, Token}
 use Rattle.pc_types.specs.Fields.{Gives}
 use Rattle.pc_model.specs.Database.{Database}
@@ -53,21 +54,21 @@ none_left is_behind point db count rest fault =
     ap (λ (es : List Entry). record { pairs = after db es; entries = count + 0; fault = fault }) (none_count is_behind point)
     ∙ ap (λ (k : ℕ). record { pairs = db; entries = k; fault = fault }) (omega arith)
 
-module _ (is_behind : Bool) (point : ℕ) (db : Database) (count : ℕ) (last : LastToken) (bytes : List ℕ) (total : Replay) (so_far : to_come is_behind point db count (all_at last bytes) ≡ total) where
-  pub replay_goes_on : (entry : Entry) (behind_it : List ℕ) (db' : Database) (next : Bool) → entry_at last bytes ≡ Ok (entry, behind_it) → db' ≡ after db (counting is_behind point (entry ∷ [])) → next ≡ (is_behind || is_point_token point entry)
-      → to_come next point db' (count + 1) (all_at (token_after last entry) behind_it) ≡ total
+module _ (format : Format) (is_behind : Bool) (point : ℕ) (db : Database) (count : ℕ) (last : LastToken) (bytes : List ℕ) (total : Replay) (so_far : to_come is_behind point db count (all_at format last bytes) ≡ total) where
+  pub replay_goes_on : (entry : Entry) (behind_it : List ℕ) (db' : Database) (next : Bool) → entry_at format last bytes ≡ Ok (entry, behind_it) → db' ≡ after db (counting is_behind point (entry ∷ [])) → next ≡ (is_behind || is_point_token point entry)
+      → to_come next point db' (count + 1) (all_at format (token_after last entry) behind_it) ≡ total
   replay_goes_on entry behind_it db' next e db_is next_is =
-      let found = all_at (token_after last entry) behind_it in
+      let found = all_at format (token_after last entry) behind_it in
       let n : count + 1 + length found.entries ≡ count + length (entry ∷ found.entries) = omega arith in
       ap (λ (b : Bool). to_come b point db' (count + 1) found) next_is
       ∙ ap (λ (d : Database). to_come (is_behind || is_point_token point entry) point d (count + 1) found) db_is
       ∙ ap (λ (d : Database). record { pairs = d; entries = count + 1 + length found.entries; fault = found.fault }) (first_counts is_behind point db entry found.entries)
       ∙ ap (λ (k : ℕ). record { pairs = after db (counting is_behind point (entry ∷ found.entries)); entries = k; fault = found.fault }) n
-      ∙ sym (ap (to_come is_behind point db count) (all_go_on last bytes entry behind_it e))
+      ∙ sym (ap (to_come is_behind point db count) (all_go_on format last bytes entry behind_it e))
       ∙ so_far
 
-  pub replay_stops : (fault : Refusal) → entry_at last bytes ≡ Err fault → length bytes ≢ 0 → total ≡ record { pairs = db; entries = count; fault = Some fault }
-  replay_stops fault e some = sym so_far ∙ ap (to_come is_behind point db count) (all_stop last bytes fault e) ∙ left_some bytes some
+  pub replay_stops : (fault : Refusal) → entry_at format last bytes ≡ Err fault → length bytes ≢ 0 → total ≡ record { pairs = db; entries = count; fault = Some fault }
+  replay_stops fault e some = sym so_far ∙ ap (to_come is_behind point db count) (all_stop format last bytes fault e) ∙ left_some bytes some
     where
       left_some : (left : List ℕ) → length left ≢ 0 → to_come is_behind point db count (none_more left fault) ≡ record { pairs = db; entries = count; fault = Some fault }
       left_some [] h = absurd (h refl)
@@ -75,7 +76,7 @@ module _ (is_behind : Bool) (point : ℕ) (db : Database) (count : ℕ) (last : 
 
   pub replay_done : bytes ≡ [] → total ≡ record { pairs = db; entries = count; fault = None }
   unfolding entries_at
-  replay_done none = sym so_far ∙ ap (λ (bs : List ℕ). to_come is_behind point db count (all_at last bs)) none ∙ none_left is_behind point db count 0 None
+  replay_done none = sym so_far ∙ ap (λ (bs : List ℕ). to_come is_behind point db count (all_at format last bs)) none ∙ none_left is_behind point db count 0 None
 
 -- what a stopped loop gives: what was replayed, unless memory ran out
 pub stopped_gives : (result : Result Replayed Refusal) (fault : Refusal) (total stopped : Replay)

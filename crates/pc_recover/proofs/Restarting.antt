@@ -9,17 +9,18 @@ use Rattle.std.proofs.lemmas.List.Elements.{recursion_from_All}
 use Rattle.pc_types.specs.declared.refusal.Refusal.{Refusal}
 use Rattle.pc_types.specs.declared.refusal.Refusal.TheVariants.{OtherRun, Short}
 use Rattle.pc_types.specs.declared.Entry.{Entry}
+use Rattle.pc_types.specs.declared.Format.{Format}
 use Rattle.pc_types.specs.Fields.{◌>>=◌, where_true}
 use Rattle.pc_model.specs.Database.{Database}
 use Rattle.pc_model.specs.Log.{after, has_token, state_at}
 use Rattle.pc_model.specs.Files.{File, BaseFile, numbers_to}
 use Rattle.pc_model.specs.Standing.{IsOfItsPoints}
-use Rattle.pc_part.specs.Texts.{base_text}
-use Rattle.pc_part.specs.Lawful.{IsBaseFile}
+use Rattle.pc_part.specs.Lawful.{IsBaseFile, IsBaseText}
 use Rattle.pc_part.specs.Reading.{part_at, base_at}
-use Rattle.pc_log.specs.Texts.{header_text, entry_text, log_text}
+use Rattle.pc_log.specs.Texts.{header_text_in, entry_text_in, log_text_in, HasLog}
 use Rattle.pc_log.specs.Reading.{LogRead, log_at}
 use Rattle.pc_log.specs.Laws.{IsLog, CutLogsAreRead, cut_read, left_behind}
+use Rattle.pc_log.proofs.EntriesAgain.{header_length}
 use Rattle.pc_recover.specs.declared.recovered.Skipped.{Skipped}
 use Rattle.pc_recover.specs.Recovery.{Recovery, recovery, recovery_on, recovered_point, read_files, files_of, files_to, with_files, log_of_run, entries_after, unused_from, first_missing, is_covered, reaches}
 use Rattle.pc_recover.specs.Restarts.{AreWhole, IsRestored, EveryCutIsRecovered, base_of_point, token_number}
@@ -44,47 +45,44 @@ files_had run start log (bytes ∷ parts) all = by (part_at bytes) refl (files_h
 
 -- ---- the log
 
-header_length : (run : ℕ) → length (header_text run) ≡ 20
-header_length run = refl
-
-has_header : (run : ℕ) (log : List Entry) → 20 ≤ length (log_text run log)
-has_header run log = omega (arith, length-append (header_text run) (flat_map entry_text log), header_length run)
+has_header : (format : Format) (run : ℕ) (log : List Entry) → 20 ≤ length (log_text_in format run log)
+has_header format run log = omega (arith, length-append (header_text_in format run) (flat_map (entry_text_in format) log), header_length format run)
 
 -- what is read of the first c bytes of a log
-pub record IsRead (run : ℕ) (log : List Entry) (c p : ℕ) (read : LogRead) : Type 0 where
-  pub whole : AreWhole run log c p
+pub record IsRead (format : Format) (run : ℕ) (log : List Entry) (c p : ℕ) (read : LogRead) : Type 0 where
+  pub whole : AreWhole format run log c p
   pub entries : read.entries ≡ take p log
   pub fault : (read.fault ≡ None) ⊎ (read.fault ≡ Some Short)
 
-module _ (run : ℕ) (log : List Entry) (c : ℕ) where
+module _ (format : Format) (run : ℕ) (log : List Entry) (c : ℕ) where
   abbrev cut : List ℕ
-  cut = take c (log_text run log)
+  cut = take c (log_text_in format run log)
 
   cut_length : length cut ≤ c
-  cut_length = omega (arith, length-take c (log_text run log))
+  cut_length = omega (arith, length-take c (log_text_in format run log))
 
-  pub log_is_read : CutLogsAreRead → run < 2 ^ 64 → IsLog log → (p : ℕ) × (read : LogRead) × (log_of_run run cut ≡ Ok read) × IsRead run log c p read
-  log_is_read cuts fits is_log = elim (cases_lt c 20) [ inl less ↦ in_header less | inr more ↦ behind_header more ]
+  pub log_is_read : CutLogsAreRead → run < 2 ^ 64 → IsLog log → HasLog format log → (p : ℕ) × (read : LogRead) × (log_of_run run cut ≡ Ok read) × IsRead format run log c p read
+  log_is_read cuts fits is_log has = elim (cases_lt c 20) [ inl less ↦ in_header less | inr more ↦ behind_header more ]
     where
-      in_header : c < 20 → (p : ℕ) × (read : LogRead) × (log_of_run run cut ≡ Ok read) × IsRead run log c p read
+      in_header : c < 20 → (p : ℕ) × (read : LogRead) × (log_of_run run cut ≡ Ok read) × IsRead format run log c p read
       in_header less =
           let short : ltb (length cut) 20 ≡ true = lt-ltb _ _ (omega (arith, less, cut_length)) in
           let read : LogRead = record { run = run; entries = []; rest = length cut; fault = None } in (
             0,
             read,
             ap (λ t. cond t (Ok read) (log_at cut >>= λ found. where_true (eqb found.run run) OtherRun found)) short,
-            record { whole = record { some = omega arith; there = inl refl; next = λ _. omega (arith, less, has_header run (take 1 log)) }; entries = sym (take_none log); fault = inl refl },
+            record { whole = record { some = omega arith; there = inl refl; next = λ _. omega (arith, less, has_header format run (take 1 log)) }; entries = sym (take_none log); fault = inl refl },
           )
 
-      behind_header : 20 ≤ c → (p : ℕ) × (read : LogRead) × (log_of_run run cut ≡ Ok read) × IsRead run log c p read
+      behind_header : 20 ≤ c → (p : ℕ) × (read : LogRead) × (log_of_run run cut ≡ Ok read) × IsRead format run log c p read
       behind_header more =
-          let long : ltb (length cut) 20 ≡ false = le-ltb _ _ (omega (arith, more, has_header run log, length-take c (log_text run log))) in
-          let read = (cuts run log c fits is_log.lawful is_log.in_order).1 more in
+          let long : ltb (length cut) 20 ≡ false = le-ltb _ _ (omega (arith, more, has_header format run log, length-take c (log_text_in format run log))) in
+          let read = (cuts format run log c fits is_log.lawful has is_log.in_order).1 more in
           let same : eqb run run ≡ true = grind (arith, nat_tests) in (
             read.0,
-            cut_read run log c read.0,
+            cut_read format run log c read.0,
             rw (long, read.2, same) refl,
-            record { whole = record { some = read.1.some; there = inr read.1.there; next = read.1.next }; entries = refl; fault = by (eqb (left_behind run log c read.0) 0) },
+            record { whole = record { some = read.1.some; there = inr read.1.there; next = read.1.next }; entries = refl; fault = by (eqb (left_behind format run log c read.0) 0) },
           )
         where
           by : (t : Bool) → (cond t None (Some Short) ≡ None) ⊎ (cond t None (Some Short) ≡ Some Short)
@@ -108,31 +106,31 @@ given n skipped laid read = record { pairs = after laid.pairs (entries_after n r
 abbrev laid_then_read : ℕ → List Skipped → ℕ → List ℕ → Result BaseFile Refusal → Result Recovery Refusal
 laid_then_read n skipped run bytes with_parts = with_parts >>= λ laid. log_of_run run bytes >>= λ read. Ok (given n skipped laid read)
 
-module _ (run : ℕ) (start : Database) (log : List Entry) (b n : ℕ) (c : ℕ) (skipped : List Skipped) where
+module _ (format : Format) (run : ℕ) (start : Database) (log : List Entry) (b n : ℕ) (c : ℕ) (skipped : List Skipped) where
   -- what is restored, where n is the recovered point
   pub record IsRestoredAt (found : Recovery) : Type 0 where
     pub point : found.point ≡ n
-    pub entries : AreWhole run log c found.entries
+    pub entries : AreWhole format run log c found.entries
     pub pairs : found.pairs ≡ after start (take (max found.entries (token_number found.point log)) log)
     pub fault : (found.fault ≡ None) ⊎ (found.fault ≡ Some Short)
 
-  is_restored : (p : ℕ) (laid : BaseFile) (read : LogRead) → ((n ≡ 0) ⊎ (has_token n log ≡ true)) → laid.pairs ≡ state_at start log n → IsRead run log c p read → IsRestoredAt (given n skipped laid read)
+  is_restored : (p : ℕ) (laid : BaseFile) (read : LogRead) → ((n ≡ 0) ⊎ (has_token n log ≡ true)) → laid.pairs ≡ state_at start log n → IsRead format run log c p read → IsRestoredAt (given n skipped laid read)
   is_restored p laid read sealed state is =
       let count : length read.entries ≡ p = ap length is.entries ∙ omega (arith, length-take p log, is.whole.some) in
       record {
         point = refl;
-        entries = subst (AreWhole run log c) (sym count) is.whole;
+        entries = subst (AreWhole format run log c) (sym count) is.whole;
         pairs = ap (λ db. after db (entries_after n read.entries)) state ∙ ap (λ es. after (state_at start log n) (entries_after n es)) is.entries ∙ restored_entries start log n p sealed
             ∙ ap (λ k. after start (take (max k (token_number n log)) log)) (sym count);
         fault = is.fault;
       }
 
   -- once the files are laid, the log's beginning is read and applied
-  pub on_files : CutLogsAreRead → run < 2 ^ 64 → IsLog log → ((n ≡ 0) ⊎ (has_token n log ≡ true)) → (r : Result BaseFile Refusal) → UnlessFull r (λ laid. laid.pairs ≡ state_at start log n)
-      → UnlessFull (laid_then_read n skipped run (cut run log c) r) IsRestoredAt
-  on_files cuts fits is_log sealed (Err why) is = is
-  on_files cuts fits is_log sealed (Ok laid) is =
-      let read = log_is_read run log c cuts fits is_log in
+  pub on_files : CutLogsAreRead → run < 2 ^ 64 → IsLog log → HasLog format log → ((n ≡ 0) ⊎ (has_token n log ≡ true)) → (r : Result BaseFile Refusal) → UnlessFull r (λ laid. laid.pairs ≡ state_at start log n)
+      → UnlessFull (laid_then_read n skipped run (cut format run log c) r) IsRestoredAt
+  on_files cuts fits is_log has sealed (Err why) is = is
+  on_files cuts fits is_log has sealed (Ok laid) is =
+      let read = log_is_read format run log c cuts fits is_log has in
       subst (λ (found : Result LogRead Refusal). UnlessFull (found >>= λ read. Ok (given n skipped laid read)) IsRestoredAt) (sym read.2) (is_restored read.0 laid read.1 sealed is read.3)
 
 -- a recovered point is 0, or its token is in the log
@@ -149,13 +147,13 @@ point_sealed run start log b n files low sealed used reached = by (nat_lt b n) r
     by false same = base_sealed (same_point b n low same) sealed
 
 -- the rules on the base of a run's point and files of its points
-restart_on : (run : ℕ) (start : Database) (log : List Entry) (b n c : ℕ) (skipped : List Skipped) (had : List File) → CutLogsAreRead → run < 2 ^ 64 → IsLog log → ((b ≡ 0) ⊎ IsTrue (has_token b log))
+restart_on : (format : Format) (run : ℕ) (start : Database) (log : List Entry) (b n c : ℕ) (skipped : List Skipped) (had : List File) → CutLogsAreRead → run < 2 ^ 64 → IsLog log → HasLog format log → ((b ≡ 0) ⊎ IsTrue (has_token b log))
     → AllByRecursion (IsOfItsPoints run start log) had → b ≤ n → reaches b had n ≡ true
-    → UnlessFull (laid_then_read n skipped run (cut run log c) (with_files (base_of_point run start log b) (files_to n had))) (IsRestoredAt run start log b n c skipped)
-restart_on run start log b n c skipped had cuts fits is_log base_sealed of low reached =
+    → UnlessFull (laid_then_read n skipped run (cut format run log c) (with_files (base_of_point run start log b) (files_to n had))) (IsRestoredAt format run start log b n c skipped)
+restart_on format run start log b n c skipped had cuts fits is_log has base_sealed of low reached =
     let used = are_used run start log n had of in
     let sealed = point_sealed run start log b n (files_to n had) low base_sealed used reached in
-    on_files run start log b n c skipped cuts fits is_log sealed (with_files (base_of_point run start log b) (files_to n had))
+    on_files format run start log b n c skipped cuts fits is_log has sealed (with_files (base_of_point run start log b) (files_to n had))
     (files_give run start log b n low (all_in_order log is_log.in_order n sealed) (files_to n had) used reached)
 
 -- the rules on a base that was read
@@ -169,18 +167,18 @@ in_turn : (read : BaseFile) (files : List (Result File Refusal)) (bytes : List �
 in_turn read files bytes = refl
 
 -- every cut is recovered from, once base texts and cut logs are read as they are written
-pub restarts : ((base : BaseFile) → IsBaseFile base → base_at (base_text base) ≡ Ok base) → CutLogsAreRead → EveryCutIsRecovered
-restarts bases_read cuts run start log b base parts c is_log files =
+pub restarts : ((bytes : List ℕ) (base : BaseFile) → IsBaseFile base → IsBaseText bytes base → base_at bytes ≡ Ok base) → CutLogsAreRead → EveryCutIsRecovered
+restarts bases_read cuts format run start log b base parts c is_log has files =
     let point : BaseFile = base_of_point run start log b in
-    let base_read : base_at base ≡ Ok point = ap base_at files.base_is ∙ bases_read point files.base_fits in
+    let base_read : base_at base ≡ Ok point = bases_read base point files.base_fits files.base_is in
     let of = files_had run start log parts (recursion_from_All _ parts files.parts_are) in
     let had = read_files (files_of run parts) in
     let low = last_from_base b had 65535 files.base_fits.point in
-    let given = restart_on run start log b (recovered_point b had) c (unused_from 0 (recovered_point b had) (first_missing b had) (files_of run parts)) had cuts files.base_fits.run is_log files.base_sealed of low (last_is_reached b had 65535) in
-    subst (λ (r : Result Recovery Refusal). UnlessFull r (IsRestored run start log b parts c)) (sym (on_base base point parts (cut run log c) base_read ∙ in_turn point (files_of run parts) (cut run log c)))
-    (as_restored (laid_then_read (recovered_point b had) (unused_from 0 (recovered_point b had) (first_missing b had) (files_of run parts)) run (cut run log c) (with_files point (files_to (recovered_point b had) had))) given)
+    let given = restart_on format run start log b (recovered_point b had) c (unused_from 0 (recovered_point b had) (first_missing b had) (files_of run parts)) had cuts files.base_fits.run is_log has files.base_sealed of low (last_is_reached b had 65535) in
+    subst (λ (r : Result Recovery Refusal). UnlessFull r (IsRestored format run start log b parts c)) (sym (on_base base point parts (cut format run log c) base_read ∙ in_turn point (files_of run parts) (cut format run log c)))
+    (as_restored (laid_then_read (recovered_point b had) (unused_from 0 (recovered_point b had) (first_missing b had) (files_of run parts)) run (cut format run log c) (with_files point (files_to (recovered_point b had) had))) given)
   where
-    as_restored : (r : Result Recovery Refusal) → UnlessFull r (IsRestoredAt run start log b (recovered_point b (read_files (files_of run parts))) c (unused_from 0 (recovered_point b (read_files (files_of run parts))) (first_missing b (read_files (files_of run parts))) (files_of run parts)))
-        → UnlessFull r (IsRestored run start log b parts c)
+    as_restored : (r : Result Recovery Refusal) → UnlessFull r (IsRestoredAt format run start log b (recovered_point b (read_files (files_of run parts))) c (unused_from 0 (recovered_point b (read_files (files_of run parts))) (first_missing b (read_files (files_of run parts))) (files_of run parts)))
+        → UnlessFull r (IsRestored format run start log b parts c)
     as_restored (Ok found) is = record { point = is.point; entries = is.entries; pairs = is.pairs; fault = is.fault }
     as_restored (Err why) is = is

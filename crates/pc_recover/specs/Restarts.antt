@@ -2,14 +2,14 @@
 use Rattle.std.specs.Prelude.{◌≡◌, ℕ, ◌+◌, ◌≤◌, ◌<◌, ◌==◌, ◌⊎◌, max, List, length, take, All, Some, None, Ok, MatchResult, IsTrue, if◌then◌else◌}
 use Rattle.pc_types.specs.declared.refusal.Refusal.TheVariants.{Short, Full}
 use Rattle.pc_types.specs.declared.Entry.{Entry}
+use Rattle.pc_types.specs.declared.Format.{Format}
 use Rattle.pc_model.specs.Database.{Database}
 use Rattle.pc_model.specs.Log.{after, front, has_token, state_at}
 use Rattle.pc_model.specs.Files.{File, BaseFile}
 use Rattle.pc_model.specs.Standing.{IsOfItsPoints}
-use Rattle.pc_part.specs.Texts.{base_text}
-use Rattle.pc_part.specs.Lawful.{IsBaseFile}
+use Rattle.pc_part.specs.Lawful.{IsBaseFile, IsBaseText}
 use Rattle.pc_part.specs.Reading.{part_at}
-use Rattle.pc_log.specs.Texts.{log_text}
+use Rattle.pc_log.specs.Texts.{log_text_in, HasLog}
 use Rattle.pc_log.specs.Laws.{IsLog}
 use Rattle.pc_recover.specs.Recovery.{Recovery, recovery, recovered_point, read_files, files_of}
 
@@ -17,10 +17,11 @@ use Rattle.pc_recover.specs.Recovery.{Recovery, recovery, recovered_point, read_
 abbrev pub base_of_point : ℕ → Database → List Entry → ℕ → BaseFile
 base_of_point run start log b = record { run = run; point = b; pairs = state_at start log b }
 
--- The files of a run came back as they were written: the base is the text of the state of a point, 0 or one whose token the
--- log has; and each part that is a part's text of the run is the file of some of its points. Other parts may be anything.
+-- The files of a run came back as they were written, each in either format: the base is a text of the state of a point, 0 or one
+-- whose token the log has; and each part that is a part's text of the run is the file of some of its points. Other parts may be
+-- anything.
 pub record AreFilesOf (run : ℕ) (start : Database) (log : List Entry) (b : ℕ) (base : List ℕ) (parts : List (List ℕ)) : Type 0 where
-  pub base_is : base ≡ base_text (base_of_point run start log b)
+  pub base_is : IsBaseText base (base_of_point run start log b)
   pub base_fits : IsBaseFile (base_of_point run start log b)
   pub base_sealed : (b ≡ 0) ⊎ IsTrue (has_token b log)
   pub parts_are : All (λ bytes. (file : File) → part_at bytes ≡ Ok file → file.run ≡ run → IsOfItsPoints run start log file) parts
@@ -30,21 +31,21 @@ abbrev pub token_number : ℕ → List Entry → ℕ
 token_number n log = if n == 0 then 0 else length (front n log) + 1
 
 -- the first p entries are those whose text is whole in the first c bytes of the log's
-pub record AreWhole (run : ℕ) (log : List Entry) (c p : ℕ) : Type 0 where
+pub record AreWhole (format : Format) (run : ℕ) (log : List Entry) (c p : ℕ) : Type 0 where
   pub some : p ≤ length log
-  pub there : (p ≡ 0) ⊎ (length (log_text run (take p log)) ≤ c)
-  pub next : p < length log → c < length (log_text run (take (p + 1) log))
+  pub there : (p ≡ 0) ⊎ (length (log_text_in format run (take p log)) ≤ c)
+  pub next : p < length log → c < length (log_text_in format run (take (p + 1) log))
 
 -- What is recovered from these files and the first c bytes of the log: the database after the first entries, as far as those
 -- that are whole in these bytes go, or the recovered point's token where that is further.
-pub record IsRestored (run : ℕ) (start : Database) (log : List Entry) (b : ℕ) (parts : List (List ℕ)) (c : ℕ) (found : Recovery) : Type 0 where
+pub record IsRestored (format : Format) (run : ℕ) (start : Database) (log : List Entry) (b : ℕ) (parts : List (List ℕ)) (c : ℕ) (found : Recovery) : Type 0 where
   pub point : found.point ≡ recovered_point b (read_files (files_of run parts))
-  pub entries : AreWhole run log c found.entries
+  pub entries : AreWhole format run log c found.entries
   pub pairs : found.pairs ≡ after start (take (max found.entries (token_number found.point log)) log)
   pub fault : (found.fault ≡ None) ⊎ (found.fault ≡ Some Short)
 
--- Every cut of a run's log is recovered from, and only the entry limit refuses.
+-- Every cut of a run's log of either format is recovered from, and only the entry limit refuses.
 abbrev pub EveryCutIsRecovered : Type 0
 EveryCutIsRecovered =
-    (run : ℕ) (start : Database) (log : List Entry) (b : ℕ) (base : List ℕ) (parts : List (List ℕ)) (c : ℕ) → IsLog log → AreFilesOf run start log b base parts →
-    MatchResult (recovery base parts (take c (log_text run log))) (IsRestored run start log b parts c) (λ refusal. refusal ≡ Full)
+    (format : Format) (run : ℕ) (start : Database) (log : List Entry) (b : ℕ) (base : List ℕ) (parts : List (List ℕ)) (c : ℕ) → IsLog log → HasLog format log → AreFilesOf run start log b base parts →
+    MatchResult (recovery base parts (take c (log_text_in format run log))) (IsRestored format run start log b parts c) (λ refusal. refusal ≡ Full)

@@ -15,7 +15,8 @@ use pc_replay::Overlay;
 use pc_types::Refusal;
 use std::alloc::Global;
 
-/// What a base, the parts of its run and the run's log are worth after a crash, whatever bytes they are.
+/// What a base, the parts of its run and the run's log are worth after a crash, whatever bytes they are. Each may be of either
+/// format.
 ///
 /// A part is read if its bytes are a part of the base's run. The recovered point is the greatest one for which the parts
 /// that were read, without a point above it, stand for all points from the base's on; it is the base's where they reach

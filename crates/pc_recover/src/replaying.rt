@@ -8,7 +8,7 @@ ghost use Rattle.pc_recover.specs.Replaying.{counting, found_replay, is_point_to
 
 use pc_log::{LastToken, read_entry, read_header};
 use pc_replay::Overlay;
-use pc_types::{Entry, Phase, Point, Refusal};
+use pc_types::{Entry, Format, Phase, Point, Refusal};
 use std::alloc::{AllocError, Global};
 
 // A log's text begins with so many bytes, which were written before the first entry.
@@ -44,21 +44,22 @@ pub(crate) fn replay_log(
             fault: None,
         });
     }
-    let (of_run, entries) = read_header(bytes)?;
+    let (format, of_run, entries) = read_header(bytes)?;
     if of_run != run {
         return Err(Refusal::OtherRun);
     }
-    replay_entries(alloc, point, database, entries)
+    replay_entries(alloc, format, point, database, entries)
 }
 
-// Reads the entries one after the other, as many as can be read, and applies those that count.
+// Reads the entries one after the other in the log's format, as many as can be read, and applies those that count.
 fn replay_entries(
     alloc: Global,
+    format: Format,
     point: Point,
     database: Overlay,
     bytes: &[u8],
 ) -> Result<Replayed, Refusal>
-    ensures { Gives replay_by result (Ok (found_replay point database (entries_at (length bytes.now) no_token bytes.now))) }
+    ensures { Gives replay_by result (Ok (found_replay point database (entries_at format (length bytes.now) no_token bytes.now))) }
 {
     let mut database = database;
     let mut last = LastToken::none();
@@ -66,7 +67,7 @@ fn replay_entries(
     let mut entries = 0usize;
     let mut is_behind = point == Point(0);
     while !rest.is_empty() {
-        match read_entry(alloc, last, rest) {
+        match read_entry(alloc, format, last, rest) {
             Ok((entry, after)) => {
                 last = last.after(&entry);
                 rest = after;

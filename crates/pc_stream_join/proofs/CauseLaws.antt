@@ -13,6 +13,7 @@ use Rattle.pc_types.specs.Fields.{◌>>=◌, where_true, number_at, sized_key_at
 use Rattle.pc_types.specs.declared.Refusal.{Refusal}
 use Rattle.pc_types.specs.declared.Refusal.TheVariants.{BadLength, KeyOrder, Short, Trailing}
 use Rattle.pc_types.specs.declared.Triple.{Triple}
+use Rattle.pc_types.specs.declared.formats.Format.{Format}
 use Rattle.pc_types.proofs.FieldLaws.{bind_ok, where_ok, ok_is}
 use Rattle.pc_model.specs.Database.{KeysRise, key_cmp}
 use Rattle.pc_model.specs.Points.{AtPoint}
@@ -33,10 +34,10 @@ use Rattle.pc_stream_join.specs.Joining.{IsJoinCause}
 
 -- ---- an entry that is read comes after the last key
 
-key_rises : (last : List ℕ) (count : ℕ) (bytes : List ℕ) (key : List ℕ × List ℕ) → next_key_at last count bytes ≡ Ok key → is_lt (key_cmp last key.0) ≡ true
+key_rises : (format : Format) (last : List ℕ) (count : ℕ) (bytes : List ℕ) (key : List ℕ × List ℕ) → next_key_at format last count bytes ≡ Ok key → is_lt (key_cmp last key.0) ≡ true
 unfolding next_key_at
-key_rises last count bytes key is =
-    let k = bind_ok (sized_key_at Short count bytes) (λ read. where_true (is_lt (key_cmp last read.0)) KeyOrder read) key is in
+key_rises format last count bytes key is =
+    let k = bind_ok (sized_key_at format Short count bytes) (λ read. where_true (is_lt (key_cmp last read.0)) KeyOrder read) key is in
     let w = where_ok (is_lt (key_cmp last k.0.0)) KeyOrder k.0 key k.2 in
     subst (λ (x : List ℕ × List ℕ). is_lt (key_cmp last x.0) ≡ true) w.1 w.0
 
@@ -59,21 +60,21 @@ abbrev Follows : List ℕ → Option Triple → Type 0
 Follows last None = ⊤
 Follows last (Some entry) = is_lt (key_cmp last entry.key) ≡ true
 
-behind_length : (ranges : List Range) (last : List ℕ) (t : Bool) (count : ℕ) (rest : List ℕ) (next : Next) → cond t (Ok (None, rest)) (next_key_at last count rest >>= with_key ranges) ≡ Ok next → Follows last next.0
-behind_length ranges last true count rest next is = subst (λ (x : Next). Follows last x.0) (ok_is (None, rest) next is) tt
-behind_length ranges last false count rest next is =
-    let k = bind_ok (next_key_at last count rest) (with_key ranges) next is in
+behind_length : (format : Format) (ranges : List Range) (last : List ℕ) (t : Bool) (count : ℕ) (rest : List ℕ) (next : Next) → cond t (Ok (None, rest)) (next_key_at format last count rest >>= with_key ranges) ≡ Ok next → Follows last next.0
+behind_length format ranges last true count rest next is = subst (λ (x : Next). Follows last x.0) (ok_is (None, rest) next is) tt
+behind_length format ranges last false count rest next is =
+    let k = bind_ok (next_key_at format last count rest) (with_key ranges) next is in
     let e = bind_ok (entry_at ranges k.0.1) (with_entry k.0.0) next k.2 in
-    subst (λ (x : Next). Follows last x.0) (ok_is (Some (triple k.0.0 e.0.0), e.0.1) next e.2) (key_rises last count rest k.0 k.1)
+    subst (λ (x : Next). Follows last x.0) (ok_is (Some (triple k.0.0 e.0.0), e.0.1) next e.2) (key_rises format last count rest k.0 k.1)
 
-abbrev with_count : List Range → List ℕ → ℕ × List ℕ → Result Next Refusal
-with_count ranges last count = cond (eqb count.0 0) (Ok (None, count.1)) (next_key_at last count.0 count.1 >>= with_key ranges)
+abbrev with_count : Format → List Range → List ℕ → ℕ × List ℕ → Result Next Refusal
+with_count format ranges last count = cond (eqb count.0 0) (Ok (None, count.1)) (next_key_at format last count.0 count.1 >>= with_key ranges)
 
-next_follows : (ranges : List Range) (last bytes : List ℕ) (next : Option Triple) (rest : List ℕ) → next_entry_at ranges last bytes ≡ Ok (next, rest) → Follows last next
+next_follows : (format : Format) (ranges : List Range) (last bytes : List ℕ) (next : Option Triple) (rest : List ℕ) → next_entry_at format ranges last bytes ≡ Ok (next, rest) → Follows last next
 unfolding next_entry_at
-next_follows ranges last bytes next rest is =
-    let n = bind_ok (number_at Short w16 bytes) (with_count ranges last) (next, rest) is in
-    behind_length ranges last (eqb n.0.0 0) n.0.0 n.0.1 (next, rest) n.2
+next_follows format ranges last bytes next rest is =
+    let n = bind_ok (number_at Short w16 bytes) (with_count format ranges last) (next, rest) is in
+    behind_length format ranges last (eqb n.0.0 0) n.0.0 n.0.1 (next, rest) n.2
 
 -- ---- so all that is to come rises
 
@@ -104,20 +105,20 @@ from_rises others count last (Err why) behind follows = tt
 from_rises others count last (Ok (None, rest)) behind follows = end_rises count last (number_at Short w32 rest)
 from_rises others count last (Ok (Some entry, rest)) behind follows = (follows (Some entry) rest refl, behind entry.key rest)
 
-coming_rises : (turns : ℕ) (ranges : List Range) (count : ℕ) (last bytes : List ℕ) → RisesFrom last (entries_of (coming_at turns ranges count last bytes).entries)
+coming_rises : (format : Format) (turns : ℕ) (ranges : List Range) (count : ℕ) (last bytes : List ℕ) → RisesFrom last (entries_of (coming_at format turns ranges count last bytes).entries)
 unfolding coming_at
-coming_rises zero ranges count last bytes = tt
-coming_rises (suc turns) ranges count last bytes = from_rises (coming_at turns ranges (one_more count)) count last (next_entry_at ranges last bytes) (λ key rest. coming_rises turns ranges (one_more count) key rest) (next_follows ranges last bytes)
+coming_rises format zero ranges count last bytes = tt
+coming_rises format (suc turns) ranges count last bytes = from_rises (coming_at format turns ranges (one_more count)) count last (next_entry_at format ranges last bytes) (λ key rest. coming_rises format turns ranges (one_more count) key rest) (next_follows format ranges last bytes)
 
 abbrev Rises : Coming → Type 0
 Rises coming = KeysRise (entries_of coming.entries)
 
-bytes_rise : (ranges : List Range) (count : ℕ) (last bytes : List ℕ) → Rises (coming_of_bytes ranges count last bytes)
-bytes_rise ranges count last bytes = keys_rise last (entries_of (coming_of_bytes ranges count last bytes).entries) (coming_rises (length bytes) ranges count last bytes)
+bytes_rise : (format : Format) (ranges : List Range) (count : ℕ) (last bytes : List ℕ) → Rises (coming_of_bytes format ranges count last bytes)
+bytes_rise format ranges count last bytes = keys_rise last (entries_of (coming_of_bytes format ranges count last bytes).entries) (coming_rises format (length bytes) ranges count last bytes)
 
-part_rises : (r : Result ((ℕ × List Range) × List ℕ) Refusal) → Rises (coming_behind r)
+part_rises : (r : Result ((Format × (ℕ × List Range)) × List ℕ) Refusal) → Rises (coming_behind r)
 part_rises (Err why) = refl
-part_rises (Ok (header, rest)) = bytes_rise header.1 0 [] rest
+part_rises (Ok (header, rest)) = bytes_rise header.0 header.1.1 0 [] rest
 
 some_is : (c d : Coming) → Some c ≡ Some d → Rises c → Rises d
 some_is c d is rises = let same : c ≡ d = cc in subst Rises same rises
@@ -128,10 +129,10 @@ stage_rises Unread (Some bytes) coming is = some_is (part_coming bytes) coming i
 stage_rises (Refused why) known coming is = some_is (refused why) coming is refl
 stage_rises (Among place) known coming is = by place.ended known is
   where
-    by : (t : Bool) (known : Option (List ℕ)) → cond t (Some ended) (option_map (coming_of_bytes place.ranges place.count place.last) known) ≡ Some coming → Rises coming
+    by : (t : Bool) (known : Option (List ℕ)) → cond t (Some ended) (option_map (coming_of_bytes place.format place.ranges place.count place.last) known) ≡ Some coming → Rises coming
     by true known is = some_is ended coming is refl
     by false None is = absurd cc
-    by false (Some bytes) is = some_is (coming_of_bytes place.ranges place.count place.last bytes) coming is (bytes_rise place.ranges place.count place.last bytes)
+    by false (Some bytes) is = some_is (coming_of_bytes place.format place.ranges place.count place.last bytes) coming is (bytes_rise place.format place.ranges place.count place.last bytes)
 
 module _ {R : Type 0} (remaining : R → Option (List ℕ)) where
   all_rise : (inputs : List (PartReader R)) (was : List Coming) → all_known (map (coming_of remaining) inputs) ≡ Some was → AllByRecursion Rises was

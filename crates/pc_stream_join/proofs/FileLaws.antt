@@ -7,6 +7,7 @@ use Rattle.std.proofs.lemmas.List.Folds.{flat_map-map}
 use Rattle.pc_types.specs.Counted.{AppendsBeginning, AppendsPart}
 use Rattle.pc_types.specs.declared.Refusal.TheVariants.{Short}
 use Rattle.pc_types.specs.declared.Triple.{Triple}
+use Rattle.pc_types.specs.declared.formats.Format.TheVariants.{Second}
 use Rattle.pc_model.specs.Database.{KeysRise}
 use Rattle.pc_model.specs.Files.{File}
 use Rattle.pc_model.specs.Ranges.{ranges_of}
@@ -19,7 +20,7 @@ use Rattle.pc_part.specs.Lawful.{HasLimits, IsPartEntry, IsPartFile, IsPoint}
 use Rattle.pc_part.specs.Parts.{AreCovered, AreRanges, RangesFrom, bounds, bounds_of, points_from, points_in, points_of}
 use Rattle.pc_types.specs.Fields.{magic_at}
 use Rattle.pc_part.specs.Reading.{header_at, part_at, part_fields_at}
-use Rattle.pc_part.specs.Texts.{bounds_text, end_text, entry_text, head_text, part_text, range_text, triple_text}
+use Rattle.pc_part.specs.Texts.{bounds_text, end_text, entry_text_in, head_text, part_text, part_text_in, range_text, triple_text}
 use Rattle.pc_part.proofs.CutPartLaws.{part_cut}
 use Rattle.pc_part.proofs.RangePointLaws.{items-points_of, ranges_of-points_of}
 use Rattle.pc_stream_join.specs.Joining.{LeavesShort, file_of}
@@ -70,12 +71,12 @@ module _ (run : ℕ) (ranges : List Range) (given : List Triple) (run_fits : run
   }
 
   four_parts : head_text run (length ranges) ++ (flat_map bounds_text ranges ++ (flat_map triple_text given ++ end_text (length given))) ≡ part_text file
-  unfolding part_text
+  unfolding part_text_in
   four_parts =
       let many : length (bounds_of ranges) ≡ length ranges = length-map ranges bounds in
       let more : length (entries_of given) ≡ length given = length-map given entry_of in
       let a : bounds_of ranges ≡ ranges_of (set.items file.points) = sym (ranges_of-points_of ranges apart) in
-      rw (← a, ← entries_are, many, more, flat_map-map range_text bounds ranges, flat_map-map entry_text entry_of given) refl
+      rw (← a, ← entries_are, many, more, flat_map-map range_text bounds ranges, flat_map-map (entry_text_in Second) entry_of given) refl
 
   abbrev before_end : List ℕ
   before_end = header_text run ranges ++ flat_map triple_text given
@@ -91,7 +92,7 @@ module _ (run : ℕ) (ranges : List Range) (given : List Triple) (run_fits : run
   part_short : (was now : Option (List ℕ)) → AppendsPart was now (part_text file) → LeavesShort was now
   part_short None now part = tt
   part_short (Some was) None part = absurd part
-  part_short (Some was) (Some now) part = (take part.0 (part_text file), part.2, part_cut file part.0 is_file part.1)
+  part_short (Some was) (Some now) part = (take part.0 (part_text file), part.2, part_cut Second file part.0 is_file (λ k d lt. tt) part.1)
 
   pub ends_short : (was now : Option (List ℕ)) → AppendsPart was now (before_end ++ end_text (length given)) → LeavesShort was now
   ends_short was now part = part_short was now (subst (AppendsPart was now) text_is part)

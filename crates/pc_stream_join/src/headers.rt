@@ -9,12 +9,12 @@ ghost use Rattle.pc_stream_join.specs.Headers.{AreApart, AreHeaded, AreReadTo, I
 
 use pc_part::{PartHeader, Range, union_ranges};
 use pc_streams::PartReader;
-use pc_types::Refusal;
+use pc_types::{Format, Refusal};
 use std::alloc::{AllocError, Global};
 use std::io::Read;
 
-/// The header of the join of the inputs: their run, and the points of all as ranges. The header of each input is read where it isn't
-/// yet, in their order, and nothing behind it. Refuses, in this order: with what the first input refuses that does, with `NoFile`
+/// The header of the join of the inputs, which is written in format 02: their run, and the points of all as ranges. The header of each
+/// input, whose text is in either format, is read where it isn't yet, in their order, and nothing behind it. Refuses, in this order: with what the first input refuses that does, with `NoFile`
 /// exactly where there are no inputs, and with `OtherRun` exactly where two are of different runs; and with `OutOfMemory` where
 /// memory ran out.
 pub fn read_headers<R: Read>(
@@ -22,6 +22,7 @@ pub fn read_headers<R: Read>(
     inputs: &mut [PartReader<R>],
 ) -> Result<PartHeader, Refusal>
     ensures headed { IfOk result (λ header. AreHeaded R.remaining header.run header.ranges.items inputs.new) }
+    ensures format { IfOk result (λ header. header.format ≡ Format.Second) }
     ensures stays { OnOk result (StayKnown R.remaining inputs.old inputs.new) }
     ensures cause { IfErr result (IsHeadersFault (map (header_of R.remaining) inputs.old)) }
     ensures stand { AllStand (map standing_of inputs.old) (map standing_of inputs.new) result }
@@ -29,7 +30,12 @@ pub fn read_headers<R: Read>(
     let runs = read_runs(alloc, inputs)?;
     let run = one_run(&runs)?;
     let ranges = unite_all(alloc, inputs)?;
-    Ok(PartHeader { run, ranges })
+    let format = Format::Second;
+    Ok(PartHeader {
+        format,
+        run,
+        ranges,
+    })
 }
 
 // The run of each input.

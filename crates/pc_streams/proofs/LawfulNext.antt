@@ -5,6 +5,7 @@ use Rattle.std.specs.Int.{w16, w32}
 use Rattle.pc_types.specs.declared.Refusal.{Refusal}
 use Rattle.pc_types.specs.declared.Refusal.TheVariants.{Short, KeyOrder, NotCovered}
 use Rattle.pc_types.specs.declared.Triple.{Triple}
+use Rattle.pc_types.specs.declared.formats.Format.{Format}
 use Rattle.pc_types.specs.Fields.{◌>>=◌, where_true, number_at, sized_key_at, content_at}
 use Rattle.pc_types.proofs.FieldLaws.{bind_ok, where_ok, ok_is}
 use Rattle.pc_model.specs.Database.{key_cmp}
@@ -14,10 +15,10 @@ use Rattle.pc_part.specs.Parts.{covers}
 use Rattle.pc_part.specs.Reading.{next_key_at, point_at, entry_at, next_entry_at}
 use Rattle.pc_streams.specs.Places.{IsNextEntry, IsLawfulNext}
 
-key_rises : (last : List ℕ) (count : ℕ) (bytes : List ℕ) (key : List ℕ × List ℕ) → next_key_at last count bytes ≡ Ok key → is_lt (key_cmp last key.0) ≡ true
+key_rises : (format : Format) (last : List ℕ) (count : ℕ) (bytes : List ℕ) (key : List ℕ × List ℕ) → next_key_at format last count bytes ≡ Ok key → is_lt (key_cmp last key.0) ≡ true
 unfolding next_key_at
-key_rises last count bytes key is =
-    let k = bind_ok (sized_key_at Short count bytes) (λ read. where_true (is_lt (key_cmp last read.0)) KeyOrder read) key is in
+key_rises format last count bytes key is =
+    let k = bind_ok (sized_key_at format Short count bytes) (λ read. where_true (is_lt (key_cmp last read.0)) KeyOrder read) key is in
     let w = where_ok (is_lt (key_cmp last k.0.0)) KeyOrder k.0 key k.2 in
     subst (λ (x : List ℕ × List ℕ). is_lt (key_cmp last x.0) ≡ true) w.1 w.0
 
@@ -57,19 +58,19 @@ abbrev with_key : List Range → List ℕ × List ℕ → Result Next Refusal
 with_key ranges key = entry_at ranges key.1 >>= with_entry key.0
 
 -- what stands behind a length
-behind_length : (ranges : List Range) (last : List ℕ) (t : Bool) (count : ℕ) (rest : List ℕ) (next : Next) → cond t (Ok (None, rest)) (next_key_at last count rest >>= with_key ranges) ≡ Ok next → IsLawfulNext ranges last (Ok next.0)
-behind_length ranges last true count rest next is = subst (λ (x : Next). IsLawfulNext ranges last (Ok x.0)) (ok_is (None, rest) next is) tt
-behind_length ranges last false count rest next is =
-    let k = bind_ok (next_key_at last count rest) (with_key ranges) next is in
+behind_length : (format : Format) (ranges : List Range) (last : List ℕ) (t : Bool) (count : ℕ) (rest : List ℕ) (next : Next) → cond t (Ok (None, rest)) (next_key_at format last count rest >>= with_key ranges) ≡ Ok next → IsLawfulNext ranges last (Ok next.0)
+behind_length format ranges last true count rest next is = subst (λ (x : Next). IsLawfulNext ranges last (Ok x.0)) (ok_is (None, rest) next is) tt
+behind_length format ranges last false count rest next is =
+    let k = bind_ok (next_key_at format last count rest) (with_key ranges) next is in
     let e = bind_ok (entry_at ranges k.0.1) (with_entry k.0.0) next k.2 in
-    let entry : IsNextEntry ranges last (triple k.0.0 e.0.0) = record { rises = key_rises last count rest k.0 k.1; covered = entry_covered ranges k.0.1 e.0 e.1 } in
+    let entry : IsNextEntry ranges last (triple k.0.0 e.0.0) = record { rises = key_rises format last count rest k.0 k.1; covered = entry_covered ranges k.0.1 e.0 e.1 } in
     subst (λ (x : Next). IsLawfulNext ranges last (Ok x.0)) (ok_is (Some (triple k.0.0 e.0.0), e.0.1) next e.2) entry
 
-abbrev with_count : List Range → List ℕ → ℕ × List ℕ → Result Next Refusal
-with_count ranges last count = cond (eqb count.0 0) (Ok (None, count.1)) (next_key_at last count.0 count.1 >>= with_key ranges)
+abbrev with_count : Format → List Range → List ℕ → ℕ × List ℕ → Result Next Refusal
+with_count format ranges last count = cond (eqb count.0 0) (Ok (None, count.1)) (next_key_at format last count.0 count.1 >>= with_key ranges)
 
-pub next_lawful : (ranges : List Range) (last bytes : List ℕ) (next : Option Triple) (rest : List ℕ) → next_entry_at ranges last bytes ≡ Ok (next, rest) → IsLawfulNext ranges last (Ok next)
+pub next_lawful : (format : Format) (ranges : List Range) (last bytes : List ℕ) (next : Option Triple) (rest : List ℕ) → next_entry_at format ranges last bytes ≡ Ok (next, rest) → IsLawfulNext ranges last (Ok next)
 unfolding next_entry_at
-next_lawful ranges last bytes next rest is =
-    let n = bind_ok (number_at Short w16 bytes) (with_count ranges last) (next, rest) is in
-    behind_length ranges last (eqb n.0.0 0) n.0.0 n.0.1 (next, rest) n.2
+next_lawful format ranges last bytes next rest is =
+    let n = bind_ok (number_at Short w16 bytes) (with_count format ranges last) (next, rest) is in
+    behind_length format ranges last (eqb n.0.0 0) n.0.0 n.0.1 (next, rest) n.2

@@ -28,16 +28,16 @@ handed_on {X} P e (Err f) given h = subst (λ (r : Refusal). P (Err r)) (sym giv
 
 module _ (place : Place) (going : place.ended ≡ false) where
   abbrev coming : Option (List ℕ) → Option Coming
-  coming known = option_map (coming_of_bytes place.ranges place.count place.last) known
+  coming known = option_map (coming_of_bytes place.format place.ranges place.count place.last) known
 
   still : (known : Option (List ℕ)) → place_coming place known ≡ coming known
   still known = ap (λ (t : _). cond t (Some ended) (coming known)) going
 
   -- the next step is what was read
-  step_is : (xs : List ℕ) (r : Result (Option Triple × List ℕ) Refusal) → next_entry_at place.ranges place.last xs ≡ r → coming_of_bytes place.ranges place.count place.last xs ≡ coming_from (coming_of_bytes place.ranges (one_more place.count)) place.count r
-  step_is xs r is = coming_is place.ranges place.count place.last xs ∙ ap (coming_from (coming_of_bytes place.ranges (one_more place.count)) place.count) is
+  step_is : (xs : List ℕ) (r : Result (Option Triple × List ℕ) Refusal) → next_entry_at place.format place.ranges place.last xs ≡ r → coming_of_bytes place.format place.ranges place.count place.last xs ≡ coming_from (coming_of_bytes place.format place.ranges (one_more place.count)) place.count r
+  step_is xs r is = coming_is place.format place.ranges place.count place.last xs ∙ ap (coming_from (coming_of_bytes place.format place.ranges (one_more place.count)) place.count) is
 
-  refused_known : (old mid : Option (List ℕ)) (now : Option Coming) (e : Refusal) → Draws {X = Option Triple} (λ x. x) old mid (Err e) (next_entry_at place.ranges place.last) → GivesNext (coming old) now (Err e)
+  refused_known : (old mid : Option (List ℕ)) (now : Option Coming) (e : Refusal) → Draws {X = Option Triple} (λ x. x) old mid (Err e) (next_entry_at place.format place.ranges place.last) → GivesNext (coming old) now (Err e)
   refused_known None mid now e drawn = tt
   refused_known (Some xs) None now e drawn = absurd drawn
   refused_known (Some xs) (Some ys) now e drawn = by (cause_of e)
@@ -48,10 +48,10 @@ module _ (place : Place) (going : place.ended ≡ false) where
       by (inr (inr other)) = inl (step_is xs (Err e) (drawn.1 other.0 other.1))
 
   -- the entry was refused
-  pub refused_given : (old mid : Option (List ℕ)) (now : Option Coming) (e : Refusal) (result : Result (Option Triple) Refusal) → Draws {X = Option Triple} (λ x. x) old mid (Err e) (next_entry_at place.ranges place.last) → IsErr result × IsErrAnd result (λ f. f ≡ e) → GivesNext (place_coming place old) now result
+  pub refused_given : (old mid : Option (List ℕ)) (now : Option Coming) (e : Refusal) (result : Result (Option Triple) Refusal) → Draws {X = Option Triple} (λ x. x) old mid (Err e) (next_entry_at place.format place.ranges place.last) → IsErr result × IsErrAnd result (λ f. f ≡ e) → GivesNext (place_coming place old) now result
   refused_given old mid now e result drawn given = subst (λ (c : Option Coming). GivesNext c now result) (sym (still old)) (handed_on (λ r. GivesNext (coming old) now r) e result given (refused_known old mid now e drawn))
 
-  some_known : (old mid : Option (List ℕ)) (entry : Triple) → Draws (λ (x : Option Triple). x) old mid (Ok (Some entry)) (next_entry_at place.ranges place.last) → GivesNext (coming old) (option_map (coming_of_bytes place.ranges (one_more place.count) entry.key) mid) (Ok (Some entry))
+  some_known : (old mid : Option (List ℕ)) (entry : Triple) → Draws (λ (x : Option Triple). x) old mid (Ok (Some entry)) (next_entry_at place.format place.ranges place.last) → GivesNext (coming old) (option_map (coming_of_bytes place.format place.ranges (one_more place.count) entry.key) mid) (Ok (Some entry))
   some_known None mid entry drawn = tt
   some_known (Some xs) None entry drawn = absurd drawn
   some_known (Some xs) (Some ys) entry drawn = step_is xs (Ok (Some entry, ys)) drawn
@@ -60,32 +60,32 @@ module _ (place : Place) (going : place.ended ≡ false) where
   passed entry = record place { last = entry.key; count = one_more place.count }
 
   -- an entry is given, and the place is behind it
-  pub some_given : (old mid : Option (List ℕ)) (entry : Triple) (now : Place) → now ≡ passed entry → Draws (λ (x : Option Triple). x) old mid (Ok (Some entry)) (next_entry_at place.ranges place.last) → GivesNext (place_coming place old) (place_coming now mid) (Ok (Some entry))
+  pub some_given : (old mid : Option (List ℕ)) (entry : Triple) (now : Place) → now ≡ passed entry → Draws (λ (x : Option Triple). x) old mid (Ok (Some entry)) (next_entry_at place.format place.ranges place.last) → GivesNext (place_coming place old) (place_coming now mid) (Ok (Some entry))
   some_given old mid entry now is drawn =
-      let left : place_coming now mid ≡ option_map (coming_of_bytes place.ranges (one_more place.count) entry.key) mid =
-      ap (λ (p : Place). place_coming p mid) is ∙ ap (λ (t : _). cond t (Some ended) (option_map (coming_of_bytes place.ranges (one_more place.count) entry.key) mid)) going in
+      let left : place_coming now mid ≡ option_map (coming_of_bytes place.format place.ranges (one_more place.count) entry.key) mid =
+      ap (λ (p : Place). place_coming p mid) is ∙ ap (λ (t : _). cond t (Some ended) (option_map (coming_of_bytes place.format place.ranges (one_more place.count) entry.key) mid)) going in
       subst (λ (c : Option Coming). GivesNext c (place_coming now mid) (Ok (Some entry))) (sym (still old)) (subst (λ (c : Option Coming). GivesNext (coming old) c (Ok (Some entry))) (sym left) (some_known old mid entry drawn))
 
   abbrev end_coming : Option (List ℕ) → Option Coming
   end_coming known = option_map (λ bytes. part_end_at place.count (number_at Short w32 bytes)) known
 
-  end_known : (old mid : Option (List ℕ)) → Draws (λ (x : Option Triple). x) old mid (Ok None) (next_entry_at place.ranges place.last) → EndsAs (end_coming mid) (Ok tt) → GivesNext (coming old) (Some ended) (Ok None)
+  end_known : (old mid : Option (List ℕ)) → Draws (λ (x : Option Triple). x) old mid (Ok None) (next_entry_at place.format place.ranges place.last) → EndsAs (end_coming mid) (Ok tt) → GivesNext (coming old) (Some ended) (Ok None)
   end_known None mid drawn ends = tt
   end_known (Some xs) None drawn ends = absurd drawn
   end_known (Some xs) (Some ys) drawn ends = (step_is xs (Ok (None, ys)) drawn ∙ ends, refl)
 
   -- the end was read
-  pub end_given : (old mid last : Option (List ℕ)) (now : Place) → now.ended ≡ true → Draws (λ (x : Option Triple). x) old mid (Ok None) (next_entry_at place.ranges place.last) → EndsAs (end_coming mid) (Ok tt) → GivesNext (place_coming place old) (place_coming now last) (Ok None)
+  pub end_given : (old mid last : Option (List ℕ)) (now : Place) → now.ended ≡ true → Draws (λ (x : Option Triple). x) old mid (Ok None) (next_entry_at place.format place.ranges place.last) → EndsAs (end_coming mid) (Ok tt) → GivesNext (place_coming place old) (place_coming now last) (Ok None)
   end_given old mid last now is drawn ends =
-      let some : place_coming now last ≡ Some ended = ap (λ (t : _). cond t (Some ended) (option_map (coming_of_bytes now.ranges now.count now.last) last)) is in
+      let some : place_coming now last ≡ Some ended = ap (λ (t : _). cond t (Some ended) (option_map (coming_of_bytes now.format now.ranges now.count now.last) last)) is in
       subst (λ (c : Option Coming). GivesNext c (place_coming now last) (Ok None)) (sym (still old)) (subst (λ (c : Option Coming). GivesNext (coming old) c (Ok None)) (sym some) (end_known old mid drawn ends))
 
-  end_refused_known : (old mid : Option (List ℕ)) (now : Option Coming) (e : Refusal) → Draws (λ (x : Option Triple). x) old mid (Ok None) (next_entry_at place.ranges place.last) → EndsAs (end_coming mid) (Err e) → GivesNext (coming old) now (Err e)
+  end_refused_known : (old mid : Option (List ℕ)) (now : Option Coming) (e : Refusal) → Draws (λ (x : Option Triple). x) old mid (Ok None) (next_entry_at place.format place.ranges place.last) → EndsAs (end_coming mid) (Err e) → GivesNext (coming old) now (Err e)
   end_refused_known None mid now e drawn ends = tt
   end_refused_known (Some xs) None now e drawn ends = absurd drawn
   end_refused_known (Some xs) (Some ys) now e drawn (inl fault) = inl (step_is xs (Ok (None, ys)) drawn ∙ fault)
   end_refused_known (Some xs) (Some ys) now e drawn (inr failed) = inr failed
 
   -- the end was refused
-  pub end_refused : (old mid : Option (List ℕ)) (now : Option Coming) (e : Refusal) (result : Result (Option Triple) Refusal) → Draws (λ (x : Option Triple). x) old mid (Ok None) (next_entry_at place.ranges place.last) → EndsAs (end_coming mid) (Err e) → IsErr result × IsErrAnd result (λ f. f ≡ e) → GivesNext (place_coming place old) now result
+  pub end_refused : (old mid : Option (List ℕ)) (now : Option Coming) (e : Refusal) (result : Result (Option Triple) Refusal) → Draws (λ (x : Option Triple). x) old mid (Ok None) (next_entry_at place.format place.ranges place.last) → EndsAs (end_coming mid) (Err e) → IsErr result × IsErrAnd result (λ f. f ≡ e) → GivesNext (place_coming place old) now result
   end_refused old mid now e result drawn ends given = subst (λ (c : Option Coming). GivesNext c now result) (sym (still old)) (handed_on (λ r. GivesNext (coming old) now r) e result given (end_refused_known old mid now e drawn ends))

@@ -12,6 +12,7 @@ use Rattle.pc_types.specs.Fields.{◌>>=◌, where_true, number_at}
 use Rattle.pc_types.specs.declared.Refusal.{Refusal}
 use Rattle.pc_types.specs.declared.Refusal.TheVariants.{Short, BadLength, Trailing}
 use Rattle.pc_types.specs.declared.Triple.{Triple}
+use Rattle.pc_types.specs.declared.formats.Format.{Format}
 use Rattle.pc_types.proofs.FieldLaws.{IsBytes-drop, wide32, number_takes}
 use Rattle.pc_part.specs.declared.ranges.Range.{Range}
 use Rattle.pc_part.specs.Reading.{next_entry_at, entries_from, entries_at, header_at, PartFields, part_fields_at, part_of_fields}
@@ -78,43 +79,43 @@ entry_in_front header front entry (Err why) = refl
 entry_in_front header front entry (Ok behind) = ap (λ (es : List Triple). number_at Short w32 behind.1 >>= after_total header es) (sym (append_assoc front (entry ∷ []) behind.0))
 
 -- what is read of entries with some in front, and what is to come of them
-abbrev AreAlike : ℕ → ℕ × List Range → List Triple → List ℕ → List ℕ → Type 0
-AreAlike turns header front last bytes = (entries_at turns header.1 last bytes >>= after_front header front) ≡ with_coming header front (coming_at turns header.1 (capped (length front)) last bytes)
+abbrev AreAlike : Format → ℕ → ℕ × List Range → List Triple → List ℕ → List ℕ → Type 0
+AreAlike format turns header front last bytes = (entries_at format turns header.1 last bytes >>= after_front header front) ≡ with_coming header front (coming_at format turns header.1 (capped (length front)) last bytes)
 
 -- one step
-step_alike : (turns : ℕ) (header : ℕ × List Range) (front : List Triple) (last bytes : List ℕ) → IsBytes bytes → ((more : List Triple) (key rest : List ℕ) → IsBytes rest → AreAlike turns header more key rest)
-    → (r : Result (Option Triple × List ℕ) Refusal) → next_entry_at header.1 last bytes ≡ r
-    → ((r >>= λ next. entries_from (entries_at turns header.1) next.0 next.1) >>= after_front header front) ≡ with_coming header front (coming_from (coming_at turns header.1 (one_more (capped (length front)))) (capped (length front)) r)
-step_alike turns header front last bytes fits again (Err why) is = refl
-step_alike turns header front last bytes fits again (Ok (None, rest)) is =
-    let back = (next_entry_local header.1 last).back bytes None rest is in
+step_alike : (format : Format) (turns : ℕ) (header : ℕ × List Range) (front : List Triple) (last bytes : List ℕ) → IsBytes bytes → ((more : List Triple) (key rest : List ℕ) → IsBytes rest → AreAlike format turns header more key rest)
+    → (r : Result (Option Triple × List ℕ) Refusal) → next_entry_at format header.1 last bytes ≡ r
+    → ((r >>= λ next. entries_from (entries_at format turns header.1) next.0 next.1) >>= after_front header front) ≡ with_coming header front (coming_from (coming_at format turns header.1 (one_more (capped (length front)))) (capped (length front)) r)
+step_alike format turns header front last bytes fits again (Err why) is = refl
+step_alike format turns header front last bytes fits again (Ok (None, rest)) is =
+    let back = (next_entry_local format header.1 last).back bytes None rest is in
     let left = bytes_behind bytes back.0 rest back.1 fits in
     end_is header front (number_at Short w32 rest) (λ total read. (number_takes Short w32 (2 ^ 32) wide32 rest total.0 total.1 left read).1)
-step_alike turns header front last bytes fits again (Ok (Some entry, rest)) is =
-    let back = (next_entry_local header.1 last).back bytes (Some entry) rest is in
+step_alike format turns header front last bytes fits again (Ok (Some entry, rest)) is =
+    let back = (next_entry_local format header.1 last).back bytes (Some entry) rest is in
     let left = bytes_behind bytes back.0 rest back.1 fits in
     let many : length (front ++ entry ∷ []) ≡ suc (length front) = omega (arith, length-append front (entry ∷ [])) in
-    let coming = coming_at turns header.1 (one_more (capped (length front))) entry.key rest in
-    entry_in_front header front entry (entries_at turns header.1 entry.key rest)
+    let coming = coming_at format turns header.1 (one_more (capped (length front))) entry.key rest in
+    entry_in_front header front entry (entries_at format turns header.1 entry.key rest)
     ∙ again (front ++ entry ∷ []) entry.key rest left
-    ∙ ap (λ (count : ℕ). with_coming header (front ++ entry ∷ []) (coming_at turns header.1 count entry.key rest)) (sym (one_more_is (length front) (length (front ++ entry ∷ [])) many))
+    ∙ ap (λ (count : ℕ). with_coming header (front ++ entry ∷ []) (coming_at format turns header.1 count entry.key rest)) (sym (one_more_is (length front) (length (front ++ entry ∷ [])) many))
     ∙ ap (λ (es : List Triple). fields_of header es coming.fault) (append_assoc front (entry ∷ []) coming.entries)
 
-entries_come : (turns : ℕ) (header : ℕ × List Range) (front : List Triple) (last bytes : List ℕ) → IsBytes bytes → AreAlike turns header front last bytes
+entries_come : (format : Format) (turns : ℕ) (header : ℕ × List Range) (front : List Triple) (last bytes : List ℕ) → IsBytes bytes → AreAlike format turns header front last bytes
 unfolding entries_at coming_at
-entries_come zero header front last bytes fits = refl
-entries_come (suc turns) header front last bytes fits = step_alike turns header front last bytes fits (entries_come turns header) (next_entry_at header.1 last bytes) refl
+entries_come format zero header front last bytes fits = refl
+entries_come format (suc turns) header front last bytes fits = step_alike format turns header front last bytes fits (entries_come format turns header) (next_entry_at format header.1 last bytes) refl
 
 pub fields_come : FieldsCome
 unfolding part_fields_at
 fields_come bytes all = by (header_at bytes) refl
   where
-    by : (r : Result ((ℕ × List Range) × List ℕ) Refusal) → header_at bytes ≡ r
-        → (r >>= λ header. (entries_at (length header.1) header.0.1 [] header.1 >>= after_front header.0 [])) ≡ ((r >>= λ header. Ok header.0) >>= λ header. fields_coming header (coming_behind r))
+    by : (r : Result ((Format × (ℕ × List Range)) × List ℕ) Refusal) → header_at bytes ≡ r
+        → (r >>= λ header. (entries_at header.0.0 (length header.1) header.0.1.1 [] header.1 >>= after_front header.0.1 [])) ≡ ((r >>= λ header. Ok header.0.1) >>= λ header. fields_coming header (coming_behind r))
     by (Err why) is = refl
     by (Ok (header, rest)) is =
         let back = header_local.back bytes header rest is in
-        entries_come (length rest) header [] [] rest (bytes_behind bytes back.0 rest back.1 (bytes_of bytes all))
+        entries_come header.0 (length rest) header.1 [] [] rest (bytes_behind bytes back.0 rest back.1 (bytes_of bytes all))
 
 regroup : {A B C : Type 0} (r : Result A Refusal) (f : A → Result B Refusal) (g : B → Result C Refusal) → ((r >>= f) >>= g) ≡ (r >>= λ x. (f x >>= g))
 regroup (Ok x) f g = refl

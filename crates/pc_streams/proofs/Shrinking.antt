@@ -1,5 +1,5 @@
 -- What is read of the front of bytes leaves no more of them than there were; an entry leaves fewer.
-use Rattle.std.proofs.Common.{◌≡◌, ℕ, zero, suc, ◌<◌, ◌≤◌, Bool, true, false, cond, eqb, ltb, List, [], ◌∷◌, length, take, drop, Option, Some, None, Result, Ok, Err, refl, subst, arith}
+use Rattle.std.proofs.Common.{◌≡◌, ℕ, zero, suc, ◌+◌, ◌<◌, ◌≤◌, Bool, true, false, cond, eqb, ltb, List, [], ◌∷◌, length, take, drop, Option, Some, None, Result, Ok, Err, refl, subst, arith}
 use Rattle.std.proofs.lemmas.List.{length-drop}
 use Rattle.std.proofs.lemmas.Bool.{ltb-false}
 use Rattle.std.specs.Prelude.{nat_le, ◌&&◌, ⊤}
@@ -8,7 +8,8 @@ use Rattle.std.specs.Int.{w16, w32, Width, byte_len, from_be_bytes}
 use Rattle.pc_types.specs.declared.Refusal.{Refusal}
 use Rattle.pc_types.specs.declared.Refusal.TheVariants.{Short, BadLength, KeyOrder, NotCovered}
 use Rattle.pc_types.specs.declared.Triple.{Triple}
-use Rattle.pc_types.specs.Fields.{◌>>=◌, where_true, bytes_at, number_at, sized_key_at, value_at, content_at}
+use Rattle.pc_types.specs.declared.formats.Format.{Format}
+use Rattle.pc_types.specs.Fields.{◌>>=◌, where_true, bytes_at, number_at, space_bytes, key_behind, sized_key_at, value_at, content_at}
 use Rattle.pc_model.specs.Database.{key_cmp}
 use Rattle.pc_part.specs.declared.ranges.Range.{Range}
 use Rattle.pc_part.specs.Parts.{covers}
@@ -46,9 +47,22 @@ leaves_lawful : (test : Bool) (count : ℕ) (bytes : List ℕ) → Leaves (lengt
 leaves_lawful true count bytes = leaves_bytes count bytes
 leaves_lawful false count bytes = tt
 
-leaves_key : (last : List ℕ) (count : ℕ) (bytes : List ℕ) → Leaves (length bytes) (next_key_at last count bytes)
-unfolding next_key_at sized_key_at
-leaves_key last count bytes = leaves_then (length bytes) _ _ (leaves_lawful (nat_le 1 count && nat_le count 255) count bytes) (λ key. leaves_where (is_lt (key_cmp last key.0)) KeyOrder key.0 key.1)
+-- behind a test
+leaves_tested : {A X : Type 0} (n : ℕ) (test : Bool) (fault : Refusal) (x : A) (f : A → Result (X × List ℕ) Refusal) → Leaves n (f x) → Leaves n (where_true test fault x >>= f)
+leaves_tested n true fault x f h = h
+leaves_tested n false fault x f h = tt
+
+abbrev with_space : Format → List ℕ × List ℕ → Result (List ℕ × List ℕ) Refusal
+with_space format text = Ok (key_behind format text.0, text.1)
+
+leaves_sized_key : (format : Format) (count : ℕ) (bytes : List ℕ) → Leaves (length bytes) (sized_key_at format Short count bytes)
+unfolding sized_key_at
+leaves_sized_key format count bytes = leaves_tested (length bytes) (nat_le 1 count && nat_le count 255) BadLength count (λ lawful. bytes_at Short (lawful + space_bytes format) bytes >>= with_space format)
+    (leaves_then (length bytes) _ (with_space format) (leaves_bytes (count + space_bytes format) bytes) (λ text. omega arith))
+
+leaves_key : (format : Format) (last : List ℕ) (count : ℕ) (bytes : List ℕ) → Leaves (length bytes) (next_key_at format last count bytes)
+unfolding next_key_at
+leaves_key format last count bytes = leaves_then (length bytes) _ _ (leaves_sized_key format count bytes) (λ key. leaves_where (is_lt (key_cmp last key.0)) KeyOrder key.0 key.1)
 
 leaves_value : (bytes : List ℕ) → Leaves (length bytes) (value_at Short bytes)
 unfolding value_at
@@ -72,9 +86,9 @@ abbrev Next : Type 0
 Next = Option Triple × List ℕ
 
 -- behind a length
-leaves_behind : (ranges : List Range) (last : List ℕ) (t : Bool) (count : ℕ) (rest : List ℕ) → Leaves {X = Option Triple} (length rest) (cond t (Ok (None, rest)) (next_key_at last count rest >>= λ key. entry_at ranges key.1 >>= λ there. Ok (Some (record { key = key.0; point = there.0.point; content = there.0.content }), there.1)))
-leaves_behind ranges last true count rest = omega arith
-leaves_behind ranges last false count rest = leaves_then (length rest) _ _ (leaves_key last count rest) (λ key. leaves_then (length key.1) _ _ (leaves_entry ranges key.1) (λ there. omega arith))
+leaves_behind : (format : Format) (ranges : List Range) (last : List ℕ) (t : Bool) (count : ℕ) (rest : List ℕ) → Leaves {X = Option Triple} (length rest) (cond t (Ok (None, rest)) (next_key_at format last count rest >>= λ key. entry_at ranges key.1 >>= λ there. Ok (Some (record { key = key.0; point = there.0.point; content = there.0.content }), there.1)))
+leaves_behind format ranges last true count rest = omega arith
+leaves_behind format ranges last false count rest = leaves_then (length rest) _ _ (leaves_key format last count rest) (λ key. leaves_then (length key.1) _ _ (leaves_entry ranges key.1) (λ there. omega arith))
 
 -- the length is there, and its bytes are no more left
 length_first : {X : Type 0} (bytes : List ℕ) (f : ℕ × List ℕ → Result (X × List ℕ) Refusal) (x : X) (rest : List ℕ) → ((count : ℕ × List ℕ) → Leaves (length count.1) (f count)) → (number_at Short w16 bytes >>= f) ≡ Ok (x, rest) → length rest < length bytes
@@ -87,6 +101,6 @@ length_first {X} bytes f x rest behind is = by (ltb (length bytes) 2) (from_be_b
         let two : 2 ≤ length bytes = long refl in
         omega (arith, length-drop 2 bytes)
 
-pub next_shrinks : (ranges : List Range) (last bytes : List ℕ) (next : Option Triple) (rest : List ℕ) → next_entry_at ranges last bytes ≡ Ok (next, rest) → length rest < length bytes
+pub next_shrinks : (format : Format) (ranges : List Range) (last bytes : List ℕ) (next : Option Triple) (rest : List ℕ) → next_entry_at format ranges last bytes ≡ Ok (next, rest) → length rest < length bytes
 unfolding next_entry_at
-next_shrinks ranges last bytes next rest is = length_first bytes _ next rest (λ count. leaves_behind ranges last (eqb count.0 0) count.0 count.1) is
+next_shrinks format ranges last bytes next rest is = length_first bytes _ next rest (λ count. leaves_behind format ranges last (eqb count.0 0) count.0 count.1) is

@@ -6,9 +6,11 @@ use Rattle.std.specs.Cmp.Lexicographic.{pointwise}
 use Rattle.std.specs.Int.{w16, w32, w64, Width, byte_len, from_be_bytes}
 use Rattle.pc_types.specs.declared.Refusal.{Refusal}
 use Rattle.pc_types.specs.declared.Refusal.TheVariants.{OutOfMemory, Device, Short, BadMagic, BadRanges, BadLength, KeyOrder, NotCovered}
-use Rattle.pc_types.specs.Fields.{◌>>=◌, where_true, bytes_at, number_at, magic_at, sized_key_at, value_at, content_at}
+use Rattle.pc_types.specs.Fields.{◌>>=◌, where_true, bytes_at, number_at, space_bytes, format_told, magic_at, sized_key_at, value_at, content_at}
 use Rattle.pc_model.specs.Database.{key_cmp}
 use Rattle.pc_types.specs.declared.Triple.{Triple}
+use Rattle.pc_types.specs.declared.formats.Format.{Format}
+use Rattle.pc_types.specs.declared.formats.Format.TheVariants.{First, Second}
 use Rattle.pc_part.specs.declared.ranges.Range.{Range}
 use Rattle.pc_part.specs.Parts.{covers}
 use Rattle.pc_part.specs.Reading.{items_at, range_at, ranges_at, next_key_at, point_at, entry_at, next_entry_at, header_at}
@@ -37,9 +39,9 @@ spared_number w bytes = spared_counted (ltb (length bytes) (byte_len w)) (from_b
 spared_bytes : (count : ℕ) (bytes : List ℕ) → IsSpared (bytes_at Short count bytes)
 spared_bytes count bytes = spared_counted (ltb (length bytes) count) (take count bytes, drop count bytes)
 
-spared_key : (last : List ℕ) (count : ℕ) (bytes : List ℕ) → IsSpared (next_key_at last count bytes)
+spared_key : (format : Format) (last : List ℕ) (count : ℕ) (bytes : List ℕ) → IsSpared (next_key_at format last count bytes)
 unfolding next_key_at sized_key_at
-spared_key last count bytes = spared_then _ _ (spared_then _ _ (spared_where (nat_le 1 count && nat_le count 255) BadLength count (λ bad. cc)) (λ lawful. spared_bytes lawful bytes)) (λ key. spared_where (is_lt (key_cmp last key.0)) KeyOrder key (λ bad. cc))
+spared_key format last count bytes = spared_then _ _ (spared_then _ _ (spared_where (nat_le 1 count && nat_le count 255) BadLength count (λ bad. cc)) (λ lawful. spared_then _ _ (spared_bytes (lawful + space_bytes format) bytes) (λ text. tt))) (λ key. spared_where (is_lt (key_cmp last key.0)) KeyOrder key (λ bad. cc))
 
 spared_value : (bytes : List ℕ) → IsSpared (value_at Short bytes)
 unfolding value_at
@@ -56,13 +58,13 @@ spared_entry : (ranges : List Range) (bytes : List ℕ) → IsSpared (entry_at r
 unfolding entry_at point_at
 spared_entry ranges bytes = spared_then _ _ (spared_then _ _ (spared_number w32 bytes) (λ point. spared_where (covers ranges point.0) NotCovered point (λ bad. cc))) (λ point. spared_then _ _ (spared_content point.1) (λ content. tt))
 
-pub spared_next : (ranges : List Range) (last bytes : List ℕ) → IsSpared (next_entry_at ranges last bytes)
+pub spared_next : (format : Format) (ranges : List Range) (last bytes : List ℕ) → IsSpared (next_entry_at format ranges last bytes)
 unfolding next_entry_at
-spared_next ranges last bytes = spared_then _ _ (spared_number w16 bytes) (λ count. by (eqb count.0 0) count.0 count.1)
+spared_next format ranges last bytes = spared_then _ _ (spared_number w16 bytes) (λ count. by (eqb count.0 0) count.0 count.1)
   where
-    by : (t : Bool) (count : ℕ) (rest : List ℕ) → IsSpared {X = Option Triple × List ℕ} (cond t (Ok (None, rest)) (next_key_at last count rest >>= λ key. entry_at ranges key.1 >>= λ there. Ok (Some (record { key = key.0; point = there.0.point; content = there.0.content }), there.1)))
+    by : (t : Bool) (count : ℕ) (rest : List ℕ) → IsSpared {X = Option Triple × List ℕ} (cond t (Ok (None, rest)) (next_key_at format last count rest >>= λ key. entry_at ranges key.1 >>= λ there. Ok (Some (record { key = key.0; point = there.0.point; content = there.0.content }), there.1)))
     by true count rest = tt
-    by false count rest = spared_then _ _ (spared_key last count rest) (λ key. spared_then _ _ (spared_entry ranges key.1) (λ there. tt))
+    by false count rest = spared_then _ _ (spared_key format last count rest) (λ key. spared_then _ _ (spared_entry ranges key.1) (λ there. tt))
 
 is_spared : {X : Type 0} (r : Result X Refusal) (e : Refusal) → IsSpared r → r ≡ Err e → e ≢ Device
 is_spared (Ok x) e h is = cc
@@ -74,9 +76,16 @@ spared_by r why h is = λ device. is_spared r why h (is (λ memory. let bad : Ou
 
 -- ---- the header
 
-spared_magic : (magic bytes : List ℕ) → IsSpared (magic_at magic bytes)
+spared_told : (first second magic : List ℕ) → IsSpared (format_told first second magic)
+spared_told first second magic = by (pointwise nat_eq magic second)
+  where
+    by : (t : Bool) → IsSpared {X = Format} (cond t (Ok Second) (where_true (pointwise nat_eq magic first) BadMagic First))
+    by true = tt
+    by false = spared_where (pointwise nat_eq magic first) BadMagic First (λ bad. cc)
+
+spared_magic : (first second bytes : List ℕ) → IsSpared (magic_at first second bytes)
 unfolding magic_at
-spared_magic magic bytes = spared_then _ _ (spared_bytes 8 bytes) (λ first. spared_where (pointwise nat_eq first.0 magic) BadMagic first.1 (λ bad. cc))
+spared_magic first second bytes = spared_then _ _ (spared_bytes 8 bytes) (λ magic. spared_then _ _ (spared_told first second magic.0) (λ format. tt))
 
 abbrev range : ℕ → ℕ → Range
 range low high = record { low = low; high = high }
@@ -93,5 +102,5 @@ spared_ranges (suc count) least bytes = spared_then _ _ (spared_range least byte
 
 pub spared_header : (bytes : List ℕ) → IsSpared (header_at bytes)
 unfolding header_at
-spared_header bytes = spared_then _ _ (spared_magic part_magic bytes) (λ start. spared_then _ _ (spared_number w64 start) (λ run. spared_then _ _ (spared_number w32 run.1)
+spared_header bytes = spared_then _ _ (spared_magic (part_magic First) (part_magic Second) bytes) (λ start. spared_then _ _ (spared_number w64 start.1) (λ run. spared_then _ _ (spared_number w32 run.1)
     (λ count. spared_then _ _ (spared_where (nat_lt 0 count.0) BadRanges count.0 (λ bad. cc)) (λ some. spared_then _ _ (spared_ranges some 1 count.1) (λ ranges. tt)))))

@@ -6,6 +6,7 @@ use Rattle.pc_types.specs.Fields.{◌>>=◌, number_at}
 use Rattle.pc_types.specs.declared.Refusal.{Refusal}
 use Rattle.pc_types.specs.declared.Refusal.TheVariants.{Short, BadLength, Trailing}
 use Rattle.pc_types.specs.declared.Triple.{Triple}
+use Rattle.pc_types.specs.declared.formats.Format.{Format}
 use Rattle.pc_part.specs.declared.ranges.Range.{Range}
 use Rattle.pc_part.specs.Reading.{next_entry_at, header_at}
 use Rattle.pc_merge.specs.Coming.{Coming, ended, refused, after_entry}
@@ -23,18 +24,18 @@ coming_from others count (Ok (Some entry, rest)) = after_entry entry (others ent
 
 -- What is to come behind a last key, with so many entries before it; the count stays at the greatest u64, which no number of 4
 -- bytes is. Each entry takes more than one of the bytes, so that no more turns are needed than there are bytes.
-unfoldable pub coming_at : ℕ → List Range → ℕ → List ℕ → List ℕ → Coming
-coming_at zero ranges count last bytes = refused Short
-coming_at (suc turns) ranges count last bytes = coming_from (coming_at turns ranges (one_more count)) count (next_entry_at ranges last bytes)
+unfoldable pub coming_at : Format → ℕ → List Range → ℕ → List ℕ → List ℕ → Coming
+coming_at format zero ranges count last bytes = refused Short
+coming_at format (suc turns) ranges count last bytes = coming_from (coming_at format turns ranges (one_more count)) count (next_entry_at format ranges last bytes)
 
 -- the same of all of the bytes
-abbrev pub coming_of_bytes : List Range → ℕ → List ℕ → List ℕ → Coming
-coming_of_bytes ranges count last bytes = coming_at (length bytes) ranges count last bytes
+abbrev pub coming_of_bytes : Format → List Range → ℕ → List ℕ → List ℕ → Coming
+coming_of_bytes format ranges count last bytes = coming_at format (length bytes) ranges count last bytes
 
 -- what is to come of a part behind its header
-abbrev pub coming_behind : Result ((ℕ × List Range) × List ℕ) Refusal → Coming
+abbrev pub coming_behind : Result ((Format × (ℕ × List Range)) × List ℕ) Refusal → Coming
 coming_behind (Err why) = refused why
-coming_behind (Ok (header, rest)) = coming_of_bytes header.1 0 [] rest
+coming_behind (Ok (header, rest)) = coming_of_bytes header.0 header.1.1 0 [] rest
 
 -- what is to come of a part whose text is all of the bytes
 abbrev pub part_coming : List ℕ → Coming
@@ -42,4 +43,4 @@ part_coming bytes = coming_behind (header_at bytes)
 
 -- its run and its ranges
 abbrev pub part_header : List ℕ → Result (ℕ × List Range) Refusal
-part_header bytes = header_at bytes >>= λ header. Ok header.0
+part_header bytes = header_at bytes >>= λ header. Ok header.0.1

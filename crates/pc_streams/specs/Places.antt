@@ -6,6 +6,7 @@ use Rattle.pc_types.specs.Fields.{◌>>=◌}
 use Rattle.pc_types.specs.declared.Refusal.{Refusal}
 use Rattle.pc_types.specs.declared.Refusal.TheVariants.{OutOfMemory, Device}
 use Rattle.pc_types.specs.declared.Triple.{Triple}
+use Rattle.pc_types.specs.declared.formats.Format.{Format}
 use Rattle.pc_model.specs.Database.{key_cmp}
 use Rattle.pc_part.specs.Parts.{covers}
 use Rattle.pc_part.specs.declared.ranges.Range.{Range}
@@ -13,9 +14,10 @@ use Rattle.pc_part.specs.Reading.{header_at}
 use Rattle.pc_merge.specs.Coming.{Coming, ended, refused}
 use Rattle.pc_streams.specs.Coming.{coming_of_bytes}
 
--- a place behind the header: the run and the ranges, the key of the last entry, which is empty before the first, how many entries
--- there were, and whether the end was read
+-- a place behind the header: the format, the run and the ranges, the key of the last entry, which is empty before the first, how
+-- many entries there were, and whether the end was read
 pub record Place : Type 0 where
+  pub format : Format
   pub run : ℕ
   pub ranges : List Range
   pub last : List ℕ
@@ -23,8 +25,8 @@ pub record Place : Type 0 where
   pub ended : Bool
 
 -- the place behind a header
-abbrev pub first_place : ℕ × List Range → Place
-first_place header = record { run = header.0; ranges = header.1; last = []; count = 0; ended = false }
+abbrev pub first_place : Format × (ℕ × List Range) → Place
+first_place header = record { format = header.0; run = header.1.0; ranges = header.1.1; last = []; count = 0; ended = false }
 
 -- the same where the header stands first in the bytes
 abbrev pub first_place_at : List ℕ → Result (Place × List ℕ) Refusal
@@ -32,7 +34,7 @@ first_place_at bytes = header_at bytes >>= λ header. Ok (first_place header.0, 
 
 -- what is to come at a place, before bytes that may be known
 abbrev pub place_coming : Place → Option (List ℕ) → Option Coming
-place_coming place known = if place.ended then Some ended else option_map (coming_of_bytes place.ranges place.count place.last) known
+place_coming place known = if place.ended then Some ended else option_map (coming_of_bytes place.format place.ranges place.count place.last) known
 
 -- an entry whose key comes after the last one, of a point of one of the ranges
 pub record IsNextEntry (ranges : List Range) (last : List ℕ) (entry : Triple) : Type 0 where

@@ -18,8 +18,8 @@ use std::alloc::{AllocError, Global};
 use std::io::Read;
 use std::marker::Model;
 
-// Behind the header, the last key, and so many entries; the end may have been read. A contract sees the run, the ranges and
-// the rest.
+// Behind the header, the last key, and so many entries; the end may have been read. A contract sees the format, the run, the
+// ranges and the rest.
 #[derive(Drop)]
 pub(crate) struct Place {
     header: PartHeader,
@@ -34,7 +34,7 @@ impl Model for Place {
 
     ghost Value = { Place };
 
-    ghost view = { λ p. record { run = p.header.run; ranges = p.header.ranges.items; last = p.last.items; count = p.count; ended = p.ended } };
+    ghost view = { λ p. record { format = p.header.format; run = p.header.run; ranges = p.header.ranges.items; last = p.last.items; count = p.count; ended = p.ended } };
 
     ghost invariant = { λ p. AreRanges p.header.ranges.items };
 }
@@ -87,7 +87,7 @@ impl Place {
         if self.ended {
             return Ok(None);
         }
-        match source.entry(alloc, &self.header.ranges, &self.last)? {
+        match source.entry(alloc, self.header.format, &self.header.ranges, &self.last)? {
             Some(entry) => {
                 self.pass(entry.key.as_bytes())?;
                 Ok(Some(entry))

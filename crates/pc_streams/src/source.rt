@@ -12,7 +12,7 @@ ghost use Rattle.pc_streams.specs.Sources.{text_left, tally_of, buffered, is_ove
 
 use crate::buffer::Buffer;
 use pc_part::{PartHeader, Range, read_header, read_next_entry};
-use pc_types::{Refusal, Tally, Triple, read_u32};
+use pc_types::{Format, Refusal, Tally, Triple, read_u32};
 use std::alloc::Global;
 use std::io::Read;
 
@@ -45,7 +45,7 @@ impl<R: Read> Source<R> {
     /// The header, which stands first. Refuses with `OutOfMemory` and, exactly where the count of failures has risen, with `Device`,
     /// else with `Short`, `BadMagic` or `BadRanges`, the first fault of the text that is left.
     pub fn header(&mut self, alloc: Global) -> Result<PartHeader, Refusal>
-        ensures drawn { Draws (λ header. (header.run, header.ranges.items)) (text_left R.remaining self.old) (text_left R.remaining self.new) result header_at }
+        ensures drawn { Draws (λ header. (header.format, (header.run, header.ranges.items))) (text_left R.remaining self.old) (text_left R.remaining self.new) result header_at }
         ensures apart { IfOk result (λ header. AreRanges header.ranges.items) }
         ensures counts { Counts (tally_of self.old) (tally_of self.new) result }
     {
@@ -61,22 +61,23 @@ impl<R: Read> Source<R> {
         }
     }
 
-    /// The entry behind the last key, or None at the end mark. Refuses with `OutOfMemory` and, exactly where the count of failures
+    /// The entry behind the last key, or None at the end mark, of a text in this format. Refuses with `OutOfMemory` and, exactly where the count of failures
     /// has risen, with `Device`, else with `Short`, `BadLength`, `KeyOrder`, `NotCovered` or `BadKind`, the first fault of the text
     /// that is left.
     pub fn entry(
         &mut self,
         alloc: Global,
+        format: Format,
         ranges: &[Range],
         last: &[u8],
     ) -> Result<Option<Triple>, Refusal>
         requires { RangesFrom 1 ranges.now }
-        ensures drawn { Draws (λ entry. entry) (text_left R.remaining self.old) (text_left R.remaining self.new) result (next_entry_at ranges.now last.now) }
+        ensures drawn { Draws (λ entry. entry) (text_left R.remaining self.old) (text_left R.remaining self.new) result (next_entry_at format ranges.now last.now) }
         ensures lawful { IsLawfulNext ranges.now last.now result }
         ensures counts { Counts (tally_of self.old) (tally_of self.new) result }
     {
         loop {
-            match read_next_entry(alloc, ranges, last, self.buffer.left()) {
+            match read_next_entry(alloc, format, ranges, last, self.buffer.left()) {
                 Ok((entry, rest)) => {
                     let kept = rest.len();
                     self.buffer.keep_last(kept);

@@ -17,7 +17,7 @@ use std::marker::Model;
 /// slot's record is reached at once, and stays where it is until its key is removed. The table is seen as its rows, which
 /// rise by key: each has a key, its slot, and its record.
 ///
-/// All memory for slots is taken when the table is made. Only a new key of more than 16 bytes takes memory of its own.
+/// All memory for slots is taken when the table is made. Only a new key of more than 16 bytes of its own takes memory.
 #[derive(Drop)]
 pub struct Table<T> {
     entries: Arena<TableEntry<T>>,
@@ -138,8 +138,8 @@ impl<T: Blank> Table<T> {
     }
 
     /// The slot of a key that has no row and gets one, in a free slot, with a blank record. Refuses with `Full` exactly where as
-    /// many keys have a row as may, and else only with `OutOfMemory`, where a key of more than 16 bytes can't be copied; the
-    /// table is then as it was.
+    /// many keys have a row as may, and else only with `OutOfMemory`, where a key of more than 16 bytes of its own can't be
+    /// copied; the table is then as it was.
     pub fn make(&mut self, alloc: Global, key: &Key) -> Result<SlotId, Refusal>
         requires { slot_of self.old.rows key.now ≡ None }
         ensures made { IfOk result (λ id. self.new ≡ with_row self.old key.now id T.blank) }

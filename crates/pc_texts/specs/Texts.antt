@@ -1,9 +1,10 @@
 -- What is printed: the text of each reply, and of the bytes of keys and values.
-use Rattle.std.specs.Prelude.{ℕ, ◌/◌, ◌%◌, ◌==◌, Bool, List, [], ◌∷◌, ◌++◌, Option, Some, None, if◌then◌else◌, codes, decimal}
+use Rattle.std.specs.Prelude.{ℕ, zero, suc, ◌/◌, ◌%◌, ◌==◌, Bool, List, [], ◌∷◌, ◌++◌, Option, Some, None, if◌then◌else◌, codes, decimal}
 use Rattle.std.specs.List.{flat_map}
 use Rattle.std.specs.Str.{bytes_eq}
 use Rattle.std.specs.Char.{digit_char}
 use Rattle.std.specs.Fmt.{signed_decimal}
+use Rattle.pc_types.specs.Keys.{space_of, own_bytes}
 use Rattle.pc_types.specs.Names.{name_of}
 use Rattle.pc_types.specs.declared.Phase.{Phase}
 use Rattle.pc_types.specs.declared.Phase.TheVariants as phase
@@ -24,6 +25,15 @@ printed_byte b = if is_plain b then b ∷ [] else 92 ∷ 120 ∷ digit_char (b /
 abbrev pub printed : List ℕ → List ℕ
 printed [] = codes "-"
 printed (b ∷ bytes) = if bytes_eq (b ∷ bytes) (codes "-") then 92 ∷ 120 ∷ 50 ∷ 100 ∷ [] else flat_map printed_byte (b ∷ bytes)
+
+-- what stands before a key's own bytes: nothing in space 0, else `\sN:` of its space
+abbrev pub printed_space : ℕ → List ℕ
+printed_space zero = []
+printed_space (suc n) = codes "\\s" ++ (decimal (suc n) ++ codes ":")
+
+-- a key as printed
+abbrev pub printed_key : List ℕ → List ℕ
+printed_key key = printed_space (space_of key) ++ printed (own_bytes key)
 
 -- the value of a key that was taken
 abbrev pub printed_value : Option (List ℕ) → List ℕ
@@ -66,7 +76,7 @@ reply_text (told.Committed lsn) = codes "committed " ++ decimal lsn
 reply_text told.Aborted = codes "aborted"
 reply_text (told.Phase phase point) = codes "phase " ++ (phase_name phase ++ (codes " " ++ decimal point))
 reply_text (told.NotYet count) = codes "not yet " ++ decimal count
-reply_text (told.Took key value) = codes "took " ++ (printed key ++ (codes " " ++ printed_value value))
+reply_text (told.Took key value) = codes "took " ++ (printed_key key ++ (codes " " ++ printed_value value))
 reply_text told.NoneLeft = codes "none left"
 reply_text (told.PartDone point file entries) = codes "part " ++ (decimal point ++ (codes " file " ++ (decimal file ++ (codes " entries " ++ decimal entries))))
 reply_text (told.File file points entries) = codes "file " ++ (decimal file ++ (codes " points " ++ (ranges_text (ranges_of points) ++ (codes " entries " ++ decimal entries))))
@@ -74,7 +84,7 @@ reply_text (told.Refused why) = codes "refused " ++ refusal_text why
 
 -- a pair of a state, with the end of its line
 abbrev pub pair_text : List ℕ × List ℕ → List ℕ
-pair_text pair = (printed pair.0 ++ (codes " " ++ printed pair.1)) ++ codes "\n"
+pair_text pair = (printed_key pair.0 ++ (codes " " ++ printed pair.1)) ++ codes "\n"
 
 -- the point of a state and the number of its pairs
 abbrev pub state_head : ℕ → ℕ → List ℕ

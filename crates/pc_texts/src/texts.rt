@@ -5,7 +5,7 @@ ghost use Rattle.std.specs.Char.{digit_char};
 ghost use Rattle.std.specs.Fmt.{signed_decimal};
 ghost use Rattle.pc_types.specs.Tallies.{Puts};
 ghost use Rattle.pc_model.specs.Ranges.{ranges_of};
-ghost use Rattle.pc_texts.specs.Texts.{printed_byte, printed, printed_value, phase_name, range_text, ranges_text, refusal_text, reply_text, pair_text, state_head, state_text, hex_byte, hex_line, check_line, file_line, joined_line, collapsed_line};
+ghost use Rattle.pc_texts.specs.Texts.{printed_byte, printed, printed_space, printed_key, printed_value, phase_name, range_text, ranges_text, refusal_text, reply_text, pair_text, state_head, state_text, hex_byte, hex_line, check_line, file_line, joined_line, collapsed_line};
 
 use itoa::Buffer;
 use pc_lines::is_plain;
@@ -29,7 +29,7 @@ pub fn put_reply<W: Write>(out: &mut Tally<W>, reply: &Reply) -> Result<(), Refu
         Reply::Aborted => out.put(b"aborted"),
         Reply::Phase(phase, point) => put_phase(out, *phase, *point),
         Reply::NotYet(count) => put_number(out, b"not yet ", u64::from(*count)),
-        Reply::Took(key, value) => put_taken(out, key.as_bytes(), value),
+        Reply::Took(key, value) => put_taken(out, key, value),
         Reply::NoneLeft => out.put(b"none left"),
         Reply::PartDone(point, file, entries) => put_part(out, *point, file.0, *entries),
         Reply::File(file, points, entries) => {
@@ -92,10 +92,18 @@ fn phase_name(phase: Phase) -> &'static [u8]
     }
 }
 
-fn put_taken<W: Write>(out: &mut Tally<W>, key: &[u8], value: &Option<Value>) -> Result<(), Refusal>
-    ensures { Puts W.contents out.old out.new result (codes "took " ++ (printed key.now ++ (codes " " ++ printed_value value.now))) }
+fn put_taken<W: Write>(out: &mut Tally<W>, key: &Key, value: &Option<Value>) -> Result<(), Refusal>
+    ensures { Puts W.contents out.old out.new result (codes "took " ++ (printed_key key.now ++ (codes " " ++ printed_value value.now))) }
 {
-    put_named(out, b"took ", key)?;
+    out.put(b"took ")?;
+    put_entry(out, key, value)
+}
+
+// A key, and what was taken of it.
+fn put_entry<W: Write>(out: &mut Tally<W>, key: &Key, value: &Option<Value>) -> Result<(), Refusal>
+    ensures { Puts W.contents out.old out.new result (printed_key key.now ++ (codes " " ++ printed_value value.now)) }
+{
+    put_key(out, key)?;
     match value {
         None => out.put(b" tombstone"),
         Some(value) => put_named(out, b" ", value.as_bytes()),
@@ -242,7 +250,26 @@ pub fn put_reason<W: Write>(out: &mut Tally<W>, why: Refusal) -> Result<(), Refu
     }
 }
 
-// A key or value: no bytes as a hyphen, the hyphen alone as an escape.
+// A key: its space, where it is another than 0, and its own bytes.
+fn put_key<W: Write>(out: &mut Tally<W>, key: &Key) -> Result<(), Refusal>
+    ensures { Puts W.contents out.old out.new result (printed_key key.now) }
+{
+    put_space(out, key.space())?;
+    put_printed(out, key.own_bytes())
+}
+
+// What tells a space before a key's own bytes: nothing for space 0.
+fn put_space<W: Write>(out: &mut Tally<W>, space: u16) -> Result<(), Refusal>
+    ensures { Puts W.contents out.old out.new result (printed_space space) }
+{
+    if space == 0 {
+        return Ok(());
+    }
+    let mut buffer = Buffer::new();
+    out.put_all(&[b"\\s", buffer.format(space).as_bytes(), b":"])
+}
+
+// A key's own bytes, or a value: no bytes as a hyphen, the hyphen alone as an escape.
 fn put_printed<W: Write>(out: &mut Tally<W>, bytes: &[u8]) -> Result<(), Refusal>
     ensures { Puts W.contents out.old out.new result (printed bytes.now) }
 {
@@ -317,16 +344,16 @@ pub fn put_pairs<W: Write>(out: &mut Tally<W>, pairs: &[(Key, Value)]) -> Result
 fn put_pair<W: Write>(out: &mut Tally<W>, pair: &(Key, Value)) -> Result<(), Refusal>
     ensures { Puts W.contents out.old out.new result (pair_text pair.now) }
 {
-    put_two(out, pair.0.as_bytes(), pair.1.as_bytes())?;
+    put_two(out, &pair.0, &pair.1)?;
     out.put(b"\n")
 }
 
-// Two words with a space between them.
-fn put_two<W: Write>(out: &mut Tally<W>, first: &[u8], second: &[u8]) -> Result<(), Refusal>
-    ensures { Puts W.contents out.old out.new result (printed first.now ++ (codes " " ++ printed second.now)) }
+// A key and a value, with a space between them.
+fn put_two<W: Write>(out: &mut Tally<W>, key: &Key, value: &Value) -> Result<(), Refusal>
+    ensures { Puts W.contents out.old out.new result (printed_key key.now ++ (codes " " ++ printed value.now)) }
 {
-    put_printed(out, first)?;
-    put_named(out, b" ", second)
+    put_key(out, key)?;
+    put_named(out, b" ", value.as_bytes())
 }
 
 /// Writes the bytes of a file by their hexadecimal digits, with the end of the line.

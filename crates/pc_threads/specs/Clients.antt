@@ -51,7 +51,7 @@ HaveSeats sessions (client ∷ clients) = (is_there sessions client.session ≡ 
 abbrev pub AreSeated : List Client → List Sitter → List Sitter → Type 0
 AreSeated clients old new = (session : ℕ) → is_there old session ≡ true → (is_there new session || is_taken clients session) ≡ true
 
--- Memory was wanting to make a transaction, which names a key or a value of more than 16 bytes: it isn't marked as committed, and
+-- Memory was wanting to make a transaction, which names a key or a value too long to be kept inline: it isn't marked as committed, and
 -- nothing was asked for it.
 abbrev pub IsJobUnmade : Job → Bool → History → History → Type 0
 IsJobUnmade job mark early late = (mark ≡ false) × (late ≡ early) × ((op : Op) × (job.ops ≡ op ∷ []) × TakesMemory op)

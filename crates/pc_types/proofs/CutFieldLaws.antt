@@ -1,13 +1,13 @@
 -- Fields of a text that is cut off: each is read as it is of the whole text, or the text is found to be short.
 use Rattle.std.proofs.Common.{◌≡◌, ℕ, zero, suc, ◌<◌, Bool, true, false, ltb, eqb, List, [], ◌∷◌, ◌++◌, length, get_or, take, drop, Result, Ok, Err, refl, sym, ap, subst, ◌∙◌, drop-cons, arith, inl, inr}
-use Rattle.std.specs.Prelude.{nat_le, nat_eq, ◌&&◌, if◌then◌else◌, ⊤}
-use Rattle.std.specs.Cmp.Lexicographic.{pointwise}
+use Rattle.std.specs.Prelude.{◌+◌, nat_le, ◌&&◌, if◌then◌else◌, ⊤}
 use Rattle.std.specs.Int.{Width, w32, byte_len, from_be_bytes}
 use Rattle.std.proofs.lemmas.Bool.{cases_lt, lt-ltb, le-ltb, ne_eqb}
 use Rattle.std.proofs.lemmas.List.{take-append-drop, take-append-le, drop-append-le, length-append}
 use Rattle.pc_types.specs.declared.refusal.Refusal.{Refusal}
-use Rattle.pc_types.specs.declared.refusal.Refusal.TheVariants.{Short, BadMagic, BadLength, Trailing}
-use Rattle.pc_types.specs.Fields.{◌>>=◌, where_true, bytes_at, number_at, magic_at, sized_key_at, value_at, content_at}
+use Rattle.pc_types.specs.declared.refusal.Refusal.TheVariants.{Short, BadLength, Trailing}
+use Rattle.pc_types.specs.declared.formats.Format.{Format}
+use Rattle.pc_types.specs.Fields.{◌>>=◌, where_true, bytes_at, number_at, format_told, magic_at, sized_key_at, space_bytes, value_at, content_at}
 
 -- What is read of a whole text, and then of a beginning of it: the two are alike in this way, or the beginning is short.
 -- Of a whole text with a fault nothing is said.
@@ -100,15 +100,22 @@ bytes_cut count bytes more = first_cut (λ text. text) count bytes more
 pub number_cut : (w : Width) (bytes more : List ℕ) → IsCut (ReadsAlike more) (number_at Short w (bytes ++ more)) (number_at Short w bytes)
 number_cut w bytes more = first_cut (from_be_bytes w) (byte_len w) bytes more
 
-pub magic_cut : (magic bytes more : List ℕ) → IsCut (LeavesMore more) (magic_at magic (bytes ++ more)) (magic_at magic bytes)
-unfolding magic_at
-magic_cut magic bytes more =
-    cut_then more (LeavesMore more) (bytes_at Short 8 (bytes ++ more)) (bytes_at Short 8 bytes) _ _ (bytes_cut 8 bytes more)
-    (λ first rest. cut_tested (LeavesMore more) (pointwise nat_eq first magic) BadMagic (rest ++ more) rest refl)
+-- behind a step that doesn't look at the bytes
+cut_known : {X Y : Type 0} (Q : Y → Y → Type 0) (r : Result X Refusal) (f g : X → Result Y Refusal) → ((x : X) → IsCut Q (f x) (g x)) → IsCut Q (r >>= f) (r >>= g)
+cut_known Q (Ok x) f g h = h x
+cut_known Q (Err e) f g h = tt
 
-pub sized_key_cut : (count : ℕ) (bytes more : List ℕ) → IsCut (ReadsAlike more) (sized_key_at Short count (bytes ++ more)) (sized_key_at Short count bytes)
+pub magic_cut : (first second bytes more : List ℕ) → IsCut (ReadsAlike more) (magic_at first second (bytes ++ more)) (magic_at first second bytes)
+unfolding magic_at
+magic_cut first second bytes more =
+    cut_then more (ReadsAlike more) (bytes_at Short 8 (bytes ++ more)) (bytes_at Short 8 bytes) _ _ (bytes_cut 8 bytes more)
+    (λ magic rest. cut_known (ReadsAlike more) (format_told first second magic) _ _ (λ format. (refl, refl)))
+
+pub sized_key_cut : (format : Format) (count : ℕ) (bytes more : List ℕ) → IsCut (ReadsAlike more) (sized_key_at format Short count (bytes ++ more)) (sized_key_at format Short count bytes)
 unfolding sized_key_at
-sized_key_cut count bytes more = cut_where (ReadsAlike more) (nat_le 1 count && nat_le count 255) BadLength count count _ _ (bytes_cut count bytes more)
+sized_key_cut format count bytes more =
+    cut_where (ReadsAlike more) (nat_le 1 count && nat_le count 255) BadLength count count _ _
+    (cut_then more (ReadsAlike more) (bytes_at Short (count + space_bytes format) (bytes ++ more)) (bytes_at Short (count + space_bytes format) bytes) _ _ (bytes_cut (count + space_bytes format) bytes more) (λ text rest. (refl, refl)))
 
 pub value_cut : (bytes more : List ℕ) → IsCut (ReadsAlike more) (value_at Short (bytes ++ more)) (value_at Short bytes)
 unfolding value_at

@@ -1,6 +1,6 @@
 -- A field that is read is the field that was written, and what was written is read again.
-use Rattle.std.proofs.Common.{◌≡◌, ℕ, zero, suc, ◌+◌, ◌^◌, ◌<◌, ◌≤◌, Bool, true, false, cond, ltb, List, [], ◌∷◌, ◌++◌, length, take, drop, Option, Some, None, Result, Ok, Err, refl, sym, ap, subst, ◌∙◌, append_assoc, arith, inl, inr}
-use Rattle.std.specs.Prelude.{IfSome, nat_eq, nat_le, ◌&&◌}
+use Rattle.std.proofs.Common.{◌≡◌, ℕ, zero, suc, ◌+◌, ◌*◌, ◌^◌, ◌<◌, ◌≤◌, Bool, true, false, cond, ltb, List, [], ◌∷◌, ◌++◌, length, take, drop, Option, Some, None, Result, Ok, Err, refl, sym, ap, subst, ◌∙◌, append_assoc, arith, inl, inr}
+use Rattle.std.specs.Prelude.{IfSome, ◌-◌, nat_eq, nat_le, ◌&&◌, if◌then◌else◌}
 use Rattle.std.specs.Cmp.Lexicographic.{pointwise, same_text}
 use Rattle.std.proofs.lemmas.Cmp.{nat_list_eq_equiv}
 use Rattle.std.proofs.lemmas.Bool.Decides.{nat_tests}
@@ -11,7 +11,9 @@ use Rattle.std.proofs.lemmas.Nat.{be_bytes_2, be_bytes_4, be_bytes_8, from_be_by
 use Rattle.pc_types.specs.declared.refusal.Refusal.{Refusal}
 use Rattle.pc_types.specs.declared.refusal.Refusal.TheVariants.{Short, BadLength, BadMagic}
 use Rattle.pc_types.specs.Limits.{IsKey, IsValue}
-use Rattle.pc_types.specs.Fields.{◌>>=◌, where_true, bytes_at, number_at, magic_at, sized_key_at, key_at, value_at, content_at, key_text, value_text, content_text}
+use Rattle.pc_types.specs.declared.formats.Format.{Format}
+use Rattle.pc_types.specs.declared.formats.Format.TheVariants.{First, Second}
+use Rattle.pc_types.specs.Fields.{◌>>=◌, where_true, bytes_at, number_at, format_told, magic_at, sized_key_at, key_at, value_at, content_at, sized_key_text, key_text_in, HasKey, space_bytes, key_behind, value_text, content_text}
 use Rattle.pc_types.specs.FieldForms.{IsBytes, TakesText, IsWide}
 
 pub IsBytes-drop : (n : ℕ) (bytes : List ℕ) → IsBytes bytes → IsBytes (drop n bytes)
@@ -108,53 +110,110 @@ number_again missing w limit wide n rest lt =
 
 -- ---- magics
 
-pub magic_takes : (magic bytes rest : List ℕ) → IsBytes bytes → magic_at magic bytes ≡ Ok rest → TakesText bytes magic rest
-unfolding magic_at
-magic_takes magic bytes rest fits e =
-    let b = bind_ok (bytes_at Short 8 bytes) (λ first. where_true (pointwise nat_eq first.0 magic) BadMagic first.1) rest e in
-    let t = bytes_take Short 8 bytes b.0.0 b.0.1 fits b.1 in
-    let g = where_ok (pointwise nat_eq b.0.0 magic) BadMagic b.0.1 rest b.2 in
-    subst (λ (m : List ℕ). TakesText bytes m rest) (same_text b.0.0 magic (sym g.0)) (subst (λ (r : List ℕ). TakesText bytes b.0.0 r) g.1 t.0)
+-- the magic of a format, of these two
+abbrev pub told : Format → List ℕ → List ℕ → List ℕ
+told First first second = first
+told Second first second = second
 
-pub magic_again : (magic rest : List ℕ) → length magic ≡ 8 → magic_at magic (magic ++ rest) ≡ Ok rest
+-- the bytes tell the format whose magic they are
+format_is : (first second magic : List ℕ) (format : Format) → format_told first second magic ≡ Ok format → magic ≡ told format first second
+format_is first second magic format e = by (pointwise nat_eq magic second) refl (subst (λ (b : Bool). told_by b ≡ Ok format) refl e)
+  where
+    told_by : Bool → Result Format Refusal
+    told_by b = if b then Ok Second else where_true (pointwise nat_eq magic first) BadMagic First
+
+    by : (b : Bool) → pointwise nat_eq magic second ≡ b → told_by b ≡ Ok format → magic ≡ told format first second
+    by true same is = subst (λ (f : Format). magic ≡ told f first second) (ok_is Second format is) (same_text magic second (sym same))
+    by false other is =
+        let g = where_ok (pointwise nat_eq magic first) BadMagic First format is in
+        subst (λ (f : Format). magic ≡ told f first second) g.1 (same_text magic first (sym g.0))
+
+-- the magic of a format tells it, where the two magics differ
+format_again : (first second : List ℕ) (format : Format) → pointwise nat_eq first second ≡ false → format_told first second (told format first second) ≡ Ok format
+format_again first second First apart = let same : pointwise nat_eq first first ≡ true = nat_list_eq_equiv.refl first in rw (apart, same) refl
+format_again first second Second apart = let same : pointwise nat_eq second second ≡ true = nat_list_eq_equiv.refl second in rw same refl
+
+pub magic_takes : (first second bytes : List ℕ) (format : Format) (rest : List ℕ) → IsBytes bytes → magic_at first second bytes ≡ Ok (format, rest) → TakesText bytes (told format first second) rest
 unfolding magic_at
-magic_again magic rest len =
-    let first : bytes_at Short 8 (magic ++ rest) ≡ Ok (magic, rest) = subst (λ (n : ℕ). bytes_at Short n (magic ++ rest) ≡ Ok (magic, rest)) len (bytes_again Short magic rest) in
-    let same : pointwise nat_eq magic magic ≡ true = nat_list_eq_equiv.refl magic in
-    rw (first, same) refl
+magic_takes first second bytes format rest fits e =
+    let b = bind_ok (bytes_at Short 8 bytes) (λ magic. format_told first second magic.0 >>= λ known. Ok (known, magic.1)) (format, rest) e in
+    let t = bytes_take Short 8 bytes b.0.0 b.0.1 fits b.1 in
+    let f = bind_ok (format_told first second b.0.0) (λ known. Ok (known, b.0.1)) (format, rest) b.2 in
+    let is : (f.0, b.0.1) ≡ (format, rest) = ok_is (f.0, b.0.1) (format, rest) f.2 in
+    let magic = format_is first second b.0.0 f.0 f.1 in
+    subst (λ (x : Format × List ℕ). TakesText bytes (told x.0 first second) x.1) is (subst (λ (m : List ℕ). TakesText bytes m b.0.1) magic t.0)
+
+pub magic_again : (first second : List ℕ) (format : Format) (rest : List ℕ) → pointwise nat_eq first second ≡ false → length (told format first second) ≡ 8 → magic_at first second (told format first second ++ rest) ≡ Ok (format, rest)
+unfolding magic_at
+magic_again first second format rest apart len =
+    let magic = told format first second in
+    let front : bytes_at Short 8 (magic ++ rest) ≡ Ok (magic, rest) = subst (λ (n : ℕ). bytes_at Short n (magic ++ rest) ≡ Ok (magic, rest)) len (bytes_again Short magic rest) in
+    rw (front, format_again first second format apart) refl
 
 -- ---- keys, values and contents
 
-pub sized_key_takes : (missing : Refusal) (count : ℕ) (bytes key rest : List ℕ) → IsBytes bytes → sized_key_at missing count bytes ≡ Ok (key, rest) → TakesText bytes key rest × (length key ≡ count) × IsKey key
+-- what stands behind the length of a key that the format has, and the key behind it
+key_is_behind : (format : Format) (key : List ℕ) → IsKey key → HasKey format key → key_behind format (sized_key_text format key) ≡ key
+key_is_behind Second key is_key has = refl
+key_is_behind First [] is_key has = absurd (let long : 3 ≤ 0 = is_key.0 in omega arith)
+key_is_behind First (h ∷ []) is_key has = absurd (let long : 3 ≤ 1 = is_key.0 in omega arith)
+key_is_behind First (h ∷ l ∷ own) is_key has =
+    let space : h * 256 + l ≡ 0 = has in
+    let high : h ≡ 0 = omega (arith, space) in
+    let low : l ≡ 0 = omega (arith, space) in
+    rw (high, low) refl
+
+sized_length : (format : Format) (key : List ℕ) → IsKey key → length (sized_key_text format key) ≡ (length key - 2) + space_bytes format
+sized_length Second key is_key = omega (arith, is_key.0)
+sized_length First [] is_key = refl
+sized_length First (h ∷ []) is_key = refl
+sized_length First (h ∷ l ∷ own) is_key = omega arith
+
+-- what was read behind a length: a key whose text it is
+made : (format : Format) (count : ℕ) (text : List ℕ) → 1 ≤ count → count ≤ 255 → length text ≡ count + space_bytes format
+    → (sized_key_text format (key_behind format text) ≡ text) × (length (key_behind format text) ≡ count + 2) × IsKey (key_behind format text) × HasKey format (key_behind format text)
+made First count text few many len = (refl, omega (arith, len), (omega (arith, len, few), omega (arith, len, many)), refl)
+made Second count text few many len = (refl, len, (omega (arith, len, few), omega (arith, len, many)), tt)
+
+pub sized_key_takes : (format : Format) (missing : Refusal) (count : ℕ) (bytes key rest : List ℕ) → IsBytes bytes → sized_key_at format missing count bytes ≡ Ok (key, rest)
+    → TakesText bytes (sized_key_text format key) rest × (length key ≡ count + 2) × IsKey key × HasKey format key
 unfolding sized_key_at
-sized_key_takes missing count bytes key rest fits e =
-    let b = bind_ok (where_true (nat_le 1 count && nat_le count 255) BadLength count) (λ lawful. bytes_at missing lawful bytes) (key, rest) e in
+sized_key_takes format missing count bytes key rest fits e =
+    let b = bind_ok (where_true (nat_le 1 count && nat_le count 255) BadLength count) (λ lawful. bytes_at missing (lawful + space_bytes format) bytes >>= λ text. Ok (key_behind format text.0, text.1)) (key, rest) e in
     let g = where_ok (nat_le 1 count && nat_le count 255) BadLength count b.0 b.1 in
-    let t = bytes_take missing b.0 bytes key rest fits b.2 in
-    let len : length key ≡ count = t.1 ∙ sym g.1 in
+    let d = bind_ok (bytes_at missing (b.0 + space_bytes format) bytes) (λ text. Ok (key_behind format text.0, text.1)) (key, rest) b.2 in
+    let t = bytes_take missing (b.0 + space_bytes format) bytes d.0.0 d.0.1 fits d.1 in
     let limits : (1 ≤ count) × (count ≤ 255) = grind (arith, g.0, nat_tests) in
-    (t.0, len, subst (λ (n : ℕ). (1 ≤ n) × (n ≤ 255)) (sym len) limits)
+    let is : (key_behind format d.0.0, d.0.1) ≡ (key, rest) = ok_is (key_behind format d.0.0, d.0.1) (key, rest) d.2 in
+    let m = made format count d.0.0 limits.0 limits.1 (t.1 ∙ ap (λ (n : ℕ). n + space_bytes format) (sym g.1)) in
+    subst (λ (x : List ℕ × List ℕ). TakesText bytes (sized_key_text format x.0) x.1 × (length x.0 ≡ count + 2) × IsKey x.0 × HasKey format x.0) {x = (key_behind format d.0.0, d.0.1)} {y = (key, rest)} is
+    (subst (λ (x : List ℕ). TakesText bytes x d.0.1) (sym m.0) t.0, m.1, m.2, m.3)
 
-pub sized_key_again : (missing : Refusal) (key rest : List ℕ) → IsKey key → sized_key_at missing (length key) (key ++ rest) ≡ Ok (key, rest)
+pub sized_key_again : (format : Format) (missing : Refusal) (key rest : List ℕ) → IsKey key → HasKey format key → sized_key_at format missing (length key - 2) (sized_key_text format key ++ rest) ≡ Ok (key, rest)
 unfolding sized_key_at
-sized_key_again missing key rest is_key =
-    let lawful : (nat_le 1 (length key) && nat_le (length key) 255) ≡ true = grind (arith, is_key, nat_tests) in
-    rw (lawful, bytes_again missing key rest) refl
+sized_key_again format missing key rest is_key has =
+    let lawful : (nat_le 1 (length key - 2) && nat_le (length key - 2) 255) ≡ true = grind (arith, is_key, nat_tests) in
+    let text = sized_key_text format key in
+    let found : bytes_at missing ((length key - 2) + space_bytes format) (text ++ rest) ≡ Ok (text, rest) =
+    subst (λ (n : ℕ). bytes_at missing n (text ++ rest) ≡ Ok (text, rest)) (sized_length format key is_key) (bytes_again missing text rest) in
+    rw (lawful, found, key_is_behind format key is_key has) refl
 
-pub key_takes : (missing : Refusal) (bytes key rest : List ℕ) → IsBytes bytes → key_at missing bytes ≡ Ok (key, rest) → TakesText bytes (key_text key) rest × IsKey key
+pub key_takes : (format : Format) (missing : Refusal) (bytes key rest : List ℕ) → IsBytes bytes → key_at format missing bytes ≡ Ok (key, rest) → TakesText bytes (key_text_in format key) rest × IsKey key × HasKey format key
 unfolding key_at
-key_takes missing bytes key rest fits e =
-    let b = bind_ok (number_at missing w16 bytes) (λ count. sized_key_at missing count.0 count.1) (key, rest) e in
+key_takes format missing bytes key rest fits e =
+    let b = bind_ok (number_at missing w16 bytes) (λ count. sized_key_at format missing count.0 count.1) (key, rest) e in
     let n = number_takes missing w16 (2 ^ 16) wide16 bytes b.0.0 b.0.1 fits b.1 in
-    let k = sized_key_takes missing b.0.0 b.0.1 key rest n.0.rest_fits b.2 in
-    (subst (λ (c : ℕ). TakesText bytes (to_be_bytes w16 c ++ key) rest) (sym k.1) (TakesText-then bytes (to_be_bytes w16 b.0.0) b.0.1 key rest n.0 k.0), k.2)
+    let k = sized_key_takes format missing b.0.0 b.0.1 key rest n.0.rest_fits b.2 in
+    let count : b.0.0 ≡ length key - 2 = omega (arith, k.1) in
+    (subst (λ (c : ℕ). TakesText bytes (to_be_bytes w16 c ++ sized_key_text format key) rest) count (TakesText-then bytes (to_be_bytes w16 b.0.0) b.0.1 (sized_key_text format key) rest n.0 k.0), k.2, k.3)
 
-pub key_again : (missing : Refusal) (key rest : List ℕ) → IsKey key → key_at missing (key_text key ++ rest) ≡ Ok (key, rest)
+pub key_again : (format : Format) (missing : Refusal) (key rest : List ℕ) → IsKey key → HasKey format key → key_at format missing (key_text_in format key ++ rest) ≡ Ok (key, rest)
 unfolding key_at
-key_again missing key rest is_key =
-    let parts : key_text key ++ rest ≡ to_be_bytes w16 (length key) ++ (key ++ rest) = append_assoc (to_be_bytes w16 (length key)) key rest in
-    let number : number_at missing w16 (key_text key ++ rest) ≡ Ok (length key, key ++ rest) = ap (number_at missing w16) parts ∙ number_again missing w16 (2 ^ 16) wide16 (length key) (key ++ rest) (omega (arith, is_key.1)) in
-    rw (number, sized_key_again missing key rest is_key) refl
+key_again format missing key rest is_key has =
+    let text = sized_key_text format key in
+    let parts : key_text_in format key ++ rest ≡ to_be_bytes w16 (length key - 2) ++ (text ++ rest) = append_assoc (to_be_bytes w16 (length key - 2)) text rest in
+    let number : number_at missing w16 (key_text_in format key ++ rest) ≡ Ok (length key - 2, text ++ rest) = ap (number_at missing w16) parts ∙ number_again missing w16 (2 ^ 16) wide16 (length key - 2) (text ++ rest) (omega (arith, is_key.1)) in
+    rw (number, sized_key_again format missing key rest is_key has) refl
 
 pub value_takes : (missing : Refusal) (bytes value rest : List ℕ) → IsBytes bytes → value_at missing bytes ≡ Ok (value, rest) → TakesText bytes (value_text value) rest × IsValue value
 unfolding value_at

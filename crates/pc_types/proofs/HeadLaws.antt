@@ -1,12 +1,12 @@
--- Texts whose heads differ are ordered as their heads are.
-use Rattle.std.proofs.Common.{◌≡◌, ◌≢◌, ◌<◌, ℕ, zero, suc, ◌+◌, ◌*◌, List, [], ◌∷◌, refl, sym, ap, ◌∙◌, ◌⊎◌, inl, inr, arith}
+-- Keys whose heads differ are ordered as their heads are.
+use Rattle.std.proofs.Common.{◌≡◌, ◌≢◌, ◌<◌, ℕ, zero, suc, ◌+◌, ◌*◌, ◌^◌, List, [], ◌∷◌, drop, refl, sym, ap, ◌∙◌, ◌⊎◌, inl, inr, arith}
 use Rattle.std.proofs.Common.{Ordering, Less, Equal, Greater}
 use Rattle.std.specs.Ordering.{nat_cmp, ordering_then, MatchOrdering}
-use Rattle.std.specs.Cmp.{ranks}
+use Rattle.std.specs.Cmp.{ranks, nat_cmp_is}
 use Rattle.std.specs.Cmp.Lexicographic.{slice_cmp}
 use Rattle.pc_types.specs.FieldForms.{IsBytes}
-use Rattle.pc_types.specs.Heads.{spelled, head}
-use Rattle.pc_types.proofs.FieldLaws.{IsBytes-rest}
+use Rattle.pc_types.specs.Heads.{spelled, headed, head}
+use Rattle.pc_types.proofs.FieldLaws.{IsBytes-rest, IsBytes-drop}
 use Rattle.pc_types.proofs.WordOrder.{digit, then_assoc}
 
 -- where x decides, it is the order o
@@ -66,6 +66,57 @@ spelled_decides (suc k) n m [] (v ∷ vs) g h =
 spelled_decides (suc k) n m (u ∷ us) (v ∷ vs) g h =
     on _ _ _ (next n m u v (slice_cmp nat_cmp us vs) (g 0) (h 0)) (spelled_decides k (n * 256 + u) (m * 256 + v) us vs (IsBytes-rest u us g) (IsBytes-rest v vs h))
 
+-- what stands before eight digits counts 2 ^ 64 times
+carried : (n : ℕ) (bytes : List ℕ) → spelled 8 n bytes ≡ n * 2 ^ 64 + spelled 8 0 bytes
+carried n [] = omega arith
+carried n (a ∷ []) = omega arith
+carried n (a ∷ b ∷ []) = omega arith
+carried n (a ∷ b ∷ c ∷ []) = omega arith
+carried n (a ∷ b ∷ c ∷ d ∷ []) = omega arith
+carried n (a ∷ b ∷ c ∷ d ∷ e ∷ []) = omega arith
+carried n (a ∷ b ∷ c ∷ d ∷ e ∷ f ∷ []) = omega arith
+carried n (a ∷ b ∷ c ∷ d ∷ e ∷ f ∷ g ∷ []) = omega arith
+carried n (a ∷ b ∷ c ∷ d ∷ e ∷ f ∷ g ∷ h ∷ rest) = omega arith
+
+ten : (key : List ℕ) → spelled 10 0 key ≡ spelled 2 0 key * 2 ^ 64 + spelled 8 0 (drop 2 key)
+ten [] = carried 0 []
+ten (a ∷ []) = carried (spelled 2 0 (a ∷ [])) []
+ten (a ∷ b ∷ own) = carried (spelled 2 0 (a ∷ b ∷ own)) own
+
+-- eight digits have 64 bits
+few : (bytes : List ℕ) → IsBytes bytes → spelled 8 0 bytes < 2 ^ 64
+few [] fits = omega (arith)
+few (a ∷ []) fits = omega (arith, fits 0)
+few (a ∷ b ∷ []) fits = omega (arith, fits 0, fits 1)
+few (a ∷ b ∷ c ∷ []) fits = omega (arith, fits 0, fits 1, fits 2)
+few (a ∷ b ∷ c ∷ d ∷ []) fits = omega (arith, fits 0, fits 1, fits 2, fits 3)
+few (a ∷ b ∷ c ∷ d ∷ e ∷ []) fits = omega (arith, fits 0, fits 1, fits 2, fits 3, fits 4)
+few (a ∷ b ∷ c ∷ d ∷ e ∷ f ∷ []) fits = omega (arith, fits 0, fits 1, fits 2, fits 3, fits 4, fits 5)
+few (a ∷ b ∷ c ∷ d ∷ e ∷ f ∷ g ∷ []) fits = omega (arith, fits 0, fits 1, fits 2, fits 3, fits 4, fits 5, fits 6)
+few (a ∷ b ∷ c ∷ d ∷ e ∷ f ∷ g ∷ h ∷ rest) fits = omega (arith, fits 0, fits 1, fits 2, fits 3, fits 4, fits 5, fits 6, fits 7)
+
+-- heads never turn the order of such numbers round
+heads_rise : (s t x y : ℕ) → x < 2 ^ 64 → y < 2 ^ 64 → headed s x < headed t y → s * 2 ^ 64 + x < t * 2 ^ 64 + y
+heads_rise zero zero x y p q lt = omega (arith, lt)
+heads_rise zero (suc t) x y p q lt = omega (arith, p)
+heads_rise (suc s) zero x y p q lt = absurd (omega (arith, lt, q))
+heads_rise (suc s) (suc t) x y p q lt = omega (arith, lt, p, q)
+
+-- where numbers that differ are never turned round, others are ordered as they are
+as_heads : (a b n m : ℕ) → (a < b → n < m) → (b < a → m < n) → nat_cmp a b ≢ Equal → nat_cmp n m ≡ nat_cmp a b
+as_heads a b n m up down apart = by (nat_cmp a b) refl (ranks a b)
+  where
+    by : (r : Ordering) → nat_cmp a b ≡ r → MatchOrdering r (a < b) (a ≡ b) (b < a) → nat_cmp n m ≡ r
+    by Less is lt = sym (nat_cmp_is n m Less (up lt))
+    by Equal is same = absurd (apart is)
+    by Greater is lt = sym (nat_cmp_is n m Greater (down lt))
+
 -- heads that differ decide
 pub by_heads : (us vs : List ℕ) → IsBytes us → IsBytes vs → nat_cmp (head us) (head vs) ≢ Equal → slice_cmp nat_cmp us vs ≡ nat_cmp (head us) (head vs)
-by_heads us vs g h = spelled_decides 8 0 0 us vs g h
+by_heads us vs g h apart =
+    let low : spelled 8 0 (drop 2 us) < 2 ^ 64 = few (drop 2 us) (IsBytes-drop 2 us g) in
+    let high : spelled 8 0 (drop 2 vs) < 2 ^ 64 = few (drop 2 vs) (IsBytes-drop 2 vs h) in
+    let up : head us < head vs → spelled 10 0 us < spelled 10 0 vs = λ lt. rw (ten us, ten vs) (heads_rise (spelled 2 0 us) (spelled 2 0 vs) _ _ low high lt) in
+    let down : head vs < head us → spelled 10 0 vs < spelled 10 0 us = λ lt. rw (ten us, ten vs) (heads_rise (spelled 2 0 vs) (spelled 2 0 us) _ _ high low lt) in
+    let same : nat_cmp (spelled 10 0 us) (spelled 10 0 vs) ≡ nat_cmp (head us) (head vs) = as_heads (head us) (head vs) (spelled 10 0 us) (spelled 10 0 vs) up down apart in
+    spelled_decides 10 0 0 us vs g h (λ level. apart (sym same ∙ level)) ∙ same

@@ -1,14 +1,31 @@
 -- The fields of files, and how a text is read field by field, from left to right, with the first fault that is met.
-use Rattle.std.specs.Prelude.{◌≡◌, ◌≢◌, ℕ, zero, suc, Bool, List, [], ◌∷◌, ◌++◌, length, take, drop, Option, Some, None, Result, Ok, Err, nat_lt, nat_le, nat_eq, ◌&&◌, if◌then◌else◌}
+use Rattle.std.specs.Prelude.{◌≡◌, ◌≢◌, ℕ, zero, suc, ◌+◌, ◌-◌, Bool, List, [], ◌∷◌, ◌++◌, length, take, drop, Option, Some, None, Result, Ok, Err, nat_lt, nat_le, nat_eq, ◌&&◌, if◌then◌else◌, ⊤}
 use Rattle.std.specs.Cmp.Lexicographic.{pointwise}
 use Rattle.std.specs.Int.{Width, w16, w32, byte_len, from_be_bytes, to_be_bytes}
 use Rattle.pc_types.specs.declared.refusal.Refusal.{Refusal}
 use Rattle.pc_types.specs.declared.refusal.Refusal.TheVariants.{OutOfMemory, Short, BadMagic, BadKind, BadLength}
-use Rattle.pc_types.specs.declared.limits.TheConstants.{MOST_KEY_BYTES, MOST_VALUE_BYTES}
+use Rattle.pc_types.specs.declared.limits.TheConstants.{SPACE_BYTES, MOST_KEY_BYTES, MOST_VALUE_BYTES}
+use Rattle.pc_types.specs.declared.formats.Format.{Format}
+use Rattle.pc_types.specs.declared.formats.Format.TheVariants.{First, Second}
+use Rattle.pc_types.specs.Keys.{space_of, own_bytes}
 
--- a key: its length, and its bytes
+-- what stands of a key behind the length of its own bytes: format 01 leaves its space out
+abbrev pub sized_key_text : Format → List ℕ → List ℕ
+sized_key_text First key = own_bytes key
+sized_key_text Second key = key
+
+-- a key: the length of its own bytes, its space, and its own bytes
+abbrev pub key_text_in : Format → List ℕ → List ℕ
+key_text_in format key = to_be_bytes w16 (length key - SPACE_BYTES) ++ sized_key_text format key
+
+-- the same as it is written, in format 02
 abbrev pub key_text : List ℕ → List ℕ
-key_text key = to_be_bytes w16 (length key) ++ key
+key_text key = key_text_in Second key
+
+-- the format has a text of the key: format 01 of those in space 0 alone
+abbrev pub HasKey : Format → List ℕ → Type 0
+HasKey First key = space_of key ≡ 0
+HasKey Second key = ⊤
 
 -- a value: its length, and its bytes
 abbrev pub value_text : List ℕ → List ℕ
@@ -49,23 +66,39 @@ bytes_at missing count bytes = if nat_lt (length bytes) count then Err missing e
 abbrev pub number_at : Refusal → Width → List ℕ → Result (ℕ × List ℕ) Refusal
 number_at missing w bytes = if nat_lt (length bytes) (byte_len w) then Err missing else Ok (from_be_bytes w (take (byte_len w) bytes), drop (byte_len w) bytes)
 
--- the bytes after this magic of 8 bytes
-unfoldable pub magic_at : List ℕ → List ℕ → Result (List ℕ) Refusal
-magic_at magic bytes = do
-  first ← bytes_at Short 8 bytes
-  where_true (pointwise nat_eq first.0 magic) BadMagic first.1
+-- the format that these bytes tell, of which the first magic tells format 01, and the second one 02
+abbrev pub format_told : List ℕ → List ℕ → List ℕ → Result Format Refusal
+format_told first second magic = if pointwise nat_eq magic second then Ok Second else where_true (pointwise nat_eq magic first) BadMagic First
 
--- a key of so many bytes
-unfoldable pub sized_key_at : Refusal → ℕ → List ℕ → Result (List ℕ × List ℕ) Refusal
-sized_key_at missing count bytes = do
+-- the format that one of two magics of 8 bytes tells, and the bytes after it
+unfoldable pub magic_at : List ℕ → List ℕ → List ℕ → Result (Format × List ℕ) Refusal
+magic_at first second bytes = do
+  magic ← bytes_at Short 8 bytes
+  format ← format_told first second magic.0
+  Ok (format, magic.1)
+
+-- how many bytes stand of a key beside its own
+abbrev pub space_bytes : Format → ℕ
+space_bytes First = 0
+space_bytes Second = SPACE_BYTES
+
+-- the key of what stands behind the length
+abbrev pub key_behind : Format → List ℕ → List ℕ
+key_behind First text = 0 ∷ 0 ∷ text
+key_behind Second text = text
+
+-- a key of so many bytes of its own
+unfoldable pub sized_key_at : Format → Refusal → ℕ → List ℕ → Result (List ℕ × List ℕ) Refusal
+sized_key_at format missing count bytes = do
   lawful ← where_true (nat_le 1 count && nat_le count MOST_KEY_BYTES) BadLength count
-  bytes_at missing lawful bytes
+  text ← bytes_at missing (lawful + space_bytes format) bytes
+  Ok (key_behind format text.0, text.1)
 
--- a key, its length before it
-unfoldable pub key_at : Refusal → List ℕ → Result (List ℕ × List ℕ) Refusal
-key_at missing bytes = do
+-- a key, the length of its own bytes before it
+unfoldable pub key_at : Format → Refusal → List ℕ → Result (List ℕ × List ℕ) Refusal
+key_at format missing bytes = do
   count ← number_at missing w16 bytes
-  sized_key_at missing count.0 count.1
+  sized_key_at format missing count.0 count.1
 
 -- a value, its length before it
 unfoldable pub value_at : Refusal → List ℕ → Result (List ℕ × List ℕ) Refusal

@@ -7,3 +7,4 @@ pub mod Phases
 pub mod FieldForms
 pub mod Heads
 pub mod Changes
+pub mod Keys

@@ -1,6 +1,6 @@
 //! Writes, and what each does to its key.
 ghost use Rattle.std.specs.Prelude.{◌≡◌, IfOk, option_copied, Some, true, is_some};
-ghost use Rattle.pc_types.specs.Changes.{number_of, added, added_to, can_add, merged, CanMerge};
+ghost use Rattle.pc_types.specs.Changes.{fits, number_of, added, added_to, can_add, merged, CanMerge};
 
 use crate::keys::Key;
 use crate::values::Value;
@@ -66,6 +66,13 @@ impl Change {
             Change::Add(earlier) => *earlier += delta,
         }
     }
+}
+
+/// A number of 64 bits with a sign fits where one is asked for: its type says so, and nothing is done.
+pub fn number_fits(number: i64)
+    ensures { fits number ≡ true }
+{
+    let _ = number;
 }
 
 /// The number that a key has once this is added to what it has, a value or nothing; None where the value is no number, or the

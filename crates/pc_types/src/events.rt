@@ -43,7 +43,7 @@ pub enum Class {
 /// An entry of the log.
 #[derive(Drop)]
 pub enum Entry {
-    /// A commit of the session: the final write of each key, in the order of first writes.
+    /// A commit of the session: of each key all its changes as one, in the order of first writes.
     Commit(SessionNo, Items<Write>),
     /// The phase changed, in the cycle of this point.
     Token(Phase, Point),

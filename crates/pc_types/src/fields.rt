@@ -3,10 +3,11 @@
 ghost use Rattle.std.specs.Prelude.{◌≡◌, ◌≤◌, length, IfOk};
 ghost use Rattle.std.specs.Int.{w16, w32, w64};
 ghost use Rattle.pc_types.specs.Limits.{IsKey};
-ghost use Rattle.pc_types.specs.Fields.{Reads, Gives, bytes_at, number_at, magic_at, sized_key_at, key_at, value_at, content_at};
+ghost use Rattle.pc_types.specs.Fields.{Reads, Gives, bytes_at, number_at, magic_at, key_behind, sized_key_at, key_at, value_at, content_at};
 
+use crate::formats::Format;
 use crate::keys::Key;
-use crate::limits::{MOST_KEY_BYTES, MOST_VALUE_BYTES};
+use crate::limits::{MOST_KEY_BYTES, MOST_VALUE_BYTES, SPACE_BYTES};
 use crate::refusal::Refusal;
 use crate::values::Value;
 use std::alloc::Global;
@@ -59,41 +60,78 @@ pub fn read_u64(bytes: &[u8], missing: Refusal) -> Result<(u64, &[u8]), Refusal>
     Ok((number, rest))
 }
 
-/// The bytes after the magic of 8 bytes. Refuses with `Short` exactly where there are fewer than 8, else with `BadMagic`
-/// exactly where the first 8 are others.
+/// The format that the magic of 8 bytes tells, of which the first one given tells format 01, and the second one 02; and the
+/// bytes after it. Refuses with `Short` exactly where there are fewer than 8, else with `BadMagic` exactly where the first 8 are
+/// neither.
 #[tactic(auto, unfolding(crate::specs::Fields::magic_at))]
-pub fn read_magic<'a>(bytes: &'a [u8], magic: &[u8]) -> Result<&'a [u8], Refusal>
-    ensures { Reads (λ x. x.now) result (magic_at magic.now bytes.now) }
+pub fn read_magic<'a>(
+    bytes: &'a [u8],
+    first: &[u8],
+    second: &[u8],
+) -> Result<(Format, &'a [u8]), Refusal>
+    ensures { Reads (λ x. (x.0, x.1.now)) result (magic_at first.now second.now bytes.now) }
 {
-    let (first, rest) = read_bytes(bytes, 8, Refusal::Short)?;
-    if first != magic {
+    let (magic, rest) = read_bytes(bytes, 8, Refusal::Short)?;
+    if magic == second {
+        return Ok((Format::Second, rest));
+    }
+    if magic != first {
         return Err(Refusal::BadMagic);
     }
-    Ok(rest)
+    Ok((Format::First, rest))
 }
 
-/// The bytes of a key whose length was read. Refuses with `BadLength` exactly where the length isn't 1 to 255, else with
-/// `missing` exactly where there are fewer bytes.
+/// What stands of a key behind its length in this format, and the bytes after it. The length is that of its own bytes. Refuses
+/// with `BadLength` exactly where it isn't 1 to 255, else with `missing` exactly where there are fewer bytes.
 #[tactic(auto, unfolding(crate::specs::Fields::sized_key_at))]
-pub fn read_sized_key(bytes: &[u8], count: u16, missing: Refusal) -> Result<(&[u8], &[u8]), Refusal>
-    ensures read { Reads (λ x. (x.0.now, x.1.now)) result (sized_key_at missing count bytes.now) }
-    ensures in_limits { IfOk result (λ x. IsKey x.0.now) }
+pub fn read_key_text(
+    format: Format,
+    bytes: &[u8],
+    count: u16,
+    missing: Refusal,
+) -> Result<(&[u8], &[u8]), Refusal>
+    ensures read { Reads (λ x. (key_behind format x.0.now, x.1.now)) result (sized_key_at format missing count bytes.now) }
+    ensures in_limits { IfOk result (λ x. IsKey (key_behind format x.0.now)) }
 {
     if count == 0 || MOST_KEY_BYTES < usize::from(count) {
         return Err(Refusal::BadLength);
     }
-    read_bytes(bytes, count as usize, missing)
+    let own = usize::from(count);
+    match format {
+        Format::First => read_bytes(bytes, own, missing),
+        Format::Second => read_bytes(bytes, own + SPACE_BYTES, missing),
+    }
+}
+
+/// A key whose length was read. Refuses with `BadLength` where that isn't 1 to 255, with `missing` where the bytes end inside
+/// the key, and with `OutOfMemory` only where a growth was refused.
+pub fn read_sized_key(
+    alloc: Global,
+    format: Format,
+    bytes: &[u8],
+    count: u16,
+    missing: Refusal,
+) -> Result<(Key, &[u8]), Refusal>
+    ensures read { Gives (λ x. (x.0, x.1.now)) result (sized_key_at format missing count bytes.now) }
+{
+    let (text, rest) = read_key_text(format, bytes, count, missing)?;
+    Ok((Key::of_text(alloc, format, text)?, rest))
 }
 
 /// A key, its length before it. Refuses with `BadLength` where the length isn't 1 to 255, with `missing` where the bytes
 /// end inside it, and with `OutOfMemory` only where a growth was refused.
 #[tactic(auto, unfolding(crate::specs::Fields::key_at))]
-pub fn read_key(alloc: Global, bytes: &[u8], missing: Refusal) -> Result<(Key, &[u8]), Refusal>
-    ensures { Gives (λ x. (x.0, x.1.now)) result (key_at missing bytes.now) }
+pub fn read_key(
+    alloc: Global,
+    format: Format,
+    bytes: &[u8],
+    missing: Refusal,
+) -> Result<(Key, &[u8]), Refusal>
+    ensures { Gives (λ x. (x.0, x.1.now)) result (key_at format missing bytes.now) }
 {
     let (count, rest) = read_u16(bytes, missing)?;
-    let (key, rest) = read_sized_key(rest, count, missing)?;
-    Ok((Key::new(alloc, key)?, rest))
+    let (text, rest) = read_key_text(format, rest, count, missing)?;
+    Ok((Key::of_text(alloc, format, text)?, rest))
 }
 
 /// A value, its length before it. Refuses with `BadLength` where it is longer than a value may be, with `missing` where

@@ -1,11 +1,28 @@
-//! The first bytes of a text as one number.
-ghost use Rattle.std.specs.Prelude.{◌≡◌};
+//! The first bytes of a key as one number.
+ghost use Rattle.std.specs.Prelude.{◌≡◌, ◌≤◌, length};
 ghost use Rattle.pc_types.specs.FieldForms.{IsBytes};
-ghost use Rattle.pc_types.specs.Heads.{head};
+ghost use Rattle.pc_types.specs.Heads.{head, spelled};
 
-/// The first eight bytes as one number, the highest first, with zeros behind fewer.
-pub(crate) fn head_of(bytes: &[u8]) -> u64
-    ensures head { result ≡ head bytes.now }
+use crate::limits::SPACE_BYTES;
+
+/// The head of a key, which is given by its space's two bytes and its own behind them.
+pub(crate) fn head_of(key: &[u8]) -> u64
+    requires { SPACE_BYTES ≤ length key.now }
+    ensures head { result ≡ head key.now }
+    ensures bytes { IsBytes key.now }
+{
+    let space = u16::from_be_bytes([key[0], key[1]]);
+    let first = first_eight(&key[SPACE_BYTES..]);
+    if space == 0 {
+        first / 2
+    } else {
+        (1 << 63) + (u64::from(space) * (1 << 47) + first / (1 << 17))
+    }
+}
+
+// The first eight bytes as one number, the highest first, with zeros behind fewer.
+fn first_eight(bytes: &[u8]) -> u64
+    ensures number { result ≡ spelled 8 0 bytes.now }
     ensures bytes { IsBytes bytes.now }
 {
     match bytes {

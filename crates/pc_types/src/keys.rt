@@ -1,13 +1,16 @@
-//! Keys: texts of bytes, of which up to 16 lie inline and take no memory.
+//! Keys: a space, and bytes of its own, of which up to 16 lie inline and take no memory.
 ghost use Rattle.std.specs.Prelude.{◌≡◌, ◌≤◌, ◌↔◌, length, IsOk, IfErr, IfOk, OnOk};
 ghost use Rattle.std.specs.Ordering.{nat_cmp, eq_by_cmp};
 ghost use Rattle.std.specs.Cmp.Lexicographic.{slice_cmp};
 ghost use Rattle.pc_types.specs.FieldForms.{IsBytes};
 ghost use Rattle.pc_types.specs.Heads.{head};
-ghost use Rattle.pc_types.specs.Limits.{IsKey};
+ghost use Rattle.pc_types.specs.Fields.{key_behind};
+ghost use Rattle.pc_types.specs.Keys.{key_of, space_of, own_bytes};
+ghost use Rattle.pc_types.specs.Limits.{AreOwnBytes, IsKey};
 
+use crate::formats::Format;
 use crate::heads::head_of;
-use crate::limits::MOST_KEY_BYTES;
+use crate::limits::{MOST_KEY_BYTES, SPACE_BYTES};
 use crate::ordering::order;
 use crate::refusal::Refusal;
 use smallvec::SmallVec;
@@ -15,11 +18,15 @@ use std::alloc::{AllocError, Global};
 use std::cmp::Ordering;
 use std::marker::Model;
 
-/// A key: 1 to 255 bytes, of which up to 16 lie inline. Keys are ordered byte by byte, a proper beginning before what
-/// it begins.
+// A key has at most so many bytes with its space's.
+const MOST_BYTES: usize = SPACE_BYTES + MOST_KEY_BYTES;
+
+/// A key: a space, which is a number from 0 to 65,535, and 1 to 255 bytes of its own, of which up to 16 lie inline. Keys are
+/// ordered by space, and in one space byte by byte, a proper beginning before what it begins.
 #[derive(Drop)]
 pub struct Key {
-    bytes: SmallVec<u8, 16>,
+    // The space's two bytes, the higher one first, and the key's own behind them.
+    bytes: SmallVec<u8, 18>,
 }
 
 impl Model for Key {
@@ -37,25 +44,66 @@ impl Model for Key {
 }
 
 impl Key {
-    /// The key of these bytes. Refuses with `KeyLength` exactly where there are none or more than 255, and else only
-    /// with `OutOfMemory`, never for 1 to 16 bytes.
-    pub fn new(alloc: Global, bytes: &[u8]) -> Result<Key, Refusal>
-        ensures key { IfOk result (λ key. key ≡ bytes.now) }
-        ensures in_limits { OnOk result (IsKey bytes.now) }
-        ensures length { (result ≡ Err Refusal.KeyLength) ↔ (¬ IsKey bytes.now) }
-        ensures memory { IsKey bytes.now → IfErr result (λ e. e ≡ Refusal.OutOfMemory) }
-        ensures inline { IsKey bytes.now → length bytes.now ≤ 16 → IsOk result }
+    /// The key of these bytes in space 0. Refuses with `KeyLength` exactly where there are none or more than 255, and else
+    /// only with `OutOfMemory`, never for 1 to 16 bytes.
+    pub fn new(alloc: Global, own: &[u8]) -> Result<Key, Refusal>
+        ensures key { IfOk result (λ key. key ≡ key_of 0 own.now) }
+        ensures in_limits { OnOk result (AreOwnBytes own.now) }
+        ensures length { (result ≡ Err Refusal.KeyLength) ↔ (¬ AreOwnBytes own.now) }
+        ensures memory { AreOwnBytes own.now → IfErr result (λ e. e ≡ Refusal.OutOfMemory) }
+        ensures inline { AreOwnBytes own.now → length own.now ≤ 16 → IsOk result }
     {
-        if bytes.is_empty() || bytes.len() > MOST_KEY_BYTES {
+        Key::in_space(alloc, 0, own)
+    }
+
+    /// The key of these bytes in a space. Refuses with `KeyLength` exactly where there are none or more than 255, and else only
+    /// with `OutOfMemory`, never for 1 to 16 bytes.
+    pub fn in_space(alloc: Global, space: u16, own: &[u8]) -> Result<Key, Refusal>
+        ensures key { IfOk result (λ key. key ≡ key_of space own.now) }
+        ensures in_limits { OnOk result (AreOwnBytes own.now) }
+        ensures length { (result ≡ Err Refusal.KeyLength) ↔ (¬ AreOwnBytes own.now) }
+        ensures memory { AreOwnBytes own.now → IfErr result (λ e. e ≡ Refusal.OutOfMemory) }
+        ensures inline { AreOwnBytes own.now → length own.now ≤ 16 → IsOk result }
+    {
+        if own.is_empty() || own.len() > MOST_KEY_BYTES {
             return Err(Refusal::KeyLength);
         }
-        match SmallVec::from_slice(alloc, bytes) {
+        match joined(alloc, space, own) {
             Ok(bytes) => Ok(Key { bytes }),
             Err(_) => Err(Refusal::OutOfMemory),
         }
     }
 
-    /// Its bytes, 1 to 255.
+    /// The key that a file has behind its length in this format. It takes memory only for more than 16 bytes of its own, and
+    /// fails only where that ran out.
+    pub(crate) fn of_text(alloc: Global, format: Format, text: &[u8]) -> Result<Key, AllocError>
+        requires { IsKey (key_behind format text.now) }
+        ensures { IfOk result (λ key. key ≡ key_behind format text.now) }
+    {
+        let bytes = match format {
+            Format::First => joined(alloc, 0, text)?,
+            Format::Second => SmallVec::from_slice(alloc, text)?,
+        };
+        Ok(Key { bytes })
+    }
+
+    /// Its space.
+    pub fn space(&self) -> u16
+        ensures { result ≡ space_of self.now }
+    {
+        let bytes = self.as_bytes();
+        u16::from_be_bytes([bytes[0], bytes[1]])
+    }
+
+    /// The bytes of its own, 1 to 255.
+    pub fn own_bytes(&self) -> &[u8]
+        ensures bytes { result.now ≡ own_bytes self.now }
+        ensures in_limits { AreOwnBytes result.now }
+    {
+        &self.as_bytes()[SPACE_BYTES..]
+    }
+
+    /// The bytes by which it is ordered, 3 to 257: its space's two, the higher one first, and its own behind them.
     pub fn as_bytes(&self) -> &[u8]
         ensures bytes { result.now ≡ self.now }
         ensures in_limits { IsKey self.now }
@@ -70,8 +118,9 @@ impl Key {
         order(self.as_bytes(), other.as_bytes())
     }
 
-    /// Its first eight bytes as one number, the highest first, with zeros behind a shorter key. Keys whose heads differ are
-    /// ordered as their heads are; of keys that have one head nothing is said.
+    /// Its space and the first of its own bytes as one number: in space 0 their first 63 bits, with zeros behind a shorter key;
+    /// in another one the highest bit, the space, and their first 47 bits. Keys whose heads differ are ordered as their heads are;
+    /// of keys that have one head nothing is said.
     pub fn head(&self) -> u64
         ensures head { result ≡ head self.now }
         ensures bytes { IsBytes self.now }
@@ -89,11 +138,26 @@ impl Key {
     /// The same key once more. It takes memory only for more than 16 bytes.
     pub fn copy(&self, alloc: Global) -> Result<Key, AllocError>
         ensures copy { IfOk result (λ key. key ≡ self.now) }
-        ensures inline { length self.now ≤ 16 → IsOk result }
+        ensures inline { length self.now ≤ 18 → IsOk result }
     {
         let bytes = SmallVec::from_slice(alloc, self.as_bytes())?;
         Ok(Key { bytes })
     }
+}
+
+// The space's two bytes, the higher one first, and these behind them. It takes memory only for more than 16 of these.
+fn joined(alloc: Global, space: u16, own: &[u8]) -> Result<SmallVec<u8, 18>, AllocError>
+    requires { length own.now ≤ MOST_KEY_BYTES }
+    ensures joined { IfOk result (λ bytes. bytes.items ≡ key_of space own.now) }
+    ensures inline { length own.now ≤ 16 → IsOk result }
+{
+    let mut bytes = [0u8; MOST_BYTES];
+    let [high, low] = space.to_be_bytes();
+    bytes[0] = high;
+    bytes[1] = low;
+    let len = SPACE_BYTES + own.len();
+    bytes[SPACE_BYTES..len].copy_from_slice(own);
+    SmallVec::from_slice(alloc, &bytes[..len])
 }
 
 impl PartialEq for Key {

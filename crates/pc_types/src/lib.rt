@@ -5,9 +5,11 @@
 mod changes;
 mod events;
 mod fields;
+mod formats;
 mod gate;
 mod heads;
 mod keys;
+mod laws;
 mod limits;
 mod lists;
 mod locking;
@@ -19,17 +21,19 @@ mod tally;
 mod triples;
 mod values;
 
-pub use changes::{Change, Write, is_number, sum};
+pub use changes::{Change, Write, is_number, number_fits, sum};
 pub use events::{Class, Entry, Event, Phase, Reply, Step};
 pub use fields::{
-    read_bytes, read_content, read_key, read_magic, read_sized_key, read_u16, read_u32, read_u64,
-    read_value,
+    read_bytes, read_content, read_key, read_key_text, read_magic, read_sized_key, read_u16,
+    read_u32, read_u64, read_value,
 };
+pub use formats::Format;
 pub use gate::{Gate, GatePlace, OpenGate};
 pub use keys::Key;
+pub use laws::{keys_are_ordered, keys_are_pairs, pairs_are_keys};
 pub use limits::{
     MOST_FILE_ENTRIES, MOST_FILES, MOST_KEY_BYTES, MOST_KEYS, MOST_LOG_ENTRIES, MOST_POINTS,
-    MOST_SESSIONS, MOST_TRANSACTIONS, MOST_VALUE_BYTES, MOST_WRITES,
+    MOST_SESSIONS, MOST_TRANSACTIONS, MOST_VALUE_BYTES, MOST_WRITES, SPACE_BYTES,
 };
 pub use lists::Items;
 pub use locking::{Mode, Outcome, Request};

@@ -1,6 +1,9 @@
 //! The limits of the store, each once.
 
-/// A key has at least one byte, and at most so many.
+/// A key's space has so many bytes, which stand before its own.
+pub const SPACE_BYTES: usize = 2;
+
+/// A key has at least one byte of its own, and at most so many.
 pub const MOST_KEY_BYTES: usize = 255;
 
 /// A value has at most so many bytes.

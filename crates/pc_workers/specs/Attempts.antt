@@ -1,12 +1,13 @@
 -- What a client asks for its session: of each job its attempts, and of each attempt its calls, one after the other. Each stands
 -- between two histories, of which the session had seen the first before and has seen the second now; it asked for nothing else.
-use Rattle.std.specs.Prelude.{◌≡◌, ◌⊎◌, ◌<◌, ◌≤◌, ◌++◌, ℕ, zero, suc, Bool, true, false, List, [], ◌∷◌, length}
+use Rattle.std.specs.Prelude.{◌≡◌, ◌+◌, ◌⊎◌, ◌<◌, ◌≤◌, ◌++◌, ℕ, zero, suc, Bool, true, false, List, [], ◌∷◌, length}
 use Rattle.pc_types.specs.declared.Event.{Event}
 use Rattle.pc_types.specs.declared.Event.TheVariants as asked
 use Rattle.pc_types.specs.declared.Refusal.{Refusal}
 use Rattle.pc_types.specs.declared.Refusal.TheVariants as why
 use Rattle.pc_types.specs.declared.Reply.{Reply}
 use Rattle.pc_types.specs.declared.Reply.TheVariants as told
+use Rattle.pc_types.specs.declared.limits.TheConstants.{SPACE_BYTES}
 use Rattle.pc_model.specs.History.{History, is_open}
 use Rattle.pc_model.specs.Replies.{Setting}
 use Rattle.pc_model.specs.Calls.{step_of, Extends, IsAnswered}
@@ -67,12 +68,12 @@ pub record OneDies (st : Setting) (s : ℕ) (ops : List Op) (early late : Histor
   pub first : AreMade st s made early between
   pub dies : Dies st s next between late
 
--- the operation names a key or a value of more than 16 bytes, a copy of which takes memory
+-- the operation names a key of more than 16 bytes of its own, or a value of more than 16, a copy of which takes memory
 abbrev pub TakesMemory : Op → Type 0
-TakesMemory (Get key) = 16 < length key
-TakesMemory (Put key value) = (16 < length key) ⊎ (16 < length value)
-TakesMemory (Del key) = 16 < length key
-TakesMemory (Add key delta) = 16 < length key
+TakesMemory (Get key) = SPACE_BYTES + 16 < length key
+TakesMemory (Put key value) = (SPACE_BYTES + 16 < length key) ⊎ (16 < length value)
+TakesMemory (Del key) = SPACE_BYTES + 16 < length key
+TakesMemory (Add key delta) = SPACE_BYTES + 16 < length key
 
 -- the session, which has seen so much, was refused the operation; or memory was wanting for a copy of what it names
 abbrev pub IsRefusedOp : Setting → ℕ → Op → Refusal → History → Type 0

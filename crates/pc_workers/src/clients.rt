@@ -1,6 +1,5 @@
 //! A client's loop: a session runs jobs, each as a transaction.
 ghost use Rattle.std.specs.Prelude.{◌≡◌, ◌≢◌, ◌<◌, ◌-◌, ◌^◌, ◌+◌, true, false, [], length, IfOk, IfErr, OnErr, MatchBool};
-ghost use Rattle.pc_types.specs.Changes.{fits};
 ghost use Rattle.pc_model.specs.History.{is_open};
 ghost use Rattle.pc_workers.specs.Attempts.{WasAborted, AreMade, OneDies, IsRefusedOp, IsStuck, IsAttempt, IsTried};
 ghost use Rattle.pc_workers.specs.Clients.{HasCommitted, HasRun, HasTried, done_by, written_by, wrote, wrote_all, writes_of};
@@ -9,7 +8,7 @@ ghost use Rattle.pc_workers.specs.Courses.{IsInRange, IsAsked, IsCourse, IsRepea
 use pc_jobs::{Job, Op};
 use pc_shared::{CallAnswer, Session, Shared, pause};
 use pc_tie::StoreName;
-use pc_types::{Gate, GatePlace, Lsn, Refusal};
+use pc_types::{Gate, GatePlace, Lsn, Refusal, number_fits};
 use std::alloc::Global;
 use std::sync::Wait;
 
@@ -93,15 +92,9 @@ fn in_range(op: &Op)
     ensures { IsInRange op.now }
 {
     match op {
-        Op::Add(_, delta) => number_in_range(*delta),
+        Op::Add(_, delta) => number_fits(*delta),
         _ => {}
     }
-}
-
-fn number_in_range(number: i64)
-    ensures { fits number ≡ true }
-{
-    let _ = number;
 }
 
 // Makes the operations, until one dies: then false.
@@ -293,7 +286,8 @@ fn run<N: StoreName, R: Wait, G: Gate>(
 /// how many jobs were committed, each of which has added a receipt with what the job writes, in their order, and how many were
 /// given up. If the session had no transaction open, each job was tried by just these calls, and none is open behind it: each
 /// attempt but the last one died, and a job that is given up has died so 10,001 times, or was refused as the store may after some
-/// legal history with all that the session had seen, or named a key or a value of more than 16 bytes, whose copy takes memory.
+/// legal history with all that the session had seen, or named a key of more than 16 bytes of its own or a value of
+/// more than 16, whose copy takes memory.
 pub fn client_loop<N: StoreName, R: Wait, G: Gate>(
     rt: &R,
     alloc: Global,

@@ -7,5 +7,5 @@ use Rattle.pc_log.proofs.encoding.writes_size.Given as goal
 abbrev pub invariant-loop-write : goal.invariant-loop-write
 invariant-loop-write l = record {
   size : l.size ≡ length (flat_map write_text (take l.write-index l.writes));
-  limit : l.size ≤ 65797 * l.write-index;
+  limit : l.size ≤ 65799 * l.write-index;
 }

@@ -6,7 +6,7 @@ use Rattle.pc_log.proofs.reading.read_entries.Given as goal
 
 -- what is read from here on, behind the entries so far, is what is read from the start
 abbrev pub invariant-loop-rest : goal.invariant-loop-rest
-invariant-loop-rest l = with_front l.entries.items (all_at l.last l.rest) ≡ all_at no_token l.bytes
+invariant-loop-rest l = with_front l.entries.items (all_at l.format l.last l.rest) ≡ all_at l.format no_token l.bytes
 
 abbrev pub decreases-loop-rest : goal.decreases-loop-rest
 decreases-loop-rest l = length l.rest

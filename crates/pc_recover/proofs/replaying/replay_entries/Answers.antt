@@ -8,29 +8,29 @@ use Rattle.pc_recover.proofs.replaying.replay_entries.Goals as goal
 
 pub loop-rest-init : goal.loop-rest-init
 loop-rest-init c = record {
-  replay = rw c.none-last.ensures (all_to_come c.eq-is_behind.result c.args.point c.args.database (all_at no_token c.args.bytes.now) c.eq-is_behind.ensures);
+  replay = rw c.none-last.ensures (all_to_come c.eq-is_behind.result c.args.point c.args.database (all_at c.args.format no_token c.args.bytes.now) c.eq-is_behind.ensures);
   counted = omega arith;
 }
 
 pub loop-rest-smaller : goal.loop-rest-smaller
-loop-rest-smaller c = entry_shorter c.loop-rest.last c.loop-rest.rest.now c.in-Ok.entry c.in-Ok.after.now c.in-Ok.ensures
+loop-rest-smaller c = entry_shorter c.args.format c.loop-rest.last c.loop-rest.rest.now c.in-Ok.entry c.in-Ok.after.now c.in-Ok.ensures
 
 pub loop-rest-preserved : goal.loop-rest-preserved
 loop-rest-preserved c =
-    let shorter = entry_shorter c.loop-rest.last c.loop-rest.rest.now c.in-Ok.entry c.in-Ok.after.now c.in-Ok.ensures in
-    let total = found_replay c.args.point c.args.database (all_at no_token c.args.bytes.now) in
+    let shorter = entry_shorter c.args.format c.loop-rest.last c.loop-rest.rest.now c.in-Ok.entry c.in-Ok.after.now c.in-Ok.ensures in
+    let total = found_replay c.args.point c.args.database (all_at c.args.format no_token c.args.bytes.now) in
     record {
-      replay = rw c.after-last.ensures (replay_goes_on c.loop-rest.is_behind c.args.point c.loop-rest.database c.loop-rest.entries c.loop-rest.last c.loop-rest.rest.now total c.loop-rest.invariant.replay c.in-Ok.entry c.in-Ok.after.now c.in_ok-next-in-Ok.next c.in_ok-next-in-Ok.is_next_behind c.in-Ok.ensures c.in_ok-next-in-Ok.ensures.applied c.in_ok-next-in-Ok.ensures.token);
+      replay = rw c.after-last.ensures (replay_goes_on c.args.format c.loop-rest.is_behind c.args.point c.loop-rest.database c.loop-rest.entries c.loop-rest.last c.loop-rest.rest.now total c.loop-rest.invariant.replay c.in-Ok.entry c.in-Ok.after.now c.in_ok-next-in-Ok.next c.in_ok-next-in-Ok.is_next_behind c.in-Ok.ensures c.in_ok-next-in-Ok.ensures.applied c.in_ok-next-in-Ok.ensures.token);
       counted = omega (arith, shorter, c.loop-rest.invariant.counted);
     }
 
 pub returns-in-Err : goal.returns-in-Err
 returns-in-Err c =
-    let total = found_replay c.args.point c.args.database (all_at no_token c.args.bytes.now) in
+    let total = found_replay c.args.point c.args.database (all_at c.args.format no_token c.args.bytes.now) in
     stopped_gives c.stopped.result c.in-Err.fault total (record { pairs = c.loop-rest.database; entries = c.loop-rest.entries; fault = Some c.in-Err.fault }) c.stopped.ensures.read c.stopped.ensures.memory
-    (λ other. replay_stops c.loop-rest.is_behind c.args.point c.loop-rest.database c.loop-rest.entries c.loop-rest.last c.loop-rest.rest.now total c.loop-rest.invariant.replay c.in-Err.fault (c.in-Err.ensures other) (not_empty c.is_empty.result c.loop-rest.rest.now c.is_empty.ensures c.loop-rest-test.true))
+    (λ other. replay_stops c.args.format c.loop-rest.is_behind c.args.point c.loop-rest.database c.loop-rest.entries c.loop-rest.last c.loop-rest.rest.now total c.loop-rest.invariant.replay c.in-Err.fault (c.in-Err.ensures other) (not_empty c.is_empty.result c.loop-rest.rest.now c.is_empty.ensures c.loop-rest-test.true))
 
 pub returns : goal.returns
 returns c =
-    let total = found_replay c.args.point c.args.database (all_at no_token c.args.bytes.now) in
-    ap Ok (replay_done c.loop-rest.is_behind c.args.point c.loop-rest.database c.loop-rest.entries c.loop-rest.last c.loop-rest.rest.now total c.loop-rest.invariant.replay (is_empty c.is_empty.result c.loop-rest.rest.now c.is_empty.ensures c.loop-rest-test.false))
+    let total = found_replay c.args.point c.args.database (all_at c.args.format no_token c.args.bytes.now) in
+    ap Ok (replay_done c.args.format c.loop-rest.is_behind c.args.point c.loop-rest.database c.loop-rest.entries c.loop-rest.last c.loop-rest.rest.now total c.loop-rest.invariant.replay (is_empty c.is_empty.result c.loop-rest.rest.now c.is_empty.ensures c.loop-rest-test.false))

@@ -9,17 +9,17 @@ use Rattle.pc_streams.proofs.source.Source.entry.Goals as goal
 
 pub keep_last-requires : goal.keep_last-requires
 keep_last-requires g c =
-    fits_by (λ entry. entry) (next_entry_at c.args.ranges.now c.args.last.now) (next_entry_local c.args.ranges.now c.args.last.now) (buffered c.loop-entry.self) c.left.result.now c.in-Ok.rest.now c.in-Ok.entry
+    fits_by (λ entry. entry) (next_entry_at c.args.format c.args.ranges.now c.args.last.now) (next_entry_local c.args.format c.args.ranges.now c.args.last.now) (buffered c.loop-entry.self) c.left.result.now c.in-Ok.rest.now c.in-Ok.entry
     c.left.ensures c.in-Ok.ensures
 
 pub returns-in-Ok-clause-drawn : goal.returns-in-Ok-clause-drawn
 returns-in-Ok-clause-drawn g c =
-    drawn_by (λ entry. entry) (next_entry_at c.args.ranges.now c.args.last.now) (next_entry_local c.args.ranges.now c.args.last.now) (text_left g.R.Read.remaining c.args.self.now)
+    drawn_by (λ entry. entry) (next_entry_at c.args.format c.args.ranges.now c.args.last.now) (next_entry_local c.args.format c.args.ranges.now c.args.last.now) (text_left g.R.Read.remaining c.args.self.now)
     (g.R.Read.remaining c.loop-entry.self.tally.inner) (buffered c.loop-entry.self) c.left.result.now c.in-Ok.rest.now c.keep_last.new.self c.in-Ok.entry c.loop-entry.invariant.kept c.left.ensures
     c.keep_last.ensures c.in-Ok.ensures
 
 pub read_on-requires : goal.read_on-requires
-read_on-requires g c = spared_by (next_entry_at c.args.ranges.now c.args.last.now c.left.result.now) c.in-Err.why (spared_next c.args.ranges.now c.args.last.now c.left.result.now) c.in-Err.ensures
+read_on-requires g c = spared_by (next_entry_at c.args.format c.args.ranges.now c.args.last.now c.left.result.now) c.in-Err.why (spared_next c.args.format c.args.ranges.now c.args.last.now c.left.result.now) c.in-Err.ensures
 
 pub loop-entry-smaller : goal.loop-entry-smaller
 loop-entry-smaller g c =
@@ -29,7 +29,7 @@ loop-entry-smaller g c =
 
 pub returns-in_err-read_on-in-Err-clause-drawn : goal.returns-in_err-read_on-in-Err-clause-drawn
 returns-in_err-read_on-in-Err-clause-drawn g c =
-    refused_by (λ entry. entry) (next_entry_at c.args.ranges.now c.args.last.now) (next_entry_local c.args.ranges.now c.args.last.now) (text_left g.R.Read.remaining c.args.self.now)
+    refused_by (λ entry. entry) (next_entry_at c.args.format c.args.ranges.now c.args.last.now) (next_entry_local c.args.format c.args.ranges.now c.args.last.now) (text_left g.R.Read.remaining c.args.self.now)
     (g.R.Read.remaining c.loop-entry.self.tally.inner) (g.R.Read.remaining c.read_on.new.self.tally.inner) (buffered c.loop-entry.self) c.left.result.now (buffered c.read_on.new.self)
     c.in-Err.why c.in_err-read_on-in-Err.field-0.0 c.from_residual.result c.loop-entry.invariant.kept c.read_on.ensures.kept c.left.ensures c.in-Err.ensures
     c.in_err-read_on-in-Err.ensures.refusals c.from_residual.ensures
@@ -40,4 +40,4 @@ returns-in_err-read_on-in-Err-clause-counts g c =
     c.in_err-read_on-in-Err.ensures.counts c.from_residual.ensures
 
 pub returns-in-Ok-clause-lawful : goal.returns-in-Ok-clause-lawful
-returns-in-Ok-clause-lawful g c = next_lawful c.args.ranges.now c.args.last.now c.left.result.now c.in-Ok.entry c.in-Ok.rest.now c.in-Ok.ensures
+returns-in-Ok-clause-lawful g c = next_lawful c.args.format c.args.ranges.now c.args.last.now c.left.result.now c.in-Ok.entry c.in-Ok.rest.now c.in-Ok.ensures

@@ -1,5 +1,5 @@
 use Rattle.pc_types.proofs.NumberLaws.{is_fit}
-use Rattle.pc_workers.proofs.clients.number_in_range.Goals as goal
+use Rattle.pc_types.proofs.changes.number_fits.Goals as goal
 
 pub returns : goal.returns
 returns c = is_fit c.args.number c.ranges.number

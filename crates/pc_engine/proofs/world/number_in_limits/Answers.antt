@@ -1,5 +1,0 @@
-use Rattle.pc_types.proofs.NumberLaws.{is_fit}
-use Rattle.pc_engine.proofs.world.number_in_limits.Goals as goal
-
-pub returns : goal.returns
-returns c = is_fit c.args.number c.ranges.number
