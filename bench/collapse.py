@@ -4,6 +4,7 @@
     bench/collapse.py 64 20000       so many files, each of one point with so many entries, with keys of 8 bytes and values of 4, 16 and 1,000 in turn: half
                                      of a file's keys are in its neighbour too
     bench/collapse.py 64 20000 16    the same with values of 16 bytes alone
+    bench/collapse.py --first 64 20000    the same with files of format 01, of which one of 02 is made
 
 Build the program first, by `rt run -- --version` in the folder crates/pcalc. The other one (`bench/merge.cpp`) is built here, by `c++`; without that only
 pcalc is measured. Both run in turn, and must write the same bytes.
@@ -24,12 +25,13 @@ RUNS = 5
 VALUES = (4, 16, 1000)
 
 
-def part(point, entries, size):
+def part(point, entries, size, is_first):
     """The text of the part of a point, whose keys rise: their numbers begin half a file's keys behind those of the point before."""
-    head = b"PCALCP01" + (1).to_bytes(8, "big") + (1).to_bytes(4, "big") + 2 * point.to_bytes(4, "big")
+    magic, before = (b"PCALCP01", b"\0\x08") if is_first else (b"PCALCP02", b"\0\x08\0\0")
+    head = magic + (1).to_bytes(8, "big") + (1).to_bytes(4, "big") + 2 * point.to_bytes(4, "big")
     first = point * (entries // 2)
     content = b"\1" + size.to_bytes(4, "big") + (b"%08d" % point * (size // 8 + 1))[:size]
-    lines = [b"\0\x08%08d" % (first + number) + point.to_bytes(4, "big") + content for number in range(entries)]
+    lines = [before + b"%08d" % (first + number) + point.to_bytes(4, "big") + content for number in range(entries)]
     return head + b"".join(lines) + bytes(2) + entries.to_bytes(4, "big")
 
 
@@ -42,22 +44,23 @@ def built(folder):
     return program
 
 
-def written(folder, files, entries, size):
+def written(folder, files, entries, size, is_first):
     """The names of the files, and how many bytes they have together."""
     names, total = [], 0
     for point in range(1, files + 1):
         names.append(os.path.join(folder, "%05d.pcp" % point))
-        text = part(point, entries, size)
+        text = part(point, entries, size, is_first)
         total += len(text)
         with open(names[-1], "wb") as it:
             it.write(text)
     return names, total
 
 
-def measured(folder, programs, files, entries, size):
+def measured(folder, programs, files, entries, size, is_first):
     """Runs the programs in turn over files with values of so many bytes, and prints what each took."""
-    names, total = written(folder, files, entries, size)
-    print("%d files of %d entries with values of %d bytes, %.1f MB, %d runs" % (files, entries, size, total / 1e6, RUNS))
+    names, total = written(folder, files, entries, size, is_first)
+    what = "%d files%s of %d entries" % (files, " of format 01" if is_first else "", entries)
+    print("%s with values of %d bytes, %.1f MB, %d runs" % (what, size, total / 1e6, RUNS))
     runs, texts = {name: [] for name, _ in programs}, set()
     for _ in range(RUNS):
         for name, words in programs:
@@ -70,19 +73,21 @@ def measured(folder, programs, files, entries, size):
         sys.exit("they wrote different bytes")
     for name, took in runs.items():
         seconds, peak = [some for some, _ in took], max(most for _, most in took)
-        history.note("%s: %d files of %d entries, values of %d bytes" % (name, files, entries, size), total / min(seconds) / 1e6, "MB a second of processor time")
+        history.note("%s: %s, values of %d bytes" % (name, what, size), total / min(seconds) / 1e6, "MB a second of processor time")
         print("%s: %.3f to %.3f s of processor time, %.0f to %.0f MB a second, peak %.1f MB" % (name, min(seconds), max(seconds), total / max(seconds) / 1e6, total / min(seconds) / 1e6, peak / 1e6))
     for name in names:
         os.remove(name)
 
 
 def main():
-    files, entries = int(sys.argv[1]), int(sys.argv[2])
+    words = sys.argv[1:]
+    is_first = words[:1] == ["--first"]
+    files, entries, *sizes = [int(some) for some in words[is_first:]]
     with tempfile.TemporaryDirectory() as folder:
         beside = built(folder)
         programs = [("collapse", [PROGRAM, "collapse"])] + ([("C++ heap", [beside])] if beside else [])
-        for size in [int(some) for some in sys.argv[3:]] or VALUES:
-            measured(folder, programs, files, entries, size)
+        for size in sizes or VALUES:
+            measured(folder, programs, files, entries, size, is_first)
 
 
 if __name__ == "__main__":

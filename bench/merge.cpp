@@ -1,4 +1,4 @@
-// Joins part files as `pcalc collapse` does, by a heap over all inputs, which it holds in memory: what a program written by hand takes.
+// Joins part files of either format as `pcalc collapse` does, by a heap over all inputs, which it holds in memory: what a program written by hand takes.
 //
 //     merge OUT IN...
 #include <algorithm>
@@ -33,9 +33,11 @@ struct Input {
     size_t at = 0;
     uint64_t run = 0;
     std::vector<Range> ranges;
-    std::string_view key, entry;
+    // The key's own bytes, and what stands behind them.
+    std::string_view own, entry;
     uint64_t head = 0;
-    uint32_t point = 0, count = 0;
+    uint32_t space = 0, point = 0, count = 0;
+    bool has_spaces = false;
 
     const char* take(size_t bytes) {
         if (text.size() - at < bytes) fail("Short");
@@ -49,7 +51,9 @@ struct Input {
         char piece[65536];
         for (size_t n; (n = std::fread(piece, 1, sizeof piece, file)) > 0;) text.append(piece, n);
         std::fclose(file);
-        if (std::memcmp(take(8), "PCALCP01", 8) != 0) fail("BadMagic");
+        const char* magic = take(8);
+        has_spaces = std::memcmp(magic, "PCALCP02", 8) == 0;
+        if (!has_spaces && std::memcmp(magic, "PCALCP01", 8) != 0) fail("BadMagic");
         run = number(take(8), 8);
         uint64_t some = number(take(4), 4);
         for (uint64_t i = 0; i < some; ++i) {
@@ -66,16 +70,18 @@ struct Input {
 
     // Goes to the next entry; false at the end.
     bool next() {
-        size_t start = at;
         size_t length = number(take(2), 2);
         if (length == 0) {
             if (number(take(4), 4) != count) fail("BadLength");
             if (at != text.size()) fail("Trailing");
             return false;
         }
-        std::string_view before = key;
-        key = {take(length), length};
-        if (!(before < key)) fail("KeyOrder");
+        std::string_view before = own;
+        uint32_t space_before = space;
+        space = has_spaces ? number(take(2), 2) : 0;
+        own = {take(length), length};
+        if (space < space_before || (space == space_before && !(before < own))) fail("KeyOrder");
+        size_t start = at;
         point = number(take(4), 4);
         if (!covers(point)) fail("NotCovered");
         char kind = *take(1);
@@ -83,7 +89,7 @@ struct Input {
         else if (kind != 0) fail("BadKind");
         entry = {text.data() + start, at - start};
         char first[8] = {};
-        std::memcpy(first, key.data(), std::min<size_t>(8, length));
+        std::memcpy(first, own.data(), std::min<size_t>(8, length));
         head = number(first, 8);
         ++count;
         return true;
@@ -92,8 +98,9 @@ struct Input {
 
 struct Later {
     bool operator()(const Input* a, const Input* b) const {
+        if (a->space != b->space) return a->space > b->space;
         if (a->head != b->head) return a->head > b->head;
-        return a->key > b->key;
+        return a->own > b->own;
     }
 };
 
@@ -128,7 +135,7 @@ int main(int argc, char** argv) {
     std::vector<Range> ranges = together(inputs);
     std::FILE* file = std::fopen(argv[1], "wb");
     if (!file) fail("Device");
-    std::string out = "PCALCP01";
+    std::string out = "PCALCP02";
     put(out, inputs[0].run, 8);
     put(out, ranges.size(), 4);
     for (Range range : ranges) put(out, range.low, 4), put(out, range.high, 4);
@@ -138,15 +145,18 @@ int main(int argc, char** argv) {
     uint64_t entries = 0;
     while (!heap.empty()) {
         Input* first = heap.top();
-        std::string_view key = first->key, newest = first->entry;
-        uint32_t point = first->point;
-        while (!heap.empty() && heap.top()->key == key) {
+        std::string_view own = first->own, newest = first->entry;
+        uint32_t space = first->space, point = first->point;
+        while (!heap.empty() && heap.top()->space == space && heap.top()->own == own) {
             Input* input = heap.top();
             heap.pop();
             if (input->point > point) newest = input->entry, point = input->point;
             else if (input->point == point && input->entry != newest) fail("Conflict");
             if (input->next()) heap.push(input);
         }
+        put(out, own.size(), 2);
+        put(out, space, 2);
+        out.append(own);
         out.append(newest);
         ++entries;
         if (out.size() >= 65536) flush(out, file);

@@ -37,28 +37,28 @@ def key(number):
 def base(pairs):
     """The text of a base of point 0, whose values are their keys."""
     head = plain_files.Base(RUN, 0, {}).text()[:-4] + pairs.to_bytes(4, "big")
-    return head + b"".join(b"\0\x08%b\0\0\0\x08%b" % (key(number), key(number)) for number in range(pairs))
+    return head + b"".join(b"\0\x08\0\0%b\0\0\0\x08%b" % (key(number), key(number)) for number in range(pairs))
 
 
 def part(point, pairs):
     """The text of the part of a point, with one of every eight keys."""
     head = plain_files.Part(RUN, [(point, point)], {}).text()[:-6]
     behind = point.to_bytes(4, "big") + plain_files.content_text(b"%08d" % point)
-    return head + b"".join(b"\0\x08" + key(first + point % 8) + behind for first in range(0, pairs - 7, 8)) + bytes(2) + (pairs // 8).to_bytes(4, "big")
+    return head + b"".join(b"\0\x08\0\0" + key(first + point % 8) + behind for first in range(0, pairs - 7, 8)) + bytes(2) + (pairs // 8).to_bytes(4, "big")
 
 
 def entries(pairs, commits, parts, adds):
     """The entries of the log. The plain form takes bytes for a put, and a number for an add."""
     apart = max(1, commits // (parts + 1))
     for number in range(commits):
-        yield "commit", 1, [(key(number * SCATTER % pairs), number if adds else number.to_bytes(8, "big"))]
+        yield plain_files.commit(1, {key(number * SCATTER % pairs): number if adds else number.to_bytes(8, "big")})
         point, rest = divmod(number + 1, apart)
         if rest == 0 and point <= parts:
             yield from (("token", phase, point) for phase in CYCLE)
 
 
 def log(pairs, commits, parts, adds):
-    bodies = map(plain_files.body_text, entries(pairs, commits, parts, adds))
+    bodies = (plain_files.body_text(plain_files.SECOND, entry) for entry in entries(pairs, commits, parts, adds))
     return plain_files.Log(RUN).text() + b"".join(len(body).to_bytes(4, "big") + body for body in bodies)
 
 

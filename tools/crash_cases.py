@@ -3,7 +3,8 @@
 How many transactions were answered is seen from outside, as a user sees it: standard error is a terminal, and the last line of progress before the
 kill has the number. At most so many entries of the log as `--lag` allows may be lost of those. What is recovered is to be what `plain_files.py` makes
 of the files, and of each client the work of a beginning of its transactions, which is known: nobody else writes its keys, and none is given up. Each
-transaction adds 1 to a number of its client too, so that one which is lost or made twice is seen there.
+transaction adds 1 to a number of its client too, so that one which is lost or made twice is seen there. The keys of each client are in a space of its
+own, the first one's in space 0.
 Moments are chosen by the same line, so they are spread over a run however fast the machine is.
 """
 
@@ -15,6 +16,7 @@ import subprocess
 import threading
 
 import plain_files
+from plain_store import key_word
 from program_cases import written
 from run_cases import content_of, files_of
 
@@ -34,11 +36,11 @@ LINE = re.compile(rb"\r(\d+) commits, point (\d+), \d+ joins, lag \d+, given up 
 
 
 def key_of(name, client, number):
-    return b"%s%dk%02d" % (name, client, number % KEYS)
+    return client - 1, b"%sk%02d" % (name, number % KEYS)
 
 
 def counter_of(name, client):
-    return b"%s%dn" % (name, client)
+    return client - 1, b"%sn" % name
 
 
 def workload(name):
@@ -47,8 +49,8 @@ def workload(name):
     lines = [b"points %d\n" % POINTS]
     for client in range(1, CLIENTS + 1):
         lines.append(b"client %d\n" % client)
-        adds = b"add %s 1\n" % counter_of(name, client)
-        lines += [b"txn\n%sput %s %d\n%send\n" % (reads, key_of(name, client, number), number, adds) for number in range(COUNT)]
+        adds = b"add %s 1\n" % key_word(counter_of(name, client))
+        lines += [b"txn\n%sput %s %d\n%send\n" % (reads, key_word(key_of(name, client, number)), number, adds) for number in range(COUNT)]
     return b"".join(lines)
 
 
@@ -120,7 +122,7 @@ def faults_of(folder, name, pairs, least):
     for client, logged in commits.items():
         if logged != [[(key_of(name, client, number), b"%d" % number), (counter_of(name, client), 1)] for number in range(len(logged))]:
             lines.append(f"the log hasn't the first transactions of client {client}")
-        own = {key: value for key, value in pairs.items() if key.startswith(b"%s%dk" % (name, client))}
+        own = {(space, key): value for (space, key), value in pairs.items() if space == client - 1 and key.startswith(name + b"k")}
         count = 1 + max((int(value) for value in own.values()), default=-1)
         if own != work_of(name, client, count) or count < len(logged):
             lines.append(f"what is recovered of client {client} is no state that it has made")
@@ -171,7 +173,7 @@ def restarts(program, folder):
             lines += more
             if new is not None:
                 lines += faults_of(os.path.join(folder, second), b"b", new.pairs, answered)
-                kept = {key: value for key, value in new.pairs.items() if key.startswith(b"a")}
+                kept = {key: value for key, value in new.pairs.items() if key[1].startswith(b"a")}
                 lines += [] if kept == old.pairs else ["what the first run left isn't there"]
         yield f"run again.pcw, killed behind {moment} commits, from a run that was killed so", lines
 

@@ -8,7 +8,10 @@ rules of docs/FORMATS.md alone. Expected outputs of the gate's programs come fro
 
 import sys
 
-from plain_store import changed, run_script
+from plain_store import changed, key_word, keyed, run_script, word
+
+# The ends of the magics of both formats. In a text of the first the keys are of space 0, which doesn't stand there.
+FIRST, SECOND = b"01", b"02"
 
 
 class Refused(Exception):
@@ -20,10 +23,10 @@ class Refused(Exception):
 
 
 class Fields:
-    """Bytes that are read from the left. A field that isn't all there has the fault that is given."""
+    """Bytes that are read from the left, in the format that their magic tells. A field that isn't all there has the fault that is given."""
 
-    def __init__(self, text, at=0, cut="Short"):
-        self.text, self.at, self.cut = text, at, cut
+    def __init__(self, text, form=None, cut="Short"):
+        self.text, self.at, self.form, self.cut = text, 0, form, cut
 
     def bytes(self, count):
         if len(self.text) - self.at < count:
@@ -55,8 +58,27 @@ class Fields:
         return self.sized(4, 0, 65_535) if kind == 1 else None
 
     def magic(self, magic):
-        if self.bytes(8) != magic:
+        """The file's kind by the magic's first bytes, and its format by the others."""
+        read = self.bytes(8)
+        self.form = read[6:]
+        if read[:6] != magic or self.form not in (FIRST, SECOND):
             raise Refused("BadMagic")
+
+    def key(self):
+        """A key, or None for the end mark in the place of its length."""
+        size = self.number(2)
+        if size > 255:
+            raise Refused("BadLength")
+        if size == 0:
+            return None
+        space = self.number(2) if self.form == SECOND else 0
+        return space, self.bytes(size)
+
+    def key_that_is_there(self):
+        key = self.key()
+        if key is None:
+            raise Refused("BadLength")
+        return key
 
     def end(self):
         if self.at < len(self.text):
@@ -78,12 +100,12 @@ class Part:
     def complete_to(self):
         return self.ranges[0][1] if len(self.ranges) == 1 and self.ranges[0][0] == 1 else 0
 
-    def text(self):
-        pieces = [b"PCALCP01", self.run.to_bytes(8, "big"), len(self.ranges).to_bytes(4, "big")]
+    def text(self, form=SECOND):
+        pieces = [b"PCALCP" + form, self.run.to_bytes(8, "big"), len(self.ranges).to_bytes(4, "big")]
         pieces += [low.to_bytes(4, "big") + high.to_bytes(4, "big") for low, high in self.ranges]
         for key in sorted(self.entries):
             point, value = self.entries[key]
-            pieces += [len(key).to_bytes(2, "big"), key, point.to_bytes(4, "big"), content_text(value)]
+            pieces += [key_text(form, key), point.to_bytes(4, "big"), content_text(value)]
         return b"".join(pieces) + bytes(2) + len(self.entries).to_bytes(4, "big")
 
 
@@ -93,10 +115,10 @@ class Base:
     def __init__(self, run, point, pairs):
         self.run, self.point, self.pairs = run, point, pairs
 
-    def text(self):
-        text = b"PCALCB01" + self.run.to_bytes(8, "big") + self.point.to_bytes(4, "big") + len(self.pairs).to_bytes(4, "big")
+    def text(self, form=SECOND):
+        text = b"PCALCB" + form + self.run.to_bytes(8, "big") + self.point.to_bytes(4, "big") + len(self.pairs).to_bytes(4, "big")
         for key in sorted(self.pairs):
-            text += len(key).to_bytes(2, "big") + key + len(self.pairs[key]).to_bytes(4, "big") + self.pairs[key]
+            text += key_text(form, key) + len(self.pairs[key]).to_bytes(4, "big") + self.pairs[key]
         return text
 
 
@@ -112,12 +134,24 @@ class Log:
     def end(self):
         return self.ends[-1]
 
-    def text(self):
-        text = b"PCALCL01" + self.run.to_bytes(8, "big") + bytes(4)
+    def text(self, form=SECOND):
+        text = b"PCALCL" + form + self.run.to_bytes(8, "big") + bytes(4)
         for entry in self.entries:
-            body = body_text(entry)
+            body = body_text(form, entry)
             text += len(body).to_bytes(4, "big") + body
         return text
+
+
+def commit(session, changes, space=0):
+    """The entry of a commit, whose changes are given by own bytes of keys of the space."""
+    return "commit", session, [*keyed(changes, space).items()]
+
+
+def key_text(form, key):
+    space, own = key
+    if form == FIRST and space != 0:
+        raise ValueError("a text of the first format has keys of space 0 alone")
+    return len(own).to_bytes(2, "big") + (b"" if form == FIRST else space.to_bytes(2, "big")) + own
 
 
 def content_text(value):
@@ -128,17 +162,18 @@ def change_text(change):
     return b"\2" + change.to_bytes(8, "big", signed=True) if isinstance(change, int) else content_text(change)
 
 
-def body_text(entry):
+def body_text(form, entry):
     if entry[0] == "token":
         return b"\2" + bytes([PHASES.index(entry[1])]) + entry[2].to_bytes(4, "big")
     body = b"\1" + bytes([entry[1]]) + len(entry[2]).to_bytes(2, "big")
     for key, change in entry[2]:
-        body += len(key).to_bytes(2, "big") + key + change_text(change)
+        body += key_text(form, key) + change_text(change)
     return body
 
 
 PHASES = ("rest", "prepare", "resolve", "capture", "complete")
-MOST_BODY = 16_844_036
+# 256 writes of keys and values of the greatest lengths, with what stands before them.
+MOST_BODY = {FIRST: 16_844_036, SECOND: 16_844_548}
 
 
 def read_ranges(fields):
@@ -166,7 +201,7 @@ def read_as_far(text):
     """The part that a text holds as far as it can be read, None where that isn't so of its header, and the fault, where there is one."""
     fields, part = Fields(text), None
     try:
-        fields.magic(b"PCALCP01")
+        fields.magic(b"PCALCP")
         part = Part(fields.number(8), read_ranges(fields), {})
         read_entries(fields, part)
     except Refused as fault:
@@ -177,12 +212,9 @@ def read_as_far(text):
 def read_entries(fields, part):
     last = None
     while True:
-        size = fields.number(2)
-        if size == 0:
+        key = fields.key()
+        if key is None:
             break
-        if size > 255:
-            raise Refused("BadLength")
-        key = fields.bytes(size)
         if last is not None and key <= last:
             raise Refused("KeyOrder")
         point = fields.number(4)
@@ -197,13 +229,13 @@ def read_entries(fields, part):
 
 def read_base(text):
     fields = Fields(text)
-    fields.magic(b"PCALCB01")
+    fields.magic(b"PCALCB")
     run, point = fields.number(8), fields.number(4)
     if point > 65_535:
         raise Refused("BadRanges")
     base, last = Base(run, point, {}), None
     for _ in range(fields.number(4)):
-        key = fields.sized(2, 1, 255)
+        key = fields.key_that_is_there()
         if last is not None and key <= last:
             raise Refused("KeyOrder")
         base.pairs[key] = fields.sized(4, 0, 65_535)
@@ -228,7 +260,7 @@ def read_body(body, tokens):
             raise Refused("BadLength")
         writes = []
         for _ in range(count):
-            key = body.sized(2, 1, 255)
+            key = body.key_that_is_there()
             if any(key == other for other, _ in writes):
                 raise Refused("KeyOrder")
             writes.append((key, body.change()))
@@ -248,16 +280,16 @@ def read_body(body, tokens):
 
 def read_log(text):
     fields = Fields(text)
-    fields.magic(b"PCALCL01")
+    fields.magic(b"PCALCL")
     log, tokens = Log(fields.number(8)), 0
     if fields.number(4) != 0:
         raise Refused("BadRanges")
     while fields.at < len(text):
         try:
             size = fields.number(4)
-            if not 1 <= size <= MOST_BODY:
+            if not 1 <= size <= MOST_BODY[fields.form]:
                 raise Refused("BadLength")
-            entry = read_body(Fields(fields.bytes(size), cut="BadLength"), tokens)
+            entry = read_body(Fields(fields.bytes(size), fields.form, "BadLength"), tokens)
         except Refused as fault:
             log.fault = fault.name
             break
@@ -340,14 +372,8 @@ class Recovered:
             lines.append(b"log " + self.fault.encode())
         lines += [b"skipped " + name + b" " + reason.encode() for name, reason in self.skipped]
         lines.append(b"pairs %d" % len(self.pairs))
-        lines += [word(key) + b" " + word(self.pairs[key]) for key in sorted(self.pairs)]
+        lines += [key_word(key) + b" " + word(self.pairs[key]) for key in sorted(self.pairs)]
         return b"".join(line + b"\n" for line in lines)
-
-
-def word(text):
-    if text in (b"", b"-"):
-        return b"\\x2d" if text else b"-"
-    return b"".join(bytes([it]) if 0x21 <= it <= 0x7E and it != 0x5C else b"\\x%02x" % it for it in text)
 
 
 def recover(base_text, files, log_text):
@@ -406,7 +432,7 @@ def read(kind, text):
 
 
 def found(kind, text):
-    """What a text holds, as a line without its end."""
+    """What a text holds, as a line without its end: that it is what is written of that, or how many bytes are written else."""
     try:
         file = read(kind, text)
     except Refused as fault:
@@ -415,7 +441,8 @@ def found(kind, text):
         end, count, fault = file.end(), len(file.entries), file.fault or "whole"
     else:
         end, count, fault = len(text), len(file.entries if kind == "part" else file.pairs), "whole"
-    return "items %d end %d %s %s" % (count, end, fault, "same" if file.text() == text[:end] else "other")
+    again = file.text()
+    return "items %d end %d %s %s" % (count, end, fault, "same" if again == text[:end] else "becomes %d" % len(again))
 
 
 def spans(kind, texts, label=""):
@@ -440,6 +467,11 @@ def digits(text):
     return text.hex() or "-"
 
 
+def key_digits(key):
+    """The key in digits: its space, where that isn't 0, and its own bytes."""
+    return ("%d:" % key[0] if key[0] else "") + digits(key[1])
+
+
 def content_word(value):
     return "tombstone" if value is None else "= " + digits(value)
 
@@ -453,12 +485,12 @@ def part_lines(part):
     lines = ["run %d complete to %d points%s" % (part.run, part.complete_to(), ranges)]
     for key in sorted(part.entries):
         point, value = part.entries[key]
-        lines.append("point %d %s %s" % (point, digits(key), content_word(value)))
+        lines.append("point %d %s %s" % (point, key_digits(key), content_word(value)))
     return lines
 
 
 def base_lines(base):
-    pairs = ["%s = %s" % (digits(key), digits(base.pairs[key])) for key in sorted(base.pairs)]
+    pairs = ["%s = %s" % (key_digits(key), digits(base.pairs[key])) for key in sorted(base.pairs)]
     return ["run %d point %d" % (base.run, base.point)] + pairs
 
 
@@ -468,7 +500,7 @@ def log_lines(log, length):
         if entry[0] == "token":
             body = "%s %d" % entry[1:]
         else:
-            body = "commit of %d" % entry[1] + "".join(" %s %s" % (digits(key), change_word(change)) for key, change in entry[2])
+            body = "commit of %d" % entry[1] + "".join(" %s %s" % (key_digits(key), change_word(change)) for key, change in entry[2])
         lines.append("%d of %d left %d: %s" % (number, number, length - end, body))
     return lines + (["refused " + log.fault] if log.fault else [])
 
@@ -478,6 +510,11 @@ def listed(kind, text):
     if kind == "log":
         return log_lines(file, len(text))
     return part_lines(file) if kind == "part" else base_lines(file)
+
+
+def rewritten(kind, text):
+    """The text that is written of what the text holds, of a log of its whole entries."""
+    return ["text " + digits(read(kind, text).text())]
 
 
 def joined(texts):
@@ -520,8 +557,8 @@ def verb_lines(kind, verb, texts):
     text = texts[0]
     if verb == "read":
         return [found(kind, text)]
-    if verb == "list":
-        return told(listed, kind, text)
+    if verb in ("list", "write"):
+        return told(listed if verb == "list" else rewritten, kind, text)
     if verb == "cuts":
         return spans(kind, (text[:cut] for cut in range(len(text))))
     if verb == "changes":

@@ -15,8 +15,16 @@ import sys
 BEFORE, DURING, AFTER = "Before", "During", "After"
 CLASS_OF = {"rest": BEFORE, "complete": BEFORE, "prepare": DURING, "resolve": AFTER, "capture": AFTER}
 MOST_WRITES = 256
+MOST_SPACE = 65_535
 TOMBSTONE = None
 GRANTED = "granted"
+
+
+# A key is its space, a number, with its own bytes: keys rise by space, and in one space by these.
+
+def keyed(contents, space=0):
+    """What is given by own bytes, by the keys that these are in the space."""
+    return {(space, own): content for own, content in contents.items()}
 
 
 # What a change is: the bytes that are set, None where the key is removed, or the number that is added.
@@ -62,7 +70,8 @@ class Transaction:
 
 
 class Store:
-    """Events are tuples, as ("put", session, key, value); so are replies, as ("found", value) or ("refused", name, number)."""
+    """Events are tuples, as ("put", session, key, value); so are replies, as ("found", value) or ("refused", name, number).
+    But for the texts of files it asks of keys only that they can be told apart and rise."""
 
     __slots__ = ("run", "base", "sessions", "capacity", "committed", "open", "begun", "queues", "phase", "point", "log", "opened", "closed", "at_point",
                  "taken", "files")
@@ -343,11 +352,11 @@ class Store:
         if file is None:
             return ("refused", "NoFile")
         ranges = ranges_of(file[0])
-        text = b"PCALCP01" + self.run.to_bytes(8, "big") + len(ranges).to_bytes(4, "big")
+        text = b"PCALCP02" + self.run.to_bytes(8, "big") + len(ranges).to_bytes(4, "big")
         text += b"".join(low.to_bytes(4, "big") + high.to_bytes(4, "big") for low, high in ranges)
-        for key in sorted(file[1]):
-            point, value = file[1][key]
-            text += len(key).to_bytes(2, "big") + key + point.to_bytes(4, "big")
+        for space, own in sorted(file[1]):
+            point, value = file[1][space, own]
+            text += len(own).to_bytes(2, "big") + space.to_bytes(2, "big") + own + point.to_bytes(4, "big")
             text += b"\0" if value is None else b"\1" + len(value).to_bytes(4, "big") + value
         return ("text", text + bytes(2) + len(file[1]).to_bytes(4, "big"))
 
@@ -373,9 +382,15 @@ def word(text):
     return b"".join(bytes([it]) if 0x21 <= it <= 0x7E and it != 0x5C else b"\\x%02x" % it for it in text)
 
 
+def key_word(key):
+    """The word that is printed for this key: its space, where that isn't 0, and its own bytes."""
+    space, own = key
+    return (b"\\s%d:" % space if space else b"") + word(own)
+
+
 def pairs_text(point, pairs):
     lines = [b"state point %d pairs %d" % (point, len(pairs))]
-    return b"\n".join(lines + [word(key) + b" " + word(pairs[key]) for key in sorted(pairs)])
+    return b"\n".join(lines + [key_word(key) + b" " + word(pairs[key]) for key in sorted(pairs)])
 
 
 def points_text(points):
@@ -387,7 +402,7 @@ def reply_text(reply):
     if kind == "refused":
         return b"refused " + rest[0].encode() + b"".join(b" %d" % it for it in rest[1:])
     if kind == "took":
-        return b"took " + word(rest[0]) + b" " + (b"tombstone" if rest[1] is None else word(rest[1]))
+        return b"took " + key_word(rest[0]) + b" " + (b"tombstone" if rest[1] is None else word(rest[1]))
     if kind == "found":
         return b"= " + word(rest[0])
     if kind == "phase":
@@ -421,7 +436,7 @@ def delta(text):
 
 
 def content(text):
-    """The bytes that a key or value word stands for."""
+    """The bytes that a value word stands for."""
     if text == b"-":
         return b""
     if not re.fullmatch(rb"(?:[\x21-\x5b\x5d-\x7e]|\\x[0-9a-f]{2})+", text):
@@ -429,9 +444,19 @@ def content(text):
     return re.sub(rb"\\x([0-9a-f]{2})", lambda it: bytes([int(it[1], 16)]), text)
 
 
+def key(text):
+    """The key that a word stands for."""
+    spaced = re.fullmatch(rb"\\s([1-9][0-9]{0,4}):(.+)", text, re.DOTALL)
+    if spaced is None:
+        return 0, content(text)
+    if int(spaced[1]) > MOST_SPACE:
+        raise Malformed
+    return int(spaced[1]), content(spaced[2])
+
+
 FORMS = {
-    b"base": (content, content), b"begin": (number,), b"get": (number, content), b"put": (number, content, content), b"del": (number, content),
-    b"add": (number, content, delta), b"commit": (number,), b"abort": (number,), b"point": (), b"seal": (), b"capture": (), b"take": (), b"done": (), b"rest": (),
+    b"base": (key, content), b"begin": (number,), b"get": (number, key), b"put": (number, key, content), b"del": (number, key),
+    b"add": (number, key, delta), b"commit": (number,), b"abort": (number,), b"point": (), b"seal": (), b"capture": (), b"take": (), b"done": (), b"rest": (),
     b"join": (number, number), b"state": (number,), b"text": (number,), b"check": (),
 }
 KEY_AT = {b"base": 0, b"get": 1, b"put": 1, b"del": 1, b"add": 1}
@@ -439,7 +464,7 @@ VALUE_AT = {b"base": 1, b"put": 2}
 
 
 def wrong_length(verb, words):
-    if verb in KEY_AT and not 1 <= len(words[KEY_AT[verb]]) <= 255:
+    if verb in KEY_AT and not 1 <= len(words[KEY_AT[verb]][1]) <= 255:
         return ("refused", "KeyLength")
     if verb in VALUE_AT and len(words[VALUE_AT[verb]]) > 65_535:
         return ("refused", "ValueLength")

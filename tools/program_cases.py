@@ -5,6 +5,7 @@ What is to be printed was worked out by hand from docs/FORMATS.md, or comes from
 """
 
 import contextlib
+import itertools
 import os
 import threading
 import time
@@ -12,6 +13,8 @@ import typing
 
 import plain_files
 import plain_store
+from plain_files import FIRST, SECOND
+from plain_store import keyed
 
 LITTLE = 64 << 20
 MANY = 256 << 20
@@ -102,8 +105,8 @@ def beside(work):
     thread.join()
 
 
-BASE = plain_files.Base(1, 0, {b"a": b"0"}).text()
-PART = plain_files.Part(1, [(1, 1)], {b"a": (1, b"1")}).text()
+BASE = plain_files.Base(1, 0, keyed({b"a": b"0"})).text()
+PART = plain_files.Part(1, [(1, 1)], keyed({b"a": (1, b"1")})).text()
 NO_LOG = b"point 0\nentries 0\npairs 1\na 0\n"
 WITH_PART = b"point 1\nentries 0\npairs 1\na 1\n"
 
@@ -271,7 +274,7 @@ def folder_cases(folder):
 
 def listed_cases(folder):
     """Which files of a folder count, and in which order."""
-    for name, text in (("c.pcp", PART[:-1]), ("b.pcp", PART), ("a.pcp", b"PCALCP02" + PART[8:]), ("B.pcp", PART + b"\0")):
+    for name, text in (("c.pcp", PART[:-1]), ("b.pcp", PART), ("a.pcp", b"PCALCP03" + PART[8:]), ("B.pcp", PART + b"\0")):
         written(folder, "damaged/" + name, text)
     written(folder, "damaged/base.pcb", BASE)
     told = b"point 1\nentries 0\nskipped B.pcp Trailing\nskipped a.pcp BadMagic\nskipped c.pcp Short\npairs 1\na 1\n"
@@ -305,30 +308,48 @@ def listed_cases(folder):
 
 def long_folder_cases(folder):
     """A base, a part and a log that are each longer than several reads."""
-    pairs = {b"key%05d" % number: b"value%d" % number for number in range(20_000)}
-    entries = {b"key%05d" % number: (1, None if number % 3 else b"of point 1") for number in range(0, 30_000, 2)}
+    pairs = keyed({b"key%05d" % number: b"value%d" % number for number in range(20_000)})
+    entries = keyed({b"key%05d" % number: (1, None if number % 3 else b"of point 1") for number in range(0, 30_000, 2)})
     log = plain_files.Log(1)
     log.entries = [("token", "prepare", 1), ("token", "resolve", 1)]
-    log.entries += [("commit", 1, [(b"key%05d" % (number * 11), b"of the log")]) for number in range(5_000)]
-    files = plain_files.Base(1, 0, pairs).text(), plain_files.Part(1, [(1, 1)], entries).text(), log.text()
-    for name, text in zip(("base.pcb", "a.pcp", "log.pcl"), files):
-        written(folder, "long/" + name, text)
-    yield Case("files of several reads", ("recover", "long"), 0, plain_files.recover(files[0], [(b"a.pcp", files[1])], files[2]).text())
+    log.entries += [plain_files.commit(1, {b"key%05d" % (number * 11): b"of the log"}) for number in range(5_000)]
+    for form in (FIRST, SECOND):
+        files = plain_files.Base(1, 0, pairs).text(form), plain_files.Part(1, [(1, 1)], entries).text(form), log.text(form)
+        for name, text in zip(("base.pcb", "a.pcp", "log.pcl"), files):
+            written(folder, "long/" + name, text)
+        told = plain_files.recover(files[0], [(b"a.pcp", files[1])], files[2]).text()
+        yield Case(f"files of several reads, of format {form.decode()}", ("recover", "long"), 0, told)
     yield Case("the same where the output is full", ("recover", "long"), 1, output=FULL)
+
+
+def longest_cases(folder):
+    """Logs of an entry that is as long as any may be: 256 writes of keys and values of the greatest lengths, in 02 up to the last space."""
+    base = plain_files.Base(1, 0, {}).text()
+    written(folder, "longest/base.pcb", base)
+    for form, most, step in ((FIRST, 16_844_036, 0), (SECOND, 16_844_548, 257)):
+        log = plain_files.Log(1)
+        log.entries = [("commit", 64, [((number * step, bytes([number]) * 255), bytes([number]) * 65_535) for number in range(256)])]
+        text = log.text(form)
+        assert len(text) == 24 + most
+        for length, what in ((len(text), "whole"), (len(text) - 1, "cut")):
+            written(folder, "longest/log.pcl", text[:length])
+            told = plain_files.recover(base, [], text[:length]).text()
+            yield Case(f"the longest entry of format {form.decode()}, {what}", ("recover", "longest"), 0, told)
 
 
 def memory_cases(folder):
     """Little memory: files that tell of more than they have take none for it, and one that has too much is told."""
     head = bytes(7) + b"\1"
-    written(folder, "great_base/base.pcb", b"PCALCB01" + head + bytes(4) + MOST)
-    yield Case("a base that tells of 4,294,967,295 pairs", ("recover", "great_base"), 1, err=b"pcalc: great_base: Short\n", memory=LITTLE)
     written(folder, "great_part/base.pcb", BASE)
-    written(folder, "great_part/a.pcp", b"PCALCP01" + head + MOST + b"\0\0\0\1")
-    told = b"point 0\nentries 0\nskipped a.pcp Short\npairs 1\na 0\n"
-    yield Case("a part that tells of 4,294,967,295 ranges", ("recover", "great_part"), 0, told, memory=LITTLE)
     written(folder, "great_log/base.pcb", BASE)
-    written(folder, "great_log/log.pcl", b"PCALCL01" + head + bytes(4) + (16_844_036).to_bytes(4, "big") + b"\1\1\1\0")
-    yield Case("a log whose entry tells of 256 writes in 16,844,036 bytes", ("recover", "great_log"), 0, NO_LOG, memory=LITTLE)
+    for form, most in ((FIRST, 16_844_036), (SECOND, 16_844_548)):
+        written(folder, "great_base/base.pcb", b"PCALCB" + form + head + bytes(4) + MOST)
+        yield Case("a base that tells of 4,294,967,295 pairs", ("recover", "great_base"), 1, err=b"pcalc: great_base: Short\n", memory=LITTLE)
+        written(folder, "great_part/a.pcp", b"PCALCP" + form + head + MOST + b"\0\0\0\1")
+        told = b"point 0\nentries 0\nskipped a.pcp Short\npairs 1\na 0\n"
+        yield Case("a part that tells of 4,294,967,295 ranges", ("recover", "great_part"), 0, told, memory=LITTLE)
+        written(folder, "great_log/log.pcl", b"PCALCL" + form + head + bytes(4) + most.to_bytes(4, "big") + b"\1\1\1\0")
+        yield Case(f"a log whose entry tells of 256 writes in {most:,} bytes", ("recover", "great_log"), 0, NO_LOG, memory=LITTLE)
     written(folder, "large_log/base.pcb", BASE)
     sparse(folder, "large_log/log.pcl", MANY)
     yield Case("a log that memory has no room for", ("recover", "large_log"), 1, err=b"pcalc: log.pcl: OutOfMemory\n", memory=LITTLE)
@@ -350,11 +371,12 @@ def collapse_usage_cases(folder):
 
 
 POINTS = {
-    "one.pcp": plain_files.Part(1, [(1, 1)], {b"a": (1, b"1"), b"b": (1, b"1")}),
-    "two.pcp": plain_files.Part(1, [(2, 2)], {b"a": (2, b"2")}),
-    "three.pcp": plain_files.Part(1, [(3, 3)], {b"b": (3, None)}),
+    "one.pcp": plain_files.Part(1, [(1, 1)], keyed({b"a": (1, b"1"), b"b": (1, b"1")})),
+    "two.pcp": plain_files.Part(1, [(2, 2)], keyed({b"a": (2, b"2")})),
+    "three.pcp": plain_files.Part(1, [(3, 3)], keyed({b"b": (3, None)})),
 }
-ALL = bytes.fromhex("5043414c43503031 0000000000000001 00000001 00000001 00000003 0001 61 00000002 01 00000001 32 0001 62 00000003 00 0000 00000002")
+ALL = "5043414c43503032 0000000000000001 00000001 00000001 00000003 0001 0000 61 00000002 01 00000001 32 0001 0000 62 00000003 00 0000 00000002"
+ALL = bytes.fromhex(ALL)
 
 
 def collapse_cases(folder):
@@ -375,13 +397,37 @@ def collapse_cases(folder):
     yield Case("a collapse whose output is full", ("collapse", "told.pcp", "one.pcp", "two.pcp"), 1, output=FULL, files={"told.pcp": plain_files.join(*list(POINTS.values())[:2]).text()})
     names, joined = [], None
     for point in range(1, 65):
-        part = plain_files.Part(7, [(point, point)], {b"key%04d" % (number * point % 3001): (point, None if number % 7 == 0 else b"%d" % point) for number in range(1000)})
+        entries = {b"key%04d" % (number * point % 3001): (point, None if number % 7 == 0 else b"%d" % point) for number in range(1000)}
+        part = plain_files.Part(7, [(point, point)], keyed(entries))
         names.append(f"many/{point}.pcp")
-        written(folder, names[-1], part.text())
+        written(folder, names[-1], part.text(FIRST if point % 3 else SECOND))
         joined = part if joined is None else plain_files.join(joined, part)
     told = b"points 1-64 entries %d\n" % len(joined.entries)
     yield Case("64 files of 1,000 entries", ("collapse", "many.pcp", *names), 0, told, files={"many.pcp": joined.text()})
+    yield from format_cases(folder)
     yield from wide_cases(folder)
+
+
+def format_cases(folder):
+    """Inputs of both formats in each mixture, and of keys of several spaces: what is written is of the second."""
+    told = b"points 1-3 entries 2\n"
+    for forms in itertools.product((FIRST, SECOND), repeat=len(POINTS)):
+        names = [name.replace(".", f"{form.decode()}.") for name, form in zip(POINTS, forms)]
+        for name, part, form in zip(names, POINTS.values(), forms):
+            written(folder, name, part.text(form))
+        yield Case(f"three points of the formats {b', '.join(forms).decode()}", ("collapse", "mixed.pcp", *names), 0, told, files={"mixed.pcp": ALL})
+    written(folder, "old.pcp", plain_files.join(*[*POINTS.values()][:2]).text(FIRST))
+    new = plain_files.join(*[*POINTS.values()][:2]).text()
+    yield Case("one file of 01", ("collapse", "new.pcp", "old.pcp"), 0, b"points 1-2 entries 2\n", files={"new.pcp": new})
+    yield Case("what has become of it", ("collapse", "again.pcp", "new.pcp"), 0, b"points 1-2 entries 2\n", files={"again.pcp": new})
+    names, joined = ["one01.pcp"], POINTS["one.pcp"]
+    for point in (3, 1, 2):
+        part = plain_files.Part(1, [(point, point)], {(space * point % 65_536, b"k"): (point, b"%d" % space) for space in (0, 1, 255, 256, 65_535)})
+        names.append(f"space{point}.pcp")
+        written(folder, names[-1], part.text())
+        joined = plain_files.join(joined, part)
+    told = b"points 1-3 entries %d\n" % len(joined.entries)
+    yield Case("keys of several spaces beside a file of 01", ("collapse", "spaces.pcp", *names), 0, told, files={"spaces.pcp": joined.text()})
 
 
 def wide_cases(folder):
@@ -389,7 +435,7 @@ def wide_cases(folder):
     for number, most in ((512, 600), (2000, 600)):
         names, entries = [], {}
         for point in range(1, number + 1):
-            part = plain_files.Part(1, [(point, point)], {b"key%05d" % (some * number + point): (point, b"%d" % point) for some in range(10)})
+            part = plain_files.Part(1, [(point, point)], keyed({b"key%05d" % (some * number + point): (point, b"%d" % point) for some in range(10)}))
             entries.update(part.entries)
             names.append(f"few/{number}/{point}.pcp")
             written(folder, names[-1], part.text())
@@ -398,7 +444,7 @@ def wide_cases(folder):
         yield Case(f"{number} files where {most} may be open", ("collapse", "few.pcp", *names), 0, told, files={"few.pcp": joined}, open_files=most)
     names, entries = [], {}
     for point in (1, 2, 3):
-        part = plain_files.Part(1, [(point, point)], {b"key%04d" % (3 * some + point): (point, b"v" * 65_535) for some in range(350)})
+        part = plain_files.Part(1, [(point, point)], keyed({b"key%04d" % (3 * some + point): (point, b"v" * 65_535) for some in range(350)}))
         entries.update(part.entries)
         names.append(f"great{point}.pcp")
         written(folder, names[-1], part.text())
@@ -417,7 +463,7 @@ def pipe_cases(folder):
         pipe = piped(folder, f"pipe{number}.pcp")
         with beside(lambda: feed(pipe, two)):
             yield Case("an input that is a pipe", ("collapse", "piped.pcp", "one.pcp", f"pipe{number}.pcp", "three.pcp"), 0, told, files={"piped.pcp": ALL})
-    wide = plain_files.Part(1, [(4, 4)], {b"k": (4, b"v" * 65_535), b"l": (4, b"w" * 65_535)})
+    wide = plain_files.Part(1, [(4, 4)], keyed({b"k": (4, b"v" * 65_535), b"l": (4, b"w" * 65_535)}))
     first, second = piped(folder, "first.pcp"), piped(folder, "second.pcp")
 
     def feed_both():
@@ -441,7 +487,7 @@ def pipe_cases(folder):
 def folder_pipe_cases(folder):
     """Folders in which one file is a pipe: it is read to its end."""
     log = plain_files.Log(1)
-    log.entries = [("token", "prepare", 1), ("token", "resolve", 1), ("commit", 1, [(b"z", b"1")])]
+    log.entries = [("token", "prepare", 1), ("token", "resolve", 1), plain_files.commit(1, {b"z": b"1"})]
     texts = {"base.pcb": BASE, "a.pcp": PART, "log.pcl": log.text()}
     told = plain_files.recover(BASE, [(b"a.pcp", PART)], log.text()).text()
     for name, text in texts.items():
@@ -496,7 +542,7 @@ def collapse_fault_cases(folder):
     for name, part in POINTS.items():
         written(folder, name, part.text())
     written(folder, "run.pcp", plain_files.Part(2, [(1, 1)], {}).text())
-    written(folder, "clash.pcp", plain_files.Part(1, [(1, 1)], {b"b": (1, b"2")}).text())
+    written(folder, "clash.pcp", plain_files.Part(1, [(1, 1)], keyed({b"b": (1, b"2")})).text())
     written(folder, "cut.pcp", ALL[:-1])
     written(folder, "more.pcp", ALL + b"\0")
     yield fault("another run", ("lost.pcp", "one.pcp", "run.pcp"), b"pcalc: lost.pcp: OtherRun\n", lost)
@@ -505,7 +551,7 @@ def collapse_fault_cases(folder):
     yield fault("a longer file, and one that is cut off", ("begun.pcp", "one.pcp", "more.pcp", "cut.pcp"), b"pcalc: begun.pcp: Trailing\n", begun)
     yield fault("a file that isn't there", ("lost.pcp", "one.pcp", "none.pcp"), b"pcalc: none.pcp: NoFile\n", lost)
     yield fault("a file that isn't there, behind a longer one", ("lost.pcp", "more.pcp", "none.pcp"), b"pcalc: none.pcp: NoFile\n", lost)
-    written(folder, "magic.pcp", b"PCALCP02" + ALL[8:])
+    written(folder, "magic.pcp", b"PCALCP03" + ALL[8:])
     yield fault("a file of another kind, behind a longer one", ("lost.pcp", "more.pcp", "magic.pcp"), b"pcalc: lost.pcp: BadMagic\n", lost)
     yield fault("a file of another kind, before one of another run", ("lost.pcp", "one.pcp", "run.pcp", "magic.pcp"), b"pcalc: lost.pcp: BadMagic\n", lost)
     yield fault("a file that isn't there, before a longer one", ("lost.pcp", "none.pcp", "more.pcp"), b"pcalc: none.pcp: NoFile\n", lost)
@@ -523,6 +569,6 @@ def collapse_fault_cases(folder):
 
 def cases(folder):
     """Each case, whose files are written into the folder right before it."""
-    together = (usage_cases, option_cases, add_cases, script_cases, folder_cases, listed_cases, long_folder_cases, memory_cases)
+    together = (usage_cases, option_cases, add_cases, script_cases, folder_cases, listed_cases, long_folder_cases, longest_cases, memory_cases)
     for some in (*together, collapse_usage_cases, collapse_cases, pipe_cases, closed_cases, collapse_fault_cases):
         yield from some(folder)

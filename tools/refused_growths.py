@@ -20,6 +20,7 @@ import tempfile
 from concurrent.futures import ThreadPoolExecutor
 
 import plain_files
+from plain_store import keyed
 from program_cases import written
 
 HERE = os.path.dirname(os.path.abspath(__file__))
@@ -28,7 +29,7 @@ PROGRAM = os.path.join(CRATES, "pcalc", "out", "pcalc")
 TESTERS = ("test_memory", "test_growths")
 SOURCE = os.path.join(HERE, "refused_growths", "refuse.c")
 FLAGS = ("-shared", "-fPIC", "-O1", "-fno-builtin", "-nostdlib", "-Wall", "-Wextra", "-Werror")
-NAMES = (b"a", b"b", b"c")
+NAMES = (b"a", rb"\s7:a", b"c")
 # of each client
 COUNT = 20
 WORKLOAD = b"points 2\n" + b"".join(b"client %d\nfill %s %d x\n" % (number + 1, name, COUNT) for number, name in enumerate(NAMES))
@@ -110,11 +111,12 @@ class Command:
         return status == 1 and not printed and FAULT.fullmatch(told) is not None and not (is_written and self.output[1])
 
 
-PARTS = {f"{point}.pcp": plain_files.Part(1, [(point, point)], {b"a key of many letters": (point, b"%d" % point), b"b": (point, None)}) for point in (1, 2, 3)}
-TEXTS = {name: part.text() for name, part in PARTS.items()}
+PARTS = {f"{point}.pcp": plain_files.Part(1, [(point, point)], keyed({b"a key of many letters": (point, b"%d" % point), b"b": (point, None)})) for point in (1, 2, 3)}
+# The second one is of format 01, as the base is.
+TEXTS = {name: part.text(plain_files.FIRST if name == "2.pcp" else plain_files.SECOND) for name, part in PARTS.items()}
 LOG = plain_files.Log(1)
-LOG.entries = [("commit", 1, [(b"another key of many letters", b"x")])]
-FOLDER = {"base.pcb": plain_files.Base(1, 0, {b"c": b"a value of many letters"}).text(), "log.pcl": LOG.text(), **TEXTS}
+LOG.entries = [plain_files.commit(1, {b"another key of many letters": b"x"}, 7)]
+FOLDER = {"base.pcb": plain_files.Base(1, 0, keyed({b"c": b"a value of many letters"})).text(plain_files.FIRST), "log.pcl": LOG.text(), **TEXTS}
 WORTH = plain_files.recover(FOLDER["base.pcb"], [*TEXTS.items()], FOLDER["log.pcl"]).text()
 COMMANDS = (
     Command("a run into a folder", ("run", "growths.pcw", "--dir", "left", *CREW), {"growths.pcw": WORKLOAD}, [printed_with(0), printed_with(1)]),

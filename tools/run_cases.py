@@ -9,6 +9,7 @@ import os
 
 import plain_files
 import plain_store
+from plain_store import keyed
 from program_cases import FAULTS, FULL, LITTLE, MANY, Case, beside, feed, piped, sparse, written
 
 EMPTY = plain_files.Base(1, 0, {}).text()
@@ -32,6 +33,8 @@ NOTHING_REPORTED = b"commits a second 0\ndeaths 0\nlongest wait 0 ms\nlongest pa
 HEADING = b"# hundredths of a second from the begin of the run; commits in this one; the phase at its end"
 PHASES = {phase.encode() for phase in plain_files.PHASES}
 
+# Words that are neither a key nor a prefix.
+NO_KEYS = [rb"\s0:k", rb"\s65536:k", rb"\s07:k", rb"\s7", rb"\s7:", rb"\s:k", rb"\s7:\s8:k", rb"k\s7:k", rb"\s7:\x4", rb"\s100000:k"]
 # What a workload has, and the number of its first bad line.
 BAD_LINES = [
     (b"frob\n", 1),
@@ -70,6 +73,14 @@ BAD_LINES = [
     (b"client 1\nfill a 1000001 x\n", 2),
     (b"client 1\nfill a 1\n", 2),
     (b"client 1\r\nfill a 1 x\r\nfrob", 3),
+    *[(b"client 1\ntxn\nget " + word + b"\nend\n", 3) for word in NO_KEYS],
+    *[(b"client 1\nfill " + word + b" 1 x\n", 2) for word in NO_KEYS],
+    (b"client 1\ntxn\nput \\s7:k v\nput k \\s7:v\nend\n", 4),
+    (b"client 1\ntxn\nput \\s7:- v\nend\n", 3),
+    (b"client 1\ntxn\nadd \\s7:- 1\nend\n", 3),
+    (b"client 1\ntxn\ndel \\s65535:" + b"k" * 255 + b"\nget \\s65535:" + b"k" * 256 + b"\nend\n", 4),
+    (b"client 1\nfill \\s65535:" + b"k" * 249 + b" 1 x\nfill \\s65535:" + b"k" * 250 + b" 1 x\n", 3),
+    (b"client 1\nfill \\s7:a 1 \\s7:x\n", 2),
 ]
 
 
@@ -279,8 +290,10 @@ def arena_cases(folder):
 
 
 def mixed(client, number):
-    """A transaction of a client that wants some of 100 keys and adds 1 to one of 20 others, as its operations: they wait for one another, and die."""
-    keys = [b"a%d" % ((client * 37 + number * 11 + place * 29) % 100) for place in range(4)]
+    """A transaction of a client that wants some of 100 keys in two spaces and adds 1 to one of 20 others, as its operations: they wait for one another,
+    and die."""
+    places = [(client * 37 + number * 11 + place * 29) % 100 for place in range(4)]
+    keys = [rb"\s7:a%d" % (place // 2) if place % 2 else b"a%d" % (place // 2) for place in places]
     count = b"n%d" % ((client * 7 + number) % 20)
     return [(b"get", keys[0]), (b"put", keys[1], b"%d" % number), (b"add", count, b"1"), (b"del", keys[2]), (b"put", keys[3], b"%d" % client)]
 
@@ -295,12 +308,55 @@ def with_delta(change, delta):
 def writes_of(ops):
     """What these operations do in all to each key, in the order of first writes; none of them is refused."""
     final = {}
-    for verb, key, *value in ops:
+    for verb, word, *value in ops:
+        key = plain_store.key(word)
         if verb == b"add":
             final[key] = with_delta(final.get(key, 0), int(value[0]))
         elif verb != b"get":
             final[key] = plain_store.content(value[0]) if value else None
     return [*final.items()]
+
+
+SPACES = rb"""points 2
+client 1
+fill \s7:a 3 x
+fill \s7:- 2 y
+fill - 1 z
+client 2
+txn
+put \s7:a000002 w
+put \s65535:a000002 v
+add \s1:n 5
+add n -1
+del \s7:000001
+end
+txn
+add \s1:n 3
+get \s7:a000002
+end
+"""
+# What is left of it: both clients are on one thread, so that the second one comes last.
+SPACES_LEFT = {(0, b"000000"): b"z", (0, b"n"): b"\xff" * 8, (1, b"n"): bytes(7) + b"\x08", (7, b"000000"): b"y", (65_535, b"a000002"): b"v"}
+SPACES_LEFT |= {(7, b"a000000"): b"x", (7, b"a000001"): b"x", (7, b"a000002"): b"w"}
+
+
+def space_cases(folder):
+    """A run whose keys are of several spaces: what its log and its files have, and a run that starts from it."""
+    written(folder, "spaces.pcw", SPACES)
+    told = b"commits 8\ngave up 0\npoints 2\ncollapsed 1-2 entries 9\nstate pairs 8\ncheck ok\n"
+    commits = {1: [[((7, b"a%06d" % number), b"x")] for number in range(3)] + [[((7, b"%06d" % number), b"y")] for number in range(2)] + [[((0, b"000000"), b"z")]]}
+    commits[2] = [[((7, b"a000002"), b"w"), ((65_535, b"a000002"), b"v"), ((1, b"n"), 5), ((0, b"n"), -1), ((7, b"000001"), None)], [((1, b"n"), 3)]]
+    words = ("run", "spaces.pcw", "--workers", "1", "--dir", new_folder(folder, "spaces"))
+    yield Case("keys of several spaces", words, 0, told, files={"spaces/base.pcb": EMPTY}, checks={"spaces/log.pcl": has_commits(commits)})
+    whole = plain_files.recover(*files_of(os.path.join(folder, "spaces")))
+    assert whole.pairs == SPACES_LEFT
+    yield recovery("spaces", "what it leaves", whole)
+    written(folder, "spaces_on.pcw", b"client 3\nfill \\s7:a 4 on\ntxn\nadd \\s1:n -8\nend\n")
+    told = b"commits 5\ngave up 0\npoints 0\ncollapsed none\ncheck ok\n"
+    base = plain_files.Base(2, 0, SPACES_LEFT).text()
+    yield Case("a run that starts from it", ("run", "spaces_on.pcw", "--from", "spaces", "--dir", new_folder(folder, "spaces_on")), 0, told, files={"spaces_on/base.pcb": base})
+    left = SPACES_LEFT | {(7, b"a%06d" % number): b"on" for number in range(4)} | {(1, b"n"): bytes(8)}
+    yield recovery("spaces_on", "what that one leaves", plain_files.Recovered(0, 5, None, [], left))
 
 
 def has_commits(wanted):
@@ -326,7 +382,7 @@ def everything_cases(folder):
     wanted = {client: [writes_of(ops) for ops in transactions] for client, transactions in jobs.items()}
     yield Case("64 clients, 100 points and eight collapsers", words, 0, parts=told, checks={"everything/log.pcl": has_commits(wanted)})
     whole = plain_files.recover(*files_of(os.path.join(folder, "everything")))
-    assert sum(int.from_bytes(whole.pairs[b"n%d" % number], "big", signed=True) for number in range(20)) == 3200
+    assert sum(int.from_bytes(whole.pairs[0, b"n%d" % number], "big", signed=True) for number in range(20)) == 3200
     yield recovery("everything", "the folder of all that", whole)
 
 
@@ -337,14 +393,14 @@ def number_of_all(number):
 
 # The log of the adds of two transactions, which are the worked row of docs/FORMATS.md.
 ADDS = b"points 1\nclient 1\ntxn\nadd n 5\nadd n -2\nget n\nend\ntxn\nput t x\nadd n -4\nend\n"
-ADDS_LOG = "5043414c434c3031 0000000000000001 00000000 00000010 01 01 0001 0001 6e 02 0000000000000003"
-ADDS_LOG += "00000019 01 01 0002 0001 74 01 00000001 78 0001 6e 02 fffffffffffffffc"
-ADDS_PART = "5043414c43503031 0000000000000001 00000001 00000001 00000001"
-ADDS_PART += "0001 6e 00000001 01 00000008 ffffffffffffffff 0001 74 00000001 01 00000001 78 0000 00000002"
+ADDS_LOG = "5043414c434c3032 0000000000000001 00000000 00000012 01 01 0001 0001 0000 6e 02 0000000000000003"
+ADDS_LOG += "0000001d 01 01 0002 0001 0000 74 01 00000001 78 0001 0000 6e 02 fffffffffffffffc"
+ADDS_PART = "5043414c43503032 0000000000000001 00000001 00000001 00000001"
+ADDS_PART += "0001 0000 6e 00000001 01 00000008 ffffffffffffffff 0001 0000 74 00000001 01 00000001 78 0000 00000002"
 # What one transaction does, and the one change that is kept of each key.
 MERGED = [rb"put a \x00\x00\x00\x00\x00\x00\x00\x05", b"add a 2", b"del b", b"add b -3", b"add k 4", b"add k 5", b"add x 1", b"put x 6"]
 MERGED += [b"add y 1", b"del y", b"add z 1", b"del z", b"add z 8", b"add z 8"]
-MERGED_WRITES = [(b"a", bytes(7) + b"\7"), (b"b", b"\xff" * 7 + b"\xfd"), (b"k", 9), (b"x", b"6"), (b"y", None), (b"z", bytes(7) + b"\x10")]
+MERGED_WRITES = {b"a": bytes(7) + b"\7", b"b": b"\xff" * 7 + b"\xfd", b"k": 9, b"x": b"6", b"y": None, b"z": bytes(7) + b"\x10"}
 COUNTED = b"points 8\n" + b"".join(b"client %d\n" % client + b"txn\nadd n 1\nend\n" * 1000 for client in range(1, 5))
 
 
@@ -353,11 +409,11 @@ def add_cases(folder):
     written(folder, "adds.pcw", ADDS)
     told = b"commits 2\ngave up 0\npoints 1\ncollapsed 1 entries 2\nstate pairs 2\ncheck ok\n"
     log = bytes.fromhex(ADDS_LOG)
-    checks = {"adds/log.pcl": lambda text: len(log) == 69 and (text or b"").startswith(log)}
+    checks = {"adds/log.pcl": lambda text: len(log) == 75 and (text or b"").startswith(log)}
     yield Case("adds of two transactions", ("run", "adds.pcw", "--dir", new_folder(folder, "adds")), 0, told, checks=checks, files={"adds/part-00001.pcp": bytes.fromhex(ADDS_PART)})
     yield Case("what they leave", ("recover", "adds"), 0, b"point 1\nentries 7\npairs 2\nn " + b"\\xff" * 8 + b"\nt x\n")
     log = plain_files.Log(1)
-    log.entries = [("commit", 1, MERGED_WRITES)]
+    log.entries = [plain_files.commit(1, MERGED_WRITES)]
     written(folder, "merged.pcw", b"client 1\ntxn\n" + b"".join(line + b"\n" for line in MERGED) + b"end\n")
     told = b"commits 1\ngave up 0\npoints 0\ncollapsed none\ncheck ok\n"
     yield Case("adds behind other changes", ("run", "merged.pcw", "--dir", new_folder(folder, "merged")), 0, told, files={"merged/log.pcl": log.text()})
@@ -392,18 +448,21 @@ def counted_cut_cases(folder):
 def cut_add_cases(folder):
     """A folder whose log has adds before and behind the token of its part's point, whole and with its log cut at each byte."""
     log = plain_files.Log(1)
-    log.entries = [("commit", 1, [(b"n", 5), (b"m", -1)]), ("token", "prepare", 1), ("commit", 2, [(b"n", -2)]), ("token", "resolve", 1)]
-    log.entries += [("commit", 1, [(b"n", -4), (b"t", b"x")]), ("token", "capture", 1), ("commit", 64, [(b"m", 2**62), (b"l", -(2**63))])]
+    log.entries = [plain_files.commit(1, {b"n": 5, b"m": -1}), ("token", "prepare", 1), plain_files.commit(2, {b"n": -2}), ("token", "resolve", 1)]
+    log.entries += [plain_files.commit(1, {b"n": -4, b"t": b"x"}), ("token", "capture", 1), plain_files.commit(64, {b"m": 2**62, b"l": -(2**63)})]
     number = lambda of: of.to_bytes(8, "big", signed=True)
-    base = plain_files.Base(1, 0, {b"n": number(100)}).text()
-    part = plain_files.Part(1, [(1, 1)], {b"n": (1, number(103)), b"m": (1, number(-1))}).text()
+    base = plain_files.Base(1, 0, keyed({b"n": number(100)})).text()
+    part = plain_files.Part(1, [(1, 1)], keyed({b"n": (1, number(103)), b"m": (1, number(-1))})).text()
     written(folder, "cut_adds/base.pcb", base)
     written(folder, "cut_adds/part-00001.pcp", part)
     whole = plain_files.recover(base, [(b"part-00001.pcp", part)], log.text())
-    assert whole.pairs == {b"n": number(99), b"m": number(2**62 - 1), b"l": number(-(2**63)), b"t": b"x"}
-    for cut in range(len(log.text()) + 1):
-        written(folder, "cut_adds/log.pcl", log.text()[:cut])
-        yield recovery("cut_adds", f"{cut} bytes of a log with adds", plain_files.recover(base, [(b"part-00001.pcp", part)], log.text()[:cut]))
+    assert whole.pairs == keyed({b"n": number(99), b"m": number(2**62 - 1), b"l": number(-(2**63)), b"t": b"x"})
+    for form in (plain_files.FIRST, plain_files.SECOND):
+        text = log.text(form)
+        for cut in range(len(text) + 1):
+            written(folder, "cut_adds/log.pcl", text[:cut])
+            told = plain_files.recover(base, [(b"part-00001.pcp", part)], text[:cut])
+            yield recovery("cut_adds", f"{cut} bytes of a log of {form.decode()} with adds", told)
 
 
 def fault_cases(folder):
@@ -520,7 +579,7 @@ def from_cases(folder):
     told = b"commits 21\ngave up 0\npoints 1\ncollapsed 1 entries 22\nstate pairs 58\ncheck ok\n"
     yield Case("a run that starts from it", ("run", "next.pcw", "--from", "first", "--dir", new_folder(folder, "next")), 0, told, files={"next/base.pcb": plain_files.Base(8, 0, first.pairs).text()})
     second = plain_files.recover(*files_of(os.path.join(folder, "next")))
-    assert len(second.pairs) == 58 and second.pairs[b"a000007"] == b"z" and b"a000005" not in second.pairs
+    assert len(second.pairs) == 58 and second.pairs[0, b"a000007"] == b"z" and (0, b"a000005") not in second.pairs
     yield recovery("next", "what it leaves", second)
     yield Case("the same without a folder of its own", ("run", "next.pcw", "--from", "first"), 0, told)
     yield Case("the same from a folder's name with a slash", ("run", "next.pcw", "--from", "first/"), 0, told)
@@ -594,5 +653,5 @@ def number_cases(folder):
 
 def cases(folder):
     """Each case, whose files are written into the folder right before it."""
-    for some in (usage_cases, workload_cases, telling_cases, pace_cases, contention_cases, arena_cases, add_cases, everything_cases, fault_cases, used_cases, from_cases, number_cases, folder_cases):
+    for some in (usage_cases, workload_cases, telling_cases, pace_cases, contention_cases, arena_cases, add_cases, space_cases, everything_cases, fault_cases, used_cases, from_cases, number_cases, folder_cases):
         yield from some(folder)

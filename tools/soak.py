@@ -30,11 +30,13 @@ from run_cases import files_of, has_commits, writes_of
 PROGRAM = os.path.abspath(os.path.join(os.path.dirname(os.path.abspath(__file__)), "..", "crates", "pcalc", "out", "pcalc"))
 LANES = os.cpu_count() or 1
 SECONDS = 600
-KEYS = [b"a", b"b", b"c", b"d", b"e", b"k\\x00", b"\\xff"]
+KEYS = [b"a", b"b", b"c", b"d", b"e", b"k\\x00", b"\\xff", rb"\s7:a", rb"\s256:-b"]
+SPACES = [0, 0, 0, 7, 255, 256]
 # the last four are numbers, or have a byte less or more than one
 VALUES = [b"-", b"1", b"22", b"\\x5c\\x2d", b"x" * 40, b"\\x00" * 7 + b"5", b"\\x7f" + b"\\xff" * 7, b"1234567", b"123456789"]
 DELTAS = [b"0", b"1", b"-1", b"7", b"-0", b"007", b"-300", b"%d" % (2**63 - 1), b"%d" % -(2**63), b"%d" % 2**62, b"%d" % -(2**62)]
 ODD = [b"", b"# nothing", b"frob", b"get 1", b"put 1 a", b"put 1 - x", b"get 0 a", b"begin 257", b"text 99", b"join 1 99", b"state 0", b"base a 1"]
+ODD += [rb"put 1 \s07:a x", rb"get 1 \s65536:a", rb"get 1 \s7:-", rb"put 1 \s7: x"]
 ODD += [b"add 1 a", b"add 1 a +1", b"add 1 a -", b"add 1 a 9223372036854775808", b"add 1 a -9223372036854775809", b"add 1 a 00000000000000000001", b"add 1 - 1"]
 NEXT = {"rest": [b"point"], "prepare": [b"seal"], "resolve": [b"capture"], "capture": [b"take", b"take", b"done"], "complete": [b"rest"]}
 
@@ -110,15 +112,17 @@ class Scripts:
 
 
 def history(chance, run):
-    """The base, the parts of the points, by their numbers, and the log of a run of its own."""
-    drawn = lambda count: {b"k%d" % chance.randrange(9): chance.choice([None, b"", b"1", b"22", b"x" * 30, bytes(7) + b"7"]) for _ in range(count)}
+    """The base, the parts of the points, by their numbers, and the log of a run of its own. In some all keys are of space 0."""
+    spaces = chance.choice([[0], SPACES])
+    key = lambda: (chance.choice(spaces), b"k%d" % chance.randrange(9))
+    drawn = lambda count: {key(): chance.choice([None, b"", b"1", b"22", b"x" * 30, bytes(7) + b"7"]) for _ in range(count)}
     base = plain_files.Base(run, 0, {key: value for key, value in drawn(chance.randrange(4)).items() if value is not None})
     log, parts, state, dirty = plain_files.Log(run), {}, dict(base.pairs), set()
 
     def commits():
         for _ in range(chance.randrange(4)):
             writes = drawn(chance.randint(1, 3))
-            writes.update({b"k%d" % chance.randrange(9): int(chance.choice(DELTAS)) for _ in range(chance.randrange(3))})
+            writes.update({key(): int(chance.choice(DELTAS)) for _ in range(chance.randrange(3))})
             log.entries.append(("commit", chance.randint(1, 64), [*writes.items()]))
             state.update({key: plain_store.changed(state.get(key), change) for key, change in writes.items()})
             dirty.update(writes)
@@ -132,6 +136,15 @@ def history(chance, run):
                 dirty.clear()
     commits()
     return base, parts, log
+
+
+def drawn_text(chance, file, keys):
+    """The text of a file of these keys, of either format where all are of space 0."""
+    return file.text(chance.choice([plain_files.FIRST, plain_files.SECOND]) if all(space == 0 for space, _ in keys) else plain_files.SECOND)
+
+
+def keys_of(log):
+    return [key for entry in log.entries if entry[0] == "commit" for key, _ in entry[2]]
 
 
 def damaged(text, damage):
@@ -154,10 +167,11 @@ class Recoveries:
 
     def draw(self, chance):
         base, parts, log = history(chance, 3)
-        texts = {"base.pcb": base.text(), "log.pcl": log.text()}
+        texts = {"base.pcb": drawn_text(chance, base, base.pairs), "log.pcl": drawn_text(chance, log, keys_of(log))}
         for point, part in parts.items():
             other = parts[chance.choice([*parts])]
-            texts["%s%d.pcp" % (chance.choice("pq"), point)] = (plain_files.join(part, other) if chance.random() < 0.4 else part).text()
+            part = plain_files.join(part, other) if chance.random() < 0.4 else part
+            texts["%s%d.pcp" % (chance.choice("pq"), point)] = drawn_text(chance, part, part.entries)
         if chance.random() < 0.1:
             texts["other.pcp"] = plain_files.Part(4, [(1, 1)], {}).text()
         pieces = [(chance.choice([*texts]), damage(chance)) for _ in range(chance.choice([0, 1, 1, 2, 3]))]
@@ -225,7 +239,8 @@ class Collapses:
             elif odd < 0.15 and part.entries:
                 key = chance.choice([*part.entries])
                 part.entries[key] = (part.entries[key][0], b"another")
-            texts.append(damaged(part.text(), damage(chance)) if chance.random() < 0.05 else part.text())
+            text = drawn_text(chance, part, part.entries)
+            texts.append(damaged(text, damage(chance)) if chance.random() < 0.05 else text)
         return chance.randint(1, 5), texts
 
     def wanted(self, texts):
@@ -290,7 +305,7 @@ class Runs:
     def draw(self, chance):
         points, clients = chance.randrange(5), chance.randint(1, 6)
         numbers = chance.sample(range(1, 65), clients)
-        keys = [b"k%d" % number for number in range(chance.choice([2, 6, 40]))]
+        keys = [plain_store.key_word((chance.choice(SPACES), b"k%d" % number)) for number in range(chance.choice([2, 6, 40]))]
         count = chance.choice([5, 40, 300])
         pieces = [(chance.choice(numbers), [self.line(chance, chance.choice(keys)) for _ in range(chance.randrange(5))]) for _ in range(count)]
         words = [f"--workers={chance.randint(1, 6)}", f"--collapsers={chance.randint(1, 3)}", f"--every={chance.choice([1, 10, 100])}"]
@@ -298,8 +313,9 @@ class Runs:
 
     def line(self, chance, key):
         """Keys that are added to are their own, and have numbers, so that none is refused."""
-        add = b"add n%s %d" % (key, chance.choice([1, -1, 5, 2**40, -(2**40)]))
-        number = chance.choice([add, add, add, b"put n%s \\x00%s" % (key, b"1234567"), b"del n%s" % key, b"get n%s" % key])
+        other = key + b"n"
+        add = b"add %s %d" % (other, chance.choice([1, -1, 5, 2**40, -(2**40)]))
+        number = chance.choice([add, add, add, b"put %s \\x00%s" % (other, b"1234567"), b"del %s" % other, b"get %s" % other])
         return chance.choice([b"put %s %d" % (key, chance.randrange(99)), b"del %s" % key, b"get %s" % key, number])
 
     def workload(self, points, pieces):

@@ -44,7 +44,7 @@ def of_session(session, seed):
 def size_of(writes):
     """How many bytes a commit of these writes takes in the log."""
     sizes = [0 if change is None else 8 if isinstance(change, int) else 4 + len(change) for change in writes.values()]
-    return COMMIT + sum(3 + len(key) for key in writes) + sum(sizes)
+    return COMMIT + sum(5 + len(key) for key in writes) + sum(sizes)
 
 
 def walked(seed):

@@ -17,6 +17,8 @@ import plain_store
 import soak
 import walk_counts
 import worked_examples
+from plain_files import FIRST, SECOND, commit
+from plain_store import keyed
 
 # Of longer texts each change of a byte takes seconds.
 LONGEST_CHANGED = 45
@@ -198,6 +200,8 @@ status 0
 """
 LOG_OF_ROW = "5043414c434c3031 0000000000000001 00000000 00000010 01 01 0001 0001 6e 02 0000000000000003"
 LOG_OF_ROW += "00000019 01 01 0002 0001 74 01 00000001 78 0001 6e 02 fffffffffffffffc"
+SECOND_OF_ROW = "5043414c434c3032 0000000000000001 00000000 00000012 01 01 0001 0001 0000 6e 02 0000000000000003"
+SECOND_OF_ROW += "0000001d 01 01 0002 0001 0000 74 01 00000001 78 0001 0000 6e 02 fffffffffffffffc"
 GREATEST, LEAST = 2**63 - 1, -(2**63)
 
 
@@ -283,16 +287,18 @@ class Adds(unittest.TestCase):
 
     def test_the_log_of_the_row(self):
         log = plain_files.Log(1)
-        log.entries = [("commit", 1, [(b"n", 3)]), ("commit", 1, [(b"t", b"x"), (b"n", -4)])]
-        self.assertEqual(log.text(), bytes.fromhex(LOG_OF_ROW))
-        self.assertEqual(plain_files.read_log(log.text()).entries, log.entries)
-        lines = ["run 1", "1 of 1 left 29: commit of 1 6e + 3", "2 of 2 left 0: commit of 1 74 = 78 6e + -4"]
-        self.assertEqual(plain_files.log_lines(plain_files.read_log(log.text()), 69), lines)
+        log.entries = [commit(1, {b"n": 3}), commit(1, {b"t": b"x", b"n": -4})]
+        for form, text, left in ((FIRST, LOG_OF_ROW, 29), (SECOND, SECOND_OF_ROW, 33)):
+            text = bytes.fromhex(text)
+            self.assertEqual(log.text(form), text)
+            self.assertEqual(plain_files.read_log(text).entries, log.entries)
+            lines = ["run 1", f"1 of 1 left {left}: commit of 1 6e + 3", "2 of 2 left 0: commit of 1 74 = 78 6e + -4"]
+            self.assertEqual(plain_files.log_lines(plain_files.read_log(text), len(text)), lines)
 
     def test_logs_both_ways(self):
         for delta in (0, 1, -1, GREATEST, LEAST):
             log = plain_files.Log(1)
-            log.entries = [("commit", 64, [(b"k" * 255, delta), (b"l", None)])]
+            log.entries = [commit(64, {b"k" * 255: delta, b"l": None})]
             text = log.text()
             self.assertEqual((plain_files.read_log(text).entries, plain_files.read_log(text).fault), (log.entries, None))
             self.assertEqual(plain_files.read_log(text[:-1]).fault, "Short")
@@ -314,14 +320,110 @@ class Adds(unittest.TestCase):
     def test_what_a_log_with_adds_is_worth(self):
         """Adds behind the token of a part's point are added to what the part has; one that finds no number, or leaves 64 bits, does nothing."""
         log = plain_files.Log(1)
-        log.entries = [("commit", 1, [(b"a", 5), (b"b", 1)]), ("token", "prepare", 1), ("token", "resolve", 1), ("commit", 1, [(b"a", -7), (b"c", 2), (b"d", 3), (b"e", 1)])]
-        base = plain_files.Base(1, 0, {b"a": plain_store.text_of(10), b"d": b"1234567", b"e": plain_store.text_of(GREATEST)})
-        part = plain_files.Part(1, [(1, 1)], {b"a": (1, plain_store.text_of(15)), b"b": (1, plain_store.text_of(1))})
+        log.entries = [commit(1, {b"a": 5, b"b": 1}), ("token", "prepare", 1), ("token", "resolve", 1), commit(1, {b"a": -7, b"c": 2, b"d": 3, b"e": 1})]
+        base = plain_files.Base(1, 0, keyed({b"a": plain_store.text_of(10), b"d": b"1234567", b"e": plain_store.text_of(GREATEST)}))
+        part = plain_files.Part(1, [(1, 1)], keyed({b"a": (1, plain_store.text_of(15)), b"b": (1, plain_store.text_of(1))}))
         wanted = {b"a": 8, b"b": 1, b"c": 2}
         for parts in ([], [(b"a.pcp", part.text())]):
             pairs = plain_files.recover(base.text(), parts, log.text()).pairs
-            self.assertEqual((pairs.pop(b"d"), pairs.pop(b"e")), (b"1234567", plain_store.text_of(GREATEST)))
-            self.assertEqual(pairs, {key: plain_store.text_of(number) for key, number in wanted.items()})
+            self.assertEqual((pairs.pop((0, b"d")), pairs.pop((0, b"e"))), (b"1234567", plain_store.text_of(GREATEST)))
+            self.assertEqual(pairs, keyed({key: plain_store.text_of(number) for key, number in wanted.items()}))
+
+
+def second_log(*bodies):
+    """The text of a log of format 02 with these bodies, in digits."""
+    bodies = [bytes.fromhex(body) for body in bodies]
+    return bytes.fromhex("5043414c434c3032 0000000000000001 00000000") + b"".join(len(body).to_bytes(4, "big") + body for body in bodies)
+
+
+class Spaces(InFolder):
+    """Keys of spaces, and both formats."""
+
+    KEYS = [(0, b"b"), (1, b"a"), (255, b"a"), (256, b"\xff"), (257, b"\0"), (65_535, b"k" * 255)]
+
+    def test_words_both_ways(self):
+        for key, word in (((0, b"k"), b"k"), ((7, b"k"), b"\\s7:k"), ((65_535, b"-"), b"\\s65535:\\x2d"), ((7, b""), b"\\s7:-"), ((7, b":\\"), b"\\s7::\\x5c")):
+            self.assertEqual((plain_store.key_word(key), plain_store.key(word)), (word, key))
+        self.assertEqual(plain_store.key(b"\\x5cs7:k"), (0, b"\\s7:k"))
+
+    def test_words_that_are_no_keys(self):
+        for word in (rb"\s0:k", rb"\s65536:k", rb"\s07:k", rb"\s7", rb"\s7:", rb"\s:k", rb"\s7:\s8:k", rb"k\s7:", rb"\s-7:k", rb"\s7:\xZZ", rb"\s100000:k", rb"\s"):
+            self.assertRaises(plain_store.Malformed, plain_store.key, word)
+
+    def test_the_worked_row(self):
+        script = rb"begin 1;put 1 k 1;put 1 \s7:k 2;put 1 \s0:k 3;put 1 \s7:- 3;commit 1;point;seal;capture;take;take;done;state 1".replace(b";", b"\n")
+        told = rb"begun 1;ok;ok;bad line;refused KeyLength;committed 1;phase prepare 1;phase resolve 1;phase capture 1;took k 1;took \s7:k 2;"
+        told += rb"part 1 file 1 entries 2;state point 1 pairs 2;k 1;\s7:k 2;status 3;"
+        self.assertEqual(plain_store.run_script([], script), told.replace(b";", b"\n"))
+
+    def test_keys_rise_by_space_first(self):
+        part = plain_files.Part(1, [(1, 1)], {key: (1, None) for key in self.KEYS[::-1]})
+        self.assertEqual([*plain_files.read_part(part.text()).entries], self.KEYS)
+        for low, high in zip(self.KEYS, self.KEYS[1:]):
+            text = plain_files.Part(1, [(1, 1)], {low: (1, None), high: (1, None)}).text()
+            entries = [len(own).to_bytes(2, "big") + space.to_bytes(2, "big") + own + b"\0\0\0\1\0" for space, own in (low, high)]
+            self.assertIn(entries[0] + entries[1], text)
+            self.assertRaisesRegex(plain_files.Refused, "KeyOrder", plain_files.read_part, text.replace(entries[0] + entries[1], entries[1] + entries[0]))
+
+    def test_the_order_is_tested_behind_the_whole_key(self):
+        head = plain_files.Part(1, [(1, 1)], {(256, b"a"): (1, None)}).text()[:-6]
+        for cut in (b"", b"\0", b"\0\1", b"\0\1\0", b"\0\1\0\xff"):
+            self.assertRaisesRegex(plain_files.Refused, "Short", plain_files.read_part, head + cut)
+        self.assertRaisesRegex(plain_files.Refused, "KeyOrder", plain_files.read_part, head + b"\0\1\0\xffa")
+
+    def test_both_formats_hold_the_same(self):
+        part = plain_files.Part(1, [(1, 1), (3, 3)], keyed({b"a": (1, b"1"), b"b" * 255: (3, None)}))
+        base = plain_files.Base(7, 3, keyed({b"a": b"", b"b": b"x"}))
+        log = plain_files.Log(1)
+        log.entries = [commit(1, {b"b": b"1", b"a": None, b"n": -1}), ("token", "prepare", 1), commit(2, {})]
+        for kind, file in (("part", part), ("base", base), ("log", log)):
+            first, second = file.text(FIRST), file.text(SECOND)
+            self.assertEqual((first[:8][-2:], second[:8][-2:], file.text()), (b"01", b"02", second))
+            for text in (first, second):
+                self.assertEqual(vars(plain_files.read(kind, text)) | {"ends": 0}, vars(file) | {"ends": 0})
+                self.assertEqual(plain_files.rewritten(kind, text), ["text " + second.hex()])
+            self.assertTrue(plain_files.found(kind, first).endswith(f"becomes {len(second)}"))
+            self.assertTrue(plain_files.found(kind, second).endswith("same"))
+
+    def test_magics(self):
+        text = plain_files.Part(1, [(1, 1)], {}).text()
+        for magic in (b"PCALCP00", b"PCALCP03", b"PCALCP12", b"PCALCB02", b"PCALCL01", b"pCALCP02"):
+            self.assertRaisesRegex(plain_files.Refused, "BadMagic", plain_files.read_part, magic + text[8:])
+        self.assertRaisesRegex(plain_files.Refused, "Short", plain_files.read_part, text[:7])
+
+    def test_no_text_of_01_has_a_space(self):
+        self.assertRaises(ValueError, plain_files.Base(1, 0, {(7, b"a"): b""}).text, FIRST)
+
+    def test_the_body_of_a_log(self):
+        """One key of two spaces stands twice in a commit, of one space it doesn't; a body that ends within a key is BadLength."""
+        twice = "01 01 0002 0001 0007 61 00 0001 0008 61 00"
+        self.assertEqual(plain_files.read_log(second_log(twice)).entries, [("commit", 1, [((7, b"a"), None), ((8, b"a"), None)])])
+        self.assertEqual(plain_files.read_log(second_log(twice.replace("8", "7"))).fault, "KeyOrder")
+        for body in ("01 01 0001 0001", "01 01 0001 0001 00", "01 01 0001 0001 0007", "01 01 0001 0000 0007", "01 01 0001 0100 0007"):
+            self.assertEqual(plain_files.read_log(second_log(body)).fault, "BadLength", body)
+
+    def test_the_greatest_body(self):
+        log = plain_files.Log(1)
+        log.entries = [("commit", 64, [((space, bytes([space]) * 255), bytes(65_535)) for space in range(256)])]
+        self.assertEqual(len(log.text()) - 24, 16_844_548)
+        self.assertEqual(plain_files.read_log(log.text()).fault, None)
+        for form, most in ((FIRST, 16_844_036), (SECOND, 16_844_548)):
+            head = plain_files.Log(1).text(form)
+            self.assertEqual(plain_files.read_log(head + most.to_bytes(4, "big")).fault, "Short")
+            self.assertEqual(plain_files.read_log(head + (most + 1).to_bytes(4, "big")).fault, "BadLength")
+
+    def test_a_collapse_of_both_formats(self):
+        parts = [({b"a": (1, b"1"), b"b": (1, b"1")}, FIRST), ({b"a": (2, b"2")}, SECOND), ({b"b": (3, None)}, FIRST)]
+        texts = [plain_files.Part(1, [(point, point)], keyed(entries)).text(form) for point, (entries, form) in enumerate(parts, 1)]
+        wanted = "5043414c43503032 0000000000000001 00000001 00000001 00000003 0001 0000 61 00000002 01 00000001 32 0001 0000 62 00000003 00 0000 00000002"
+        self.assertEqual(plain_files.joined(texts)[-1], "text " + wanted.replace(" ", ""))
+
+    def test_recoveries_of_each_mixture(self):
+        files = plain_files.Base(1, 0, keyed({b"a": b"0"})), plain_files.Part(1, [(1, 1)], keyed({b"a": (1, b"1")})), plain_files.Log(1)
+        files[2].entries = [commit(1, {b"a": b"1"}), ("token", "prepare", 1), ("token", "resolve", 1), commit(1, {b"b": b"2"})]
+        for base, part, log in itertools.product((FIRST, SECOND), repeat=3):
+            found = plain_files.recover(files[0].text(base), [(b"a.pcp", files[1].text(part))], files[2].text(log))
+            self.assertEqual(found.text(), b"point 1\nentries 4\npairs 2\na 1\nb 2\n")
 
 
 class Worked(InFolder):

@@ -66,9 +66,9 @@ def run(workload, option, place, *words):
             log.entries.append(("commit", client, [*store.open[client].writes.items()]))
             store.step(("commit", client))
         elif verb == b"add":
-            store.step(("add", client, rest[0], int(rest[1])))
+            store.step(("add", client, plain_store.key(rest[0]), int(rest[1])))
         else:
-            store.step((verb.decode(), client, *map(plain_store.content, rest)))
+            store.step((verb.decode(), client, plain_store.key(rest[0]), *map(plain_store.content, rest[1:])))
     for name, text in (("base.pcb", plain_files.Base(1, 0, {}).text()), ("log.pcl", log.text())):
         with open(os.path.join(place, name), "wb") as it:
             it.write(text)
@@ -162,7 +162,7 @@ class Soaks(InFolder):
 
         def wrong(workload, option, place, *words):
             with open(workload, "rb") as it:
-                lines = it.read().replace(b"add n", b"put n")
+                lines = it.read().replace(b"add ", b"put ")
             with open(workload, "wb") as it:
                 it.write(lines)
             return run(workload, option, place, *words)
@@ -226,7 +226,7 @@ class Soaks(InFolder):
             self.assertEqual(self.program(self.folder, "100"), (None, b"", b"no end in 0 s"))
 
     def test_clashes(self):
-        parts = [plain_files.Part(3, [(1, 2)], entries) for entries in ({b"a": (1, b"1")}, {b"a": (1, b"2")}, {b"a": (2, b"3")})]
+        parts = [plain_files.Part(3, [(1, 2)], plain_store.keyed(entries)) for entries in ({b"a": (1, b"1")}, {b"a": (1, b"2")}, {b"a": (2, b"3")})]
         self.assertEqual(soak.clashes(parts[:2]), (True, True))
         self.assertEqual(soak.clashes(parts), (False, True))
         self.assertEqual(soak.clashes(parts[1:]), (False, False))

@@ -21,10 +21,10 @@ class Crashes(InFolder):
         self.replace(crash_cases, CLIENTS=2, KEYS=2)
         self.commits = [("commit", client, self.writes(client, number)) for client, number in ((1, 0), (2, 0), (1, 1), (1, 2), (2, 1))]
         self.pairs = {writes[0][0]: writes[0][1] for _, _, writes in self.commits}
-        self.pairs.update({b"a1n": bytes(7) + b"\3", b"a2n": bytes(7) + b"\2"})
+        self.pairs.update({(0, b"an"): bytes(7) + b"\3", (1, b"an"): bytes(7) + b"\2"})
 
     def writes(self, client, number):
-        return [(crash_cases.key_of(b"a", client, number), b"%d" % number), (b"a%dn" % client, 1)]
+        return [(crash_cases.key_of(b"a", client, number), b"%d" % number), ((client - 1, b"an"), 1)]
 
     def faults(self, least=0):
         log = plain_files.Log(1)
@@ -34,7 +34,7 @@ class Crashes(InFolder):
 
     def test_what_is_right(self):
         puts = {key: value for key, value in self.pairs.items() if len(value) == 1}
-        self.assertEqual(puts, {b"a1k00": b"2", b"a1k01": b"1", b"a2k00": b"0", b"a2k01": b"1"})
+        self.assertEqual(puts, {(0, b"ak00"): b"2", (0, b"ak01"): b"1", (1, b"ak00"): b"0", (1, b"ak01"): b"1"})
         self.assertEqual(self.faults(5), [])
 
     def test_what_is_lost(self):
@@ -45,18 +45,18 @@ class Crashes(InFolder):
         self.assertEqual(self.faults(), ["the log hasn't the first transactions of client 1"])
 
     def test_pairs_that_are_no_state(self):
-        self.pairs[b"a1k01"] = b"0"
+        self.pairs[0, b"ak01"] = b"0"
         self.assertEqual(self.faults(), ["what is recovered of client 1 is no state that it has made"])
 
     def test_pairs_behind_the_log(self):
-        self.pairs[b"a1k00"] = b"0"
-        del self.pairs[b"a2k01"]
+        self.pairs[0, b"ak00"] = b"0"
+        del self.pairs[1, b"ak01"]
         told = ["what is recovered of client %d is no state that it has made", "client %d has not counted its transactions"]
         self.assertEqual(self.faults(), [line % client for client in (1, 2) for line in told])
 
     def test_an_add_that_is_made_twice_or_lost(self):
-        self.pairs[b"a1n"] = bytes(7) + b"\4"
-        del self.pairs[b"a2n"]
+        self.pairs[0, b"an"] = bytes(7) + b"\4"
+        del self.pairs[1, b"an"]
         self.assertEqual(self.faults(), [f"client {client} has not counted its transactions" for client in (1, 2)])
 
     def test_an_add_that_the_log_lacks(self):
@@ -67,7 +67,8 @@ class Crashes(InFolder):
         text = crash_cases.workload(b"a")
         self.assertEqual(text.count(b"client "), crash_cases.CLIENTS)
         self.assertEqual(text.count(b"\nput "), crash_cases.CLIENTS * crash_cases.COUNT)
-        self.assertIn(b"put a2k01 999\nadd a2n 1\nend\n", text)
+        self.assertIn(b"put ak01 999\nadd an 1\nend\n", text)
+        self.assertIn(b"put \\s1:ak01 999\nadd \\s1:an 1\nend\n", text)
 
     def test_the_lines_of_a_terminal(self):
         end, other = os.pipe()

@@ -145,9 +145,9 @@ fn tells_nothing_of_a_flush_that_fails(rt: HostRuntime) {
 }
 
 // A log up to its first token, whose phase there isn't.
-const PHASE_FIVE: [u8; 47] = *b"PCALCL01\
+const PHASE_FIVE: [u8; 49] = *b"PCALCL02\
     \x00\x00\x00\x00\x00\x00\x00\x01\x00\x00\x00\x00\
-    \x00\x00\x00\x0d\x01\x01\x00\x01\x00\x01a\x01\x00\x00\x00\x011\
+    \x00\x00\x00\x0f\x01\x01\x00\x01\x00\x01\x00\x00a\x01\x00\x00\x00\x011\
     \x00\x00\x00\x06\x02\x05\x00\x00\x00\x01";
 
 // The folder with the parts of two keys and of the third point, and that log.
@@ -178,11 +178,11 @@ fn stops_where_the_output_fails(rt: HostRuntime) -> Result<(), Fail> {
 }
 
 // The base of the run behind the one of the parts of two keys, with what they are worth.
-const NEXT_BASE: [u8; 40] = *b"PCALCB01\
+const NEXT_BASE: [u8; 44] = *b"PCALCB02\
     \x00\x00\x00\x00\x00\x00\x00\x02\
     \x00\x00\x00\x00\x00\x00\x00\x02\
-    \x00\x01a\x00\x00\x00\x011\
-    \x00\x01b\x00\x00\x00\x011";
+    \x00\x01\x00\x00a\x00\x00\x00\x011\
+    \x00\x01\x00\x00b\x00\x00\x00\x011";
 
 // Whether the base is made of the damaged folder, and its damage goes out as far as a writer with this much room takes it.
 fn is_made(alloc: Global, folder: Folder<Tape>, room: usize) -> bool {
@@ -206,7 +206,7 @@ fn makes_a_base_of_a_damaged_folder(rt: HostRuntime) -> Result<(), Fail> {
 }
 
 // An empty base of the last run that there may be.
-const LAST_RUN: [u8; 24] = *b"PCALCB01\
+const LAST_RUN: [u8; 24] = *b"PCALCB02\
     \xff\xff\xff\xff\xff\xff\xff\xff\
     \x00\x00\x00\x00\x00\x00\x00\x00";
 

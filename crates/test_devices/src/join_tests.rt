@@ -10,20 +10,30 @@ use std::alloc::Global;
 use std::io::{ErrorKind, Write};
 use std::test::Fail;
 
-// Point 1 of run 1: two values.
-const FIRST: [u8; 60] = *b"PCALCP01\
+// Point 1 of run 1: two values, in format 01.
+const OLD: [u8; 60] = *b"PCALCP01\
     \x00\x00\x00\x00\x00\x00\x00\x01\
     \x00\x00\x00\x01\x00\x00\x00\x01\x00\x00\x00\x01\
     \x00\x01a\x00\x00\x00\x01\x01\x00\x00\x00\x011\
     \x00\x01b\x00\x00\x00\x01\x01\x00\x00\x00\x019\
     \x00\x00\x00\x00\x00\x02";
 
+// The same point in format 02, but that the second key is of space 256.
+const NEW: [u8; 64] = *b"PCALCP02\
+    \x00\x00\x00\x00\x00\x00\x00\x01\
+    \x00\x00\x00\x01\x00\x00\x00\x01\x00\x00\x00\x01\
+    \x00\x01\x00\x00a\x00\x00\x00\x01\x01\x00\x00\x00\x011\
+    \x00\x01\x01\x00b\x00\x00\x00\x01\x01\x00\x00\x00\x019\
+    \x00\x00\x00\x00\x00\x02";
+
+const FIRSTS: [&[u8]; 2] = [&OLD, &NEW];
+
 // Points 1 to 3 of run 1: another value, and a key without one.
-const SECOND: [u8; 55] = *b"PCALCP01\
+const SECOND: [u8; 59] = *b"PCALCP02\
     \x00\x00\x00\x00\x00\x00\x00\x01\
     \x00\x00\x00\x01\x00\x00\x00\x01\x00\x00\x00\x03\
-    \x00\x01a\x00\x00\x00\x02\x01\x00\x00\x00\x012\
-    \x00\x01c\x00\x00\x00\x03\x00\
+    \x00\x01\x00\x00a\x00\x00\x00\x02\x01\x00\x00\x00\x012\
+    \x00\x01\x00\x00c\x00\x00\x00\x03\x00\
     \x00\x00\x00\x00\x00\x02";
 
 const STEPS: [usize; 3] = [1, 7, 1_000_000];
@@ -87,30 +97,36 @@ fn is_short(alloc: Global, written: &[u8]) -> bool {
 
 #[test]
 fn gives_the_join_of_few_bytes_at_a_time(rt: HostRuntime) {
-    for step in STEPS {
-        assert!(rt; agrees(rt.alloc(), &FIRST, step), "{step}");
+    for first in FIRSTS {
+        for step in STEPS {
+            assert!(rt; agrees(rt.alloc(), first, step), "{step}");
+        }
     }
 }
 
 #[test]
 fn a_cut_or_longer_text_beside_a_whole_one(rt: HostRuntime) -> Result<(), Fail> {
-    for length in 0..FIRST.len() {
-        assert!(rt; agrees(rt.alloc(), &FIRST[..length], 7), "{length}");
+    for first in FIRSTS {
+        for length in 0..first.len() {
+            assert!(rt; agrees(rt.alloc(), &first[..length], 7), "{length}");
+        }
+        let mut longer = Vec::from_slice(rt.alloc(), first)?;
+        longer.push(0)?;
+        assert!(rt; agrees(rt.alloc(), &longer, 7));
     }
-    let mut longer = Vec::from_slice(rt.alloc(), &FIRST)?;
-    longer.push(0)?;
-    assert!(rt; agrees(rt.alloc(), &longer, 7));
     Ok(())
 }
 
 // Each byte in turn is another one.
 #[test]
 fn a_changed_text_beside_a_whole_one(rt: HostRuntime) -> Result<(), Fail> {
-    for place in 0..FIRST.len() {
-        for bits in [1, 2, 128] {
-            let mut changed = Vec::from_slice(rt.alloc(), &FIRST)?;
-            changed[place] ^= bits;
-            assert!(rt; agrees(rt.alloc(), &changed, 7), "{place} {bits}");
+    for first in FIRSTS {
+        for place in 0..first.len() {
+            for bits in [1, 2, 3, 128] {
+                let mut changed = Vec::from_slice(rt.alloc(), first)?;
+                changed[place] ^= bits;
+                assert!(rt; agrees(rt.alloc(), &changed, 7), "{place} {bits}");
+            }
         }
     }
     Ok(())
@@ -120,11 +136,11 @@ fn a_changed_text_beside_a_whole_one(rt: HostRuntime) -> Result<(), Fail> {
 #[test]
 fn a_reader_that_fails_at_each_place(rt: HostRuntime) -> Result<(), Fail> {
     let alloc = rt.alloc();
-    for length in 0..=FIRST.len() {
+    for length in 0..=OLD.len() {
         for kind in [ErrorKind::Other, ErrorKind::Interrupted] {
             let mut inputs = Vec::new(alloc);
             inputs.push(reader_of(alloc, &SECOND, 7, None))?;
-            inputs.push(reader_of(alloc, &FIRST[..length], 7, Some(kind)))?;
+            inputs.push(reader_of(alloc, &OLD[..length], 7, Some(kind)))?;
             let mut out = Tally::new(Vec::new(alloc));
             let refused = stream_join(alloc, &mut inputs, &mut out).err();
             assert_eq!(rt; refused, Some(Refusal::Device), "{length}");
@@ -140,24 +156,33 @@ fn a_reader_that_fails_at_each_place(rt: HostRuntime) -> Result<(), Fail> {
 #[test]
 fn a_writer_that_takes_so_many_bytes(rt: HostRuntime) -> Result<(), Fail> {
     let alloc = rt.alloc();
-    let text = wanted(alloc, &FIRST, &SECOND)?;
-    let stopped = stops_at(&text, |out| {
-        join_two(alloc, (&FIRST, None), &SECOND, 7, out).map(|_| ())
-    });
-    assert_eq!(rt; stopped, None);
+    for first in FIRSTS {
+        let text = wanted(alloc, first, &SECOND)?;
+        let stopped = stops_at(&text, |out| {
+            join_two(alloc, (first, None), &SECOND, 7, out).map(|_| ())
+        });
+        assert_eq!(rt; stopped, None);
+    }
     Ok(())
 }
 
-// The text of a part of a point, with keys of which most are in the next point's part too; each fifth has no value.
+// The text of a part of a point, of format 01 where its number is even, with keys of space 0 of which most are in the next
+// point's part too; each fifth has no value.
 fn text_at(alloc: Global, point: u16) -> Result<Vec<u8>, Refusal> {
     let mut text = Vec::new(alloc);
     let number = u32::from(point).to_be_bytes();
-    text.extend_from_slice(b"PCALCP01\x00\x00\x00\x00\x00\x00\x00\x01\x00\x00\x00\x01")?;
+    let (magic, before) = if point % 2 == 0 {
+        (b"PCALCP01", &[0, 4][..])
+    } else {
+        (b"PCALCP02", &[0, 4, 0, 0][..])
+    };
+    text.extend_from_slice(magic)?;
+    text.extend_from_slice(&[0, 0, 0, 0, 0, 0, 0, 1, 0, 0, 0, 1])?;
     text.extend_from_slice(&number)?;
     text.extend_from_slice(&number)?;
     for place in 0..ENTRIES {
         let key = u32::from(point).wrapping_mul(300).wrapping_add(place);
-        text.extend_from_slice(&[0, 4])?;
+        text.extend_from_slice(before)?;
         text.extend_from_slice(&key.to_be_bytes())?;
         text.extend_from_slice(&number)?;
         if place % 5 == 0 {
@@ -204,16 +229,16 @@ fn many_files_are_their_fold(rt: HostRuntime) -> Result<(), Fail> {
     Ok(())
 }
 
-// The longest entry, of 65,801 bytes, stands between two short ones.
+// The longest entry, of 65,803 bytes, stands between two short ones.
 #[test]
 fn the_longest_entry_between_short_ones(rt: HostRuntime) -> Result<(), Fail> {
     let alloc = rt.alloc();
-    let mut text = Vec::from_slice(alloc, &FIRST[..41])?;
-    text.extend_from_slice(b"\x00\xff")?;
+    let mut text = Vec::from_slice(alloc, &NEW[..43])?;
+    text.extend_from_slice(b"\x00\xff\x00\xff")?;
     text.extend_from_slice(&[b'a'; 255])?;
     text.extend_from_slice(b"\x00\x00\x00\x01\x01\x00\x00\xff\xff")?;
     text.extend_from_slice(&[b'v'; 65_535])?;
-    text.extend_from_slice(&FIRST[41..])?;
+    text.extend_from_slice(&NEW[43..])?;
     let last = text.len() - 1;
     text[last] = 3;
     let mut texts = Vec::new(alloc);

@@ -9,7 +9,7 @@ use std::test::Fail;
 use test_support::SIX_ENTRIES;
 
 // Run 258, with one token.
-const ONE_TOKEN: [u8; 30] = *b"PCALCL01\x00\x00\x00\x00\x00\x00\x01\x02\x00\x00\x00\x00\
+const ONE_TOKEN: [u8; 30] = *b"PCALCL02\x00\x00\x00\x00\x00\x00\x01\x02\x00\x00\x00\x00\
     \x00\x00\x00\x06\x02\x01\x00\x00\x00\x01";
 
 fn has_few_writes(entry: &Entry) -> bool

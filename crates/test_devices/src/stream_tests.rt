@@ -8,8 +8,17 @@ use std::alloc::{AllocError, Global};
 use std::io::{ErrorKind, Read};
 use std::test::Fail;
 
-// Points 1 and 3 to 65,535 of a great run: a value, a key of 17 bytes without one, and an empty value.
-const THREE_ENTRIES: [u8; 91] = *b"PCALCP01\
+// Points 1 and 3 to 65,535 of a great run: a value, a key of 17 bytes without one, and in space 7 an empty value.
+const THREE_ENTRIES: [u8; 97] = *b"PCALCP02\
+    \x01\x02\x03\x04\x05\x06\x07\x08\
+    \x00\x00\x00\x02\x00\x00\x00\x01\x00\x00\x00\x01\x00\x00\x00\x03\x00\x00\xff\xff\
+    \x00\x01\x00\x00a\x00\x00\x00\x01\x01\x00\x00\x00\x011\
+    \x00\x11\x00\x00abcdefghijklmnopq\x00\x00\xff\xff\x00\
+    \x00\x01\x00\x07b\x00\x00\x00\x03\x01\x00\x00\x00\x00\
+    \x00\x00\x00\x00\x00\x03";
+
+// The same in format 01, but that the last key is of space 0.
+const OLD: [u8; 91] = *b"PCALCP01\
     \x01\x02\x03\x04\x05\x06\x07\x08\
     \x00\x00\x00\x02\x00\x00\x00\x01\x00\x00\x00\x01\x00\x00\x00\x03\x00\x00\xff\xff\
     \x00\x01a\x00\x00\x00\x01\x01\x00\x00\x00\x011\
@@ -36,9 +45,10 @@ fn reader_of(
 }
 
 fn push_entry(text: &mut Vec<u8>, entry: &Triple) -> Result<(), AllocError> {
-    let key = entry.key.as_bytes();
-    text.extend_from_slice(&(key.len() as u16).to_be_bytes())?;
-    text.extend_from_slice(key)?;
+    let own = entry.key.own_bytes();
+    text.extend_from_slice(&(own.len() as u16).to_be_bytes())?;
+    text.extend_from_slice(&entry.key.space().to_be_bytes())?;
+    text.extend_from_slice(own)?;
     text.extend_from_slice(&u32::from(entry.point.0).to_be_bytes())?;
     match &entry.content {
         None => text.push(0)?,
@@ -52,7 +62,7 @@ fn push_entry(text: &mut Vec<u8>, entry: &Triple) -> Result<(), AllocError> {
 }
 
 fn push_header<R: Read>(text: &mut Vec<u8>, reader: &mut PartReader<R>) -> Result<(), Refusal> {
-    text.extend_from_slice(b"PCALCP01")?;
+    text.extend_from_slice(b"PCALCP02")?;
     text.extend_from_slice(&reader.header()?.to_be_bytes())?;
     text.extend_from_slice(&(reader.ranges().len() as u64).to_be_bytes()[4..])?;
     for range in reader.ranges() {
@@ -62,7 +72,7 @@ fn push_header<R: Read>(text: &mut Vec<u8>, reader: &mut PartReader<R>) -> Resul
     Ok(())
 }
 
-// The text of what a reader gives, entry by entry, up to its end.
+// The text in format 02 of what a reader gives, entry by entry, up to its end.
 fn told<R: Read>(alloc: Global, reader: &mut PartReader<R>) -> Result<Vec<u8>, Refusal> {
     let mut text = Vec::new(alloc);
     push_header(&mut text, reader)?;
@@ -81,10 +91,15 @@ fn told<R: Read>(alloc: Global, reader: &mut PartReader<R>) -> Result<Vec<u8>, R
 
 // Whether the reader gives just this text, and ends again when it is asked again.
 fn gives(alloc: Global, bytes: &[u8], step: usize) -> bool {
+    gives_as(alloc, bytes, bytes, step)
+}
+
+// Whether the reader of the bytes gives what this text of format 02 holds, and ends again when it is asked again.
+fn gives_as(alloc: Global, bytes: &[u8], wanted: &[u8], step: usize) -> bool {
     let mut reader = reader_of(alloc, bytes, step, None);
     match told(alloc, &mut reader) {
         Ok(text) => {
-            text.as_slice() == bytes
+            text.as_slice() == wanted
                 && matches!(reader.next(), Ok(None))
                 && reader.header().is_ok()
                 && reader.failures() == 0
@@ -120,12 +135,24 @@ fn gives_what_stands_there(rt: HostRuntime) {
 }
 
 #[test]
-fn a_cut_text_has_the_fault_of_the_whole_decoder(rt: HostRuntime) {
+fn gives_what_stands_in_a_text_of_01(rt: HostRuntime) -> Result<(), Fail> {
+    let mut wanted = Vec::from_slice(rt.alloc(), &THREE_ENTRIES)?;
+    wanted[80] = 0;
     for step in STEPS {
-        for length in 0..THREE_ENTRIES.len() {
-            let cut = &THREE_ENTRIES[..length];
-            let fault = Part::decode(rt.alloc(), cut).err();
-            assert_eq!(rt; refusal_of(rt.alloc(), cut, step, None), fault, "{length}");
+        assert!(rt; gives_as(rt.alloc(), &OLD, &wanted, step), "{step}");
+    }
+    Ok(())
+}
+
+#[test]
+fn a_cut_text_has_the_fault_of_the_whole_decoder(rt: HostRuntime) {
+    for text in [&THREE_ENTRIES[..], &OLD] {
+        for step in STEPS {
+            for length in 0..text.len() {
+                let cut = &text[..length];
+                let fault = Part::decode(rt.alloc(), cut).err();
+                assert_eq!(rt; refusal_of(rt.alloc(), cut, step, None), fault, "{length}");
+            }
         }
     }
 }
@@ -165,7 +192,7 @@ fn a_byte_too_many_and_a_wrong_count(rt: HostRuntime) -> Result<(), Fail> {
     longer.push(0)?;
     let refused = refusal_of(rt.alloc(), &longer, 7, None);
     assert_eq!(rt; refused, Some(Refusal::Trailing));
-    longer[90] = 2;
+    longer[96] = 2;
     let refused = refusal_of(rt.alloc(), &longer, 7, None);
     assert_eq!(rt; refused, Some(Refusal::BadLength));
     Ok(())
@@ -175,10 +202,10 @@ fn a_byte_too_many_and_a_wrong_count(rt: HostRuntime) -> Result<(), Fail> {
 #[test]
 fn a_long_value_between_short_ones(rt: HostRuntime) -> Result<(), Fail> {
     let mut text = Vec::new(rt.alloc());
-    text.extend_from_slice(&THREE_ENTRIES[..49])?;
-    text.extend_from_slice(b"\x00\x02a0\x00\x00\x00\x01\x01\x00\x00\xff\xff")?;
+    text.extend_from_slice(&THREE_ENTRIES[..51])?;
+    text.extend_from_slice(b"\x00\x02\x00\x00a0\x00\x00\x00\x01\x01\x00\x00\xff\xff")?;
     text.extend_from_slice(&[b'v'; 65_535])?;
-    text.extend_from_slice(&THREE_ENTRIES[49..])?;
+    text.extend_from_slice(&THREE_ENTRIES[51..])?;
     let last = text.len() - 1;
     text[last] = 4;
     for step in [1000, 1_000_000] {

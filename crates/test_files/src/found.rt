@@ -17,13 +17,14 @@ pub enum Found {
 }
 
 /// How many entries or pairs were read, where the bytes of the last one end, the fault behind it in a log, and whether what
-/// was read is written again as the bytes up to that end.
+/// was read is written again as the bytes up to that end; else, how many bytes are written.
 #[derive(Clone, Copy)]
 pub struct ReadItems {
     count: usize,
     end: usize,
     fault: Option<Refusal>,
     is_same: bool,
+    written: usize,
 }
 
 impl Found {
@@ -57,6 +58,7 @@ impl ReadItems {
             && self.end == other.end
             && self.fault == other.fault
             && self.is_same == other.is_same
+            && self.written == other.written
     }
 
     fn put<W: Write>(&self, alloc: Global, out: &mut Tally<W>) -> Result<(), Refusal> {
@@ -64,8 +66,12 @@ impl ReadItems {
             Some(fault) => fault.name(),
             None => "whole",
         };
-        let same = if self.is_same { "same" } else { "other" };
-        let text = format!(in alloc; "items {} end {} {fault} {same}\n", self.count, self.end)?;
+        let text = format!(in alloc; "items {} end {} {fault} ", self.count, self.end)?;
+        out.put(text.as_bytes())?;
+        if self.is_same {
+            return out.put(b"same\n");
+        }
+        let text = format!(in alloc; "becomes {}\n", self.written)?;
         out.put(text.as_bytes())
     }
 }
@@ -85,52 +91,73 @@ pub fn put_refusal<W: Write>(
 
 /// What the text holds as a file of the kind.
 pub fn found_in(alloc: Global, kind: Kind, bytes: &[u8]) -> Found {
-    let read = match kind {
-        Kind::Part => read_part(alloc, bytes),
-        Kind::Base => read_base(alloc, bytes),
-        Kind::Log => read_entries(alloc, bytes),
-    };
-    match read {
-        Ok(read) => Found::Items(read),
+    match read_again(alloc, kind, bytes) {
+        Ok(found) => Found::Items(found.items),
         Err(refusal) => Found::Refused(refusal),
     }
 }
 
-fn read_part(alloc: Global, bytes: &[u8]) -> Result<ReadItems, Refusal> {
-    let part = Part::decode(alloc, bytes)?;
-    let mut out = Tally::new(Vec::new(alloc));
-    part.encode(&mut out)?;
-    Ok(whole(part.entries().len(), bytes, &out.into_inner()))
+/// The text that is written of what the text holds as a file of the kind.
+pub fn rewritten(alloc: Global, kind: Kind, bytes: &[u8]) -> Result<Vec<u8>, Refusal> {
+    let ReadAgain { text, .. } = read_again(alloc, kind, bytes)?;
+    Ok(text)
 }
 
-fn read_base(alloc: Global, bytes: &[u8]) -> Result<ReadItems, Refusal> {
-    let base = Base::decode(alloc, bytes)?;
-    let mut out = Tally::new(Vec::new(alloc));
-    base.encode(&mut out)?;
-    Ok(whole(base.pairs().len(), bytes, &out.into_inner()))
+// What was read, and the text that is written of it.
+#[derive(Drop)]
+struct ReadAgain {
+    items: ReadItems,
+    text: Vec<u8>,
 }
 
-// So many items in all of the bytes, which are written again so.
-fn whole(count: usize, bytes: &[u8], again: &[u8]) -> ReadItems {
-    ReadItems {
-        count,
-        end: bytes.len(),
-        fault: None,
-        is_same: bytes == again,
+fn read_again(alloc: Global, kind: Kind, bytes: &[u8]) -> Result<ReadAgain, Refusal> {
+    match kind {
+        Kind::Part => read_part(alloc, bytes),
+        Kind::Base => read_base(alloc, bytes),
+        Kind::Log => read_entries(alloc, bytes),
     }
 }
 
-fn read_entries(alloc: Global, bytes: &[u8]) -> Result<ReadItems, Refusal> {
-    let text = read_log(alloc, bytes)?;
+fn read_part(alloc: Global, bytes: &[u8]) -> Result<ReadAgain, Refusal> {
+    let part = Part::decode(alloc, bytes)?;
     let mut out = Tally::new(Vec::new(alloc));
-    put_log(&text, &mut out)?;
-    let end = bytes.len().saturating_sub(text.rest);
-    Ok(ReadItems {
-        count: text.entries.len(),
+    part.encode(&mut out)?;
+    Ok(whole(part.entries().len(), bytes, out.into_inner()))
+}
+
+fn read_base(alloc: Global, bytes: &[u8]) -> Result<ReadAgain, Refusal> {
+    let base = Base::decode(alloc, bytes)?;
+    let mut out = Tally::new(Vec::new(alloc));
+    base.encode(&mut out)?;
+    Ok(whole(base.pairs().len(), bytes, out.into_inner()))
+}
+
+// So many items in all of the bytes, which are written again so.
+fn whole(count: usize, bytes: &[u8], text: Vec<u8>) -> ReadAgain {
+    let items = ReadItems {
+        count,
+        end: bytes.len(),
+        fault: None,
+        is_same: bytes == text.as_slice(),
+        written: text.len(),
+    };
+    ReadAgain { items, text }
+}
+
+fn read_entries(alloc: Global, bytes: &[u8]) -> Result<ReadAgain, Refusal> {
+    let log = read_log(alloc, bytes)?;
+    let mut out = Tally::new(Vec::new(alloc));
+    put_log(&log, &mut out)?;
+    let end = bytes.len().saturating_sub(log.rest);
+    let text = out.into_inner();
+    let items = ReadItems {
+        count: log.entries.len(),
         end,
-        fault: text.fault,
-        is_same: bytes.get(..end) == Some(out.into_inner().as_slice()),
-    })
+        fault: log.fault,
+        is_same: bytes.get(..end) == Some(text.as_slice()),
+        written: text.len(),
+    };
+    Ok(ReadAgain { items, text })
 }
 
 fn put_log(text: &LogText, out: &mut Tally<Vec<u8>>) -> Result<(), Refusal> {

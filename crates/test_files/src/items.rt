@@ -6,7 +6,7 @@ use crate::kinds::Kind;
 use pc_log::{LastToken, read_entry, read_header};
 use pc_part::{Base, Part, Range};
 use pc_taken::LentTriple;
-use pc_types::{Change, Entry, Phase, Refusal, Tally, Value};
+use pc_types::{Change, Entry, Format, Key, Phase, Refusal, Tally, Value};
 use std::alloc::Global;
 use std::io::Write;
 
@@ -27,7 +27,7 @@ pub fn put_items<W: Write>(
             Err(refusal) => put_refusal(alloc, refusal, out),
         },
         Kind::Log => match read_header(bytes) {
-            Ok((run, rest)) => put_log(alloc, run, rest, out),
+            Ok((format, run, rest)) => put_log(alloc, format, run, rest, out),
             Err(refusal) => put_refusal(alloc, refusal, out),
         },
     }
@@ -68,18 +68,18 @@ fn put_entry<W: Write>(
 ) -> Result<(), Refusal> {
     let point = format!(in alloc; "point {} ", entry.point.0)?;
     out.put(point.as_bytes())?;
-    put_write(alloc, entry.key.as_bytes(), entry.content, out)?;
+    put_write(alloc, entry.key, entry.content, out)?;
     out.put(b"\n")
 }
 
 // A key and its value, or that it has none.
 fn put_write<W: Write>(
     alloc: Global,
-    key: &[u8],
+    key: &Key,
     content: &Option<Value>,
     out: &mut Tally<W>,
 ) -> Result<(), Refusal> {
-    put_hex(alloc, key, out)?;
+    put_key(alloc, key, out)?;
     match content {
         Some(value) => {
             out.put(b" = ")?;
@@ -87,6 +87,15 @@ fn put_write<W: Write>(
         }
         None => out.put(b" tombstone"),
     }
+}
+
+// A key: its space where that isn't 0, and its own bytes.
+fn put_key<W: Write>(alloc: Global, key: &Key, out: &mut Tally<W>) -> Result<(), Refusal> {
+    if key.space() != 0 {
+        let space = format!(in alloc; "{}:", key.space())?;
+        out.put(space.as_bytes())?;
+    }
+    put_hex(alloc, key.own_bytes(), out)
 }
 
 /// Prints the bytes in hexadecimal digits, none as `-`.
@@ -103,7 +112,7 @@ pub fn put_base<W: Write>(alloc: Global, base: &Base, out: &mut Tally<W>) -> Res
     let head = format!(in alloc; "run {} point {}\n", base.run(), base.point().0)?;
     out.put(head.as_bytes())?;
     for (key, value) in base.pairs() {
-        put_hex(alloc, key.as_bytes(), out)?;
+        put_key(alloc, key, out)?;
         out.put(b" = ")?;
         put_hex(alloc, value.as_bytes(), out)?;
         out.put(b"\n")?;
@@ -115,6 +124,7 @@ pub fn put_base<W: Write>(alloc: Global, base: &Base, out: &mut Tally<W>) -> Res
 // fault behind the last.
 fn put_log<W: Write>(
     alloc: Global,
+    format: Format,
     run: u64,
     bytes: &[u8],
     out: &mut Tally<W>,
@@ -128,7 +138,7 @@ fn put_log<W: Write>(
         if rest.is_empty() {
             break;
         }
-        match read_entry(alloc, last, rest) {
+        match read_entry(alloc, format, last, rest) {
             Ok((entry, after)) => {
                 last = last.after(&entry);
                 rest = after;
@@ -181,7 +191,7 @@ fn put_change<W: Write>(
     write: &pc_types::Write,
     out: &mut Tally<W>,
 ) -> Result<(), Refusal> {
-    put_hex(alloc, write.key.as_bytes(), out)?;
+    put_key(alloc, &write.key, out)?;
     match &write.change {
         Change::Set(value) => {
             out.put(b" = ")?;

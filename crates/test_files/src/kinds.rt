@@ -13,6 +13,7 @@ pub enum Kind {
 pub enum Verb {
     Read,
     List,
+    Write,
     Cuts,
     Changes,
     Longer,
@@ -36,6 +37,7 @@ pub fn verb_of(word: &[u8]) -> Option<Verb> {
     match word {
         b"read" => Some(Verb::Read),
         b"list" => Some(Verb::List),
+        b"write" => Some(Verb::Write),
         b"cuts" => Some(Verb::Cuts),
         b"changes" => Some(Verb::Changes),
         b"longer" => Some(Verb::Longer),

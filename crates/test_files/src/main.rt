@@ -7,6 +7,7 @@
 //! |---|---|
 //! | `read` | what the text holds |
 //! | `list` | each entry or pair of the text |
+//! | `write` | the text that is written of what the text holds, of a log of its whole entries |
 //! | `cuts` | what each proper beginning of the text holds |
 //! | `changes` | what the text holds with each byte in turn of each value |
 //! | `longer` | what the text holds with one byte more, of each value |
@@ -32,7 +33,7 @@ use std::io::{BufWriter, Write};
 use std::process::ExitCode;
 use streams::put_streamed;
 use sweeps::{put_changes, put_cuts, put_longer, put_read};
-use unions::{put_joined, put_laid};
+use unions::{put_joined, put_laid, put_rewritten};
 
 fn main(rt: HostRuntime) -> ExitCode {
     match run_input(&rt) {
@@ -99,6 +100,7 @@ fn run_verb<W: Write>(
     match verb {
         Verb::Read => put_read(alloc, kind, text, out),
         Verb::List => put_items(alloc, kind, text, out),
+        Verb::Write => put_rewritten(alloc, kind, text, out),
         Verb::Cuts => put_cuts(alloc, kind, text, out),
         Verb::Changes => put_changes(alloc, kind, text, out),
         Verb::Longer => put_longer(alloc, kind, text, out),

@@ -1,6 +1,7 @@
-//! Parts that are joined, and laid on a base.
-use crate::found::put_refusal;
+//! What is written again, and parts that are joined, and laid on a base.
+use crate::found::{put_refusal, rewritten};
 use crate::items::{put_base, put_hex, put_part};
+use crate::kinds::Kind;
 use pc_part::{Base, Part, join, lay};
 use pc_types::{Refusal, Tally};
 use std::alloc::Global;
@@ -58,6 +59,19 @@ fn laid(alloc: Global, text: &[u8], others: &[Vec<u8>]) -> Result<Base, Refusal>
         base = lay(alloc, &base, &part)?;
     }
     Ok(base)
+}
+
+/// Prints the text that is written of what the text holds, or why it holds nothing.
+pub fn put_rewritten<W: Write>(
+    alloc: Global,
+    kind: Kind,
+    bytes: &[u8],
+    out: &mut Tally<W>,
+) -> Result<(), Refusal> {
+    match rewritten(alloc, kind, bytes) {
+        Ok(text) => put_text(alloc, &text, out),
+        Err(refusal) => put_refusal(alloc, refusal, out),
+    }
 }
 
 /// Prints a text in hexadecimal digits.

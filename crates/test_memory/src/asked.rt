@@ -42,7 +42,7 @@ pub(crate) fn tell(reply: &Reply) -> Told {
         Reply::Aborted => Told::Aborted,
         Reply::Phase(phase, point) => Told::Phase(*phase, point.0),
         Reply::NotYet(count) => Told::NotYet(*count),
-        Reply::Took(key, content) => Told::Took(first(key.as_bytes()), content_told(content)),
+        Reply::Took(key, content) => Told::Took(first(key.own_bytes()), content_told(content)),
         Reply::NoneLeft => Told::NoneLeft,
         Reply::PartDone(point, number, entries) => Told::PartDone(point.0, number.0, *entries),
         Reply::File(number, points, entries) => {

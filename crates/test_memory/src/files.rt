@@ -11,21 +11,21 @@ use test_support::THIRD_POINT;
 const LONG: &[u8] = b"more than 16 bytes";
 
 // The part of point 1 of run 1, at which that key had that value.
-const FIRST: [u8; 81] = *b"PCALCP01\
+const FIRST: [u8; 83] = *b"PCALCP02\
     \x00\x00\x00\x00\x00\x00\x00\x01\
     \x00\x00\x00\x01\x00\x00\x00\x01\x00\x00\x00\x01\
-    \x00\x12more than 16 bytes\x00\x00\x00\x01\x01\x00\x00\x00\x12more than 16 bytes\
+    \x00\x12\x00\x00more than 16 bytes\x00\x00\x00\x01\x01\x00\x00\x00\x12more than 16 bytes\
     \x00\x00\x00\x00\x00\x01";
 
 // The join of that one with the part of point 3.
-const JOINED: [u8; 97] = *b"PCALCP01\
+const JOINED: [u8; 101] = *b"PCALCP02\
     \x00\x00\x00\x00\x00\x00\x00\x01\
     \x00\x00\x00\x02\x00\x00\x00\x01\x00\x00\x00\x01\x00\x00\x00\x03\x00\x00\x00\x03\
-    \x00\x01b\x00\x00\x00\x03\x00\
-    \x00\x12more than 16 bytes\x00\x00\x00\x01\x01\x00\x00\x00\x12more than 16 bytes\
+    \x00\x01\x00\x00b\x00\x00\x00\x03\x00\
+    \x00\x12\x00\x00more than 16 bytes\x00\x00\x00\x01\x01\x00\x00\x00\x12more than 16 bytes\
     \x00\x00\x00\x00\x00\x02";
 
-/// A key and its value.
+/// The own bytes of a key of space 0, and its value.
 pub(crate) type Pair = (&'static [u8], &'static [u8]);
 
 const PAIRS: [Pair; 2] = [(b"b", b"0"), (b"c", b"0")];
@@ -145,7 +145,7 @@ fn laid_again(alloc: Global, base: &Base, part: &Part) -> Result<Base, Refusal> 
 }
 
 fn is_pair(pair: &(Key, Value), wanted: Pair) -> bool {
-    pair.0.as_bytes() == wanted.0 && pair.1.as_bytes() == wanted.1
+    pair.0.space() == 0 && pair.0.own_bytes() == wanted.0 && pair.1.as_bytes() == wanted.1
 }
 
 /// Whether the pairs are these.

@@ -8,25 +8,25 @@ use std::test::Fail;
 use test_support::{EMPTY_BASE, ONE_KEY, SIX_ENTRIES, THIRD_POINT, TWO_KEYS};
 
 // At point 2, `a` was `2`.
-const SECOND: [u8; 47] = *b"PCALCP01\
+const SECOND: [u8; 49] = *b"PCALCP02\
     \x00\x00\x00\x00\x00\x00\x00\x01\
     \x00\x00\x00\x01\x00\x00\x00\x02\x00\x00\x00\x02\
-    \x00\x01a\x00\x00\x00\x02\x01\x00\x00\x00\x012\
+    \x00\x01\x00\x00a\x00\x00\x00\x02\x01\x00\x00\x00\x012\
     \x00\x00\x00\x00\x00\x01";
 
 // At point 1, a key too long to be kept inline was a value of the same bytes.
-const LONG: [u8; 79] = *b"PCALCP01\
+const LONG: [u8; 81] = *b"PCALCP02\
     \x00\x00\x00\x00\x00\x00\x00\x01\
     \x00\x00\x00\x01\x00\x00\x00\x01\x00\x00\x00\x01\
-    \x00\x110123456789abcdefg\x00\x00\x00\x01\x01\x00\x00\x00\x110123456789abcdefg\
+    \x00\x11\x00\x000123456789abcdefg\x00\x00\x00\x01\x01\x00\x00\x00\x110123456789abcdefg\
     \x00\x00\x00\x00\x00\x01";
 
 // A commit of the same key as such a value.
-const LONG_LOG: [u8; 69] = *b"PCALCL01\
+const LONG_LOG: [u8; 71] = *b"PCALCL02\
     \x00\x00\x00\x00\x00\x00\x00\x01\x00\x00\x00\x00\
-    \x00\x00\x00\x2d\x01\x01\x00\x01\x00\x110123456789abcdefg\x01\x00\x00\x00\x11gfedcba9876543210";
+    \x00\x00\x00\x2f\x01\x01\x00\x01\x00\x11\x00\x000123456789abcdefg\x01\x00\x00\x00\x11gfedcba9876543210";
 
-// The part of another run.
+// The part of another run, in format 01.
 const OF_RUN_TWO: [u8; 47] = *b"PCALCP01\
     \x00\x00\x00\x00\x00\x00\x00\x02\
     \x00\x00\x00\x01\x00\x00\x00\x01\x00\x00\x00\x01\
@@ -34,13 +34,13 @@ const OF_RUN_TWO: [u8; 47] = *b"PCALCP01\
     \x00\x00\x00\x00\x00\x01";
 
 // The part with one entry too many in its count.
-const MISCOUNTED: [u8; 47] = *b"PCALCP01\
+const MISCOUNTED: [u8; 49] = *b"PCALCP02\
     \x00\x00\x00\x00\x00\x00\x00\x01\
     \x00\x00\x00\x01\x00\x00\x00\x01\x00\x00\x00\x01\
-    \x00\x01a\x00\x00\x00\x01\x01\x00\x00\x00\x011\
+    \x00\x01\x00\x00a\x00\x00\x00\x01\x01\x00\x00\x00\x011\
     \x00\x00\x00\x00\x00\x02";
 
-// A part with another first byte.
+// A part of format 01 with another first byte.
 const UNMARKED: [u8; 60] = *b"QCALCP01\
     \x00\x00\x00\x00\x00\x00\x00\x01\
     \x00\x00\x00\x01\x00\x00\x00\x01\x00\x00\x00\x01\
@@ -49,21 +49,27 @@ const UNMARKED: [u8; 60] = *b"QCALCP01\
     \x00\x00\x00\x00\x00\x02";
 
 // The log whose first token has a phase that there isn't.
-const PHASE_FIVE: [u8; 94] = *b"PCALCL01\
+const PHASE_FIVE: [u8; 98] = *b"PCALCL02\
     \x00\x00\x00\x00\x00\x00\x00\x01\x00\x00\x00\x00\
-    \x00\x00\x00\x0d\x01\x01\x00\x01\x00\x01a\x01\x00\x00\x00\x011\
+    \x00\x00\x00\x0f\x01\x01\x00\x01\x00\x01\x00\x00a\x01\x00\x00\x00\x011\
     \x00\x00\x00\x06\x02\x05\x00\x00\x00\x01\
     \x00\x00\x00\x06\x02\x02\x00\x00\x00\x01\
-    \x00\x00\x00\x0d\x01\x01\x00\x01\x00\x01a\x01\x00\x00\x00\x013\
+    \x00\x00\x00\x0f\x01\x01\x00\x01\x00\x01\x00\x00a\x01\x00\x00\x00\x013\
     \x00\x00\x00\x06\x02\x03\x00\x00\x00\x01\
     \x00\x00\x00\x06\x02\x04\x00\x00\x00\x01";
 
-// The part of point 1 without its last byte.
+// The part of point 1 in format 01 without its last byte.
 const CUT_PART: [u8; 46] = *b"PCALCP01\
     \x00\x00\x00\x00\x00\x00\x00\x01\
     \x00\x00\x00\x01\x00\x00\x00\x01\x00\x00\x00\x01\
     \x00\x01a\x00\x00\x00\x01\x01\x00\x00\x00\x011\
     \x00\x00\x00\x00\x00";
+
+// The first two entries of the log of six, in format 01.
+const OLD_LOG: [u8; 47] = *b"PCALCL01\
+    \x00\x00\x00\x00\x00\x00\x00\x01\x00\x00\x00\x00\
+    \x00\x00\x00\x0d\x01\x01\x00\x01\x00\x01a\x01\x00\x00\x00\x011\
+    \x00\x00\x00\x06\x02\x01\x00\x00\x00\x01";
 
 const LONG_KEY: &[u8] = b"0123456789abcdefg";
 
@@ -80,11 +86,21 @@ struct RecoveryRow {
     pairs: &'static [Pair],
 }
 
-const ROWS: [RecoveryRow; 16] = [
+const ROWS: [RecoveryRow; 17] = [
+    RecoveryRow {
+        parts: &[&CUT_PART, &TWO_KEYS],
+        log: &OLD_LOG,
+        cut: 46,
+        point: 1,
+        entries: 1,
+        skipped: Some((0, Refusal::Short)),
+        fault: Some(Refusal::Short),
+        pairs: &[(b"a", b"1"), (b"b", b"1")],
+    },
     RecoveryRow {
         parts: &[&ONE_KEY],
         log: &SIX_ENTRIES,
-        cut: 94,
+        cut: 98,
         point: 1,
         entries: 6,
         skipped: None,
@@ -114,7 +130,7 @@ const ROWS: [RecoveryRow; 16] = [
     RecoveryRow {
         parts: &[&ONE_KEY],
         log: &PHASE_FIVE,
-        cut: 94,
+        cut: 98,
         point: 1,
         entries: 1,
         skipped: None,
@@ -124,7 +140,7 @@ const ROWS: [RecoveryRow; 16] = [
     RecoveryRow {
         parts: &[&ONE_KEY, &UNMARKED],
         log: &SIX_ENTRIES,
-        cut: 94,
+        cut: 98,
         point: 1,
         entries: 6,
         skipped: Some((1, Refusal::BadMagic)),
@@ -134,7 +150,7 @@ const ROWS: [RecoveryRow; 16] = [
     RecoveryRow {
         parts: &[&UNMARKED, &ONE_KEY],
         log: &SIX_ENTRIES,
-        cut: 94,
+        cut: 98,
         point: 1,
         entries: 6,
         skipped: Some((0, Refusal::BadMagic)),
@@ -144,7 +160,7 @@ const ROWS: [RecoveryRow; 16] = [
     RecoveryRow {
         parts: &[&MISCOUNTED],
         log: &SIX_ENTRIES,
-        cut: 94,
+        cut: 98,
         point: 0,
         entries: 6,
         skipped: Some((0, Refusal::BadLength)),
@@ -154,7 +170,7 @@ const ROWS: [RecoveryRow; 16] = [
     RecoveryRow {
         parts: &[&CUT_PART],
         log: &SIX_ENTRIES,
-        cut: 47,
+        cut: 49,
         point: 0,
         entries: 2,
         skipped: Some((0, Refusal::Short)),
@@ -214,7 +230,7 @@ const ROWS: [RecoveryRow; 16] = [
     RecoveryRow {
         parts: &[&ONE_KEY, &ONE_KEY],
         log: &SIX_ENTRIES,
-        cut: 94,
+        cut: 98,
         point: 1,
         entries: 6,
         skipped: None,
@@ -224,7 +240,7 @@ const ROWS: [RecoveryRow; 16] = [
     RecoveryRow {
         parts: &[&LONG],
         log: &LONG_LOG,
-        cut: 69,
+        cut: 71,
         point: 1,
         entries: 1,
         skipped: None,
@@ -234,7 +250,7 @@ const ROWS: [RecoveryRow; 16] = [
     RecoveryRow {
         parts: &[&OF_RUN_TWO],
         log: &LONG_LOG,
-        cut: 69,
+        cut: 71,
         point: 0,
         entries: 1,
         skipped: Some((0, Refusal::OtherRun)),

@@ -82,7 +82,7 @@ fn is_of(entry: &Triple, row: &Row) -> bool {
         Some(value) => value.as_bytes().first().copied(),
         None => None,
     };
-    entry.key.as_bytes() == row.0 && entry.point.0 == row.1 && content == row.2
+    entry.key.own_bytes() == row.0 && entry.point.0 == row.1 && content == row.2
 }
 
 // A merge with its inputs.
@@ -245,11 +245,12 @@ fn a_failure_in_the_midst_is_answered_from_then_on(rt: HostRuntime) -> Result<()
     Ok(())
 }
 
-// The text of the file of a point: of some forty keys it has some, half of them of one head, with a value or a tombstone.
+// The text of the file of a point: of some forty keys it has some, with a value or a tombstone; a quarter of them in space 0,
+// and of those in space 7 two thirds of one head.
 fn text_of(alloc: Global, point: u8) -> Result<Vec<u8>, Refusal> {
     let mut text = Vec::from_slice(
         alloc,
-        b"PCALCP01\x00\x00\x00\x00\x00\x00\x00\x01\x00\x00\x00\x01",
+        b"PCALCP02\x00\x00\x00\x00\x00\x00\x00\x01\x00\x00\x00\x01",
     )?;
     for _ in 0..2 {
         text.extend_from_slice(&[0, 0, 0, point])?;
@@ -261,9 +262,9 @@ fn text_of(alloc: Global, point: u8) -> Result<Vec<u8>, Refusal> {
         }
         count = count.wrapping_add(1);
         if number < 20 {
-            text.extend_from_slice(&[0, 1, number])?;
+            text.extend_from_slice(&[0, 1, 0, number / 10 * 7, number])?;
         } else {
-            text.extend_from_slice(b"\x00\x09one head")?;
+            text.extend_from_slice(b"\x00\x09\x00\x07one head")?;
             text.push(number)?;
         }
         text.extend_from_slice(&[0, 0, 0, point])?;

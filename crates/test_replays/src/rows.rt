@@ -66,7 +66,7 @@ fn firsts(alloc: Global, entries: &[u8]) -> Result<Vec<u8>, Refusal> {
     let entries = entries_of(alloc, entries)?;
     let mut text = Vec::new(alloc);
     for (key, content) in &first_of_each(alloc, &entries)? {
-        text.extend_from_slice(key.as_bytes())?;
+        text.extend_from_slice(key.own_bytes())?;
         match copy_content(alloc, content)? {
             Some(value) => text.extend_from_slice(value.as_bytes())?,
             None => text.push(b'-')?,

@@ -128,7 +128,7 @@ fn shown(value: &[u8]) -> &[u8] {
 pub fn text_of(alloc: Global, pairs: &[(Key, Value)]) -> Result<Vec<u8>, Refusal> {
     let mut text = Vec::new(alloc);
     for (key, value) in pairs {
-        text.extend_from_slice(key.as_bytes())?;
+        text.extend_from_slice(key.own_bytes())?;
         text.extend_from_slice(shown(value.as_bytes()))?;
     }
     if text.is_empty() {

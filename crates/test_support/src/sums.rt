@@ -59,8 +59,8 @@ pub struct SumLine {
 /// The sum of a kind begins with 14,695,981,039,346,656,037; for each item of each of its replies, in their order, it
 /// becomes (sum xor item) times 1,099,511,628,211, modulo 2^64. The items of a reply are its number among all replies of
 /// the run, from 1; then its own numbers, one below 0 with 2^64 more, and a file's points between their count and the count
-/// of its entries; then, of its key and its value, the length and the bytes, where a tombstone is 2^64 - 1 in place of a
-/// value.
+/// of its entries; then, of its key's own bytes and of its value, the length and the bytes, where a tombstone is 2^64 - 1 in
+/// place of a value. A key's space is none of them.
 #[derive(Drop)]
 pub struct Sums {
     lines: Vec<SumLine>,
@@ -113,7 +113,7 @@ fn with_reply(sum: u64, reply: &Reply) -> u64 {
         Reply::Committed(number) => with_item(sum, u64::from(number.0)),
         Reply::Phase(_, point) => with_item(sum, u64::from(point.0)),
         Reply::NotYet(count) => with_item(sum, u64::from(*count)),
-        Reply::Took(key, content) => with_content(with_bytes(sum, key.as_bytes()), content),
+        Reply::Took(key, content) => with_content(with_bytes(sum, key.own_bytes()), content),
         Reply::PartDone(point, number, entries) => {
             let sum = with_item(sum, u64::from(point.0));
             let sum = with_item(sum, u64::from(number.0));

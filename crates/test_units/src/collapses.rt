@@ -19,16 +19,16 @@ const KEYS: u32 = 1000;
 
 // Adds the start of a part's text.
 fn put_head(out: &mut Vec<u8>, run: u64, low: u32, high: u32) -> Result<(), AllocError> {
-    out.extend_from_slice(b"PCALCP01")?;
+    out.extend_from_slice(b"PCALCP02")?;
     out.extend_from_slice(&run.to_be_bytes())?;
     out.extend_from_slice(&[0, 0, 0, 1])?;
     out.extend_from_slice(&low.to_be_bytes())?;
     out.extend_from_slice(&high.to_be_bytes())
 }
 
-// Adds an entry: a key of four bytes, and a value of one.
+// Adds an entry: a key of four bytes of its own in space 0, and a value of one.
 fn put_entry(out: &mut Vec<u8>, key: u32, point: u32, value: u8) -> Result<(), AllocError> {
-    out.extend_from_slice(&[0, 4])?;
+    out.extend_from_slice(&[0, 4, 0, 0])?;
     out.extend_from_slice(&key.to_be_bytes())?;
     out.extend_from_slice(&point.to_be_bytes())?;
     out.extend_from_slice(&[1, 0, 0, 0, 1, value])

@@ -41,7 +41,7 @@ fn taken_of(alloc: Global, puts: &[(u8, u8)]) -> Result<Taken, Refusal> {
 
 // The byte of the triple's key, and the number of what it has.
 fn told(triple: &LentTriple) -> Option<(u8, u8)> {
-    let byte = triple.key.as_bytes().first().copied()?;
+    let byte = triple.key.own_bytes().first().copied()?;
     let number = match triple.content {
         Some(value) => value.as_bytes().first().copied()?,
         None => 0,
