@@ -35,7 +35,7 @@ impl KeyText {
         !self.own.is_empty() && self.own.len() <= MOST_KEY_BYTES
     }
 
-    /// The key. Refuses only with `OutOfMemory`, and never where it has at most 16 bytes of its own.
+    /// The key. Refuses only with `OutOfMemory`.
     pub fn key(&self, alloc: Global) -> Result<Key, Refusal>
         requires { is_key self.now ≡ true }
         ensures key { IfOk result (λ key. key ≡ self.now) }
