@@ -9,7 +9,7 @@ use Rattle.pc_stream_join.specs.Joining.{LeavesShort}
 use Rattle.pc_texts.specs.declared.files.NamedFile.{NamedFile}
 use Rattle.pc_collapse_files.specs.declared.inputs.CollapseFault.{CollapseFault}
 use Rattle.pc_collapse_files.specs.declared.inputs.CollapseFault.TheVariants as fault
-use Rattle.pc_collapse_files.specs.Collapses.{IsCollapseCause, IsLeftByCollapse}
+use Rattle.pc_collapse_files.specs.Collapses.{IsCollapseCause, IsLeftByCollapse, StaysAs}
 use Rattle.pc_collapse_files.specs.Inputs.{IsHeadFault, IsUnwritten}
 
 module _ {R : Type 0} (remaining : R → Option (List ℕ)) (files : List (NamedFile R)) where
@@ -20,6 +20,7 @@ module _ {R : Type 0} (remaining : R → Option (List ℕ)) (files : List (Named
   head_cause (fault.Unmade why) is = absurd is
   head_cause (fault.Unjoined why) is = absurd is
   head_cause fault.Unwritten is = absurd is
+  head_cause (fault.Unnamed why) is = absurd is
   head_cause fault.Output is = absurd is
 
   module _ {F : Type 0} (contents : F → Option (List ℕ)) where
@@ -30,25 +31,28 @@ module _ {R : Type 0} (remaining : R → Option (List ℕ)) (files : List (Named
     unwritten_cause made (fault.Unmade why) is = is.0
     unwritten_cause made (fault.Unjoined why) is = (is.0, is.1)
     unwritten_cause made fault.Unwritten is = is.0
+    unwritten_cause made (fault.Unnamed why) is = absurd is
     unwritten_cause made fault.Output is = absurd is
 
-    module _ {W : Type 0} (printed : W → Option (List ℕ)) (out : Tally W) where
+    module _ {W : Type 0} (printed : W → Option (List ℕ)) (before after : List ℕ → Type 0) (stays : StaysAs before after) (out : Tally W) where
       -- no file is left where none is made, and nothing is printed
-      pub head_leaves : (f : CollapseFault) → IsHeadFault remaining files f → IsLeftByCollapse remaining contents printed files f None out out
-      head_leaves (fault.Unopened name why) is = (refl, refl)
-      head_leaves (fault.Refused why) is = (refl, refl)
+      pub head_leaves : (f : CollapseFault) → IsHeadFault remaining files f → IsLeftByCollapse remaining contents printed files f None before after out out
+      head_leaves (fault.Unopened name why) is = (refl, stays, refl)
+      head_leaves (fault.Refused why) is = (refl, stays, refl)
       head_leaves (fault.Unmade why) is = absurd is
       head_leaves (fault.Unjoined why) is = absurd is
       head_leaves fault.Unwritten is = absurd is
+      head_leaves (fault.Unnamed why) is = absurd is
       head_leaves fault.Output is = absurd is
 
       -- what is left where the join isn't written
-      pub unwritten_leaves : (made : Option (Tally F)) (f : CollapseFault) → IsUnwritten remaining contents files made f → IsLeftByCollapse remaining contents printed files f made out out
+      pub unwritten_leaves : (made : Option (Tally F)) (f : CollapseFault) → IsUnwritten remaining contents files made f → IsLeftByCollapse remaining contents printed files f made before after out out
       unwritten_leaves made (fault.Unopened name why) is = absurd is
       unwritten_leaves made (fault.Refused why) is = absurd is
-      unwritten_leaves made (fault.Unmade why) is = (is.1, refl)
-      unwritten_leaves made (fault.Unjoined why) is = (is.2, refl)
-      unwritten_leaves made fault.Unwritten is = (is.1, refl)
+      unwritten_leaves made (fault.Unmade why) is = (is.1, stays, refl)
+      unwritten_leaves made (fault.Unjoined why) is = (is.2, stays, refl)
+      unwritten_leaves made fault.Unwritten is = (is.1, stays, refl)
+      unwritten_leaves made (fault.Unnamed why) is = absurd is
       unwritten_leaves made fault.Output is = absurd is
 
 -- a text that went out to a file without bytes is what it holds

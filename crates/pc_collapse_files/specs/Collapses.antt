@@ -20,7 +20,7 @@ use Rattle.pc_stream_join.specs.Headers.{all_headers, headers_fault}
 use Rattle.pc_stream_join.specs.Joining.{IsJoinCause}
 use Rattle.pc_texts.specs.Texts.{joined_line}
 use Rattle.pc_texts.specs.declared.files.NamedFile.{NamedFile}
-use Rattle.pc_texts.specs.Files.{TellsOf, AreOpened, HoldsBytes}
+use Rattle.pc_texts.specs.Files.{TellsOf, AreOpened, HoldsBytes, line_about}
 use Rattle.pc_collapse_files.specs.declared.inputs.CollapseFault.{CollapseFault}
 use Rattle.pc_collapse_files.specs.declared.inputs.CollapseFault.TheVariants as fault
 
@@ -30,7 +30,7 @@ is_one_of files name = list_any (λ file. bytes_eq file.name.items name) files
 
 -- what is told where the file that is to be written has the name of an input
 abbrev pub usage_text : List ℕ → List ℕ
-usage_text name = codes "pcalc: " ++ (name ++ codes ": an input has this name\n")
+usage_text name = line_about name (codes "an input has this name")
 
 -- it is told, as far as the writer takes it
 abbrev pub TellsUsage : {T : Type 0} → (T → Option (List ℕ)) → Tally T → Tally T → List ℕ → Type 0
@@ -89,12 +89,21 @@ abbrev pub IsCollapseCause : {R : Type 0} → (R → Option (List ℕ)) → List
 IsCollapseCause {R} remaining files (fault.Unopened name why) = (file : NamedFile R) × IsFirstUnopened files file why × (name ≡ file.name)
 IsCollapseCause remaining files (fault.Refused why) = (why ≡ OutOfMemory) ⊎ HaveNoHeader remaining files why
 IsCollapseCause remaining files (fault.Unjoined why) = HaveHeader remaining files × AreUnjoined remaining files why
+IsCollapseCause remaining files (fault.Unnamed why) = AreOpened files × ((file : File) × IsJoinOf remaining files file)
 IsCollapseCause remaining files fault.Output = AreOpened files × ((file : File) × IsJoinOf remaining files file)
 IsCollapseCause remaining files other = HaveHeader remaining files
 
 -- of every file of this kind it is known what it holds
 abbrev pub AreKnown : {F : Type 0} → (F → Option (List ℕ)) → Type 0
 AreKnown {F} contents = (file : F) → IsSome (contents file)
+
+-- the texts that stood under a name stand there still
+abbrev pub StaysAs : (List ℕ → Type 0) → (List ℕ → Type 0) → Type 0
+StaysAs before after = (text : List ℕ) → before text → after text
+
+-- a text stands under the file's name; said where it is known what files hold
+abbrev pub StandsThere : {F : Type 0} → (F → Option (List ℕ)) → (List ℕ → Type 0) → List ℕ → Type 0
+StandsThere contents stands text = AreKnown contents → stands text
 
 -- a file that was made holds this text, and nothing else
 abbrev pub IsWholeIn : {F : Type 0} → (F → Option (List ℕ)) → List ℕ → Tally F → Type 0
@@ -112,30 +121,36 @@ HasFailed file = 0 < failures_of file
 abbrev pub line_of : File → List ℕ
 line_of file = joined_line (set.items file.points) (map_of.len file.triples)
 
--- the fold of the parts that the files hold was written whole to a file that was made, and told of
-pub record IsCollapseDone {R F W : Type 0} (remaining : R → Option (List ℕ)) (contents : F → Option (List ℕ)) (printed : W → Option (List ℕ)) (files : List (NamedFile R)) (made : Option (Tally F)) (old new : Tally W) : Type 0 where
+-- The fold of the parts that the files hold stands whole under the name of the file that is to be written, and was told of.
+pub record IsCollapseDone {R F W : Type 0} (remaining : R → Option (List ℕ)) (contents : F → Option (List ℕ)) (printed : W → Option (List ℕ)) (files : List (NamedFile R)) (stands : List ℕ → Type 0) (old new : Tally W) : Type 0 where
   pub opened : AreOpened files
   pub file : File
   pub join : IsJoinOf remaining files file
-  pub written : MatchOption made ⊥ (IsWholeIn contents (part_text file))
+  pub written : StandsThere contents stands (part_text file)
   pub line : Appends (printed (inner_of old)) (printed (inner_of new)) (line_of file)
   pub sound : failures_of new ≡ failures_of old
 
 -- the same, but that the output failed: a beginning of the line went out
-pub record IsCollapseUntold {R F W : Type 0} (remaining : R → Option (List ℕ)) (contents : F → Option (List ℕ)) (printed : W → Option (List ℕ)) (files : List (NamedFile R)) (made : Option (Tally F)) (old new : Tally W) : Type 0 where
+pub record IsCollapseUntold {R F W : Type 0} (remaining : R → Option (List ℕ)) (contents : F → Option (List ℕ)) (printed : W → Option (List ℕ)) (files : List (NamedFile R)) (stands : List ℕ → Type 0) (old new : Tally W) : Type 0 where
   pub file : File
   pub join : IsJoinOf remaining files file
-  pub written : MatchOption made ⊥ (IsWholeIn contents (part_text file))
+  pub written : StandsThere contents stands (part_text file)
   pub line : AppendsBeginning (printed (inner_of old)) (printed (inner_of new)) (line_of file)
   pub counted : HasRisen (failures_of old) (failures_of new)
 
--- What a fault leaves: a file only where it was begun, which is read as Short unless it was the output that failed, and has failed where
--- its device did; and nothing printed but a beginning of the line where the output failed.
-abbrev pub IsLeftByCollapse : {R F W : Type 0} → (R → Option (List ℕ)) → (F → Option (List ℕ)) → (W → Option (List ℕ)) → List (NamedFile R) → CollapseFault → Option (Tally F) → Tally W → Tally W → Type 0
-IsLeftByCollapse remaining contents printed files fault.Unwritten made old new = MatchOption made ⊥ (λ f. HasFailed f × IsShortIn contents f) × (new ≡ old)
-IsLeftByCollapse remaining contents printed files (fault.Unjoined why) made old new = MatchOption made ⊥ (IsShortIn contents) × (new ≡ old)
-IsLeftByCollapse remaining contents printed files fault.Output made old new = IsCollapseUntold remaining contents printed files made old new
-IsLeftByCollapse remaining contents printed files other made old new = (made ≡ None) × (new ≡ old)
+-- A file that was written whole may have got its name or not: what stood there stands there still, or the fold of the parts does.
+abbrev pub IsNamedOrNot : {R F : Type 0} → (R → Option (List ℕ)) → (F → Option (List ℕ)) → List (NamedFile R) → (List ℕ → Type 0) → (List ℕ → Type 0) → Type 0
+IsNamedOrNot remaining contents files before after = StaysAs before after ⊎ ((file : File) × IsJoinOf remaining files file × StandsThere contents after (part_text file))
+
+-- What a fault leaves: a file that was begun and isn't whole only where its writing failed, which is read as Short, and has failed where
+-- its device did; under the name what stood there before, unless the file was whole; and nothing printed but a beginning of the line
+-- where the output failed.
+abbrev pub IsLeftByCollapse : {R F W : Type 0} → (R → Option (List ℕ)) → (F → Option (List ℕ)) → (W → Option (List ℕ)) → List (NamedFile R) → CollapseFault → Option (Tally F) → (List ℕ → Type 0) → (List ℕ → Type 0) → Tally W → Tally W → Type 0
+IsLeftByCollapse remaining contents printed files fault.Unwritten begun before after old new = MatchOption begun ⊥ (λ f. HasFailed f × IsShortIn contents f) × StaysAs before after × (new ≡ old)
+IsLeftByCollapse remaining contents printed files (fault.Unjoined why) begun before after old new = MatchOption begun ⊥ (IsShortIn contents) × StaysAs before after × (new ≡ old)
+IsLeftByCollapse remaining contents printed files (fault.Unnamed why) begun before after old new = (begun ≡ None) × IsNamedOrNot remaining contents files before after × (new ≡ old)
+IsLeftByCollapse remaining contents printed files fault.Output begun before after old new = (begun ≡ None) × IsCollapseUntold remaining contents printed files after old new
+IsLeftByCollapse remaining contents printed files other begun before after old new = (begun ≡ None) × StaysAs before after × (new ≡ old)
 
 -- what is told of a fault, where the file that is to be written has this name; of an output that failed nothing
 abbrev pub IsCollapseTold : {T : Type 0} → (T → Option (List ℕ)) → Tally T → Tally T → List ℕ → CollapseFault → Type 0
@@ -143,9 +158,10 @@ IsCollapseTold contents old new name (fault.Unopened input why) = TellsOf conten
 IsCollapseTold contents old new name (fault.Refused why) = TellsOf contents old new name why
 IsCollapseTold contents old new name (fault.Unmade why) = TellsOf contents old new name why
 IsCollapseTold contents old new name (fault.Unjoined why) = TellsOf contents old new name why
+IsCollapseTold contents old new name (fault.Unnamed why) = TellsOf contents old new name why
 IsCollapseTold contents old new name fault.Unwritten = TellsOf contents old new name Device
 IsCollapseTold contents old new name fault.Output = new ≡ old
 
 -- a fault has ended a collapse: it is a cause, this is left, and it was told
-abbrev pub IsCollapseFailed : {R F W : Type 0} → (R → Option (List ℕ)) → (F → Option (List ℕ)) → (W → Option (List ℕ)) → List (NamedFile R) → Option (Tally F) → Tally W → Tally W → (CollapseFault → Type 0) → Type 0
-IsCollapseFailed remaining contents printed files made old new Told = (fault : CollapseFault) × IsCollapseCause remaining files fault × IsLeftByCollapse remaining contents printed files fault made old new × Told fault
+abbrev pub IsCollapseFailed : {R F W : Type 0} → (R → Option (List ℕ)) → (F → Option (List ℕ)) → (W → Option (List ℕ)) → List (NamedFile R) → Option (Tally F) → (List ℕ → Type 0) → (List ℕ → Type 0) → Tally W → Tally W → (CollapseFault → Type 0) → Type 0
+IsCollapseFailed remaining contents printed files begun before after old new Told = (fault : CollapseFault) × IsCollapseCause remaining files fault × IsLeftByCollapse remaining contents printed files fault begun before after old new × Told fault

@@ -1,65 +1,67 @@
 //! A collapse of part files, from their readers to the status.
-ghost use Rattle.std.specs.Prelude.{◌≡◌, ◌⊎◌, None, Some, IfOk, IfErr, MatchBool};
+ghost use Rattle.std.specs.Prelude.{◌≡◌, ◌⊎◌, None, IfErr, MatchBool, OnOk};
 ghost use Rattle.std.specs.declared.result.Result.{Result};
 ghost use Rattle.pc_types.specs.declared.refusal.Refusal.{Refusal};
 ghost use Rattle.pc_types.specs.Tallies.{Puts};
 ghost use Rattle.pc_collapse_files.specs.Collapses.{IsCollapseCause, IsCollapseDone, IsCollapseFailed, IsLeftByCollapse, IsCollapseTold, TellsUsage, is_one_of, usage_text};
 
 use crate::inputs::{CollapseFault, is_input, open_inputs};
-use crate::output::{Maker, Unfinished, print, write_file};
-use pc_texts::{NamedFile, report};
+use crate::output::{Maker, Unfinished, WrittenFile, name_file, print, write_file};
+use pc_texts::{NamedFile, report, report_words};
 use pc_types::{Refusal, Tally};
 use std::alloc::Global;
 use std::io::{Read, Write};
 
-/// How a collapse ended: its exit status, and the file that was made, where one was, with how many of its calls failed.
+/// How a collapse ended: its exit status, and the file that was begun and could not be written whole, where there is one, with how
+/// many of its calls failed.
 #[derive(Drop)]
 pub struct EndedCollapse<F> {
     pub status: u8,
-    pub file: Option<Tally<F>>,
+    pub begun: Option<Tally<F>>,
 }
 
-/// Joins part files to a file that it makes, and prints the points of the join and how many entries it has. First what stands before
-/// the entries of each is read, in their order; then the file is made, and the entries are read, joined and written one after the
-/// other, with no more in memory than an entry and a piece of each file. It gives the status
+/// Joins part files to a file that the maker makes, and prints the points of the join and how many entries it has. First what stands
+/// before the entries of each is read, in their order; then the file is made, and the entries are read, joined and written one after
+/// the other, with no more in memory than an entry and a piece of each file; then the file gets its name. It gives the status
 ///
 /// - 0 where all of that was done;
 /// - 2 where an input has the name of the file that is to be written: nothing is read or made, and a line on the error
 ///   writer says so;
 /// - else 1, and a line on the error writer tells of the fault: by the name of the first input that can't be opened; else by
 ///   the name of the file that is to be written, where an input can't be read or is refused, the parts can't be joined, memory
-///   ran out, or the file can't be made or written. Of an output that fails nothing is told.
+///   ran out, or the file can't be made, written or named. Of an output that fails nothing is told.
 ///
-/// No file is made before what stands before the entries of all inputs is read. One that was made, and could not be written whole,
-/// holds what is read as `Short`.
-pub fn run_collapse<R: Read + Drop, F: Write + Drop, M: Maker<F> + Drop, W: Write, E: Write>(
+/// No file is made before what stands before the entries of all inputs is read. Until a file is whole, what stands under its name
+/// stays there, whatever fails. One that was made, and could not be written whole, holds what is read as `Short`.
+pub fn run_collapse<R: Read + Drop, F: Write + Drop, M: Maker<F>, W: Write, E: Write>(
     alloc: Global,
     name: &str,
     files: Vec<NamedFile<R>>,
-    maker: M,
+    maker: &mut M,
     out: &mut Tally<W>,
     errors: &mut Tally<E>,
 ) -> EndedCollapse<F>
     ensures status { (result.status ≡ 0) ⊎ (result.status ≡ 1) ⊎ (result.status ≡ 2) }
     ensures usage { MatchBool (is_one_of files.items name.now)
-        ((result.status ≡ 2) × (result.file ≡ None) × (out.new ≡ out.old) × TellsUsage E.contents errors.old errors.new name.now)
+        ((result.status ≡ 2) × (result.begun ≡ None) × (maker.new ≡ maker.old) × (out.new ≡ out.old) × TellsUsage E.contents errors.old errors.new name.now)
         (¬ (result.status ≡ 2)) }
-    ensures done { result.status ≡ 0 → IsCollapseDone R.remaining F.contents W.contents files.items result.file out.old out.new × (errors.new ≡ errors.old) }
-    ensures cause { result.status ≡ 1 → IsCollapseFailed R.remaining F.contents W.contents files.items result.file out.old out.new (IsCollapseTold E.contents errors.old errors.new name.now) }
+    ensures done { result.status ≡ 0 → IsCollapseDone R.remaining F.contents W.contents files.items (M.stands maker.new) out.old out.new × (errors.new ≡ errors.old) × (result.begun ≡ None) }
+    ensures cause { result.status ≡ 1 → IsCollapseFailed R.remaining F.contents W.contents files.items result.begun (M.stands maker.old) (M.stands maker.new) out.old out.new (IsCollapseTold E.contents errors.old errors.new name.now) }
 {
     if is_input(&files, name.as_bytes()) {
         let _ = put_usage(name, errors);
-        let (status, file) = (2, None);
-        return EndedCollapse { status, file };
+        let (status, begun) = (2, None);
+        return EndedCollapse { status, begun };
     }
     match collapse(alloc, files, maker, out) {
-        Ok(file) => {
-            let (status, file) = (0, Some(file));
-            EndedCollapse { status, file }
+        Ok(()) => {
+            let (status, begun) = (0, None);
+            EndedCollapse { status, begun }
         }
         Err(Unfinished { file, fault }) => {
             tell(name, &fault, errors);
-            EndedCollapse { status: 1, file }
+            let (status, begun) = (1, file);
+            EndedCollapse { status, begun }
         }
     }
 }
@@ -68,7 +70,7 @@ pub fn run_collapse<R: Read + Drop, F: Write + Drop, M: Maker<F> + Drop, W: Writ
 fn put_usage<E: Write>(name: &str, errors: &mut Tally<E>) -> Result<(), Refusal>
     ensures { Puts E.contents errors.old errors.new result (usage_text name.now) }
 {
-    errors.put_all(&[b"pcalc: ", name.as_bytes(), b": an input has this name\n"])
+    report_words(name.as_bytes(), b"an input has this name", errors)
 }
 
 // Tells of the fault.
@@ -81,31 +83,36 @@ fn tell<E: Write>(name: &str, fault: &CollapseFault, errors: &mut Tally<E>)
         CollapseFault::Unmade(why) => report(name.as_bytes(), *why, errors),
         CollapseFault::Unjoined(why) => report(name.as_bytes(), *why, errors),
         CollapseFault::Unwritten => report(name.as_bytes(), Refusal::Device, errors),
+        CollapseFault::Unnamed(why) => report(name.as_bytes(), *why, errors),
         CollapseFault::Output => Ok(()),
     };
 }
 
-// The file that was made and written.
-fn collapse<R: Read + Drop, F: Write + Drop, M: Maker<F> + Drop, W: Write>(
+// The file is made, written, named and told of.
+fn collapse<R: Read + Drop, F: Write + Drop, M: Maker<F>, W: Write>(
     alloc: Global,
     files: Vec<NamedFile<R>>,
-    maker: M,
+    maker: &mut M,
     out: &mut Tally<W>,
-) -> Result<Tally<F>, Unfinished<F>>
-    ensures done { IfOk result (λ file. IsCollapseDone R.remaining F.contents W.contents files.items (Some file) out.old out.new) }
+) -> Result<(), Unfinished<F>>
+    ensures done { OnOk result (IsCollapseDone R.remaining F.contents W.contents files.items (M.stands maker.new) out.old out.new) }
     ensures cause { IfErr result (λ unfinished. IsCollapseCause R.remaining files.items unfinished.fault) }
-    ensures left { IfErr result (λ unfinished. IsLeftByCollapse R.remaining F.contents W.contents files.items unfinished.fault unfinished.file out.old out.new) }
+    ensures left { IfErr result (λ unfinished. IsLeftByCollapse R.remaining F.contents W.contents files.items unfinished.fault unfinished.file (M.stands maker.old) (M.stands maker.new) out.old out.new) }
 {
     let inputs = match open_inputs(alloc, files) {
         Ok(inputs) => inputs,
         Err(fault) => return Err(Unfinished { file: None, fault }),
     };
-    let written = write_file(alloc, inputs, maker)?;
-    match print(out, written.points.as_slice(), u64::from(written.entries)) {
-        Ok(()) => Ok(written.file),
-        Err(fault) => {
-            let file = Some(written.file);
-            Err(Unfinished { file, fault })
-        }
+    let WrittenFile {
+        file,
+        points,
+        entries,
+    } = write_file(alloc, inputs, maker)?;
+    if let Err(fault) = name_file(maker, file) {
+        return Err(Unfinished { file: None, fault });
+    }
+    match print(out, points.as_slice(), u64::from(entries)) {
+        Ok(()) => Ok(()),
+        Err(fault) => Err(Unfinished { file: None, fault }),
     }
 }

@@ -32,6 +32,8 @@ pub enum CollapseFault {
     Unjoined(Refusal),
     /// The device failed while the file was written.
     Unwritten,
+    /// The file was written whole, and can't get its name, or it isn't known to have reached the device under it.
+    Unnamed(Refusal),
     /// The output failed.
     Output,
 }

@@ -1,5 +1,5 @@
 //! The joined file is made and written, and told of.
-ghost use Rattle.std.specs.Prelude.{◌≡◌, List, [], IfOk, IfErr, IfSome, OnOk};
+ghost use Rattle.std.specs.Prelude.{◌≡◌, ◌⊎◌, ℕ, List, Some, IfOk, IfErr, OnOk, OnErr};
 ghost use Rattle.std.specs.Io.KnownBytes.{Appends};
 ghost use Rattle.pc_types.specs.declared.refusal.Refusal.{Refusal};
 ghost use Rattle.pc_types.specs.Counted.{HasRisen, AppendsBeginning};
@@ -7,6 +7,7 @@ ghost use Rattle.pc_types.specs.Tallies.{inner_of, failures_of};
 ghost use Rattle.pc_texts.specs.Texts.{joined_line};
 ghost use Rattle.pc_texts.specs.declared.files.NamedFile.{NamedFile};
 ghost use Rattle.pc_stream_join.specs.Headers.{AreHeaded};
+ghost use Rattle.pc_collapse_files.specs.Collapses.{StaysAs};
 ghost use Rattle.pc_collapse_files.specs.Inputs.{IsFaultOf, IsOpenedAs, IsUnwritten, IsWrittenOf};
 ghost use Rattle.pc_collapse_files.specs.declared.inputs.CollapseFault.{CollapseFault};
 
@@ -17,12 +18,26 @@ use pc_types::{Items, Point, Refusal, Tally};
 use std::alloc::Global;
 use std::io::{Read, Write};
 
-/// What makes the file that a collapse writes. What is written to it goes straight out: it is not flushed, since it is whole
-/// with its last byte, and a file that isn't whole must not become so behind a fault.
+/// What makes the file that a collapse writes. The file is made apart from what stands under its name, and takes its place once it
+/// is whole. What is written to it goes straight out: it is not flushed, and a file that isn't whole must not become so behind a
+/// fault. Contracts see which texts stand under the name; of a device of which that isn't known each text counts as standing there.
 pub trait Maker<F: Write> {
-    /// Makes the file, without bytes. Refuses for whatever keeps it from being made.
-    fn make(self) -> Result<F, Refusal>
-        ensures empty { IfOk result (λ file. IfSome (F.contents file) (λ bytes. bytes ≡ [])) };
+    ghost use Rattle.std.specs.Prelude.{◌≡◌, ◌⊎◌, ℕ, List, [], Some, IfOk, IfSome, OnOk, OnErr};
+    ghost use Rattle.pc_collapse_files.specs.Collapses.{StaysAs};
+
+    // This text stands under the file's name.
+    ghost stands: { Self → List ℕ → Type 0 };
+
+    /// Makes the file, without bytes; what stands under its name stays. Refuses for whatever keeps it from being made.
+    fn make(&mut self) -> Result<F, Refusal>
+        ensures empty { IfOk result (λ file. IfSome (F.contents file) (λ bytes. bytes ≡ [])) }
+        ensures stays { StaysAs (stands self.old) (stands self.new) };
+
+    /// All bytes of the file were written: it gets its name, in the place of what stood there. Refuses for whatever keeps it from
+    /// that; then what stood there stays, or the file has its name.
+    fn finish(&mut self, file: F) -> Result<(), Refusal>
+        ensures named { OnOk result ((text : List ℕ) → F.contents file ≡ Some text → stands self.new text) }
+        ensures unnamed { OnErr result (StaysAs (stands self.old) (stands self.new) ⊎ ((text : List ℕ) → F.contents file ≡ Some text → stands self.new text)) };
 }
 
 // A joined file that was written, and what is printed of it.
@@ -40,15 +55,16 @@ pub(crate) struct Unfinished<F> {
     pub(crate) fault: CollapseFault,
 }
 
-// Makes the file and writes the join of the inputs to it.
+// Makes the file and writes the join of the inputs to it; what stands under its name stays.
 pub(crate) fn write_file<R: Read + Drop, F: Write + Drop, M: Maker<F>>(
     alloc: Global,
     inputs: OpenedInputs<R>,
-    maker: M,
+    maker: &mut M,
 ) -> Result<WrittenFile<F>, Unfinished<F>>
     requires headed { AreHeaded R.remaining inputs.header.run inputs.header.ranges.items inputs.readers.items }
     ensures written { IfOk result (λ written. (files : List (NamedFile R)) → IsOpenedAs R.remaining files inputs → IsWrittenOf R.remaining F.contents files written) }
     ensures unwritten { IfErr result (λ unfinished. (files : List (NamedFile R)) → IsOpenedAs R.remaining files inputs → IsUnwritten R.remaining F.contents files unfinished.file unfinished.fault) }
+    ensures stays { StaysAs (M.stands maker.old) (M.stands maker.new) }
 {
     let file = match maker.make() {
         Ok(file) => file,
@@ -85,6 +101,21 @@ fn fault_of<F>(file: &Tally<F>, why: Refusal) -> CollapseFault
         CollapseFault::Unwritten
     } else {
         CollapseFault::Unjoined(why)
+    }
+}
+
+// The file gets its name.
+pub(crate) fn name_file<F: Write + Drop, M: Maker<F>>(
+    maker: &mut M,
+    file: Tally<F>,
+) -> Result<(), CollapseFault>
+    ensures named { OnOk result ((text : List ℕ) → F.contents (inner_of file) ≡ Some text → M.stands maker.new text) }
+    ensures fault { IfErr result (λ fault. (why : Refusal) × (fault ≡ CollapseFault.Unnamed why)) }
+    ensures unnamed { OnErr result (StaysAs (M.stands maker.old) (M.stands maker.new) ⊎ ((text : List ℕ) → F.contents (inner_of file) ≡ Some text → M.stands maker.new text)) }
+{
+    match maker.finish(file.into_inner()) {
+        Ok(()) => Ok(()),
+        Err(why) => Err(CollapseFault::Unnamed(why)),
     }
 }
 

@@ -8,10 +8,15 @@ use Rattle.pc_types.specs.Tallies.{Puts}
 use Rattle.pc_types.specs.declared.tally.Tally.{Tally}
 use Rattle.std.specs.List.{All}
 use Rattle.pc_texts.specs.declared.files.NamedFile.{NamedFile}
+use Rattle.pc_texts.specs.Texts.{printed_name}
 
--- what is told of a script that couldn't be read
+-- the line that tells something of a file, by its name as printed
+abbrev pub line_about : List ℕ → List ℕ → List ℕ
+line_about name words = (codes "pcalc: " ++ printed_name name) ++ (codes ": " ++ (words ++ codes "\n"))
+
+-- the line that tells why a command failed
 abbrev pub report_text : List ℕ → Refusal → List ℕ
-report_text name why = codes "pcalc: " ++ (name ++ (codes ": " ++ (name_of why ++ codes "\n")))
+report_text name why = line_about name (name_of why)
 
 -- why there is no status of the script's own: it isn't there, or else it couldn't be read or memory ran out
 abbrev pub IsScriptFault : {R : Type 0} → Result R Refusal → Refusal → Type 0

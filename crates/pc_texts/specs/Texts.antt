@@ -21,6 +21,10 @@ use Rattle.pc_lines.specs.Words.{is_plain}
 abbrev pub printed_byte : ℕ → List ℕ
 printed_byte b = if is_plain b then b ∷ [] else 92 ∷ 120 ∷ digit_char (b / 16) ∷ digit_char (b % 16) ∷ []
 
+-- a file's name as printed: each of its bytes so, and no bytes as none
+abbrev pub printed_name : List ℕ → List ℕ
+printed_name name = flat_map printed_byte name
+
 -- a key or value as printed: no bytes as a hyphen, and the hyphen alone as an escape
 abbrev pub printed : List ℕ → List ℕ
 printed [] = codes "-"

@@ -2,10 +2,11 @@
 ghost use Rattle.std.specs.Prelude.{◌≡◌, ◌++◌, codes, IsOk, IfOk, IfErr, IfSome, OnOk};
 ghost use Rattle.std.specs.declared.result.Result.{Result};
 ghost use Rattle.pc_types.specs.declared.refusal.Refusal.{Refusal};
-ghost use Rattle.pc_types.specs.Names.{name_of};
 ghost use Rattle.pc_types.specs.Tallies.{Puts};
-ghost use Rattle.pc_texts.specs.Files.{IsScriptFault, report_text};
+ghost use Rattle.pc_texts.specs.Files.{IsScriptFault, line_about, report_text};
+ghost use Rattle.pc_texts.specs.Texts.{printed_name};
 
+use crate::texts::put_name;
 use pc_types::{Refusal, Tally, read_all};
 use std::alloc::Global;
 use std::io::{Read, Write};
@@ -41,18 +42,25 @@ pub fn read_opened<R: Read + Drop>(
 pub fn report<E: Write>(name: &[u8], why: Refusal, errors: &mut Tally<E>) -> Result<(), Refusal>
     ensures { Puts E.contents errors.old errors.new result (report_text name.now why) }
 {
-    put_name(name, errors)?;
-    put_why(why, errors)
+    report_words(name, why.name().as_bytes(), errors)
 }
 
-fn put_name<E: Write>(name: &[u8], errors: &mut Tally<E>) -> Result<(), Refusal>
-    ensures { Puts E.contents errors.old errors.new result (codes "pcalc: " ++ name.now) }
+/// Writes the line that tells something that is no refusal, by the name of a file or a word of the command line. `Device` is
+/// answered exactly where the device failed in this call.
+pub fn report_words<E: Write>(
+    name: &[u8],
+    words: &[u8],
+    errors: &mut Tally<E>,
+) -> Result<(), Refusal>
+    ensures { Puts E.contents errors.old errors.new result (line_about name.now words.now) }
 {
-    errors.put_all(&[b"pcalc: ", name])
+    begin_line(name, errors)?;
+    errors.put_all(&[b": ", words, b"\n"])
 }
 
-fn put_why<E: Write>(why: Refusal, errors: &mut Tally<E>) -> Result<(), Refusal>
-    ensures { Puts E.contents errors.old errors.new result (codes ": " ++ (name_of why ++ codes "\n")) }
+fn begin_line<E: Write>(name: &[u8], errors: &mut Tally<E>) -> Result<(), Refusal>
+    ensures { Puts E.contents errors.old errors.new result (codes "pcalc: " ++ printed_name name.now) }
 {
-    errors.put_all(&[b": ", why.name().as_bytes(), b"\n"])
+    errors.put(b"pcalc: ")?;
+    put_name(errors, name)
 }

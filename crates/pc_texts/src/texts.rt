@@ -5,7 +5,7 @@ ghost use Rattle.std.specs.Char.{digit_char};
 ghost use Rattle.std.specs.Fmt.{signed_decimal};
 ghost use Rattle.pc_types.specs.Tallies.{Puts};
 ghost use Rattle.pc_model.specs.Ranges.{ranges_of};
-ghost use Rattle.pc_texts.specs.Texts.{printed_byte, printed, printed_space, printed_key, printed_value, phase_name, range_text, ranges_text, refusal_text, reply_text, pair_text, state_head, state_text, hex_byte, hex_line, check_line, file_line, joined_line, collapsed_line};
+ghost use Rattle.pc_texts.specs.Texts.{printed_byte, printed_name, printed, printed_space, printed_key, printed_value, phase_name, range_text, ranges_text, refusal_text, reply_text, pair_text, state_head, state_text, hex_byte, hex_line, check_line, file_line, joined_line, collapsed_line};
 
 use itoa::Buffer;
 use pc_lines::is_plain;
@@ -280,6 +280,14 @@ fn put_printed<W: Write>(out: &mut Tally<W>, bytes: &[u8]) -> Result<(), Refusal
         return out.put(b"\\x2d");
     }
     put_bytes(out, bytes)
+}
+
+/// Writes a file's name as it is printed: a byte from 0x21 to 0x7E other than `\` as it is, and every other one as `\xHH`, so that no
+/// name can look like more than one word of a line, or reach a terminal as anything but letters.
+pub fn put_name<W: Write>(out: &mut Tally<W>, name: &[u8]) -> Result<(), Refusal>
+    ensures { Puts W.contents out.old out.new result (printed_name name.now) }
+{
+    put_bytes(out, name)
 }
 
 fn put_bytes<W: Write>(out: &mut Tally<W>, bytes: &[u8]) -> Result<(), Refusal>
