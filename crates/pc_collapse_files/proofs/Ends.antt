@@ -1,15 +1,17 @@
 -- How a collapse ends.
-use Rattle.std.proofs.Common.{◌≡◌, ℕ, List, [], ◌++◌, Option, Some, None, Err, refl, ap, ◌∙◌}
+use Rattle.std.proofs.Common.{◌≡◌, ◌⊎◌, inl, inr, ℕ, List, [], ◌++◌, Option, Some, None, Err, refl, ap, ◌∙◌}
 use Rattle.std.specs.Prelude.{IfSome, IsSome}
 use Rattle.std.specs.Io.KnownBytes.{Appends}
 use Rattle.pc_types.specs.declared.refusal.Refusal.TheVariants.{Short}
 use Rattle.pc_types.specs.declared.tally.Tally.{Tally}
+use Rattle.pc_model.specs.Files.{File}
 use Rattle.pc_part.specs.Reading.{part_at}
+use Rattle.pc_part.specs.Texts.{part_text}
 use Rattle.pc_stream_join.specs.Joining.{LeavesShort}
 use Rattle.pc_texts.specs.declared.files.NamedFile.{NamedFile}
 use Rattle.pc_collapse_files.specs.declared.inputs.CollapseFault.{CollapseFault}
 use Rattle.pc_collapse_files.specs.declared.inputs.CollapseFault.TheVariants as fault
-use Rattle.pc_collapse_files.specs.Collapses.{IsCollapseCause, IsLeftByCollapse, StaysAs}
+use Rattle.pc_collapse_files.specs.Collapses.{AreKnown, IsCollapseCause, IsJoinOf, IsLeftByCollapse, IsNamedOrNot, StaysAs}
 use Rattle.pc_collapse_files.specs.Inputs.{IsHeadFault, IsUnwritten}
 
 module _ {R : Type 0} (remaining : R → Option (List ℕ)) (files : List (NamedFile R)) where
@@ -33,6 +35,13 @@ module _ {R : Type 0} (remaining : R → Option (List ℕ)) (files : List (Named
     unwritten_cause made fault.Unwritten is = is.0
     unwritten_cause made (fault.Unnamed why) is = absurd is
     unwritten_cause made fault.Output is = absurd is
+
+    -- a whole file that can't get its name leaves what stood there, or has its name
+    pub named_or_not : (before between after : List ℕ → Type 0) → StaysAs before between → (file : File) → IsJoinOf remaining files file
+        → (held : Option (List ℕ)) → (AreKnown contents → held ≡ Some (part_text file)) → StaysAs between after ⊎ ((text : List ℕ) → held ≡ Some text → after text)
+        → IsNamedOrNot remaining contents files before after
+    named_or_not before between after first file join held whole (inl stays) = inl (λ text was. stays text (first text was))
+    named_or_not before between after first file join held whole (inr named) = inr (file, join, λ known. named (part_text file) (whole known))
 
     module _ {W : Type 0} (printed : W → Option (List ℕ)) (before after : List ℕ → Type 0) (stays : StaysAs before after) (out : Tally W) where
       -- no file is left where none is made, and nothing is printed

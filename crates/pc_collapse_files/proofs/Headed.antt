@@ -1,5 +1,5 @@
 -- The headers of part files, as their readers have them.
-use Rattle.std.proofs.Common.{◌≡◌, ℕ, ◌≤◌, eqb, not, ◌||◌, cond, Bool, true, false, List, [], ◌∷◌, length, map, suc, Option, Some, None, Result, Ok, Err, inl, inr, refl, sym, ap, subst, ◌∙◌, arith}
+use Rattle.std.proofs.Common.{◌≡◌, ℕ, ◌≤◌, eqb, not, ◌||◌, cond, Bool, true, false, List, [], ◌∷◌, length, map, suc, Option, Some, None, Result, Ok, inl, inr, refl, sym, ap, ◌∙◌, arith}
 use Rattle.std.specs.List.{All, list_any}
 use Rattle.std.specs.Vec.{with_items}
 use Rattle.std.specs.declared.alloc.Global.{Global}
@@ -18,9 +18,9 @@ use Rattle.pc_stream_join.specs.Headers.{AreHeaded, IsHeadersFault, StayKnown, a
 use Rattle.pc_texts.specs.declared.files.NamedFile.{NamedFile}
 use Rattle.pc_texts.specs.Files.{AreOpened}
 use Rattle.pc_collapse_files.specs.declared.inputs.CollapseFault.TheVariants as fault
-use Rattle.pc_collapse_files.specs.Collapses.{HaveHeader, HoldTexts, texts_fault}
+use Rattle.pc_collapse_files.specs.Collapses.{HaveHeader}
 use Rattle.pc_collapse_files.specs.Inputs.{AreReadersOf, IsHeadFault}
-use Rattle.pc_collapse_files.proofs.ReadFiles.{known_coming, known_header}
+use Rattle.pc_collapse_files.proofs.ReadFiles.{known_header}
 
 pub cons_is : {X : Type 0} (x y : X) (xs ys : List X) → x ∷ xs ≡ y ∷ ys → (x ≡ y) × (xs ≡ ys)
 cons_is x y xs ys is = (cc, cc)

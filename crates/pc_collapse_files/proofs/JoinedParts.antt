@@ -1,6 +1,6 @@
 -- The file that is written of inputs is the fold of their parts.
-use Rattle.std.proofs.Common.{◌≡◌, ℕ, ◌≤◌, ◌<◌, ◌^◌, eqb, not, ◌||◌, cond, Bool, true, false, List, [], ◌∷◌, length, map, Option, Some, None, Result, Ok, Err, inr, refl, sym, ap, subst, ◌∙◌, arith}
-use Rattle.std.specs.Prelude.{MatchBool, MatchResult, IsTrue, is_some}
+use Rattle.std.proofs.Common.{◌≡◌, ℕ, eqb, not, ◌||◌, Bool, true, false, List, [], ◌∷◌, length, map, Option, Some, None, Result, Ok, Err, inr, refl, sym, ap, subst, ◌∙◌, arith}
+use Rattle.std.specs.Prelude.{MatchBool, is_some}
 use Rattle.std.specs.List.{All, Contains, list_any}
 use Rattle.std.proofs.lemmas.Bool.Decides.{nat_tests}
 use Rattle.std.proofs.lemmas.List.Elements.{All-cons, All-contains, All-head, All-nil, All-tail}
@@ -12,7 +12,7 @@ use Rattle.pc_model.specs.Maps.{get}
 use Rattle.pc_model.specs.Sets as set
 use Rattle.pc_model.specs.Sets.{Set, number_order}
 use Rattle.pc_model.specs.Points.{AtPoint, Triples, joined}
-use Rattle.pc_model.specs.Files.{File, joined_file}
+use Rattle.pc_model.specs.Files.{File}
 use Rattle.pc_model.proofs.ContentLaws.{contains-union}
 use Rattle.pc_model.proofs.MapLaws.{get-empty}
 use Rattle.pc_model.proofs.SetLaws.{same_set}
@@ -22,7 +22,7 @@ use Rattle.pc_merge.specs.Coming.{Coming}
 use Rattle.pc_merge.specs.Given.{IsMerge, IsUnder, IsUnderAt, joined_all}
 use Rattle.pc_stream_join.specs.Headers.{IsHeaderOfAll, points_of_all}
 use Rattle.pc_stream_join.specs.Joining.{file_of}
-use Rattle.pc_collapse.specs.Folds.{Folds, IsFold, IsFoldCause, folded, has_other_run}
+use Rattle.pc_collapse.specs.Folds.{Folds, IsFold, folded, has_other_run}
 
 -- the files of these headers with these entries
 abbrev pub parts_of : List (ℕ × List Range) → List Coming → List File

@@ -1,5 +1,5 @@
 -- Part files as readers, and what was written of them.
-use Rattle.std.specs.Prelude.{◌≡◌, ◌⊎◌, ℕ, List, [], ◌∷◌, Option, Some, None, MatchBool, MatchOption, map, nat_lt, ⊤}
+use Rattle.std.specs.Prelude.{◌≡◌, ◌⊎◌, ℕ, List, Option, Some, None, MatchBool, MatchOption, map, nat_lt}
 use Rattle.pc_types.specs.declared.refusal.Refusal.{Refusal}
 use Rattle.pc_types.specs.declared.refusal.Refusal.TheVariants.{OutOfMemory}
 use Rattle.pc_types.specs.declared.tally.Tally.{Tally}

@@ -108,11 +108,11 @@ fn collapse<R: Read + Drop, F: Write + Drop, M: Maker<F>, W: Write>(
         points,
         entries,
     } = write_file(alloc, inputs, maker)?;
-    if let Err(fault) = name_file(maker, file) {
-        return Err(Unfinished { file: None, fault });
-    }
-    match print(out, points.as_slice(), u64::from(entries)) {
-        Ok(()) => Ok(()),
+    match name_file(maker, file) {
+        Ok(()) => match print(out, points.as_slice(), u64::from(entries)) {
+            Ok(()) => Ok(()),
+            Err(fault) => Err(Unfinished { file: None, fault }),
+        },
         Err(fault) => Err(Unfinished { file: None, fault }),
     }
 }

@@ -3,4 +3,6 @@
 
 mod options;
 
-pub use options::{CollapseOptions, RunOptions, StepOptions, Task, task_of, unreadable};
+pub use options::{
+    CollapseOptions, RecoverOptions, RunOptions, StepOptions, Task, task_of, unreadable,
+};

@@ -26,6 +26,8 @@ pub struct StepOptions<'a> {
     pub script: &'a str,
     /// What the store is made with.
     pub setup: Setup,
+    /// Whether faults are explained also where standard error is no terminal.
+    pub is_explained: bool,
 }
 
 /// What `pcalc collapse` is asked to do.
@@ -35,6 +37,19 @@ pub struct CollapseOptions<'a> {
     pub target: &'a str,
     /// The part files, in the order in which they are read.
     pub inputs: Vec<&'a str>,
+    /// Whether faults are explained also where standard error is no terminal.
+    pub is_explained: bool,
+}
+
+/// What `pcalc recover` is asked to do.
+#[derive(Drop)]
+pub struct RecoverOptions<'a> {
+    /// The folder of the files.
+    pub dir: &'a str,
+    /// Whether a folder that lacks something has a status of its own.
+    pub is_strict: bool,
+    /// Whether faults are explained also where standard error is no terminal.
+    pub is_explained: bool,
 }
 
 /// What `pcalc run` is asked to do.
@@ -56,6 +71,8 @@ pub struct RunOptions<'a> {
     pub every: Option<u32>,
     /// The folder from whose state it starts, if any.
     pub from: Option<&'a str>,
+    /// Whether that folder may be damaged.
+    pub accepts_damage: bool,
     /// The run's number, 1 to 2,147,483,647, where it starts from nothing.
     pub run: u32,
     /// How many keys the store has room for, 1 to 1,048,576.
@@ -66,6 +83,8 @@ pub struct RunOptions<'a> {
     pub is_reported: bool,
     /// The file to which the times of commits are written, if any.
     pub times: Option<&'a str>,
+    /// Whether faults are explained also where standard error is no terminal.
+    pub is_explained: bool,
     ghost in_range: { (1 ≤ workers) × (workers ≤ MOST_WORKERS) × (1 ≤ collapsers) × (collapsers ≤ MOST_COLLAPSERS) },
     ghost has_room: { (1 ≤ capacity) × (capacity ≤ MOST_KEYS) },
 }
@@ -79,8 +98,8 @@ pub enum Task<'a> {
     Run(RunOptions<'a>),
     /// `pcalc collapse`.
     Collapse(CollapseOptions<'a>),
-    /// `pcalc recover` of the files of this folder.
-    Recover(&'a str),
+    /// `pcalc recover`.
+    Recover(RecoverOptions<'a>),
 }
 
 /// What the command line asks for, or what is to be told: a fault, or the help that was asked for.
@@ -96,7 +115,7 @@ pub fn task_of<'a>(alloc: Global, words: &'a [&'a str]) -> Result<Option<Task<'a
         return Ok(collapse_options_of(alloc, matches)?.map(|options| Task::Collapse(options)));
     }
     match matches.subcommand_matches("recover") {
-        Some(matches) => Ok(matches.get_str("DIR").map(|dir| Task::Recover(dir))),
+        Some(matches) => Ok(recover_options_of(matches).map(|options| Task::Recover(options))),
         None => Ok(None),
     }
 }
@@ -128,8 +147,18 @@ fn step_command<'a>(alloc: Global) -> Result<Command<'a>, Error> {
             .arg(script_arg(alloc))?
             .arg(sessions_arg(alloc))?
             .arg(capacity_arg(alloc, "1024"))?
-            .arg(run_arg(alloc))?,
+            .arg(run_arg(alloc))?
+            .arg(explain_arg(alloc))?,
     )
+}
+
+fn explain_arg<'a>(alloc: Global) -> Arg<'a> {
+    Arg::new(alloc, "explain")
+        .long("explain")
+        .help(
+            "Says behind each fault what it is about, as it does where standard error is a terminal",
+        )
+        .action(ArgAction::SetTrue)
 }
 
 fn script_arg<'a>(alloc: Global) -> Arg<'a> {
@@ -176,11 +205,13 @@ fn run_command<'a>(alloc: Global) -> Result<Command<'a>, Error> {
         .after_help(FAULTS)
         .arg(workload)?
         .arg(workers_arg(alloc))?
-        .arg(collapsers_arg(alloc, "How many threads join the points' files, 1 to 64"))?
+        .arg(collapsers_arg(alloc))?
         .arg(every_arg(alloc))?
         .arg(capacity_arg(alloc, "65536"))?
         .arg(run_arg(alloc))?
-        .arg(from_arg(alloc)?)?;
+        .arg(from_arg(alloc)?)?
+        .arg(damaged_arg(alloc)?)?
+        .arg(explain_arg(alloc))?;
     Ok(telling_args(alloc, file_args(alloc, command)?)?)
 }
 
@@ -255,6 +286,16 @@ fn from_arg<'a>(alloc: Global) -> Result<Arg<'a>, AllocError> {
         .conflicts_with("run")
 }
 
+fn damaged_arg<'a>(alloc: Global) -> Result<Arg<'a>, AllocError> {
+    Arg::new(alloc, "damaged")
+        .long("damaged")
+        .help(
+            "Starts from OLD also where a part of it was skipped, or its log is missing or damaged",
+        )
+        .action(ArgAction::SetTrue)
+        .requires_arg("from")
+}
+
 fn workers_arg<'a>(alloc: Global) -> Arg<'a> {
     Arg::new(alloc, "workers")
         .long("workers")
@@ -271,10 +312,7 @@ fn collapse_command<'a>(alloc: Global) -> Result<Command<'a>, Error> {
             .after_help(FAULTS)
             .arg(target_arg(alloc))?
             .arg(inputs_arg(alloc))?
-            .arg(collapsers_arg(
-                alloc,
-                "Is checked alone, 1 to 64: one thread joins the files as it reads them",
-            ))?,
+            .arg(explain_arg(alloc))?,
     )
 }
 
@@ -293,11 +331,11 @@ fn inputs_arg<'a>(alloc: Global) -> Arg<'a> {
         .action(ArgAction::Append)
 }
 
-fn collapsers_arg<'a>(alloc: Global, help: &'a str) -> Arg<'a> {
+fn collapsers_arg<'a>(alloc: Global) -> Arg<'a> {
     Arg::new(alloc, "collapsers")
         .long("collapsers")
         .value_name("N")
-        .help(help)
+        .help("How many threads join the points' files, 1 to 64")
         .value_parser(clap::value_parser!(u8).range(1..=i64::from(MOST_COLLAPSERS)))
         .default_value("2")
 }
@@ -312,8 +350,17 @@ fn recover_command<'a>(alloc: Global) -> Result<Command<'a>, Error> {
         Command::new(alloc, "recover")
             .about("Prints the state that a folder's files are worth")
             .after_help(FAULTS)
-            .arg(dir)?,
+            .arg(dir)?
+            .arg(strict_arg(alloc))?
+            .arg(explain_arg(alloc))?,
     )
+}
+
+fn strict_arg<'a>(alloc: Global) -> Arg<'a> {
+    Arg::new(alloc, "strict")
+        .long("strict")
+        .help("Ends with the status 4 where the folder lacks something: a part, or a whole log")
+        .action(ArgAction::SetTrue)
 }
 
 fn options_of<'a>(matches: &ArgMatches<'a>) -> Option<StepOptions<'a>> {
@@ -329,7 +376,11 @@ fn options_of<'a>(matches: &ArgMatches<'a>) -> Option<StepOptions<'a>> {
         sessions,
         capacity,
     };
-    Some(StepOptions { script, setup })
+    Some(StepOptions {
+        script,
+        setup,
+        is_explained: matches.get_flag("explain"),
+    })
 }
 
 fn run_options_of<'a>(matches: &ArgMatches<'a>) -> Option<RunOptions<'a>> {
@@ -352,11 +403,21 @@ fn run_options_of<'a>(matches: &ArgMatches<'a>) -> Option<RunOptions<'a>> {
         is_synced: matches.get_flag("sync"),
         every: matches.get_one::<u32>("every"),
         from: matches.get_str("from"),
+        accepts_damage: matches.get_flag("damaged"),
         run: matches.get_one::<u32>("run")?,
         capacity,
         is_quiet: matches.get_flag("quiet"),
         is_reported: matches.get_flag("report"),
         times: matches.get_str("times"),
+        is_explained: matches.get_flag("explain"),
+    })
+}
+
+fn recover_options_of<'a>(matches: &ArgMatches<'a>) -> Option<RecoverOptions<'a>> {
+    Some(RecoverOptions {
+        dir: matches.get_str("DIR")?,
+        is_strict: matches.get_flag("strict"),
+        is_explained: matches.get_flag("explain"),
     })
 }
 
@@ -371,5 +432,9 @@ fn collapse_options_of<'a>(
     for input in matches.get_strs("IN").unwrap_or(&[]) {
         inputs.push(*input)?;
     }
-    Ok(Some(CollapseOptions { target, inputs }))
+    Ok(Some(CollapseOptions {
+        target,
+        inputs,
+        is_explained: matches.get_flag("explain"),
+    }))
 }

@@ -1,26 +1,24 @@
-//! The files of a folder: those that recovery reads, and those that a run makes.
+//! The files of a folder that recovery reads.
+use crate::causes::{Causes, Doing};
 use crate::late::LateFile;
 use pc_restore::Folder;
-use pc_runs::{NewFiles, RunFolder, Unusable};
-use pc_texts::{FileName, NamedFile, part_name, report};
+use pc_texts::{NamedFile, report};
 use pc_types::{Refusal, Tally, read_all};
 use std::alloc::{AllocError, Global};
-use std::fs::{File, Files};
-use std::io::{BufWriter, Write};
+use std::fs::{FileType, Files};
+use std::io::{ErrorKind, Write};
+use std::os::unix::fs::FileTypeExt;
 use std::string::String;
 use std::{fs, io};
 
-const BASE: &str = "base.pcb";
+/// The name of the base in a folder.
+pub const BASE: &str = "base.pcb";
 
-const LOG: &str = "log.pcl";
+/// The name of the log.
+pub const LOG: &str = "log.pcl";
 
-const PART_END: &[u8] = b".pcp";
-
-// Behind the name of a file that is not whole yet; recovery reads none of such a name.
-const NEW_END: &str = ".new";
-
-// How many bytes of a run's file are kept before they go out.
-const ROOM: usize = 65_536;
+/// How the names of parts end.
+pub const PART_END: &[u8] = b".pcp";
 
 /// What recovery finds in a folder.
 #[derive(Drop)]
@@ -31,16 +29,24 @@ pub struct FoundFolder<'a> {
     pub unopened: Vec<Vec<u8>>,
 }
 
+/// A folder whose files are read, by its path.
+#[derive(Clone, Copy)]
+pub struct ReadFolder<'a> {
+    pub rt: &'a HostRuntime,
+    pub path: &'a str,
+    /// Where it is noted why a file can't be read.
+    pub causes: &'a Causes,
+}
+
 /// What the folder has for recovery. It is an error only where memory ran out.
-pub fn open_folder<'a>(rt: &'a HostRuntime, dir: &str) -> Result<FoundFolder<'a>, AllocError> {
-    let alloc = rt.alloc();
-    let mut unopened = Vec::new(alloc);
-    let base = open_named(rt, path_of(alloc, dir, BASE)?);
-    let parts = match list_parts(rt, dir) {
-        Ok(names) => Ok(late_files(rt, dir, names, &mut unopened)?),
+pub fn open_folder<'a>(dir: ReadFolder<'a>) -> Result<FoundFolder<'a>, AllocError> {
+    let mut unopened = Vec::new(dir.rt.alloc());
+    let base = open_named(dir, BASE)?;
+    let parts = match list_parts(dir) {
+        Ok(names) => Ok(late_files(dir, names, &mut unopened)?),
         Err(why) => Err(why),
     };
-    let log = open_named(rt, path_of(alloc, dir, LOG)?);
+    let log = open_named(dir, LOG)?;
     let folder = Folder { base, parts, log };
     Ok(FoundFolder { folder, unopened })
 }
@@ -52,48 +58,58 @@ pub fn tell_unopened<E: Write>(unopened: &[Vec<u8>], errors: &mut Tally<E>) {
     }
 }
 
-// The path of a file of the folder.
-fn path_of(alloc: Global, dir: &str, name: &str) -> Result<String, AllocError> {
+/// The path of a file of a folder.
+pub fn path_in(alloc: Global, dir: &str, name: &str) -> Result<String, AllocError> {
     let mut path = String::from_str(alloc, dir)?;
     path.push('/')?;
     path.push_str(name)?;
     Ok(path)
 }
 
-// The file of the path, open, or why it can't be opened.
-fn open_named<'a>(rt: &'a HostRuntime, path: String) -> Result<LateFile<'a>, Refusal> {
-    match fs::open(rt, path.as_str()) {
-        Ok(file) => Ok(LateFile::of_open(rt, path, file)),
-        Err(e) => Err(why_not(&e)),
+// The file of this name, open, or why it can't be opened.
+fn open_named<'a>(
+    dir: ReadFolder<'a>,
+    name: &str,
+) -> Result<Result<LateFile<'a>, Refusal>, AllocError> {
+    let path = path_in(dir.rt.alloc(), dir.path, name)?;
+    match fs::open(dir.rt, path.as_str()) {
+        Ok(file) => Ok(Ok(LateFile::of_open(dir.rt, dir.causes, path, file))),
+        Err(e) => {
+            dir.causes.note(Doing::Opening, path.as_str(), e);
+            Ok(Err(why_not(&e)))
+        }
     }
 }
 
 /// Why a file can't be opened or a folder can't be listed, as the program tells it.
 pub fn why_not(e: &io::Error) -> Refusal {
-    if e.kind() == io::ErrorKind::NotFound {
+    if e.kind() == ErrorKind::NotFound {
         return Refusal::NoFile;
     }
-    if e.kind() == io::ErrorKind::OutOfMemory {
+    if e.kind() == ErrorKind::OutOfMemory {
         return Refusal::OutOfMemory;
     }
     Refusal::Device
 }
 
-// The names of what the folder has, each ended by a NUL. They are bytes, since a name need not be UTF-8.
-fn names_in(rt: &HostRuntime, dir: &str) -> Result<Vec<u8>, Refusal> {
-    let alloc = rt.alloc();
-    let path = path_of(alloc, dir, "")?;
-    match rt.open_dir(path.as_str()) {
+/// The names of what the folder has, each ended by a NUL. They are bytes, since a name need not be UTF-8.
+pub fn names_in(dir: ReadFolder<'_>) -> Result<Vec<u8>, Refusal> {
+    let alloc = dir.rt.alloc();
+    let path = path_in(alloc, dir.path, "")?;
+    match dir.rt.open_dir(path.as_str()) {
         Ok(names) => read_all(alloc, &mut Tally::new(names)),
-        Err(e) => Err(why_not(&e)),
+        Err(e) => {
+            dir.causes.note(Doing::Listing, dir.path, e);
+            Err(why_not(&e))
+        }
     }
 }
 
 // The names of the folder's part files, in their byte order.
-fn list_parts(rt: &HostRuntime, dir: &str) -> Result<Vec<Vec<u8>>, Refusal> {
-    let alloc = rt.alloc();
+fn list_parts(dir: ReadFolder<'_>) -> Result<Vec<Vec<u8>>, Refusal> {
+    let alloc = dir.rt.alloc();
     let mut parts = Vec::new(alloc);
-    for name in names_in(rt, dir)?.split(|byte| *byte == 0) {
+    for name in names_in(dir)?.split(|byte| *byte == 0) {
         if name.ends_with(PART_END) {
             parts.push(Vec::from_slice(alloc, name)?)?;
         }
@@ -102,184 +118,41 @@ fn list_parts(rt: &HostRuntime, dir: &str) -> Result<Vec<Vec<u8>>, Refusal> {
     Ok(parts)
 }
 
-// The files of these names, none of them opened; those whose names are no UTF-8 are set apart. A folder of such a name is passed
-// by.
+// The files of these names, none of them opened; those whose names are no UTF-8 are set apart. What is no file of bytes is passed by.
 fn late_files<'a>(
-    rt: &'a HostRuntime,
-    dir: &str,
+    dir: ReadFolder<'a>,
     names: Vec<Vec<u8>>,
     unopened: &mut Vec<Vec<u8>>,
 ) -> Result<Vec<NamedFile<LateFile<'a>>>, AllocError> {
-    let mut files = Vec::new(rt.alloc());
+    let mut files = Vec::new(dir.rt.alloc());
     for name in names {
         let Ok(text) = str::from_utf8(&name) else {
             unopened.push(name)?;
             continue;
         };
-        let path = path_of(rt.alloc(), dir, text)?;
-        if !is_folder(rt, path.as_str()) {
-            let opened = Ok(LateFile::new(rt, path));
+        let path = path_in(dir.rt.alloc(), dir.path, text)?;
+        if !is_passed_by(dir.rt, path.as_str()) {
+            let opened = Ok(LateFile::new(dir.rt, dir.causes, path));
             files.push(NamedFile { name, opened })?;
         }
     }
     Ok(files)
 }
 
-fn is_folder(rt: &HostRuntime, path: &str) -> bool {
-    match fs::symlink_metadata(rt, path) {
-        Ok(found) => found.is_dir(),
+// Whether what has a part's name is none: a folder; or a pipe, a socket or a device, also where a link leads to it, which might be
+// read for ever.
+fn is_passed_by(rt: &HostRuntime, path: &str) -> bool {
+    if let Ok(found) = fs::symlink_metadata(rt, path) {
+        if found.is_dir() {
+            return true;
+        }
+    }
+    match fs::metadata(rt, path) {
+        Ok(found) => is_device(&found.file_type()),
         Err(_) => false,
     }
 }
 
-/// The folder of this path for the files of a run, which is not to have any yet; where it is synced, they reach its device. It is an
-/// error only where memory ran out.
-pub fn run_folder<'a>(
-    rt: &'a HostRuntime,
-    path: &'a str,
-    is_synced: bool,
-) -> Result<RunFolder<NewFolder<'a>>, AllocError> {
-    let name = Vec::from_slice(rt.alloc(), path.as_bytes())?;
-    let files = match names_in(rt, path) {
-        Ok(names) => {
-            if has_run_files(&names) {
-                Err(Unusable::NotEmpty)
-            } else {
-                Ok(NewFolder {
-                    rt,
-                    path,
-                    is_synced,
-                })
-            }
-        }
-        Err(why) => Err(Unusable::Unlisted(why)),
-    };
-    Ok(RunFolder { name, files })
-}
-
-// Whether one of the names, each ended by a NUL, is that of a run's file.
-fn has_run_files(names: &[u8]) -> bool {
-    names.split(|byte| *byte == 0).any(is_run_file)
-}
-
-// Whether recovery reads a file of this name.
-fn is_run_file(name: &[u8]) -> bool {
-    name == BASE.as_bytes() || name == LOG.as_bytes() || name.ends_with(PART_END)
-}
-
-/// A folder in which a run makes its files, by its path.
-#[derive(Drop)]
-pub struct NewFolder<'a> {
-    rt: &'a HostRuntime,
-    path: &'a str,
-    // Whether what is written to its files, and the names that they get, is to reach its device.
-    is_synced: bool,
-}
-
-impl<'a> NewFolder<'a> {
-    // The path of the file once it is whole.
-    fn path_of(&self, name: &FileName) -> Result<String, Refusal> {
-        let alloc = self.rt.alloc();
-        let path = match name {
-            FileName::Base => path_of(alloc, self.path, BASE)?,
-            FileName::Log => path_of(alloc, self.path, LOG)?,
-            FileName::Part(point) => {
-                let bytes = part_name(*point);
-                let Ok(name) = str::from_utf8(&bytes) else {
-                    return Err(Refusal::Device);
-                };
-                path_of(alloc, self.path, name)?
-            }
-        };
-        Ok(path)
-    }
-
-    // The path under which the file is made: a log grows under its own name, and the others get theirs once they are whole.
-    fn new_path_of(&self, name: &FileName) -> Result<String, Refusal> {
-        let mut path = self.path_of(name)?;
-        if !is_log(name) {
-            path.push_str(NEW_END)?;
-        }
-        Ok(path)
-    }
-
-    // The names that the folder has reach its device, where that is asked.
-    fn sync(&self) -> io::Result<()> {
-        if self.is_synced {
-            fs::open(self.rt, self.path)?.sync_all()
-        } else {
-            Ok(())
-        }
-    }
-
-    fn made(&self, name: &FileName, path: &str) -> io::Result<RunFile> {
-        let file = fs::create(self.rt, path)?;
-        if is_log(name) {
-            self.sync()?;
-        }
-        let kept = BufWriter::with_capacity(self.rt.alloc(), ROOM, file)?;
-        let is_synced = self.is_synced;
-        Ok(RunFile { kept, is_synced })
-    }
-}
-
-fn is_log(name: &FileName) -> bool {
-    matches!(name, FileName::Log)
-}
-
-// Why a file can't be made or get its name.
-fn why_unmade(e: &io::Error) -> Refusal {
-    if e.kind() == io::ErrorKind::OutOfMemory {
-        return Refusal::OutOfMemory;
-    }
-    Refusal::Device
-}
-
-// What is on a disk is known to no contract.
-impl<'a> NewFiles<RunFile> for NewFolder<'a> {
-    ghost use Rattle.std.specs.Prelude.{⊤, None};
-
-    ghost holds = { λ folder name text. ⊤ };
-
-    ghost blank = { None };
-
-    fn make(&mut self, name: &FileName) -> Result<RunFile, Refusal> {
-        let path = self.new_path_of(name)?;
-        self.made(name, path.as_str()).map_err(|e| why_unmade(&e))
-    }
-
-    fn finish(&mut self, name: &FileName, file: RunFile) -> Result<(), Refusal> {
-        drop(file);
-        if is_log(name) {
-            return Ok(());
-        }
-        let (from, to) = (self.new_path_of(name)?, self.path_of(name)?);
-        match fs::rename(self.rt, from.as_str(), to.as_str()) {
-            Ok(()) => self.sync().map_err(|e| why_unmade(&e)),
-            Err(e) => Err(why_unmade(&e)),
-        }
-    }
-}
-
-/// A file of a run.
-#[derive(Drop)]
-pub struct RunFile {
-    kept: BufWriter<File>,
-    // Whether what was written reaches the device where it is flushed.
-    is_synced: bool,
-}
-
-impl Write for RunFile {
-    fn write(&mut self, buf: &[u8]) -> io::Result<usize> {
-        self.kept.write(buf)
-    }
-
-    fn flush(&mut self) -> io::Result<()> {
-        self.kept.flush()?;
-        if self.is_synced {
-            self.kept.get_ref().sync_data()
-        } else {
-            Ok(())
-        }
-    }
+fn is_device(kind: &FileType) -> bool {
+    kind.is_fifo() || kind.is_socket() || kind.is_char_device() || kind.is_block_device()
 }

@@ -2,29 +2,30 @@
 //! are worth.
 #![tactic(auto)]
 
+mod causes;
 mod folder;
+mod joining;
 mod late;
+mod making;
 mod parts;
+mod recovering;
+mod run_folder;
 mod running;
 mod standard;
+mod stepping;
 
 use clap::Error;
 use clap::error::ErrorKind;
-use folder::{FoundFolder, open_folder, tell_unopened};
-use parts::{NewFile, open_named, open_parts};
-use pc_collapse_files::run_collapse;
-use pc_options::{CollapseOptions, StepOptions, Task, task_of, unreadable};
-use pc_restore::run_recover;
-use pc_script::run_script;
-use pc_types::Tally;
+use joining::join_parts;
+use pc_options::{Task, task_of, unreadable};
+use recovering::recover_folder;
 use running::run_clients;
 use standard::fill_places;
-use std::hash::RandomState;
-use std::io::BufWriter;
 use std::process::ExitCode;
 use std::sync::Wait;
 use std::thread::Threads;
 use std::{env, io};
+use stepping::step_script;
 
 fn main(rt: HostRuntime) -> ExitCode {
     match run_command(&rt, &rt) {
@@ -75,32 +76,11 @@ fn tell(rt: &HostRuntime, told: Result<Error, Error>) -> io::Result<u8> {
     Ok(0)
 }
 
-// The seed of the hashes of a script's store is drawn before anything is opened; where the system gives none, the status is 1 and
-// nothing is told.
 fn run_task<H: Threads + Wait + Sync>(rt: &HostRuntime, threads: &H, task: Task) -> io::Result<u8> {
-    let alloc = rt.alloc();
-    let mut out = Tally::new(BufWriter::new(alloc, io::writer(rt))?);
-    let stderr = rt.stderr();
-    let mut errors = Tally::new(io::writer(&stderr));
     match task {
-        Task::Step(options) => {
-            let StepOptions { script, setup } = options;
-            let seed = RandomState::new(rt)?;
-            let opened = open_named(rt, script);
-            Ok(run_script(alloc, setup, seed, script, opened, &mut out, &mut errors))
-        }
+        Task::Step(options) => step_script(rt, &options),
         Task::Run(options) => run_clients(rt, threads, &options),
-        Task::Collapse(options) => {
-            let CollapseOptions { target, inputs } = options;
-            let files = open_parts(rt, &inputs)?;
-            let maker = NewFile { rt, path: target };
-            let ended = run_collapse(alloc, target, files, maker, &mut out, &mut errors);
-            Ok(ended.status)
-        }
-        Task::Recover(dir) => {
-            let FoundFolder { folder, unopened } = open_folder(rt, dir)?;
-            tell_unopened(&unopened, &mut errors);
-            Ok(run_recover(alloc, dir, folder, &mut out, &mut errors))
-        }
+        Task::Collapse(options) => join_parts(rt, &options),
+        Task::Recover(options) => recover_folder(rt, &options),
     }
 }

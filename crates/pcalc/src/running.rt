@@ -1,20 +1,25 @@
 //! A run of a workload: its files, what is shown of it, and what is told of it in the end.
-use crate::folder::{FoundFolder, open_folder, run_folder, tell_unopened};
+use crate::causes::{Causes, Noted};
+use crate::folder::{FoundFolder, ReadFolder, open_folder, tell_unopened};
 use crate::late::LateFile;
-use crate::parts::{NewFile, open_named};
-use pc_collapse_files::Maker;
+use crate::making::{Target, folder_of};
+use crate::parts::open_named;
+use crate::run_folder::Claim;
+use crate::standard::output_before;
 use pc_options::RunOptions;
 use pc_progress::{Asked, Behind, Progress};
 use pc_runs::{Crew, NamedFolder, Origin, Start, run_workload};
-use pc_texts::{NamedFile, report};
+use pc_texts::{NamedFile, report, report_words};
 use pc_types::{Refusal, Tally};
 use std::alloc::AllocError;
 use std::fs::File;
 use std::hash::RandomState;
-use std::io;
 use std::io::{BufWriter, Write};
+use std::os::unix::fs::MetadataExt;
+use std::string::String;
 use std::sync::Wait;
 use std::thread::Threads;
+use std::{fs, io};
 
 /// The status of a run that failed.
 const FAILED: u8 = 1;
@@ -22,39 +27,33 @@ const FAILED: u8 = 1;
 /// The status of a run that was asked for in a way that can't be.
 const MISUSED: u8 = 2;
 
+/// What a run is given beside its options.
+#[derive(Drop)]
+struct Setting<'a> {
+    rt: &'a HostRuntime,
+    causes: &'a Causes,
+    progress: &'a Progress<'a>,
+}
+
 /// Runs the workload as the options say, and writes what was asked to be told of it; the status.
 pub fn run_clients<H: Threads + Wait + Sync>(
     rt: &HostRuntime,
     threads: &H,
     options: &RunOptions<'_>,
 ) -> io::Result<u8> {
+    let causes = Causes::new(rt.alloc())?;
     let progress = Progress::new(rt, asked(options))?;
     let stderr = rt.stderr();
     let mut errors = Tally::new(Behind::new(&progress, io::writer(&stderr)));
-    let Some(path) = options.times else {
-        return run(rt, threads, options, &progress, &mut errors);
+    let setting = Setting {
+        rt,
+        causes: &causes,
+        progress: &progress,
     };
-    if path == options.workload {
-        let _ = errors.put_all(&[
-            b"pcalc: ",
-            path.as_bytes(),
-            b": the workload has this name\n",
-        ]);
-        return Ok(MISUSED);
+    match options.times {
+        Some(path) => run_timed(&setting, threads, options, path, &mut errors),
+        None => run(&setting, threads, options, &mut errors),
     }
-    let file = match make_times(rt, path) {
-        Ok(file) => file,
-        Err(why) => {
-            let _ = report(path.as_bytes(), why, &mut errors);
-            return Ok(FAILED);
-        }
-    };
-    let status = run(rt, threads, options, &progress, &mut errors)?;
-    if status == 0 && put_times(&progress, file).is_err() {
-        let _ = report(path.as_bytes(), Refusal::Device, &mut errors);
-        return Ok(FAILED);
-    }
-    Ok(status)
 }
 
 // What is to be counted.
@@ -67,47 +66,144 @@ fn asked(options: &RunOptions<'_>) -> Asked {
     }
 }
 
-// The file of the times, without bytes.
-fn make_times(rt: &HostRuntime, path: &str) -> Result<BufWriter<File>, Refusal> {
-    let file = NewFile { rt, path }.make()?;
-    match BufWriter::new(rt.alloc(), file) {
-        Ok(file) => Ok(file),
-        Err(_) => Err(Refusal::OutOfMemory),
+// Runs the workload, and writes its times to the file of this path, which is made before and gets its name in the end, where all else
+// was done.
+fn run_timed<H: Threads + Wait + Sync, E: Write>(
+    setting: &Setting<'_>,
+    threads: &H,
+    options: &RunOptions<'_>,
+    path: &str,
+    errors: &mut Tally<E>,
+) -> io::Result<u8> {
+    let rt = setting.rt;
+    if let Some(words) = why_not_times(rt, options, path) {
+        let _ = report_words(path.as_bytes(), words, errors);
+        return Ok(MISUSED);
+    }
+    let mut target = Target::new(rt, setting.causes, String::from_str(rt.alloc(), path)?);
+    let file = match target.make() {
+        Ok(file) => file,
+        Err(why) => {
+            let _ = report(path.as_bytes(), why, errors);
+            return Ok(FAILED);
+        }
+    };
+    let status = match run(setting, threads, options, errors) {
+        Ok(0) => put_times(setting, options, &mut target, file, errors),
+        other => other,
+    };
+    target.discard();
+    status
+}
+
+// Why the times aren't written to this file, if they aren't: it is the workload, or stands among the files of a run.
+fn why_not_times(rt: &HostRuntime, options: &RunOptions<'_>, path: &str) -> Option<&'static [u8]> {
+    if path == options.workload || is_same_file(rt, path, options.workload) {
+        return Some(b"the workload has this name");
+    }
+    let folder = folder_of(path);
+    if let Some(dir) = options.folder {
+        if is_same_file(rt, folder, dir) {
+            return Some(b"it would stand in the folder of --dir");
+        }
+    }
+    if let Some(old) = options.from {
+        if is_same_file(rt, folder, old) {
+            return Some(b"it would stand in the folder of --from");
+        }
+    }
+    None
+}
+
+// Whether both paths lead to one file or folder.
+fn is_same_file(rt: &HostRuntime, one: &str, other: &str) -> bool {
+    match (fs::metadata(rt, one), fs::metadata(rt, other)) {
+        (Ok(one), Ok(other)) => one.dev() == other.dev() && one.ino() == other.ino(),
+        _ => false,
     }
 }
 
-fn put_times(progress: &Progress<'_>, file: BufWriter<File>) -> io::Result<()> {
-    let mut file = file;
-    progress.put_times(&mut file)?;
-    file.flush()
-}
-
-// Runs the workload, and prints what it leaves, and its report where that is asked for. The seed of the store's hashes is drawn before
-// anything is opened.
-fn run<H: Threads + Wait + Sync, E: Write>(
-    rt: &HostRuntime,
-    threads: &H,
+// Writes the times, and gives their file its name; the status.
+fn put_times<'a, E: Write>(
+    setting: &Setting<'_>,
     options: &RunOptions<'_>,
-    progress: &Progress<'_>,
+    target: &mut Target<'a>,
+    file: Noted<'a, File>,
     errors: &mut Tally<E>,
 ) -> io::Result<u8> {
+    let mut kept = BufWriter::new(setting.rt.alloc(), file)?;
+    let written = match write_times(setting.progress, &mut kept) {
+        Ok(()) => target.finish(kept.get_ref(), options.is_synced),
+        Err(_) => Err(Refusal::Device),
+    };
+    match written {
+        Ok(()) => Ok(0),
+        Err(why) => {
+            let _ = report(target.path().as_bytes(), why, errors);
+            Ok(FAILED)
+        }
+    }
+}
+
+fn write_times<W: Write>(progress: &Progress<'_>, out: &mut W) -> io::Result<()> {
+    progress.put_times(out)?;
+    out.flush()
+}
+
+// Runs the workload in its folder, where there is one, which is claimed before all else.
+fn run<H: Threads + Wait + Sync, E: Write>(
+    setting: &Setting<'_>,
+    threads: &H,
+    options: &RunOptions<'_>,
+    errors: &mut Tally<E>,
+) -> io::Result<u8> {
+    // The seed of the store's hashes is drawn before anything is opened.
+    let seed = RandomState::new(setting.rt)?;
+    let Some(path) = options.folder else {
+        return run_in(setting, threads, options, seed, None, errors);
+    };
+    let dir = ReadFolder {
+        rt: setting.rt,
+        path,
+        causes: setting.causes,
+    };
+    let claim = Claim::new(dir, options.is_synced)?;
+    let status = run_in(setting, threads, options, seed, Some(&claim), errors);
+    claim.end();
+    status
+}
+
+// Runs the workload, and prints what it leaves, and its report where that is asked for.
+fn run_in<H: Threads + Wait + Sync, E: Write>(
+    setting: &Setting<'_>,
+    threads: &H,
+    options: &RunOptions<'_>,
+    seed: RandomState,
+    claim: Option<&Claim<'_>>,
+    errors: &mut Tally<E>,
+) -> io::Result<u8> {
+    let Setting {
+        rt,
+        causes,
+        progress,
+    } = setting;
     let alloc = rt.alloc();
-    let seed = RandomState::new(rt)?;
-    let mut out = Tally::new(BufWriter::new(alloc, Behind::new(progress, io::writer(rt)))?);
-    let folder = match options.folder {
-        Some(path) => Some(run_folder(rt, path, options.is_synced)?),
+    let writer = Behind::new(progress, io::writer(*rt));
+    let mut out = Tally::new(output_before(rt, causes, writer)?);
+    let folder = match claim {
+        Some(claim) => Some(claim.folder()?),
         None => None,
     };
     let name = Vec::from_slice(alloc, options.workload.as_bytes())?;
-    let opened = open_named(rt, options.workload);
+    let opened = open_named(rt, causes, options.workload);
     let file = NamedFile { name, opened };
-    let origin = origin_of(rt, options, errors)?;
+    let origin = origin_of(setting, options, errors)?;
     let crew = Crew {
         workers: options.workers,
         collapsers: options.collapsers,
         lag: options.lag,
         every: options.every,
-        gate: progress,
+        gate: *progress,
     };
     let finished = run_workload(
         threads, alloc, seed, file, origin, &crew, folder, &mut out, errors,
@@ -123,15 +219,20 @@ fn run<H: Threads + Wait + Sync, E: Write>(
 
 // What the store starts from. Of a folder, parts whose names are no UTF-8 are told.
 fn origin_of<'a, E: Write>(
-    rt: &'a HostRuntime,
-    options: &RunOptions<'_>,
+    setting: &Setting<'a>,
+    options: &RunOptions<'a>,
     errors: &mut Tally<E>,
 ) -> Result<Origin<LateFile<'a>>, AllocError> {
     let start = match options.from {
         Some(path) => {
-            let FoundFolder { folder, unopened } = open_folder(rt, path)?;
+            let dir = ReadFolder {
+                rt: setting.rt,
+                path,
+                causes: setting.causes,
+            };
+            let FoundFolder { folder, unopened } = open_folder(dir)?;
             tell_unopened(&unopened, errors);
-            let name = Vec::from_slice(rt.alloc(), path.as_bytes())?;
+            let name = Vec::from_slice(setting.rt.alloc(), path.as_bytes())?;
             Start::Folder(NamedFolder { name, folder })
         }
         None => Start::Empty(u64::from(options.run)),

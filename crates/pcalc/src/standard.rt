@@ -1,8 +1,14 @@
-//! The places of the standard streams.
+//! The standard streams.
+use crate::causes::{Causes, Noted};
 use std::alloc::AllocError;
-use std::fs;
 use std::fs::File;
+use std::io::{BufWriter, Write};
 use std::os::fd::AsRawFd;
+use std::string::String;
+use std::{fs, io};
+
+/// What standard output is called where its failure is told.
+pub const OUTPUT: &str = "standard output";
 
 /// How many standard streams there are; they have the first descriptors.
 const STREAMS: i32 = 3;
@@ -22,4 +28,15 @@ pub fn fill_places(rt: &HostRuntime) -> Result<Vec<File>, AllocError> {
         files.push(file)?;
     }
     Ok(files)
+}
+
+/// A buffer before a writer to standard output, whose failures are noted.
+pub fn output_before<'a, W: Write + Drop>(
+    rt: &HostRuntime,
+    causes: &'a Causes,
+    writer: W,
+) -> io::Result<BufWriter<Noted<'a, W>>> {
+    let alloc = rt.alloc();
+    let name = String::from_str(alloc, OUTPUT)?;
+    BufWriter::new(alloc, Noted::new(writer, name, causes))
 }

@@ -1,4 +1,4 @@
-use Rattle.std.proofs.Common.{sym, ◌∙◌}
+use Rattle.std.proofs.Common.{sym}
 use Rattle.pc_part.proofs.RangePointLaws.{items-points_of}
 use Rattle.pc_collapse_files.proofs.inputs.join_headers.Goals as goal
 

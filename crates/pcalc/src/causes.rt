@@ -1,0 +1,155 @@
+//! What the system said where a file could not be had, kept until it is told.
+use std::alloc::{AllocError, Global};
+use std::fs::File;
+use std::io;
+use std::io::{Error, ErrorKind, Read, Write};
+use std::string::String;
+use std::sync::OnceLock;
+
+/// So many failures are kept; of later ones nothing is known.
+const KEPT: usize = 8;
+
+/// What was being done with a file when it failed.
+#[derive(Clone, Copy)]
+pub enum Doing {
+    Opening,
+    Listing,
+    Reading,
+    Making,
+    Writing,
+    Syncing,
+    Naming,
+}
+
+impl Doing {
+    /// The word that tells of it.
+    pub fn word(self) -> &'static str {
+        match self {
+            Doing::Opening => "opening",
+            Doing::Listing => "listing",
+            Doing::Reading => "reading",
+            Doing::Making => "making",
+            Doing::Writing => "writing",
+            Doing::Syncing => "writing to the device",
+            Doing::Naming => "naming",
+        }
+    }
+}
+
+/// A failure of the system's.
+#[derive(Drop)]
+pub struct Cause {
+    pub doing: Doing,
+    /// The file's path.
+    pub path: String,
+    /// What the system said.
+    pub error: Error,
+}
+
+/// The first failures of a command, in the order in which they came. Threads share it.
+#[derive(Drop)]
+pub struct Causes {
+    alloc: Global,
+    kept: Vec<OnceLock<Cause>>,
+}
+
+impl Causes {
+    /// Nothing has failed.
+    pub fn new(alloc: Global) -> Result<Causes, AllocError> {
+        let mut kept = Vec::with_capacity(alloc, KEPT)?;
+        for _ in 0..KEPT {
+            kept.push(OnceLock::new())?;
+        }
+        Ok(Causes { alloc, kept })
+    }
+
+    /// Keeps the failure, where there is room for it.
+    pub fn note(&self, doing: Doing, path: &str, error: Error) {
+        let Ok(path) = String::from_str(self.alloc, path) else {
+            return;
+        };
+        let mut cause = Cause { doing, path, error };
+        for place in &self.kept {
+            match place.try_set(cause) {
+                Ok(_) => return,
+                Err(back) => cause = back,
+            }
+        }
+    }
+
+    /// The first failure that is of this kind, if there is one.
+    pub fn find<P: Fn(&Cause) -> bool + Drop>(&self, is_it: P) -> Option<&Cause> {
+        for place in &self.kept {
+            if let Some(cause) = place.get() {
+                if is_it(cause) {
+                    return Some(cause);
+                }
+            }
+        }
+        None
+    }
+}
+
+/// A file or stream whose failures are noted by its path. A call that a signal interrupted has failed, as any other: whoever keeps
+/// bytes before it would try that again and again.
+#[derive(Drop)]
+pub struct Noted<'a, T> {
+    inner: T,
+    path: String,
+    causes: &'a Causes,
+}
+
+impl<'a, T> Noted<'a, T> {
+    /// The failures of this one are noted by this path.
+    pub fn new(inner: T, path: String, causes: &'a Causes) -> Noted<'a, T> {
+        Noted {
+            inner,
+            path,
+            causes,
+        }
+    }
+
+    // The failure, which is noted.
+    fn noted(&self, doing: Doing, error: Error) -> Error {
+        self.causes.note(doing, self.path.as_str(), error);
+        if error.kind() == ErrorKind::Interrupted {
+            return Error::from(ErrorKind::Other);
+        }
+        error
+    }
+}
+
+impl<'a> Noted<'a, File> {
+    /// All bytes that were written reach the device.
+    pub fn sync(&self) -> io::Result<()> {
+        match self.inner.sync_data() {
+            Ok(()) => Ok(()),
+            Err(e) => Err(self.noted(Doing::Syncing, e)),
+        }
+    }
+}
+
+impl<'a, T: Read> Read for Noted<'a, T> {
+    fn read(&mut self, buf: &mut [u8]) -> io::Result<usize> {
+        match self.inner.read(buf) {
+            Ok(count) => Ok(count),
+            Err(e) => Err(self.noted(Doing::Reading, e)),
+        }
+    }
+}
+
+impl<'a, T: Write> Write for Noted<'a, T> {
+    fn write(&mut self, buf: &[u8]) -> io::Result<usize> {
+        match self.inner.write(buf) {
+            Ok(count) => Ok(count),
+            Err(e) => Err(self.noted(Doing::Writing, e)),
+        }
+    }
+
+    fn flush(&mut self) -> io::Result<()> {
+        match self.inner.flush() {
+            Ok(()) => Ok(()),
+            Err(e) => Err(self.noted(Doing::Writing, e)),
+        }
+    }
+}

@@ -1,0 +1,139 @@
+//! Where a file of a collapse or of a folder is damaged.
+use crate::causes::Causes;
+use crate::explaining::{Lines, bytes_of};
+use crate::folder::{BASE, LOG, PART_END, ReadFolder, names_in, path_in};
+use crate::meanings::meaning_of;
+use itoa::Buffer;
+use pc_faults::{TextKind, locate};
+use pc_log::read_log;
+use pc_part::{Base, Part, join};
+use pc_texts::put_name;
+use pc_types::Refusal;
+
+/// A search for the file whose fault was told by this word.
+#[derive(Clone, Copy)]
+pub struct Damage<'a> {
+    pub rt: &'a HostRuntime,
+    pub causes: &'a Causes,
+    pub word: &'a [u8],
+}
+
+impl<'a> Damage<'a> {
+    /// Tells of the first of the parts with the fault, or of the first that can't be joined with those before it; whether there is
+    /// one.
+    pub fn put_of_parts(&self, paths: &[&str], lines: &mut Lines) -> Result<bool, Refusal> {
+        let mut joined: Option<Part> = None;
+        for path in paths {
+            let Some(part) = self.part_of(path, lines)? else {
+                return Ok(true);
+            };
+            joined = match joined {
+                None => Some(part),
+                Some(before) => match join(self.rt.alloc(), &before, &part) {
+                    Ok(both) => Some(both),
+                    Err(why) if why.name().as_bytes() == self.word => {
+                        self.put_fault(path, None, lines)?;
+                        return Ok(true);
+                    }
+                    Err(why) => return Err(why),
+                },
+            };
+        }
+        Ok(false)
+    }
+
+    // The part of this path; none where its fault was told.
+    fn part_of(&self, path: &str, lines: &mut Lines) -> Result<Option<Part>, Refusal> {
+        let bytes = self.bytes_of(path)?;
+        match Part::decode(self.rt.alloc(), &bytes) {
+            Ok(part) => Ok(Some(part)),
+            Err(why) if why.name().as_bytes() == self.word => {
+                self.put_text_fault(TextKind::Part, path, &bytes, lines)?;
+                Ok(None)
+            }
+            Err(why) => Err(why),
+        }
+    }
+
+    fn bytes_of(&self, path: &str) -> Result<Vec<u8>, Refusal> {
+        match bytes_of(self.rt, self.causes, path) {
+            Some(bytes) => Ok(bytes),
+            None => Err(Refusal::Device),
+        }
+    }
+
+    /// Tells of the base of the folder, where it has the fault, and what stands beside it, or else of the log; whether one has it.
+    pub fn put_of_folder(&self, dir: &str, lines: &mut Lines) -> Result<bool, Refusal> {
+        let alloc = self.rt.alloc();
+        let path = path_in(alloc, dir, BASE)?;
+        let bytes = self.bytes_of(path.as_str())?;
+        match Base::decode(alloc, &bytes) {
+            Ok(_) => {}
+            Err(why) if why.name().as_bytes() == self.word => {
+                self.put_text_fault(TextKind::Base, path.as_str(), &bytes, lines)?;
+                self.put_beside(dir, lines)?;
+                return Ok(true);
+            }
+            Err(why) => return Err(why),
+        }
+        let path = path_in(alloc, dir, LOG)?;
+        let bytes = self.bytes_of(path.as_str())?;
+        let has_fault = match read_log(alloc, &bytes) {
+            Ok(_) => self.word == b"OtherRun".as_slice(),
+            Err(why) => why.name().as_bytes() == self.word,
+        };
+        if has_fault {
+            self.put_fault(path.as_str(), None, lines)?;
+        }
+        Ok(has_fault)
+    }
+
+    // What stands beside a base that is damaged.
+    fn put_beside(&self, dir: &str, lines: &mut Lines) -> Result<(), Refusal> {
+        let folder = ReadFolder {
+            rt: self.rt,
+            path: dir,
+            causes: self.causes,
+        };
+        let names = names_in(folder)?;
+        for name in names.split(|byte| *byte == 0) {
+            if name == LOG.as_bytes() || name.ends_with(PART_END) {
+                lines.put(b"  beside it stands ")?;
+                put_name(lines, name)?;
+                lines.put(b"\n")?;
+            }
+        }
+        Ok(())
+    }
+
+    /// Tells of the fault of a text, and where in it.
+    pub fn put_text_fault(
+        &self,
+        kind: TextKind,
+        path: &str,
+        bytes: &[u8],
+        lines: &mut Lines,
+    ) -> Result<(), Refusal> {
+        match locate(self.rt.alloc(), kind, bytes)? {
+            Some(fault) => self.put_fault(path, Some(fault.bytes), lines),
+            None => Ok(()),
+        }
+    }
+
+    // The line of a fault of the file, and, where it is known, with which byte it is seen.
+    fn put_fault(
+        &self,
+        path: &str,
+        bytes: Option<usize>,
+        lines: &mut Lines,
+    ) -> Result<(), Refusal> {
+        lines.put(b"  reading ")?;
+        put_name(lines, path.as_bytes())?;
+        if let Some(bytes) = bytes {
+            let mut buffer = Buffer::new();
+            lines.put_all(&[b", byte ", buffer.format(bytes).as_bytes()])?;
+        }
+        let meaning = meaning_of(self.word).unwrap_or(self.word);
+        lines.put_all(&[b": ", meaning, b"\n"])
+    }
+}

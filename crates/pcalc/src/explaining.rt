@@ -1,0 +1,217 @@
+//! What a fault is about, told behind its line: which file, what was done with it, where, and what the system said.
+use crate::causes::{Cause, Causes, Doing};
+use crate::damage::Damage;
+use crate::folder::BASE;
+use crate::meanings::meaning_of;
+use pc_texts::put_name;
+use pc_types::{Refusal, Tally};
+use std::fs::File;
+use std::io;
+use std::io::{ErrorKind, IsTerminal, Read, Write};
+
+/// The files that a command is about.
+#[derive(Clone, Copy)]
+pub enum About<'a> {
+    /// A script.
+    Script,
+    /// Part files, by their paths.
+    Parts(&'a [&'a str]),
+    /// A folder of which it is told what it is worth.
+    Folder(&'a str),
+    /// A run: its folder, and the one that it starts from, where there are any.
+    Run(Option<&'a str>, Option<&'a str>),
+}
+
+/// What is known where faults are explained.
+#[derive(Clone, Copy)]
+pub struct Explainer<'a> {
+    pub rt: &'a HostRuntime,
+    pub causes: &'a Causes,
+    pub about: About<'a>,
+    /// Whether faults are explained.
+    pub is_on: bool,
+}
+
+/// Whether faults are explained: where that is asked for, and where standard error is a terminal.
+pub fn is_explained(rt: &HostRuntime, is_asked: bool) -> bool {
+    is_asked || rt.stderr().is_terminal()
+}
+
+/// A writer to standard error that explains each line that tells of a fault, right behind it.
+#[derive(Drop)]
+pub struct Explained<'a, W> {
+    inner: W,
+    explainer: Explainer<'a>,
+    // What was written of a line.
+    line: Vec<u8>,
+}
+
+impl<'a, W> Explained<'a, W> {
+    /// What is written goes on to the writer.
+    pub fn new(explainer: Explainer<'a>, inner: W) -> Explained<'a, W> {
+        let line = Vec::new(explainer.rt.alloc());
+        Explained {
+            inner,
+            explainer,
+            line,
+        }
+    }
+}
+
+impl<'a, W: Write> Write for Explained<'a, W> {
+    fn write(&mut self, buf: &[u8]) -> io::Result<usize> {
+        let count = self.inner.write(buf)?;
+        if !self.explainer.is_on {
+            return Ok(count);
+        }
+        for byte in &buf[..count] {
+            if *byte == b'\n' {
+                let told = self.explainer.explanation(&self.line);
+                let _ = self.inner.write_all(&told);
+                self.line.clear();
+            } else {
+                let _ = self.line.push(*byte);
+            }
+        }
+        Ok(count)
+    }
+
+    fn flush(&mut self) -> io::Result<()> {
+        self.inner.flush()
+    }
+}
+
+/// Lines that explain a fault, as they are put together.
+pub type Lines = Tally<Vec<u8>>;
+
+impl<'a> Explainer<'a> {
+    /// The lines that explain this one: none where it tells of no fault, or memory ran out.
+    fn explanation(&self, line: &[u8]) -> Vec<u8> {
+        let mut lines = Tally::new(Vec::new(self.rt.alloc()));
+        if let Some((name, word)) = fault_in(line) {
+            let _ = self.explain(name, word, &mut lines);
+        }
+        lines.into_inner()
+    }
+
+    // Explains the fault of this word, which was told by this name.
+    fn explain(&self, name: &[u8], word: &[u8], lines: &mut Lines) -> Result<(), Refusal> {
+        if let Some(cause) = self.cause_of(name, word) {
+            return put_cause(cause, lines);
+        }
+        let damage = Damage {
+            rt: self.rt,
+            causes: self.causes,
+            word,
+        };
+        let is_told = match self.about {
+            About::Parts(paths) => damage.put_of_parts(paths, lines)?,
+            About::Folder(dir) => damage.put_of_folder(dir, lines)?,
+            About::Run(_, Some(old)) if is_of_folder(name, old) => damage.put_of_folder(
+                old, lines,
+            )?,
+            _ => false,
+        };
+        if is_told {
+            return Ok(());
+        }
+        match meaning_of(word) {
+            Some(meaning) => lines.put_all(&[b"  ", meaning, b"\n"]),
+            None => Ok(()),
+        }
+    }
+
+    // What the system said of it: of a file of this name, or else, where the word tells of the system's failures, the first that there
+    // was.
+    fn cause_of(&self, name: &[u8], word: &[u8]) -> Option<&'a Cause> {
+        if !is_of_system(word) {
+            return None;
+        }
+        let alloc = self.rt.alloc();
+        let named = self.causes.find(|cause| {
+            let mut path = Tally::new(Vec::new(alloc));
+            let _ = put_name(&mut path, cause.path.as_bytes());
+            is_path_of(&path.into_inner(), name)
+        });
+        if named.is_some() {
+            return named;
+        }
+        self.causes.find(|cause| !is_missing(cause))
+    }
+}
+
+/// What standard output's failure was, where it failed: nothing is told of that but where faults are explained.
+pub fn explain_output<E: Write>(explainer: &Explainer<'_>, output: &str, errors: &mut E) {
+    if !explainer.is_on {
+        return;
+    }
+    let found = explainer.causes.find(|cause| cause.path.as_str() == output);
+    if let Some(cause) = found {
+        let mut lines = Tally::new(Vec::new(explainer.rt.alloc()));
+        let _ = put_cause(cause, &mut lines);
+        let _ = errors.write_all(&lines.into_inner());
+    }
+}
+
+// The name and the word of a line that tells of a fault.
+fn fault_in(line: &[u8]) -> Option<(&[u8], &[u8])> {
+    let rest = line.strip_prefix(b"pcalc: ")?;
+    let mut colon = None;
+    for at in 0..rest.len() {
+        if rest[at..].starts_with(b": ") {
+            colon = Some(at);
+        }
+    }
+    let at = colon?;
+    Some((&rest[..at], rest.get(at..)?.get(2..)?))
+}
+
+// Whether a path ends with this name.
+fn is_path_of(path: &[u8], name: &[u8]) -> bool {
+    let Some(before) = path.strip_suffix(name) else {
+        return false;
+    };
+    before.is_empty() || before.ends_with(b"/")
+}
+
+// Whether a name that was told is of a folder: its own, or that of a file in it.
+fn is_of_folder(name: &[u8], dir: &str) -> bool {
+    name == dir.as_bytes() || name == BASE.as_bytes()
+}
+
+// Whether the word tells of a failure of the system's.
+fn is_of_system(word: &[u8]) -> bool {
+    word == b"Device".as_slice()
+        || word == b"NoFile".as_slice()
+        || word == b"OutOfMemory".as_slice()
+}
+
+// Whether a file wasn't there, which is no failure of a log.
+fn is_missing(cause: &Cause) -> bool {
+    cause.error.kind() == ErrorKind::NotFound
+}
+
+/// Writes the line of a failure of the system's.
+pub fn put_cause(cause: &Cause, lines: &mut Lines) -> Result<(), Refusal> {
+    lines.put_all(&[b"  ", cause.doing.word().as_bytes(), b" "])?;
+    put_name(lines, cause.path.as_bytes())?;
+    lines.put(b": ")?;
+    let _ = write!(lines, "{}", cause.error);
+    lines.put(b"\n")
+}
+
+/// All bytes of a plain file, where it can be read. Where it can't, that is noted.
+pub fn bytes_of(rt: &HostRuntime, causes: &Causes, path: &str) -> Option<Vec<u8>> {
+    let mut bytes = Vec::new(rt.alloc());
+    let read = match File::open(rt, path) {
+        Ok(mut file) => file.read_to_end(&mut bytes),
+        Err(e) => Err(e),
+    };
+    match read {
+        Ok(_) => Some(bytes),
+        Err(e) => {
+            causes.note(Doing::Reading, path, e);
+            None
+        }
+    }
+}

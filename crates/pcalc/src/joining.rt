@@ -1,0 +1,81 @@
+//! Part files that are joined into one.
+use crate::causes::Causes;
+use crate::making::Target;
+use crate::parts::{Inputs, JoinedFile, is_other_file};
+use crate::standard::output_before;
+use pc_collapse_files::run_collapse;
+use pc_options::CollapseOptions;
+use pc_texts::{report, report_words};
+use pc_types::{Refusal, Tally};
+use std::io;
+use std::io::Write;
+use std::string::String;
+
+/// The status of a collapse that failed.
+const FAILED: u8 = 1;
+
+/// The status of one that was asked for in a way that can't be.
+const MISUSED: u8 = 2;
+
+/// Joins the part files as the options say; the status.
+pub fn join_parts(rt: &HostRuntime, options: &CollapseOptions<'_>) -> io::Result<u8> {
+    let causes = Causes::new(rt.alloc())?;
+    let stderr = rt.stderr();
+    let mut errors = Tally::new(io::writer(&stderr));
+    let inputs = Inputs {
+        rt,
+        causes: &causes,
+        paths: options.inputs.as_slice(),
+    };
+    match is_misused(rt, &causes, options.target, &inputs) {
+        Ok(false) => collapse(rt, &causes, options.target, &inputs, &mut errors),
+        Ok(true) => {
+            let words = b"a file that is no part has this name";
+            let _ = report_words(options.target.as_bytes(), words, &mut errors);
+            Ok(MISUSED)
+        }
+        Err(why) => {
+            let _ = report(options.target.as_bytes(), why, &mut errors);
+            Ok(FAILED)
+        }
+    }
+}
+
+// Whether another file than a part stands where the joined one is to stand. That an input has its name is told before.
+fn is_misused(
+    rt: &HostRuntime,
+    causes: &Causes,
+    target: &str,
+    inputs: &Inputs<'_>,
+) -> Result<bool, Refusal> {
+    if inputs.has(target) {
+        return Ok(false);
+    }
+    is_other_file(rt, causes, target)
+}
+
+fn collapse<E: Write>(
+    rt: &HostRuntime,
+    causes: &Causes,
+    target: &str,
+    inputs: &Inputs<'_>,
+    errors: &mut Tally<E>,
+) -> io::Result<u8> {
+    let alloc = rt.alloc();
+    let mut out = Tally::new(output_before(rt, causes, io::writer(rt))?);
+    let files = match inputs.open(target) {
+        Ok(files) => files,
+        Err(why) => {
+            let _ = report(target.as_bytes(), why, errors);
+            return Ok(FAILED);
+        }
+    };
+    let path = String::from_str(alloc, target)?;
+    let mut file = JoinedFile {
+        target: Target::new(rt, causes, path),
+    };
+    let ended = run_collapse(alloc, target, files, &mut file, &mut out, errors);
+    drop(ended.begun);
+    file.target.discard();
+    Ok(ended.status)
+}

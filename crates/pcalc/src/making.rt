@@ -1,0 +1,155 @@
+//! How a file is made so that nothing is lost: apart from what stands under its name, which it gets once it is whole.
+use crate::causes::{Causes, Doing, Noted};
+use pc_types::Refusal;
+use std::alloc::AllocError;
+use std::fs::{File, Metadata};
+use std::io::ErrorKind;
+use std::string::String;
+use std::{fs, io};
+
+/// What stands behind the name of a file that is not whole yet. Recovery reads none of such a name.
+const NEW_END: &str = ".new";
+
+/// So many names are tried for a file that is made apart.
+const MOST_NAMES: u32 = 1_000;
+
+/// Where a file is to stand. What is written of it goes into another file in the same folder, which no other process has and no link
+/// leads to, and which gets the name once it is whole; until then what stands there stays. Where what stands there is no plain file,
+/// as a device or a pipe, it is written to as it is.
+#[derive(Drop)]
+pub struct Target<'a> {
+    rt: &'a HostRuntime,
+    causes: &'a Causes,
+    path: String,
+    // The path of the file that is made apart, until it has its name.
+    apart: Option<String>,
+}
+
+impl<'a> Target<'a> {
+    /// A file of this path is to be made; nothing is yet.
+    pub fn new(rt: &'a HostRuntime, causes: &'a Causes, path: String) -> Target<'a> {
+        let apart = None;
+        Target {
+            rt,
+            causes,
+            path,
+            apart,
+        }
+    }
+
+    /// The path under which the file is to stand.
+    pub fn path(&self) -> &str {
+        self.path.as_str()
+    }
+
+    /// The file, without bytes.
+    pub fn make(&mut self) -> Result<Noted<'a, File>, Refusal> {
+        let path = String::from_str(self.rt.alloc(), self.path.as_str())?;
+        let opened = match fs::metadata(self.rt, self.path.as_str()) {
+            Ok(found) if is_stream(&found, self.path.as_str()) => self.open_stream(),
+            found => self.make_apart(found.ok()),
+        };
+        match opened {
+            Ok(file) => Ok(Noted::new(file, path, self.causes)),
+            Err(e) => Err(self.failed(Doing::Making, e)),
+        }
+    }
+
+    // What stands there, to be written to as it is.
+    fn open_stream(&self) -> io::Result<File> {
+        File::options()
+            .append(true)
+            .open(self.rt, self.path.as_str())
+    }
+
+    // A new file in the same folder. It may be read and written by whoever may do so with what stands there.
+    fn make_apart(&mut self, standing: Option<Metadata>) -> io::Result<File> {
+        for number in 0..MOST_NAMES {
+            let path = self.path_apart(number)?;
+            match File::create_new(self.rt, path.as_str()) {
+                Ok(file) => {
+                    self.apart = Some(path);
+                    if let Some(standing) = standing {
+                        let _ = file.set_permissions(standing.permissions());
+                    }
+                    return Ok(file);
+                }
+                Err(e) if e.kind() == ErrorKind::AlreadyExists => {}
+                Err(e) => return Err(e),
+            }
+        }
+        Err(io::Error::from(ErrorKind::AlreadyExists))
+    }
+
+    // One of the paths that the file may be made under.
+    fn path_apart(&self, number: u32) -> Result<String, AllocError> {
+        let alloc = self.rt.alloc();
+        if number == 0 {
+            return format!(in alloc; "{}{NEW_END}", self.path.as_str());
+        }
+        format!(in alloc; "{}{NEW_END}{number}", self.path.as_str())
+    }
+
+    /// The file is whole and gets its name. Where it is synced, all of it has reached the device before, and the name does.
+    pub fn finish(&mut self, file: &Noted<'a, File>, is_synced: bool) -> Result<(), Refusal> {
+        let Some(apart) = &self.apart else {
+            return Ok(());
+        };
+        if is_synced {
+            if let Err(e) = file.sync() {
+                return Err(why_unmade(&e));
+            }
+        }
+        if let Err(e) = fs::rename(self.rt, apart.as_str(), self.path.as_str()) {
+            return Err(self.failed(Doing::Naming, e));
+        }
+        self.apart = None;
+        if !is_synced {
+            return Ok(());
+        }
+        match sync_folder(self.rt, folder_of(self.path.as_str())) {
+            Ok(()) => Ok(()),
+            Err(e) => Err(self.failed(Doing::Syncing, e)),
+        }
+    }
+
+    /// A file that is not whole goes, and what stands under its name stays.
+    pub fn discard(&mut self) {
+        if let Some(apart) = &self.apart {
+            let _ = fs::remove_file(self.rt, apart.as_str());
+            self.apart = None;
+        }
+    }
+
+    fn failed(&self, doing: Doing, e: io::Error) -> Refusal {
+        self.causes.note(doing, self.path.as_str(), e);
+        why_unmade(&e)
+    }
+}
+
+// Whether what stands there is written to as it is: it is no plain file, or the system's own name of an open one.
+fn is_stream(found: &Metadata, path: &str) -> bool {
+    !found.is_file() || path.starts_with("/dev/") || path.starts_with("/proc/")
+}
+
+/// The folder of a file, by its path.
+pub fn folder_of(path: &str) -> &str {
+    match path.rfind('/') {
+        Some(0) => "/",
+        Some(end) => &path[..end],
+        None => ".",
+    }
+}
+
+/// The names that the folder has reach its device.
+pub fn sync_folder(rt: &HostRuntime, path: &str) -> io::Result<()> {
+    File::open(rt, path)?.sync_all()
+}
+
+/// Why a file can't be made or get its name, as the program tells it.
+pub fn why_unmade(e: &io::Error) -> Refusal {
+    if e.kind() == ErrorKind::OutOfMemory {
+        return Refusal::OutOfMemory;
+    }
+    Refusal::Device
+}

@@ -1,0 +1,248 @@
+//! The folder in which a run makes its files: it is claimed before anything else is done, and no other process can claim it.
+use crate::causes::{Causes, Doing, Noted};
+use crate::folder::{BASE, LOG, PART_END, ReadFolder, names_in, path_in};
+use crate::making::{Target, sync_folder, why_unmade};
+use pc_runs::{NewFiles, RunFolder, Unusable};
+use pc_texts::{FileName, part_name};
+use pc_types::Refusal;
+use std::alloc::AllocError;
+use std::fs::File;
+use std::io::{BufWriter, ErrorKind, Write};
+use std::string::String;
+use std::sync::atomic::{AtomicBool, Ordering};
+use std::{fs, io};
+
+// How many bytes of a run's file are kept before they go out.
+const ROOM: usize = 65_536;
+
+/// A run's hold on its folder: the log, which it has made there before all else, and which is locked as long as this stands.
+#[derive(Drop)]
+pub struct Claim<'a> {
+    dir: ReadFolder<'a>,
+    // Whether what is written to the folder's files, and the names that they get, is to reach its device.
+    is_synced: bool,
+    // The log's file, which this run has made, or why it has not.
+    log: Result<File, Unmade>,
+    // Whether the base stands in the folder: from then on there is something to recover.
+    has_begun: AtomicBool,
+}
+
+// Why a run has not made the log.
+#[derive(Drop)]
+enum Unmade {
+    // The folder has files of a run, or can't be listed.
+    Unusable(Unusable),
+    // The log can't be made.
+    Failed(Refusal),
+}
+
+impl<'a> Claim<'a> {
+    /// Claims the folder for a run: makes the log, where there is none, and no other file of a run. It is an error only where memory
+    /// ran out.
+    pub fn new(dir: ReadFolder<'a>, is_synced: bool) -> Result<Claim<'a>, AllocError> {
+        let log = claim_folder(dir)?;
+        let has_begun = AtomicBool::new(false);
+        Ok(Claim {
+            dir,
+            is_synced,
+            log,
+            has_begun,
+        })
+    }
+
+    /// The folder, for the files of the run, or why it can't be used. It is an error only where memory ran out.
+    pub fn folder<'b>(&'b self) -> Result<RunFolder<NewFolder<'b>>, AllocError> {
+        let name = Vec::from_slice(self.dir.rt.alloc(), self.dir.path.as_bytes())?;
+        let files = match &self.log {
+            Err(Unmade::Unusable(why)) => Err(*why),
+            _ => Ok(NewFolder {
+                claim: self,
+                made: None,
+            }),
+        };
+        Ok(RunFolder { name, files })
+    }
+
+    /// The run has ended. Where it ended before its base stood in the folder, the folder is left as it was.
+    pub fn end(self) {
+        if self.log.is_ok() && !self.has_begun.load(Ordering::SeqCst) {
+            remove_log(self.dir);
+        }
+    }
+}
+
+// Makes the log and locks it, where the folder has no file of a run.
+fn claim_folder(dir: ReadFolder<'_>) -> Result<Result<File, Unmade>, AllocError> {
+    if let Err(why) = look(dir, false) {
+        return Ok(Err(Unmade::Unusable(why)));
+    }
+    let path = path_in(dir.rt.alloc(), dir.path, LOG)?;
+    let file = match File::create_new(dir.rt, path.as_str()) {
+        Ok(file) => file,
+        Err(e) if e.kind() == ErrorKind::AlreadyExists => {
+            return Ok(Err(Unmade::Unusable(Unusable::NotEmpty)));
+        }
+        Err(e) => {
+            dir.causes.note(Doing::Making, path.as_str(), e);
+            return Ok(Err(Unmade::Failed(why_unmade(&e))));
+        }
+    };
+    // A file system may have no locks: the file's name is a hold too.
+    let _ = file.try_lock();
+    if let Err(why) = look(dir, true) {
+        remove_log(dir);
+        return Ok(Err(Unmade::Unusable(why)));
+    }
+    Ok(Ok(file))
+}
+
+fn remove_log(dir: ReadFolder<'_>) {
+    if let Ok(path) = path_in(dir.rt.alloc(), dir.path, LOG) {
+        let _ = fs::remove_file(dir.rt, path.as_str());
+    }
+}
+
+// Whether the folder can be used: it can be listed, and has no file of a run but its log, where that is this run's own.
+fn look(dir: ReadFolder<'_>, has_log: bool) -> Result<(), Unusable> {
+    let names = match names_in(dir) {
+        Ok(names) => names,
+        Err(why) => return Err(Unusable::Unlisted(why)),
+    };
+    for name in names.split(|byte| *byte == 0) {
+        let is_own = has_log && name == LOG.as_bytes();
+        if is_run_file(name) && !is_own {
+            return Err(Unusable::NotEmpty);
+        }
+    }
+    Ok(())
+}
+
+// Whether recovery reads a file of this name.
+fn is_run_file(name: &[u8]) -> bool {
+    name == BASE.as_bytes() || name == LOG.as_bytes() || name.ends_with(PART_END)
+}
+
+/// A folder in which a run makes its files.
+#[derive(Drop)]
+pub struct NewFolder<'a> {
+    claim: &'a Claim<'a>,
+    // The file that is made just now, where it is made apart.
+    made: Option<Target<'a>>,
+}
+
+impl<'a> NewFolder<'a> {
+    // The path of the file once it is whole.
+    fn path_of(&self, name: &FileName) -> Result<String, Refusal> {
+        let dir = self.claim.dir;
+        let alloc = dir.rt.alloc();
+        let path = match name {
+            FileName::Base => path_in(alloc, dir.path, BASE)?,
+            FileName::Log => path_in(alloc, dir.path, LOG)?,
+            FileName::Part(point) => {
+                let bytes = part_name(*point);
+                let Ok(name) = str::from_utf8(&bytes) else {
+                    return Err(Refusal::Device);
+                };
+                path_in(alloc, dir.path, name)?
+            }
+        };
+        Ok(path)
+    }
+
+    // The log, which was made when the folder was claimed.
+    fn claimed_log(&self) -> io::Result<File> {
+        match &self.claim.log {
+            Ok(file) => {
+                if self.claim.is_synced {
+                    sync_folder(self.claim.dir.rt, self.claim.dir.path)?;
+                }
+                file.try_clone()
+            }
+            Err(_) => Err(io::Error::from(ErrorKind::Other)),
+        }
+    }
+
+    fn make_log(&self, path: String) -> Result<Noted<'a, File>, Refusal> {
+        if let Err(Unmade::Failed(why)) = &self.claim.log {
+            return Err(*why);
+        }
+        let causes = self.claim.dir.causes;
+        match self.claimed_log() {
+            Ok(file) => Ok(Noted::new(file, path, causes)),
+            Err(e) => {
+                causes.note(Doing::Making, path.as_str(), e);
+                Err(why_unmade(&e))
+            }
+        }
+    }
+
+    fn make_apart(&mut self, path: String) -> Result<Noted<'a, File>, Refusal> {
+        let dir = self.claim.dir;
+        let mut target = Target::new(dir.rt, dir.causes, path);
+        let file = target.make()?;
+        self.made = Some(target);
+        Ok(file)
+    }
+}
+
+// What is on a disk is known to no contract.
+impl<'a> NewFiles<RunFile<'a>> for NewFolder<'a> {
+    ghost use Rattle.std.specs.Prelude.{⊤, None};
+
+    ghost holds = { λ folder name text. ⊤ };
+
+    ghost blank = { None };
+
+    fn make(&mut self, name: &FileName) -> Result<RunFile<'a>, Refusal> {
+        let path = self.path_of(name)?;
+        let file = match name {
+            FileName::Log => self.make_log(path)?,
+            _ => self.make_apart(path)?,
+        };
+        // A base is written once, and all else rests on it.
+        let is_synced = self.claim.is_synced || matches!(name, FileName::Base);
+        match BufWriter::with_capacity(self.claim.dir.rt.alloc(), ROOM, file) {
+            Ok(kept) => Ok(RunFile { kept, is_synced }),
+            Err(_) => Err(Refusal::OutOfMemory),
+        }
+    }
+
+    fn finish(&mut self, name: &FileName, file: RunFile<'a>) -> Result<(), Refusal> {
+        let Some(target) = &mut self.made else {
+            return Ok(());
+        };
+        if matches!(name, FileName::Log) {
+            return Ok(());
+        }
+        let RunFile { kept, is_synced } = file;
+        target.finish(kept.get_ref(), is_synced)?;
+        self.made = None;
+        if matches!(name, FileName::Base) {
+            self.claim.has_begun.store(true, Ordering::SeqCst);
+        }
+        Ok(())
+    }
+}
+
+/// A file of a run.
+#[derive(Drop)]
+pub struct RunFile<'a> {
+    kept: BufWriter<Noted<'a, File>>,
+    // Whether what was written reaches the device where it is flushed.
+    is_synced: bool,
+}
+
+impl<'a> Write for RunFile<'a> {
+    fn write(&mut self, buf: &[u8]) -> io::Result<usize> {
+        self.kept.write(buf)
+    }
+
+    fn flush(&mut self) -> io::Result<()> {
+        self.kept.flush()?;
+        if self.is_synced {
+            self.kept.get_ref().sync()
+        } else {
+            Ok(())
+        }
+    }
+}
