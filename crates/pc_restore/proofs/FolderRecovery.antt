@@ -1,9 +1,11 @@
 -- What is recovered of a folder whose files were read.
-use Rattle.std.proofs.Common.{◌≡◌, ◌≢◌, ◌⊎◌, inl, inr, ℕ, List, Option, Result, refl}
+use Rattle.std.proofs.Common.{◌≡◌, ◌≢◌, ◌⊎◌, inl, inr, ℕ, Bool, List, Option, Result, refl}
 use Rattle.pc_types.specs.declared.tally.Tally.{Tally}
 use Rattle.pc_types.specs.declared.refusal.Refusal.{Refusal}
 use Rattle.pc_types.specs.declared.refusal.Refusal.TheVariants as why
 use Rattle.pc_recover.specs.Recovery.{Recovery, recovery}
+use Rattle.pc_restore.specs.declared.lacks.Lacks.{Lacks}
+use Rattle.pc_restore.specs.Lacks.{lacks_of}
 use Rattle.pc_restore.specs.declared.recovery.Folder.{Folder}
 use Rattle.pc_restore.specs.declared.recovery.Lost.{Lost}
 use Rattle.pc_restore.specs.declared.recovery.Lost.TheVariants as lost
@@ -19,10 +21,15 @@ pub same_recovery : (base other_base : List ℕ) (parts other_parts : List (List
     → recovery base parts log ≡ r → recovery other_base other_parts other_log ≡ r
 same_recovery base other_base parts other_parts log other_log r a b c is = rw (← a, ← b, ← c) is
 
+-- the same log lacks the same
+pub same_lacks : (is_there other_is_there : Bool) (log other_log : List ℕ) (found : Recovery) (lacks : Lacks) → is_there ≡ other_is_there → log ≡ other_log → lacks ≡ lacks_of is_there log found → lacks ≡ lacks_of other_is_there other_log found
+same_lacks is_there other_is_there log other_log found lacks a b is = rw (← a, ← b) is
+
 -- where it isn't the output that failed, nothing went out
 pub nothing_out : {R T : Type 0} (remaining : R → Option (List ℕ)) (contents : T → Option (List ℕ)) (folder : Folder R) (out : Tally T) (cause : Lost) → cause ≢ lost.Output → GoesOutUnrecovered remaining contents folder out out cause
 nothing_out remaining contents folder out (lost.Base why) other = refl
 nothing_out remaining contents folder out (lost.Part name why) other = refl
 nothing_out remaining contents folder out (lost.Log why) other = refl
 nothing_out remaining contents folder out (lost.Folder why) other = refl
+nothing_out remaining contents folder out lost.Damaged other = refl
 nothing_out remaining contents folder out lost.Output other = absurd (other refl)

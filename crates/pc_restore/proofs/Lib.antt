@@ -1,3 +1,4 @@
 mod FolderBases
 mod FolderParts
 mod FolderRecovery
+mod TokenSearch

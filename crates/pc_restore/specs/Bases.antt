@@ -1,5 +1,5 @@
 -- A base for a run that goes on from a folder: what it is, what is told of what the folder lacks, and why there may be none.
-use Rattle.std.specs.Prelude.{◌≡◌, ◌≢◌, ◌⊎◌, ◌+◌, ◌≤◌, ◌<◌, ◌^◌, ℕ, List, Option, Result, Ok}
+use Rattle.std.specs.Prelude.{◌≡◌, ◌≢◌, ◌⊎◌, ◌+◌, ◌≤◌, ◌<◌, ◌^◌, ℕ, Bool, true, false, List, Option, Result, Ok, is_ok}
 use Rattle.pc_types.specs.declared.limits.TheConstants.{MOST_FILE_ENTRIES}
 use Rattle.pc_types.specs.declared.refusal.Refusal.{Refusal}
 use Rattle.pc_types.specs.declared.refusal.Refusal.TheVariants.{Full}
@@ -11,6 +11,7 @@ use Rattle.pc_recover.specs.Recovery.{IsOfRun, Recovery, recovery}
 use Rattle.pc_restore.specs.declared.recovery.Folder.{Folder}
 use Rattle.pc_restore.specs.declared.recovery.Lost.{Lost}
 use Rattle.pc_restore.specs.declared.recovery.Lost.TheVariants as lost
+use Rattle.pc_restore.specs.Lacks.{is_damaged, lacks_of, refuses}
 use Rattle.pc_restore.specs.Reports.{damage_text}
 use Rattle.pc_restore.specs.Recoveries.{AreAllOpened, HoldsAll, IsLost}
 
@@ -28,12 +29,12 @@ abbrev pub TellsDamage : {T : Type 0} → (T → Option (List ℕ)) → Tally T 
 TellsDamage contents old new names found = (told : Result (Unit {0}) Refusal) × Puts contents old new told (damage_text names found)
 
 -- The base was made of a folder of which every file was opened, and stands at point 0. Where the files' bytes are known it is what
--- they are worth, as the next run's base, and what is damaged was told.
-pub record IsBaseMade {R T : Type 0} (remaining : R → Option (List ℕ)) (contents : T → Option (List ℕ)) (folder : Folder R) (old new : Tally T) (made : BaseFile) : Type 0 where
+-- they are worth, as the next run's base; they aren't damaged, or damage is accepted; and what is damaged was told.
+pub record IsBaseMade {R T : Type 0} (remaining : R → Option (List ℕ)) (contents : T → Option (List ℕ)) (folder : Folder R) (accepts_damage : Bool) (old new : Tally T) (made : BaseFile) : Type 0 where
   pub opened : AreAllOpened folder
   pub start : made.point ≡ 0
   pub worth : (base : List ℕ) (names parts : List (List ℕ)) (log : List ℕ) → HoldsAll remaining folder base names parts log →
-      (run : ℕ) × (found : Recovery) × AreBytesWorth base parts log run found × (made ≡ next_base run found) × TellsDamage contents old new names found
+      (run : ℕ) × (found : Recovery) × AreBytesWorth base parts log run found × (made ≡ next_base run found) × (refuses accepts_damage (lacks_of (is_ok folder.log) log found) ≡ false) × TellsDamage contents old new names found
 
 -- the next run's number, or the count of the pairs, is more than a base may have
 abbrev pub HasNoNext : ℕ → Recovery → Type 0
@@ -44,6 +45,16 @@ abbrev pub IsPastLimits : {R : Type 0} → (R → Option (List ℕ)) → Folder 
 IsPastLimits remaining folder = (base : List ℕ) (names parts : List (List ℕ)) (log : List ℕ) → HoldsAll remaining folder base names parts log →
     (run : ℕ) × (found : Recovery) × AreBytesWorth base parts log run found × HasNoNext run found
 
--- why no base is made of a folder: nothing is recovered, or there is no base of it
-abbrev pub IsBaseUnmade : {R : Type 0} → (R → Option (List ℕ)) → Folder R → Lost → Type 0
-IsBaseUnmade remaining folder cause = (IsLost remaining folder cause × (cause ≢ lost.Output)) ⊎ ((cause ≡ lost.Folder Full) × AreAllOpened folder × IsPastLimits remaining folder)
+-- Every file of the folder was opened, and damage is not accepted. Where the files' bytes are known there would be a base of what
+-- they are worth, but they are damaged, which was told.
+pub record IsRefusedAsDamaged {R T : Type 0} (remaining : R → Option (List ℕ)) (contents : T → Option (List ℕ)) (folder : Folder R) (accepts_damage : Bool) (old new : Tally T) : Type 0 where
+  pub opened : AreAllOpened folder
+  pub unaccepted : accepts_damage ≡ false
+  pub worth : (base : List ℕ) (names parts : List (List ℕ)) (log : List ℕ) → HoldsAll remaining folder base names parts log →
+      (run : ℕ) × (found : Recovery) × AreBytesWorth base parts log run found × ¬ HasNoNext run found × (is_damaged (lacks_of (is_ok folder.log) log found) ≡ true) × TellsDamage contents old new names found
+
+-- Why no base is made of a folder: nothing is recovered, or there is no base of it, and nothing was told; or it is damaged.
+abbrev pub IsBaseUnmade : {R T : Type 0} → (R → Option (List ℕ)) → (T → Option (List ℕ)) → Folder R → Bool → Tally T → Tally T → Lost → Type 0
+IsBaseUnmade remaining contents folder accepts_damage old new cause =
+    ((new ≡ old) × ((IsLost remaining folder cause × (cause ≢ lost.Output)) ⊎ ((cause ≡ lost.Folder Full) × AreAllOpened folder × IsPastLimits remaining folder)))
+    ⊎ ((cause ≡ lost.Damaged) × IsRefusedAsDamaged remaining contents folder accepts_damage old new)

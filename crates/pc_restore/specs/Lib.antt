@@ -1,3 +1,4 @@
 pub mod Bases
+pub mod Lacks
 pub mod Recoveries
 pub mod Reports

@@ -1,12 +1,12 @@
 -- A recovery of a folder: what its files hold, what it prints, and why it may fail.
-use Rattle.std.specs.Prelude.{◌≡◌, ◌≢◌, ◌⊎◌, ℕ, List, [], ◌∷◌, ◌++◌, Option, Some, map, codes, Ok, Err, IsOk, IfErr, ⊤}
+use Rattle.std.specs.Prelude.{◌≡◌, ◌≢◌, ◌⊎◌, ℕ, List, [], ◌∷◌, ◌++◌, Option, Some, map, codes, Ok, Err, is_ok, IsOk, IfErr, ⊤}
 use Rattle.std.specs.declared.result.Result.{Result}
 use Rattle.std.specs.Global.{Vec}
 use Rattle.std.specs.Io.KnownBytes.{Appends}
 use Rattle.pc_types.specs.declared.refusal.Refusal.{Refusal}
 use Rattle.pc_types.specs.declared.refusal.Refusal.TheVariants.{OutOfMemory, NoFile}
 use Rattle.pc_types.specs.Counted.{HasRisen, AppendsBeginning}
-use Rattle.pc_types.specs.Tallies.{inner_of, failures_of}
+use Rattle.pc_types.specs.Tallies.{Puts, inner_of, failures_of}
 use Rattle.pc_types.specs.declared.tally.Tally.{Tally}
 use Rattle.pc_recover.specs.Recovery.{Recovery, recovery}
 use Rattle.pc_restore.specs.declared.recovery.Folder.{Folder}
@@ -14,6 +14,8 @@ use Rattle.pc_texts.specs.declared.files.NamedFile.{NamedFile}
 use Rattle.pc_restore.specs.declared.recovery.PartBytes.{PartBytes}
 use Rattle.pc_restore.specs.declared.recovery.Lost.{Lost}
 use Rattle.pc_restore.specs.declared.recovery.Lost.TheVariants as lost
+use Rattle.pc_restore.specs.declared.lacks.Lacks.{Lacks}
+use Rattle.pc_restore.specs.Lacks.{lacks_of}
 use Rattle.pc_restore.specs.Reports.{recovery_text}
 use Rattle.pc_texts.specs.Files.{IsScriptFault, HoldsBytes, AreOpened, TellsOf}
 
@@ -88,18 +90,24 @@ IsRecoveryRefused remaining folder why =
 
 -- Why nothing was recovered. The files are read in order, and a fault is told only where all before it were opened: first the
 -- base can't be had; then the parts can't be listed, or one of them can't be had; then the log; then the rules refuse what all of
--- them hold; and last the output fails.
+-- them hold; and last the output fails. That the folder is damaged keeps nothing from being recovered.
 abbrev pub IsLost : {R : Type 0} → (R → Option (List ℕ)) → Folder R → Lost → Type 0
 IsLost remaining folder (lost.Base why) = IsScriptFault folder.base why
 IsLost remaining folder (lost.Part name why) = IsOk folder.base × IsListLost folder.parts (lost.Part name why)
 IsLost remaining folder (lost.Log why) = IsOk folder.base × ArePartsOpened folder.parts × IsLogFault folder.log why
 IsLost remaining folder (lost.Folder why) = (IsOk folder.base × IsListLost folder.parts (lost.Folder why)) ⊎ (AreAllOpened folder × IsRecoveryRefused remaining folder why)
 IsLost remaining folder lost.Output = AreAllOpened folder
+IsLost remaining folder lost.Damaged = ⊥
 
 -- what is recovered of the folder was printed: all of it went out; said where the files' bytes are known
 abbrev pub PrintsAll : {R T : Type 0} → (R → Option (List ℕ)) → (T → Option (List ℕ)) → Folder R → Tally T → Tally T → Type 0
 PrintsAll remaining contents folder old new = (base : List ℕ) (names parts : List (List ℕ)) (log : List ℕ) → HoldsAll remaining folder base names parts log →
     (found : Recovery) × (recovery base parts log ≡ Ok found) × Appends (contents (inner_of old)) (contents (inner_of new)) (recovery_text names found)
+
+-- it is what a recovery of the folder does without; said where the files' bytes are known
+abbrev pub IsLacking : {R : Type 0} → (R → Option (List ℕ)) → Folder R → Lacks → Type 0
+IsLacking remaining folder lacks = (base : List ℕ) (names parts : List (List ℕ)) (log : List ℕ) → HoldsAll remaining folder base names parts log →
+    (found : Recovery) × (recovery base parts log ≡ Ok found) × (lacks ≡ lacks_of (is_ok folder.log) log found)
 
 -- a beginning of what is printed of what is recovered went out, and nothing else; said where the files' bytes are known
 abbrev pub PrintsInPart : {R T : Type 0} → (R → Option (List ℕ)) → (T → Option (List ℕ)) → Folder R → Tally T → Tally T → Type 0
@@ -111,6 +119,14 @@ abbrev pub GoesOutUnrecovered : {R T : Type 0} → (R → Option (List ℕ)) →
 GoesOutUnrecovered remaining contents folder old new lost.Output = HasRisen (failures_of old) (failures_of new) × PrintsInPart remaining contents folder old new
 GoesOutUnrecovered remaining contents folder old new other = new ≡ old
 
+-- the line that tells of a reason by a name
+abbrev pub reason_text : List ℕ → List ℕ → List ℕ
+reason_text name reason = codes "pcalc: " ++ (name ++ (codes ": " ++ (reason ++ codes "\n")))
+
+-- it is told, as far as the writer takes it
+abbrev pub TellsReason : {T : Type 0} → (T → Option (List ℕ)) → Tally T → Tally T → List ℕ → List ℕ → Type 0
+TellsReason contents old new name reason = (told : Result (Unit {0}) Refusal) × Puts contents old new told (reason_text name reason)
+
 -- what is told on the error writer, where the folder has this name: the name of the file or the folder, and the reason; of a
 -- fault of the output nothing
 abbrev pub IsRecoveryTold : {T : Type 0} → (T → Option (List ℕ)) → Tally T → Tally T → List ℕ → Lost → Type 0
@@ -118,4 +134,5 @@ IsRecoveryTold contents old new dir (lost.Base why) = TellsOf contents old new (
 IsRecoveryTold contents old new dir (lost.Part name why) = TellsOf contents old new name.items why
 IsRecoveryTold contents old new dir (lost.Log why) = TellsOf contents old new (codes "log.pcl") why
 IsRecoveryTold contents old new dir (lost.Folder why) = TellsOf contents old new dir why
+IsRecoveryTold contents old new dir lost.Damaged = TellsReason contents old new dir (codes "Damaged")
 IsRecoveryTold contents old new dir lost.Output = new ≡ old

@@ -4,7 +4,9 @@ ghost use Rattle.pc_types.specs.declared.limits.TheConstants.{MOST_FILE_ENTRIES}
 ghost use Rattle.pc_model.specs.Database.{KeysRise, database_of};
 ghost use Rattle.pc_part.specs.Bases.{IsWithinLimit};
 ghost use Rattle.pc_restore.specs.Bases.{IsBaseMade, IsBaseUnmade};
+ghost use Rattle.pc_restore.specs.Lacks.{refuses};
 
+use crate::lacks::Lacks;
 use crate::recovery::{Folder, Lost, Worth, recover_read};
 use crate::reports::put_damage;
 use pc_part::Base;
@@ -20,28 +22,44 @@ use std::io::{Read, Write};
 ///
 /// Where nothing is recovered nothing is told, and it is said why. Nor is there a base where the folder's run has the number
 /// 2^64 - 1, behind which there is none, or the pairs are more than the 4,294,967,295 that a base may have: then the folder is
-/// refused with `Full`.
+/// refused with `Full`. Where there would be a base, damage is not accepted, and the files lack more than what a process that is
+/// killed leaves (`Lacks::is_damaged`), that is told, and the folder is refused as damaged.
 pub fn recover_base<R: Read + Drop, E: Write>(
     alloc: Global,
     folder: Folder<R>,
+    accepts_damage: bool,
     errors: &mut Tally<E>,
 ) -> Result<Base, Lost>
-    ensures made { IfOk result (IsBaseMade R.remaining E.contents folder errors.old errors.new) }
-    ensures cause { IfErr result (λ lost. IsBaseUnmade R.remaining folder lost × (errors.new ≡ errors.old)) }
+    ensures made { IfOk result (IsBaseMade R.remaining E.contents folder accepts_damage errors.old errors.new) }
+    ensures cause { IfErr result (IsBaseUnmade R.remaining E.contents folder accepts_damage errors.old errors.new) }
 {
-    let Worth { parts, recovered } = recover_read(alloc, folder)?;
+    let Worth {
+        parts,
+        recovered,
+        lacks,
+    } = recover_read(alloc, folder)?;
     match next_run(&recovered) {
         Some(run) => {
             let _ = put_damage(errors, &parts, &recovered);
+            if refuses(accepts_damage, &lacks) {
+                return Err(Lost::Damaged);
+            }
             Ok(start(run, recovered))
         }
         None => Err(Lost::Folder(Refusal::Full)),
     }
 }
 
+// Whether no run starts from a folder that lacks this.
+fn refuses(accepts_damage: bool, lacks: &Lacks) -> bool
+    ensures { result ≡ refuses accepts_damage lacks.now }
+{
+    !accepts_damage && lacks.is_damaged()
+}
+
 // The number of the run behind the one of which something was recovered; none where it has none, or a base can't have the pairs.
 fn next_run(recovered: &Recovered) -> Option<u64>
-    ensures next { IfSome result (λ run. (run ≡ recovered.now.run + 1) × IsWithinLimit recovered.now.pairs.items) }
+    ensures next { IfSome result (λ run. (run ≡ recovered.now.run + 1) × (run < 2 ^ 64) × IsWithinLimit recovered.now.pairs.items) }
     ensures none { result ≡ None → (2 ^ 64 ≤ recovered.now.run + 1) ⊎ (MOST_FILE_ENTRIES < length recovered.now.pairs.items) }
 {
     if recovered.pairs.len() > MOST_FILE_ENTRIES {

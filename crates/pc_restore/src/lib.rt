@@ -2,8 +2,10 @@
 #![tactic(auto)]
 
 mod bases;
+mod lacks;
 mod recovery;
 mod reports;
 
 pub use bases::recover_base;
-pub use recovery::{Folder, Lost, run_recover, tell_lost};
+pub use lacks::{Lacks, LogHeader};
+pub use recovery::{EndedRecovery, Folder, Lost, run_recover, tell_lost, tell_reason};

@@ -1,16 +1,18 @@
-//! A recovery of a folder, from its readers to the status.
-ghost use Rattle.std.specs.Prelude.{◌≡◌, ◌≢◌, ◌⊎◌, ◌++◌, [], ◌∷◌, ℕ, List, map, IsOk, IfOk, IfErr, OnOk};
+//! A recovery of a folder, from its readers to how it has ended.
+ghost use Rattle.std.specs.Prelude.{◌≡◌, ◌≢◌, ◌⊎◌, ◌++◌, [], ◌∷◌, ℕ, List, Some, map, is_ok, IsOk, IfOk, IfErr, IfSome, OnOk};
 ghost use Rattle.std.specs.declared.result.Result.{Result};
 ghost use Rattle.std.specs.Io.KnownBytes.{Keeps};
 ghost use Rattle.pc_types.specs.declared.refusal.Refusal.{Refusal};
-ghost use Rattle.pc_types.specs.Tallies.{inner_of, failures_of};
+ghost use Rattle.pc_types.specs.Tallies.{Puts, inner_of, failures_of};
 ghost use Rattle.pc_types.specs.Fields.{Gives};
 ghost use Rattle.pc_model.specs.Database.{KeysRise};
 ghost use Rattle.pc_recover.specs.Recovery.{IsOfRun, recovery, recovery_of};
 ghost use Rattle.pc_restore.specs.declared.recovery.Lost.{Lost};
+ghost use Rattle.pc_restore.specs.Lacks.{lacks_of, status_of};
 ghost use Rattle.pc_texts.specs.Files.{IsScriptFault, HoldsBytes, AreOpened};
-ghost use Rattle.pc_restore.specs.Recoveries.{AreAllOpened, ArePartsOpened, GoesOutUnrecovered, HoldsLog, HoldEach, HoldParts, HoldsAll, IsEachLost, IsListLost, IsLogFault, IsLogOpened, IsLost, IsRecoveryTold, PrintsAll, bytes_of, names_of};
+ghost use Rattle.pc_restore.specs.Recoveries.{AreAllOpened, ArePartsOpened, GoesOutUnrecovered, HoldsLog, HoldEach, HoldParts, HoldsAll, IsEachLost, IsLacking, IsListLost, IsLogFault, IsLogOpened, IsLost, IsRecoveryTold, PrintsAll, bytes_of, names_of, reason_text};
 
+use crate::lacks::{Lacks, lacks_of};
 use crate::reports::put_recovered;
 use pc_recover::{Recovered, recover};
 use pc_texts::{NamedFile, end_output, read_opened, report};
@@ -39,6 +41,7 @@ pub(crate) struct PartBytes {
 struct FolderBytes {
     base: Vec<u8>,
     parts: Vec<PartBytes>,
+    is_logged: bool,
     log: Vec<u8>,
 }
 
@@ -53,34 +56,70 @@ pub enum Lost {
     Log(Refusal),
     /// The folder can't be listed, or its files are refused.
     Folder(Refusal),
+    /// The folder is damaged, which is not accepted.
+    Damaged,
     /// The output failed.
     Output,
 }
 
+/// How a recovery has ended.
+#[derive(Drop)]
+pub struct EndedRecovery {
+    pub status: u8,
+    /// What it did without, where all of it went out.
+    pub lacks: Option<Lacks>,
+}
+
+// The status of a strict recovery that did without something.
+const LACKING: u8 = 4;
+
 /// Recovers what a folder's files are worth and prints it: the point, how many whole entries the log has, the fault of its
-/// rest where it was not only cut off, a line for each part that was skipped, and the pairs. It gives the status 0 where all
-/// of that went out, else 1: a file can't be opened or read, the folder can't be listed, its files are refused, or memory ran
-/// out, which a line on the error writer tells; or the output failed, of which nothing is told there.
+/// rest where it was not only cut off, a line for each part that was skipped, and the pairs. Where all of that went out it tells
+/// what was lacking, and gives the status 0, or 4 where it is strict and the folder isn't whole. Else the status is 1: a file can't
+/// be opened or read, the folder can't be listed, its files are refused, or memory ran out, which a line on the error writer
+/// tells; or the output failed, of which nothing is told there.
 pub fn run_recover<R: Read + Drop, W: Write, E: Write>(
     alloc: Global,
     dir: &str,
     folder: Folder<R>,
+    is_strict: bool,
     out: &mut Tally<W>,
     errors: &mut Tally<E>,
-) -> u8
-    ensures status { (result ≡ 0) ⊎ (result ≡ 1) }
-    ensures recovered { result ≡ 0 → PrintsAll R.remaining W.contents folder out.old out.new }
-    ensures sound { result ≡ 0 → failures_of out.new ≡ failures_of out.old }
-    ensures quiet { result ≡ 0 → Keeps (E.contents (inner_of errors.old)) (E.contents (inner_of errors.new)) }
-    ensures cause { result ≡ 1 → (lost : Lost) × IsLost R.remaining folder lost × GoesOutUnrecovered R.remaining W.contents folder out.old out.new lost
+) -> EndedRecovery
+    ensures status { result.status ≡ status_of is_strict result.lacks }
+    ensures lacks { IfSome result.lacks (IsLacking R.remaining folder) }
+    ensures statuses { (result.status ≡ 0) ⊎ (result.status ≡ 1) ⊎ (result.status ≡ 4) }
+    ensures recovered { ¬ (result.status ≡ 1) → PrintsAll R.remaining W.contents folder out.old out.new }
+    ensures sound { ¬ (result.status ≡ 1) → failures_of out.new ≡ failures_of out.old }
+    ensures quiet { ¬ (result.status ≡ 1) → Keeps (E.contents (inner_of errors.old)) (E.contents (inner_of errors.new)) }
+    ensures cause { result.status ≡ 1 → (lost : Lost) × IsLost R.remaining folder lost × GoesOutUnrecovered R.remaining W.contents folder out.old out.new lost
         × IsRecoveryTold E.contents errors.old errors.new dir.now lost }
 {
     match recover_folder(alloc, folder, out) {
-        Ok(()) => 0,
+        Ok(lacks) => {
+            let status = status_of(is_strict, &lacks);
+            let lacks = Some(lacks);
+            EndedRecovery { status, lacks }
+        }
         Err(lost) => {
             tell_lost(dir.as_bytes(), &lost, errors);
-            1
+            EndedRecovery {
+                status: 1,
+                lacks: None,
+            }
         }
+    }
+}
+
+// The status of a recovery that did without this, where all of it went out.
+fn status_of(is_strict: bool, lacks: &Lacks) -> u8
+    ensures given { result ≡ status_of is_strict (Some lacks.now) }
+    ensures statuses { (result ≡ 0) ⊎ (result ≡ 4) }
+{
+    if is_strict && !lacks.is_whole() {
+        LACKING
+    } else {
+        0
     }
 }
 
@@ -88,31 +127,38 @@ fn recover_folder<R: Read + Drop, W: Write>(
     alloc: Global,
     folder: Folder<R>,
     out: &mut Tally<W>,
-) -> Result<(), Lost>
+) -> Result<Lacks, Lost>
+    ensures lacks { IfOk result (IsLacking R.remaining folder) }
     ensures recovered { OnOk result (PrintsAll R.remaining W.contents folder out.old out.new) }
     ensures sound { OnOk result (failures_of out.new ≡ failures_of out.old) }
     ensures cause { IfErr result (IsLost R.remaining folder) }
     ensures goes_out { IfErr result (GoesOutUnrecovered R.remaining W.contents folder out.old out.new) }
 {
-    let Worth { parts, recovered } = recover_read(alloc, folder)?;
+    let Worth {
+        parts,
+        recovered,
+        lacks,
+    } = recover_read(alloc, folder)?;
     let put = put_recovered(out, &parts, &recovered);
     match end_output(put, out) {
-        Ok(()) => Ok(()),
+        Ok(()) => Ok(lacks),
         Err(_) => Err(Lost::Output),
     }
 }
 
-/// The part files of a folder that were read, and what all of its files are worth.
+/// The part files of a folder that were read, what all of its files are worth, and what that lacks.
 #[derive(Drop)]
 pub(crate) struct Worth {
     pub(crate) parts: Vec<PartBytes>,
     pub(crate) recovered: Recovered,
+    pub(crate) lacks: Lacks,
 }
 
 /// Reads all files of the folder, and recovers what they are worth.
 pub(crate) fn recover_read<R: Read + Drop>(alloc: Global, folder: Folder<R>) -> Result<Worth, Lost>
     ensures worth { (base : List ℕ) (names parts : List (List ℕ)) (log : List ℕ) → HoldsAll R.remaining folder base names parts log → IfOk result (λ worth.
-        (names_of worth.parts.items ≡ names) × (recovery base parts log ≡ Ok (recovery_of worth.recovered)) × IsOfRun base worth.recovered.run) }
+        (names_of worth.parts.items ≡ names) × (recovery base parts log ≡ Ok (recovery_of worth.recovered)) × IsOfRun base worth.recovered.run
+        × (worth.lacks ≡ lacks_of (is_ok folder.log) log (recovery_of worth.recovered))) }
     ensures rise { IfOk result (λ worth. KeysRise worth.recovered.pairs.items) }
     ensures opened { OnOk result (AreAllOpened folder) }
     ensures cause { IfErr result (λ lost. IsLost R.remaining folder lost × (lost ≢ Lost.Output)) }
@@ -122,12 +168,21 @@ pub(crate) fn recover_read<R: Read + Drop>(alloc: Global, folder: Folder<R>) -> 
         Ok(recovered) => recovered,
         Err(why) => return Err(Lost::Folder(why)),
     };
+    let lacks = match lacks_of(alloc, files.is_logged, &files.log, &recovered) {
+        Ok(lacks) => lacks,
+        Err(_) => return Err(Lost::Folder(Refusal::OutOfMemory)),
+    };
     let FolderBytes {
         base: _,
         parts,
+        is_logged: _,
         log: _,
     } = files;
-    Ok(Worth { parts, recovered })
+    Ok(Worth {
+        parts,
+        recovered,
+        lacks,
+    })
 }
 
 /// Writes the line that tells why nothing is recovered of the folder of this name: by the name of the file or the folder. Of a
@@ -140,8 +195,21 @@ pub fn tell_lost<E: Write>(dir: &[u8], lost: &Lost, errors: &mut Tally<E>)
         Lost::Part(name, why) => report(name, *why, errors),
         Lost::Log(why) => report(b"log.pcl", *why, errors),
         Lost::Folder(why) => report(dir, *why, errors),
+        Lost::Damaged => tell_reason(dir, b"Damaged", errors),
         Lost::Output => Ok(()),
     };
+}
+
+/// Writes the line that tells of a reason that is no refusal, by the name of a file or a folder. `Device` is answered exactly where
+/// the device failed in this call.
+pub fn tell_reason<E: Write>(
+    name: &[u8],
+    reason: &[u8],
+    errors: &mut Tally<E>,
+) -> Result<(), Refusal>
+    ensures { Puts E.contents errors.old errors.new result (reason_text name.now reason.now) }
+{
+    errors.put_all(&[b"pcalc: ", name, b": ", reason, b"\n"])
 }
 
 fn recover_files(alloc: Global, files: &FolderBytes) -> Result<Recovered, Refusal>
@@ -168,10 +236,12 @@ fn slices_of<'a>(alloc: Global, parts: &'a [PartBytes]) -> Result<Vec<&'a [u8]>,
 fn read_folder<R: Read + Drop>(alloc: Global, folder: Folder<R>) -> Result<FolderBytes, Lost>
     ensures held { (base : List ℕ) (names parts : List (List ℕ)) (log : List ℕ) → HoldsAll R.remaining folder base names parts log → IfOk result (λ files.
         (files.base.items ≡ base) × (names_of files.parts.items ≡ names) × (bytes_of files.parts.items ≡ parts) × (files.log.items ≡ log)) }
+    ensures logged { IfOk result (λ files. files.is_logged ≡ is_ok folder.log) }
     ensures opened { OnOk result (AreAllOpened folder) }
     ensures cause { IfErr result (λ lost. IsLost R.remaining folder lost × (lost ≢ Lost.Output)) }
 {
     let Folder { base, parts, log } = folder;
+    let is_logged = log.is_ok();
     let base = match read_opened(alloc, base) {
         Ok(base) => base,
         Err(why) => return Err(Lost::Base(why)),
@@ -181,7 +251,12 @@ fn read_folder<R: Read + Drop>(alloc: Global, folder: Folder<R>) -> Result<Folde
         Ok(log) => log,
         Err(why) => return Err(Lost::Log(why)),
     };
-    Ok(FolderBytes { base, parts, log })
+    Ok(FolderBytes {
+        base,
+        parts,
+        is_logged,
+        log,
+    })
 }
 
 // The log's bytes, none where it isn't there.

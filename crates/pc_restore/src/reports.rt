@@ -86,7 +86,8 @@ fn put_log<W: Write>(out: &mut Tally<W>, fault: Option<Refusal>) -> Result<(), R
     }
 }
 
-fn is_cut(fault: Refusal) -> bool
+/// Whether a log with this fault of its rest was only cut off.
+pub(crate) fn is_cut(fault: Refusal) -> bool
     ensures { result ≡ is_cut fault }
 {
     match fault {

@@ -30,6 +30,11 @@ returns-in-Ok-clause-recovered g c = λ base names parts log holds.
           (whole_printed g.W.Write.contents c.args.out.now c.put_recovered-put.new.out c.end_output.new.out (recovery_text (names_of c.deref.result.now) found) c.put_recovered-put.result c.put_recovered-put.ensures c.in-Ok.ensures.stays c.in-Ok.ensures.printed).0,
     )
 
+pub returns-in-Ok-clause-lacks : goal.returns-in-Ok-clause-lacks
+returns-in-Ok-clause-lacks g c = λ base names parts log holds.
+    let worth = c.in_ok-parts.ensures.worth base names parts log holds in
+    (recovery_of c.in_ok-parts.field-0.recovered, worth.1, worth.3)
+
 pub returns-in-Ok-clause-sound : goal.returns-in-Ok-clause-sound
 returns-in-Ok-clause-sound g c =
     (whole_printed g.W.Write.contents c.args.out.now c.put_recovered-put.new.out c.end_output.new.out _ c.put_recovered-put.result c.put_recovered-put.ensures c.in-Ok.ensures.stays c.in-Ok.ensures.printed).1

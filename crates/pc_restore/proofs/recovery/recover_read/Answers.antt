@@ -1,6 +1,6 @@
-use Rattle.std.proofs.Common.{inl, inr, subst}
-use Rattle.pc_recover.specs.Recovery.{IsOfRun}
-use Rattle.pc_restore.proofs.FolderRecovery.{memory_or, same_recovery}
+use Rattle.std.proofs.Common.{inl, inr, subst, ◌∙◌}
+use Rattle.pc_recover.specs.Recovery.{IsOfRun, recovery_of}
+use Rattle.pc_restore.proofs.FolderRecovery.{memory_or, same_lacks, same_recovery}
 use Rattle.pc_restore.proofs.recovery.recover_read.Goals as goal
 
 pub returns-in-Err-clause-cause : goal.returns-in-Err-clause-cause
@@ -23,4 +23,5 @@ returns-clause-worth g c base names parts log holds =
       held.1,
       same_recovery _ _ _ _ _ _ _ held.0 held.2 held.3 c.in-Ok.ensures.rules,
       subst (λ bytes. IsOfRun bytes c.in-Ok.recovered.run) held.0 c.in-Ok.ensures.run,
+      same_lacks _ _ _ _ (recovery_of c.in-Ok.recovered) _ c.in_ok-files.ensures.logged (c.deref.ensures.value ∙ held.3) c.in-Ok-lacks_of.ensures,
     )

@@ -1,0 +1,69 @@
+-- What a recovery did without, and whether its folder is whole or damaged.
+use Rattle.std.specs.Prelude.{ℕ, ◌==◌, Bool, true, false, not, ◌&&◌, ◌||◌, is_some, if◌then◌else◌, List, [], length, Option, Some, None, Result, Ok, Err}
+use Rattle.pc_types.specs.declared.Entry.{Entry}
+use Rattle.pc_types.specs.declared.refusal.Refusal.{Refusal}
+use Rattle.pc_model.specs.Log.{has_token}
+use Rattle.pc_log.specs.Reading.{LogRead, log_at}
+use Rattle.pc_recover.specs.Recovery.{Recovery}
+use Rattle.pc_restore.specs.declared.lacks.Lacks.{Lacks}
+use Rattle.pc_restore.specs.declared.lacks.LogHeader.{LogHeader}
+use Rattle.pc_restore.specs.declared.lacks.LogHeader.TheVariants.{Missing, Cut, Whole}
+use Rattle.pc_restore.specs.Reports.{is_cut}
+
+-- ---- what there is of the log
+
+-- what is there of the log's header, where the log is there or not, and this is read of its bytes
+abbrev pub header_of : Bool → Result LogRead Refusal → LogHeader
+header_of false read = Missing
+header_of true (Err why) = Cut
+header_of true (Ok log) = Whole
+
+-- the whole entries that are read of a log's bytes
+abbrev pub entries_of : Result LogRead Refusal → List Entry
+entries_of (Err why) = []
+entries_of (Ok log) = log.entries
+
+-- how many of so many entries are not used at a recovered point: all, where it isn't 0 and its token isn't one of them
+abbrev pub unused_of : ℕ → ℕ → List Entry → ℕ
+unused_of point count entries = if point == 0 then 0 else if has_token point entries then 0 else count
+
+-- what a recovery that found this did without, where the log is there or not, and has these bytes
+abbrev pub lacks_of : Bool → List ℕ → Recovery → Lacks
+lacks_of is_there log found = record {
+  header = header_of is_there (log_at log);
+  fault = found.fault;
+  unused = unused_of found.point found.entries (entries_of (log_at log));
+  skipped = length found.skipped;
+}
+
+-- ---- how much that is
+
+-- the header is whole
+abbrev pub is_there : LogHeader → Bool
+is_there Whole = true
+is_there other = false
+
+-- a log's rest has a fault, and was not only cut off
+abbrev pub is_bad : Option Refusal → Bool
+is_bad None = false
+is_bad (Some fault) = not (is_cut fault)
+
+-- nothing is lacking: the log has its header, its rest has no fault, all entries are used, and no part was skipped
+abbrev pub is_whole : Lacks → Bool
+is_whole lacks = is_there lacks.header && not (is_some lacks.fault) && (lacks.unused == 0) && (lacks.skipped == 0)
+
+-- More is lacking than what a process that is killed leaves: the log has no whole header, its rest was not only cut off, or a part
+-- was skipped. A killed process leaves a log that is cut off, maybe before the token of a point whose file is there.
+abbrev pub is_damaged : Lacks → Bool
+is_damaged lacks = not (is_there lacks.header) || is_bad lacks.fault || not (lacks.skipped == 0)
+
+-- ---- what comes of it
+
+-- the status of a recovery: 1 where not all went out; else 0, or 4 where it is strict and something is lacking
+abbrev pub status_of : Bool → Option Lacks → ℕ
+status_of is_strict None = 1
+status_of is_strict (Some lacks) = if is_strict && not (is_whole lacks) then 4 else 0
+
+-- a run doesn't start from a folder that lacks this
+abbrev pub refuses : Bool → Lacks → Bool
+refuses accepts_damage lacks = not accepts_damage && is_damaged lacks

@@ -1,0 +1,179 @@
+//! What a recovery did without, and whether its folder is whole or damaged.
+ghost use Rattle.std.specs.Prelude.{◌≡◌, false, length, IfOk, IsErr};
+ghost use Rattle.pc_model.specs.Log.{has_token};
+ghost use Rattle.pc_log.specs.Orders.{no_token};
+ghost use Rattle.pc_log.specs.Reading.{all_at, log_at};
+ghost use Rattle.pc_recover.specs.Recovery.{recovery_of};
+ghost use Rattle.pc_recover.specs.Replaying.{is_point_token};
+ghost use Rattle.pc_restore.specs.Lacks.{entries_of, header_of, is_bad, is_damaged, is_there, is_whole, lacks_of, unused_of};
+
+use crate::reports::is_cut;
+use pc_log::{LastToken, read_entry, read_header};
+use pc_recover::Recovered;
+use pc_types::{Entry, Format, Phase, Point, Refusal};
+use std::alloc::{AllocError, Global};
+
+/// What is there of the header with which a log begins.
+#[derive(Clone, Copy)]
+pub enum LogHeader {
+    /// The log isn't there.
+    Missing,
+    /// The log ends inside its header, or is empty.
+    Cut,
+    /// The header is whole.
+    Whole,
+}
+
+/// What a recovery did without.
+#[derive(Clone, Copy)]
+pub struct Lacks {
+    /// What is there of the log's header.
+    pub header: LogHeader,
+    /// The fault of the bytes behind the log's whole entries, where there are any: `Short` where the last entry is cut off. A log
+    /// without a whole header has none.
+    pub fault: Option<Refusal>,
+    /// How many whole entries of the log were not used, since it ends before the token of the recovered point: all or, where the
+    /// token is there or the point is 0, none.
+    pub unused: usize,
+    /// How many parts were skipped.
+    pub skipped: usize,
+}
+
+impl Lacks {
+    /// Whether nothing is lacking: the log has its header, its rest has no fault, all of its whole entries were used, and no part
+    /// was skipped.
+    pub fn is_whole(&self) -> bool
+        ensures { result ≡ is_whole self.now }
+    {
+        is_there(self.header) && self.fault.is_none() && self.unused == 0 && self.skipped == 0
+    }
+
+    /// Whether more is lacking than what a process that is killed leaves: the log isn't there or has no whole header, its rest has
+    /// a fault other than `Short`, or a part was skipped.
+    pub fn is_damaged(&self) -> bool
+        ensures { result ≡ is_damaged self.now }
+    {
+        !is_there(self.header) || is_bad(self.fault) || self.skipped != 0
+    }
+}
+
+fn is_there(header: LogHeader) -> bool
+    ensures { result ≡ is_there header }
+{
+    match header {
+        LogHeader::Whole => true,
+        _ => false,
+    }
+}
+
+// Whether a log's rest has a fault, and was not only cut off.
+fn is_bad(fault: Option<Refusal>) -> bool
+    ensures { result ≡ is_bad fault }
+{
+    match fault {
+        Some(why) => !is_cut(why),
+        None => false,
+    }
+}
+
+/// What a recovery did without, where the log is there or not, and has these bytes. Memory is taken for one entry of the log at a
+/// time.
+pub(crate) fn lacks_of(
+    alloc: Global,
+    is_there: bool,
+    log: &[u8],
+    recovered: &Recovered,
+) -> Result<Lacks, AllocError>
+    ensures { IfOk result (λ lacks. lacks ≡ lacks_of is_there log.now (recovery_of recovered.now)) }
+{
+    Ok(Lacks {
+        header: header_of(is_there, log),
+        fault: recovered.fault,
+        unused: unused_of(alloc, recovered.point, recovered.entries, log)?,
+        skipped: recovered.skipped.len(),
+    })
+}
+
+#[tactic(auto, unfolding(pc_log::specs::Reading::log_at))]
+fn header_of(is_there: bool, log: &[u8]) -> LogHeader
+    ensures { result ≡ header_of is_there (log_at log.now) }
+{
+    if !is_there {
+        return LogHeader::Missing;
+    }
+    match read_header(log) {
+        Ok(_) => LogHeader::Whole,
+        Err(_) => LogHeader::Cut,
+    }
+}
+
+// How many of the log's whole entries, of which there are so many, are not used at the point.
+fn unused_of(alloc: Global, point: Point, count: usize, log: &[u8]) -> Result<usize, AllocError>
+    ensures { IfOk result (λ unused. unused ≡ unused_of point count (entries_of (log_at log.now))) }
+{
+    if point == Point(0) {
+        return Ok(0);
+    }
+    if has_token(alloc, point, log)? {
+        return Ok(0);
+    }
+    Ok(count)
+}
+
+// Whether one of the log's whole entries is the token of the point.
+#[tactic(auto, unfolding(pc_log::specs::Reading::log_at))]
+fn has_token(alloc: Global, point: Point, log: &[u8]) -> Result<bool, AllocError>
+    ensures { IfOk result (λ has. has ≡ has_token point (entries_of (log_at log.now))) }
+{
+    match read_header(log) {
+        Ok((format, _, entries)) => has_token_in(alloc, format, point, entries),
+        Err(_) => Ok(false),
+    }
+}
+
+// Whether one of the whole entries that the bytes behind the header begin with is the token of the point.
+fn has_token_in(
+    alloc: Global,
+    format: Format,
+    point: Point,
+    bytes: &[u8],
+) -> Result<bool, AllocError>
+    ensures { IfOk result (λ has. has ≡ has_token point (all_at format no_token bytes.now).entries) }
+{
+    let mut last = LastToken::none();
+    let mut rest = bytes;
+    while !rest.is_empty() {
+        match read_entry(alloc, format, last, rest) {
+            Ok((entry, after)) => {
+                if is_token_of(point, &entry) {
+                    return Ok(true);
+                }
+                last = last.after(&entry);
+                rest = after;
+            }
+            Err(fault) => return stopped(fault),
+        }
+    }
+    Ok(false)
+}
+
+// No more entries can be read for this fault, or memory ran out.
+fn stopped(fault: Refusal) -> Result<bool, AllocError>
+    ensures read { IfOk result (λ has. has ≡ false) }
+    ensures memory { fault ≡ Refusal.OutOfMemory → IsErr result }
+{
+    if fault == Refusal::OutOfMemory {
+        return Err(AllocError);
+    }
+    Ok(false)
+}
+
+// Whether the entry is the token of the point.
+fn is_token_of(point: Point, entry: &Entry) -> bool
+    ensures { result ≡ is_point_token point entry.now }
+{
+    match entry {
+        Entry::Token(Phase::Resolve, n) => *n == point,
+        _ => false,
+    }
+}
