@@ -1,0 +1,5 @@
+mod WordLemmas
+mod ScriptLemmas
+mod TextLemmas
+mod RoleLemmas
+mod CauseLemmas

@@ -1,0 +1,7 @@
+pub mod LineFaults
+pub mod Sentences
+pub mod FileNames
+pub mod Scripts
+pub mod Told
+pub mod Workloads
+pub mod Causes

@@ -1,0 +1,18 @@
+//! Why a line is bad, of a script or of a workload, and the lines that tell it.
+#![tactic(auto)]
+
+mod faults;
+mod kinds;
+mod line_lists;
+mod names;
+mod scripts;
+#[cfg(test)]
+mod tests;
+mod told_lines;
+mod workloads;
+
+pub use faults::{LineFault, WordKind, WordPlace};
+pub use names::put_name;
+pub use scripts::{put_script_faults, script_fault};
+pub use told_lines::{BadLine, MOST_TOLD};
+pub use workloads::{WorkloadFault, put_workload_fault, workload_fault};
