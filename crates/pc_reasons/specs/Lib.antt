@@ -1,6 +1,5 @@
 pub mod LineFaults
 pub mod Sentences
-pub mod FileNames
 pub mod Scripts
 pub mod Told
 pub mod Workloads

@@ -8,13 +8,13 @@ use Rattle.pc_types.specs.Tallies.{Puts}
 use Rattle.pc_lines.specs.Lines.{lines_in}
 use Rattle.pc_reasons.specs.declared.told_lines.BadLine.{BadLine}
 use Rattle.pc_reasons.specs.declared.told_lines.TheConstants.{MOST_TOLD}
-use Rattle.pc_reasons.specs.FileNames.{shown_name}
+use Rattle.pc_texts.specs.Texts.{printed_name}
 use Rattle.pc_reasons.specs.Sentences.{fault_sentence}
 use Rattle.pc_reasons.specs.Scripts.{bad_lines}
 
 -- the name of a file and the number of a line
 abbrev pub place_text : List ℕ → ℕ → List ℕ
-place_text name number = shown_name name ++ (codes ":" ++ (decimal number ++ codes ": "))
+place_text name number = printed_name name ++ (codes ":" ++ (decimal number ++ codes ": "))
 
 -- a bad line's
 abbrev pub bad_line_text : List ℕ → BadLine → List ℕ
@@ -22,7 +22,7 @@ bad_line_text name bad = place_text name bad.number ++ (fault_sentence bad.fault
 
 -- how many lines more are bad
 abbrev pub more_text : List ℕ → ℕ → List ℕ
-more_text name count = shown_name name ++ (codes ": and " ++ (decimal count ++ codes " more\n"))
+more_text name count = printed_name name ++ (codes ": and " ++ (decimal count ++ codes " more\n"))
 
 -- some bad lines, of which the first 20 are told
 abbrev pub bad_lines_text : List ℕ → List BadLine → List ℕ

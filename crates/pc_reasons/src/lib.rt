@@ -4,7 +4,6 @@
 mod faults;
 mod kinds;
 mod line_lists;
-mod names;
 mod scripts;
 #[cfg(test)]
 mod tests;
@@ -12,7 +11,6 @@ mod told_lines;
 mod workloads;
 
 pub use faults::{LineFault, WordKind, WordPlace};
-pub use names::put_name;
 pub use scripts::{put_script_faults, script_fault};
 pub use told_lines::{BadLine, MOST_TOLD};
 pub use workloads::{WorkloadFault, put_workload_fault, workload_fault};

@@ -2,13 +2,13 @@
 ghost use Rattle.std.specs.Prelude.{◌<◌, ◌-◌, ◌++◌, length, take, codes, decimal};
 ghost use Rattle.std.specs.List.{flat_map};
 ghost use Rattle.pc_types.specs.Tallies.{Puts};
-ghost use Rattle.pc_reasons.specs.FileNames.{shown_name};
+ghost use Rattle.pc_texts.specs.Texts.{printed_name};
 ghost use Rattle.pc_reasons.specs.Sentences.{fault_sentence};
 ghost use Rattle.pc_reasons.specs.Told.{place_text, bad_line_text, bad_lines_text, more_text};
 
 use crate::faults::LineFault;
-use crate::names::put_name;
 use itoa::Buffer;
+use pc_texts::put_name;
 use pc_types::{Refusal, Tally};
 use std::io::Write;
 
@@ -73,7 +73,7 @@ pub(crate) fn put_place<W: Write>(
 ) -> Result<(), Refusal>
     ensures { Puts W.contents out.old out.new result (place_text name.now number) }
 {
-    put_name(name, out)?;
+    put_name(out, name)?;
     put_number(number, out)
 }
 
@@ -94,7 +94,7 @@ fn put_fault_line<W: Write>(fault: LineFault, out: &mut Tally<W>) -> Result<(), 
 fn put_more<W: Write>(name: &[u8], count: usize, out: &mut Tally<W>) -> Result<(), Refusal>
     ensures { Puts W.contents out.old out.new result (more_text name.now count) }
 {
-    put_name(name, out)?;
+    put_name(out, name)?;
     put_count(count, out)
 }
 

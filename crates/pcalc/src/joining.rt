@@ -1,8 +1,9 @@
 //! Part files that are joined into one.
 use crate::causes::Causes;
+use crate::explaining::{About, Explained, Explainer, explain_output, is_explained};
 use crate::making::Target;
 use crate::parts::{Inputs, JoinedFile, is_other_file};
-use crate::standard::output_before;
+use crate::standard::{OUTPUT, output_before};
 use pc_collapse_files::run_collapse;
 use pc_options::CollapseOptions;
 use pc_texts::{report, report_words};
@@ -20,25 +21,34 @@ const MISUSED: u8 = 2;
 /// Joins the part files as the options say; the status.
 pub fn join_parts(rt: &HostRuntime, options: &CollapseOptions<'_>) -> io::Result<u8> {
     let causes = Causes::new(rt.alloc())?;
+    let paths = options.inputs.as_slice();
+    let explainer = Explainer {
+        rt,
+        causes: &causes,
+        about: About::Parts(paths),
+        is_on: is_explained(rt, options.is_explained),
+    };
     let stderr = rt.stderr();
-    let mut errors = Tally::new(io::writer(&stderr));
+    let mut errors = Tally::new(Explained::new(explainer, io::writer(&stderr)));
     let inputs = Inputs {
         rt,
         causes: &causes,
-        paths: options.inputs.as_slice(),
+        paths,
     };
-    match is_misused(rt, &causes, options.target, &inputs) {
-        Ok(false) => collapse(rt, &causes, options.target, &inputs, &mut errors),
+    let status = match is_misused(rt, &causes, options.target, &inputs) {
+        Ok(false) => collapse(rt, &causes, options.target, &inputs, &mut errors)?,
         Ok(true) => {
             let words = b"a file that is no part has this name";
             let _ = report_words(options.target.as_bytes(), words, &mut errors);
-            Ok(MISUSED)
+            MISUSED
         }
         Err(why) => {
             let _ = report(options.target.as_bytes(), why, &mut errors);
-            Ok(FAILED)
+            FAILED
         }
-    }
+    };
+    explain_output(&explainer, OUTPUT, &mut errors);
+    Ok(status)
 }
 
 // Whether another file than a part stands where the joined one is to stand. That an input has its name is told before.

@@ -3,10 +3,14 @@
 #![tactic(auto)]
 
 mod causes;
+mod damage;
+mod explaining;
 mod folder;
 mod joining;
+mod lacking;
 mod late;
 mod making;
+mod meanings;
 mod parts;
 mod recovering;
 mod run_folder;

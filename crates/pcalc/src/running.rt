@@ -1,20 +1,23 @@
 //! A run of a workload: its files, what is shown of it, and what is told of it in the end.
 use crate::causes::{Causes, Noted};
+use crate::explaining::{About, Explained, Explainer, explain_output, is_explained};
 use crate::folder::{FoundFolder, ReadFolder, open_folder, tell_unopened};
 use crate::late::LateFile;
 use crate::making::{Target, folder_of};
 use crate::parts::open_named;
 use crate::run_folder::Claim;
-use crate::standard::output_before;
+use crate::standard::{OUTPUT, output_before};
+use pc_jobs::{WorkloadReading, read_workload};
 use pc_options::RunOptions;
 use pc_progress::{Asked, Behind, Progress};
+use pc_reasons::{put_workload_fault, workload_fault};
 use pc_runs::{Crew, NamedFolder, Origin, Start, run_workload};
-use pc_texts::{NamedFile, report, report_words};
+use pc_texts::{NamedFile, read_opened, report, report_words};
 use pc_types::{Refusal, Tally};
-use std::alloc::AllocError;
+use std::alloc::{AllocError, Global};
 use std::fs::File;
 use std::hash::RandomState;
-use std::io::{BufWriter, Write};
+use std::io::{BufWriter, Read, Write};
 use std::os::unix::fs::MetadataExt;
 use std::string::String;
 use std::sync::Wait;
@@ -27,12 +30,17 @@ const FAILED: u8 = 1;
 /// The status of a run that was asked for in a way that can't be.
 const MISUSED: u8 = 2;
 
+/// The status of a run whose workload has a bad line.
+const BAD_LINE: u8 = 3;
+
 /// What a run is given beside its options.
 #[derive(Drop)]
 struct Setting<'a> {
     rt: &'a HostRuntime,
     causes: &'a Causes,
     progress: &'a Progress<'a>,
+    // Whether faults are explained.
+    is_explained: bool,
 }
 
 /// Runs the workload as the options say, and writes what was asked to be told of it; the status.
@@ -43,17 +51,27 @@ pub fn run_clients<H: Threads + Wait + Sync>(
 ) -> io::Result<u8> {
     let causes = Causes::new(rt.alloc())?;
     let progress = Progress::new(rt, asked(options))?;
+    let explainer = Explainer {
+        rt,
+        causes: &causes,
+        about: About::Run(options.folder, options.from),
+        is_on: is_explained(rt, options.is_explained),
+    };
     let stderr = rt.stderr();
-    let mut errors = Tally::new(Behind::new(&progress, io::writer(&stderr)));
+    let behind = Behind::new(&progress, io::writer(&stderr));
+    let mut errors = Tally::new(Explained::new(explainer, behind));
     let setting = Setting {
         rt,
         causes: &causes,
         progress: &progress,
+        is_explained: explainer.is_on,
     };
-    match options.times {
-        Some(path) => run_timed(&setting, threads, options, path, &mut errors),
-        None => run(&setting, threads, options, &mut errors),
-    }
+    let status = match options.times {
+        Some(path) => run_timed(&setting, threads, options, path, &mut errors)?,
+        None => run(&setting, threads, options, &mut errors)?,
+    };
+    explain_output(&explainer, OUTPUT, &mut errors);
+    Ok(status)
 }
 
 // What is to be counted.
@@ -150,6 +168,14 @@ fn write_times<W: Write>(progress: &Progress<'_>, out: &mut W) -> io::Result<()>
     out.flush()
 }
 
+// What a run begins with: the seed of the hashes of its store, its hold on its folder, where there is one, and its workload.
+#[derive(Drop)]
+struct Source<'a, R> {
+    seed: RandomState,
+    claim: Option<&'a Claim<'a>>,
+    opened: Result<R, Refusal>,
+}
+
 // Runs the workload in its folder, where there is one, which is claimed before all else.
 fn run<H: Threads + Wait + Sync, E: Write>(
     setting: &Setting<'_>,
@@ -157,10 +183,10 @@ fn run<H: Threads + Wait + Sync, E: Write>(
     options: &RunOptions<'_>,
     errors: &mut Tally<E>,
 ) -> io::Result<u8> {
-    // The seed of the store's hashes is drawn before anything is opened.
+    // The seed is drawn before anything is opened.
     let seed = RandomState::new(setting.rt)?;
     let Some(path) = options.folder else {
-        return run_in(setting, threads, options, seed, None, errors);
+        return run_opened(setting, threads, options, seed, None, errors);
     };
     let dir = ReadFolder {
         rt: setting.rt,
@@ -168,13 +194,13 @@ fn run<H: Threads + Wait + Sync, E: Write>(
         causes: setting.causes,
     };
     let claim = Claim::new(dir, options.is_synced)?;
-    let status = run_in(setting, threads, options, seed, Some(&claim), errors);
+    let status = run_opened(setting, threads, options, seed, Some(&claim), errors);
     claim.end();
     status
 }
 
-// Runs the workload, and prints what it leaves, and its report where that is asked for.
-fn run_in<H: Threads + Wait + Sync, E: Write>(
+// Runs the workload. Where faults are explained it is read before, since it may be a pipe, and it is told why its bad line is one.
+fn run_opened<H: Threads + Wait + Sync, E: Write>(
     setting: &Setting<'_>,
     threads: &H,
     options: &RunOptions<'_>,
@@ -182,20 +208,78 @@ fn run_in<H: Threads + Wait + Sync, E: Write>(
     claim: Option<&Claim<'_>>,
     errors: &mut Tally<E>,
 ) -> io::Result<u8> {
-    let Setting {
-        rt,
-        causes,
-        progress,
-    } = setting;
+    let opened = open_named(setting.rt, setting.causes, options.workload);
+    if !setting.is_explained {
+        let source = Source {
+            seed,
+            claim,
+            opened,
+        };
+        return run_in(setting, threads, options, source, errors);
+    }
+    let text = match read_opened(setting.rt.alloc(), opened) {
+        Ok(text) => text,
+        Err(why) => {
+            let opened: Result<&[u8], Refusal> = Err(why);
+            let source = Source {
+                seed,
+                claim,
+                opened,
+            };
+            return run_in(setting, threads, options, source, errors);
+        }
+    };
+    let opened = Ok(text.as_slice());
+    let source = Source {
+        seed,
+        claim,
+        opened,
+    };
+    let status = run_in(setting, threads, options, source, errors)?;
+    if status == BAD_LINE {
+        let _ = tell_bad_line(setting.rt.alloc(), options.workload, &text, errors);
+    }
+    Ok(status)
+}
+
+// Tells why the first bad line of the workload is one.
+fn tell_bad_line<E: Write>(
+    alloc: Global,
+    name: &str,
+    text: &[u8],
+    errors: &mut Tally<E>,
+) -> Result<(), Refusal> {
+    let WorkloadReading::BadLine(number) = read_workload(alloc, text)? else {
+        return Ok(());
+    };
+    match workload_fault(alloc, text, number)? {
+        Some(fault) => put_workload_fault(name.as_bytes(), number, fault, errors),
+        None => Ok(()),
+    }
+}
+
+// Runs the workload, and prints what it leaves, and its report where that is asked for.
+fn run_in<R: Read + Drop, H: Threads + Wait + Sync, E: Write>(
+    setting: &Setting<'_>,
+    threads: &H,
+    options: &RunOptions<'_>,
+    source: Source<'_, R>,
+    errors: &mut Tally<E>,
+) -> io::Result<u8> {
+    let (rt, progress) = (setting.rt, setting.progress);
     let alloc = rt.alloc();
-    let writer = Behind::new(progress, io::writer(*rt));
-    let mut out = Tally::new(output_before(rt, causes, writer)?);
+    let Source {
+        seed,
+        claim,
+        opened,
+    } = source;
+    let writer = Behind::new(progress, io::writer(rt));
+    let mut out = Tally::new(output_before(rt, setting.causes, writer)?);
     let folder = match claim {
         Some(claim) => Some(claim.folder()?),
         None => None,
     };
     let name = Vec::from_slice(alloc, options.workload.as_bytes())?;
-    let opened = open_named(rt, causes, options.workload);
     let file = NamedFile { name, opened };
     let origin = origin_of(setting, options, errors)?;
     let crew = Crew {
@@ -203,7 +287,7 @@ fn run_in<H: Threads + Wait + Sync, E: Write>(
         collapsers: options.collapsers,
         lag: options.lag,
         every: options.every,
-        gate: *progress,
+        gate: progress,
     };
     let finished = run_workload(
         threads, alloc, seed, file, origin, &crew, folder, &mut out, errors,
@@ -233,7 +317,11 @@ fn origin_of<'a, E: Write>(
             let FoundFolder { folder, unopened } = open_folder(dir)?;
             tell_unopened(&unopened, errors);
             let name = Vec::from_slice(setting.rt.alloc(), path.as_bytes())?;
-            Start::Folder(NamedFolder { name, folder })
+            Start::Folder(NamedFolder {
+                name,
+                folder,
+                accepts_damage: options.accepts_damage,
+            })
         }
         None => Start::Empty(u64::from(options.run)),
     };

@@ -1,24 +1,78 @@
 //! A script that is run against a store.
-use crate::causes::Causes;
+use crate::causes::{Causes, Noted};
+use crate::explaining::{About, Explained, Explainer, explain_output, is_explained};
 use crate::parts::open_named;
-use crate::standard::output_before;
+use crate::standard::{OUTPUT, output_before};
 use pc_options::StepOptions;
+use pc_reasons::put_script_faults;
 use pc_script::{Setup, run_script};
-use pc_types::Tally;
+use pc_texts::read_opened;
+use pc_types::{Refusal, Tally};
+use std::fs::File;
 use std::hash::RandomState;
 use std::io;
+use std::io::{Read, Write};
+
+/// The status of a script that has a bad line.
+const BAD_LINES: u8 = 3;
 
 /// Runs the script as the options say; the status. The seed of the hashes of its store is drawn before anything is opened; where the
 /// system gives none, it is an error, and nothing is told.
 pub fn step_script(rt: &HostRuntime, options: &StepOptions<'_>) -> io::Result<u8> {
     let alloc = rt.alloc();
     let causes = Causes::new(alloc)?;
-    let mut out = Tally::new(output_before(rt, &causes, io::writer(rt))?);
+    let explainer = Explainer {
+        rt,
+        causes: &causes,
+        about: About::Script,
+        is_on: is_explained(rt, options.is_explained),
+    };
     let stderr = rt.stderr();
-    let mut errors = Tally::new(io::writer(&stderr));
+    let mut errors = Tally::new(Explained::new(explainer, io::writer(&stderr)));
     let seed = RandomState::new(rt)?;
-    let script = options.script;
-    let opened = open_named(rt, &causes, script);
-    let setup = options.setup;
-    Ok(run_script(alloc, setup, seed, script, opened, &mut out, &mut errors))
+    let opened = open_named(rt, &causes, options.script);
+    let status = if explainer.is_on {
+        step_told(&explainer, options, seed, opened, &mut errors)?
+    } else {
+        step(&explainer, options, seed, opened, &mut errors)?
+    };
+    explain_output(&explainer, OUTPUT, &mut errors);
+    Ok(status)
+}
+
+fn step<R: Read + Drop, E: Write>(
+    explainer: &Explainer<'_>,
+    options: &StepOptions<'_>,
+    seed: RandomState,
+    opened: Result<R, Refusal>,
+    errors: &mut Tally<E>,
+) -> io::Result<u8> {
+    let rt = explainer.rt;
+    let mut out = Tally::new(output_before(rt, explainer.causes, io::writer(rt))?);
+    let (setup, script) = (options.setup, options.script);
+    Ok(run_script(rt.alloc(), setup, seed, script, opened, &mut out, errors))
+}
+
+// The same; then it is told of each bad line why it is one. The script is read before, since it may be a pipe.
+fn step_told<E: Write>(
+    explainer: &Explainer<'_>,
+    options: &StepOptions<'_>,
+    seed: RandomState,
+    opened: Result<Noted<'_, File>, Refusal>,
+    errors: &mut Tally<E>,
+) -> io::Result<u8> {
+    let alloc = explainer.rt.alloc();
+    match read_opened(alloc, opened) {
+        Ok(text) => {
+            let status = step(explainer, options, seed, Ok(text.as_slice()), errors)?;
+            if status == BAD_LINES {
+                let _ = put_script_faults(alloc, options.script.as_bytes(), &text, errors);
+            }
+            Ok(status)
+        }
+        Err(why) => {
+            let unread: Result<&[u8], Refusal> = Err(why);
+            step(explainer, options, seed, unread, errors)
+        }
+    }
 }
