@@ -370,7 +370,7 @@ class Recovered:
         lines = [b"point %d" % self.point, b"entries %d" % self.entries]
         if self.fault not in (None, "Short"):
             lines.append(b"log " + self.fault.encode())
-        lines += [b"skipped " + name + b" " + reason.encode() for name, reason in self.skipped]
+        lines += [b"skipped " + name_text(name) + b" " + reason.encode() for name, reason in self.skipped]
         lines.append(b"pairs %d" % len(self.pairs))
         lines += [key_word(key) + b" " + word(self.pairs[key]) for key in sorted(self.pairs)]
         return b"".join(line + b"\n" for line in lines)

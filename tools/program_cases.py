@@ -47,6 +47,8 @@ class Case(typing.NamedTuple):
     output: typing.Optional[str] = None
     # which of the descriptors 0, 1 and 2 are closed
     closed: tuple = ()
+    # how many bytes a file may have; a longer one fails, and the program isn't killed
+    file_size: typing.Optional[int] = None
     # files of the folder, and what each is to have afterwards; None where it is not to be there
     files: dict = {}
     # such files, and what tells of what each has then whether it is right
@@ -290,12 +292,12 @@ def listed_cases(folder):
     yield Case("other files whose names are no UTF-8", ("recover", "strange"), 0, WITH_PART)
     for name in ("b\udcff.pcp", "\udc80.pcp"):
         written(folder, "strange/" + name, PART)
-    told = b"pcalc: b\xff.pcp: Device\npcalc: \x80.pcp: Device\n"
+    told = rb"pcalc: b\xff.pcp: Device" + b"\n" + rb"pcalc: \x80.pcp: Device" + b"\n"
     yield Case("parts whose names are no UTF-8", ("recover", "strange"), 0, WITH_PART, err=told)
     written(folder, "ordered/base.pcb", BASE)
     for name in ("\U0001f600.pcp", "\uffff.pcp", "b.pcp", "B.pcp", ".pcp"):
         written(folder, "ordered/" + name, b"")
-    names = [b".pcp", b"B.pcp", b"b.pcp", "\uffff.pcp".encode(), "\U0001f600.pcp".encode()]
+    names = [b".pcp", b"B.pcp", b"b.pcp", rb"\xef\xbf\xbf.pcp", rb"\xf0\x9f\x98\x80.pcp"]
     told = b"point 0\nentries 0\n" + b"".join(b"skipped %s Short\n" % name for name in names) + b"pairs 1\na 0\n"
     yield Case("names in the order of their bytes", ("recover", "ordered"), 0, told)
     written(folder, "crowded/base.pcb", BASE)
@@ -358,15 +360,14 @@ def memory_cases(folder):
 def collapse_usage_cases(folder):
     """Faults of usage of a collapse, and its help."""
     written(folder, "in.pcp", PART)
-    for wrong in (0, 65):
-        told = b"error: invalid value '%d' for '--collapsers <N>': %d is not in 1..=64\n" % (wrong, wrong)
-        yield Case(f"--collapsers {wrong}", ("collapse", "out.pcp", "in.pcp", "--collapsers", str(wrong)), 2, err=[told], files={"out.pcp": None})
+    told = b"error: unexpected argument '--collapsers' found\n"
+    yield Case("collapsers of a collapse", ("collapse", "out.pcp", "in.pcp", "--collapsers", "2"), 2, err=[told], files={"out.pcp": None})
     told = b"error: the following required arguments were not provided:\n  <IN>..."
     yield Case("no inputs", ("collapse", "out.pcp"), 2, err=[told], files={"out.pcp": None})
     yield Case("no file to write", ("collapse",), 2, err=[b"  <OUT>\n  <IN>..."])
     told = b"pcalc: in.pcp: an input has this name\n"
     yield Case("a file to write that is an input", ("collapse", "in.pcp", "none.pcp", "in.pcp"), 2, err=told, files={"in.pcp": PART})
-    options = [b"<OUT>", b"<IN>...", b"--collapsers <N>", b"Is checked alone, 1 to 64: one thread joins the files as it reads them [default: 2]", FAULTS]
+    options = [b"<OUT>", b"<IN>...", b"--explain", FAULTS]
     yield Case("collapse --help", ("collapse", "--help"), 0, parts=options)
 
 
@@ -380,14 +381,13 @@ ALL = bytes.fromhex(ALL)
 
 
 def collapse_cases(folder):
-    """What collapses print and write, for one collapser and many."""
+    """What collapses print and write."""
     for name, part in POINTS.items():
         written(folder, name, part.text())
     told = b"points 1-3 entries 2\n"
     yield Case("three points", ("collapse", "all.pcp", "one.pcp", "two.pcp", "three.pcp"), 0, told, files={"all.pcp": ALL})
-    for number in (1, 3, 64):
-        words = ("collapse", f"--collapsers={number}", "again.pcp", "three.pcp", "one.pcp", "one.pcp", "two.pcp")
-        yield Case(f"the same in another order, by {number}", words, 0, told, files={"again.pcp": ALL})
+    words = ("collapse", "again.pcp", "three.pcp", "one.pcp", "one.pcp", "two.pcp")
+    yield Case("the same in another order", words, 0, told, files={"again.pcp": ALL})
     yield Case("what has been joined", ("collapse", "again.pcp", "all.pcp", "two.pcp"), 0, told, files={"again.pcp": ALL})
     one = POINTS["one.pcp"].text()
     yield Case("one file, over a longer one", ("collapse", "again.pcp", "one.pcp"), 0, b"points 1 entries 2\n", files={"again.pcp": one})
@@ -475,7 +475,7 @@ def pipe_cases(folder):
         yield Case("two pipes, of which the first is longer than it holds", ("collapse", "piped.pcp", "first.pcp", "second.pcp"), 0, b"points 1,4 entries 4\n", files={"piped.pcp": joined})
     pipe = piped(folder, "cut_pipe.pcp")
     with beside(lambda: feed(pipe, three[:-1])):
-        yield Case("a pipe that is cut off", ("collapse", "short.pcp", "cut_pipe.pcp"), 1, err=b"pcalc: short.pcp: Short\n", files={"short.pcp": b""})
+        yield Case("a pipe that is cut off", ("collapse", "short.pcp", "cut_pipe.pcp"), 1, err=b"pcalc: short.pcp: Short\n", files={"short.pcp": None})
     script, workload = piped(folder, "pipe.pcs"), piped(folder, "pipe.pcw")
     with beside(lambda: feed(script, b"begin 1\n")):
         yield Case("a script that is a pipe", ("step", "pipe.pcs"), 0, b"begun 1\n")
@@ -485,7 +485,7 @@ def pipe_cases(folder):
 
 
 def folder_pipe_cases(folder):
-    """Folders in which one file is a pipe: it is read to its end."""
+    """Folders in which one file is a pipe: the base and the log are read to their ends, and one of a part's name is passed over."""
     log = plain_files.Log(1)
     log.entries = [("token", "prepare", 1), ("token", "resolve", 1), plain_files.commit(1, {b"z": b"1"})]
     texts = {"base.pcb": BASE, "a.pcp": PART, "log.pcl": log.text()}
@@ -494,6 +494,11 @@ def folder_pipe_cases(folder):
         for other in texts.keys() - {name}:
             written(folder, f"pipe_{name}/{other}", texts[other])
         pipe = piped(folder, f"pipe_{name}/{name}")
+        if name == "a.pcp":
+            os.symlink("a.pcp", os.path.join(folder, f"pipe_{name}", "link.pcp"))
+            os.symlink("/dev/zero", os.path.join(folder, f"pipe_{name}", "zeros.pcp"))
+            yield Case("a folder with a pipe, a link to it and a device of parts' names", ("recover", f"pipe_{name}"), 0, plain_files.recover(BASE, [], log.text()).text())
+            continue
         with beside(lambda: feed(pipe, text)):
             yield Case(f"a folder whose {name} is a pipe", ("recover", f"pipe_{name}"), 0, told)
 
@@ -537,8 +542,8 @@ def collapse_fault_cases(folder):
     def fault(name, words, told, files):
         return Case(name, ("collapse", *words), 1, err=told, files=files)
 
-    # No file is made before the headers of all inputs are read; from then on a fault leaves one that is Short.
-    lost, begun = {"lost.pcp": None}, {"begun.pcp": b""}
+    # A file gets its name once it is whole: a fault leaves none, and what stood there stays.
+    lost, begun = {"lost.pcp": None, "lost.pcp.new": None}, {"begun.pcp": None, "begun.pcp.new": None}
     for name, part in POINTS.items():
         written(folder, name, part.text())
     written(folder, "run.pcp", plain_files.Part(2, [(1, 1)], {}).text())
@@ -555,9 +560,10 @@ def collapse_fault_cases(folder):
     yield fault("a file of another kind, behind a longer one", ("lost.pcp", "more.pcp", "magic.pcp"), b"pcalc: lost.pcp: BadMagic\n", lost)
     yield fault("a file of another kind, before one of another run", ("lost.pcp", "one.pcp", "run.pcp", "magic.pcp"), b"pcalc: lost.pcp: BadMagic\n", lost)
     yield fault("a file that isn't there, before a longer one", ("lost.pcp", "none.pcp", "more.pcp"), b"pcalc: none.pcp: NoFile\n", lost)
-    written(folder, "kept.pcp", b"as it was")
-    yield fault("a refusal where the file stands", ("kept.pcp", "one.pcp", "run.pcp"), b"pcalc: kept.pcp: OtherRun\n", {"kept.pcp": b"as it was"})
-    yield fault("a later refusal where the file stands", ("kept.pcp", "one.pcp", "clash.pcp"), b"pcalc: kept.pcp: Conflict\n", {"kept.pcp": b""})
+    written(folder, "kept.pcp", PART)
+    kept = {"kept.pcp": PART, "kept.pcp.new": None}
+    yield fault("a refusal where the file stands", ("kept.pcp", "one.pcp", "run.pcp"), b"pcalc: kept.pcp: OtherRun\n", kept)
+    yield fault("a later refusal where the file stands", ("kept.pcp", "one.pcp", "clash.pcp"), b"pcalc: kept.pcp: Conflict\n", kept)
     os.makedirs(os.path.join(folder, "folder.pcp"))
     yield fault("an input that is a folder", ("lost.pcp", "one.pcp", "folder.pcp"), b"pcalc: lost.pcp: Device\n", lost)
     yield fault("a file to write that is a folder", ("folder.pcp", "one.pcp"), b"pcalc: folder.pcp: Device\n", {})
@@ -567,8 +573,95 @@ def collapse_fault_cases(folder):
     yield Case("an input without permission", ("collapse", "lost.pcp", "one.pcp", "closed.pcp"), 1, err=b"pcalc: closed.pcp: Device\n", is_other_user=True, files=lost)
 
 
+def place_cases(folder):
+    """Joined files that stand where something else does: an input by another path, a file that is no part, a leftover, a link."""
+    one, two = POINTS["one.pcp"].text(), POINTS["two.pcp"].text()
+    joined, told = plain_files.join(POINTS["one.pcp"], POINTS["two.pcp"]).text(), b"points 1-2 entries 2\n"
+    os.makedirs(os.path.join(folder, "places"))
+
+    def put(**others):
+        for name, text in {"one.pcp": one, "two.pcp": two, **others}.items():
+            written(folder, f"places/{name}", text)
+
+    inputs = ("places/one.pcp", "places/two.pcp")
+    for what, path in (("by another path", "./places/one.pcp"), ("by its whole path", os.path.join(folder, "places", "one.pcp"))):
+        put()
+        yield Case(f"an input {what} is the file to write", ("collapse", path, *inputs), 0, told, files={"places/one.pcp": joined, "places/two.pcp": two})
+    put()
+    os.symlink("one.pcp", os.path.join(folder, "places", "link.pcp"))
+    yield Case("a link to an input is the file to write", ("collapse", "places/link.pcp", *inputs), 0, told, files={"places/link.pcp": joined, "places/one.pcp": one})
+    os.link(os.path.join(folder, "places", "one.pcp"), os.path.join(folder, "places", "hard.pcp"))
+    yield Case("a hard link to an input is the file to write", ("collapse", "places/hard.pcp", *inputs), 0, told, files={"places/hard.pcp": joined, "places/one.pcp": one})
+    written(folder, "precious", b"as it was")
+    os.symlink("../precious", os.path.join(folder, "places", "out.pcp.new"))
+    files = {"places/out.pcp": joined, "precious": b"as it was", "places/out.pcp.new1": None}
+    yield Case("a link in the way of the file that is made", ("collapse", "places/out.pcp", *inputs), 0, told, files=files)
+    log = plain_files.Log(1).text()
+    for name, text in (("base.pcb", BASE), ("log.pcl", log), ("notes", b"as it was"), ("few", b"PCALC")):
+        put(**{name: text})
+        err = f"pcalc: places/{name}: a file that is no part has this name\n".encode()
+        yield Case("a file that is no part is the file to write", ("collapse", f"places/{name}", *inputs), 2, err=err, files={f"places/{name}": text})
+    put(empty=b"")
+    yield Case("an empty file is the file to write", ("collapse", "places/empty", *inputs), 0, told, files={"places/empty": joined})
+    yield Case("a file that grows past what is allowed", ("collapse", "places/small.pcp", *inputs), 1, err=b"pcalc: places/small.pcp: Device\n", file_size=20, files={"places/small.pcp": None, "places/small.pcp.new": None})
+
+
+def explained_cases(folder):
+    """What is told behind a fault where that is asked for: the file, what was done with it, where, and the system's own words."""
+    def case(name, words, status, told, **more):
+        return Case(name, (*words, "--explain"), status, err=told, **more)
+
+    for name, part in POINTS.items():
+        written(folder, name, part.text())
+    yield case("no script", ("step", "none.pcs"), 1, b"pcalc: none.pcs: NoFile\n  opening none.pcs: No such file or directory (os error 2)\n")
+    written(folder, "bad.pcs", b"# as it is\nbegin 1\nfrob\nput 1 \\q x\nget 1\n")
+    reasons = [b"bad.pcs:3: the first word names no command\n", b"bad.pcs:4: the third word is no key\n", b"bad.pcs:5: "]
+    yield case("bad lines of a script", ("step", "bad.pcs"), 3, reasons, out=b"begun 1\nbad line\nbad line\nbad line\n")
+    yield case("a full output", ("step", "bad.pcs"), 1, [b"  writing standard output: No space left on device (os error 28)\n"], output=FULL)
+    damaged = bytearray(POINTS["two.pcp"].text())
+    damaged[31] = 9
+    written(folder, "damaged.pcp", bytes(damaged))
+    yield case("a damaged input", ("collapse", "out.pcp", "one.pcp", "damaged.pcp"), 1, [b"pcalc: out.pcp: ", b"\n  reading damaged.pcp, byte "])
+    written(folder, "run.pcp", plain_files.Part(2, [(1, 1)], {}).text())
+    yield case("an input of another run", ("collapse", "out.pcp", "one.pcp", "run.pcp"), 1, b"pcalc: out.pcp: OtherRun\n  reading run.pcp: of another run than the file before it\n")
+    yield case("no place for the file", ("collapse", "nowhere/out.pcp", "one.pcp"), 1, b"pcalc: nowhere/out.pcp: Device\n  making nowhere/out.pcp: No such file or directory (os error 2)\n")
+    written(folder, "torn/base.pcb", BASE[:-1])
+    written(folder, "torn/a.pcp", PART)
+    told = b"pcalc: torn: Short\n  reading torn/base.pcb, byte %d: the bytes end within a field\n  beside it stands a.pcp\n" % (len(BASE) - 1)
+    yield case("a base that is cut off", ("recover", "torn"), 1, told)
+    yield case("no folder", ("recover", "nowhere"), 1, b"pcalc: base.pcb: NoFile\n  opening nowhere/base.pcb: No such file or directory (os error 2)\n")
+
+
+def lacking_cases(folder):
+    """Folders that lack something: what is told of it where that is asked for, and the status of a strict recovery."""
+    log = plain_files.Log(1)
+    log.entries = [("token", "prepare", 1), ("token", "resolve", 1), plain_files.commit(1, {b"z": b"1"})]
+    text = log.text()
+    lacks = [
+        ("whole", PART, text, 0, b""),
+        ("no log", PART, None, 4, b"  lacking0/log.pcl isn't there: commits that only it had are lost\n"),
+        ("a log of no bytes", PART, b"", 4, b"  lacking0/log.pcl ends within its header: commits that only it had are lost\n"),
+        ("a log that is cut off", PART, text[:-1], 4, [b"  reading lacking0/log.pcl, the entry that begins with byte ", b": the bytes end within a field\n"]),
+        ("a log that is behind its point", PART, plain_files.Log(1).text(), 4, b""),
+        ("a part that is skipped", PART[:-1], text, 4, [b"  reading lacking0/a.pcp, byte ", b": the bytes end within a field\n"]),
+    ]
+    for name, part, log_text, strict, told in lacks:
+        written(folder, "lacking0/base.pcb", BASE)
+        written(folder, "lacking0/a.pcp", part)
+        path = os.path.join(folder, "lacking0", "log.pcl")
+        if log_text is None:
+            os.remove(path)
+        else:
+            written(folder, "lacking0/log.pcl", log_text)
+        out = plain_files.recover(BASE, [(b"a.pcp", part)], log_text or b"").text()
+        status = 0 if name == "a log that is behind its point" else strict
+        yield Case(f"recovered: {name}", ("recover", "lacking0"), 0, out)
+        yield Case(f"strictly recovered: {name}", ("recover", "lacking0", "--strict"), status, out)
+        yield Case(f"explained: {name}", ("recover", "lacking0", "--explain"), 0, out, err=told)
+
+
 def cases(folder):
     """Each case, whose files are written into the folder right before it."""
     together = (usage_cases, option_cases, add_cases, script_cases, folder_cases, listed_cases, long_folder_cases, longest_cases, memory_cases)
-    for some in (*together, collapse_usage_cases, collapse_cases, pipe_cases, closed_cases, collapse_fault_cases):
+    for some in (*together, collapse_usage_cases, collapse_cases, pipe_cases, closed_cases, collapse_fault_cases, place_cases, explained_cases, lacking_cases):
         yield from some(folder)

@@ -149,7 +149,7 @@ def telling_cases(folder):
         name = f"{number}.times"
         yield Case("times", ("run", "one.pcw", "--times", name, *more), 0, checks={name: has_times_of(3)}, **out)
     yield Case("a report and times of nothing", ("run", "empty.pcw", "--report", "--times", "none.times"), 0, NOTHING_TOLD + NOTHING_REPORTED, checks={"none.times": has_times_of(0)})
-    yield Case("times of a workload with a bad line", ("run", "bad.pcw", "--times", "bad.times", "--report"), 3, b"bad line 1\n", files={"bad.times": b""})
+    yield Case("times of a workload with a bad line", ("run", "bad.pcw", "--times", "bad.times", "--report"), 3, b"bad line 1\n", files={"bad.times": None, "bad.times.new": None})
     words = ("run", "one.pcw", "--dir", new_folder(folder, "without_times"), "--times", "nowhere/run.times")
     yield Case("times that can't be made", words, 1, err=b"pcalc: nowhere/run.times: Device\n", files={"without_times/base.pcb": None, "without_times/base.pcb.new": None})
     if os.path.exists(FULL):
@@ -497,30 +497,60 @@ def thread_cases(folder):
         yield Case(f"{threads} threads of four", words, 1, err=b"pcalc: one.pcw: NoThread\n", is_other_user=True, threads=threads)
 
 
-# The files of a run, what may stand in the place of each, and whether that file is told. All but the log get their names once they are whole.
-MISPLACED = [("base.pcb", "folder", "base.pcb"), ("base.pcb.new", "folder", "base.pcb"), ("base.pcb.new", "device", None), ("log.pcl", "folder", "log.pcl"), ("log.pcl", "device", None)]
-MISPLACED += [("part-00001.pcp", "folder", "part-00001.pcp"), ("part-00001.pcp.new", "folder", "part-00001.pcp"), ("part-00001.pcp.new", "device", None)]
+# The files of a run that get their names once they are whole, what may stand in the place of each, and whether the run fails by it.
+MISPLACED = [("base.pcb", "folder", True), ("base.pcb.new", "folder", False), ("base.pcb.new", "device", False)]
+MISPLACED += [("part-00001.pcp", "folder", True), ("part-00001.pcp.new", "folder", False), ("part-00001.pcp.new", "device", False)]
 
 
 def late_fault_cases(folder):
     """Files of a run that can't be made or written. What stands in their place comes into the folder once it was looked at: the workload, which is
     read behind that, is a pipe, and has nothing before."""
-    for name, what, told in MISPLACED:
+    for name, what, fails in MISPLACED:
         dir_name = f"{what}_{name}"
         place = os.path.join(folder, dir_name, name)
         os.makedirs(os.path.dirname(place))
         pipe = piped(folder, dir_name + ".pcw")
         work = (lambda: os.mkdir(place)) if what == "folder" else (lambda: os.symlink(FULL, place))
-        if what == "device" and not os.path.exists(FULL):
-            continue
         with beside(lambda: feed(pipe, ONE, work)):
-            err = f"pcalc: {told or dir_name + '.pcw'}: Device\n".encode()
-            yield Case(f"a {what} in the place of {name}", ("run", dir_name + ".pcw", "--dir", dir_name), 1, err=err)
-    if os.path.exists(FULL):
-        os.makedirs(os.path.join(folder, "long_run"))
-        pipe = piped(folder, "long.pcw")
-        with beside(lambda: feed(pipe, LONG, lambda: os.symlink(FULL, os.path.join(folder, "long_run", "log.pcl")))):
-            yield Case("a log that can't be written, of a run that would take minutes", ("run", "long.pcw", "--dir", "long_run"), 1, err=b"pcalc: long.pcw: Device\n")
+            told = {"status": 1, "err": f"pcalc: {name}: Device\n".encode()} if fails else {"status": 0, "out": ONE_TOLD}
+            yield Case(f"a {what} in the place of {name}", ("run", dir_name + ".pcw", "--dir", dir_name), **told)
+    written(folder, "long.pcw", LONG)
+    words = ("run", "long.pcw", "--dir", new_folder(folder, "long_run"))
+    yield Case("a log that can't be written, of a run that would take minutes", words, 1, err=b"pcalc: long.pcw: Device\n", file_size=1 << 20)
+    words = ("run", "long.pcw", "--explain", "--dir", new_folder(folder, "long_told"))
+    told = b"pcalc: long.pcw: Device\n  writing long_told/log.pcl: File too large (os error 27)\n"
+    yield Case("the same, explained", words, 1, err=told, file_size=1 << 20)
+
+
+def claim_cases(folder):
+    """Runs into one folder: one of them has it, and a run that ends before it has begun leaves nothing there."""
+    written(folder, "one.pcw", ONE)
+    for words, status, err in ((("run", "none.pcw"), 1, b"pcalc: none.pcw: NoFile\n"), (("run", "bad.pcw"), 3, b""), (("run", "one.pcw", "--from", "nowhere"), 1, b"pcalc: base.pcb: NoFile\n")):
+        place = new_folder(folder, "claimed_" + "_".join(words[1:2] + words[3:]))
+        written(folder, "bad.pcw", b"frob\n")
+        yield Case("a run that ends before it has begun", (*words, "--dir", place), status, b"bad line 1\n" if status == 3 else b"", err=err, files={f"{place}/log.pcl": None, f"{place}/base.pcb": None})
+        assert os.listdir(os.path.join(folder, place)) == []
+    pipe = piped(folder, "claimed.pcw")
+    place = new_folder(folder, "claimed")
+    seen = []
+
+    def look():
+        seen.extend(os.listdir(os.path.join(folder, place)))
+
+    with beside(lambda: feed(pipe, ONE, look)):
+        yield Case("a run that claims its folder before it reads its workload", ("run", "claimed.pcw", "--dir", place), 0, ONE_TOLD)
+    assert seen == ["log.pcl"], seen
+    for path in ("./claim.pcw", os.path.join(folder, "claim.pcw")):
+        written(folder, "claim.pcw", ONE)
+        told = f"pcalc: {path}: the workload has this name\n".encode()
+        yield Case("times in the place of the workload by another path", ("run", "claim.pcw", "--times", path), 2, err=told, files={"claim.pcw": ONE})
+    for option, place in (("--dir", new_folder(folder, "claimed_times")), ("--from", "claimed")):
+        kept = {"claimed/log.pcl": content_of(folder, "claimed/log.pcl"), "claimed_times/log.pcl": None}
+        told = f"pcalc: {place}/log.pcl: it would stand in the folder of {option}\n".encode()
+        yield Case("times among the files of a run", ("run", "one.pcw", option, place, "--times", f"{place}/log.pcl"), 2, err=told, files=kept)
+    written(folder, "kept.times", b"as it was")
+    yield Case("a run that fails and has had times before", ("run", "none.pcw", "--times", "kept.times"), 1, err=b"pcalc: none.pcw: NoFile\n", files={"kept.times": b"as it was", "kept.times.new": None})
+    yield Case("a bad line, explained", ("run", "bad.pcw", "--explain"), 3, b"bad line 1\n", err=[b"bad.pcw:1: "])
 
 
 def used_cases(folder):
@@ -599,10 +629,20 @@ def damage_cases(folder):
     with open(os.path.join(folder, "hurt", "log.pcl"), "ab") as it:
         it.write(b"\0\0\0\1\3")
     told = b"commits 21\ngave up 0\npoints 1\ncollapsed 1 entries 22\nstate pairs 58\ncheck ok\n"
-    yield Case("a part and a log that are damaged", ("run", "next.pcw", "--from", "hurt"), 0, told, err=b"log BadKind\nskipped part-00002.pcp Trailing\n")
+    err = b"log BadKind\nskipped part-00002.pcp Trailing\n"
+    refused = {"hurt_new/base.pcb": None, "hurt_new/log.pcl": None}
+    words = ("run", "next.pcw", "--from", "hurt")
+    yield Case("a part and a log that are damaged", (*words, "--dir", new_folder(folder, "hurt_new")), 1, err=err + b"pcalc: hurt: Damaged\n", files=refused)
+    yield Case("the same where damage is accepted", (*words, "--damaged"), 0, told, err=err)
     written(folder, "hurt/\udcff.pcp", b"")
-    err = b"pcalc: \xff.pcp: Device\nlog BadKind\nskipped part-00002.pcp Trailing\n"
-    yield Case("beside it a part whose name is no UTF-8", ("run", "next.pcw", "--from", "hurt"), 0, told, err=err)
+    err = rb"pcalc: \xff.pcp: Device" + b"\n" + err
+    yield Case("beside it a part whose name is no UTF-8", (*words, "--damaged"), 0, told, err=err)
+    for name in ("base.pcb", "part-00001.pcp", "part-00002.pcp"):
+        written(folder, f"logless/{name}", content_of(folder, f"first/{name}"))
+    words = ("run", "next.pcw", "--from", "logless")
+    yield Case("a log that is missing", words, 1, err=b"pcalc: logless: Damaged\n")
+    written(folder, "logless/log.pcl", content_of(folder, "first/log.pcl")[:-1])
+    yield Case("a log whose last entry is cut off, as a kill leaves it", words, 0, told)
     nothing = {"made/base.pcb": None, "made/base.pcb.new": None, "made/log.pcl": None}
     into = ("--dir", new_folder(folder, "made"))
     yield Case("a folder that isn't there", ("run", "next.pcw", "--from", "nowhere", *into), 1, err=b"pcalc: base.pcb: NoFile\n", files=nothing)
@@ -643,8 +683,10 @@ def number_cases(folder):
     written(folder, "one.pcw", ONE)
     none = {"last_new/base.pcb": None, "last_new/log.pcl": None}
     written(folder, "last/base.pcb", plain_files.Base(2**64 - 1, 0, {}).text())
+    written(folder, "last/log.pcl", plain_files.Log(2**64 - 1).text())
     yield Case("a run behind the last one", ("run", "one.pcw", "--from", "last", "--dir", new_folder(folder, "last_new")), 1, err=b"pcalc: last: Full\n", files=none)
     written(folder, "last_but_one/base.pcb", plain_files.Base(2**64 - 2, 0, {}).text())
+    written(folder, "last_but_one/log.pcl", plain_files.Log(2**64 - 2).text())
     base = {"last_new/base.pcb": plain_files.Base(2**64 - 1, 0, {}).text()}
     yield Case("the last run", ("run", "one.pcw", "--from", "last_but_one", "--dir", "last_new"), 0, ONE_TOLD, files=base)
     base = {"numbered_new/base.pcb": plain_files.Base(2_147_483_647, 0, {}).text()}
@@ -653,5 +695,5 @@ def number_cases(folder):
 
 def cases(folder):
     """Each case, whose files are written into the folder right before it."""
-    for some in (usage_cases, workload_cases, telling_cases, pace_cases, contention_cases, arena_cases, add_cases, space_cases, everything_cases, fault_cases, used_cases, from_cases, number_cases, folder_cases):
+    for some in (usage_cases, workload_cases, telling_cases, pace_cases, contention_cases, arena_cases, add_cases, space_cases, everything_cases, fault_cases, used_cases, claim_cases, from_cases, number_cases, folder_cases):
         yield from some(folder)

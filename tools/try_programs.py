@@ -22,6 +22,7 @@ import itertools
 import os
 import resource
 import shutil
+import signal
 import subprocess
 import sys
 import tempfile
@@ -101,6 +102,8 @@ def settings_of(case, folder):
         settings["preexec_fn"] = lambda: resource.setrlimit(resource.RLIMIT_NPROC, (1 + case.threads, 1 + case.threads))
     if case.open_files is not None:
         settings["preexec_fn"] = lambda: resource.setrlimit(resource.RLIMIT_NOFILE, (case.open_files, case.open_files))
+    if case.file_size is not None:
+        settings["preexec_fn"] = lambda: (signal.signal(signal.SIGXFSZ, signal.SIG_IGN), resource.setrlimit(resource.RLIMIT_FSIZE, (case.file_size, case.file_size)))
     if case.closed:
         settings["preexec_fn"] = lambda: [os.close(number) for number in case.closed]
     if case.is_other_user and os.geteuid() == 0:

@@ -17,7 +17,7 @@ use Rattle.pc_restore.specs.declared.recovery.Lost.TheVariants as lost
 use Rattle.pc_restore.specs.declared.lacks.Lacks.{Lacks}
 use Rattle.pc_restore.specs.Lacks.{lacks_of}
 use Rattle.pc_restore.specs.Reports.{recovery_text}
-use Rattle.pc_texts.specs.Files.{IsScriptFault, HoldsBytes, AreOpened, TellsOf}
+use Rattle.pc_texts.specs.Files.{IsScriptFault, HoldsBytes, AreOpened, TellsOf, line_about}
 
 -- the names of the parts, in their order
 abbrev pub names_of : List PartBytes → List (List ℕ)
@@ -121,7 +121,7 @@ GoesOutUnrecovered remaining contents folder old new other = new ≡ old
 
 -- the line that tells of a reason by a name
 abbrev pub reason_text : List ℕ → List ℕ → List ℕ
-reason_text name reason = codes "pcalc: " ++ (name ++ (codes ": " ++ (reason ++ codes "\n")))
+reason_text name reason = line_about name reason
 
 -- it is told, as far as the writer takes it
 abbrev pub TellsReason : {T : Type 0} → (T → Option (List ℕ)) → Tally T → Tally T → List ℕ → List ℕ → Type 0

@@ -7,7 +7,7 @@ use Rattle.pc_types.specs.declared.refusal.Refusal.TheVariants as why
 use Rattle.pc_model.specs.Maps.{len}
 use Rattle.pc_recover.specs.Recovery.{Recovery}
 use Rattle.pc_recover.specs.declared.recovered.Skipped.{Skipped}
-use Rattle.pc_texts.specs.Texts.{refusal_text, pair_text}
+use Rattle.pc_texts.specs.Texts.{refusal_text, pair_text, printed_name}
 
 -- a line of a word and a number
 abbrev pub count_line : List ℕ → ℕ → List ℕ
@@ -30,7 +30,7 @@ name_at (Some name) = name
 
 -- the line of a part that was skipped
 abbrev pub skipped_line : List (List ℕ) → Skipped → List ℕ
-skipped_line names skipped = (codes "skipped " ++ (name_at (slice_get names skipped.place) ++ codes " ")) ++ (refusal_text skipped.reason ++ codes "\n")
+skipped_line names skipped = (codes "skipped " ++ printed_name (name_at (slice_get names skipped.place))) ++ (codes " " ++ (refusal_text skipped.reason ++ codes "\n"))
 
 -- the counts: the point, and how many whole entries the log has
 abbrev pub counts_text : ℕ → ℕ → List ℕ

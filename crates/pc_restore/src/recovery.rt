@@ -15,7 +15,7 @@ ghost use Rattle.pc_restore.specs.Recoveries.{AreAllOpened, ArePartsOpened, Goes
 use crate::lacks::{Lacks, lacks_of};
 use crate::reports::put_recovered;
 use pc_recover::{Recovered, recover};
-use pc_texts::{NamedFile, end_output, read_opened, report};
+use pc_texts::{NamedFile, end_output, read_opened, report, report_words};
 use pc_types::{Refusal, Tally};
 use std::alloc::{AllocError, Global};
 use std::io::{Read, Write};
@@ -209,7 +209,7 @@ pub fn tell_reason<E: Write>(
 ) -> Result<(), Refusal>
     ensures { Puts E.contents errors.old errors.new result (reason_text name.now reason.now) }
 {
-    errors.put_all(&[b"pcalc: ", name, b": ", reason, b"\n"])
+    report_words(name, reason, errors)
 }
 
 fn recover_files(alloc: Global, files: &FolderBytes) -> Result<Recovered, Refusal>

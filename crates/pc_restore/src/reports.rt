@@ -4,14 +4,14 @@ ghost use Rattle.std.specs.List.{flat_map};
 ghost use Rattle.pc_types.specs.Tallies.{Puts};
 ghost use Rattle.pc_model.specs.Database.{KeysRise};
 ghost use Rattle.pc_recover.specs.Recovery.{recovery_of};
-ghost use Rattle.pc_texts.specs.Texts.{refusal_text};
+ghost use Rattle.pc_texts.specs.Texts.{printed_name, refusal_text};
 ghost use Rattle.pc_restore.specs.Reports.{count_line, counts_text, damage_text, details_text, is_cut, log_line, name_at, pairs_text, recovery_text, skipped_line};
 ghost use Rattle.pc_restore.specs.Recoveries.{names_of};
 
 use crate::recovery::PartBytes;
 use itoa::Buffer;
 use pc_recover::{Recovered, Skipped};
-use pc_texts::{put_pairs, put_reason};
+use pc_texts::{put_name, put_pairs, put_reason};
 use pc_types::{Key, Point, Refusal, Tally, Value};
 use std::io::Write;
 
@@ -121,12 +121,21 @@ fn put_skipped<W: Write>(
 }
 
 fn put_place<W: Write>(out: &mut Tally<W>, name: &[u8]) -> Result<(), Refusal>
-    ensures { Puts W.contents out.old out.new result (codes "skipped " ++ (name.now ++ codes " ")) }
+    ensures { Puts W.contents out.old out.new result (codes "skipped " ++ printed_name name.now) }
 {
-    out.put_all(&[b"skipped ", name, b" "])
+    out.put(b"skipped ")?;
+    put_name(out, name)
 }
 
+// A space, the reason and the end of the line.
 fn put_reason_line<W: Write>(out: &mut Tally<W>, reason: Refusal) -> Result<(), Refusal>
+    ensures { Puts W.contents out.old out.new result (codes " " ++ (refusal_text reason ++ codes "\n")) }
+{
+    out.put(b" ")?;
+    put_reason_end(out, reason)
+}
+
+fn put_reason_end<W: Write>(out: &mut Tally<W>, reason: Refusal) -> Result<(), Refusal>
     ensures { Puts W.contents out.old out.new result (refusal_text reason ++ codes "\n") }
 {
     put_reason(out, reason)?;

@@ -1,8 +1,14 @@
-use Rattle.std.proofs.Common.{codes}
-use Rattle.pc_types.proofs.PutsLaws.{puts_then}
+use Rattle.std.proofs.Common.{◌++◌, codes}
+use Rattle.std.proofs.lemmas.Result.{err_from_is_err_and}
+use Rattle.pc_types.proofs.PutsLaws.{puts_then, puts_stop}
 use Rattle.pc_texts.specs.Texts.{refusal_text}
 use Rattle.pc_restore.proofs.reports.put_reason_line.Goals as goal
 
+pub returns-in_err-put : goal.returns-in_err-put
+returns-in_err-put g c =
+    let p = err_from_is_err_and c.from_residual.result c.from_residual.ensures.1 in
+    rw (p.1, p.2) (puts_stop g.W.Write.contents c.args.out.now c.put.new.self _ (codes " ") (refusal_text c.args.reason ++ codes "\n") c.in_err-put.ensures)
+
 pub returns : goal.returns
 returns g c =
-    puts_then g.W.Write.contents c.args.out.now c.put_reason.new.out c.put.new.self c.put.result (refusal_text c.args.reason) (codes "\n") c.in_ok-put_reason.ensures c.put.ensures
+    puts_then g.W.Write.contents c.args.out.now c.put.new.self c.put_reason_end.new.out c.put_reason_end.result (codes " ") (refusal_text c.args.reason ++ codes "\n") c.in_ok-put.ensures c.put_reason_end.ensures
