@@ -100,7 +100,8 @@ fn run_task<H: Threads + Wait + Sync>(rt: &HostRuntime, threads: &H, task: Task)
         Task::Recover(dir) => {
             let FoundFolder { folder, unopened } = open_folder(rt, dir)?;
             tell_unopened(&unopened, &mut errors);
-            Ok(run_recover(alloc, dir, folder, &mut out, &mut errors))
+            let ended = run_recover(alloc, dir, folder, false, &mut out, &mut errors);
+            Ok(ended.status)
         }
     }
 }

@@ -132,7 +132,11 @@ fn origin_of<'a, E: Write>(
             let FoundFolder { folder, unopened } = open_folder(rt, path)?;
             tell_unopened(&unopened, errors);
             let name = Vec::from_slice(rt.alloc(), path.as_bytes())?;
-            Start::Folder(NamedFolder { name, folder })
+            Start::Folder(NamedFolder {
+                name,
+                folder,
+                accepts_damage: true,
+            })
         }
         None => Start::Empty(u64::from(options.run)),
     };
