@@ -8,7 +8,7 @@ rules of docs/FORMATS.md alone. Expected outputs of the gate's programs come fro
 
 import sys
 
-from plain_store import changed, key_word, keyed, run_script, word
+from plain_store import changed, key_word, keyed, name_text, run_script, word
 
 # The ends of the magics of both formats. In a text of the first the keys are of space 0, which doesn't stand there.
 FIRST, SECOND = b"01", b"02"

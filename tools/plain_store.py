@@ -379,7 +379,12 @@ def word(text):
         return b"-"
     if text == b"-":
         return b"\\x2d"
-    return b"".join(bytes([it]) if 0x21 <= it <= 0x7E and it != 0x5C else b"\\x%02x" % it for it in text)
+    return name_text(text)
+
+
+def name_text(name):
+    """What is printed of the name of a file: each byte as it is in a word, and nothing of no bytes."""
+    return b"".join(bytes([it]) if 0x21 <= it <= 0x7E and it != 0x5C else b"\\x%02x" % it for it in name)
 
 
 def key_word(key):

@@ -4,6 +4,7 @@ use Rattle.std.proofs.lemmas.Bool.{false≢true}
 use Rattle.std.specs.Prelude.{IfOk, IfSome, IsOk, is_some}
 use Rattle.pc_types.specs.declared.refusal.Refusal.{Refusal}
 use Rattle.pc_types.specs.declared.refusal.Refusal.TheVariants.{OutOfMemory}
+use Rattle.pc_types.specs.declared.tally.Tally.{Tally}
 use Rattle.pc_model.specs.Replies.{Setting}
 use Rattle.pc_jobs.specs.Workloads.{reading_of}
 use Rattle.pc_jobs.specs.declared.works.Workload.{Workload}
@@ -50,13 +51,13 @@ module _ {R D : Type 0} (remaining : R → Option (List ℕ)) (folder : Option (
   run_failed opened workload fault.NoThread st there read usable begun ends = (there, usable, (workload, read, (st, begun, ends)))
 
   -- it has nothing to start from
-  pub not_started : {S : Type 0} (theirs : S → Option (List ℕ)) (opened : Result R Refusal) (first : Start S) (why : RunFailure) → CanRun remaining opened → IsUsable folder
-      → IsUnstarted theirs first why → begins (Unstarted why) → IsRunUnanswered remaining opened folder begins why
-  not_started theirs opened (start.Folder old) (failure.Start name lost) can usable is begun = (can, usable, begun)
-  not_started theirs opened (start.Folder old) (failure.Run why) can usable is begun = absurd is
-  not_started theirs opened (start.Folder old) (failure.Folder name why) can usable is begun = absurd is
-  not_started theirs opened (start.Folder old) failure.Output can usable is begun = absurd is
-  not_started theirs opened (start.Empty run) (failure.Start name lost) can usable is begun = absurd is
-  not_started theirs opened (start.Empty run) (failure.Run why) can usable is begun = absurd is
-  not_started theirs opened (start.Empty run) (failure.Folder name why) can usable is begun = absurd is
-  not_started theirs opened (start.Empty run) failure.Output can usable is begun = absurd is
+  pub not_started : {S T : Type 0} (theirs : S → Option (List ℕ)) (contents : T → Option (List ℕ)) (opened : Result R Refusal) (first : Start S) (old new : Tally T) (why : RunFailure) → CanRun remaining opened → IsUsable folder
+      → IsUnstarted theirs contents first old new why → begins (Unstarted why) → IsRunUnanswered remaining opened folder begins why
+  not_started theirs contents opened (start.Folder old_run) old new (failure.Start name lost) can usable is begun = (can, usable, begun)
+  not_started theirs contents opened (start.Folder old_run) old new (failure.Run why) can usable is begun = absurd is
+  not_started theirs contents opened (start.Folder old_run) old new (failure.Folder name why) can usable is begun = absurd is
+  not_started theirs contents opened (start.Folder old_run) old new failure.Output can usable is begun = absurd is
+  not_started theirs contents opened (start.Empty run) old new (failure.Start name lost) can usable is begun = absurd is
+  not_started theirs contents opened (start.Empty run) old new (failure.Run why) can usable is begun = absurd is
+  not_started theirs contents opened (start.Empty run) old new (failure.Folder name why) can usable is begun = absurd is
+  not_started theirs contents opened (start.Empty run) old new failure.Output can usable is begun = absurd is

@@ -1,9 +1,9 @@
 -- A run of a workload: what its store starts from, what its text is read as, what is printed, why it may fail, and what is told of
 -- that.
-use Rattle.std.specs.Prelude.{◌≡◌, ◌⊎◌, ◌++◌, ℕ, Bool, List, Option, Result, Err, [], is_some, IsOk, IfOk, IfSome, MatchOption, codes}
+use Rattle.std.specs.Prelude.{◌≡◌, ◌⊎◌, ℕ, Bool, List, Option, Result, Err, [], is_some, IsOk, IfOk, IfSome, MatchOption, codes}
 use Rattle.std.specs.Io.KnownBytes.{Appends}
 use Rattle.pc_types.specs.Counted.{HasRisen, AppendsBeginning}
-use Rattle.pc_types.specs.Tallies.{Puts, inner_of, failures_of}
+use Rattle.pc_types.specs.Tallies.{inner_of, failures_of}
 use Rattle.pc_types.specs.declared.limits.TheConstants.{MOST_SESSIONS}
 use Rattle.pc_types.specs.declared.refusal.Refusal.{Refusal}
 use Rattle.pc_types.specs.declared.tally.Tally.{Tally}
@@ -44,15 +44,16 @@ abbrev pub run_setting : BaseFile → ℕ → Setting
 run_setting base capacity = record { run = base.run; base = base.pairs; sessions = MOST_SESSIONS; capacity = capacity }
 
 -- It is the base that a run starts from. Of no folder it has no pairs and the run's number, and nothing is told; else it is made of
--- the folder, and what is damaged there was told.
+-- the folder, which isn't damaged where that is not accepted, and what is damaged there was told.
 abbrev pub IsStart : {S T : Type 0} → (S → Option (List ℕ)) → (T → Option (List ℕ)) → Start S → Tally T → Tally T → BaseFile → Type 0
 IsStart remaining contents (start.Empty run) old new base = (base ≡ record { run = run; point = 0; pairs = database_of [] }) × (new ≡ old)
-IsStart remaining contents (start.Folder old_run) old new base = IsBaseMade remaining contents old_run.folder old new base
+IsStart remaining contents (start.Folder old_run) old new base = IsBaseMade remaining contents old_run.folder old_run.accepts_damage old new base
 
--- a run was to start from the folder of this name, and there is no base of it for this reason
-abbrev pub IsUnstarted : {S : Type 0} → (S → Option (List ℕ)) → Start S → RunFailure → Type 0
-IsUnstarted remaining (start.Folder old_run) (failure.Start name lost) = (name ≡ old_run.name) × IsBaseUnmade remaining old_run.folder lost
-IsUnstarted remaining other why = ⊥
+-- A run was to start from the folder of this name, and there is no base of it for this reason: nothing was told yet, or, where the
+-- folder is damaged and that is not accepted, what is damaged there.
+abbrev pub IsUnstarted : {S T : Type 0} → (S → Option (List ℕ)) → (T → Option (List ℕ)) → Start S → Tally T → Tally T → RunFailure → Type 0
+IsUnstarted remaining contents (start.Folder old_run) old new (failure.Start name lost) = (name ≡ old_run.name) × IsBaseUnmade remaining contents old_run.folder old_run.accepts_damage old new lost
+IsUnstarted remaining contents other old new why = ⊥
 
 -- how far a run has come: nothing was begun; it has nothing to start from, for this reason; or its store was to be opened so
 pub data Beginning : Type 0 where
@@ -60,10 +61,11 @@ pub data Beginning : Type 0 where
   Unstarted : (why : RunFailure) → Beginning
   Begun : (st : Setting) → Beginning
 
--- A run has come so far, and this was told till then: what is damaged of the folder that it starts from, once it has begun.
+-- A run has come so far, and this was told till then: what is damaged of the folder that it starts from, once it has begun or for
+-- this was refused.
 abbrev pub RunBegins : {S T : Type 0} → (S → Option (List ℕ)) → (T → Option (List ℕ)) → Origin S → Tally T → Tally T → Beginning → Type 0
 RunBegins remaining contents origin old new NotBegun = new ≡ old
-RunBegins remaining contents origin old new (Unstarted why) = IsUnstarted remaining origin.start why × (new ≡ old)
+RunBegins remaining contents origin old new (Unstarted why) = IsUnstarted remaining contents origin.start old new why
 RunBegins remaining contents origin old new (Begun st) = (base : BaseFile) × IsStart remaining contents origin.start old new base × (st ≡ run_setting base origin.capacity)
 
 -- The workload was run over a store of this setting, told by one legal history of it: its clients have run, so many transactions
@@ -136,20 +138,12 @@ IsCauseOfUnprinted {R} {D} remaining holds contents opened folder begins old new
     × ((left : Option D) × (some : Printed) × IsAnswer remaining holds opened folder begins left some × AppendsBeginning (contents (inner_of old)) (contents (inner_of new)) (printed_text some))
 IsCauseOfUnprinted remaining holds contents opened folder begins old new other = (new ≡ old) × IsRunUnanswered remaining opened folder begins other
 
--- the line that tells of a reason by a name
-abbrev pub reason_text : List ℕ → List ℕ → List ℕ
-reason_text name reason = codes "pcalc: " ++ (name ++ (codes ": " ++ (reason ++ codes "\n")))
-
--- it is told, as far as the writer takes it
-abbrev pub TellsReason : {T : Type 0} → (T → Option (List ℕ)) → Tally T → Tally T → List ℕ → List ℕ → Type 0
-TellsReason contents old new name reason = (told : Result (Unit {0}) Refusal) × Puts contents old new told (reason_text name reason)
-
 -- what is told of a failure, where the workload has this name; of an output that failed nothing
 abbrev pub IsRunTold : {T : Type 0} → (T → Option (List ℕ)) → Tally T → Tally T → List ℕ → RunFailure → Type 0
 IsRunTold contents old new name (failure.Run (fault.Refused why)) = TellsOf contents old new name why
 IsRunTold contents old new name (failure.Run (fault.Unmade file why)) = TellsOf contents old new (name_of file) why
-IsRunTold contents old new name (failure.Run fault.NoThread) = TellsReason contents old new name (codes "NoThread")
-IsRunTold contents old new name (failure.Folder folder unusable.NotEmpty) = TellsReason contents old new folder.items (codes "NotEmpty")
+IsRunTold contents old new name (failure.Run fault.NoThread) = recoveries.TellsReason contents old new name (codes "NoThread")
+IsRunTold contents old new name (failure.Folder folder unusable.NotEmpty) = recoveries.TellsReason contents old new folder.items (codes "NotEmpty")
 IsRunTold contents old new name (failure.Folder folder (unusable.Unlisted why)) = TellsOf contents old new folder.items why
 IsRunTold contents old new name (failure.Start folder lost) = recoveries.IsRecoveryTold contents old new folder.items lost
 IsRunTold contents old new name failure.Output = new ≡ old

@@ -2,13 +2,13 @@
 ghost use Rattle.std.specs.Prelude.{◌≡◌, IfErr, IfOk, OnOk, is_some};
 ghost use Rattle.std.specs.Io.KnownBytes.{Appends};
 ghost use Rattle.pc_types.specs.Counted.{HasRisen, AppendsBeginning};
-ghost use Rattle.pc_types.specs.Tallies.{Puts, inner_of, failures_of};
+ghost use Rattle.pc_types.specs.Tallies.{inner_of, failures_of};
 ghost use Rattle.pc_outcomes.specs.Outcomes.{printed_text};
-ghost use Rattle.pc_runs.specs.Runs.{IsRunTold, IsUsable, IsUnusable, reason_text};
+ghost use Rattle.pc_runs.specs.Runs.{IsRunTold, IsUsable, IsUnusable};
 
 use crate::files::{RunFolder, Unusable, report_unmade};
 use pc_outcomes::Printed;
-use pc_restore::{Lost, tell_lost};
+use pc_restore::{Lost, tell_lost, tell_reason};
 use pc_texts::{end_output, report};
 use pc_threads::ThreadsFault;
 use pc_types::{Refusal, Tally};
@@ -21,7 +21,7 @@ pub enum RunFailure {
     Run(ThreadsFault),
     /// It was not run: the folder of this name can't be used for its files.
     Folder(Vec<u8>, Unusable),
-    /// It was not run: nothing can be recovered of the folder of this name, which it was to start from.
+    /// It was not run: of the folder of this name, which it was to start from, nothing can be recovered, or it is damaged.
     Start(Vec<u8>, Lost),
     /// The output failed.
     Output,
@@ -85,10 +85,10 @@ impl RunFailure {
             RunFailure::Run(fault) => match fault {
                 ThreadsFault::Refused(why) => report(workload, why, errors),
                 ThreadsFault::Unmade(file, why) => report_unmade(file, why, errors),
-                ThreadsFault::NoThread => put_reason(workload, b"NoThread", errors),
+                ThreadsFault::NoThread => tell_reason(workload, b"NoThread", errors),
             },
             RunFailure::Folder(folder, unusable) => match unusable {
-                Unusable::NotEmpty => put_reason(&folder, b"NotEmpty", errors),
+                Unusable::NotEmpty => tell_reason(&folder, b"NotEmpty", errors),
                 Unusable::Unlisted(why) => report(&folder, why, errors),
             },
             RunFailure::Start(old, lost) => {
@@ -98,11 +98,4 @@ impl RunFailure {
             RunFailure::Output => Ok(()),
         };
     }
-}
-
-// Writes the line that tells of a reason that is no refusal, by a name.
-fn put_reason<E: Write>(name: &[u8], reason: &[u8], errors: &mut Tally<E>) -> Result<(), Refusal>
-    ensures { Puts E.contents errors.old errors.new result (reason_text name.now reason.now) }
-{
-    errors.put_all(&[b"pcalc: ", name, b": ", reason, b"\n"])
 }

@@ -9,6 +9,8 @@ use pc_restore::Folder;
 pub struct NamedFolder<R> {
     pub name: Vec<u8>,
     pub folder: Folder<R>,
+    /// Whether a run starts from it also where its files lack more than what a process that is killed leaves.
+    pub accepts_damage: bool,
 }
 
 /// What the store of a run starts from.

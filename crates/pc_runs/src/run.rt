@@ -46,7 +46,8 @@ pub struct Finished<D> {
 /// - else 1, and a line on the error writer tells why: the workload isn't there, can't be read or is too large for memory, a
 ///   file of the folder can't be made or written, a thread can't be started, or a call was refused; or, by the folder's name, the
 ///   folder can't be used, or by the names that a recovery tells, nothing can be recovered of the one that the store was to start
-///   from: then nothing is run, and no file is made. Of an output that fails nothing is told.
+///   from, or it is damaged and that isn't accepted: then nothing is run, and no file is made. Of an output that fails nothing is
+///   told.
 ///
 /// What is damaged or lacks of the files that the store starts from is told on the error writer before the run begins. Where there
 /// is a folder for files, the base, the log and the file of each point are written to it, the log as it grows, and the folder is handed

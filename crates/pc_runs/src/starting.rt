@@ -10,8 +10,8 @@ use pc_types::Tally;
 use std::alloc::Global;
 use std::io::{Read, Write};
 
-/// The base of a run. What a folder's files lack is told on the error writer; where nothing is recovered of them nothing is told
-/// yet, and the failure says why.
+/// The base of a run. What a folder's files lack is told on the error writer, also where they are damaged and that isn't accepted;
+/// where nothing is recovered of them nothing is told yet. Where there is no base, the failure says why.
 pub fn base_of<R: Read + Drop, E: Write>(
     alloc: Global,
     start: Start<R>,
@@ -19,13 +19,17 @@ pub fn base_of<R: Read + Drop, E: Write>(
 ) -> Result<Base, RunFailure>
     ensures point { IfOk result (λ base. base.point ≡ 0) }
     ensures start { IfOk result (IsStart R.remaining E.contents start errors.old errors.new) }
-    ensures cause { IfErr result (λ failure. IsUnstarted R.remaining start failure × (errors.new ≡ errors.old)) }
+    ensures cause { IfErr result (IsUnstarted R.remaining E.contents start errors.old errors.new) }
 {
     match start {
         Start::Empty(run) => Ok(Base::start(run, Vec::new(alloc))),
         Start::Folder(named) => {
-            let NamedFolder { name, folder } = named;
-            match recover_base(alloc, folder, errors) {
+            let NamedFolder {
+                name,
+                folder,
+                accepts_damage,
+            } = named;
+            match recover_base(alloc, folder, accepts_damage, errors) {
                 Ok(base) => Ok(base),
                 Err(lost) => Err(RunFailure::Start(name, lost)),
             }

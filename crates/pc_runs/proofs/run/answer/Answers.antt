@@ -20,8 +20,8 @@ returns-in_err-base-in-Runs-clause-cause g c =
     let can : CanRun g.R.Read.remaining c.args.opened = (c.in_ok-text.ensures.opened, (c.in-Runs.workload, read_as g.R.Read.remaining c.args.opened text c.deref.result.now c.in_ok-line.field-0 (Runs c.in-Runs.workload) c.in_ok-text.ensures.script c.deref.ensures.value c.in_ok-line.ensures.reading c.in-Runs.is)) in
     let cause = c.in_err-base-in-Runs.ensures.cause in
     rw (p.1, p.2)
-    (not_started g.R.Read.remaining c.args.folder (RunBegins g.S.Read.remaining g.E.Write.contents c.args.origin c.args.errors.now c.base_of.new.errors) g.S.Read.remaining c.args.opened
-    c.args.origin.start c.in_err-base-in-Runs.field-0.0 can c.in_ok-folder-in-Runs.ensures.usable cause.0 cause)
+    (not_started g.R.Read.remaining c.args.folder (RunBegins g.S.Read.remaining g.E.Write.contents c.args.origin c.args.errors.now c.base_of.new.errors) g.S.Read.remaining g.E.Write.contents c.args.opened
+    c.args.origin.start c.args.errors.now c.base_of.new.errors c.in_err-base-in-Runs.field-0.0 can c.in_ok-folder-in-Runs.ensures.usable cause cause)
 
 pub returns-in_err-outcome-in-Runs-clause-cause : goal.returns-in_err-outcome-in-Runs-clause-cause
 returns-in_err-outcome-in-Runs-clause-cause g c =
