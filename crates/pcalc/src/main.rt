@@ -6,6 +6,7 @@ mod folder;
 mod late;
 mod parts;
 mod running;
+mod showing;
 mod standard;
 
 use clap::Error;

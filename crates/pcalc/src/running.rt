@@ -2,6 +2,7 @@
 use crate::folder::{FoundFolder, open_folder, run_folder, tell_unopened};
 use crate::late::LateFile;
 use crate::parts::{NewFile, open_named};
+use crate::showing::run_shown;
 use pc_collapse_files::Maker;
 use pc_options::RunOptions;
 use pc_progress::{Asked, Behind, Progress};
@@ -30,9 +31,9 @@ pub fn run_clients<H: Threads + Wait + Sync>(
 ) -> io::Result<u8> {
     let progress = Progress::new(rt, asked(options))?;
     let stderr = rt.stderr();
-    let mut errors = Tally::new(Behind::new(&progress, io::writer(&stderr)));
+    let mut errors = Tally::new(Behind::new(&progress, threads, io::writer(&stderr)));
     let Some(path) = options.times else {
-        return run(rt, threads, options, &progress, &mut errors);
+        return run_shown(rt, threads, options, &progress, &mut errors);
     };
     if path == options.workload {
         let _ = errors.put_all(&[
@@ -49,7 +50,7 @@ pub fn run_clients<H: Threads + Wait + Sync>(
             return Ok(FAILED);
         }
     };
-    let status = run(rt, threads, options, &progress, &mut errors)?;
+    let status = run_shown(rt, threads, options, &progress, &mut errors)?;
     if status == 0 && put_times(&progress, file).is_err() {
         let _ = report(path.as_bytes(), Refusal::Device, &mut errors);
         return Ok(FAILED);
@@ -82,9 +83,9 @@ fn put_times(progress: &Progress<'_>, file: BufWriter<File>) -> io::Result<()> {
     file.flush()
 }
 
-// Runs the workload, and prints what it leaves, and its report where that is asked for. The seed of the store's hashes is drawn before
-// anything is opened.
-fn run<H: Threads + Wait + Sync, E: Write>(
+/// Runs the workload, and prints what it leaves, and its report where that is asked for. The seed of the store's hashes is drawn before
+/// anything is opened.
+pub fn run<H: Threads + Wait + Sync, E: Write>(
     rt: &HostRuntime,
     threads: &H,
     options: &RunOptions<'_>,
@@ -93,7 +94,10 @@ fn run<H: Threads + Wait + Sync, E: Write>(
 ) -> io::Result<u8> {
     let alloc = rt.alloc();
     let seed = RandomState::new(rt)?;
-    let mut out = Tally::new(BufWriter::new(alloc, Behind::new(progress, io::writer(rt)))?);
+    let mut out = Tally::new(BufWriter::new(
+        alloc,
+        Behind::new(progress, threads, io::writer(rt)),
+    )?);
     let folder = match options.folder {
         Some(path) => Some(run_folder(rt, path, options.is_synced)?),
         None => None,
@@ -113,7 +117,7 @@ fn run<H: Threads + Wait + Sync, E: Write>(
         threads, alloc, seed, file, origin, &crew, folder, &mut out, errors,
     );
     let status = finished.status;
-    progress.end();
+    progress.end(threads);
     if status == 0 && options.is_reported {
         progress.put_report(&mut out)?;
         out.flush()?;

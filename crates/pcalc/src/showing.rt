@@ -1,0 +1,29 @@
+//! A run, and beside it the thread that shows how far it is.
+use crate::running::run;
+use pc_options::RunOptions;
+use pc_progress::Progress;
+use pc_types::Tally;
+use std::io::Write;
+use std::sync::Wait;
+use std::thread::Threads;
+use std::{io, thread};
+
+/// Runs the workload as the options say; the status. Where a line is to be shown on a terminal, a thread of its own shows it until the run
+/// has ended; where that thread can't be started, nothing is shown.
+pub fn run_shown<H: Threads + Wait + Sync, E: Write>(
+    rt: &HostRuntime,
+    threads: &H,
+    options: &RunOptions<'_>,
+    progress: &Progress<'_>,
+    errors: &mut Tally<E>,
+) -> io::Result<u8> {
+    if !progress.is_shown() {
+        return run(rt, threads, options, progress, errors);
+    }
+    thread::scope(thread::scope_env(), threads, |scope| -> io::Result<u8> {
+        let _ = scope.spawn(move || progress.show_until_ended(threads));
+        let ended = run(rt, threads, options, progress, errors);
+        progress.end(threads);
+        ended
+    })
+}
