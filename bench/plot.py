@@ -1,22 +1,27 @@
 #!/usr/bin/env python3
 """Draws a run of `pcalc run WORKLOAD --times FILE`: how many transactions committed over its time, and the phases of its checkpoints.
 
-    bench/plot.py FILE SVG     reads the times from FILE and writes the picture to SVG
+    bench/plot.py FILE SVG [--title TEXT]     reads the times from FILE and writes the picture to SVG
 
-A bar is a hundredth of a second, or, of a run of more than 7 seconds, the mean of as many as one bar must stand for. A phase has the colour of its
-band where it stood at the end of a hundredth of a second, so that one which came and went within a hundredth isn't seen.
+TEXT stands above it: what was run, as its keys, its clients and the machine. A bar is a hundredth of a second, or, of a run of more than 7 seconds, the
+mean of as many as one bar must stand for. In the strip below the bars a phase has its colour where it stood at the end of a hundredth of a second, so that
+one which came and went within a hundredth isn't seen. What is wrong with FILE or SVG is told in a line, and the status is 1.
 """
 
+import argparse
+import html
 import itertools
 import sys
 
-WIDTH, HEIGHT = 860, 400
-LEFT, RIGHT, TOP, BOTTOM = 70, 20, 122, 50
+WIDTH, HEIGHT = 860, 420
+LEFT, RIGHT, TOP, BOTTOM = 70, 20, 104, 92
+# the strip of the phases, and how far below the bars it begins
+STRIP, BELOW = 14, 26
 MOST_BARS = 700
 # hundredths in a second
 SECOND = 100
 TICKS = 6
-COLOURS = {"rest": "#ffffff", "prepare": "#fde9a9", "resolve": "#f6b8a2", "capture": "#bfe3c0", "complete": "#d9c7ea"}
+COLOURS = {"rest": "#f2f2f2", "prepare": "#f2c94c", "resolve": "#e2765a", "capture": "#7fc487", "complete": "#b294d4"}
 MEANINGS = {
     "prepare": "waits for the transactions begun before it",
     "resolve": "the point; waits for those begun in prepare",
@@ -25,20 +30,24 @@ MEANINGS = {
 }
 
 
+class NoTimes(Exception):
+    """What is wrong with a file that isn't one of `--times`."""
+
+
 def read(path):
     """The commits and the phase of each hundredth of a second, from the first on."""
     commits, phases = [], []
-    with open(path, encoding="ascii") as it:
-        for line in it:
+    with open(path, encoding="ascii", errors="replace") as it:
+        for number, line in enumerate(it, 1):
             if line.startswith("#"):
                 continue
-            number, count, phase = line.split()
-            if int(number) != len(commits) or phase not in COLOURS:
-                sys.exit(f"{path}: not a file of --times")
-            commits.append(int(count))
-            phases.append(phase)
+            words = line.split()
+            if len(words) != 3 or words[0] != str(len(commits)) or not words[1].isdecimal() or words[2] not in COLOURS:
+                raise NoTimes(f"line {number} is none of --times")
+            commits.append(int(words[1]))
+            phases.append(words[2])
     if not any(commits):
-        sys.exit(f"{path}: no commit to draw")
+        raise NoTimes("no transaction commits in it")
     return commits, phases
 
 
@@ -82,13 +91,13 @@ def line(x1, y1, x2, y2):
     return f'<line x1="{x1:.1f}" y1="{y1:.1f}" x2="{x2:.1f}" y2="{y2:.1f}" stroke="#444444"/>\n'
 
 
-def bands(phases, across):
-    """A band behind the bars for each phase but rest, from its first hundredth to its last."""
-    drawn, at = "", 0
+def strip(phases, across):
+    """Below the bars a box for each phase, from its first hundredth to its last."""
+    top = HEIGHT - BOTTOM + BELOW
+    drawn, at = text(LEFT - 7, top + 11, "phase", ' text-anchor="end"'), 0
     for phase, run in itertools.groupby(phases):
         length = sum(1 for _ in run)
-        if phase != "rest":
-            drawn += box(LEFT + at * across, TOP, max(length * across, 1), HEIGHT - TOP - BOTTOM, COLOURS[phase])
+        drawn += box(LEFT + at * across, top, max(length * across, 1), STRIP, COLOURS[phase])
         at += length
     return drawn
 
@@ -98,12 +107,12 @@ def legend():
     drawn = ""
     for place, (phase, meaning) in enumerate(MEANINGS.items()):
         x, y = LEFT + place // 2 * (WIDTH - LEFT) / 2, TOP - 46 + place % 2 * 18
-        drawn += f'<rect x="{x:.1f}" y="{y:.1f}" width="12" height="12" fill="{COLOURS[phase]}" stroke="#888888"/>\n' + text(x + 18, y + 10, f"{phase}: {meaning}")
+        drawn += f'<rect x="{x:.1f}" y="{y:.1f}" width="12" height="12" fill="{COLOURS[phase]}"/>\n' + text(x + 18, y + 10, f"{phase}: {meaning}")
     return drawn
 
 
-def axes(seconds, most):
-    """Both axes with their marks, names and units."""
+def axes(seconds, most, size):
+    """Both axes with their marks, names and units, where a bar stands for so many hundredths of a second."""
     bottom, up, across = HEIGHT - BOTTOM, HEIGHT - TOP - BOTTOM, (WIDTH - LEFT - RIGHT) / seconds
     drawn = line(LEFT, bottom, WIDTH - RIGHT, bottom) + line(LEFT, TOP, LEFT, bottom)
     for second in marks(seconds):
@@ -112,33 +121,41 @@ def axes(seconds, most):
     for count in marks(most):
         y = bottom - count * up / most
         drawn += line(LEFT - 4, y, LEFT, y) + text(LEFT - 7, y + 4, f"{count:g}", ' text-anchor="end"')
-    drawn += text((LEFT + WIDTH - RIGHT) / 2, HEIGHT - 12, "time since the begin of the run, in seconds", ' text-anchor="middle"')
-    middle = (TOP + bottom) / 2
-    return drawn + text(18, middle, "commits in a hundredth of a second", f' text-anchor="middle" transform="rotate(-90 18 {middle:.1f})"')
+    drawn += text((LEFT + WIDTH - RIGHT) / 2, HEIGHT - 18, "time since the begin of the run, in seconds", ' text-anchor="middle"')
+    middle, mean = (TOP + bottom) / 2, "" if size == 1 else f", mean of {size}"
+    return drawn + text(14, middle, f"commits in a hundredth of a second{mean}", f' text-anchor="middle" transform="rotate(-90 14 {middle:.1f})"')
 
 
-def drawn(commits, phases):
+def drawn(commits, phases, title):
     """The picture."""
     size = -(-len(commits) // MOST_BARS)
     bars, across = grouped(commits, size), (WIDTH - LEFT - RIGHT) / len(commits)
     most, bottom, up = max(bars), HEIGHT - BOTTOM, HEIGHT - TOP - BOTTOM
     shown = "".join(box(LEFT + place * size * across, bottom - bar * up / most, max(size * across * 0.8, 0.5), bar * up / most, "#3b6ea8") for place, bar in enumerate(bars))
-    title = f"{sum(commits):,} transactions commit, and checkpoints are taken beside them"
     pause = longest_pause(commits)
     told = f"The longest time without a commit is {pause * 1_000 // SECOND} ms." if pause else "There is no hundredth of a second without a commit."
-    means = "A bar is how many transactions committed; a band of colour is a phase of a checkpoint:"
+    means = f"{sum(commits):,} transactions commit, and checkpoints are taken beside them. {told}"
     return f"""<svg xmlns="http://www.w3.org/2000/svg" viewBox="0 0 {WIDTH} {HEIGHT}" font-family="sans-serif" font-size="12">
 <rect width="{WIDTH}" height="{HEIGHT}" fill="white"/>
-{text(LEFT, 22, title, ' font-size="15"')}{text(LEFT, 43, told)}{text(LEFT, 62, means)}{legend()}{bands(phases, across)}{shown}{axes(len(commits) / SECOND, most)}</svg>
+{text(LEFT, 22, html.escape(title), ' font-size="15"')}{text(LEFT, 43, means)}{legend()}{shown}{strip(phases, across)}{axes(len(commits) / SECOND, most, size)}</svg>
 """
 
 
 def main():
-    if len(sys.argv) != 3:
-        sys.exit(__doc__)
-    picture = drawn(*read(sys.argv[1]))
-    with open(sys.argv[2], "w", encoding="utf-8") as out:
-        out.write(picture)
+    words = argparse.ArgumentParser(description=__doc__.splitlines()[0])
+    words.add_argument("times", metavar="FILE")
+    words.add_argument("picture", metavar="SVG")
+    words.add_argument("--title", metavar="TEXT", default="A run with checkpoints")
+    asked = words.parse_args()
+    try:
+        picture = drawn(*read(asked.times), asked.title)
+    except (OSError, NoTimes) as fault:
+        sys.exit(f"{asked.times}: {getattr(fault, 'strerror', None) or fault}")
+    try:
+        with open(asked.picture, "w", encoding="utf-8") as out:
+            out.write(picture)
+    except OSError as fault:
+        sys.exit(f"{asked.picture}: {fault.strerror}")
 
 
 if __name__ == "__main__":

@@ -81,7 +81,8 @@ def draw(folder, commits, picture):
     path, _ = workload(folder, commits, CLIENTS[-1], min(RUNS), POINTS[1])
     times = os.path.join(folder, "run.times")
     subprocess.run([shared.program("pcalc"), "run", path, "--dir", folder, "--times", times, "--quiet"], check=True, stdout=subprocess.DEVNULL)
-    subprocess.run([sys.executable, os.path.join(os.path.dirname(os.path.abspath(__file__)), "plot.py"), times, picture], check=True)
+    title = f"{min(RUNS):,} keys, {CLIENTS[-1]} clients, {POINTS[1]} points"
+    subprocess.run([sys.executable, os.path.join(os.path.dirname(os.path.abspath(__file__)), "plot.py"), times, picture, "--title", title], check=True)
 
 
 def main():

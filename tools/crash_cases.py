@@ -13,7 +13,9 @@ import os
 import pty
 import re
 import subprocess
+import termios
 import threading
+import time
 
 import plain_files
 from plain_store import key_word
@@ -32,7 +34,7 @@ DEFAULT_LAG = 65_536
 # bytes of a log before its entries
 HEADER = 20
 SECONDS = 60
-LINE = re.compile(rb"\r(\d+) commits, point (\d+), \d+ joins, lag \d+, given up 0\x1b\[K")
+LINE = re.compile(rb"\r\x1b\[\?7l(\d+) commits, point (\d+), \d+ joins, lag \d+, given up 0\x1b\[K\x1b\[\?7h")
 
 
 def key_of(name, client, number):
@@ -178,6 +180,38 @@ def restarts(program, folder):
         yield f"run again.pcw, killed behind {moment} commits, from a run that was killed so", lines
 
 
+def has_whole_log(folder):
+    """Whether the log has all transactions before the time is up."""
+    end = time.monotonic() + SECONDS
+    while time.monotonic() < end:
+        if os.path.exists(os.path.join(folder, "log.pcl")) and sum(map(len, in_log(folder).values())) == CLIENTS * COUNT:
+            return True
+        time.sleep(0.05)
+    return False
+
+
+def stopped_terminal(program, folder):
+    """What a run differs in whose terminal is stopped: its log grows to its end all the same. It ends once the terminal goes on, behind its last line."""
+    place = os.path.join(folder, "stopped")
+    os.makedirs(place)
+    terminal, other = pty.openpty()
+    termios.tcflow(other, termios.TCOOFF)
+    with contextlib.closing(os.fdopen(terminal, "rb", buffering=0)):
+        with subprocess.Popen([program, "run", "crash.pcw", "--dir", "stopped"], cwd=folder, stdin=subprocess.DEVNULL, stdout=subprocess.PIPE, stderr=other) as run:
+            patience = threading.Timer(2 * SECONDS, run.kill)
+            patience.start()
+            is_whole = has_whole_log(place)
+            termios.tcflow(other, termios.TCOON)
+            os.close(other)
+            shown = [*lines_of(terminal)]
+            told = run.stdout.read()
+            patience.cancel()
+    lines = [] if is_whole else ["its log isn't whole while its terminal is stopped"]
+    lines += [] if shown[-1:] == [CLIENTS * COUNT] else [f"its last line shows {shown[-1:]}"]
+    is_right = run.returncode == 0 and told.startswith(b"commits %d\ngave up 0\n" % (CLIENTS * COUNT)) and told.endswith(b"check ok\n")
+    return lines + ([] if is_right else [f"its status is {run.returncode}, and it prints {told!r}"])
+
+
 def crashes(program, folder):
     """What each killed run differs in, by its name."""
     written(folder, "crash.pcw", workload(b"a"))
@@ -187,3 +221,4 @@ def crashes(program, folder):
         yield from lag_crashes(program, folder, lag, points)
     yield "the points of the runs that were killed", [] if any(points) else ["none left the file of a point"]
     yield from restarts(program, folder)
+    yield "run crash.pcw, whose terminal is stopped", stopped_terminal(program, folder)

@@ -1,8 +1,9 @@
 """What `crate_tables.py` and `spec_guide.py` write into pages, and what they tell of a page that has something else."""
 
+import re
 import unittest
 
-from support import InFolder
+from support import InFolder, stored
 
 import crate_tables
 import spec_guide
@@ -55,6 +56,17 @@ class Tables(InFolder):
         self.write("crates.txt", CRATES + "test_high: pc_high\n")
         self.write("crates/test_high/src/lib.rt", "//! Tests of what is high.\n")
         self.assertEqual(self.printed(crate_tables.main, [])[0], 1)
+
+
+def tokens_of(code):
+    """The code without comments and layout."""
+    return re.sub(r"\s+", "", re.sub(r"//.*", "", code)).replace(",)", ")")
+
+
+class Example(unittest.TestCase):
+    def test_the_example_of_the_readme_stands_in_its_crate(self):
+        code = re.search(r"(?s)```rust\n(.*?)```", stored("README.md").decode())[1]
+        self.assertIn(tokens_of(code), tokens_of(stored("crates", "example_store", "src", "lib.rt").decode()))
 
 
 LOW = """\

@@ -72,8 +72,8 @@ class Crashes(InFolder):
 
     def test_the_lines_of_a_terminal(self):
         end, other = os.pipe()
-        line = b"\r%d commits, point 1, 0 joins, lag 0, given up 0\x1b[K"
-        os.write(other, b"other\n" + line % 3 + line % 12 + b"\r13 comm")
+        line = b"\r\x1b[?7l%d commits, point 1, 0 joins, lag 0, given up 0\x1b[K\x1b[?7h"
+        os.write(other, b"other\n" + line % 3 + line % 12 + b"\r\x1b[?7l13 comm")
         os.close(other)
         self.assertEqual([*crash_cases.lines_of(end)], [3, 12])
         os.close(end)

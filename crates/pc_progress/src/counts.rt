@@ -1,6 +1,9 @@
 //! What is counted of a run while it runs.
-use pc_types::{GatePlace, MOST_SESSIONS, Phase, SessionNo};
+use crate::causes::Causes;
+use pc_types::{GatePlace, MOST_SESSIONS, Phase, Refusal, SessionNo};
 use std::alloc::{AllocError, Global};
+use std::io;
+use std::io::Write;
 use std::sync::atomic::{AtomicU64, Ordering};
 
 /// How often the loops of a run passed their places, and the longest times between two of them. Times are in microseconds, from a
@@ -10,6 +13,7 @@ pub struct Counts {
     commits: AtomicU64,
     deaths: AtomicU64,
     given_up: AtomicU64,
+    causes: Causes,
     points: AtomicU64,
     joins: AtomicU64,
     // The changes of the phase, each of which has an entry in the log.
@@ -40,6 +44,7 @@ impl Counts {
             commits: AtomicU64::new(0),
             deaths: AtomicU64::new(0),
             given_up: AtomicU64::new(0),
+            causes: Causes::new(alloc)?,
             points: AtomicU64::new(0),
             joins: AtomicU64::new(0),
             tokens: AtomicU64::new(0),
@@ -56,15 +61,21 @@ impl Counts {
     /// Counts the place, which is passed now.
     pub fn note(&self, place: &GatePlace, now: u64) {
         match place {
-            GatePlace::Start(session) | GatePlace::Step(session, _) => self.go_on(*session, now),
+            GatePlace::Start(session) => {
+                self.causes.note_start(*session);
+                self.go_on(*session, now);
+            }
+            GatePlace::Step(session, _) => self.go_on(*session, now),
             GatePlace::Behind(session) => self.fall_behind(*session, now),
             GatePlace::Committed(session) => self.commit(*session, now),
             GatePlace::Died(session) => {
                 increase(&self.deaths);
+                self.causes.note_death(*session);
                 self.leave(*session);
             }
             GatePlace::GaveUp(session) => {
                 increase(&self.given_up);
+                self.causes.give_up(*session);
                 self.leave(*session);
             }
             GatePlace::Entered(phase) => self.enter(*phase, now),
@@ -76,6 +87,16 @@ impl Counts {
             GatePlace::Pair(_) => increase(&self.joins),
             GatePlace::Writing(_) | GatePlace::Due(_) | GatePlace::Took => {}
         }
+    }
+
+    /// The session's transaction was refused for this; where it is given up before a further one begins, that is the cause.
+    pub fn note_refusal(&self, session: SessionNo, why: Refusal) {
+        self.causes.note_refusal(session, why);
+    }
+
+    /// Writes a line `given up CAUSE N` for each cause for which some transaction was given up.
+    pub fn put_causes<W: Write>(&self, out: &mut W) -> io::Result<()> {
+        self.causes.put(out)
     }
 
     // The session's transaction passes a place; so long it has waited since the one before.
@@ -135,6 +156,14 @@ impl Counts {
         {
             Ok(_) => 0,
             Err(begun) => now.saturating_sub(begun),
+        }
+    }
+
+    /// How long ago the run has begun; none where it has not.
+    pub fn age(&self, now: u64) -> Option<u64> {
+        match self.begun.load(Ordering::SeqCst) {
+            0 => None,
+            begun => Some(now.saturating_sub(begun)),
         }
     }
 

@@ -1,6 +1,7 @@
 //! How far a run is, and what is counted of it.
 #![tactic(auto)]
 
+mod causes;
 mod counts;
 mod progress;
 mod times;

@@ -1,13 +1,13 @@
 //! How far a run is, shown on a terminal, and what is told of it in the end.
 use crate::counts::Counts;
 use crate::times::Times;
-use pc_types::{Gate, GatePlace};
-use std::io;
+use pc_types::{Gate, GatePlace, Refusal, SessionNo};
 use std::io::{IsTerminal, Write};
-use std::sync::atomic::{AtomicU64, Ordering};
-use std::time::Instant;
+use std::sync::{Mutex, Wait};
+use std::time::{Duration, Instant};
+use std::{io, thread};
 
-// Nothing is shown of a run's first milliseconds, so many, and then at most once in as many.
+/// So many milliseconds pass before the line is shown, and between two times.
 const PAUSE: u64 = 10;
 
 /// What is asked to be counted of a run.
@@ -24,7 +24,7 @@ pub struct Asked {
 }
 
 /// Counts what the loops of a run pass, where that is asked for or is shown on a terminal; else nothing is counted, so that the
-/// threads have no count in common.
+/// threads have no count in common. A loop that passes counts, and never waits for the terminal: a thread of its own shows the line.
 #[derive(Drop)]
 pub struct Progress<'a> {
     rt: &'a HostRuntime,
@@ -44,8 +44,16 @@ struct Counting {
 #[derive(Drop)]
 struct TerminalLine {
     has_log: bool,
-    // When it was last shown, in milliseconds; 0 before, and once it was ended.
-    shown: AtomicU64,
+    // Whoever prints the line has the lock meanwhile, and it is printed only where it hasn't ended. So nothing of it comes behind its end,
+    // and who ends it waits at most until the thread that shows it has printed it once.
+    state: Mutex<LineState>,
+}
+
+#[derive(Clone, Copy)]
+enum LineState {
+    Unshown,
+    Shown,
+    Ended,
 }
 
 impl<'a> Progress<'a> {
@@ -65,7 +73,7 @@ impl<'a> Progress<'a> {
         let line = if is_shown {
             Some(TerminalLine {
                 has_log: asked.has_log,
-                shown: AtomicU64::new(0),
+                state: Mutex::new(LineState::Unshown),
             })
         } else {
             None
@@ -79,20 +87,54 @@ impl<'a> Progress<'a> {
         Ok(Progress { rt, counting })
     }
 
-    /// Ends the line on the terminal, where one is shown.
-    pub fn end(&self) {
-        let Some(counting) = &self.counting else {
+    /// Whether a line is to be shown on a terminal.
+    pub fn is_shown(&self) -> bool {
+        self.line().is_some()
+    }
+
+    fn line(&self) -> Option<(&Counting, &TerminalLine)> {
+        let counting = self.counting.as_ref()?;
+        let line = counting.line.as_ref()?;
+        Some((counting, line))
+    }
+
+    /// Shows the line on the terminal every 10 milliseconds, once the run has begun as long ago, and returns once it was ended.
+    pub fn show_until_ended<R: Wait>(&self, rt: &R) {
+        let Some((counting, line)) = self.line() else {
             return;
         };
-        if let Some(line) = &counting.line {
-            if line.shown.swap(0, Ordering::SeqCst) > 0 {
-                line.print(self.rt, &counting.counts);
-                let _ = eprintln!(self.rt; "");
+        for _ in rt.forever() {
+            thread::sleep(self.rt, Duration::from_millis(PAUSE));
+            if !line.show(self.rt, rt, counting) {
+                return;
             }
         }
     }
 
-    /// Writes the lines of the report.
+    /// Ends the line on the terminal, where one is shown, for good.
+    pub fn end<R: Wait>(&self, rt: &R) {
+        if let Some((counting, line)) = self.line() {
+            line.end(self.rt, rt, &counting.counts);
+        }
+    }
+
+    // Ends it, unless the run has not begun: then nothing of it was shown.
+    fn give_way<R: Wait>(&self, rt: &R) {
+        if let Some((counting, line)) = self.line() {
+            if counting.age(self.rt).is_some() {
+                line.end(self.rt, rt, &counting.counts);
+            }
+        }
+    }
+
+    /// The session's transaction was refused for this; where it is given up, `put_report` tells it.
+    pub fn note_refusal(&self, session: SessionNo, why: Refusal) {
+        if let Some(counting) = &self.counting {
+            counting.counts.note_refusal(session, why);
+        }
+    }
+
+    /// Writes the lines of the report, and behind them, for each cause for which transactions were given up, how many.
     pub fn put_report<W: Write>(&self, out: &mut W) -> io::Result<()> {
         let Some(counting) = &self.counting else {
             return Ok(());
@@ -115,7 +157,16 @@ impl<'a> Progress<'a> {
             out,
             "longest pause {} ms",
             milliseconds(counts.longest_pause())
-        )
+        )?;
+        counts.put_causes(out)
+    }
+
+    /// Writes a line for each cause for which transactions were given up, with how many of them.
+    pub fn put_causes<W: Write>(&self, out: &mut W) -> io::Result<()> {
+        match &self.counting {
+            Some(counting) => counting.counts.put_causes(out),
+            None => Ok(()),
+        }
     }
 
     /// Writes the lines of the hundredths of a second.
@@ -145,9 +196,6 @@ impl<'a> Gate for Progress<'a> {
         if let Some(times) = &counting.times {
             times.note(&place, since);
         }
-        if let Some(line) = &counting.line {
-            line.show(self.rt, &counting.counts, since / 1_000);
-        }
     }
 }
 
@@ -157,36 +205,49 @@ impl Counting {
         let elapsed = self.clock.elapsed(rt).ok()?;
         Some(u64::try_from(elapsed.as_micros()).ok()?.saturating_add(1))
     }
+
+    // How many microseconds ago the run has begun; none where it has not.
+    fn age(&self, rt: &HostRuntime) -> Option<u64> {
+        self.counts.age(self.now(rt)?)
+    }
 }
 
 impl TerminalLine {
-    // Shows how far the run is, where that is due after so many milliseconds.
-    fn show(&self, rt: &HostRuntime, counts: &Counts, now: u64) {
-        let last = self.shown.load(Ordering::SeqCst);
-        if now < last.saturating_add(PAUSE) {
-            return;
+    // Shows how far the run is, where it has begun long enough ago; whether the line hasn't ended.
+    fn show<R: Wait>(&self, host: &HostRuntime, rt: &R, counting: &Counting) -> bool {
+        let mut state = self.state.lock(rt);
+        if let LineState::Ended = *state {
+            return false;
         }
-        if self
-            .shown
-            .compare_exchange(last, now, Ordering::SeqCst, Ordering::SeqCst)
-            .is_ok()
-        {
-            self.print(rt, counts);
+        if counting.age(host).unwrap_or(0) >= PAUSE * 1_000 {
+            self.print(host, &counting.counts);
+            *state = LineState::Shown;
         }
+        true
     }
 
-    // The counts, in the place of what the line had.
-    fn print(&self, rt: &HostRuntime, counts: &Counts) {
+    // Prints the last counts where the line was shown, and ends it.
+    fn end<R: Wait>(&self, host: &HostRuntime, rt: &R, counts: &Counts) {
+        let mut state = self.state.lock(rt);
+        if let LineState::Shown = *state {
+            self.print(host, counts);
+            let _ = eprintln!(host; "");
+        }
+        *state = LineState::Ended;
+    }
+
+    // The counts, in the place of what the line had. The terminal doesn't wrap it meanwhile, so that it takes one row of any width.
+    fn print(&self, host: &HostRuntime, counts: &Counts) {
         let (commits, points, joins) = (counts.commits(), counts.points(), counts.joins());
         let given_up = counts.given_up();
         let _ = if self.has_log {
             let lag = counts.lag();
-            eprint!(rt;
-                "\r{commits} commits, point {points}, {joins} joins, lag {lag}, given up {given_up}\x1b[K"
+            eprint!(host;
+                "\r\x1b[?7l{commits} commits, point {points}, {joins} joins, lag {lag}, given up {given_up}\x1b[K\x1b[?7h"
             )
         } else {
-            eprint!(rt;
-                "\r{commits} commits, point {points}, {joins} joins, given up {given_up}\x1b[K"
+            eprint!(host;
+                "\r\x1b[?7l{commits} commits, point {points}, {joins} joins, given up {given_up}\x1b[K\x1b[?7h"
             )
         };
     }
@@ -197,23 +258,28 @@ fn milliseconds(micros: u64) -> u64 {
     micros.saturating_add(999) / 1_000
 }
 
-/// A writer before whose first bytes the line on the terminal is ended.
+/// A writer before whose first bytes the line on the terminal is ended, where the run has begun: nothing of it comes behind them.
 #[derive(Drop)]
-pub struct Behind<'a, W> {
+pub struct Behind<'a, W, R: Wait> {
     progress: &'a Progress<'a>,
+    waits: &'a R,
     inner: W,
 }
 
-impl<'a, W> Behind<'a, W> {
+impl<'a, W, R: Wait> Behind<'a, W, R> {
     /// What is written goes on to the writer.
-    pub fn new(progress: &'a Progress<'a>, inner: W) -> Behind<'a, W> {
-        Behind { progress, inner }
+    pub fn new(progress: &'a Progress<'a>, waits: &'a R, inner: W) -> Behind<'a, W, R> {
+        Behind {
+            progress,
+            waits,
+            inner,
+        }
     }
 }
 
-impl<'a, W: Write> Write for Behind<'a, W> {
+impl<'a, W: Write, R: Wait> Write for Behind<'a, W, R> {
     fn write(&mut self, buf: &[u8]) -> io::Result<usize> {
-        self.progress.end();
+        self.progress.give_way(self.waits);
         self.inner.write(buf)
     }
 

@@ -15,6 +15,7 @@ mod parts;
 mod recovering;
 mod run_folder;
 mod running;
+mod showing;
 mod standard;
 mod stepping;
 

@@ -6,6 +6,7 @@ use crate::late::LateFile;
 use crate::making::{Target, folder_of};
 use crate::parts::open_named;
 use crate::run_folder::Claim;
+use crate::showing::run_shown;
 use crate::standard::{OUTPUT, output_before};
 use pc_jobs::{WorkloadReading, read_workload};
 use pc_options::RunOptions;
@@ -35,10 +36,11 @@ const BAD_LINE: u8 = 3;
 
 /// What a run is given beside its options.
 #[derive(Drop)]
-struct Setting<'a> {
+pub struct Setting<'a> {
     rt: &'a HostRuntime,
     causes: &'a Causes,
-    progress: &'a Progress<'a>,
+    /// What is counted and shown of it.
+    pub progress: &'a Progress<'a>,
     // Whether faults are explained.
     is_explained: bool,
 }
@@ -50,36 +52,37 @@ pub fn run_clients<H: Threads + Wait + Sync>(
     options: &RunOptions<'_>,
 ) -> io::Result<u8> {
     let causes = Causes::new(rt.alloc())?;
-    let progress = Progress::new(rt, asked(options))?;
+    let is_on = is_explained(rt, options.is_explained);
+    let progress = Progress::new(rt, asked(options, is_on))?;
     let explainer = Explainer {
         rt,
         causes: &causes,
         about: About::Run(options.folder, options.from),
-        is_on: is_explained(rt, options.is_explained),
+        is_on,
     };
     let stderr = rt.stderr();
-    let behind = Behind::new(&progress, io::writer(&stderr));
+    let behind = Behind::new(&progress, threads, io::writer(&stderr));
     let mut errors = Tally::new(Explained::new(explainer, behind));
     let setting = Setting {
         rt,
         causes: &causes,
         progress: &progress,
-        is_explained: explainer.is_on,
+        is_explained: is_on,
     };
     let status = match options.times {
         Some(path) => run_timed(&setting, threads, options, path, &mut errors)?,
-        None => run(&setting, threads, options, &mut errors)?,
+        None => run_shown(&setting, threads, options, &mut errors)?,
     };
     explain_output(&explainer, OUTPUT, &mut errors);
     Ok(status)
 }
 
 // What is to be counted.
-fn asked(options: &RunOptions<'_>) -> Asked {
+fn asked(options: &RunOptions<'_>, is_explained: bool) -> Asked {
     Asked {
         is_quiet: options.is_quiet,
         has_log: options.folder.is_some(),
-        is_reported: options.is_reported,
+        is_reported: options.is_reported || is_explained,
         is_timed: options.times.is_some(),
     }
 }
@@ -106,7 +109,7 @@ fn run_timed<H: Threads + Wait + Sync, E: Write>(
             return Ok(FAILED);
         }
     };
-    let status = match run(setting, threads, options, errors) {
+    let status = match run_shown(setting, threads, options, errors) {
         Ok(0) => put_times(setting, options, &mut target, file, errors),
         other => other,
     };
@@ -176,8 +179,8 @@ struct Source<'a, R> {
     opened: Result<R, Refusal>,
 }
 
-// Runs the workload in its folder, where there is one, which is claimed before all else.
-fn run<H: Threads + Wait + Sync, E: Write>(
+/// Runs the workload in its folder, where there is one, which is claimed before all else; the status.
+pub fn run<H: Threads + Wait + Sync, E: Write>(
     setting: &Setting<'_>,
     threads: &H,
     options: &RunOptions<'_>,
@@ -273,7 +276,7 @@ fn run_in<R: Read + Drop, H: Threads + Wait + Sync, E: Write>(
         claim,
         opened,
     } = source;
-    let writer = Behind::new(progress, io::writer(rt));
+    let writer = Behind::new(progress, threads, io::writer(rt));
     let mut out = Tally::new(output_before(rt, setting.causes, writer)?);
     let folder = match claim {
         Some(claim) => Some(claim.folder()?),
@@ -293,10 +296,12 @@ fn run_in<R: Read + Drop, H: Threads + Wait + Sync, E: Write>(
         threads, alloc, seed, file, origin, &crew, folder, &mut out, errors,
     );
     let status = finished.status;
-    progress.end();
+    progress.end(threads);
     if status == 0 && options.is_reported {
         progress.put_report(&mut out)?;
         out.flush()?;
+    } else if status == 0 && setting.is_explained {
+        let _ = progress.put_causes(errors);
     }
     Ok(status)
 }
