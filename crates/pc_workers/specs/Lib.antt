@@ -6,3 +6,4 @@ pub mod Collapsing
 pub mod Covering
 pub mod Attempts
 pub mod Courses
+pub mod Pacing

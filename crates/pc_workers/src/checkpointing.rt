@@ -7,8 +7,9 @@ ghost use Rattle.pc_board.specs.declared.calls.CallKind.TheVariants.{Publish};
 ghost use Rattle.pc_board.specs.Passes.{IsOfBoard, MakesCall};
 ghost use Rattle.pc_workers.specs.Checkpointing.{whole_cycle, whole_cycles, point_named, HasReached, HasStood, HasTurned, HasCycled, IsHeldUp, HasPublished, HasBrokenOff, IsFull};
 
+use crate::pace::Pace;
 use pc_board::{Board, BoardPass};
-use pc_shared::{CheckpointerSeat, Shared};
+use pc_shared::{CheckpointerSeat, Shared, pause};
 use pc_tie::StoreName;
 use pc_types::{Gate, GatePlace, Phase, Point, Refusal, Reply};
 use std::sync::Wait;
@@ -86,10 +87,27 @@ fn enter<N: StoreName, R: Wait, G: Gate>(
     Ok(point)
 }
 
-// The checkpointer gives way after so many takes.
-const TAKES: u32 = 32;
+// How often who rests looks, at most, how much was committed: with the pauses between these looks others are let run 2,047 times.
+const MOST_LOOKS: u32 = 132;
 
-// Takes the keys of the point, until none is left, and gives way to others between them.
+// How often others are let run, at most, between two looks: once before the first, and before each further one twice as often as
+// before the one before. On one processor each time may hand over a whole slice of time.
+const LONGEST_PAUSE: u32 = 16;
+
+// Rests behind a turn, and lets others run meanwhile; then the next turn begins.
+fn rest<N: StoreName, R: Wait>(rt: &R, shared: &Shared<N>, pace: &mut Pace) {
+    let mut times = 1u32;
+    for looks in 1..=MOST_LOOKS {
+        pause(times);
+        if pace.has_rested(shared.last_entry(rt), looks) {
+            break;
+        }
+        times = times.saturating_mul(2).min(LONGEST_PAUSE);
+    }
+    pace.begin_turn(shared.last_entry(rt));
+}
+
+// Takes the keys of the point, until none is left, and rests between turns of them.
 fn take_keys<N: StoreName, R: Wait, G: Gate>(
     rt: &R,
     shared: &Shared<N>,
@@ -100,8 +118,7 @@ fn take_keys<N: StoreName, R: Wait, G: Gate>(
     ensures stood { IfOk result (λ _. HasStood N.name.setting seat.old seat.new) }
     ensures held_up { IfErr result (IsHeldUp N.name.setting seat.old seat.new) }
 {
-    let mut takes = 0u32;
-    let mut seen = 0;
+    let mut pace = Pace::new(shared.last_entry(rt));
     for _ in rt.forever() {
         let reply = shared.take(rt, seat);
         let has_more = has_more(&reply);
@@ -111,9 +128,8 @@ fn take_keys<N: StoreName, R: Wait, G: Gate>(
             Ok(false) => return Ok(()),
             Err(why) => return Err(why),
         }
-        takes = takes.wrapping_add(1);
-        if takes.is_multiple_of(TAKES) {
-            seen = shared.give_way(seen);
+        if pace.take() {
+            rest(rt, shared, &mut pace);
         }
     }
     unreachable!()

@@ -6,6 +6,7 @@ mod clients;
 mod collapsing;
 mod covering;
 mod logging;
+mod pace;
 
 pub use checkpointing::checkpoint_loop;
 pub use clients::{Count, MOST_REPEATS, client_loop};

@@ -21,7 +21,7 @@ returns-in-Ok-false-clause-stood g c =
     let st = g.N.StoreName.name.setting in
     stood_on st c.args.seat.now c.loop.seat c.take-reply.new.checkpointer c.loop.invariant (took st c.loop.seat c.take-reply.new.checkpointer c.take-reply.result c.take-reply.ensures)
 
-pub loop-preserved-then-is_multiple_of : goal.loop-preserved-then-is_multiple_of
-loop-preserved-then-is_multiple_of g c =
+pub loop-preserved-then-take : goal.loop-preserved-then-take
+loop-preserved-then-take g c =
     let st = g.N.StoreName.name.setting in
     stood_on st c.args.seat.now c.loop.seat c.take-reply.new.checkpointer c.loop.invariant (took st c.loop.seat c.take-reply.new.checkpointer c.take-reply.result c.take-reply.ensures)

@@ -1,0 +1,80 @@
+//! The pace of a capture: how many keys the checkpointer takes in a turn, and when it has rested behind one.
+ghost use Rattle.std.specs.Prelude.{◌≡◌, ◌≤◌, ◌-◌, nat_eq};
+ghost use Rattle.pc_workers.specs.declared.pace.TheConstants.{FIRST_TAKES, MOST_TAKES};
+ghost use Rattle.pc_workers.specs.Pacing.{turn_behind, has_rested};
+
+use pc_types::Lsn;
+
+/// How many keys the first turn of a capture has: some half a millisecond's.
+pub const FIRST_TAKES: u32 = 1_024;
+
+/// How many keys a turn has at most.
+pub const MOST_TAKES: u32 = 65_536;
+
+/// After so many looks who has seen no commit has rested: nobody else seems to be there. Who finds the latch taken may let others
+/// run 256 times before it looks again, and between these looks others are let run 511 times in all.
+pub const LOOKS_ALONE: u32 = 36;
+
+/// How many keys the checkpointer takes in a turn, how many of them are left to take, and the log's last entry when the turn
+/// began. A turn is never shorter than the one before it, and half of what was committed in that one and in the rest behind it,
+/// up to 65,536 keys: where others run for long whenever the checkpointer rests, as on one processor, its turns grow with what
+/// they commit meanwhile.
+#[derive(Drop)]
+pub struct Pace {
+    turn: u32,
+    left: u32,
+    begun: u32,
+    ghost at_least: { FIRST_TAKES ≤ turn },
+    ghost at_most: { turn ≤ MOST_TAKES },
+}
+
+impl Pace {
+    /// The first turn begins, where the log has its last entry at this number.
+    pub(crate) fn new(last: Lsn) -> Pace
+        ensures turn { result.turn ≡ FIRST_TAKES }
+        ensures left { result.left ≡ FIRST_TAKES }
+        ensures begun { result.begun ≡ last }
+    {
+        Pace {
+            turn: FIRST_TAKES,
+            left: FIRST_TAKES,
+            begun: last.0,
+        }
+    }
+
+    /// One more key was taken: whether none of the turn is left.
+    pub(crate) fn take(&mut self) -> bool
+        ensures over { result ≡ nat_eq self.new.left 0 }
+        ensures left { self.new.left ≡ self.old.left - 1 }
+        ensures turn { self.new.turn ≡ self.old.turn }
+        ensures begun { self.new.begun ≡ self.old.begun }
+    {
+        self.left = self.left.saturating_sub(1);
+        self.left == 0
+    }
+
+    /// Whether the checkpointer has rested, where the log's last entry has this number now and it has looked so often: twice as
+    /// much was committed since the turn began as that has taken, or nothing was.
+    pub(crate) fn has_rested(&self, last: Lsn, looks: u32) -> bool
+        ensures { result ≡ has_rested self.now.turn (last - self.now.begun) looks }
+    {
+        match last.0.saturating_sub(self.begun) {
+            0 => LOOKS_ALONE <= looks,
+            committed => self.turn * 2 <= committed,
+        }
+    }
+
+    /// The next turn begins, where the log has its last entry at this number.
+    pub(crate) fn begin_turn(&mut self, last: Lsn)
+        ensures turn { self.new.turn ≡ turn_behind self.old.turn (last - self.old.begun) }
+        ensures left { self.new.left ≡ self.new.turn }
+        ensures begun { self.new.begun ≡ last }
+    {
+        self.turn = match last.0.saturating_sub(self.begun) {
+            0 => MOST_TAKES,
+            committed => self.turn.max(committed / 2).min(MOST_TAKES),
+        };
+        self.left = self.turn;
+        self.begun = last.0;
+    }
+}
