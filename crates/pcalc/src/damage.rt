@@ -67,20 +67,19 @@ impl<'a> Damage<'a> {
         let alloc = self.rt.alloc();
         let path = path_in(alloc, dir, BASE)?;
         let bytes = self.bytes_of(path.as_str())?;
-        match Base::decode(alloc, &bytes) {
-            Ok(_) => {}
-            Err(why) if why.name().as_bytes() == self.word => {
-                self.put_text_fault(TextKind::Base, path.as_str(), &bytes, lines)?;
-                self.put_beside(dir, lines)?;
-                return Ok(true);
+        if let Some(why) = Base::decode(alloc, &bytes).err() {
+            if why.name().as_bytes() != self.word {
+                return Err(why);
             }
-            Err(why) => return Err(why),
+            self.put_text_fault(TextKind::Base, path.as_str(), &bytes, lines)?;
+            self.put_beside(dir, lines)?;
+            return Ok(true);
         }
         let path = path_in(alloc, dir, LOG)?;
         let bytes = self.bytes_of(path.as_str())?;
-        let has_fault = match read_log(alloc, &bytes) {
-            Ok(_) => self.word == b"OtherRun".as_slice(),
-            Err(why) => why.name().as_bytes() == self.word,
+        let has_fault = match read_log(alloc, &bytes).err() {
+            None => self.word == b"OtherRun".as_slice(),
+            Some(why) => why.name().as_bytes() == self.word,
         };
         if has_fault {
             self.put_fault(path.as_str(), None, lines)?;

@@ -23,7 +23,7 @@ pub enum About<'a> {
 }
 
 /// What is known where faults are explained.
-#[derive(Clone, Copy)]
+#[derive(Drop)]
 pub struct Explainer<'a> {
     pub rt: &'a HostRuntime,
     pub causes: &'a Causes,
@@ -41,14 +41,14 @@ pub fn is_explained(rt: &HostRuntime, is_asked: bool) -> bool {
 #[derive(Drop)]
 pub struct Explained<'a, W> {
     inner: W,
-    explainer: Explainer<'a>,
+    explainer: &'a Explainer<'a>,
     // What was written of a line.
     line: Vec<u8>,
 }
 
 impl<'a, W> Explained<'a, W> {
     /// What is written goes on to the writer.
-    pub fn new(explainer: Explainer<'a>, inner: W) -> Explained<'a, W> {
+    pub fn new(explainer: &'a Explainer<'a>, inner: W) -> Explained<'a, W> {
         let line = Vec::new(explainer.rt.alloc());
         Explained {
             inner,

@@ -29,7 +29,7 @@ pub fn join_parts(rt: &HostRuntime, options: &CollapseOptions<'_>) -> io::Result
         is_on: is_explained(rt, options.is_explained),
     };
     let stderr = rt.stderr();
-    let mut errors = Tally::new(Explained::new(explainer, io::writer(&stderr)));
+    let mut errors = Tally::new(Explained::new(&explainer, io::writer(&stderr)));
     let inputs = Inputs {
         rt,
         causes: &causes,

@@ -10,7 +10,7 @@ use pc_types::Tally;
 use std::io;
 
 /// Prints the state of the folder as the options say; the status.
-pub fn recover_folder(rt: &HostRuntime, options: &RecoverOptions<'_>) -> io::Result<u8> {
+pub fn recover_folder<'a>(rt: &'a HostRuntime, options: &RecoverOptions<'a>) -> io::Result<u8> {
     let alloc = rt.alloc();
     let causes = Causes::new(alloc)?;
     let path = options.dir;
@@ -22,7 +22,7 @@ pub fn recover_folder(rt: &HostRuntime, options: &RecoverOptions<'_>) -> io::Res
     };
     let mut out = Tally::new(output_before(rt, &causes, io::writer(rt))?);
     let stderr = rt.stderr();
-    let mut errors = Tally::new(Explained::new(explainer, io::writer(&stderr)));
+    let mut errors = Tally::new(Explained::new(&explainer, io::writer(&stderr)));
     let dir = ReadFolder {
         rt,
         path,

@@ -133,7 +133,8 @@ pub struct NewFolder<'a> {
 impl<'a> NewFolder<'a> {
     // The path of the file once it is whole.
     fn path_of(&self, name: &FileName) -> Result<String, Refusal> {
-        let dir = self.claim.dir;
+        let claim = self.claim;
+        let dir = claim.dir;
         let alloc = dir.rt.alloc();
         let path = match name {
             FileName::Base => path_in(alloc, dir.path, BASE)?,
@@ -151,10 +152,11 @@ impl<'a> NewFolder<'a> {
 
     // The log, which was made when the folder was claimed.
     fn claimed_log(&self) -> io::Result<File> {
-        match &self.claim.log {
+        let claim = self.claim;
+        match &claim.log {
             Ok(file) => {
-                if self.claim.is_synced {
-                    sync_folder(self.claim.dir.rt, self.claim.dir.path)?;
+                if claim.is_synced {
+                    sync_folder(claim.dir.rt, claim.dir.path)?;
                 }
                 file.try_clone()
             }
@@ -163,21 +165,22 @@ impl<'a> NewFolder<'a> {
     }
 
     fn make_log(&self, path: String) -> Result<Noted<'a, File>, Refusal> {
-        if let Err(Unmade::Failed(why)) = &self.claim.log {
+        let claim = self.claim;
+        if let Err(Unmade::Failed(why)) = &claim.log {
             return Err(*why);
         }
-        let causes = self.claim.dir.causes;
         match self.claimed_log() {
-            Ok(file) => Ok(Noted::new(file, path, causes)),
+            Ok(file) => Ok(Noted::new(file, path, claim.dir.causes)),
             Err(e) => {
-                causes.note(Doing::Making, path.as_str(), e);
+                claim.dir.causes.note(Doing::Making, path.as_str(), e);
                 Err(why_unmade(&e))
             }
         }
     }
 
     fn make_apart(&mut self, path: String) -> Result<Noted<'a, File>, Refusal> {
-        let dir = self.claim.dir;
+        let claim = self.claim;
+        let dir = claim.dir;
         let mut target = Target::new(dir.rt, dir.causes, path);
         let file = target.make()?;
         self.made = Some(target);
@@ -200,8 +203,9 @@ impl<'a> NewFiles<RunFile<'a>> for NewFolder<'a> {
             _ => self.make_apart(path)?,
         };
         // A base is written once, and all else rests on it.
-        let is_synced = self.claim.is_synced || matches!(name, FileName::Base);
-        match BufWriter::with_capacity(self.claim.dir.rt.alloc(), ROOM, file) {
+        let claim = self.claim;
+        let is_synced = claim.is_synced || matches!(name, FileName::Base);
+        match BufWriter::with_capacity(claim.dir.rt.alloc(), ROOM, file) {
             Ok(kept) => Ok(RunFile { kept, is_synced }),
             Err(_) => Err(Refusal::OutOfMemory),
         }
@@ -218,7 +222,8 @@ impl<'a> NewFiles<RunFile<'a>> for NewFolder<'a> {
         target.finish(kept.get_ref(), is_synced)?;
         self.made = None;
         if matches!(name, FileName::Base) {
-            self.claim.has_begun.store(true, Ordering::SeqCst);
+            let claim = self.claim;
+            claim.has_begun.store(true, Ordering::SeqCst);
         }
         Ok(())
     }

@@ -62,7 +62,7 @@ pub fn run_clients<H: Threads + Wait + Sync>(
     };
     let stderr = rt.stderr();
     let behind = Behind::new(&progress, threads, io::writer(&stderr));
-    let mut errors = Tally::new(Explained::new(explainer, behind));
+    let mut errors = Tally::new(Explained::new(&explainer, behind));
     let setting = Setting {
         rt,
         causes: &causes,

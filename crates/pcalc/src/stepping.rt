@@ -28,7 +28,7 @@ pub fn step_script(rt: &HostRuntime, options: &StepOptions<'_>) -> io::Result<u8
         is_on: is_explained(rt, options.is_explained),
     };
     let stderr = rt.stderr();
-    let mut errors = Tally::new(Explained::new(explainer, io::writer(&stderr)));
+    let mut errors = Tally::new(Explained::new(&explainer, io::writer(&stderr)));
     let seed = RandomState::new(rt)?;
     let opened = open_named(rt, &causes, options.script);
     let status = if explainer.is_on {
