@@ -591,8 +591,20 @@ def folder_of(lines):
     return files
 
 
-def recovered_text(files, cut=None):
-    """What a recovery of the folder prints, with its status."""
+def lacks_text(log, found):
+    """The line of what a recovery did without, where the log has these bytes, and whether its folder is whole."""
+    header = "missing" if log is None else "whole" if len(log) >= 20 else "cut"
+    tokens = read_log(log).entries if header == "whole" else []
+    unused = found.entries if found.point > 0 and ("token", "resolve", found.point) not in tokens else 0
+    skipped = len(found.skipped)
+    is_whole = header == "whole" and not (found.fault or unused or skipped)
+    is_damaged = header != "whole" or found.fault not in (None, "Short") or skipped > 0
+    worth = "whole" if is_whole else "damaged" if is_damaged else "cut off"
+    return b"lacks header %s fault %s unused %d skipped %d: %s\n" % (header.encode(), (found.fault or "none").encode(), unused, skipped, worth.encode()), is_whole
+
+
+def recovered_text(files, is_strict=False, cut=None):
+    """What a recovery of the folder prints, with its status, and with what it did without, where it is strict."""
     name = b"base.pcb"
     try:
         for name in [b"base.pcb", b"."] + [it for it in files if it.endswith(b".pcp")] + [b"log.pcl"]:
@@ -601,20 +613,24 @@ def recovered_text(files, cut=None):
             if name == b"base.pcb" and name not in files:
                 raise Refused("NoFile")
         name = DIRECTORY
-        log = files.get(b"log.pcl", b"")
-        log = b"" if isinstance(log, Refused) else log[:cut]
+        log = files.get(b"log.pcl")
+        log = None if log is None or isinstance(log, Refused) else log[:cut]
         parts = [(it, files[it]) for it in files if it.endswith(b".pcp")]
-        return recover(files[b"base.pcb"], parts, log).text() + b"status 0\n"
+        found = recover(files[b"base.pcb"], parts, log or b"")
+        lacks, is_whole = lacks_text(log, found)
+        if is_strict:
+            return found.text() + lacks + (b"status 0\n" if is_whole else b"status 4\n")
+        return found.text() + b"status 0\n"
     except Refused as why:
         name = DIRECTORY if name == b"." else name
         return b"pcalc: " + name + b": " + why.name.encode() + b"\nstatus 1\n"
 
 
-def cuts_text(files):
+def cuts_text(files, is_strict):
     """What a recovery prints with each beginning of the log, where it is another than that of the one before, behind its length."""
     text, before = b"", None
     for cut in range(len(files[b"log.pcl"]) + 1):
-        now = recovered_text(files, cut)
+        now = recovered_text(files, is_strict, cut)
         if now != before:
             text += b"-- %d\n" % cut + now
         before = now
@@ -630,9 +646,9 @@ def print_rows(path):
         lines = rest.split(b"\n") if rest else []
         sys.stdout.buffer.write(b"== " + head + b"\n")
         if words[1] == b"recover":
-            sys.stdout.buffer.write(recovered_text(folder_of(lines)))
+            sys.stdout.buffer.write(recovered_text(folder_of(lines), b"--strict" in words))
         elif words[1] == b"cuts":
-            sys.stdout.buffer.write(cuts_text(folder_of(lines)))
+            sys.stdout.buffer.write(cuts_text(folder_of(lines), b"--strict" in words))
         else:
             script = b"".join(line + b"\n" for line in lines)
             sys.stdout.buffer.write(run_script(["=="] + head.decode().split(" "), script))

@@ -1,7 +1,7 @@
 //! Recoveries of folders whose files can't be opened or read, or whose output fails.
 use crate::sink::{Sink, is_answered, went_out};
 use crate::tape::{Tape, TornOnce};
-use pc_restore::{Folder, Lost, recover_base, run_recover};
+use pc_restore::{Folder, Lost, recover_base, run_recover, tell_lost};
 use pc_texts::NamedFile;
 use pc_types::{Refusal, Tally};
 use std::alloc::{AllocError, Global};
@@ -46,12 +46,27 @@ fn alone<R>(alloc: Global, base: R) -> Folder<R> {
     }
 }
 
-// The status of the recovery of the folder `d d`, and whether its output takes what it is to, and just this is told.
-fn recover<R: Read + Drop>(alloc: Global, folder: Folder<R>, out: Sink, told: &str) -> (u8, bool) {
+// The status of the recovery of the folder `d d`, and whether its output takes what it is to, and just this is told; what is lacking
+// is handed back exactly where the status isn't 1.
+fn recover_as<R: Read + Drop>(
+    alloc: Global,
+    folder: Folder<R>,
+    is_strict: bool,
+    out: Sink,
+    told: &str,
+) -> (u8, bool) {
     let mut out = Tally::new(out);
     let mut errors = Tally::new(Sink::of(told.as_bytes()));
-    let status = run_recover(alloc, "d d", folder, &mut out, &mut errors);
-    (status, went_out(out) && went_out(errors))
+    let ended = run_recover(alloc, "d d", folder, is_strict, &mut out, &mut errors);
+    let is_told = went_out(out) && went_out(errors);
+    (
+        ended.status,
+        is_told && ended.lacks.is_some() == (ended.status != 1),
+    )
+}
+
+fn recover<R: Read + Drop>(alloc: Global, folder: Folder<R>, out: Sink, told: &str) -> (u8, bool) {
+    recover_as(alloc, folder, false, out, told)
 }
 
 // Whether the recovery of the folder has the status 1, prints nothing and tells this.
@@ -165,14 +180,17 @@ fn damaged(alloc: Global) -> Result<Folder<Tape<'static>>, AllocError> {
 const RECOVERED: [u8; 75] = *b"point 1\nentries 1\nlog BadKind\n\
     skipped part-00003.pcp Gap 2\npairs 2\na 1\nb 1\n";
 
-// Where fewer bytes go out than there are, the status is 1, else it is 0; nothing is told.
+// Where fewer bytes go out than there are, the status is 1, else it is 0, or 4 of a strict recovery; nothing is told.
 #[test]
 fn stops_where_the_output_fails(rt: HostRuntime) -> Result<(), Fail> {
-    for room in 0..=RECOVERED.len() {
-        let status = u8::from(room < RECOVERED.len());
-        let folder = damaged(rt.alloc())?;
-        let recovered = recover(rt.alloc(), folder, Sink::new(&RECOVERED, room), "");
-        assert_eq!(rt; recovered, (status, true), "{room}");
+    for (is_strict, whole) in [(false, 0u8), (true, 4)] {
+        for room in 0..=RECOVERED.len() {
+            let status = if room < RECOVERED.len() { 1 } else { whole };
+            let folder = damaged(rt.alloc())?;
+            let out = Sink::new(&RECOVERED, room);
+            let recovered = recover_as(rt.alloc(), folder, is_strict, out, "");
+            assert_eq!(rt; recovered, (status, true), "{room}");
+        }
     }
     Ok(())
 }
@@ -187,7 +205,7 @@ const NEXT_BASE: [u8; 44] = *b"PCALCB02\
 // Whether the base is made of the damaged folder, and its damage goes out as far as a writer with this much room takes it.
 fn is_made(alloc: Global, folder: Folder<Tape>, room: usize) -> bool {
     let mut errors = Tally::new(Sink::new(&RECOVERED[18..59], room));
-    let Ok(base) = recover_base(alloc, folder, &mut errors) else {
+    let Ok(base) = recover_base(alloc, folder, true, &mut errors) else {
         return false;
     };
     let mut out = Tally::new(Sink::of(&NEXT_BASE));
@@ -205,6 +223,70 @@ fn makes_a_base_of_a_damaged_folder(rt: HostRuntime) -> Result<(), Fail> {
     Ok(())
 }
 
+// Whether no base is made of the folder where damage isn't accepted, and just this is told of that, by the name `d d`.
+fn is_refused(alloc: Global, folder: Folder<Tape>, told: &str) -> bool {
+    let mut errors = Tally::new(Sink::of(told.as_bytes()));
+    let Err(lost) = recover_base(alloc, folder, false, &mut errors) else {
+        return false;
+    };
+    tell_lost(b"d d", &lost, &mut errors);
+    matches!(lost, Lost::Damaged) && went_out(errors)
+}
+
+// What is damaged is told before.
+#[test]
+fn makes_no_base_of_a_damaged_folder(rt: HostRuntime) -> Result<(), Fail> {
+    let told = "log BadKind\nskipped part-00003.pcp Gap 2\npcalc: d d: Damaged\n";
+    assert!(rt; is_refused(rt.alloc(), damaged(rt.alloc())?, told));
+    Ok(())
+}
+
+// The folder of a base and the first bytes of a log, so many of them.
+fn with_log(alloc: Global, length: usize) -> Folder<Tape<'static>> {
+    let mut folder = alone(alloc, Tape::new(&EMPTY_BASE, false));
+    folder.log = Ok(Tape::new(&SIX_ENTRIES[..length], false));
+    folder
+}
+
+// A log that isn't there is damage as one that ends in its header is.
+#[test]
+fn makes_no_base_beside_a_log_without_its_header(rt: HostRuntime) {
+    let folder = alone(rt.alloc(), Tape::new(&EMPTY_BASE, false));
+    assert!(rt; is_refused(rt.alloc(), folder, "pcalc: d d: Damaged\n"));
+    for length in [0usize, 1, 19] {
+        let folder = with_log(rt.alloc(), length);
+        assert!(rt;
+            is_refused(rt.alloc(), folder, "pcalc: d d: Damaged\n"),
+            "{length}"
+        );
+    }
+}
+
+// Whether a base is made of the folder where damage isn't accepted, and nothing is told.
+fn is_taken(alloc: Global, folder: Folder<Tape>) -> bool {
+    let mut errors = Tally::new(Sink::of(b""));
+    recover_base(alloc, folder, false, &mut errors).is_ok() && went_out(errors)
+}
+
+// A log that is cut off is no damage, at whatever byte behind its header.
+#[test]
+fn makes_a_base_beside_a_log_that_is_cut_off(rt: HostRuntime) {
+    for length in 20..=SIX_ENTRIES.len() {
+        let folder = with_log(rt.alloc(), length);
+        assert!(rt; is_taken(rt.alloc(), folder), "{length}");
+    }
+}
+
+// Nor is one that ends before the token of the point whose part is there.
+#[test]
+fn makes_a_base_of_a_point_whose_token_is_cut_off(rt: HostRuntime) -> Result<(), Fail> {
+    let parts = parts_of(rt.alloc(), &[("part-00001.pcp", Ok(&TWO_KEYS), false)])?;
+    let mut folder = with_log(rt.alloc(), 20);
+    folder.parts = Ok(parts);
+    assert!(rt; is_taken(rt.alloc(), folder));
+    Ok(())
+}
+
 // An empty base of the last run that there may be.
 const LAST_RUN: [u8; 24] = *b"PCALCB02\
     \xff\xff\xff\xff\xff\xff\xff\xff\
@@ -213,7 +295,8 @@ const LAST_RUN: [u8; 24] = *b"PCALCB02\
 // Why no base is made of the folder of a base alone, where that is a fault of the folder, and whether nothing is told.
 fn why_unmade(alloc: Global, base: &'static [u8]) -> (Option<Refusal>, bool) {
     let mut errors = Tally::new(Sink::of(b""));
-    let made = recover_base(alloc, alone(alloc, Tape::new(base, false)), &mut errors);
+    let folder = alone(alloc, Tape::new(base, false));
+    let made = recover_base(alloc, folder, false, &mut errors);
     let why = match &made {
         Err(Lost::Folder(why)) => Some(*why),
         _ => None,
@@ -221,6 +304,7 @@ fn why_unmade(alloc: Global, base: &'static [u8]) -> (Option<Refusal>, bool) {
     (why, went_out(errors))
 }
 
+// Though the log isn't there either, which is told last.
 #[test]
 fn makes_no_base_behind_the_last_run(rt: HostRuntime) {
     for (base, why) in [

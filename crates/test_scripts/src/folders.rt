@@ -2,7 +2,7 @@
 ghost use Rattle.std.specs.Prelude.{◌≤◌};
 
 use bstr::ByteSlice;
-use pc_restore::{Folder, run_recover};
+use pc_restore::{EndedRecovery, Folder, Lacks, LogHeader, run_recover};
 use pc_texts::NamedFile;
 use pc_types::{Refusal, Tally};
 use std::alloc::Global;
@@ -53,9 +53,10 @@ fn fault_of(word: &[u8]) -> Option<Refusal> {
 pub fn put_recovery<W: Write>(
     alloc: Global,
     files: &[FolderFile],
+    is_strict: bool,
     out: &mut Tally<W>,
 ) -> Result<(), Refusal> {
-    let text = recovered(alloc, files, usize::MAX)?;
+    let text = recovered(alloc, files, usize::MAX, is_strict)?;
     out.put(&text)
 }
 
@@ -63,11 +64,12 @@ pub fn put_recovery<W: Write>(
 pub fn put_cuts<W: Write>(
     alloc: Global,
     files: &[FolderFile],
+    is_strict: bool,
     out: &mut Tally<W>,
 ) -> Result<(), Refusal> {
     let mut last = Vec::new(alloc);
     for cut in 0..=len_of_log(files) {
-        let text = recovered(alloc, files, cut)?;
+        let text = recovered(alloc, files, cut, is_strict)?;
         if text.as_slice() != last.as_slice() {
             let head = format!(in alloc; "-- {cut}\n")?;
             out.put(head.as_bytes())?;
@@ -85,20 +87,65 @@ fn len_of_log(files: &[FolderFile]) -> usize {
     }
 }
 
-// What a recovery prints, on either of its outputs, where the log is cut at the length.
-fn recovered(alloc: Global, files: &[FolderFile], cut: usize) -> Result<Vec<u8>, Refusal> {
+// What a recovery prints, on either of its outputs, where the log is cut at the length; and what it did without, where it is strict.
+fn recovered(
+    alloc: Global,
+    files: &[FolderFile],
+    cut: usize,
+    is_strict: bool,
+) -> Result<Vec<u8>, Refusal> {
     let folder = folder_of(alloc, files, cut)?;
     let mut out = Tally::new(Vec::new(alloc));
     let mut errors = Tally::new(Vec::new(alloc));
-    let status = run_recover(alloc, "d d", folder, &mut out, &mut errors);
+    let EndedRecovery { status, lacks } = run_recover(
+        alloc,
+        "d d",
+        folder,
+        is_strict,
+        &mut out,
+        &mut errors,
+    );
     let mut text = out.into_inner();
     text.extend_from_slice(&errors.into_inner())?;
-    text.extend_from_slice(if status == 0 {
-        b"status 0\n"
-    } else {
-        b"status 1\n"
+    if is_strict {
+        push_lacks(alloc, &mut text, lacks)?;
+    }
+    text.extend_from_slice(match status {
+        0 => b"status 0\n",
+        4 => b"status 4\n",
+        _ => b"status 1\n",
     })?;
     Ok(text)
+}
+
+fn push_lacks(alloc: Global, text: &mut Vec<u8>, lacks: Option<Lacks>) -> Result<(), Refusal> {
+    let Some(lacks) = lacks else {
+        return Ok(());
+    };
+    let header = match lacks.header {
+        LogHeader::Missing => "missing",
+        LogHeader::Cut => "cut",
+        LogHeader::Whole => "whole",
+    };
+    let fault = match lacks.fault {
+        Some(why) => why.name(),
+        None => "none",
+    };
+    let (unused, skipped, worth) = (lacks.unused, lacks.skipped, worth_of(&lacks));
+    let line = format!(in alloc;
+        "lacks header {header} fault {fault} unused {unused} skipped {skipped}: {worth}\n"
+    )?;
+    text.extend_from_slice(line.as_bytes())?;
+    Ok(())
+}
+
+fn worth_of(lacks: &Lacks) -> &'static str {
+    match (lacks.is_whole(), lacks.is_damaged()) {
+        (true, false) => "whole",
+        (false, false) => "cut off",
+        (false, true) => "damaged",
+        (true, true) => "whole and damaged",
+    }
 }
 
 fn folder_of(alloc: Global, files: &[FolderFile], cut: usize) -> Result<Folder<&[u8]>, Refusal> {

@@ -12,9 +12,16 @@ pub enum RowHead {
     /// A script.
     Step(ScriptStep),
     /// A folder to be recovered.
-    Recover,
-    /// A folder to be recovered with each beginning of its log.
-    Cuts,
+    Folder(FolderRow),
+}
+
+/// How a folder is recovered.
+#[derive(Clone, Copy)]
+pub struct FolderRow {
+    /// With each beginning of its log, and not with all of it alone.
+    pub has_cuts: bool,
+    /// Strictly, and what is lacking is printed.
+    pub is_strict: bool,
 }
 
 /// What a script's store is made with, and whether the end of its last line is left out.
@@ -30,10 +37,22 @@ pub fn head_of(alloc: Global, line: &[u8]) -> Option<RowHead> {
     let words: Vec<&[u8]> = line.split(|byte| *byte == b' ').collect(alloc).ok()?;
     match words.as_slice() {
         [_, _, b"step", options @ ..] => Some(RowHead::Step(step_of(options)?)),
-        [_, _, b"recover"] => Some(RowHead::Recover),
-        [_, _, b"cuts"] => Some(RowHead::Cuts),
+        [_, _, b"recover", options @ ..] => Some(RowHead::Folder(folder_of(false, options)?)),
+        [_, _, b"cuts", options @ ..] => Some(RowHead::Folder(folder_of(true, options)?)),
         _ => None,
     }
+}
+
+fn folder_of(has_cuts: bool, options: &[&[u8]]) -> Option<FolderRow> {
+    let is_strict = match options {
+        [] => false,
+        [b"--strict"] => true,
+        _ => return None,
+    };
+    Some(FolderRow {
+        has_cuts,
+        is_strict,
+    })
 }
 
 // What an option's word is followed by.

@@ -7,6 +7,7 @@
 //! | `step`, with `--sessions N`, `--capacity N`, `--run N` as for `pcalc step`, and `--bare` | a script; `--bare` drops its last byte, the end of its last line | what it prints against a store of its own |
 //! | `recover` | `FILE HEX`, a file of a folder with its bytes, or `FILE NoFile` and `FILE Device`, why it can't be opened; the folder itself is `.` | what a recovery of the folder prints |
 //! | `cuts` | the same | the same for each beginning of `log.pcl`, by its length, where it is another than that of the one before |
+//! | either with `--strict` | the same | the same of a strict recovery, and before its status what it did without |
 #![tactic(auto)]
 
 ghost use Rattle.std.specs.Prelude.{◌≤◌};
@@ -16,7 +17,7 @@ mod heads;
 
 use bstr::ByteSlice;
 use folders::{files_of, put_cuts, put_recovery};
-use heads::{RowHead, ScriptStep, head_of};
+use heads::{FolderRow, RowHead, ScriptStep, head_of};
 use pc_script::run_script;
 use pc_types::{Refusal, Tally, read_all};
 use std::alloc::Global;
@@ -91,26 +92,25 @@ fn run_row<W: Write>(
     out.put(&row.head)?;
     match head_of(alloc, &row.head) {
         Some(RowHead::Step(step)) => run_step(alloc, seed, &step, &row.lines, out),
-        Some(RowHead::Recover) => run_folder(alloc, &row.lines, false, out),
-        Some(RowHead::Cuts) => run_folder(alloc, &row.lines, true, out),
+        Some(RowHead::Folder(folder)) => run_folder(alloc, &row.lines, folder, out),
         None => out.put(b"bad head\n"),
     }
 }
 
-// The folder of the files of these lines, with each beginning of its log where that is asked for.
+// The folder of the files of these lines.
 fn run_folder<W: Write>(
     alloc: Global,
     lines: &[u8],
-    has_cuts: bool,
+    folder: FolderRow,
     out: &mut Tally<W>,
 ) -> Result<(), Refusal> {
     let Some(files) = files_of(alloc, lines)? else {
         return out.put(b"bad line\n");
     };
-    if has_cuts {
-        return put_cuts(alloc, &files, out);
+    if folder.has_cuts {
+        return put_cuts(alloc, &files, folder.is_strict, out);
     }
-    put_recovery(alloc, &files, out)
+    put_recovery(alloc, &files, folder.is_strict, out)
 }
 
 fn run_step<W: Write>(
