@@ -25,7 +25,8 @@ import shared
 
 CLIENTS = 4
 HEADER = 20
-COMMIT, TOKEN = 1, 2
+# the kind of a log's entry that is a commit, and the phases of two of its tokens
+COMMIT = 1
 CAPTURE, COMPLETE = 3, 4
 # keys, transactions, points
 RUNS = {1000: (2_400_000, 20), 60_000: (2_400_000, 20), 1_000_000: (5_000_000, 4)}
