@@ -49,14 +49,14 @@ def printed_with(given_up):
     return b"commits %d\ngave up %d\npoints 2\ncollapsed 1-2 entries %d\nstate pairs %d\ncheck ok\n" % (left, given_up, left, left)
 
 
-def built(folder):
-    """The library that refuses a growth, built by the kit's compiler; the errors of what can't be had are the caller's."""
+def built(folder, source=SOURCE):
+    """The library that refuses a growth, or that of another source, built by the kit's compiler; the errors of what can't be had are the caller's."""
     command = shutil.which("rt")
     if command is None:
         raise OSError("the command rt, beside which the kit's compiler stands, is not there")
     tools = os.path.join(os.path.dirname(os.path.dirname(os.path.realpath(command))), "toolchain", "bin")
-    library = os.path.join(folder, "refuse.so")
-    words = (os.path.join(tools, "clang"), *FLAGS, "--ld-path=" + os.path.join(tools, "ld.lld"), "-o", library, SOURCE)
+    library = os.path.join(folder, "made.so")
+    words = (os.path.join(tools, "clang"), *FLAGS, "--ld-path=" + os.path.join(tools, "ld.lld"), "-o", library, source)
     ran = subprocess.run(words, stdin=subprocess.DEVNULL, stderr=subprocess.PIPE)
     if ran.returncode != 0:
         raise OSError(ran.stderr.decode(errors="replace"))

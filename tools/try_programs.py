@@ -8,6 +8,7 @@
     program_cases.py      options, files that can't be had, long files, a full output, little memory
     run_cases.py          workloads that are run on threads, and the folders that they leave
     crash_cases.py        runs that are killed, and what is recovered of their folders
+    kill_cases.py         commands that are killed at each call that changes files, and runs into one folder at the same time
     refused_growths.py    a run and the tests of test_memory and test_growths, each growth of memory that they ask for refused in turn
     PAGES                 what tools make of the crates stands in docs/ as they make it, and each wrong body is one, those of tools/meetings as they
                           were seen
@@ -30,6 +31,7 @@ import traceback
 import unittest
 
 import crash_cases
+import kill_cases
 import program_cases
 import refused_growths
 import run_cases
@@ -141,6 +143,13 @@ def crashes():
             yield from crash_cases.crashes(os.path.abspath(program_of("pcalc")), folder)
 
 
+def kills():
+    """What each command that is killed, and each pair of runs into one folder, differs in, by its name."""
+    if os.path.exists(program_of("pcalc")):
+        with tempfile.TemporaryDirectory() as folder:
+            yield from kill_cases.kills(os.path.abspath(program_of("pcalc")), folder)
+
+
 def pages():
     """What each tool finds in the pages, by its name."""
     for tool, *words in PAGES:
@@ -211,7 +220,7 @@ def counted(parts):
 
 
 def main():
-    passed, failed = counted((stored, cases, crashes, refused_growths.growths, pages, tests))
+    passed, failed = counted((stored, cases, crashes, kills, refused_growths.growths, pages, tests))
     print(f"{passed} passed, {failed} failed")
     return 1 if failed else 0
 
