@@ -619,9 +619,9 @@ def explained_cases(folder):
     yield case("bad lines of a script", ("step", "bad.pcs"), 3, reasons, out=b"begun 1\nbad line\nbad line\nbad line\n")
     yield case("a full output", ("step", "bad.pcs"), 1, [b"  writing standard output: No space left on device (os error 28)\n"], output=FULL)
     damaged = bytearray(POINTS["two.pcp"].text())
-    damaged[31] = 9
+    damaged[37] = 9
     written(folder, "damaged.pcp", bytes(damaged))
-    yield case("a damaged input", ("collapse", "out.pcp", "one.pcp", "damaged.pcp"), 1, [b"pcalc: out.pcp: ", b"\n  reading damaged.pcp, byte "])
+    yield case("a damaged input", ("collapse", "out.pcp", "one.pcp", "damaged.pcp"), 1, b"pcalc: out.pcp: BadKind\n  reading damaged.pcp, byte 38: a kind that there is none of\n")
     written(folder, "run.pcp", plain_files.Part(2, [(1, 1)], {}).text())
     yield case("an input of another run", ("collapse", "out.pcp", "one.pcp", "run.pcp"), 1, b"pcalc: out.pcp: OtherRun\n  reading run.pcp: of another run than the file before it\n")
     yield case("no place for the file", ("collapse", "nowhere/out.pcp", "one.pcp"), 1, b"pcalc: nowhere/out.pcp: Device\n  making nowhere/out.pcp: No such file or directory (os error 2)\n")

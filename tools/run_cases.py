@@ -616,6 +616,8 @@ def from_cases(folder):
     yield Case("room for as many keys as there are", ("run", "next.pcw", "--from", "first", "--capacity", "59"), 0, told)
     words = ("run", "next.pcw", "--from", "first", "--capacity", "38", "--dir", new_folder(folder, "small"))
     yield Case("more pairs than there is room for", words, 1, err=b"pcalc: next.pcw: Full\n", files={"small/base.pcb": None, "small/base.pcb.new": None})
+    told = b"pcalc: next.pcw: Full\n  first is recovered to 39 pairs, and --capacity is 38\n"
+    yield Case("the same, explained", ("run", "next.pcw", "--from", "first", "--capacity", "38", "--explain"), 1, err=told)
     yield Case("its own folder", ("run", "next.pcw", "--from", "first", "--dir", "first"), 1, err=b"pcalc: first: NotEmpty\n")
     yield from damage_cases(folder)
 

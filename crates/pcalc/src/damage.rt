@@ -1,14 +1,15 @@
 //! Where a file of a collapse or of a folder is damaged.
 use crate::causes::Causes;
 use crate::explaining::{Lines, bytes_of};
-use crate::folder::{BASE, LOG, PART_END, ReadFolder, names_in, path_in};
+use crate::folder::{BASE, FoundFolder, LOG, PART_END, ReadFolder, names_in, open_folder, path_in};
 use crate::meanings::meaning_of;
 use itoa::Buffer;
 use pc_faults::{TextKind, locate};
 use pc_log::read_log;
 use pc_part::{Base, Part, join};
+use pc_restore::run_recover;
 use pc_texts::put_name;
-use pc_types::Refusal;
+use pc_types::{Refusal, Tally};
 
 /// A search for the file whose fault was told by this word.
 #[derive(Clone, Copy)]
@@ -85,6 +86,48 @@ impl<'a> Damage<'a> {
             self.put_fault(path.as_str(), None, lines)?;
         }
         Ok(has_fault)
+    }
+
+    /// Tells how many pairs the folder is worth, from which a run starts, and for how many keys its store has room, where the run is
+    /// refused for that; whether it is.
+    pub fn put_of_start(
+        &self,
+        dir: &str,
+        capacity: u32,
+        lines: &mut Lines,
+    ) -> Result<bool, Refusal> {
+        let Some(pairs) = self.pairs_of(dir)? else {
+            return Ok(false);
+        };
+        let mut buffer = Buffer::new();
+        lines.put(b"  ")?;
+        put_name(lines, dir.as_bytes())?;
+        lines.put_all(&[b" is recovered to ", &pairs, b" pairs, and --capacity is "])?;
+        lines.put_all(&[buffer.format(capacity).as_bytes(), b"\n"])?;
+        Ok(true)
+    }
+
+    // The number of the pairs that the folder is worth, in digits, where the fault may be that they are too many.
+    fn pairs_of(&self, dir: &str) -> Result<Option<Vec<u8>>, Refusal> {
+        if self.word != b"Full".as_slice() {
+            return Ok(None);
+        }
+        let alloc = self.rt.alloc();
+        let FoundFolder { folder, .. } = open_folder(ReadFolder {
+            rt: self.rt,
+            path: dir,
+            causes: self.causes,
+        })?;
+        let mut out = Tally::new(Vec::new(alloc));
+        let mut errors = Tally::new(Vec::new(alloc));
+        run_recover(alloc, dir, folder, false, &mut out, &mut errors);
+        let text = out.into_inner();
+        for line in text.split(|byte| *byte == b'\n') {
+            if let Some(digits) = line.strip_prefix(b"pairs ") {
+                return Ok(Some(Vec::from_slice(alloc, digits)?));
+            }
+        }
+        Ok(None)
     }
 
     // What stands beside a base that is damaged.

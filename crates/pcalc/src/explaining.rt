@@ -3,6 +3,7 @@ use crate::causes::{Cause, Causes, Doing};
 use crate::damage::Damage;
 use crate::folder::BASE;
 use crate::meanings::meaning_of;
+use crate::standard::OUTPUT;
 use pc_texts::put_name;
 use pc_types::{Refusal, Tally};
 use std::fs::File;
@@ -18,8 +19,10 @@ pub enum About<'a> {
     Parts(&'a [&'a str]),
     /// A folder of which it is told what it is worth.
     Folder(&'a str),
-    /// A run: its folder, and the one that it starts from, where there are any.
-    Run(Option<&'a str>, Option<&'a str>),
+    /// A run that starts from nothing.
+    Run,
+    /// A run that starts from this folder, over a store that has room for so many keys.
+    Start(&'a str, u32),
 }
 
 /// What is known where faults are explained.
@@ -107,9 +110,8 @@ impl<'a> Explainer<'a> {
         let is_told = match self.about {
             About::Parts(paths) => damage.put_of_parts(paths, lines)?,
             About::Folder(dir) => damage.put_of_folder(dir, lines)?,
-            About::Run(_, Some(old)) if is_of_folder(name, old) => damage.put_of_folder(
-                old, lines,
-            )?,
+            About::Start(old, _) if is_of_folder(name, old) => damage.put_of_folder(old, lines)?,
+            About::Start(old, capacity) => damage.put_of_start(old, capacity, lines)?,
             _ => false,
         };
         if is_told {
@@ -141,11 +143,11 @@ impl<'a> Explainer<'a> {
 }
 
 /// What standard output's failure was, where it failed: nothing is told of that but where faults are explained.
-pub fn explain_output<E: Write>(explainer: &Explainer<'_>, output: &str, errors: &mut E) {
+pub fn explain_output<E: Write>(explainer: &Explainer<'_>, errors: &mut E) {
     if !explainer.is_on {
         return;
     }
-    let found = explainer.causes.find(|cause| cause.path.as_str() == output);
+    let found = explainer.causes.find(|cause| cause.path.as_str() == OUTPUT);
     if let Some(cause) = found {
         let mut lines = Tally::new(Vec::new(explainer.rt.alloc()));
         let _ = put_cause(cause, &mut lines);
@@ -194,7 +196,11 @@ fn is_missing(cause: &Cause) -> bool {
 /// Writes the line of a failure of the system's.
 pub fn put_cause(cause: &Cause, lines: &mut Lines) -> Result<(), Refusal> {
     lines.put_all(&[b"  ", cause.doing.word().as_bytes(), b" "])?;
-    put_name(lines, cause.path.as_bytes())?;
+    if cause.path.as_str() == OUTPUT {
+        lines.put(OUTPUT.as_bytes())?;
+    } else {
+        put_name(lines, cause.path.as_bytes())?;
+    }
     lines.put(b": ")?;
     let _ = write!(lines, "{}", cause.error);
     lines.put(b"\n")

@@ -3,7 +3,7 @@ use crate::causes::Causes;
 use crate::explaining::{About, Explained, Explainer, explain_output, is_explained};
 use crate::making::Target;
 use crate::parts::{Inputs, JoinedFile, is_other_file};
-use crate::standard::{OUTPUT, output_before};
+use crate::standard::output_before;
 use pc_collapse_files::run_collapse;
 use pc_options::CollapseOptions;
 use pc_texts::{report, report_words};
@@ -47,7 +47,7 @@ pub fn join_parts(rt: &HostRuntime, options: &CollapseOptions<'_>) -> io::Result
             FAILED
         }
     };
-    explain_output(&explainer, OUTPUT, &mut errors);
+    explain_output(&explainer, &mut errors);
     Ok(status)
 }
 

@@ -3,7 +3,7 @@ use crate::causes::Causes;
 use crate::explaining::{About, Explained, Explainer, explain_output, is_explained};
 use crate::folder::{FoundFolder, ReadFolder, open_folder, tell_unopened};
 use crate::lacking::Lacking;
-use crate::standard::{OUTPUT, output_before};
+use crate::standard::output_before;
 use pc_options::RecoverOptions;
 use pc_restore::run_recover;
 use pc_types::Tally;
@@ -43,6 +43,6 @@ pub fn recover_folder<'a>(rt: &'a HostRuntime, options: &RecoverOptions<'a>) -> 
             let _ = Lacking { dir, lacks }.put(&mut errors);
         }
     }
-    explain_output(&explainer, OUTPUT, &mut errors);
+    explain_output(&explainer, &mut errors);
     Ok(ended.status)
 }

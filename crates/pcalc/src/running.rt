@@ -7,7 +7,7 @@ use crate::making::{Target, folder_of};
 use crate::parts::open_named;
 use crate::run_folder::Claim;
 use crate::showing::run_shown;
-use crate::standard::{OUTPUT, output_before};
+use crate::standard::output_before;
 use pc_jobs::{WorkloadReading, read_workload};
 use pc_options::RunOptions;
 use pc_progress::{Asked, Behind, Progress};
@@ -57,7 +57,7 @@ pub fn run_clients<H: Threads + Wait + Sync>(
     let explainer = Explainer {
         rt,
         causes: &causes,
-        about: About::Run(options.folder, options.from),
+        about: about(options),
         is_on,
     };
     let stderr = rt.stderr();
@@ -73,8 +73,16 @@ pub fn run_clients<H: Threads + Wait + Sync>(
         Some(path) => run_timed(&setting, threads, options, path, &mut errors)?,
         None => run_shown(&setting, threads, options, &mut errors)?,
     };
-    explain_output(&explainer, OUTPUT, &mut errors);
+    explain_output(&explainer, &mut errors);
     Ok(status)
+}
+
+// What its faults are about.
+fn about<'a>(options: &RunOptions<'a>) -> About<'a> {
+    match options.from {
+        Some(old) => About::Start(old, options.capacity),
+        None => About::Run,
+    }
 }
 
 // What is to be counted.

@@ -2,7 +2,7 @@
 use crate::causes::{Causes, Noted};
 use crate::explaining::{About, Explained, Explainer, explain_output, is_explained};
 use crate::parts::open_named;
-use crate::standard::{OUTPUT, output_before};
+use crate::standard::output_before;
 use pc_options::StepOptions;
 use pc_reasons::put_script_faults;
 use pc_script::{Setup, run_script};
@@ -36,7 +36,7 @@ pub fn step_script(rt: &HostRuntime, options: &StepOptions<'_>) -> io::Result<u8
     } else {
         step(&explainer, options, seed, opened, &mut errors)?
     };
-    explain_output(&explainer, OUTPUT, &mut errors);
+    explain_output(&explainer, &mut errors);
     Ok(status)
 }
 

@@ -43,13 +43,16 @@ returns-in-Ok-name_file-clause-cause g c =
 pub returns-in-Ok-name_file-clause-left : goal.returns-in-Ok-name_file-clause-left
 returns-in-Ok-name_file-clause-left g c =
     let written = c.in_ok-file.ensures.written c.args.files.items c.in-Ok.ensures.opened in
-    subst (λ f. IsLeftByCollapse g.R.Read.remaining g.F.Write.contents g.W.Write.contents c.args.files.items f None (g.M.Maker.stands c.args.maker.now) (g.M.Maker.stands c.name_file.new.maker) c.args.out.now c.print.new.out) (sym c.in-Err-print.ensures.failed.0) (refl, record {
-      file = written.file;
-      join = written.join;
-      written = λ known. c.in-Ok-name_file.ensures.named (part_text written.file) (written.whole known);
-      line = rw (← written.points, ← written.entries, ← c.as_slice.ensures, ← c.from.ensures) c.in-Err-print.ensures.failed.2;
-      counted = c.in-Err-print.ensures.failed.1;
-    })
+    subst (λ f. IsLeftByCollapse g.R.Read.remaining g.F.Write.contents g.W.Write.contents c.args.files.items f None (g.M.Maker.stands c.args.maker.now) (g.M.Maker.stands c.name_file.new.maker) c.args.out.now c.print.new.out) (sym c.in-Err-print.ensures.failed.0) (
+      refl,
+      record {
+        file = written.file;
+        join = written.join;
+        written = λ known. c.in-Ok-name_file.ensures.named (part_text written.file) (written.whole known);
+        line = rw (← written.points, ← written.entries, ← c.as_slice.ensures, ← c.from.ensures) c.in-Err-print.ensures.failed.2;
+        counted = c.in-Err-print.ensures.failed.1;
+      },
+    )
 
 pub returns-clause-cause : goal.returns-clause-cause
 returns-clause-cause g c =
@@ -60,4 +63,4 @@ pub returns-clause-left : goal.returns-clause-left
 returns-clause-left g c =
     let written = c.in_ok-file.ensures.written c.args.files.items c.in-Ok.ensures.opened in
     subst (λ f. IsLeftByCollapse g.R.Read.remaining g.F.Write.contents g.W.Write.contents c.args.files.items f None (g.M.Maker.stands c.args.maker.now) (g.M.Maker.stands c.name_file.new.maker) c.args.out.now c.args.out.now) (sym c.in-Err-name_file.ensures.fault.1)
-      (refl, named_or_not g.R.Read.remaining c.args.files.items g.F.Write.contents (g.M.Maker.stands c.args.maker.now) (g.M.Maker.stands c.write_file.new.maker) (g.M.Maker.stands c.name_file.new.maker) c.write_file.ensures.stays written.file written.join (g.F.Write.contents (inner_of c.in_ok-file.field-0.file)) written.whole c.in-Err-name_file.ensures.unnamed, refl)
+    (refl, named_or_not g.R.Read.remaining c.args.files.items g.F.Write.contents (g.M.Maker.stands c.args.maker.now) (g.M.Maker.stands c.write_file.new.maker) (g.M.Maker.stands c.name_file.new.maker) c.write_file.ensures.stays written.file written.join (g.F.Write.contents (inner_of c.in_ok-file.field-0.file)) written.whole c.in-Err-name_file.ensures.unnamed, refl)

@@ -17,6 +17,6 @@ returns c = record {
   within = c.loop-high.invariant.within;
   seen = c.loop-high.invariant.seen;
   before = λ fewer is.
-    let same : c.loop-high.low ≡ fewer = omega (arith, c.loop-high.invariant.order, c.loop-high-test.false, is) in
-    subst (λ n. is_short (fault_at c.args.kind.now (take n c.args.bytes.now)) ≡ true) same c.loop-high.invariant.before;
+      let same : c.loop-high.low ≡ fewer = omega (arith, c.loop-high.invariant.order, c.loop-high-test.false, is) in
+      subst (λ n. is_short (fault_at c.args.kind.now (take n c.args.bytes.now)) ≡ true) same c.loop-high.invariant.before;
 }
