@@ -1,4 +1,6 @@
 //! What the system said where a file could not be had, kept until it is told.
+use pc_texts::put_name;
+use pc_types::Tally;
 use std::alloc::{AllocError, Global};
 use std::fs::File;
 use std::io;
@@ -77,17 +79,52 @@ impl Causes {
         }
     }
 
-    /// The first failure that is of this kind, if there is one.
-    pub fn find<P: Fn(&Cause) -> bool + Drop>(&self, is_it: P) -> Option<&Cause> {
+    /// The first failure of this path.
+    pub fn of_path(&self, path: &str) -> Option<&Cause> {
         for place in &self.kept {
             if let Some(cause) = place.get() {
-                if is_it(cause) {
+                if cause.path.as_str() == path {
                     return Some(cause);
                 }
             }
         }
         None
     }
+
+    /// The first failure of a file of this name, as names are printed.
+    pub fn of_name(&self, name: &[u8]) -> Option<&Cause> {
+        for place in &self.kept {
+            if let Some(cause) = place.get() {
+                if has_name(self.alloc, cause, name) {
+                    return Some(cause);
+                }
+            }
+        }
+        None
+    }
+
+    /// The first failure but that a file wasn't there, which is none of a log.
+    pub fn first(&self) -> Option<&Cause> {
+        for place in &self.kept {
+            if let Some(cause) = place.get() {
+                if cause.error.kind() != ErrorKind::NotFound {
+                    return Some(cause);
+                }
+            }
+        }
+        None
+    }
+}
+
+// Whether the failure is of a file whose path ends with this name, as names are printed.
+fn has_name(alloc: Global, cause: &Cause, name: &[u8]) -> bool {
+    let mut path = Tally::new(Vec::new(alloc));
+    let _ = put_name(&mut path, cause.path.as_bytes());
+    let path = path.into_inner();
+    let Some(before) = path.strip_suffix(name) else {
+        return false;
+    };
+    before.is_empty() || before.ends_with(b"/")
 }
 
 /// A file or stream whose failures are noted by its path. A call that a signal interrupted has failed, as any other: whoever keeps

@@ -8,7 +8,7 @@ use pc_texts::put_name;
 use pc_types::{Refusal, Tally};
 use std::fs::File;
 use std::io;
-use std::io::{ErrorKind, IsTerminal, Read, Write};
+use std::io::{IsTerminal, Read, Write};
 
 /// The files that a command is about.
 #[derive(Clone, Copy)]
@@ -129,16 +129,11 @@ impl<'a> Explainer<'a> {
         if !is_of_system(word) {
             return None;
         }
-        let alloc = self.rt.alloc();
-        let named = self.causes.find(|cause| {
-            let mut path = Tally::new(Vec::new(alloc));
-            let _ = put_name(&mut path, cause.path.as_bytes());
-            is_path_of(&path.into_inner(), name)
-        });
-        if named.is_some() {
-            return named;
+        let causes = self.causes;
+        match causes.of_name(name) {
+            Some(cause) => Some(cause),
+            None => causes.first(),
         }
-        self.causes.find(|cause| !is_missing(cause))
     }
 }
 
@@ -147,8 +142,8 @@ pub fn explain_output<E: Write>(explainer: &Explainer<'_>, errors: &mut E) {
     if !explainer.is_on {
         return;
     }
-    let found = explainer.causes.find(|cause| cause.path.as_str() == OUTPUT);
-    if let Some(cause) = found {
+    let causes = explainer.causes;
+    if let Some(cause) = causes.of_path(OUTPUT) {
         let mut lines = Tally::new(Vec::new(explainer.rt.alloc()));
         let _ = put_cause(cause, &mut lines);
         let _ = errors.write_all(&lines.into_inner());
@@ -168,14 +163,6 @@ fn fault_in(line: &[u8]) -> Option<(&[u8], &[u8])> {
     Some((&rest[..at], rest.get(at..)?.get(2..)?))
 }
 
-// Whether a path ends with this name.
-fn is_path_of(path: &[u8], name: &[u8]) -> bool {
-    let Some(before) = path.strip_suffix(name) else {
-        return false;
-    };
-    before.is_empty() || before.ends_with(b"/")
-}
-
 // Whether a name that was told is of a folder: its own, or that of a file in it.
 fn is_of_folder(name: &[u8], dir: &str) -> bool {
     name == dir.as_bytes() || name == BASE.as_bytes()
@@ -186,11 +173,6 @@ fn is_of_system(word: &[u8]) -> bool {
     word == b"Device".as_slice()
         || word == b"NoFile".as_slice()
         || word == b"OutOfMemory".as_slice()
-}
-
-// Whether a file wasn't there, which is no failure of a log.
-fn is_missing(cause: &Cause) -> bool {
-    cause.error.kind() == ErrorKind::NotFound
 }
 
 /// Writes the line of a failure of the system's.
