@@ -160,7 +160,7 @@ fn fault_in(line: &[u8]) -> Option<(&[u8], &[u8])> {
         }
     }
     let at = colon?;
-    Some((&rest[..at], rest.get(at..)?.get(2..)?))
+    Some((rest.get(..at)?, rest.get(at..)?.get(2..)?))
 }
 
 // Whether a name that was told is of a folder: its own, or that of a file in it.
