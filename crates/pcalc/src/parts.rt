@@ -153,6 +153,9 @@ impl<'a> Maker<Noted<'a, File>> for JoinedFile<'a> {
     }
 
     fn finish(&mut self, file: Noted<'a, File>) -> Result<(), Refusal> {
-        self.target.finish(&file, true)
+        match self.target.finish(&file, true) {
+            Ok(()) => Ok(()),
+            Err(why) => Err(why),
+        }
     }
 }
