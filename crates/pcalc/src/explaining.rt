@@ -13,8 +13,8 @@ use std::io::{IsTerminal, Read, Write};
 /// The files that a command is about.
 #[derive(Clone, Copy)]
 pub enum About<'a> {
-    /// A script.
-    Script,
+    /// A script, by its path.
+    Script(&'a str),
     /// Part files, by their paths.
     Parts(&'a [&'a str]),
     /// A folder of which it is told what it is worth.

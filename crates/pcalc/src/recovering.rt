@@ -8,41 +8,54 @@ use pc_options::RecoverOptions;
 use pc_restore::run_recover;
 use pc_types::Tally;
 use std::io;
+use std::io::Write;
 
 /// Prints the state of the folder as the options say; the status.
-pub fn recover_folder<'a>(rt: &'a HostRuntime, options: &RecoverOptions<'a>) -> io::Result<u8> {
-    let alloc = rt.alloc();
-    let causes = Causes::new(alloc)?;
-    let path = options.dir;
+pub fn recover_folder(rt: &HostRuntime, options: &RecoverOptions<'_>) -> io::Result<u8> {
+    let causes = Causes::new(rt.alloc())?;
     let explainer = Explainer {
         rt,
         causes: &causes,
-        about: About::Folder(path),
+        about: About::Folder(options.dir),
         is_on: is_explained(rt, options.is_explained),
     };
-    let mut out = Tally::new(output_before(rt, &causes, io::writer(rt))?);
     let stderr = rt.stderr();
     let mut errors = Tally::new(Explained::new(&explainer, io::writer(&stderr)));
+    let status = recover(&explainer, options, &mut errors)?;
+    explain_output(&explainer, &mut errors);
+    Ok(status)
+}
+
+fn recover<E: Write>(
+    explainer: &Explainer<'_>,
+    options: &RecoverOptions<'_>,
+    errors: &mut Tally<E>,
+) -> io::Result<u8> {
+    let rt = explainer.rt;
+    let mut out = Tally::new(output_before(rt, explainer.causes, io::writer(rt))?);
+    recover_to(explainer, options, &mut out, errors)
+}
+
+fn recover_to<'a, W: Write, E: Write>(
+    explainer: &Explainer<'a>,
+    options: &RecoverOptions<'a>,
+    out: &mut Tally<W>,
+    errors: &mut Tally<E>,
+) -> io::Result<u8> {
+    let path = options.dir;
     let dir = ReadFolder {
-        rt,
+        rt: explainer.rt,
         path,
-        causes: &causes,
+        causes: explainer.causes,
     };
     let FoundFolder { folder, unopened } = open_folder(dir)?;
-    tell_unopened(&unopened, &mut errors);
-    let ended = run_recover(
-        alloc,
-        path,
-        folder,
-        options.is_strict,
-        &mut out,
-        &mut errors,
-    );
+    tell_unopened(&unopened, errors);
+    let alloc = explainer.rt.alloc();
+    let ended = run_recover(alloc, path, folder, options.is_strict, out, errors);
     if let Some(lacks) = ended.lacks {
         if explainer.is_on {
-            let _ = Lacking { dir, lacks }.put(&mut errors);
+            let _ = Lacking { dir, lacks }.put(errors);
         }
     }
-    explain_output(&explainer, &mut errors);
     Ok(ended.status)
 }

@@ -19,25 +19,32 @@ const BAD_LINES: u8 = 3;
 /// Runs the script as the options say; the status. The seed of the hashes of its store is drawn before anything is opened; where the
 /// system gives none, it is an error, and nothing is told.
 pub fn step_script(rt: &HostRuntime, options: &StepOptions<'_>) -> io::Result<u8> {
-    let alloc = rt.alloc();
-    let causes = Causes::new(alloc)?;
+    let causes = Causes::new(rt.alloc())?;
     let explainer = Explainer {
         rt,
         causes: &causes,
-        about: About::Script,
+        about: About::Script(options.script),
         is_on: is_explained(rt, options.is_explained),
     };
     let stderr = rt.stderr();
     let mut errors = Tally::new(Explained::new(&explainer, io::writer(&stderr)));
-    let seed = RandomState::new(rt)?;
-    let opened = open_named(rt, &causes, options.script);
-    let status = if explainer.is_on {
-        step_told(&explainer, options, seed, opened, &mut errors)?
-    } else {
-        step(&explainer, options, seed, opened, &mut errors)?
-    };
+    let status = step_opened(&explainer, options, &mut errors)?;
     explain_output(&explainer, &mut errors);
     Ok(status)
+}
+
+fn step_opened<E: Write>(
+    explainer: &Explainer<'_>,
+    options: &StepOptions<'_>,
+    errors: &mut Tally<E>,
+) -> io::Result<u8> {
+    let seed = RandomState::new(explainer.rt)?;
+    let opened = open_named(explainer.rt, explainer.causes, options.script);
+    if explainer.is_on {
+        step_told(explainer, options, seed, opened, errors)
+    } else {
+        step(explainer, options, seed, opened, errors)
+    }
 }
 
 fn step<R: Read + Drop, E: Write>(
