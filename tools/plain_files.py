@@ -623,7 +623,7 @@ def recovered_text(files, is_strict=False, cut=None):
         return found.text() + b"status 0\n"
     except Refused as why:
         name = DIRECTORY if name == b"." else name
-        return b"pcalc: " + name + b": " + why.name.encode() + b"\nstatus 1\n"
+        return b"pcalc: " + name_text(name) + b": " + why.name.encode() + b"\nstatus 1\n"
 
 
 def cuts_text(files, is_strict):

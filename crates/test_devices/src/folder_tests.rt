@@ -108,8 +108,8 @@ fn tells_of_a_reader_that_fails(rt: HostRuntime) -> Result<(), Fail> {
 #[test]
 fn tells_of_a_folder_that_cannot_be_listed(rt: HostRuntime) {
     for (why, told) in [
-        (Refusal::NoFile, "pcalc: d d: NoFile\n"),
-        (Refusal::Device, "pcalc: d d: Device\n"),
+        (Refusal::NoFile, "pcalc: d\\x20d: NoFile\n"),
+        (Refusal::Device, "pcalc: d\\x20d: Device\n"),
     ] {
         let folder = with_parts(Err(why));
         assert!(rt; is_told(rt.alloc(), folder, told), "{told}");
@@ -252,11 +252,11 @@ fn with_log(alloc: Global, length: usize) -> Folder<Tape<'static>> {
 #[test]
 fn makes_no_base_beside_a_log_without_its_header(rt: HostRuntime) {
     let folder = alone(rt.alloc(), Tape::new(&EMPTY_BASE, false));
-    assert!(rt; is_refused(rt.alloc(), folder, "pcalc: d d: Damaged\n"));
+    assert!(rt; is_refused(rt.alloc(), folder, "pcalc: d\\x20d: Damaged\n"));
     for length in [0usize, 1, 19] {
         let folder = with_log(rt.alloc(), length);
         assert!(rt;
-            is_refused(rt.alloc(), folder, "pcalc: d d: Damaged\n"),
+            is_refused(rt.alloc(), folder, "pcalc: d\\x20d: Damaged\n"),
             "{length}"
         );
     }

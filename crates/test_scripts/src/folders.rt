@@ -107,7 +107,7 @@ fn recovered(
     );
     let mut text = out.into_inner();
     text.extend_from_slice(&errors.into_inner())?;
-    if is_strict {
+    if let (true, Some(lacks)) = (is_strict, &lacks) {
         push_lacks(alloc, &mut text, lacks)?;
     }
     text.extend_from_slice(match status {
@@ -118,10 +118,7 @@ fn recovered(
     Ok(text)
 }
 
-fn push_lacks(alloc: Global, text: &mut Vec<u8>, lacks: Option<Lacks>) -> Result<(), Refusal> {
-    let Some(lacks) = lacks else {
-        return Ok(());
-    };
+fn push_lacks(alloc: Global, text: &mut Vec<u8>, lacks: &Lacks) -> Result<(), Refusal> {
     let header = match lacks.header {
         LogHeader::Missing => "missing",
         LogHeader::Cut => "cut",
@@ -131,7 +128,7 @@ fn push_lacks(alloc: Global, text: &mut Vec<u8>, lacks: Option<Lacks>) -> Result
         Some(why) => why.name(),
         None => "none",
     };
-    let (unused, skipped, worth) = (lacks.unused, lacks.skipped, worth_of(&lacks));
+    let (unused, skipped, worth) = (lacks.unused, lacks.skipped, worth_of(lacks));
     let line = format!(in alloc;
         "lacks header {header} fault {fault} unused {unused} skipped {skipped}: {worth}\n"
     )?;
