@@ -5,7 +5,7 @@ use crate::folder::{FoundFolder, ReadFolder, open_folder, tell_unopened};
 use crate::lacking::Lacking;
 use crate::standard::output_before;
 use pc_options::RecoverOptions;
-use pc_restore::run_recover;
+use pc_restore::{EndedRecovery, run_recover};
 use pc_types::Tally;
 use std::io;
 use std::io::Write;
@@ -52,10 +52,14 @@ fn recover_to<'a, W: Write, E: Write>(
     tell_unopened(&unopened, errors);
     let alloc = explainer.rt.alloc();
     let ended = run_recover(alloc, path, folder, options.is_strict, out, errors);
-    if let Some(lacks) = ended.lacks {
-        if explainer.is_on {
-            let _ = Lacking { dir, lacks }.put(errors);
-        }
+    if explainer.is_on {
+        tell_lacks(dir, &ended, errors);
     }
     Ok(ended.status)
+}
+
+fn tell_lacks<E: Write>(dir: ReadFolder<'_>, ended: &EndedRecovery, errors: &mut Tally<E>) {
+    if let Some(lacks) = &ended.lacks {
+        let _ = Lacking { dir, lacks: *lacks }.put(errors);
+    }
 }

@@ -236,7 +236,7 @@ fn is_refused(alloc: Global, folder: Folder<Tape>, told: &str) -> bool {
 // What is damaged is told before.
 #[test]
 fn makes_no_base_of_a_damaged_folder(rt: HostRuntime) -> Result<(), Fail> {
-    let told = "log BadKind\nskipped part-00003.pcp Gap 2\npcalc: d d: Damaged\n";
+    let told = "log BadKind\nskipped part-00003.pcp Gap 2\npcalc: d\\x20d: Damaged\n";
     assert!(rt; is_refused(rt.alloc(), damaged(rt.alloc())?, told));
     Ok(())
 }
