@@ -244,7 +244,7 @@ fn makes_no_base_of_a_damaged_folder(rt: HostRuntime) -> Result<(), Fail> {
 // The folder of a base and the first bytes of a log, so many of them.
 fn with_log(alloc: Global, length: usize) -> Folder<Tape<'static>> {
     let mut folder = alone(alloc, Tape::new(&EMPTY_BASE, false));
-    folder.log = Ok(Tape::new(&SIX_ENTRIES[..length], false));
+    folder.log = Ok(Tape::new(&SIX_ENTRIES[..length.min(SIX_ENTRIES.len())], false));
     folder
 }
 
