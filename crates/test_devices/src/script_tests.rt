@@ -63,7 +63,7 @@ impl Runner {
 fn tells_of_a_script_that_cannot_be_read(rt: HostRuntime) -> Result<(), Fail> {
     let runner = Runner::new(&rt)?;
     let torn = Ok(Tape::new(b"bbb", true));
-    assert!(rt; runner.is_told("a b", torn, b"pcalc: a b: Device\n"));
+    assert!(rt; runner.is_told("a b", torn, b"pcalc: a\\x20b: Device\n"));
     let missing: Result<Tape, Refusal> = Err(Refusal::NoFile);
     assert!(rt; runner.is_told("c", missing, b"pcalc: c: NoFile\n"));
     Ok(())
