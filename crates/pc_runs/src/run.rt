@@ -21,7 +21,8 @@ use pc_part::Base;
 use pc_shared::Opened;
 use pc_texts::{NamedFile, read_opened};
 use pc_threads::{NewFiles, ThreadsFault};
-use pc_types::{Gate, MOST_SESSIONS, Refusal, Tally};
+use pc_types::{MOST_SESSIONS, Refusal, Tally};
+use pc_workers::ClientGate;
 use std::alloc::Global;
 use std::hash::RandomState;
 use std::io::{Read, Write};
@@ -62,7 +63,7 @@ pub fn run_workload<
     D: NewFiles<F> + Drop,
     W: Write,
     E: Write,
-    G: Gate + Sync,
+    G: ClientGate + Sync,
     H: Threads + Wait + Sync,
 >(
     rt: &H,
@@ -102,7 +103,7 @@ fn run_opened<
     D: NewFiles<F> + Drop,
     W: Write,
     E: Write,
-    G: Gate + Sync,
+    G: ClientGate + Sync,
     H: Threads + Wait + Sync,
 >(
     rt: &H,
@@ -132,7 +133,7 @@ fn answer<
     F: Write + Drop + Send,
     D: NewFiles<F> + Drop,
     E: Write,
-    G: Gate + Sync,
+    G: ClientGate + Sync,
     H: Threads + Wait + Sync,
 >(
     rt: &H,
@@ -168,7 +169,7 @@ fn answer<
 fn run_read<
     F: Write + Drop + Send,
     D: NewFiles<F> + Drop,
-    G: Gate + Sync,
+    G: ClientGate + Sync,
     H: Threads + Wait + Sync,
 >(
     rt: &H,

@@ -34,7 +34,7 @@ use pc_threads::{
 };
 use pc_tie::StoreName;
 use pc_types::{Gate, Tally};
-use pc_workers::{log_rest, with_missing_points};
+use pc_workers::{ClientGate, log_rest, with_missing_points};
 use std::alloc::{AllocError, Global};
 use std::io::Write;
 use std::mem;
@@ -102,7 +102,7 @@ fn use_store<
     N: StoreName + Send + Sync,
     F: Write + Drop + Send,
     D: NewFiles<F> + Drop,
-    G: Gate + Sync,
+    G: ClientGate + Sync,
     R: Threads + Wait + Sync,
 >(
     rt: &R,
@@ -154,7 +154,7 @@ pub fn run_store<
     N: StoreName + Send + Sync,
     F: Write + Drop + Send,
     D: NewFiles<F> + Drop,
-    G: Gate + Sync,
+    G: ClientGate + Sync,
     R: Threads + Wait + Sync,
 >(
     rt: &R,

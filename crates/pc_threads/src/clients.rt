@@ -11,8 +11,8 @@ use crate::room::Room;
 use pc_jobs::{Client, ClientTask, Fill, FillJob, Job};
 use pc_shared::Session;
 use pc_tie::StoreName;
-use pc_types::{Gate, Items, Refusal, SessionNo};
-use pc_workers::client_loop;
+use pc_types::{Items, Refusal, SessionNo};
+use pc_workers::{ClientGate, client_loop};
 use std::alloc::Global;
 use std::marker::Model;
 use std::slice;
@@ -127,7 +127,7 @@ fn sum(a: u64, b: u64) -> Result<u64, Refusal>
 }
 
 // The transaction is tried; how many were given up. Refuses with `Device` where the log's file was lost before.
-fn run_job<N: StoreName, R: Wait, G: Gate>(
+fn run_job<N: StoreName, R: Wait, G: ClientGate>(
     rt: &R,
     room: &Room<'_, N, G>,
     session: &mut Session<N>,
@@ -153,7 +153,7 @@ fn run_job<N: StoreName, R: Wait, G: Gate>(
 
 // The transaction of a fill of this number, made now, is tried; where memory ran out for its key or its value, which is of more
 // than 16 bytes, it is given up, and nothing is asked for it.
-fn run_made<N: StoreName, R: Wait, G: Gate>(
+fn run_made<N: StoreName, R: Wait, G: ClientGate>(
     rt: &R,
     room: &Room<'_, N, G>,
     session: &mut Session<N>,
@@ -171,7 +171,7 @@ fn run_made<N: StoreName, R: Wait, G: Gate>(
 }
 
 // The transactions of a fill, each made when it is its turn.
-fn run_fill<N: StoreName, R: Wait, G: Gate>(
+fn run_fill<N: StoreName, R: Wait, G: ClientGate>(
     rt: &R,
     room: &Room<'_, N, G>,
     session: &mut Session<N>,
@@ -190,7 +190,7 @@ fn run_fill<N: StoreName, R: Wait, G: Gate>(
 }
 
 // A piece of work.
-fn run_work<N: StoreName, R: Wait, G: Gate>(
+fn run_work<N: StoreName, R: Wait, G: ClientGate>(
     rt: &R,
     room: &Room<'_, N, G>,
     session: &mut Session<N>,
@@ -207,7 +207,7 @@ fn run_work<N: StoreName, R: Wait, G: Gate>(
 }
 
 // The works, in order.
-fn run_works<N: StoreName, R: Wait, G: Gate>(
+fn run_works<N: StoreName, R: Wait, G: ClientGate>(
     rt: &R,
     room: &Room<'_, N, G>,
     session: &mut Session<N>,
@@ -227,7 +227,7 @@ fn run_works<N: StoreName, R: Wait, G: Gate>(
 
 impl<N: StoreName> Seated<N> {
     // The transactions of the client, in order, those of its fills made in one place. Its session, and how many were given up.
-    fn run<R: Wait, G: Gate>(
+    fn run<R: Wait, G: ClientGate>(
         self,
         rt: &R,
         room: &Room<'_, N, G>,
@@ -246,7 +246,7 @@ impl<N: StoreName> Seated<N> {
 }
 
 // The clients, one after the other.
-fn run_clients<N: StoreName, R: Wait, G: Gate>(
+fn run_clients<N: StoreName, R: Wait, G: ClientGate>(
     rt: &R,
     room: &Room<'_, N, G>,
     seats: Vec<Seated<N>>,
@@ -269,7 +269,11 @@ impl<N: StoreName> Worker<N> {
     /// Runs its clients, one after the other, and leaves the room. Refuses with `Device` where the log's file was lost before one
     /// of their transactions, with `OutOfMemory` before the first of them, and with `Full` where more of them were given up than
     /// can be counted.
-    pub fn run<R: Wait, G: Gate>(self, rt: &R, room: &Room<'_, N, G>) -> Result<Ran<N>, Refusal>
+    pub fn run<R: Wait, G: ClientGate>(
+        self,
+        rt: &R,
+        room: &Room<'_, N, G>,
+    ) -> Result<Ran<N>, Refusal>
         ensures worked { IfOk result (λ ran. HaveWorked N.name.setting self ran.given_up ran.sessions.items) }
         ensures stopped { IfErr result (HaveStopped (is_some room.now.lag) self) }
     {

@@ -19,7 +19,7 @@ use pc_board::{Board, BoardPass};
 use pc_shared::{CheckpointerSeat, LogPass, PartTicket, Shared};
 use pc_tie::StoreName;
 use pc_types::{Gate, Refusal, Tally};
-use pc_workers::{collapse_loop, log_loop};
+use pc_workers::{ClientGate, collapse_loop, log_loop};
 use std::alloc::Global;
 use std::io::Write;
 use std::snapshot::Snapshot;
@@ -195,7 +195,7 @@ fn run_workers<
     N: StoreName + Send + Sync,
     F: Write + Drop,
     D: NewFiles<F> + Drop,
-    G: Gate + Sync,
+    G: ClientGate + Sync,
     R: Threads + Wait + Sync,
 >(
     rt: &'x R,
@@ -255,7 +255,7 @@ fn run_hands<
     N: StoreName + Send + Sync,
     F: Write + Drop,
     D: NewFiles<F> + Drop,
-    G: Gate + Sync,
+    G: ClientGate + Sync,
     R: Threads + Wait + Sync,
 >(rt: &'x R, room: &'x Room<'x, N, G>, hands: Hands<'x, N, D>) -> Result<Rested<N, D>, ThreadsFault>
     requires rest { phase_of hands.checkpointer.at_store ≡ Rest }
@@ -318,7 +318,7 @@ pub fn run_threads<
     N: StoreName + Send + Sync,
     F: Write + Drop + Send,
     D: NewFiles<F> + Drop,
-    G: Gate + Sync,
+    G: ClientGate + Sync,
     R: Threads + Wait + Sync,
 >(
     rt: &'x R,

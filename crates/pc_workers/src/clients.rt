@@ -5,10 +5,11 @@ ghost use Rattle.pc_workers.specs.Attempts.{WasAborted, AreMade, OneDies, IsRefu
 ghost use Rattle.pc_workers.specs.Clients.{HasCommitted, HasRun, HasTried, done_by, written_by, wrote, wrote_all, writes_of};
 ghost use Rattle.pc_workers.specs.Courses.{IsInRange, IsAsked, IsCourse, IsRepeated, mark_of};
 
+use crate::client_gate::ClientGate;
 use pc_jobs::{Job, Op};
 use pc_shared::{CallAnswer, Session, Shared, pause};
 use pc_tie::StoreName;
-use pc_types::{Gate, GatePlace, Lsn, Refusal, number_fits};
+use pc_types::{GatePlace, Lsn, Refusal, number_fits};
 use std::alloc::Global;
 use std::sync::Wait;
 
@@ -98,7 +99,7 @@ fn in_range(op: &Op)
 }
 
 // Makes the operations, until one dies: then false.
-fn make_all<N: StoreName, R: Wait, G: Gate>(
+fn make_all<N: StoreName, R: Wait, G: ClientGate>(
     rt: &R,
     alloc: Global,
     shared: &Shared<N>,
@@ -125,7 +126,7 @@ fn make_all<N: StoreName, R: Wait, G: Gate>(
 }
 
 // The session has committed this entry: it waits until no more than so many up to it aren't written, as long as more will be.
-fn hold<N: StoreName, R: Wait, G: Gate>(
+fn hold<N: StoreName, R: Wait, G: ClientGate>(
     rt: &R,
     shared: &Shared<N>,
     session: &Session<N>,
@@ -144,7 +145,7 @@ fn hold<N: StoreName, R: Wait, G: Gate>(
 }
 
 // Begins, makes the operations and commits; where it doesn't commit, the transaction stays open, if it was begun.
-fn transact<N: StoreName, R: Wait, G: Gate>(
+fn transact<N: StoreName, R: Wait, G: ClientGate>(
     rt: &R,
     alloc: Global,
     shared: &Shared<N>,
@@ -158,16 +159,24 @@ fn transact<N: StoreName, R: Wait, G: Gate>(
 {
     let number = session.number();
     gate.pass(GatePlace::Start(number));
-    if shared.begin(rt, session).is_err() {
+    if let Err(why) = shared.begin(rt, session) {
+        gate.refused(number, why);
         return EndedTransaction::Refused;
     }
     match make_all(rt, alloc, shared, session, ops, gate) {
         Ok(true) => {}
         Ok(false) => return EndedTransaction::Died,
-        Err(_) => return EndedTransaction::Refused,
+        Err(why) => {
+            gate.refused(number, why);
+            return EndedTransaction::Refused;
+        }
     }
-    let Ok(entry) = shared.commit(rt, session) else {
-        return EndedTransaction::Refused;
+    let entry = match shared.commit(rt, session) {
+        Ok(entry) => entry,
+        Err(why) => {
+            gate.refused(number, why);
+            return EndedTransaction::Refused;
+        }
     };
     hold(rt, shared, session, entry, lag, gate);
     gate.pass(GatePlace::Committed(number));
@@ -184,7 +193,7 @@ fn abort_open<N: StoreName, R: Wait>(rt: &R, shared: &Shared<N>, session: &mut S
 }
 
 // A transaction that is over when it returns: it commits, or is aborted.
-fn attempt<N: StoreName, R: Wait, G: Gate>(
+fn attempt<N: StoreName, R: Wait, G: ClientGate>(
     rt: &R,
     alloc: Global,
     shared: &Shared<N>,
@@ -210,7 +219,7 @@ fn attempt<N: StoreName, R: Wait, G: Gate>(
 
 // Runs the job again, until it doesn't die, and answers how it ended the last time. Before each time it lets others run, so that
 // the one that it lost to may end.
-fn repeat<N: StoreName, R: Wait, G: Gate>(
+fn repeat<N: StoreName, R: Wait, G: ClientGate>(
     rt: &R,
     alloc: Global,
     shared: &Shared<N>,
@@ -236,7 +245,7 @@ fn repeat<N: StoreName, R: Wait, G: Gate>(
 
 // Tries the job, and again where it died, and answers how it ended the last time. Of the clients whose job has died one at a time
 // begins again, and the others sleep: so they don't die of one another over and over.
-fn try_job<N: StoreName, R: Wait, G: Gate>(
+fn try_job<N: StoreName, R: Wait, G: ClientGate>(
     rt: &R,
     alloc: Global,
     shared: &Shared<N>,
@@ -259,7 +268,7 @@ fn try_job<N: StoreName, R: Wait, G: Gate>(
 }
 
 // Runs the job, and tells the gate where it is given up.
-fn run<N: StoreName, R: Wait, G: Gate>(
+fn run<N: StoreName, R: Wait, G: ClientGate>(
     rt: &R,
     alloc: Global,
     shared: &Shared<N>,
@@ -282,13 +291,13 @@ fn run<N: StoreName, R: Wait, G: Gate>(
 /// begun again, at most 10,000 times, by one client of the store at a time; after that, and after any refusal, its open
 /// transaction is aborted and the job is given up. Want of memory for the copy of a key or a value counts as a refusal. Where there
 /// is a lag, the client goes on from a commit once no more than so many entries, up to that of the commit, aren't marked as
-/// written, or no more will be: with 0 once its own is. It passes the gate at each of the places that `GatePlace` has of a client. Answers
+/// written, or no more will be: with 0 once its own is. It passes the gate at each of the places that `GatePlace` has of a client, and tells it each refusal. Answers
 /// how many jobs were committed, each of which has added a receipt with what the job writes, in their order, and how many were
 /// given up. If the session had no transaction open, each job was tried by just these calls, and none is open behind it: each
 /// attempt but the last one died, and a job that is given up has died so 10,001 times, or was refused as the store may after some
 /// legal history with all that the session had seen, or named a key of more than 16 bytes of its own or a value of
 /// more than 16, whose copy takes memory.
-pub fn client_loop<N: StoreName, R: Wait, G: Gate>(
+pub fn client_loop<N: StoreName, R: Wait, G: ClientGate>(
     rt: &R,
     alloc: Global,
     shared: &Shared<N>,

@@ -2,6 +2,7 @@
 #![tactic(auto)]
 
 mod checkpointing;
+mod client_gate;
 mod clients;
 mod collapsing;
 mod covering;
@@ -9,6 +10,7 @@ mod logging;
 mod pace;
 
 pub use checkpointing::checkpoint_loop;
+pub use client_gate::ClientGate;
 pub use clients::{Count, MOST_REPEATS, client_loop};
 pub use collapsing::collapse_loop;
 pub use covering::with_missing_points;

@@ -6,6 +6,7 @@ mod causes;
 mod damage;
 mod explaining;
 mod folder;
+mod gate;
 mod joining;
 mod lacking;
 mod late;

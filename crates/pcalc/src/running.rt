@@ -2,6 +2,7 @@
 use crate::causes::{Causes, Noted};
 use crate::explaining::{About, Explained, Explainer, explain_output, is_explained};
 use crate::folder::{FoundFolder, ReadFolder, open_folder, tell_unopened};
+use crate::gate::RunGate;
 use crate::late::LateFile;
 use crate::making::{Target, folder_of};
 use crate::parts::open_named;
@@ -293,12 +294,13 @@ fn run_in<R: Read + Drop, H: Threads + Wait + Sync, E: Write>(
     let name = Vec::from_slice(alloc, options.workload.as_bytes())?;
     let file = NamedFile { name, opened };
     let origin = origin_of(setting, options, errors)?;
+    let gate = RunGate { progress };
     let crew = Crew {
         workers: options.workers,
         collapsers: options.collapsers,
         lag: options.lag,
         every: options.every,
-        gate: progress,
+        gate: &gate,
     };
     let finished = run_workload(
         threads, alloc, seed, file, origin, &crew, folder, &mut out, errors,

@@ -1,6 +1,7 @@
 //! The gate at which threads stand until others have come to their places.
 use crate::signs::{Sign, SignCounts, sign_of};
-use pc_types::{Gate, GatePlace};
+use pc_types::{Gate, GatePlace, Refusal, SessionNo};
+use pc_workers::ClientGate;
 use std::sync::atomic::{AtomicBool, AtomicU64, Ordering};
 use std::thread;
 
@@ -89,4 +90,8 @@ impl Gate for Meeting {
             self.come(sign);
         }
     }
+}
+
+impl ClientGate for Meeting {
+    fn refused(&self, _session: SessionNo, _why: Refusal) {}
 }
