@@ -595,12 +595,13 @@ def lacks_text(log, found):
     """The line of what a recovery did without, where the log has these bytes, and whether its folder is whole."""
     header = "missing" if log is None else "whole" if len(log) >= 20 else "cut"
     tokens = read_log(log).entries if header == "whole" else []
-    unused = found.entries if found.point > 0 and ("token", "resolve", found.point) not in tokens else 0
+    is_used = found.point == 0 or ("token", "resolve", found.point) in tokens
     skipped = len(found.skipped)
-    is_whole = header == "whole" and not (found.fault or unused or skipped)
+    is_whole = header == "whole" and is_used and not (found.fault or skipped)
     is_damaged = header != "whole" or found.fault not in (None, "Short") or skipped > 0
     worth = "whole" if is_whole else "damaged" if is_damaged else "cut off"
-    return b"lacks header %s fault %s unused %d skipped %d: %s\n" % (header.encode(), (found.fault or "none").encode(), unused, skipped, worth.encode()), is_whole
+    unused = "none" if is_used else str(found.entries)
+    return f"lacks header {header} fault {found.fault or 'none'} unused {unused} skipped {skipped}: {worth}\n".encode(), is_whole
 
 
 def recovered_text(files, is_strict=False, cut=None):

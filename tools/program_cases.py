@@ -642,7 +642,7 @@ def lacking_cases(folder):
         ("no log", PART, None, 4, b"  lacking0/log.pcl isn't there: commits that only it had are lost\n"),
         ("a log of no bytes", PART, b"", 4, b"  lacking0/log.pcl ends within its header: commits that only it had are lost\n"),
         ("a log that is cut off", PART, text[:-1], 4, [b"  reading lacking0/log.pcl, the entry that begins with byte ", b": the bytes end within a field\n"]),
-        ("a log that is behind its point", PART, plain_files.Log(1).text(), 4, b""),
+        ("a log that is behind its point", PART, plain_files.Log(1).text(), 4, b"  lacking0/log.pcl ends before the token of the recovered point: none of its 0 entries is used\n"),
         ("a part that is skipped", PART[:-1], text, 4, [b"  reading lacking0/a.pcp, byte ", b": the bytes end within a field\n"]),
     ]
     for name, part, log_text, strict, told in lacks:
@@ -654,9 +654,8 @@ def lacking_cases(folder):
         else:
             written(folder, "lacking0/log.pcl", log_text)
         out = plain_files.recover(BASE, [(b"a.pcp", part)], log_text or b"").text()
-        status = 0 if name == "a log that is behind its point" else strict
         yield Case(f"recovered: {name}", ("recover", "lacking0"), 0, out)
-        yield Case(f"strictly recovered: {name}", ("recover", "lacking0", "--strict"), status, out)
+        yield Case(f"strictly recovered: {name}", ("recover", "lacking0", "--strict"), strict, out)
         yield Case(f"explained: {name}", ("recover", "lacking0", "--explain"), 0, out, err=told)
 
 

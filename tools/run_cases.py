@@ -156,8 +156,8 @@ def telling_cases(folder):
         yield Case("times on a full device", ("run", "one.pcw", "--times", FULL), 1, ONE_TOLD, err=f"pcalc: {FULL}: Device\n".encode())
     written(folder, "crowded.pcw", b"client 1\nfill a 9 x\n")
     crowded = b"commits 2\ngave up 7\npoints 0\ncollapsed none\ncheck ok\n"
-    yield Case("a report of what was given up", ("run", "crowded.pcw", "--capacity", "2", "--report"), 0, parts=[crowded, b" ms\ngiven up refused 7\n"])
-    yield Case("the same, explained", ("run", "crowded.pcw", "--capacity", "2", "--explain"), 0, crowded, err=b"given up refused 7\n")
+    yield Case("a report of what was given up", ("run", "crowded.pcw", "--capacity", "2", "--report"), 0, parts=[crowded, b" ms\ngiven up Full 7\n"])
+    yield Case("the same, explained", ("run", "crowded.pcw", "--capacity", "2", "--explain"), 0, crowded, err=b"given up Full 7\n")
     yield Case("a report to a full output", ("run", "one.pcw", "--report"), 1, output=FULL)
 
 

@@ -9,6 +9,7 @@
     run_cases.py          workloads that are run on threads, and the folders that they leave
     crash_cases.py        runs that are killed, and what is recovered of their folders
     kill_cases.py         commands that are killed at each call that changes files, and runs into one folder at the same time
+    disk_cases.py         commands on a disk that gets full, and how often files are brought to the disk
     refused_growths.py    a run and the tests of test_memory and test_growths, each growth of memory that they ask for refused in turn
     PAGES                 what tools make of the crates stands in docs/ as they make it, and each wrong body is one, those of tools/meetings as they
                           were seen
@@ -31,6 +32,7 @@ import traceback
 import unittest
 
 import crash_cases
+import disk_cases
 import kill_cases
 import program_cases
 import refused_growths
@@ -150,6 +152,13 @@ def kills():
             yield from kill_cases.kills(os.path.abspath(program_of("pcalc")), folder)
 
 
+def disks():
+    """What each command on a full disk, and each count of what is brought to the disk, differs in, by its name."""
+    if os.path.exists(program_of("pcalc")):
+        with tempfile.TemporaryDirectory() as folder:
+            yield from disk_cases.disks(os.path.abspath(program_of("pcalc")), folder)
+
+
 def pages():
     """What each tool finds in the pages, by its name."""
     for tool, *words in PAGES:
@@ -220,7 +229,7 @@ def counted(parts):
 
 
 def main():
-    passed, failed = counted((stored, cases, crashes, kills, refused_growths.growths, pages, tests))
+    passed, failed = counted((stored, cases, crashes, kills, disks, refused_growths.growths, pages, tests))
     print(f"{passed} passed, {failed} failed")
     return 1 if failed else 0
 

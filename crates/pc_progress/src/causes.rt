@@ -42,9 +42,6 @@ const REFUSALS: [Refusal; 30] = [
 /// How a transaction that died each time it was begun is told.
 const DIED_NAME: &str = "died";
 
-/// How one is told that was refused for a reason that was not noted.
-const REFUSED_NAME: &str = "refused";
-
 /// The place of no cause; those of the refusals stand behind that of a death.
 const NO_CAUSE: u8 = 0;
 
@@ -60,8 +57,6 @@ pub struct Causes {
     died: AtomicU64,
     // By the order of the refusals.
     refused: Vec<AtomicU64>,
-    // Those of which no reason was noted.
-    untold: AtomicU64,
 }
 
 impl Causes {
@@ -79,7 +74,6 @@ impl Causes {
             met,
             died: AtomicU64::new(0),
             refused,
-            untold: AtomicU64::new(0),
         })
     }
 
@@ -116,9 +110,7 @@ impl Causes {
             return;
         };
         let place = met.load(Ordering::SeqCst);
-        if place == NO_CAUSE {
-            self.untold.fetch_add(1, Ordering::SeqCst);
-        } else if place == DEATH {
+        if place == DEATH {
             self.died.fetch_add(1, Ordering::SeqCst);
         } else if let Some(order) = place.checked_sub(FIRST_REFUSAL) {
             if let Some(count) = self.refused.get(usize::from(order)) {
@@ -132,7 +124,6 @@ impl Causes {
         for (refusal, count) in REFUSALS.iter().zip(&self.refused) {
             put_cause(refusal.name(), count, out)?;
         }
-        put_cause(REFUSED_NAME, &self.untold, out)?;
         put_cause(DIED_NAME, &self.died, out)
     }
 }

@@ -23,9 +23,9 @@ abbrev pub entries_of : Result LogRead Refusal → List Entry
 entries_of (Err why) = []
 entries_of (Ok log) = log.entries
 
--- how many of so many entries are not used at a recovered point: all, where it isn't 0 and its token isn't one of them
-abbrev pub unused_of : ℕ → ℕ → List Entry → ℕ
-unused_of point count entries = if point == 0 then 0 else if has_token point entries then 0 else count
+-- the count of a log's entries, where none of them is used: the recovered point isn't 0, and its token isn't one of them
+abbrev pub unused_of : ℕ → ℕ → List Entry → Option ℕ
+unused_of point count entries = if point == 0 then None else if has_token point entries then None else Some count
 
 -- what a recovery that found this did without, where the log is there or not, and has these bytes
 abbrev pub lacks_of : Bool → List ℕ → Recovery → Lacks
@@ -48,9 +48,9 @@ abbrev pub is_bad : Option Refusal → Bool
 is_bad None = false
 is_bad (Some fault) = not (is_cut fault)
 
--- nothing is lacking: the log has its header, its rest has no fault, all entries are used, and no part was skipped
+-- nothing is lacking: the log has its header, its rest has no fault, it reaches the recovered point's token, and no part was skipped
 abbrev pub is_whole : Lacks → Bool
-is_whole lacks = is_there lacks.header && not (is_some lacks.fault) && (lacks.unused == 0) && (lacks.skipped == 0)
+is_whole lacks = is_there lacks.header && not (is_some lacks.fault) && not (is_some lacks.unused) && (lacks.skipped == 0)
 
 -- More is lacking than what a process that is killed leaves: the log has no whole header, its rest was not only cut off, or a part
 -- was skipped. A killed process leaves a log that is cut off, maybe before the token of a point whose file is there.

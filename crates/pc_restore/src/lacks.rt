@@ -32,20 +32,20 @@ pub struct Lacks {
     /// The fault of the bytes behind the log's whole entries, where there are any: `Short` where the last entry is cut off. A log
     /// without a whole header has none.
     pub fault: Option<Refusal>,
-    /// How many whole entries of the log were not used, since it ends before the token of the recovered point: all or, where the
-    /// token is there or the point is 0, none.
-    pub unused: usize,
+    /// Where the log ends before the token of the recovered point, and so none of its entries was used: how many whole entries it
+    /// has. `None` where the token is there, or the point is 0.
+    pub unused: Option<usize>,
     /// How many parts were skipped.
     pub skipped: usize,
 }
 
 impl Lacks {
-    /// Whether nothing is lacking: the log has its header, its rest has no fault, all of its whole entries were used, and no part
-    /// was skipped.
+    /// Whether nothing is lacking: the log has its header, its rest has no fault, it reaches the token of the recovered point, and
+    /// no part was skipped.
     pub fn is_whole(&self) -> bool
         ensures { result ≡ is_whole self.now }
     {
-        is_there(self.header) && self.fault.is_none() && self.unused == 0 && self.skipped == 0
+        is_there(self.header) && self.fault.is_none() && self.unused.is_none() && self.skipped == 0
     }
 
     /// Whether more is lacking than what a process that is killed leaves: the log isn't there or has no whole header, its rest has
@@ -107,17 +107,22 @@ fn header_of(is_there: bool, log: &[u8]) -> LogHeader
     }
 }
 
-// How many of the log's whole entries, of which there are so many, are not used at the point.
-fn unused_of(alloc: Global, point: Point, count: usize, log: &[u8]) -> Result<usize, AllocError>
+// The count of the log's whole entries, where it ends before the token of the point.
+fn unused_of(
+    alloc: Global,
+    point: Point,
+    count: usize,
+    log: &[u8],
+) -> Result<Option<usize>, AllocError>
     ensures { IfOk result (λ unused. unused ≡ unused_of point count (entries_of (log_at log.now))) }
 {
     if point == Point(0) {
-        return Ok(0);
+        return Ok(None);
     }
     if has_token(alloc, point, log)? {
-        return Ok(0);
+        return Ok(None);
     }
-    Ok(count)
+    Ok(Some(count))
 }
 
 // Whether one of the log's whole entries is the token of the point.

@@ -35,7 +35,6 @@ use pc_types::{FileNo, Lsn, MOST_KEYS, MOST_SESSIONS, Refusal, Reply, SessionNo,
 use std::alloc::Global;
 use std::hash::RandomState;
 use std::marker::Model;
-use std::sync::atomic::{AtomicU64, Ordering};
 use std::sync::{Condvar, Mutex, MutexGuard, OnceLock, Wait};
 use std::thread;
 
@@ -131,7 +130,6 @@ impl Opened {
             turned: Condvar::new(),
             committed: Condvar::new(),
             repeating: Mutex::new(Turn),
-            found_taken: AtomicU64::new(0),
             logged: Logged::new(),
             end: OnceLock::new(),
             count,
@@ -152,8 +150,6 @@ pub struct Shared<N: StoreName> {
     pub(crate) turned: Condvar,
     committed: Condvar,
     repeating: Mutex<Turn>,
-    // How often somebody has found the latch taken.
-    found_taken: AtomicU64,
     pub(crate) logged: Logged,
     // The end, once it is marked.
     pub(crate) end: OnceLock<Milestone<N>>,
@@ -207,14 +203,15 @@ impl<N: StoreName> UnderLatch<N> {
 // most calls hold it.
 const LOOKS: u32 = 40;
 
-// How often a thread lets others run after its first look, and at most after a later one. After each look it pauses twice as long
-// as before, so that whoever has the latch can make many calls while the store's data is near.
+// How often a session's call lets others run after its first look, and at most after a later one. After each look it pauses twice as
+// long as before, so that whoever has the latch can make many calls while the store's data is near.
 const FIRST_PAUSE: u32 = 16;
 
 const LONGEST_PAUSE: u32 = 256;
 
-// How often who gives way lets others run: about twice as long as the checkpointer takes keys before it does.
-const WAY: u32 = 64;
+// How often the checkpointer lets others run after its first look: on one processor each time may hand over a whole slice of time,
+// in which sessions commit thousands of transactions.
+const SHORT_PAUSE: u32 = 1;
 
 /// Lets other threads run, so many times: each is a call of the system, and a moment also where no other thread is ready.
 pub fn pause(times: u32) {
@@ -224,13 +221,26 @@ pub fn pause(times: u32) {
 }
 
 impl<N: StoreName> Shared<N> {
-    // Gets the latch.
+    // Gets the latch for a session's call.
     pub(crate) fn get_latch<R: Wait>(&self, rt: &R) -> MutexGuard<'_, UnderLatch<N>> {
+        self.get_latch_after(rt, FIRST_PAUSE)
+    }
+
+    // Gets the latch for one of many calls of the checkpointer.
+    fn get_latch_soon<R: Wait>(&self, rt: &R) -> MutexGuard<'_, UnderLatch<N>> {
+        self.get_latch_after(rt, SHORT_PAUSE)
+    }
+
+    // Gets the latch, and lets others run this often after the first look that finds it held.
+    fn get_latch_after<R: Wait>(
+        &self,
+        rt: &R,
+        first_pause: u32,
+    ) -> MutexGuard<'_, UnderLatch<N>> {
         if let Some(held) = self.latch.try_lock() {
             return held;
         }
-        self.found_taken.fetch_add(1, Ordering::SeqCst);
-        let mut times = FIRST_PAUSE;
+        let mut times = first_pause;
         for _ in 0..LOOKS {
             pause(times);
             if let Some(held) = self.latch.try_lock() {
@@ -255,16 +265,6 @@ impl<N: StoreName> Shared<N> {
         if woken.for_commit {
             self.committed.notify_all();
         }
-    }
-
-    /// Lets others run for a while, where somebody has found the latch taken since that had come so many times; how often it now
-    /// has. Who makes many calls one after the other is to do so now and then, since others hardly get the latch meanwhile.
-    pub fn give_way(&self, seen: u64) -> u64 {
-        let now = self.found_taken.load(Ordering::SeqCst);
-        if now != seen {
-            pause(WAY);
-        }
-        now
     }
 
     // Asks the step's event until it is answered; the step has the reply then. While its request waits, which no other session
@@ -312,7 +312,7 @@ impl<N: StoreName> Shared<N> {
     pub fn advance<R: Wait>(&self, rt: &R, checkpointer: &mut CheckpointerSeat<N>) -> Reply
         ensures { IsAdvance N.name.setting checkpointer.old result checkpointer.new }
     {
-        let mut held = self.get_latch(rt);
+        let mut held = self.get_latch_soon(rt);
         let reply = held.latched.advance(&self.tie, checkpointer);
         let woken = held.note(&reply);
         drop(held);
@@ -325,7 +325,7 @@ impl<N: StoreName> Shared<N> {
     pub fn take<R: Wait>(&self, rt: &R, checkpointer: &mut CheckpointerSeat<N>) -> Reply
         ensures { IsTakeCalled N.name.setting checkpointer.old result checkpointer.new }
     {
-        let mut held = self.get_latch(rt);
+        let mut held = self.get_latch_soon(rt);
         let reply = held.latched.take(&self.tie, checkpointer);
         let woken = held.note(&reply);
         drop(held);
@@ -376,7 +376,6 @@ impl<N: StoreName> Shared<N> {
             turned: _,
             committed: _,
             repeating: _,
-            found_taken: _,
             logged: _,
             end: _,
             count,
@@ -471,7 +470,7 @@ impl<N: StoreName> Shared<N> {
 
     /// The number of the log's last entry, 0 where it has none.
     pub fn last_entry<R: Wait>(&self, rt: &R) -> Lsn {
-        Lsn(self.get_latch(rt).latched.log_len())
+        Lsn(self.get_latch_soon(rt).latched.log_len())
     }
 
     /// Waits until the log has the entry of this number, and gives the number of its last one; nothing where it hasn't, and the

@@ -11,7 +11,7 @@ use crate::room::Room;
 use pc_jobs::{Client, ClientTask, Fill, FillJob, Job};
 use pc_shared::Session;
 use pc_tie::StoreName;
-use pc_types::{Items, Refusal, SessionNo};
+use pc_types::{GatePlace, Items, Refusal, SessionNo};
 use pc_workers::{ClientGate, client_loop};
 use std::alloc::Global;
 use std::marker::Model;
@@ -166,7 +166,12 @@ fn run_made<N: StoreName, R: Wait, G: ClientGate>(
 {
     match made.set(room.alloc, fill, number) {
         Ok(()) => run_job(rt, room, session, made.as_job()),
-        Err(_) => Ok(1),
+        Err(_) => {
+            let own = session.number();
+            room.gate.refused(own, Refusal::OutOfMemory);
+            room.gate.pass(GatePlace::GaveUp(own));
+            Ok(1)
+        }
     }
 }
 

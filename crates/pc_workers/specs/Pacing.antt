@@ -1,11 +1,11 @@
 -- How long the checkpointer's turns are, and when it has rested behind one.
 use Rattle.std.specs.Prelude.{ℕ, zero, ◌*◌, ◌/◌, min, max, Bool, nat_le}
-use Rattle.pc_workers.specs.declared.pace.TheConstants.{MOST_TAKES, LOOKS_ALONE}
+use Rattle.pc_workers.specs.declared.pace.TheConstants.{FIRST_TAKES, MOST_TAKES, LOOKS_ALONE}
 
 -- how many keys a turn has behind one of so many, where so much was committed since that one began
 abbrev pub turn_behind : ℕ → ℕ → ℕ
-turn_behind turn zero = MOST_TAKES
-turn_behind turn committed = min (max turn (committed / 2)) MOST_TAKES
+turn_behind turn zero = min (turn * 2) MOST_TAKES
+turn_behind turn committed = min (max (committed / 2) FIRST_TAKES) MOST_TAKES
 
 -- whether who has taken a turn of so many keys has rested, where so much was committed since it began, after so many looks
 abbrev pub has_rested : ℕ → ℕ → ℕ → Bool

@@ -16,9 +16,9 @@ pub const MOST_TAKES: u32 = 65_536;
 pub const LOOKS_ALONE: u32 = 36;
 
 /// How many keys the checkpointer takes in a turn, how many of them are left to take, and the log's last entry when the turn
-/// began. A turn is never shorter than the one before it, and half of what was committed in that one and in the rest behind it,
-/// up to 65,536 keys: where others run for long whenever the checkpointer rests, as on one processor, its turns grow with what
-/// they commit meanwhile.
+/// began. A turn has half of what was committed in the one before it and in the rest behind that, and twice what that one had where
+/// nothing was, from 1,024 to 65,536 keys: where others run for long whenever the checkpointer rests, as on one processor, its turns
+/// grow with what they commit meanwhile.
 #[derive(Drop)]
 pub struct Pace {
     turn: u32,
@@ -71,8 +71,8 @@ impl Pace {
         ensures begun { self.new.begun ≡ last }
     {
         self.turn = match last.0.saturating_sub(self.begun) {
-            0 => MOST_TAKES,
-            committed => self.turn.max(committed / 2).min(MOST_TAKES),
+            0 => (self.turn * 2).min(MOST_TAKES),
+            committed => (committed / 2).max(FIRST_TAKES).min(MOST_TAKES),
         };
         self.left = self.turn;
         self.begun = last.0;

@@ -45,13 +45,16 @@ impl<'a> Lacking<'a> {
         if let Some(why) = self.lacks.fault {
             self.put_rest(why, lines)?;
         }
-        if self.lacks.unused > 0 {
+        if let (LogHeader::Whole, Some(unused)) = (self.lacks.header, self.lacks.unused) {
             let mut buffer = Buffer::new();
             self.put_of_log(
-                b" ends before the token of the recovered point: its entries aren't used, ",
+                b" ends before the token of the recovered point: none of its ",
                 lines,
             )?;
-            lines.put_all(&[buffer.format(self.lacks.unused).as_bytes(), b" of them\n"])?;
+            lines.put_all(&[
+                buffer.format(unused).as_bytes(),
+                b" entries is used\n",
+            ])?;
         }
         Ok(())
     }

@@ -122,12 +122,21 @@ fn is_run_file(name: &[u8]) -> bool {
     name == BASE.as_bytes() || name == LOG.as_bytes() || name.ends_with(PART_END)
 }
 
-/// A folder in which a run makes its files.
-#[derive(Drop)]
+/// A folder in which a run makes its files. Where it is dropped, what isn't whole of them goes.
 pub struct NewFolder<'a> {
     claim: &'a Claim<'a>,
     // The file that is made just now, where it is made apart.
     made: Option<Target<'a>>,
+}
+
+impl Drop for NewFolder<'_> {
+    fn drop(self) {
+        let NewFolder { claim: _, made } = self;
+        if let Some(target) = made {
+            let mut target = target;
+            target.discard();
+        }
+    }
 }
 
 impl<'a> NewFolder<'a> {

@@ -128,7 +128,11 @@ fn push_lacks(alloc: Global, text: &mut Vec<u8>, lacks: &Lacks) -> Result<(), Re
         Some(why) => why.name(),
         None => "none",
     };
-    let (unused, skipped, worth) = (lacks.unused, lacks.skipped, worth_of(lacks));
+    let unused = match lacks.unused {
+        Some(count) => format!(in alloc; "{count}")?,
+        None => String::from_str(alloc, "none")?,
+    };
+    let (skipped, worth) = (lacks.skipped, worth_of(lacks));
     let line = format!(in alloc;
         "lacks header {header} fault {fault} unused {unused} skipped {skipped}: {worth}\n"
     )?;

@@ -1,0 +1,34 @@
+// Counts the calls that bring a file to its device: each adds a byte to the file whose path is the value of COUNTED_SYNCS. What it takes of the C
+// library is declared here, so that it needs no header.
+typedef __SIZE_TYPE__ size_t;
+typedef __PTRDIFF_TYPE__ ssize_t;
+#define NULL ((void *)0)
+#define NEXT ((void *)-1l)
+#define WRITE_APPEND 02001
+
+char *getenv(const char *name);
+void *dlsym(void *handle, const char *name);
+int open(const char *path, int flags, ...);
+ssize_t write(int file, const void *bytes, size_t length);
+int close(int file);
+
+static void count(void) {
+    const char *path = getenv("COUNTED_SYNCS");
+    int file = path == NULL ? -1 : open(path, WRITE_APPEND);
+    if (file >= 0) {
+        write(file, "s", 1);
+        close(file);
+    }
+}
+
+int fdatasync(int file) {
+    count();
+    int (*next)(int) = (int (*)(int))dlsym(NEXT, "fdatasync");
+    return next(file);
+}
+
+int fsync(int file) {
+    count();
+    int (*next)(int) = (int (*)(int))dlsym(NEXT, "fsync");
+    return next(file);
+}

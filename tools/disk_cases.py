@@ -1,0 +1,140 @@
+"""Commands on a disk that gets full, and how often they bring files to the disk, for `try_programs.py`.
+
+The disk is a file system of 1 MB in memory, in a name space of its own. A command that finds no room on it ends with status 1 and names the file and the
+system's reason; what stood there stays, what isn't whole goes, and the folder of a run recovers to a beginning of what it has committed. Where this
+machine gives nobody a file system of his own, that is printed and nothing of it is counted.
+
+With `--sync` and a lag of 0 each commit of one client is brought to the disk before the next one begins; without, only the base, a joined file and
+their names are.
+"""
+
+import os
+import subprocess
+import tempfile
+
+import plain_files
+import refused_growths
+from plain_store import keyed
+from program_cases import written
+from run_cases import content_of, files_of
+
+SOURCE = os.path.join(os.path.dirname(os.path.abspath(__file__)), "counted_syncs", "count.c")
+SECONDS = 60
+SIZE = 1 << 20
+# each file takes a whole number of these
+PAGE = 4_096
+# what a command has there before, and what it leaves
+GIVEN, SMALL, LEFT = "given", "small", "left"
+MOUNT = f"mount -t tmpfs -o size={SIZE} pcalc {SMALL}"
+WITHIN = f"{MOUNT} && cp -r {GIVEN}/. {SMALL} && cd {SMALL} || exit 99; \"$@\"; status=$?; cp -r . ../{LEFT}; exit $status"
+FULL = b"No space left on device (os error 28)\n"
+COMMITS = 50
+# of a run without --sync: the base, its name, and as much again
+FEW_SYNCS = 4
+
+
+def own_disk(room, words):
+    """What a command ends with that is run on a small disk, and leaves in the folder LEFT of the room."""
+    for name in (GIVEN, SMALL, LEFT):
+        os.makedirs(os.path.join(room, name), exist_ok=True)
+    command = ("unshare", "--map-root-user", "--mount", "sh", "-c", WITHIN, "sh", *words)
+    return subprocess.run(command, cwd=room, stdin=subprocess.DEVNULL, capture_output=True, timeout=SECONDS)
+
+
+def has_disks():
+    """Whether this machine gives a small disk to who asks for one."""
+    with tempfile.TemporaryDirectory() as room:
+        try:
+            return own_disk(room, ("true",)).returncode == 0
+        except OSError:
+            return False
+
+
+def names_in(room, folder):
+    return sorted(os.listdir(os.path.join(room, LEFT, folder)))
+
+
+def ended_full(ran, name, path):
+    """What is wrong with how a command has ended that found the disk full."""
+    told = b"pcalc: %s: Device\n  writing %s: %s" % (name, path, FULL)
+    return [] if (ran.returncode, ran.stdout, ran.stderr) == (1, b"", told) else [f"status {ran.returncode}, {ran.stdout!r}, {ran.stderr!r}"]
+
+
+def full_run(program, room):
+    """A run whose log and parts have no room."""
+    written(room, f"{GIVEN}/run.pcw", b"points 3\nclient 1\nfill a 60000 x\n")
+    os.makedirs(os.path.join(room, GIVEN, "D"))
+    ran = own_disk(room, (program, "run", "run.pcw", "--dir", "D", "--lag", "0", "--explain"))
+    lines = [] if ran.returncode == 1 and ran.stderr.startswith(b"pcalc: run.pcw: Device\n  writing D/") and ran.stderr.endswith(FULL) else [f"{ran.returncode}, {ran.stderr!r}"]
+    found = plain_files.recover(*files_of(os.path.join(room, LEFT, "D")))
+    keys = [keyed({b"a%06d" % number: b"x"}) for number in range(len(found.pairs))]
+    if not keys or found.pairs != {key: value for pair in keys for key, value in pair.items()}:
+        lines.append("its folder recovers to no beginning of its transactions")
+    return lines + [f"{name} is left" for name in names_in(room, "D") if name.endswith(".new")]
+
+
+def full_collapse(program, room):
+    """A join that has no room beside what stands under its name."""
+    parts = [plain_files.Part(1, [(point, point)], keyed({b"key%05d" % (number * point): (point, b"v" * 16) for number in range(9_000)})).text() for point in (1, 2)]
+    given = {"1.pcp": parts[0], "2.pcp": parts[1], "out.pcp": plain_files.Part(1, [(3, 3)], {}).text()}
+    for name, text in given.items():
+        written(room, f"{GIVEN}/{name}", text)
+    ran = own_disk(room, (program, "collapse", "out.pcp", "1.pcp", "2.pcp", "--explain"))
+    lines = ended_full(ran, b"out.pcp", b"out.pcp")
+    lines += [f"{name} is not as it was" for name, text in given.items() if content_of(os.path.join(room, LEFT), name) != text]
+    return lines + ([] if names_in(room, "") == sorted(given) else [f"{names_in(room, '')} are left"])
+
+
+def full_times(program, room):
+    """Times that have no room."""
+    written(room, f"{GIVEN}/run.pcw", b"points 1\nclient 1\nfill a 50 x\n")
+    written(room, f"{GIVEN}/run.times", b"as it was")
+    written(room, f"{GIVEN}/filler", bytes(SIZE - 2 * PAGE))
+    ran = own_disk(room, (program, "run", "run.pcw", "--times", "run.times", "--explain"))
+    lines = [] if ran.returncode == 1 and ran.stderr == b"pcalc: run.times: Device\n  writing run.times: " + FULL else [f"{ran.returncode}, {ran.stderr!r}"]
+    if content_of(os.path.join(room, LEFT), "run.times") != b"as it was" or names_in(room, "") != ["filler", "run.pcw", "run.times"]:
+        lines.append(f"its times are not as they were, or of {names_in(room, '')} something is left")
+    return lines
+
+
+def full_start(program, room):
+    """A start whose base has no room."""
+    pairs = keyed({b"key%05d" % number: b"v" * 16 for number in range(20_000)})
+    written(room, "old/base.pcb", plain_files.Base(1, 0, pairs).text())
+    written(room, "old/log.pcl", plain_files.Log(1).text())
+    written(room, f"{GIVEN}/run.pcw", b"points 1\nclient 1\nfill a 50 x\n")
+    written(room, f"{GIVEN}/filler", bytes(SIZE // 2))
+    os.makedirs(os.path.join(room, GIVEN, "D"))
+    ran = own_disk(room, (program, "run", "run.pcw", "--from", "../old", "--dir", "D", "--explain"))
+    return ended_full(ran, b"run.pcw", b"D/base.pcb") + ([] if names_in(room, "D") == [] else [f"{names_in(room, 'D')} are left"])
+
+
+def synced(program, room):
+    """How often runs and joins bring files to the disk."""
+    library, count = refused_growths.built(room, SOURCE), os.path.join(room, "count")
+    written(room, "run.pcw", b"points 1\nclient 1\nfill a %d x\n" % COMMITS)
+
+    def counted(*words):
+        written(room, "count", b"")
+        env = {**os.environ, "LD_PRELOAD": library, "COUNTED_SYNCS": count}
+        ran = subprocess.run((program, *words), cwd=room, env=env, stdin=subprocess.DEVNULL, capture_output=True, timeout=SECONDS)
+        return ran.returncode, os.path.getsize(count)
+
+    for number, (words, is_right) in enumerate(((("--sync", "--lag", "0"), lambda syncs: syncs > COMMITS), ((), lambda syncs: 2 <= syncs <= FEW_SYNCS))):
+        os.makedirs(os.path.join(room, f"D{number}"))
+        status, syncs = counted("run", "run.pcw", "--dir", f"D{number}", *words)
+        yield f"a run with {' '.join(words) or 'no more words'} is brought to the disk", [] if status == 0 and is_right(syncs) else [f"status {status}, {syncs} times"]
+    status, syncs = counted("collapse", "out.pcp", "D0/part-00001.pcp")
+    yield "a joined file is brought to the disk with its name", [] if (status, syncs) == (0, 2) else [f"status {status}, {syncs} times"]
+
+
+def disks(program, folder):
+    """What each command on a full disk, and each count, differs in, by its name."""
+    if has_disks():
+        for case in (full_run, full_collapse, full_times, full_start):
+            room = os.path.join(folder, case.__name__)
+            os.makedirs(room)
+            yield f"on a full disk: {case.__doc__}", case(program, room)
+    else:
+        print("no disk of 1 MB is given here: what a full one does is not tried")
+    yield from synced(program, folder)
