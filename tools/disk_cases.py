@@ -16,7 +16,7 @@ import plain_files
 import refused_growths
 from plain_store import keyed
 from program_cases import written
-from run_cases import content_of, files_of
+from run_cases import content_of, files_of, has_times_of
 
 SOURCE = os.path.join(os.path.dirname(os.path.abspath(__file__)), "counted_syncs", "count.c")
 SECONDS = 60
@@ -109,6 +109,17 @@ def full_start(program, room):
     return ended_full(ran, b"run.pcw", b"D/base.pcb") + ([] if names_in(room, "D") == [] else [f"{names_in(room, 'D')} are left"])
 
 
+def in_memory(program, room):
+    """Times under /dev/shm, which are replaced as any other file is."""
+    written(room, "run.pcw", b"points 1\nclient 1\nfill a 50 x\n")
+    with tempfile.NamedTemporaryFile(dir="/dev/shm") as file:
+        ran = subprocess.run((program, "run", "run.pcw", "--times", file.name), cwd=room, stdin=subprocess.DEVNULL, capture_output=True, timeout=SECONDS)
+        file.write(b"behind the old one")
+        file.flush()
+        is_right = has_times_of(50)(content_of("/", file.name))
+    return [] if ran.returncode == 0 and is_right else [f"status {ran.returncode}, and the times aren't those of the run alone"]
+
+
 def synced(program, room):
     """How often runs and joins bring files to the disk."""
     library, count = refused_growths.built(room, SOURCE), os.path.join(room, "count")
@@ -137,4 +148,6 @@ def disks(program, folder):
             yield f"on a full disk: {case.__doc__}", case(program, room)
     else:
         print("no disk of 1 MB is given here: what a full one does is not tried")
+    if os.path.isdir("/dev/shm"):
+        yield "a file under /dev/shm is replaced", in_memory(program, folder)
     yield from synced(program, folder)

@@ -9,7 +9,7 @@ import os
 
 import plain_files
 import plain_store
-from plain_store import keyed
+from plain_store import key_word, keyed
 from program_cases import FAULTS, FULL, LITTLE, MANY, Case, beside, feed, piped, sparse, written
 
 EMPTY = plain_files.Base(1, 0, {}).text()
@@ -162,7 +162,8 @@ def telling_cases(folder):
 
 
 def is_spread(points, every):
-    """Whether a log has so many points, and each has begun behind so many commits for it and for each one before, or behind the last commit of all."""
+    """Whether a log has so many points, and each has begun behind so many commits for it and for each one before, or behind the last commit of all,
+    but the first one, which has begun while clients ran."""
     def is_right(text):
         commits, begun = 0, []
         try:
@@ -174,7 +175,7 @@ def is_spread(points, every):
                 commits += 1
             elif entry[1] == "prepare":
                 begun.append(commits)
-        return len(begun) == points and all(at >= every * number or at == commits for number, at in enumerate(begun, 1))
+        return len(begun) == points and begun[0] < commits and all(at >= every * number or at == commits for number, at in enumerate(begun, 1))
     return is_right
 
 
@@ -213,6 +214,9 @@ def workload_cases(folder):
     puts = b"".join(b"put k%d v\n" % number for number in range(257))
     written(folder, "many.pcw", b"points 1\nclient 3\ntxn\n" + puts + b"end\ntxn\nput a 1\ndel b\nget c\nend\n")
     yield Case("a transaction that is given up", ("run", "many.pcw"), 0, b"commits 1\ngave up 1\npoints 1\ncollapsed 1 entries 2\nstate pairs 1\ncheck ok\n")
+    gets = b"".join(b"get k%d\n" % number for number in range(300))
+    written(folder, "reads.pcw", b"points 1\nclient 1\ntxn\n" + gets + b"put a 1\nend\n")
+    yield Case("a transaction of 300 reads", ("run", "reads.pcw"), 0, b"commits 1\ngave up 0\npoints 1\ncollapsed 1 entries 1\nstate pairs 1\ncheck ok\n")
     for number, (text, line) in enumerate(BAD_LINES):
         written(folder, f"bad{number}.pcw", text)
         yield Case(f"a bad line {line}", ("run", f"bad{number}.pcw", "--dir", "none"), 3, b"bad line %d\n" % line, files={"none": None})
@@ -618,6 +622,9 @@ def from_cases(folder):
     yield Case("the same without a folder of its own", ("run", "next.pcw", "--from", "first"), 0, told)
     yield Case("the same from a folder's name with a slash", ("run", "next.pcw", "--from", "first/"), 0, told)
     yield Case("room for as many keys as there are", ("run", "next.pcw", "--from", "first", "--capacity", "59"), 0, told)
+    written(folder, "same.pcw", b"points 1\nclient 1\ntxn\nput %s new\nend\n" % key_word(min(first.pairs)))
+    told_of_one = b"commits 1\ngave up 0\npoints 1\ncollapsed 1 entries 1\nstate pairs 39\ncheck ok\n"
+    yield Case("room for just the pairs that are there", ("run", "same.pcw", "--from", "first", "--capacity", "39"), 0, told_of_one)
     words = ("run", "next.pcw", "--from", "first", "--capacity", "38", "--dir", new_folder(folder, "small"))
     yield Case("more pairs than there is room for", words, 1, err=b"pcalc: next.pcw: Full\n", files={"small/base.pcb": None, "small/base.pcb.new": None})
     told = b"pcalc: next.pcw: Full\n  first is recovered to 39 pairs, and --capacity is 38\n"

@@ -271,7 +271,7 @@ use Rattle.pc_types.specs.declared.Step.{Step}
 use Rattle.pc_types.specs.declared.Entry.TheVariants.{Commit, Token}
 use Rattle.pc_types.specs.declared.Change.TheVariants as does
 use Rattle.pc_model.specs.Database.{write_of}
-use Rattle.test_model.specs.Examples.{step, plain, holding, with_room_for, with_sessions, has, lacks, RunsTo, LaysTo, Lacks, HasLog, IsQuietRun, IsNoQuietRun, IsIllegal, a, b, k, n, t, x, y, z, v1, v2, v3, v4, v5, v6, v7, v8, v9, seven, nine}
+use Rattle.test_model.specs.Examples.{step, plain, holding, with_room_for, with_sessions, has, lacks, RunsTo, LaysTo, Lacks, HasLog, IsQuietRun, IsNoQuietRun, IsIllegal, a, a_in_7, b, k, n, t, x, y, z, v1, v2, v3, v4, v5, v6, v7, v8, v9, seven, nine}
 '''
 PROOF_USES = '''use Rattle.std.specs.Prelude.{pos, negsuc}
 use Rattle.std.proofs.Common.{◌≡◌, ℕ, Bool, List, [], ◌∷◌, ◌++◌, take, Option, Some, None, refl, ap, inl, inr, true, false}
@@ -282,7 +282,7 @@ use Rattle.pc_types.specs.declared.Refusal.TheVariants as why
 use Rattle.pc_types.specs.Changes.{number_text, number_in, number_of}
 use Rattle.pc_model.specs.Maps as map_of
 use Rattle.pc_model.specs.Database.{same_bytes}
-use Rattle.test_model.specs.Examples.{plain, holding, with_room_for, with_sessions, has, lacks, RunsTo, LaysTo, Lacks, HasLog, IsQuietRun, IsNoQuietRun, IsIllegal, a, b, k, n, t, x, y, z, v1, v2, v3, v4, v5, v6, v7, v8, v9, seven, nine}
+use Rattle.test_model.specs.Examples.{plain, holding, with_room_for, with_sessions, has, lacks, RunsTo, LaysTo, Lacks, HasLog, IsQuietRun, IsNoQuietRun, IsIllegal, a, a_in_7, b, k, n, t, x, y, z, v1, v2, v3, v4, v5, v6, v7, v8, v9, seven, nine}
 use Rattle.pc_model.proofs.Ample.{legal_run, legal_lean_run}
 use Rattle.test_model.proofs.Taken.{key_taken}
 '''

@@ -209,9 +209,11 @@ const FIRST_PAUSE: u32 = 16;
 
 const LONGEST_PAUSE: u32 = 256;
 
-// How often the checkpointer lets others run after its first look: on one processor each time may hand over a whole slice of time,
-// in which sessions commit thousands of transactions.
-const SHORT_PAUSE: u32 = 1;
+// The same of the checkpointer: on one processor each time may hand over a whole slice of time, in which sessions commit thousands
+// of transactions.
+const FIRST_SHORT_PAUSE: u32 = 1;
+
+const LONGEST_SHORT_PAUSE: u32 = 8;
 
 /// Lets other threads run, so many times: each is a call of the system, and a moment also where no other thread is ready.
 pub fn pause(times: u32) {
@@ -223,30 +225,31 @@ pub fn pause(times: u32) {
 impl<N: StoreName> Shared<N> {
     // Gets the latch for a session's call.
     pub(crate) fn get_latch<R: Wait>(&self, rt: &R) -> MutexGuard<'_, UnderLatch<N>> {
-        self.get_latch_after(rt, FIRST_PAUSE)
+        self.get_latch_after(rt, FIRST_PAUSE, LONGEST_PAUSE)
     }
 
     // Gets the latch for one of many calls of the checkpointer.
     fn get_latch_soon<R: Wait>(&self, rt: &R) -> MutexGuard<'_, UnderLatch<N>> {
-        self.get_latch_after(rt, SHORT_PAUSE)
+        self.get_latch_after(rt, FIRST_SHORT_PAUSE, LONGEST_SHORT_PAUSE)
     }
 
-    // Gets the latch, and lets others run this often after the first look that finds it held.
+    // Gets the latch, and lets others run so often after the first look that finds it held, and at most after a later one.
     fn get_latch_after<R: Wait>(
         &self,
         rt: &R,
-        first_pause: u32,
+        first: u32,
+        longest: u32,
     ) -> MutexGuard<'_, UnderLatch<N>> {
         if let Some(held) = self.latch.try_lock() {
             return held;
         }
-        let mut times = first_pause;
+        let mut times = first;
         for _ in 0..LOOKS {
             pause(times);
             if let Some(held) = self.latch.try_lock() {
                 return held;
             }
-            times = times.saturating_mul(2).min(LONGEST_PAUSE);
+            times = times.saturating_mul(2).min(longest);
         }
         self.latch.lock(rt)
     }

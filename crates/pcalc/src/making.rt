@@ -129,7 +129,8 @@ impl<'a> Target<'a> {
 
 // Whether what stands there is written to as it is: it is no plain file, or the system's own name of an open one.
 fn is_stream(found: &Metadata, path: &str) -> bool {
-    !found.is_file() || path.starts_with("/dev/") || path.starts_with("/proc/")
+    let is_open = path.starts_with("/dev/std") || path.starts_with("/dev/fd/");
+    !found.is_file() || is_open || path.starts_with("/proc/")
 }
 
 /// The folder of a file, by its path.

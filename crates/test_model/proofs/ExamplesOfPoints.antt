@@ -4,7 +4,7 @@ use Rattle.std.proofs.Common.{refl}
 use Rattle.pc_model.specs.Maps as map_of
 use Rattle.test_model.specs.Examples.{plain, holding, a, k, v1, v7}
 use Rattle.pc_model.proofs.Ample.{legal_run}
-use Rattle.test_model.specs.ExamplesOfPoints.{abort_after_the_point, abort_in_capture, abort_in_prepare, classes_by_the_phase_of_begin, commit_after_the_point, commits_before_and_after_the_seal, empty_part, first_written_after_the_point, removal_of_a_missing_key, removed_key_becomes_a_tombstone, seal_waits_for_before, taken_again_in_the_next_cycle, two_writes_over_the_point, ExamplesOfPoints}
+use Rattle.test_model.specs.ExamplesOfPoints.{abort_after_the_point, abort_in_capture, abort_in_prepare, classes_by_the_phase_of_begin, commit_after_the_point, commits_before_and_after_the_seal, empty_part, first_written_after_the_point, keys_of_two_spaces, removal_of_a_missing_key, removed_key_becomes_a_tombstone, seal_waits_for_before, taken_again_in_the_next_cycle, two_writes_over_the_point, ExamplesOfPoints}
 
 pub examples_of_points : ExamplesOfPoints
 unfolding map_of.empty map_of.get map_of.insert map_of.remove
@@ -14,6 +14,8 @@ examples_of_points = record {
   commit_after_the_point_is_not_quiet = λ e. cc;
   abort_after_the_point_runs = record { legal = legal_run plain abort_after_the_point refl; by_replies = refl; by_log = refl; leaves = refl };
   abort_after_the_point_state_1 = record { covers = refl; gives = refl; replayed = refl };
+  keys_of_two_spaces_runs = record { legal = legal_run plain keys_of_two_spaces refl; by_replies = refl; by_log = refl; leaves = refl };
+  keys_of_two_spaces_state_1 = record { covers = refl; gives = refl; replayed = refl };
   seal_waits_for_before_runs = record { legal = legal_run plain seal_waits_for_before refl; by_replies = refl; by_log = refl; leaves = refl };
   removed_key_becomes_a_tombstone_runs = record { legal = legal_run (holding k v7 plain) removed_key_becomes_a_tombstone refl; by_replies = refl; by_log = refl; leaves = refl };
   removed_key_becomes_a_tombstone_state_1 = record { covers = refl; gives = refl; replayed = refl };

@@ -1,11 +1,11 @@
 -- Single rules and limits, by computing.
-use Rattle.std.proofs.Common.{◌≡◌, [], ◌∷◌, Some, true, false, refl, ap, reverse}
+use Rattle.std.proofs.Common.{◌≡◌, [], ◌∷◌, Some, true, false, refl, ap, reverse, arith}
 use Rattle.pc_model.specs.Maps as map_of
 use Rattle.pc_model.specs.Database.{database_of}
 use Rattle.pc_model.specs.Files.{same_content}
 use Rattle.pc_model.specs.Reads.{HasRightReads}
 use Rattle.test_model.specs.Examples.{k, v5, v6}
-use Rattle.test_model.specs.ExamplesOfRules.{LockRules, FileRules, LimitRules, RefusalRules, ReadRules, overtaken_read, own_write_missed}
+use Rattle.test_model.specs.ExamplesOfRules.{LockRules, FileRules, KeyRules, LimitRules, RefusalRules, ReadRules, overtaken_read, own_write_missed}
 use Rattle.test_model.proofs.Causes as causes
 
 pub lock_rules : LockRules
@@ -41,8 +41,19 @@ file_rules = record {
   no_gap_below_the_base = refl;
 }
 
+pub key_rules : KeyRules
+key_rules = record {
+  key_of_one_byte = (omega (arith), omega (arith));
+  key_of_no_byte = λ e. omega (arith, e.0);
+  space_told = (refl, refl);
+  same_bytes_in_two_spaces = refl;
+  space_before_bytes = refl;
+  shorter_first = refl;
+}
+
 pub limit_rules : LimitRules
 limit_rules = record {
+  space_bytes = refl;
   most_key_bytes = refl;
   most_value_bytes = refl;
   most_sessions = refl;
@@ -53,6 +64,8 @@ limit_rules = record {
   most_points = refl;
   most_files = refl;
   most_file_entries = refl;
+  most_body_bytes_first = refl;
+  most_body_bytes_second = refl;
 }
 
 pub refusal_rules : RefusalRules

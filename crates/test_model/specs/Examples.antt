@@ -1,5 +1,6 @@
 -- The words of the worked examples: steps, settings, keys and values, and what is said of a history.
 use Rattle.std.specs.Prelude.{◌≡◌, ℕ, List, [], ◌∷◌, Option, Some, None, map, reverse}
+use Rattle.pc_types.specs.Keys.{key_of}
 use Rattle.pc_types.specs.declared.Event.{Event}
 use Rattle.pc_types.specs.declared.Reply.{Reply}
 use Rattle.pc_types.specs.declared.Step.{Step}
@@ -106,30 +107,34 @@ IsNoQuietRun st steps = ¬ IsQuiet st (reverse steps)
 abbrev pub IsIllegal : Setting → List Step → Event → Reply → Type 0
 IsIllegal st steps event reply = ¬ IsLegal st (reverse steps) event reply
 
--- keys of one letter
+-- keys of one letter in space 0
 abbrev pub a : List ℕ
-a = 97 ∷ []
+a = key_of 0 (97 ∷ [])
 
 abbrev pub b : List ℕ
-b = 98 ∷ []
+b = key_of 0 (98 ∷ [])
 
 abbrev pub k : List ℕ
-k = 107 ∷ []
+k = key_of 0 (107 ∷ [])
 
 abbrev pub n : List ℕ
-n = 110 ∷ []
+n = key_of 0 (110 ∷ [])
 
 abbrev pub t : List ℕ
-t = 116 ∷ []
+t = key_of 0 (116 ∷ [])
 
 abbrev pub x : List ℕ
-x = 120 ∷ []
+x = key_of 0 (120 ∷ [])
 
 abbrev pub y : List ℕ
-y = 121 ∷ []
+y = key_of 0 (121 ∷ [])
 
 abbrev pub z : List ℕ
-z = 122 ∷ []
+z = key_of 0 (122 ∷ [])
+
+-- the key of one letter in space 7
+abbrev pub a_in_7 : List ℕ
+a_in_7 = key_of 7 (97 ∷ [])
 
 -- values of one digit
 abbrev pub v1 : List ℕ

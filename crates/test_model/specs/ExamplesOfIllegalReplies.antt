@@ -5,8 +5,7 @@ use Rattle.pc_types.specs.declared.Phase.TheVariants.{Prepare, Resolve}
 use Rattle.pc_types.specs.declared.Event.TheVariants as asked
 use Rattle.pc_types.specs.declared.Reply.TheVariants as told
 use Rattle.pc_types.specs.declared.Refusal.TheVariants as why
-use Rattle.pc_types.specs.declared.Change.TheVariants as does
-use Rattle.test_model.specs.Examples.{plain, holding, with_room_for, has, IsIllegal, a, b, k, n, x, y, v1, v2, v5, v6, v9, seven, nine}
+use Rattle.test_model.specs.Examples.{plain, holding, with_room_for, IsIllegal, a, b, k, n, x, y, v1, v2, v5, v6, v9, seven, nine}
 use Rattle.test_model.specs.ExamplesOfAdds.{add_dies, add_waits_for_a_reader, adds_of_two_transactions, deltas_past_the_ends, reads_over_open_adds, sums_past_the_ends, values_that_are_no_numbers}
 use Rattle.test_model.specs.ExamplesOfCapacity.{read_key_is_occupied_until_the_end, removed_key_is_occupied_until_taken}
 use Rattle.test_model.specs.ExamplesOfFiles.{joins_of_three_points}

@@ -6,7 +6,7 @@ use Rattle.pc_types.specs.declared.Event.TheVariants as asked
 use Rattle.pc_types.specs.declared.Reply.TheVariants as told
 use Rattle.pc_types.specs.declared.Refusal.TheVariants as why
 use Rattle.pc_types.specs.declared.Step.{Step}
-use Rattle.test_model.specs.Examples.{step, plain, holding, has, lacks, RunsTo, LaysTo, Lacks, IsNoQuietRun, a, b, k, z, v1, v2, v3, v4, v5, v7, v8, v9}
+use Rattle.test_model.specs.Examples.{step, plain, holding, has, lacks, RunsTo, LaysTo, Lacks, IsNoQuietRun, a, a_in_7, b, k, z, v1, v2, v3, v4, v5, v7, v8, v9}
 
 -- A transaction that begins in prepare and commits after the seal is not in the point.
 abbrev pub commit_after_the_point : List Step
@@ -49,6 +49,26 @@ abort_after_the_point = step (asked.Begin 1) (told.Begun 1)
     ∷ step asked.Take told.NoneLeft
     ∷ step asked.Take told.NoneLeft
     ∷ step asked.Done (told.PartDone 1 1 2)
+    ∷ step asked.Rest (told.Phase Rest 1)
+    ∷ []
+
+-- A key of space 7 is another one than that of space 0 with the same byte, and stands behind all keys of space 0.
+abbrev pub keys_of_two_spaces : List Step
+keys_of_two_spaces = step (asked.Begin 1) (told.Begun 1)
+    ∷ step (asked.Put 1 a v1) told.Ok
+    ∷ step (asked.Put 1 a_in_7 v2) told.Ok
+    ∷ step (asked.Put 1 z v3) told.Ok
+    ∷ step (asked.Commit 1) (told.Committed 1)
+    ∷ step (asked.Begin 1) (told.Begun 2)
+    ∷ step (asked.Del 1 a) told.Ok
+    ∷ step (asked.Commit 1) (told.Committed 2)
+    ∷ step asked.StartPoint (told.Phase Prepare 1)
+    ∷ step asked.Seal (told.Phase Resolve 1)
+    ∷ step asked.OpenCapture (told.Phase Capture 1)
+    ∷ step asked.Take (told.Took a None)
+    ∷ step asked.Take (told.Took a_in_7 (Some v2))
+    ∷ step asked.Take (told.Took z (Some v3))
+    ∷ step asked.Done (told.PartDone 1 1 3)
     ∷ step asked.Rest (told.Phase Rest 1)
     ∷ []
 
@@ -256,6 +276,8 @@ pub record ExamplesOfPoints : Type 0 where
   pub commit_after_the_point_is_not_quiet : IsNoQuietRun plain commit_after_the_point
   pub abort_after_the_point_runs : RunsTo plain abort_after_the_point ((1 ∷ [], has a 1 v1 ∷ has b 1 v9 ∷ []) ∷ []) ((a, v1) ∷ (b, v9) ∷ [])
   pub abort_after_the_point_state_1 : LaysTo plain abort_after_the_point 1 1 ((a, v1) ∷ (b, v9) ∷ [])
+  pub keys_of_two_spaces_runs : RunsTo plain keys_of_two_spaces ((1 ∷ [], lacks a 1 ∷ has z 1 v3 ∷ has a_in_7 1 v2 ∷ []) ∷ []) ((z, v3) ∷ (a_in_7, v2) ∷ [])
+  pub keys_of_two_spaces_state_1 : LaysTo plain keys_of_two_spaces 1 1 ((z, v3) ∷ (a_in_7, v2) ∷ [])
   pub seal_waits_for_before_runs : RunsTo plain seal_waits_for_before ([]) ((a, v1) ∷ [])
   pub removed_key_becomes_a_tombstone_runs : RunsTo (holding k v7 plain) removed_key_becomes_a_tombstone ((1 ∷ [], lacks k 1 ∷ []) ∷ []) ((k, v8) ∷ [])
   pub removed_key_becomes_a_tombstone_state_1 : LaysTo (holding k v7 plain) removed_key_becomes_a_tombstone 1 1 ([])

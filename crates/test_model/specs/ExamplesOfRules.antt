@@ -5,21 +5,25 @@ use Rattle.pc_types.specs.declared.Event.TheVariants as asked
 use Rattle.pc_types.specs.declared.Reply.TheVariants as told
 use Rattle.pc_types.specs.declared.Refusal.TheVariants as why
 use Rattle.pc_types.specs.declared.Step.{Step}
+use Rattle.pc_types.specs.Keys.{key_of, space_of, own_bytes}
+use Rattle.pc_types.specs.Limits.{IsKey}
+use Rattle.pc_types.specs.declared.Format.TheVariants.{First, Second}
 use Rattle.pc_model.specs.Maps as map_of
 use Rattle.pc_model.specs.Sets as set
-use Rattle.pc_model.specs.Database.{database_of}
+use Rattle.pc_model.specs.Database.{database_of, KeysRise}
 use Rattle.pc_model.specs.History.{History}
 use Rattle.pc_types.specs.declared.Mode.TheVariants.{Shared, Exclusive}
 use Rattle.pc_types.specs.declared.Outcome.TheVariants.{Granted, Queued, Died}
 use Rattle.pc_types.specs.declared.Request.{Request}
-use Rattle.pc_types.specs.declared.limits.TheConstants.{MOST_FILES, MOST_FILE_ENTRIES, MOST_KEYS, MOST_KEY_BYTES, MOST_LOG_ENTRIES, MOST_POINTS, MOST_SESSIONS, MOST_TRANSACTIONS, MOST_VALUE_BYTES, MOST_WRITES}
+use Rattle.pc_types.specs.declared.limits.TheConstants.{MOST_FILES, MOST_FILE_ENTRIES, MOST_KEYS, MOST_KEY_BYTES, MOST_LOG_ENTRIES, MOST_POINTS, MOST_SESSIONS, MOST_TRANSACTIONS, MOST_VALUE_BYTES, MOST_WRITES, SPACE_BYTES}
 use Rattle.pc_model.specs.Locks.{outcome, queue_after, queue_without}
 use Rattle.pc_model.specs.Points.{Triples, joined, laid}
 use Rattle.pc_model.specs.Files.{File, conflict}
 use Rattle.pc_model.specs.LaidFiles.{gap_above, laid_file}
 use Rattle.pc_model.specs.Replies.{Setting, first_refusal, transaction_causes, too_many, certain, join_refusal}
 use Rattle.pc_model.specs.Reads.{HasRightReads}
-use Rattle.test_model.specs.Examples.{step, plain, a, b, k, v1, v2, v5, v6, v9}
+use Rattle.pc_log.specs.Reading.{most_body_bytes}
+use Rattle.test_model.specs.Examples.{step, plain, a, a_in_7, b, k, z, v1, v2, v5, v6, v9}
 use Rattle.test_model.specs.ExamplesOfLocks.{older_waits}
 
 -- a shared request of the transaction, granted or waiting
@@ -88,18 +92,28 @@ pub record FileRules : Type 0 where
   pub no_gap_above_the_base : gap_above 3 (set.from_list (4 ∷ 1 ∷ [])) ≡ None
   pub no_gap_below_the_base : gap_above 5 (set.from_list (4 ∷ 1 ∷ [])) ≡ None
 
--- the key of two bytes that differs for each number
+-- the key of space 0 whose two bytes differ for each number
 abbrev pub numbered_key : ℕ → List ℕ
-numbered_key n = 107 ∷ n ∷ []
+numbered_key n = key_of 0 (107 ∷ n ∷ [])
 
 -- a transaction of session 1 that put the keys of the numbers below this one
 abbrev pub many_puts : ℕ → History
 many_puts zero = step (asked.Begin 1) (told.Begun 1) ∷ []
 many_puts (suc n) = step (asked.Put 1 (numbered_key n) v1) told.Ok ∷ many_puts n
 
+-- Keys: each is of some bytes in a space, and they are ordered by space, and in one space byte by byte.
+pub record KeyRules : Type 0 where
+  pub key_of_one_byte : IsKey a
+  pub key_of_no_byte : ¬ IsKey (key_of 7 [])
+  pub space_told : (space_of a_in_7 ≡ 7) × (own_bytes a_in_7 ≡ 97 ∷ [])
+  pub same_bytes_in_two_spaces : KeysRise ((a, v1) ∷ (a_in_7, v1) ∷ [])
+  pub space_before_bytes : KeysRise ((a, v1) ∷ (z, v1) ∷ (a_in_7, v1) ∷ (key_of 256 (97 ∷ []), v1) ∷ [])
+  pub shorter_first : KeysRise ((key_of 7 (97 ∷ []), v1) ∷ (key_of 7 (97 ∷ 0 ∷ []), v1) ∷ [])
+
 -- The limits of the store. Everywhere else each has its name.
 pub record LimitRules : Type 0 where
-  -- of a key and of a value, in bytes
+  -- of a space, of a key's own bytes, and of a value, in bytes
+  pub space_bytes : SPACE_BYTES ≡ 2
   pub most_key_bytes : MOST_KEY_BYTES ≡ 255
   pub most_value_bytes : MOST_VALUE_BYTES ≡ 65535
   -- of a store: its sessions, the keys that it has room for, and the transactions that it begins
@@ -114,6 +128,9 @@ pub record LimitRules : Type 0 where
   -- of a shelf's files, and of a file's entries
   pub most_files : MOST_FILES ≡ 65536
   pub most_file_entries : MOST_FILE_ENTRIES ≡ 4294967295
+  -- of the body of a log's entry, in bytes: that of the first format has no spaces
+  pub most_body_bytes_first : most_body_bytes First ≡ 16844036
+  pub most_body_bytes_second : most_body_bytes Second ≡ 16844548
 
 -- Rules of refusals, and of those that no short history meets.
 pub record RefusalRules : Type 0 where

@@ -9,7 +9,7 @@ ghost use Rattle.test_model.specs.ExamplesOfCapacity.{ExamplesOfCapacity};
 ghost use Rattle.test_model.specs.ExamplesOfRefusals.{ExamplesOfRefusals};
 ghost use Rattle.test_model.specs.ExamplesOfAdds.{ExamplesOfAdds};
 ghost use Rattle.test_model.specs.ExamplesOfIllegalReplies.{ExamplesOfIllegalReplies};
-ghost use Rattle.test_model.specs.ExamplesOfRules.{LockRules, FileRules, LimitRules, RefusalRules, ReadRules};
+ghost use Rattle.test_model.specs.ExamplesOfRules.{LockRules, FileRules, KeyRules, LimitRules, RefusalRules, ReadRules};
 
 /// Transactions: what they read, and what their commits leave.
 pub fn worked_examples_of_transactions()
@@ -56,10 +56,11 @@ pub fn illegal_replies()
     ensures { ExamplesOfIllegalReplies }
 {}
 
-/// Single rules, each at one place: of locks, of files, of refusals and of reads; and the limits of the store as numbers.
+/// Single rules, each at one place: of locks, of files, of keys, of refusals and of reads; and the limits of the store as numbers.
 pub fn worked_examples_of_rules()
     ensures locks { LockRules }
     ensures files { FileRules }
+    ensures keys { KeyRules }
     ensures limits { LimitRules }
     ensures refusals { RefusalRules }
     ensures reads { ReadRules }
