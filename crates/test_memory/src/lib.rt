@@ -16,6 +16,8 @@ mod locks;
 #[cfg(test)]
 mod recoveries;
 #[cfg(test)]
+mod rows;
+#[cfg(test)]
 mod shown;
 #[cfg(test)]
 mod stores;

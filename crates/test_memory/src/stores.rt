@@ -21,8 +21,8 @@ const TWO: &[u8] = b"2 word of 20 letters";
 
 const THREE: &[u8] = b"3 word of 20 letters";
 
-// A file's number and its text.
-type StoredFile = (u32, &'static [u8]);
+/// A file's number and its text.
+pub(crate) type StoredFile = (u32, &'static [u8]);
 
 // Whether the store's file of this number has this text.
 fn is_file(alloc: Global, world: &World, number: u32, text: &[u8]) -> Result<bool, Refusal> {
@@ -42,12 +42,14 @@ fn first_wrong_file(alloc: Global, world: &World, files: &[StoredFile]) -> Resul
     Ok(0)
 }
 
-// What comes of rows: the first wrong answer, whether the store is right then, and the first wrong file, or 0.
-type Ended = (Option<(usize, Told)>, bool, u32);
+/// What comes of rows: the first wrong answer, whether the store is right then, and the first wrong file, or 0.
+pub(crate) type Ended = (Option<(usize, Told)>, bool, u32);
 
-const RIGHT: Ended = (None, true, 0);
+/// Where all is right.
+pub(crate) const RIGHT: Ended = (None, true, 0);
 
-fn ended(
+/// Asks the rows of the store; what comes of them and of these files.
+pub(crate) fn ended(
     alloc: Global,
     world: &mut World,
     rows: &[(Ask, Told)],
