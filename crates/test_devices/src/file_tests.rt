@@ -1,9 +1,10 @@
 //! Parts and bases go out as far as the writer takes them.
 use crate::sink::stops_at;
 use pc_part::{Base, Part};
-use pc_types::{Key, Point, Refusal, Value};
+use pc_types::{Key, Point, Refusal, Tally, Value};
 use std::alloc::Global;
 use std::test::Fail;
+use test_support::EMPTY_BASE;
 
 // Point 1 of run 1, in which no key was written.
 const NO_ENTRIES: [u8; 34] = *b"PCALCP02\
@@ -25,6 +26,14 @@ const A_TOMBSTONE: [u8; 59] = *b"PCALCP02\
     \x00\x00\x00\x01\x00\x00\xff\xfe\x00\x00\xff\xfe\
     \x00\x01\x00\x00\x00\x00\x00\xff\xfe\x01\x00\x00\x00\x00\
     \x00\x02\x00\x00ab\x00\x00\xff\xfe\x00\
+    \x00\x00\x00\x00\x00\x02";
+
+// Points 1 to 3 of run 1, behind which `a` is `2`, of point 2, and `b` is gone, at point 3.
+const THREE_POINTS: [u8; 59] = *b"PCALCP02\
+    \x00\x00\x00\x00\x00\x00\x00\x01\
+    \x00\x00\x00\x01\x00\x00\x00\x01\x00\x00\x00\x03\
+    \x00\x01\x00\x00a\x00\x00\x00\x02\x01\x00\x00\x00\x012\
+    \x00\x01\x00\x00b\x00\x00\x00\x03\x00\
     \x00\x00\x00\x00\x00\x02";
 
 // At point 7 of run 2, `a` was `1` and `b` was empty.
@@ -71,6 +80,46 @@ fn values_go_out(rt: HostRuntime) -> Result<(), Fail> {
 fn tombstones_go_out(rt: HostRuntime) -> Result<(), Fail> {
     let part = a_tombstone(rt.alloc())?;
     assert_eq!(rt; stops_at(&A_TOMBSTONE, |out| part.encode(out)), None);
+    Ok(())
+}
+
+#[test]
+fn joined_points_go_out(rt: HostRuntime) -> Result<(), Fail> {
+    let part = Part::decode(rt.alloc(), &THREE_POINTS)?;
+    assert_eq!(rt; stops_at(&THREE_POINTS, |out| part.encode(out)), None);
+    Ok(())
+}
+
+#[test]
+fn an_empty_base_goes_out(rt: HostRuntime) -> Result<(), Fail> {
+    let base = Base::decode(rt.alloc(), &EMPTY_BASE)?;
+    assert_eq!(rt; stops_at(&EMPTY_BASE, |out| base.encode(out)), None);
+    Ok(())
+}
+
+// The text of a part whose one entry is as long as an entry can be.
+fn longest_text(alloc: Global) -> Result<Vec<u8>, Refusal> {
+    let mut text = Vec::from_slice(alloc, &THREE_POINTS[..28])?;
+    text.extend_from_slice(b"\x00\xff\xff\xff")?;
+    text.extend_from_slice(&[b'a'; 255])?;
+    text.extend_from_slice(b"\x00\x00\x00\x02\x01\x00\x00\xff\xff")?;
+    text.extend_from_slice(&[b'v'; 65_535])?;
+    text.extend_from_slice(b"\x00\x00\x00\x00\x00\x01")?;
+    Ok(text)
+}
+
+// Whether the text is that of a part, and that part's text is this again.
+fn is_written_again(alloc: Global, text: &[u8]) -> Result<bool, Refusal> {
+    let part = Part::decode(alloc, text)?;
+    let mut out = Tally::new(Vec::new(alloc));
+    part.encode(&mut out)?;
+    Ok(out.into_inner().as_slice() == text)
+}
+
+#[test]
+fn the_longest_entry_is_written_again(rt: HostRuntime) -> Result<(), Fail> {
+    let text = longest_text(rt.alloc())?;
+    assert!(rt; is_written_again(rt.alloc(), &text)?);
     Ok(())
 }
 

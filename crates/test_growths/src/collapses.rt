@@ -38,6 +38,22 @@ pub(crate) const JOINED: &[u8] = b"PCALCP02\
     \x00\x01\x00\x07b\x00\x00\x00\x03\x00\
     \x00\x00\x00\x00\x00\x02";
 
+// The parts of point 1, at which `a` was `1` and `b` was `9`, and of points 1 to 3, behind which `a` is `2` and `b` is gone.
+const WORKED: [&[u8]; 2] = [
+    b"PCALCP02\
+    \x00\x00\x00\x00\x00\x00\x00\x01\
+    \x00\x00\x00\x01\x00\x00\x00\x01\x00\x00\x00\x01\
+    \x00\x01\x00\x00a\x00\x00\x00\x01\x01\x00\x00\x00\x011\
+    \x00\x01\x00\x00b\x00\x00\x00\x01\x01\x00\x00\x00\x019\
+    \x00\x00\x00\x00\x00\x02",
+    b"PCALCP02\
+    \x00\x00\x00\x00\x00\x00\x00\x01\
+    \x00\x00\x00\x01\x00\x00\x00\x01\x00\x00\x00\x03\
+    \x00\x01\x00\x00a\x00\x00\x00\x02\x01\x00\x00\x00\x012\
+    \x00\x01\x00\x00b\x00\x00\x00\x03\x00\
+    \x00\x00\x00\x00\x00\x02",
+];
+
 // By which call parts are joined.
 #[derive(Clone, Copy, Debug)]
 enum Call {
@@ -51,9 +67,9 @@ const CALLS: [Call; 3] = [Call::Fold, Call::Rounds, Call::Bag];
 // On how many threads.
 const COLLAPSERS: u8 = 2;
 
-fn parts(alloc: Global) -> Result<Vec<Part>, Refusal> {
+fn parts(alloc: Global, texts: &[&[u8]]) -> Result<Vec<Part>, Refusal> {
     let mut parts = Vec::new(alloc);
-    for text in TEXTS {
+    for text in texts {
         parts.push(Part::decode(alloc, text)?)?;
     }
     Ok(parts)
@@ -78,15 +94,20 @@ fn has_text(alloc: Global, part: &Part, text: &[u8]) -> Result<bool, Refusal> {
     Ok(out.into_inner().as_slice() == text)
 }
 
-// Whether each call gives the join.
-fn all_join<R: Threads + Wait + Sync>(rt: &R, alloc: Global) -> Result<bool, Refusal> {
-    let parts = again(|| parts(alloc))?;
+// Whether each call gives this join of these texts.
+fn all_join<R: Threads + Wait + Sync>(
+    rt: &R,
+    alloc: Global,
+    texts: &[&[u8]],
+    wanted: &[u8],
+) -> Result<bool, Refusal> {
+    let parts = again(|| parts(alloc, texts))?;
     for call in CALLS {
         let joined = again(|| join_by(rt, alloc, call, &parts))?;
         // An output in memory that can't grow is a device that fails.
-        let is_right = match has_text(alloc, &joined, JOINED) {
+        let is_right = match has_text(alloc, &joined, wanted) {
             Ok(is_right) => is_right,
-            Err(_) => has_text(alloc, &joined, JOINED)?,
+            Err(_) => has_text(alloc, &joined, wanted)?,
         };
         if !is_right {
             return Ok(false);
@@ -98,6 +119,13 @@ fn all_join<R: Threads + Wait + Sync>(rt: &R, alloc: Global) -> Result<bool, Ref
 // Whichever growth is refused, and on whichever thread, the same call made again gives the join: the parts stay as they were.
 #[test]
 fn all_join_the_same_at_each_refused_growth(rt: HostRuntime) -> Result<(), Fail> {
-    assert!(rt; all_join(&rt, rt.alloc())?);
+    assert!(rt; all_join(&rt, rt.alloc(), &TEXTS, JOINED)?);
+    Ok(())
+}
+
+// The second of these files has all that the join has.
+#[test]
+fn worked_files_join_the_same_at_each_refused_growth(rt: HostRuntime) -> Result<(), Fail> {
+    assert!(rt; all_join(&rt, rt.alloc(), &WORKED, WORKED[1])?);
     Ok(())
 }

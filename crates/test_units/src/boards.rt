@@ -19,6 +19,8 @@ fn two_passes(rt: HostRuntime) -> Result<(), Fail> {
     assert!(rt; board.horizon(&mut second) == Point(3));
     board.publish(&mut second, Point(2));
     assert!(rt; board.horizon(&mut first) == Point(3));
+    passes.push(first)?;
+    passes.push(second)?;
     let totals = board.close(passes);
     assert!(rt;
         totals
