@@ -9,6 +9,7 @@ their names are.
 """
 
 import os
+import re
 import subprocess
 import tempfile
 
@@ -18,7 +19,7 @@ from plain_store import keyed
 from program_cases import written
 from run_cases import content_of, files_of, has_times_of
 
-SOURCE = os.path.join(os.path.dirname(os.path.abspath(__file__)), "counted_syncs", "count.c")
+SOURCE = os.path.join(os.path.dirname(os.path.abspath(__file__)), "noted_syncs", "note.c")
 SECONDS = 60
 SIZE = 1 << 20
 # each file takes a whole number of these
@@ -29,8 +30,12 @@ MOUNT = f"mount -t tmpfs -o size={SIZE} pcalc {SMALL}"
 WITHIN = f"{MOUNT} && cp -r {GIVEN}/. {SMALL} && cd {SMALL} || exit 99; \"$@\"; status=$?; cp -r . ../{LEFT}; exit $status"
 FULL = b"No space left on device (os error 28)\n"
 COMMITS = 50
-# of a run without --sync: the base, its name, and as much again
-FEW_SYNCS = 4
+# Runs, and whether what is noted of them is right. Without --sync the base alone is brought to the disk before it is named, and the part isn't; with
+# it each batch is too, and a lag of 0 waits for each.
+SYNCED = (
+    (("--sync", "--lag", "0"), lambda calls: calls.count(b"srs") == 2 and calls.count(b"s") > COMMITS),
+    ((), lambda calls: re.fullmatch(rb"s+rsr", calls)),
+)
 
 
 def own_disk(room, words):
@@ -121,22 +126,22 @@ def in_memory(program, room):
 
 
 def synced(program, room):
-    """How often runs and joins bring files to the disk."""
-    library, count = refused_growths.built(room, SOURCE), os.path.join(room, "count")
+    """When runs and joins bring files to the disk: s each time, and r where a file gets its name."""
+    library, notes = refused_growths.built(room, SOURCE), os.path.join(room, "notes")
     written(room, "run.pcw", b"points 1\nclient 1\nfill a %d x\n" % COMMITS)
 
-    def counted(*words):
-        written(room, "count", b"")
-        env = {**os.environ, "LD_PRELOAD": library, "COUNTED_SYNCS": count}
+    def noted(*words):
+        written(room, "notes", b"")
+        env = {**os.environ, "LD_PRELOAD": library, "NOTED_SYNCS": notes}
         ran = subprocess.run((program, *words), cwd=room, env=env, stdin=subprocess.DEVNULL, capture_output=True, timeout=SECONDS)
-        return ran.returncode, os.path.getsize(count)
+        return ran.returncode, content_of(room, "notes")
 
-    for number, (words, is_right) in enumerate(((("--sync", "--lag", "0"), lambda syncs: syncs > COMMITS), ((), lambda syncs: 2 <= syncs <= FEW_SYNCS))):
+    for number, (words, is_right) in enumerate(SYNCED):
         os.makedirs(os.path.join(room, f"D{number}"))
-        status, syncs = counted("run", "run.pcw", "--dir", f"D{number}", *words)
-        yield f"a run with {' '.join(words) or 'no more words'} is brought to the disk", [] if status == 0 and is_right(syncs) else [f"status {status}, {syncs} times"]
-    status, syncs = counted("collapse", "out.pcp", "D0/part-00001.pcp")
-    yield "a joined file is brought to the disk with its name", [] if (status, syncs) == (0, 2) else [f"status {status}, {syncs} times"]
+        status, calls = noted("run", "run.pcw", "--dir", f"D{number}", *words)
+        yield f"a run with {' '.join(words) or 'no more words'} is brought to the disk", [] if status == 0 and is_right(calls) else [f"status {status}, {calls}"]
+    status, calls = noted("collapse", "out.pcp", "D0/part-00001.pcp")
+    yield "a joined file is brought to the disk, named, and its name too", [] if (status, calls) == (0, b"srs") else [f"status {status}, {calls}"]
 
 
 def disks(program, folder):

@@ -1,5 +1,5 @@
-// Counts the calls that bring a file to its device: each adds a byte to the file whose path is the value of COUNTED_SYNCS. What it takes of the C
-// library is declared here, so that it needs no header.
+// Notes the calls that bring a file to its device, by an s, and those that name one, by an r, in the file whose path is the value of NOTED_SYNCS. What
+// it takes of the C library is declared here, so that it needs no header.
 typedef __SIZE_TYPE__ size_t;
 typedef __PTRDIFF_TYPE__ ssize_t;
 #define NULL ((void *)0)
@@ -12,23 +12,29 @@ int open(const char *path, int flags, ...);
 ssize_t write(int file, const void *bytes, size_t length);
 int close(int file);
 
-static void count(void) {
-    const char *path = getenv("COUNTED_SYNCS");
+static void note(const char *call) {
+    const char *path = getenv("NOTED_SYNCS");
     int file = path == NULL ? -1 : open(path, WRITE_APPEND);
     if (file >= 0) {
-        write(file, "s", 1);
+        write(file, call, 1);
         close(file);
     }
 }
 
 int fdatasync(int file) {
-    count();
+    note("s");
     int (*next)(int) = (int (*)(int))dlsym(NEXT, "fdatasync");
     return next(file);
 }
 
 int fsync(int file) {
-    count();
+    note("s");
     int (*next)(int) = (int (*)(int))dlsym(NEXT, "fsync");
     return next(file);
+}
+
+int rename(const char *from, const char *to) {
+    note("r");
+    int (*next)(const char *, const char *) = (int (*)(const char *, const char *))dlsym(NEXT, "rename");
+    return next(from, to);
 }
